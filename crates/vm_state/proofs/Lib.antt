@@ -1,0 +1,3 @@
+pub mod OperandLemmas
+pub mod Lookups
+pub mod SharedLemmas

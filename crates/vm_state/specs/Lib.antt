@@ -1,0 +1,9 @@
+pub mod Values
+pub mod Operands
+pub mod Locals
+pub mod Statics
+pub mod Segments
+pub mod Stacks
+pub mod Objects
+pub mod SharedState
+pub mod Shares

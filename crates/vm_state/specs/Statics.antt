@@ -1,0 +1,60 @@
+-- The states and the static fields of the given classes (JVMS 2.5.4, 5.5), as functions of the numbers of classes and fields.
+use Rattle.std.specs.Prelude.{ℕ, List, [], Option, Some, None, slice_get, slice_index_or, unwrap_or, if◌then◌else◌, ◌==◌}
+use Rattle.vm_state.specs.declared.value.Value.{Value}
+use Rattle.vm_state.specs.declared.value.Value.TheVariants.{Null}
+use Rattle.vm_state.specs.declared.classes.ClassState.{ClassState}
+use Rattle.vm_state.specs.declared.classes.ClassState.TheVariants.{Not}
+use Rattle.vm_state.specs.declared.classes.StaticField.{StaticField}
+use Rattle.vm_state.specs.declared.classes.ClassArea.{ClassArea}
+
+-- a field that was never set is null
+abbrev pub field_in : List Value → ℕ → Value
+field_in fields f = slice_index_or fields f Null
+
+-- a class of which nothing is kept yet
+abbrev pub untouched : ClassArea
+untouched = record { state = Not; fields = [] }
+
+abbrev pub area_at : List ClassArea → ℕ → ClassArea
+area_at areas c = slice_index_or areas c untouched
+
+-- the state of each class
+unfoldable pub states_of : List ClassArea → ℕ → ClassState
+states_of areas c = (area_at areas c).state
+
+-- the value of each static field of each class
+unfoldable pub fields_of : List ClassArea → ℕ → ℕ → Value
+fields_of areas c f = field_in (area_at areas c).fields f
+
+-- ---- one class changed
+
+abbrev pub with_state : (ℕ → ClassState) → ℕ → ClassState → ℕ → ClassState
+with_state states c s d = if d == c then s else states d
+
+abbrev pub with_fields : (ℕ → ℕ → Value) → ℕ → (ℕ → Value) → ℕ → ℕ → Value
+with_fields fields c fs d = if d == c then fs else fields d
+
+abbrev pub with_value : (ℕ → Value) → ℕ → Value → ℕ → Value
+with_value fields f v g = if g == f then v else fields g
+
+abbrev pub with_constant : (ℕ → Value) → ℕ → Option Value → ℕ → Value
+with_constant fields f None g = fields g
+with_constant fields f (Some v) g = with_value fields f v g
+
+-- ---- the ConstantValues of final static fields (JVMS 4.7.2, 5.5 step 6)
+
+abbrev pub constant_or : Option StaticField → Value → Value
+constant_or None v = v
+constant_or (Some field) v = unwrap_or field.constant v
+
+-- the fields with each constant set
+abbrev pub with_constants : List StaticField → (ℕ → Value) → ℕ → Value
+with_constants statics fields f = constant_or (slice_get statics f) (fields f)
+
+abbrev pub zero_of : Option StaticField → Value
+zero_of None = Null
+zero_of (Some field) = field.zero
+
+-- before a class's initialization each static field is zero or null (JVMS 2.3, 2.4, 5.4.2)
+abbrev pub zeros_of : List StaticField → ℕ → Value
+zeros_of statics f = zero_of (slice_get statics f)

@@ -1,0 +1,86 @@
+//! Classes as values and objects name them.
+
+/// A class: a given one, one that is built in, or an array class.
+#[derive(Clone, Copy, PartialEq, Eq, Debug)]
+pub enum ClassId {
+    /// A class handed in as a class file, by its number in the program.
+    Given(u32),
+    BuiltIn(BuiltIn),
+    Array(ArrayType),
+}
+
+/// The classes that the machine has of itself. They are taken as initialized.
+#[derive(Clone, Copy, PartialEq, Eq, Debug)]
+pub enum BuiltIn {
+    Object,
+    String,
+    System,
+    Enum,
+    Throwable,
+    Exception,
+    RuntimeException,
+    ArithmeticException,
+    NullPointerException,
+    ClassCastException,
+    ArrayStoreException,
+    NegativeArraySizeException,
+    IllegalMonitorStateException,
+    IndexOutOfBoundsException,
+    ArrayIndexOutOfBoundsException,
+    Error,
+    LinkageError,
+    ExceptionInInitializerError,
+    NoClassDefFoundError,
+    PrintStream,
+}
+
+/// An array class (JVMS 4.3.2): so many dimensions of an element type.
+#[derive(Clone, Copy, PartialEq, Eq, Debug)]
+pub struct ArrayType {
+    /// 1 to 255.
+    pub dimensions: u8,
+    pub element: ElementType,
+}
+
+/// The element type of an array class, which is no array.
+#[derive(Clone, Copy, PartialEq, Eq, Debug)]
+pub enum ElementType {
+    Boolean,
+    Byte,
+    Char,
+    Short,
+    Int,
+    Long,
+    Float,
+    Double,
+    Given(u32),
+    BuiltIn(BuiltIn),
+}
+
+impl BuiltIn {
+    /// Its name, with slashes.
+    pub fn name(self) -> &'static str {
+        match self {
+            BuiltIn::Object => "java/lang/Object",
+            BuiltIn::String => "java/lang/String",
+            BuiltIn::System => "java/lang/System",
+            BuiltIn::Enum => "java/lang/Enum",
+            BuiltIn::Throwable => "java/lang/Throwable",
+            BuiltIn::Exception => "java/lang/Exception",
+            BuiltIn::RuntimeException => "java/lang/RuntimeException",
+            BuiltIn::ArithmeticException => "java/lang/ArithmeticException",
+            BuiltIn::NullPointerException => "java/lang/NullPointerException",
+            BuiltIn::ClassCastException => "java/lang/ClassCastException",
+            BuiltIn::ArrayStoreException => "java/lang/ArrayStoreException",
+            BuiltIn::NegativeArraySizeException => "java/lang/NegativeArraySizeException",
+            BuiltIn::IllegalMonitorStateException => "java/lang/IllegalMonitorStateException",
+            BuiltIn::IndexOutOfBoundsException => "java/lang/IndexOutOfBoundsException",
+            BuiltIn::ArrayIndexOutOfBoundsException => "java/lang/ArrayIndexOutOfBoundsException",
+            BuiltIn::Error => "java/lang/Error",
+            BuiltIn::LinkageError => "java/lang/LinkageError",
+            BuiltIn::ExceptionInInitializerError => "java/lang/ExceptionInInitializerError",
+            BuiltIn::NoClassDefFoundError => "java/lang/NoClassDefFoundError",
+            BuiltIn::PrintStream => "java/io/PrintStream",
+        }
+    }
+}

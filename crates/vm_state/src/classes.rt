@@ -1,0 +1,251 @@
+//! The states and the static fields of the given classes.
+
+ghost use Rattle.std.specs.Prelude.{◌≡◌, ◌<◌, ◌^◌, ◌+◌, [], length, IfOk, OnErr, OnOk, true};
+ghost use Rattle.vm_state.specs.Statics.{field_in, states_of, fields_of, with_state, with_fields, with_value, with_constant, with_constants};
+
+use crate::value::Value;
+use std::alloc::{AllocError, Global};
+use std::marker::Model;
+
+/// How far the initialization of a class is (JVMS 5.5).
+#[derive(Clone, Copy, PartialEq, Eq, Debug)]
+pub enum ClassState {
+    /// Not begun.
+    Not,
+    /// In progress by the thread of this number.
+    By(u32),
+    Done,
+    Erroneous,
+}
+
+/// A static field as its class declares it (JVMS 4.5).
+#[derive(Clone, Copy, PartialEq, Eq, Debug)]
+pub struct StaticField {
+    pub is_final: bool,
+    /// Its value before the class is initialized: zero or null (JVMS 2.3, 2.4).
+    pub zero: Value,
+    /// The ConstantValue of a final field (JVMS 4.7.2), which it gets as initialization begins.
+    pub constant: Option<Value>,
+}
+
+/// The static fields of a class, by their numbers. A field that was never set is null.
+#[derive(Drop)]
+pub struct Fields {
+    values: Vec<Value>,
+}
+
+impl Model for Fields {
+    ghost use Rattle.std.specs.Prelude.{List};
+    ghost use Rattle.vm_state.specs.declared.value.Value.{Value as Held};
+
+    ghost Value = { List Held };
+
+    ghost view = { λ s. s.values.items };
+}
+
+impl Fields {
+    /// No field was set.
+    pub fn new(alloc: Global) -> Fields
+        ensures { result ≡ [] }
+    {
+        Fields {
+            values: Vec::new(alloc),
+        }
+    }
+
+    /// The value of a field.
+    pub fn get(&self, field: u32) -> Value
+        ensures { result ≡ field_in self.now field }
+    {
+        match self.values.get(field as usize) {
+            Some(value) => *value,
+            None => Value::Null,
+        }
+    }
+
+    /// Keeps a place for a field; no field's value changes.
+    fn reach(&mut self, field: usize) -> Result<(), AllocError>
+        requires { field + 1 < 2 ^ 64 }
+        ensures same { field_in self.new ≡ field_in self.old }
+        ensures ok { OnOk result (field < length self.new) }
+        ensures err { OnErr result (self.new ≡ self.old) }
+    {
+        if self.values.len() <= field {
+            self.values.resize(field + 1, Value::Null)?;
+        }
+        Ok(())
+    }
+
+    /// Sets a field. Where memory is refused nothing changes.
+    pub fn set(&mut self, field: u32, value: Value) -> Result<(), AllocError>
+        ensures ok { OnOk result (field_in self.new ≡ with_value (field_in self.old) field value) }
+        ensures err { OnErr result (self.new ≡ self.old) }
+    {
+        self.set_at(field as usize, value)
+    }
+
+    fn set_at(&mut self, field: usize, value: Value) -> Result<(), AllocError>
+        requires { field + 1 < 2 ^ 64 }
+        ensures ok { OnOk result (field_in self.new ≡ with_value (field_in self.old) field value) }
+        ensures err { OnErr result (self.new ≡ self.old) }
+    {
+        self.reach(field)?;
+        self.values[field] = value;
+        Ok(())
+    }
+
+    fn set_constant(&mut self, field: usize, constant: Option<Value>) -> Result<(), AllocError>
+        requires { field + 1 < 2 ^ 64 }
+        ensures { OnOk result (field_in self.new ≡ with_constant (field_in self.old) field constant) }
+    {
+        match constant {
+            Some(value) => self.set_at(field, value),
+            None => Ok(()),
+        }
+    }
+
+    /// The same fields, each with its constant set where its declaration has one.
+    pub fn with_constants(
+        &self,
+        alloc: Global,
+        statics: &[StaticField],
+    ) -> Result<Fields, AllocError>
+        ensures { IfOk result (λ r. field_in r ≡ with_constants statics.now (field_in self.now)) }
+    {
+        let mut fields = Fields {
+            values: Vec::from_slice(alloc, self.values.as_slice())?,
+        };
+        for field in 0..statics.len() {
+            fields.set_constant(field, statics[field].constant)?;
+        }
+        Ok(fields)
+    }
+}
+
+/// What is kept of one class, apart from its objects.
+#[derive(Drop)]
+pub struct ClassArea {
+    pub state: ClassState,
+    pub fields: Fields,
+}
+
+/// The states and the static fields of the given classes, by their numbers. Nothing was begun and nothing
+/// set of a class that was never changed.
+#[derive(Drop)]
+pub struct Classes {
+    areas: Vec<ClassArea>,
+}
+
+impl Model for Classes {
+    ghost use Rattle.std.specs.Prelude.{List};
+    ghost use Rattle.vm_state.specs.declared.classes.ClassArea.{ClassArea as Area};
+
+    ghost Value = { List Area };
+
+    ghost view = { λ s. s.areas.items };
+}
+
+impl Classes {
+    /// Nothing is kept of any class.
+    pub fn new(alloc: Global) -> Classes
+        ensures { result ≡ [] }
+    {
+        Classes {
+            areas: Vec::new(alloc),
+        }
+    }
+
+    /// The state of a class.
+    #[tactic(auto, unfolding(crate::specs::Statics::states_of))]
+    pub fn state(&self, class: u32) -> ClassState
+        ensures { result ≡ states_of self.now class }
+    {
+        match self.areas.get(class as usize) {
+            Some(area) => area.state,
+            None => ClassState::Not,
+        }
+    }
+
+    /// The value of a static field.
+    #[tactic(auto, unfolding(crate::specs::Statics::fields_of))]
+    pub fn field(&self, class: u32, field: u32) -> Value
+        ensures { result ≡ fields_of self.now class field }
+    {
+        match self.areas.get(class as usize) {
+            Some(area) => area.fields.get(field),
+            None => Value::Null,
+        }
+    }
+
+    /// Keeps a place for a class; no class's state and no field's value changes.
+    fn reach(&mut self, alloc: Global, class: usize) -> Result<(), AllocError>
+        requires { class < 2 ^ 32 }
+        ensures states { states_of self.new ≡ states_of self.old }
+        ensures fields { fields_of self.new ≡ fields_of self.old }
+        ensures ok { OnOk result (class < length self.new) }
+    {
+        while self.areas.len() <= class {
+            self.areas.push(ClassArea {
+                state: ClassState::Not,
+                fields: Fields::new(alloc),
+            })?;
+        }
+        Ok(())
+    }
+
+    /// Sets the state of a class. Where memory is refused nothing changes.
+    pub fn set_state(
+        &mut self,
+        alloc: Global,
+        class: u32,
+        state: ClassState,
+    ) -> Result<(), AllocError>
+        ensures states { OnOk result (states_of self.new ≡ with_state (states_of self.old) class state) }
+        ensures fields { fields_of self.new ≡ fields_of self.old }
+        ensures err { OnErr result (states_of self.new ≡ states_of self.old) }
+    {
+        self.reach(alloc, class as usize)?;
+        let area = &mut self.areas[class as usize];
+        area.state = state;
+        Ok(())
+    }
+
+    /// Sets a static field. Where memory is refused nothing changes.
+    pub fn set_field(
+        &mut self,
+        alloc: Global,
+        class: u32,
+        field: u32,
+        value: Value,
+    ) -> Result<(), AllocError>
+        ensures fields { OnOk result (fields_of self.new ≡ with_fields (fields_of self.old) class (with_value (fields_of self.old class) field value)) }
+        ensures states { states_of self.new ≡ states_of self.old }
+        ensures err { OnErr result (fields_of self.new ≡ fields_of self.old) }
+    {
+        self.reach(alloc, class as usize)?;
+        let area = &mut self.areas[class as usize];
+        area.fields.set(field, value)?;
+        Ok(())
+    }
+
+    /// Begins the initialization of a class by a thread: its state, and its constants (JVMS 5.5, step 6).
+    /// Where memory is refused nothing changes.
+    pub fn begin(
+        &mut self,
+        alloc: Global,
+        class: u32,
+        thread: u32,
+        statics: &[StaticField],
+    ) -> Result<(), AllocError>
+        ensures states { OnOk result (states_of self.new ≡ with_state (states_of self.old) class (ClassState.By thread)) }
+        ensures fields { OnOk result (fields_of self.new ≡ with_fields (fields_of self.old) class (with_constants statics.now (fields_of self.old class))) }
+        ensures err { OnErr result ((states_of self.new ≡ states_of self.old) × (fields_of self.new ≡ fields_of self.old)) }
+    {
+        self.reach(alloc, class as usize)?;
+        let area = &mut self.areas[class as usize];
+        let fields = area.fields.with_constants(alloc, statics)?;
+        area.fields = fields;
+        area.state = ClassState::By(thread);
+        Ok(())
+    }
+}

@@ -1,0 +1,16 @@
+//! What a Java virtual machine holds while it runs: values, objects, operand stacks, local variables,
+//! frames, initialization entries, and what all threads share.
+#![tactic(auto)]
+
+pub mod class_id;
+pub mod classes;
+pub mod ends;
+pub mod frame;
+pub mod heap;
+pub mod initialization;
+pub mod locals;
+pub mod object;
+pub mod operands;
+pub mod shared;
+pub mod text;
+pub mod value;

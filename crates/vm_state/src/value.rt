@@ -1,0 +1,75 @@
+//! Values of local variables, operands, fields and elements (JVMS 2.2 to 2.4).
+
+ghost use Rattle.std.specs.Prelude.{◌≡◌, Some, None, IfOk, OnErr};
+ghost use Rattle.vm_state.specs.Values.{places, int_of, value_of};
+
+/// Who counts an object: the class during whose initialization it was made, or else the thread.
+#[derive(Clone, Copy, PartialEq, Eq, Debug)]
+pub enum Maker {
+    /// A given class, by its number.
+    Class(u32),
+    /// A thread, by its number.
+    Thread(u32),
+}
+
+/// The name of an object. Numbers count from 0 within the maker.
+#[derive(Clone, Copy, PartialEq, Eq, Debug)]
+pub struct Name {
+    pub maker: Maker,
+    pub number: u64,
+}
+
+/// A value. `boolean`, `byte`, `char` and `short` are ints (JVMS 2.11.1).
+#[derive(Clone, Copy, PartialEq, Eq, Debug)]
+pub enum Value {
+    Int(i32),
+    Long(i64),
+    Null,
+    /// A string, by its number in the program's table of distinct strings.
+    Text(u32),
+    /// An object that was made while a class was being initialized.
+    OfClass(u32, u64),
+    /// An object that a thread made otherwise.
+    OfThread(u32, u64),
+    /// What `System.out` holds.
+    Out,
+}
+
+impl Value {
+    /// A reference to an object.
+    pub fn reference_to(name: Name) -> Value
+        ensures { result ≡ value_of name }
+    {
+        match name.maker {
+            Maker::Class(class) => Value::OfClass(class, name.number),
+            Maker::Thread(thread) => Value::OfThread(thread, name.number),
+        }
+    }
+
+    /// How many places it takes on an operand stack and among local variables (JVMS 2.6.1, 2.6.2).
+    #[inline(always)]
+    pub fn places(self) -> u32
+        ensures { result ≡ places self }
+    {
+        match self {
+            Value::Long(_) => 2,
+            _ => 1,
+        }
+    }
+
+    /// The number of an int.
+    #[inline(always)]
+    pub fn int(self) -> Result<i32, Fault>
+        ensures ok { IfOk result (λ n. int_of (Some self) ≡ Some n) }
+        ensures err { OnErr result (int_of (Some self) ≡ None) }
+    {
+        match self {
+            Value::Int(number) => Ok(number),
+            _ => Err(Fault),
+        }
+    }
+}
+
+/// An instruction broke a rule that JVMS leaves to verification: its thread ends with a fault.
+#[derive(Clone, Copy, PartialEq, Eq, Debug)]
+pub struct Fault;
