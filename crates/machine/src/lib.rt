@@ -1,13 +1,8 @@
-// A library with one function.
+//! One instruction of a thread, and the linked program that it runs.
 #![tactic(auto)]
 
-ghost use Rattle.std.specs.Prelude.{◌≡◌};
-ghost use Rattle.machine.specs.Echo.{echo_of};
-
-// The `ensures` clause is the contract: what `echo` returns is `echo_of` of its argument, a definition
-// in `specs/Echo.antt`, which a caller's clause can cite too.
-pub fn echo(x: usize) -> usize
-    ensures { result ≡ echo_of x }
-{
-    x
-}
+pub mod execute;
+pub mod instruction;
+pub mod kinds;
+pub mod local;
+pub mod program;

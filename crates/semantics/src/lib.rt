@@ -1,13 +1,11 @@
-// A library with one function.
+//! What a program does, apart from any opcode: one instruction as a tree of accesses to what threads share, one
+//! step of one thread, runs over schedules, what is seen of them, and the start of the lazy procedure. The
+//! definitions stand in `specs/`.
 #![tactic(auto)]
 
-ghost use Rattle.std.specs.Prelude.{◌≡◌};
-ghost use Rattle.semantics.specs.Echo.{echo_of};
+ghost use Rattle.semantics.specs.Laws.{RunsJoin};
 
-// The `ensures` clause is the contract: what `echo` returns is `echo_of` of its argument, a definition
-// in `specs/Echo.antt`, which a caller's clause can cite too.
-pub fn echo(x: usize) -> usize
-    ensures { result ≡ echo_of x }
-{
-    x
-}
+/// A run over one schedule, and then one over another, is a run over both, one after the other.
+pub fn runs_join()
+    ensures { RunsJoin }
+{}

@@ -7,3 +7,4 @@ pub mod Stacks
 pub mod Objects
 pub mod SharedState
 pub mod Shares
+pub mod Endings

@@ -3,9 +3,18 @@ use Rattle.std.specs.Prelude.{ℕ, List, [], Option, Some, None, slice_get, slic
 use Rattle.vm_state.specs.declared.value.Value.{Value}
 use Rattle.vm_state.specs.declared.value.Value.TheVariants.{Null}
 use Rattle.vm_state.specs.declared.classes.ClassState.{ClassState}
-use Rattle.vm_state.specs.declared.classes.ClassState.TheVariants.{Not}
+use Rattle.vm_state.specs.declared.classes.ClassState.TheVariants.{Not, By, Done, Erroneous}
+use Rattle.vm_state.specs.declared.classes.Usability.{Usability}
+use Rattle.vm_state.specs.declared.classes.Usability.TheVariants.{Ready, Fresh, Busy, Broken}
 use Rattle.vm_state.specs.declared.classes.StaticField.{StaticField}
 use Rattle.vm_state.specs.declared.classes.ClassArea.{ClassArea}
+
+-- what a class's state is to a thread (JVMS 5.5, steps 2 to 5)
+abbrev pub usable : ℕ → ClassState → Usability
+usable t Not = Fresh
+usable t (By u) = if t == u then Ready else Busy
+usable t Done = Ready
+usable t Erroneous = Broken
 
 -- a field that was never set is null
 abbrev pub field_in : List Value → ℕ → Value

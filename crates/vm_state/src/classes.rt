@@ -1,7 +1,7 @@
 //! The states and the static fields of the given classes.
 
 ghost use Rattle.std.specs.Prelude.{◌≡◌, ◌<◌, ◌^◌, ◌+◌, [], length, IfOk, OnErr, OnOk, true};
-ghost use Rattle.vm_state.specs.Statics.{field_in, states_of, fields_of, with_state, with_fields, with_value, with_constant, with_constants};
+ghost use Rattle.vm_state.specs.Statics.{usable, field_in, states_of, fields_of, with_state, with_fields, with_value, with_constant, with_constants};
 
 use crate::value::Value;
 use std::alloc::{AllocError, Global};
@@ -16,6 +16,40 @@ pub enum ClassState {
     By(u32),
     Done,
     Erroneous,
+}
+
+/// What a class's state is to a thread that wants to use the class (JVMS 5.5, steps 2 to 5).
+#[derive(Clone, Copy, PartialEq, Eq, Debug)]
+pub enum Usability {
+    /// It is initialized, or the thread itself is initializing it.
+    Ready,
+    /// Its initialization is to begin first.
+    Fresh,
+    /// Another thread is initializing it.
+    Busy,
+    /// Its initialization failed.
+    Broken,
+}
+
+impl ClassState {
+    /// What this state is to a thread.
+    #[inline(always)]
+    pub fn usability(self, thread: u32) -> Usability
+        ensures { result ≡ usable thread self }
+    {
+        match self {
+            ClassState::Not => Usability::Fresh,
+            ClassState::By(owner) => {
+                if thread == owner {
+                    Usability::Ready
+                } else {
+                    Usability::Busy
+                }
+            }
+            ClassState::Done => Usability::Ready,
+            ClassState::Erroneous => Usability::Broken,
+        }
+    }
 }
 
 /// A static field as its class declares it (JVMS 4.5).

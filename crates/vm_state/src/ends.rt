@@ -1,5 +1,8 @@
 //! How threads end.
 
+ghost use Rattle.std.specs.Prelude.{◌≡◌};
+ghost use Rattle.vm_state.specs.Endings.{ending_of};
+
 use crate::class_id::ClassId;
 use std::fmt;
 
@@ -32,4 +35,27 @@ pub enum End {
     /// An exception of this class was caught by no frame (JVMS 2.10).
     Uncaught(ClassId),
     Faulted(FaultKind),
+}
+
+/// How far a thread has come, as it is seen from outside.
+#[derive(Clone, Copy, PartialEq, Eq, Debug)]
+pub enum Ending {
+    /// It has not ended.
+    Going,
+    Returned,
+    Uncaught(ClassId),
+    Faulted(FaultKind),
+}
+
+impl Ending {
+    /// What is seen of a thread that ended so.
+    pub fn of(end: End) -> Ending
+        ensures { result ≡ ending_of end }
+    {
+        match end {
+            End::Returned => Ending::Returned,
+            End::Uncaught(class) => Ending::Uncaught(class),
+            End::Faulted(kind) => Ending::Faulted(kind),
+        }
+    }
 }

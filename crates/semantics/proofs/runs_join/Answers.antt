@@ -1,0 +1,5 @@
+use Rattle.semantics.proofs.Runs.{runs_join_lem}
+use Rattle.semantics.proofs.runs_join.Goals as goal
+
+pub returns : goal.returns
+returns c = runs_join_lem

@@ -1,0 +1,26 @@
+-- What the initialization procedure and its threads ask of a program.
+use Rattle.std.specs.Prelude.{ℕ, List, Option}
+use Rattle.vm_state.specs.declared.value.Name.{Name}
+use Rattle.vm_state.specs.declared.frame.Frame.{Frame}
+use Rattle.vm_state.specs.declared.classes.StaticField.{StaticField}
+use Rattle.semantics.specs.Rows.{Row}
+
+-- Classes are the given ones, by their numbers.
+pub record Program : Type 0 where
+  -- one instruction of the innermost frame of these, or a thread's start (JVMS chapter 6, 5.2)
+  pub row : List Frame → Row
+  -- the end of a class's initialization by an exception, as it goes on in the frames below: the exception, or a new
+  -- ExceptionInInitializerError in its place, is raised there (JVMS 5.5, steps 10 and 11)
+  pub failing : (class : ℕ) → Name → List Frame → Row
+  -- the same with a new NoClassDefFoundError, for a parent whose initialization failed (JVMS 5.5, step 7)
+  pub orphaned : (class : ℕ) → List Frame → Row
+  -- the frame of a class's class initialization method (JVMS 2.9), where it has one
+  pub initializer : ℕ → Option Frame
+  -- the classes and interfaces that are initialized before a class, in order (JVMS 5.5, step 7)
+  pub parents : ℕ → List ℕ
+  -- the static fields of a class, in order (JVMS 4.5)
+  pub statics : ℕ → List StaticField
+  -- the class whose class initialization method a frame runs
+  pub initializes : Frame → Option ℕ
+  -- the frame that a thread begins with, to call the `main` of its entry class (JVMS 5.2)
+  pub start : (entry thread : ℕ) → Frame
