@@ -9,9 +9,9 @@ ghost use Rattle.vm_state.specs.Shares.{shared_of};
 ghost use Rattle.vm_state.specs.Locals.{stored};
 ghost use Rattle.vm_state.specs.Segments.{frames_with};
 ghost use Rattle.machine.specs.Tables.{main_in};
-ghost use Rattle.vm_state.specs.Stacks.{segment_of};
+ghost use Rattle.vm_state.specs.Stacks.{segment_of, levels_of};
 ghost use Rattle.machine.specs.Table.{row, get_int, put_int, print_int, start_row, call_main, called, goes_on, instruction_row, returned_to};
-ghost use Rattle.machine.specs.Effects.{Gives, Stays};
+ghost use Rattle.machine.specs.Effects.{Gives, Stays, StandsAfterPrint};
 
 use crate::instruction::Instruction;
 use crate::kinds::Effect;
@@ -235,7 +235,10 @@ pub fn effect(
     ensures gives { IfOk result (λ e. Gives frames.old.thread (row program.now (segment_of frames.old)) shared.old e (segment_of frames.new) shared.new) }
 
     // Of the stack, an instruction changes the frames above the highest entry alone.
-    ensures kept { (frames.new.thread ≡ frames.old.thread) × (frames.new.levels ≡ frames.old.levels) }
+    ensures kept { (frames.new.thread ≡ frames.old.thread) × (levels_of frames.new ≡ levels_of frames.old) }
+
+    // After a print a frame stands on top.
+    ensures prints { IfOk result (λ e. StandsAfterPrint e frames.new.top) }
 
     // A thread that needs a class or waits stays as it was, and so does all after a refusal of memory.
     ensures stays { IfOk result (λ e. (Stays e frames.old frames.new) × (Stays e shared.old shared.new)) }

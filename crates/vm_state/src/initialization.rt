@@ -1,13 +1,14 @@
 //! Initialization entries (JVMS 5.5), and the whole stack of a thread.
 
-ghost use Rattle.std.specs.Prelude.{◌≡◌, ◌∷◌, [], IfOk, OnOk, OnErr, MatchOption, None};
+ghost use Rattle.std.specs.Prelude.{◌≡◌, ◌∷◌, [], IfOk, OnOk, OnErr, MatchOption, Some, None};
 ghost use Rattle.vm_state.specs.Segments.{frames_with};
-ghost use Rattle.vm_state.specs.Stacks.{first_of, others_of, glance_of, parent_taken, initializer_begun};
+ghost use Rattle.vm_state.specs.Stacks.{first_of, others_of, levels_with, segment_of, levels_of, IsLeft};
 
 use crate::frame::{Frame, FrameList};
 use crate::value::Name;
 use std::alloc::{AllocError, Global};
 use std::marker::Model;
+use std::mem;
 
 /// The superclass and superinterfaces that are still to be initialized before a class, in order.
 #[derive(Drop)]
@@ -66,23 +67,13 @@ pub struct Level {
     pub under: FrameList,
 }
 
-/// The highest initialization entry, without the parents behind the next one.
-#[derive(Clone, Copy, PartialEq, Eq, Debug)]
-pub struct Glance {
-    pub class: u32,
-    /// The next parent.
-    pub parent: Option<u32>,
-    pub begun: bool,
-    pub pending: Option<Name>,
-}
-
-/// The initialization entries of a thread, the innermost first.
+/// Some initialization entries of one thread, the innermost first.
 #[derive(Drop)]
-pub struct Levels {
+pub struct LevelList {
     levels: Vec<Level>,
 }
 
-impl Model for Levels {
+impl Model for LevelList {
     ghost use Rattle.std.specs.Prelude.{List, reverse};
     ghost use Rattle.vm_state.specs.declared.initialization.Level.{Level as Held};
 
@@ -91,65 +82,14 @@ impl Model for Levels {
     ghost view = { λ s. reverse s.levels.items };
 }
 
-impl Levels {
+impl LevelList {
     /// No entries.
-    pub fn none(alloc: Global) -> Levels
+    pub fn none(alloc: Global) -> LevelList
         ensures { result ≡ [] }
     {
-        Levels {
+        LevelList {
             levels: Vec::new(alloc),
         }
-    }
-
-    /// What stands in the highest entry.
-    pub fn glance(&self) -> Option<Glance>
-        ensures { result ≡ glance_of self.now }
-    {
-        let level = self.levels.last()?;
-        Some(Glance {
-            class: level.entry.class,
-            parent: level.entry.left.first(),
-            begun: level.entry.begun,
-            pending: level.entry.pending,
-        })
-    }
-
-    /// Takes the next parent off the highest entry.
-    pub fn take_parent(&mut self)
-        ensures { self.new ≡ parent_taken self.old }
-    {
-        if let Some(mut level) = self.levels.pop() {
-            level.entry.left.drop_first();
-            self.levels.push_reserved(level);
-        }
-    }
-
-    /// Notes that the initializer of the highest entry has begun.
-    pub fn begin_initializer(&mut self)
-        ensures { self.new ≡ initializer_begun self.old }
-    {
-        if let Some(mut level) = self.levels.pop() {
-            level.entry.begun = true;
-            self.levels.push_reserved(level);
-        }
-    }
-
-    /// Puts an entry on top of all frames above the highest one so far. Where memory is refused nothing changes.
-    pub fn push_over(
-        &mut self,
-        alloc: Global,
-        entry: Entry,
-        top: &mut Option<Frame>,
-        callers: &mut FrameList,
-    ) -> Result<(), AllocError>
-        ensures levels { OnOk result (self.new ≡ record { entry = entry; under = frames_with top.old callers.old } ∷ self.old) }
-        ensures frames { OnOk result ((top.new ≡ None) × (callers.new ≡ [])) }
-        ensures err { OnErr result ((self.new ≡ self.old) × (top.new ≡ top.old) × (callers.new ≡ callers.old)) }
-    {
-        self.levels.reserve(1)?;
-        let under = callers.take_with(alloc, top)?;
-        self.levels.push_reserved(Level { entry, under });
-        Ok(())
     }
 
     /// Takes the innermost entry.
@@ -158,16 +98,94 @@ impl Levels {
     {
         self.levels.pop()
     }
+
+    /// Puts a new highest entry on all frames above the highest one so far, which joins this list.
+    /// Where memory is refused nothing changes.
+    fn cover(
+        &mut self,
+        alloc: Global,
+        entry: Entry,
+        highest: &mut Option<Level>,
+        top: &mut Option<Frame>,
+        callers: &mut FrameList,
+    ) -> Result<(), AllocError>
+        ensures highest { OnOk result (highest.new ≡ Some (record { entry = entry; under = frames_with top.old callers.old })) }
+        ensures list { OnOk result (self.new ≡ levels_with highest.old self.old) }
+        ensures frames { OnOk result ((top.new ≡ None) × (callers.new ≡ [])) }
+        ensures err { OnErr result ((self.new ≡ self.old) × (highest.new ≡ highest.old) × (top.new ≡ top.old) × (callers.new ≡ callers.old)) }
+    {
+        self.levels.reserve(1)?;
+        let under = callers.take_with(alloc, top)?;
+        if let Some(covered) = mem::replace(highest, Some(Level { entry, under })) {
+            self.levels.push_reserved(covered);
+        }
+        Ok(())
+    }
 }
 
-/// A thread's number and whole stack. Where `top` is none an initialization entry stands on top, or the
-/// stack is empty.
+/// A thread's number and whole stack.
 #[derive(Drop)]
 pub struct Frames {
     pub thread: u32,
-    /// The innermost frame, above all entries.
+    /// The innermost frame above the highest initialization entry, if there is one.
     pub top: Option<Frame>,
     /// The other frames above the highest entry.
     pub callers: FrameList,
-    pub levels: Levels,
+    /// The highest entry, if there is one.
+    pub highest: Option<Level>,
+    /// The other entries.
+    pub outer: LevelList,
+}
+
+impl Frames {
+    /// Puts an initialization entry on top of the stack. Where memory is refused nothing changes.
+    pub fn enter(&mut self, alloc: Global, entry: Entry) -> Result<(), AllocError>
+        ensures thread { self.new.thread ≡ self.old.thread }
+        ensures segment { OnOk result (segment_of self.new ≡ []) }
+        ensures levels { OnOk result (levels_of self.new ≡ record { entry = entry; under = segment_of self.old } ∷ levels_of self.old) }
+        ensures err { OnErr result (self.new ≡ self.old) }
+    {
+        self.outer.cover(
+            alloc,
+            entry,
+            &mut self.highest,
+            &mut self.top,
+            &mut self.callers,
+        )
+    }
+
+    /// Takes the highest entry away, with all frames above it; those under it are the topmost ones then.
+    pub fn leave(&mut self)
+        ensures thread { self.new.thread ≡ self.old.thread }
+        ensures left { IsLeft (levels_of self.old) self.new }
+    {
+        let left = match self.highest.take() {
+            Some(level) => Some(level),
+            None => self.outer.pop(),
+        };
+        self.highest = self.outer.pop();
+        if let Some(level) = left {
+            let mut under = level.under;
+            self.top = under.pop();
+            self.callers = under;
+        }
+    }
+
+    /// Brings the innermost frame and the highest entry to their places, where they are not there already.
+    /// The stack stays the same.
+    #[inline(always)]
+    pub fn settle(&mut self)
+        ensures thread { self.new.thread ≡ self.old.thread }
+        ensures segment { segment_of self.new ≡ segment_of self.old }
+        ensures levels { levels_of self.new ≡ levels_of self.old }
+        ensures top { self.new.top ≡ None → segment_of self.new ≡ [] }
+        ensures highest { self.new.highest ≡ None → levels_of self.new ≡ [] }
+    {
+        if self.top.is_none() {
+            self.top = self.callers.pop();
+        }
+        if self.highest.is_none() {
+            self.highest = self.outer.pop();
+        }
+    }
 }

@@ -1,6 +1,7 @@
 //! The operand stack of a frame (JVMS 2.6.2).
 
 ghost use Rattle.std.specs.Prelude.{◌≡◌, ◌∷◌, [], IfOk, OnErr, OnOk, Some, None};
+ghost use Rattle.vm_state.specs.Values.{places};
 ghost use Rattle.vm_state.specs.Operands.{OperandStack, pushed, top, top_int, rest};
 
 use crate::value::{Fault, Value};
@@ -36,6 +37,16 @@ impl Operands {
             values,
             free: room as u32,
         })
+    }
+
+    /// A full stack with one value of one place.
+    pub fn with(alloc: Global, value: Value) -> Result<Operands, AllocError>
+        requires { places value ≡ 1 }
+        ensures { IfOk result (λ s. s ≡ record { free = 0; values = value ∷ [] }) }
+    {
+        let mut values = Vec::with_capacity(alloc, 1)?;
+        values.push_reserved(value);
+        Ok(Operands { values, free: 0 })
     }
 
     /// Puts a value on top; a fault where there is no room for it.

@@ -1,0 +1,61 @@
+-- The linked program, as the initialization procedure and its threads ask of it.
+use Rattle.std.specs.Prelude.{ℕ, ◌+◌, List, [], ◌∷◌, Option, Some, None, Bool, false, ◌==◌, if◌then◌else◌, replicate}
+use Rattle.vm_state.specs.declared.value.Value.TheVariants.{OfThread}
+use Rattle.vm_state.specs.declared.ends.FaultKind.TheVariants.{Unsupported}
+use Rattle.vm_state.specs.declared.frame.Frame.{Frame}
+use Rattle.vm_state.specs.declared.frame.Activity.{Activity}
+use Rattle.vm_state.specs.declared.frame.Activity.TheVariants.{Start, Method}
+use Rattle.semantics.specs.Programs.{Program}
+use Rattle.machine.specs.declared.program.Class.{Class}
+use Rattle.machine.specs.declared.program.Implementation.{Implementation}
+use Rattle.machine.specs.declared.program.Implementation.TheVariants as implementations
+use Rattle.machine.specs.Tables.{Tables, implementation_at, initializer_in, parents_in, statics_in}
+use Rattle.machine.specs.Table.{row, called, halts}
+
+-- ---- the frame of a class initialization method (JVMS 2.9)
+
+abbrev pub initializer_called : ℕ → Option Implementation → Option Frame
+initializer_called m None = None
+initializer_called m (Some (implementations.Code code)) = Some (called m code (replicate code.max_locals None))
+initializer_called m (Some implementations.Abstract) = None
+initializer_called m (Some implementations.Unsupported) = None
+
+abbrev pub initializer_frame_of : Tables → Option ℕ → Option Frame
+initializer_frame_of P None = None
+initializer_frame_of P (Some m) = initializer_called m (implementation_at P m)
+
+abbrev pub initializer_frame : Tables → ℕ → Option Frame
+initializer_frame P c = initializer_frame_of P (initializer_in P c)
+
+-- ---- whose class initialization method a frame runs
+
+abbrev pub is_method : Option ℕ → ℕ → Bool
+is_method None m = false
+is_method (Some n) m = n == m
+
+-- the first class, counted from c, with this class initialization method
+abbrev pub initialized_from : ℕ → List Class → ℕ → Option ℕ
+initialized_from c [] m = None
+initialized_from c (k ∷ ks) m = if is_method k.initializer m then Some c else initialized_from (c + 1) ks m
+
+abbrev pub initialized_by : Tables → Activity → Option ℕ
+initialized_by P (Start c) = None
+initialized_by P (Method m) = initialized_from 0 P.classes m
+
+-- ---- a thread's first frame: its argument is its own first object (JVMS 5.2)
+
+abbrev pub start_frame : ℕ → ℕ → Frame
+start_frame c t = record { activity = Start c; place = 0; locals = []; operands = record { free = 0; values = OfThread t 0 ∷ [] } }
+
+-- Exceptions come later: a class whose initialization fails ends its thread.
+abbrev pub program_of : Tables → Program
+program_of P = record {
+  row = row P;
+  failing = λ c x fs. halts Unsupported;
+  orphaned = λ c fs. halts Unsupported;
+  initializer = initializer_frame P;
+  parents = parents_in P;
+  statics = statics_in P;
+  initializes = λ f. initialized_by P f.activity;
+  start = start_frame;
+}

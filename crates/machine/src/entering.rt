@@ -1,0 +1,49 @@
+//! The first frames of threads and of class initialization methods.
+
+ghost use Rattle.std.specs.Prelude.{◌≡◌, IfOk, Some, OnOk};
+ghost use Rattle.machine.specs.Linked.{initializer_frame, start_frame};
+
+use crate::program::{Implementation, Program};
+use std::alloc::{AllocError, Global};
+use vm_state::frame::{Activity, Frame};
+use vm_state::locals::Locals;
+use vm_state::operands::Operands;
+use vm_state::value::Value;
+
+/// The frame of a class's class initialization method (JVMS 2.9), where the class has one.
+pub fn initializer_frame(
+    alloc: Global,
+    program: &Program,
+    class: u32,
+) -> Result<Option<Frame>, AllocError>
+    ensures { IfOk result (λ f. f ≡ initializer_frame program.now class) }
+{
+    let Some(method) = program.initializer(class) else {
+        return Ok(None);
+    };
+    match program.implementation(method) {
+        Some(Implementation::Code(code)) => Ok(Some(Frame {
+            activity: Activity::Method(method),
+            place: 0,
+            locals: Locals::new(alloc, code.max_locals)?,
+            operands: Operands::new(alloc, code.max_stack)?,
+        })),
+        Some(Implementation::Abstract) => Ok(None),
+        Some(Implementation::Unsupported) => Ok(None),
+        None => Ok(None),
+    }
+}
+
+/// The frame that a thread begins with: it needs its entry class and calls that class's `main`, with the thread's
+/// first object as the argument (JVMS 5.2).
+pub fn start_frame(alloc: Global, class: u32, thread: u32) -> Result<Frame, AllocError>
+    ensures { IfOk result (λ f. f ≡ start_frame class thread) }
+{
+    let operands = Operands::with(alloc, Value::OfThread(thread, 0))?;
+    Ok(Frame {
+        activity: Activity::Start(class),
+        place: 0,
+        locals: Locals::new(alloc, 0)?,
+        operands,
+    })
+}
