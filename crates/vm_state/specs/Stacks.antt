@@ -1,5 +1,5 @@
 -- A thread's stack: the frames above the highest initialization entry, and below them the entries with the frames under each.
-use Rattle.std.specs.Prelude.{◌≡◌, ℕ, List, [], ◌∷◌, Option, Some, None}
+use Rattle.std.specs.Prelude.{◌≡◌, ℕ, true, List, [], ◌∷◌, Option, Some, None}
 use Rattle.vm_state.specs.declared.frame.Frame.{Frame}
 use Rattle.vm_state.specs.declared.initialization.Level.{Level}
 use Rattle.vm_state.specs.declared.initialization.Frames.{Frames}
@@ -31,3 +31,13 @@ first_of (c ∷ cs) = Some c
 abbrev pub others_of : List ℕ → List ℕ
 others_of [] = []
 others_of (c ∷ cs) = cs
+
+-- the entries with the highest one's next parent taken off
+abbrev pub parent_taken : List Level → List Level
+parent_taken [] = []
+parent_taken (l ∷ ls) = record l { entry = record l.entry { left = others_of l.entry.left } } ∷ ls
+
+-- the entries, of which the highest one's class initialization method has begun
+abbrev pub initializer_begun : List Level → List Level
+initializer_begun [] = []
+initializer_begun (l ∷ ls) = record l { entry = record l.entry { begun = true } } ∷ ls

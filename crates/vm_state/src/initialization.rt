@@ -1,8 +1,8 @@
 //! Initialization entries (JVMS 5.5), and the whole stack of a thread.
 
-ghost use Rattle.std.specs.Prelude.{◌≡◌, ◌∷◌, [], IfOk, OnOk, OnErr, MatchOption, Some, None};
+ghost use Rattle.std.specs.Prelude.{◌≡◌, ◌∷◌, [], IfOk, OnOk, OnErr, MatchOption, Some, None, IsSome};
 ghost use Rattle.vm_state.specs.Segments.{frames_with};
-ghost use Rattle.vm_state.specs.Stacks.{first_of, others_of, levels_with, segment_of, levels_of, IsLeft};
+ghost use Rattle.vm_state.specs.Stacks.{first_of, others_of, levels_with, segment_of, levels_of, parent_taken, initializer_begun, IsLeft};
 
 use crate::frame::{Frame, FrameList};
 use crate::value::Name;
@@ -169,6 +169,35 @@ impl Frames {
             self.top = under.pop();
             self.callers = under;
         }
+    }
+
+    /// Takes the next parent off the highest entry.
+    pub fn take_parent(&mut self)
+        requires { IsSome self.old.highest }
+        ensures thread { self.new.thread ≡ self.old.thread }
+        ensures segment { segment_of self.new ≡ segment_of self.old }
+        ensures levels { levels_of self.new ≡ parent_taken (levels_of self.old) }
+    {
+        let Some(mut level) = self.highest.take() else {
+            unreachable!()
+        };
+        level.entry.left.drop_first();
+        self.highest = Some(level);
+    }
+
+    /// Puts the frame of its class initialization method on the highest entry.
+    pub fn begin_initializer(&mut self, frame: Frame)
+        requires highest { IsSome self.old.highest }
+        requires segment { segment_of self.old ≡ [] }
+        ensures thread { self.new.thread ≡ self.old.thread }
+        ensures segment { segment_of self.new ≡ frame ∷ [] }
+        ensures levels { levels_of self.new ≡ initializer_begun (levels_of self.old) }
+    {
+        let Some(level) = &mut self.highest else {
+            unreachable!()
+        };
+        level.entry.begun = true;
+        self.top = Some(frame);
     }
 
     /// Brings the innermost frame and the highest entry to their places, where they are not there already.

@@ -1,0 +1,44 @@
+-- What a step of a thread says, in the words of the definition.
+use Rattle.std.specs.Prelude.{◌≡◌, ℕ, List, Option, Some, None}
+use Rattle.vm_state.specs.declared.ends.End.{End}
+use Rattle.vm_state.specs.declared.initialization.Frames.{Frames}
+use Rattle.vm_state.specs.declared.shared.Shared.{Shared}
+use Rattle.vm_state.specs.declared.text.Line.{Line}
+use Rattle.vm_state.specs.SharedState.{SharedState, with_line}
+use Rattle.vm_state.specs.Shares.{shared_of}
+use Rattle.vm_state.specs.Stacks.{segment_of, levels_of}
+use Rattle.semantics.specs.Programs.{Program}
+use Rattle.semantics.specs.Steps.{Thread, Going, Ended as HasEnded, After, step_thread}
+use Rattle.init_engine.specs.declared.procedure.Progress.{Progress}
+use Rattle.init_engine.specs.declared.procedure.Progress.TheVariants.{Moved, Printed, Ended, Waits}
+
+-- a thread's stack, as the definition has it
+abbrev pub going : Frames → Thread
+going s = Going (segment_of s) (levels_of s)
+
+abbrev pub Stands : Option End → Thread → Frames → Type 0
+Stands None thread s = thread ≡ going s
+Stands (Some end) thread s = thread ≡ HasEnded end
+
+-- the same thread and stack
+abbrev pub IsSame : Frames → Frames → Type 0
+IsSame old new = (new.thread ≡ old.thread) × (segment_of new ≡ segment_of old) × (levels_of new ≡ levels_of old)
+
+-- what a step of thread t leaves, by what the code says of it
+abbrev pub left_by_step : Progress → ℕ → Frames → SharedState → Option After
+left_by_step Moved t s sh = Some (record { shared = sh; thread = going s })
+left_by_step (Printed text) t s sh = Some (record { shared = with_line sh (record { thread = t; text = text }); thread = going s })
+left_by_step (Ended end) t s sh = Some (record { shared = sh; thread = HasEnded end })
+left_by_step Waits t s sh = None
+
+-- the code's step is the definition's
+abbrev pub Steps : Program → Frames → Shared → Progress → Frames → Shared → Type 0
+Steps P old before progress new after =
+    (p : List Line) → step_thread P old.thread (shared_of before p) (going old) ≡ left_by_step progress old.thread new (shared_of after p)
+
+-- where there is no step the thread stays as it was
+abbrev pub StaysPut : Progress → Frames → Frames → Shared → Shared → Type 0
+StaysPut Moved old new before after = Unit {0}
+StaysPut (Printed text) old new before after = Unit {0}
+StaysPut (Ended end) old new before after = Unit {0}
+StaysPut Waits old new before after = IsSame old new × ((p : List Line) → shared_of after p ≡ shared_of before p)

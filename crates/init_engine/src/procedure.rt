@@ -1,0 +1,241 @@
+//! One step of one thread: an instruction, or a part of the initialization procedure (JVMS 5.5).
+
+ghost use Rattle.std.specs.Prelude.{◌≡◌, ◌∷◌, [], List, IfOk, OnOk, OnErr, Some, None, IsSome};
+ghost use Rattle.vm_state.specs.declared.initialization.Level.{Level};
+ghost use Rattle.vm_state.specs.declared.text.Line.{Line};
+ghost use Rattle.vm_state.specs.SharedState.{set_state};
+ghost use Rattle.vm_state.specs.Shares.{shared_of, begun};
+ghost use Rattle.vm_state.specs.Stacks.{segment_of, levels_of};
+ghost use Rattle.semantics.specs.Steps.{Going, standing, entry_of, finishes, initializes, step_thread};
+ghost use Rattle.machine.specs.Linked.{program_of, initializer_frame};
+ghost use Rattle.machine.specs.Tables.{statics_in};
+ghost use Rattle.init_engine.specs.Progress.{Stands, Steps, StaysPut, IsSame, left_by_step};
+
+use machine::execute::effect;
+use machine::entering::initializer_frame;
+use machine::kinds::Effect;
+use machine::program::Program;
+use std::alloc::{AllocError, Global};
+use vm_state::classes::{ClassState, Usability};
+use vm_state::ends::{End, FaultKind};
+use vm_state::initialization::{Entry, Frames, Parents};
+use vm_state::shared::Shared;
+use vm_state::text::Text;
+
+/// What a step of a thread did.
+#[derive(Drop)]
+pub enum Progress {
+    Moved,
+    Printed(Text),
+    /// The step ended the thread.
+    Ended(End),
+    /// There is no step.
+    Waits,
+}
+
+/// How a thread that stands so has ended, if it has.
+fn end_of(frames: &Frames) -> Option<End>
+    requires top { frames.now.top ≡ None → segment_of frames.now ≡ [] }
+    requires highest { frames.now.highest ≡ None → levels_of frames.now ≡ [] }
+    ensures { Stands result (standing (segment_of frames.now) (levels_of frames.now)) frames.now }
+{
+    if frames.top.is_none() && frames.highest.is_none() {
+        return Some(End::Returned);
+    }
+    None
+}
+
+/// Begins the initialization of a class by a thread (step 6). Where memory is refused nothing changes.
+fn begin(
+    alloc: Global,
+    program: &Program,
+    frames: &mut Frames,
+    shared: &mut Shared,
+    class: u32,
+) -> Result<(), AllocError>
+    ensures thread { frames.new.thread ≡ frames.old.thread }
+    ensures shared { OnOk result ((p : List Line) → shared_of shared.new p ≡ begun (shared_of shared.old p) class frames.old.thread (statics_in program.now class)) }
+    ensures segment { OnOk result (segment_of frames.new ≡ []) }
+    ensures levels { OnOk result (levels_of frames.new ≡ record { entry = entry_of (program_of program.now) class; under = segment_of frames.old } ∷ levels_of frames.old) }
+    ensures err { OnErr result (IsSame frames.old frames.new × ((p : List Line) → shared_of shared.new p ≡ shared_of shared.old p)) }
+{
+    let left = Parents::of(alloc, program.parents(class))?;
+    let thread = frames.thread;
+    frames.enter(
+        alloc,
+        Entry {
+            class,
+            left,
+            begun: false,
+            pending: None,
+        },
+    )?;
+    match shared.begin(alloc, class, thread, program.statics(class)) {
+        Ok(()) => Ok(()),
+        Err(error) => {
+            frames.leave();
+            Err(error)
+        }
+    }
+}
+
+/// An instruction, or the begin that it needs, of a thread on top of whose stack a frame stands.
+#[tactic(auto, unfolding(semantics::specs::Steps::step_thread))]
+fn step_frame(
+    alloc: Global,
+    program: &Program,
+    frames: &mut Frames,
+    shared: &mut Shared,
+) -> Result<Progress, AllocError>
+    requires { IsSome frames.old.top }
+    ensures thread { frames.new.thread ≡ frames.old.thread }
+    ensures steps { IfOk result (λ r. Steps (program_of program.now) frames.old shared.old r frames.new shared.new) }
+    ensures stays { IfOk result (λ r. StaysPut r frames.old frames.new shared.old shared.new) }
+    ensures err { OnErr result (IsSame frames.old frames.new × ((p : List Line) → shared_of shared.new p ≡ shared_of shared.old p)) }
+{
+    match effect(alloc, program, frames, shared)? {
+        Effect::Next => {
+            frames.settle();
+            match end_of(frames) {
+                Some(end) => Ok(Progress::Ended(end)),
+                None => Ok(Progress::Moved),
+            }
+        }
+        Effect::Needs(class) => {
+            begin(alloc, program, frames, shared, class)?;
+            Ok(Progress::Moved)
+        }
+        Effect::Wait => Ok(Progress::Waits),
+        Effect::Print(text) => Ok(Progress::Printed(text)),
+        Effect::Halt(kind) => Ok(Progress::Ended(End::Faulted(kind))),
+    }
+}
+
+/// Finish (step 10): the class of the highest entry is initialized, and the entry goes.
+#[tactic(auto, unfolding(semantics::specs::Steps::step_thread))]
+fn finish(
+    alloc: Global,
+    frames: &mut Frames,
+    shared: &mut Shared,
+    class: u32,
+) -> Result<Progress, AllocError>
+    ensures thread { frames.new.thread ≡ frames.old.thread }
+    ensures finishes { IfOk result (λ r. (l : Level) (ls : List Level) (p : List Line) → levels_of frames.old ≡ l ∷ ls → left_by_step r frames.old.thread frames.new (shared_of shared.new p) ≡ Some (finishes (shared_of shared.old p) class l.under ls)) }
+    ensures stays { IfOk result (λ r. StaysPut r frames.old frames.new shared.old shared.new) }
+    ensures err { OnErr result ((frames.new ≡ frames.old) × ((p : List Line) → shared_of shared.new p ≡ shared_of shared.old p)) }
+{
+    shared.set_state(alloc, class, ClassState::Done)?;
+    frames.leave();
+    frames.settle();
+    match end_of(frames) {
+        Some(end) => Ok(Progress::Ended(end)),
+        None => Ok(Progress::Moved),
+    }
+}
+
+/// Fail (steps 7 and 11): the class of the highest entry is erroneous. Until exceptions are there its thread ends with it.
+fn fail(
+    alloc: Global,
+    shared: &mut Shared,
+    class: u32,
+) -> Result<Progress, AllocError>
+    ensures answer { IfOk result (λ r. r ≡ Progress.Ended (End.Faulted FaultKind.Unsupported)) }
+    ensures ok { OnOk result ((p : List Line) → shared_of shared.new p ≡ set_state (shared_of shared.old p) class ClassState.Erroneous) }
+    ensures err { OnErr result ((p : List Line) → shared_of shared.new p ≡ shared_of shared.old p) }
+{
+    shared.set_state(alloc, class, ClassState::Erroneous)?;
+    Ok(Progress::Ended(End::Faulted(FaultKind::Unsupported)))
+}
+
+/// Advance to the class initialization method (step 9), or finish where there is none.
+#[tactic(auto, unfolding(semantics::specs::Steps::step_thread))]
+fn initialize(
+    alloc: Global,
+    program: &Program,
+    frames: &mut Frames,
+    shared: &mut Shared,
+    class: u32,
+) -> Result<Progress, AllocError>
+    requires highest { IsSome frames.old.highest }
+    requires segment { segment_of frames.old ≡ [] }
+    ensures thread { frames.new.thread ≡ frames.old.thread }
+    ensures initializes { IfOk result (λ r. (l : Level) (ls : List Level) (p : List Line) → levels_of frames.old ≡ l ∷ ls → l.entry.class ≡ class → left_by_step r frames.old.thread frames.new (shared_of shared.new p) ≡ Some (initializes (shared_of shared.old p) l.entry l.under ls (initializer_frame program.now class))) }
+    ensures stays { IfOk result (λ r. StaysPut r frames.old frames.new shared.old shared.new) }
+    ensures err { OnErr result ((frames.new ≡ frames.old) × ((p : List Line) → shared_of shared.new p ≡ shared_of shared.old p)) }
+{
+    match initializer_frame(alloc, program, class)? {
+        Some(frame) => {
+            frames.begin_initializer(frame);
+            Ok(Progress::Moved)
+        }
+        None => finish(alloc, frames, shared, class),
+    }
+}
+
+/// What the highest initialization entry does next, with no frame above it.
+#[tactic(auto, unfolding(semantics::specs::Steps::step_thread))]
+fn step_entry(
+    alloc: Global,
+    program: &Program,
+    frames: &mut Frames,
+    shared: &mut Shared,
+) -> Result<Progress, AllocError>
+    requires highest { IsSome frames.old.highest }
+    requires segment { segment_of frames.old ≡ [] }
+    ensures thread { frames.new.thread ≡ frames.old.thread }
+    ensures steps { IfOk result (λ r. Steps (program_of program.now) frames.old shared.old r frames.new shared.new) }
+    ensures stays { IfOk result (λ r. StaysPut r frames.old frames.new shared.old shared.new) }
+    ensures err { OnErr result (IsSame frames.old frames.new × ((p : List Line) → shared_of shared.new p ≡ shared_of shared.old p)) }
+{
+    let Some(level) = &frames.highest else {
+        unreachable!()
+    };
+    let class = level.entry.class;
+    if level.entry.pending.is_some() {
+        return fail(alloc, shared, class);
+    }
+    match level.entry.left.first() {
+        Some(parent) => match shared.state(parent).usability(frames.thread) {
+            Usability::Ready => {
+                frames.take_parent();
+                Ok(Progress::Moved)
+            }
+            Usability::Fresh => {
+                begin(alloc, program, frames, shared, parent)?;
+                Ok(Progress::Moved)
+            }
+            Usability::Busy => Ok(Progress::Waits),
+            Usability::Broken => fail(alloc, shared, class),
+        },
+        None => {
+            if level.entry.begun {
+                finish(alloc, frames, shared, class)
+            } else {
+                initialize(alloc, program, frames, shared, class)
+            }
+        }
+    }
+}
+
+/// One step of a thread (JVMS 5.5). Where there is none, and where memory is refused, nothing changes.
+#[tactic(auto, unfolding(semantics::specs::Steps::step_thread))]
+pub fn step_thread(
+    alloc: Global,
+    program: &Program,
+    frames: &mut Frames,
+    shared: &mut Shared,
+) -> Result<Progress, AllocError>
+    ensures thread { frames.new.thread ≡ frames.old.thread }
+    ensures steps { IfOk result (λ r. Steps (program_of program.now) frames.old shared.old r frames.new shared.new) }
+    ensures stays { IfOk result (λ r. StaysPut r frames.old frames.new shared.old shared.new) }
+    ensures err { OnErr result (IsSame frames.old frames.new × ((p : List Line) → shared_of shared.new p ≡ shared_of shared.old p)) }
+{
+    frames.settle();
+    if frames.top.is_some() {
+        return step_frame(alloc, program, frames, shared);
+    }
+    if frames.highest.is_some() {
+        return step_entry(alloc, program, frames, shared);
+    }
+    Ok(Progress::Waits)
+}
