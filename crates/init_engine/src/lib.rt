@@ -2,3 +2,4 @@
 #![tactic(auto)]
 
 pub mod procedure;
+pub mod world;

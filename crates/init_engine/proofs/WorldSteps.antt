@@ -1,0 +1,115 @@
+-- What a turn of one thread is of the whole world.
+use Rattle.std.proofs.Common.{◌≡◌, ℕ, ◌<◌, List, [], ◌∷◌, ◌++◌, Some, None, map, length, get_or, slice_get, slice_set, option_map, refl, sym, ap, subst, ◌∙◌}
+use Rattle.std.proofs.lemmas.List.{map-set}
+use Rattle.std.proofs.lemmas.Option.{slice_get-map, slice_get-get_or, get_or_from_slice_get}
+use Rattle.std.proofs.Math.Seq.{map-set_same}
+use Rattle.vm_state.specs.declared.shared.Shared.{Shared}
+use Rattle.vm_state.specs.declared.text.Line.{Line}
+use Rattle.vm_state.specs.SharedState.{SharedState, with_line}
+use Rattle.vm_state.specs.Shares.{shared_of}
+use Rattle.semantics.specs.Programs.{Program}
+use Rattle.semantics.specs.Steps.{step_thread}
+use Rattle.semantics.specs.Worlds.{World, step, step_of, put_thread}
+use Rattle.init_engine.specs.declared.world.Thread.{Thread}
+use Rattle.init_engine.specs.declared.world.Thread.TheVariants.{Going, Ended}
+use Rattle.init_engine.specs.declared.world.Done.{Done}
+use Rattle.init_engine.specs.declared.world.Done.TheVariants.{Went, Said, Waits, Over}
+use Rattle.init_engine.specs.declared.world.Turn.TheVariants.{Waiting}
+use Rattle.init_engine.specs.declared.world.Turn.TheVariants.{Ended as EndedTurn}
+use Rattle.init_engine.specs.Threads.{thread_of, HasNumber, left_by_going, IsGoing, HasEndedNow, IsUnchanged, StaysAsItWas}
+use Rattle.init_engine.specs.Numbering.{AreNumbered}
+use Rattle.init_engine.specs.Turns.{world_of, Goes, IsOver, IsTurn}
+
+abbrev pub world_with : List Thread → Shared → List Line → World
+world_with threads shared printed = world_of (record { threads = threads; shared = shared; printed = printed })
+
+-- ---- a step
+
+pub thread_at : (threads : List Thread) (i : ℕ) (old : Thread) → slice_get threads i ≡ Some old → slice_get (map thread_of threads) i ≡ Some (thread_of old)
+thread_at threads i old at = slice_get-map thread_of threads i ∙ ap (option_map thread_of) at
+
+stepping : (P : Program) (threads : List Thread) (shared : Shared) (printed : List Line) (i : ℕ) (old : Thread) → slice_get threads i ≡ Some old →
+    step P (world_with threads shared printed) i ≡ put_thread (world_with threads shared printed) i (step_thread P i (shared_of shared printed) (thread_of old))
+stepping P threads shared printed i old at = ap (step_of P (world_with threads shared printed) i) (thread_at threads i old at)
+
+pub steps_to : (P : Program) (threads : List Thread) (before after : Shared) (printed more : List Line) (sh : SharedState) (i : ℕ) (old new : Thread) → slice_get threads i ≡ Some old →
+    sh ≡ shared_of after more → step_thread P i (shared_of before printed) (thread_of old) ≡ Some (record { shared = sh; thread = thread_of new }) →
+    step P (world_with threads before printed) i ≡ Some (world_with (slice_set threads i new) after more)
+steps_to P threads before after printed more sh i old new at is stepped =
+    stepping P threads before printed i old at
+        ∙ (ap (put_thread (world_with threads before printed) i) stepped
+        ∙ (ap (λ (s : SharedState). Some (record { shared = s; threads = slice_set (map thread_of threads) i (thread_of new) })) is
+        ∙ ap (λ ts. Some (record { shared = shared_of after more; threads = ts })) (sym (map-set thread_of threads i new))))
+
+pub more_printed : (s : Shared) (printed : List Line) (line : Line) → with_line (shared_of s printed) line ≡ shared_of s (printed ++ line ∷ [])
+unfolding shared_of
+more_printed s printed line = refl
+
+pub has_no_step : (P : Program) (threads : List Thread) (shared : Shared) (printed : List Line) (i : ℕ) (old : Thread) → slice_get threads i ≡ Some old →
+    step_thread P i (shared_of shared printed) (thread_of old) ≡ None → step P (world_with threads shared printed) i ≡ None
+has_no_step P threads shared printed i old at none = stepping P threads shared printed i old at ∙ ap (put_thread (world_with threads shared printed) i) none
+
+pub stays_same : (threads : List Thread) (before after : Shared) (printed : List Line) (i : ℕ) (old new : Thread) → slice_get threads i ≡ Some old → IsUnchanged old new before after →
+    world_with (slice_set threads i new) after printed ≡ world_with threads before printed
+stays_same threads before after printed i old new at (same, shared) =
+    ap (λ (s : SharedState). record { shared = s; threads = map thread_of (slice_set threads i new) }) (shared printed)
+        ∙ ap (λ ts. record { shared = shared_of before printed; threads = ts }) (map-set_same thread_of threads i new old (same ∙ ap thread_of (sym (get_or_from_slice_get threads i old old at))))
+
+-- ---- going or ended
+
+goes_on : (old : Thread) → IsGoing old → Goes (Some (thread_of old))
+goes_on (Going s) h = tt
+goes_on (Ended end) h = absurd h
+
+is_over : (old : Thread) → HasEndedNow old → IsOver (Some (thread_of old))
+is_over (Going s) h = absurd h
+is_over (Ended end) h = tt
+
+pub goes_at : (threads : List Thread) (i : ℕ) (old : Thread) → slice_get threads i ≡ Some old → IsGoing old → Goes (slice_get (map thread_of threads) i)
+goes_at threads i old at h = subst Goes (sym (thread_at threads i old at)) (goes_on old h)
+
+pub over_at : (threads : List Thread) (i : ℕ) (old : Thread) → slice_get threads i ≡ Some old → HasEndedNow old → IsOver (slice_get (map thread_of threads) i)
+over_at threads i old at h = subst IsOver (sym (thread_at threads i old at)) (is_over old h)
+
+-- ---- what the code's turn of a thread says of the world
+
+pub record Turned (P : Program) (threads : List Thread) (before after : Shared) (i : ℕ) (old new : Thread) (done : Done) : Type 0 where
+  pub at : slice_get threads i ≡ Some old
+  pub numbered : AreNumbered threads
+  pub steps : (t : ℕ) → HasNumber old t → (p : List Line) → step_thread P t (shared_of before p) (thread_of old) ≡ left_by_going done t new (shared_of after p)
+  pub stays : StaysAsItWas done old new before after
+
+-- what a place of a vector of threads gives
+pub turned : (P : Program) (threads : List Thread) (before after : Shared) (i : ℕ) (old new : Thread) (done was : Done) → i < length threads → old ≡ get_or threads i old → AreNumbered threads → done ≡ was →
+    ((t : ℕ) → HasNumber old t → (p : List Line) → step_thread P t (shared_of before p) (thread_of old) ≡ left_by_going done t new (shared_of after p)) →
+    StaysAsItWas done old new before after → Turned P threads before after i old new was
+turned P threads before after i old new done was inside is numbered same steps stays =
+    subst (Turned P threads before after i old new) same
+    (record { at = slice_get-get_or threads i old inside ∙ ap Some (sym is); numbered = numbered; steps = steps; stays = stays })
+
+module _ {P : Program} {threads : List Thread} {before after : Shared} {i : ℕ} {old new : Thread} where
+  pub went : (printed : List Line) → Turned P threads before after i old new Went → step P (world_with threads before printed) i ≡ Some (world_with (slice_set threads i new) after printed)
+  went printed h = steps_to P threads before after printed printed (shared_of after printed) i old new h.at refl (h.steps i (h.numbered i old h.at) printed)
+
+  pub said : (printed : List Line) (text : List ℕ) → Turned P threads before after i old new (Said text) →
+      step P (world_with threads before printed) i ≡ Some (world_with (slice_set threads i new) after (printed ++ record { thread = i; text = text } ∷ []))
+  said printed text h =
+      let line : Line = record { thread = i; text = text } in
+      steps_to P threads before after printed (printed ++ line ∷ []) (with_line (shared_of after printed) line) i old new h.at (more_printed after printed line) (h.steps i (h.numbered i old h.at) printed)
+
+  pub waits : (printed : List Line) → Turned P threads before after i old new Waits → IsTurn P (world_with threads before printed) i Waiting (world_with (slice_set threads i new) after printed)
+  waits printed h =
+      (goes_at threads i old h.at h.stays.0,
+       has_no_step P threads before printed i old h.at (h.steps i (h.numbered i old h.at) printed),
+       stays_same threads before after printed i old new h.at h.stays.1)
+
+  pub over : (printed : List Line) → Turned P threads before after i old new Over → IsTurn P (world_with threads before printed) i EndedTurn (world_with (slice_set threads i new) after printed)
+  over printed h =
+      (over_at threads i old h.at h.stays.0,
+       has_no_step P threads before printed i old h.at (h.steps i (h.numbered i old h.at) printed),
+       stays_same threads before after printed i old new h.at h.stays.1)
+
+pub refused : (threads : List Thread) (before after : Shared) (printed : List Line) (i : ℕ) (old new : Thread) → i < length threads → old ≡ get_or threads i old → IsUnchanged old new before after →
+    world_with (slice_set threads i new) after printed ≡ world_with threads before printed
+refused threads before after printed i old new inside is same =
+    stays_same threads before after printed i old new (slice_get-get_or threads i old inside ∙ ap Some (sym is)) same

@@ -1,0 +1,46 @@
+-- Threads as the definition has them, and what a turn of one says.
+use Rattle.std.specs.Prelude.{◌≡◌, ℕ, List, Option, Some, None}
+use Rattle.vm_state.specs.declared.shared.Shared.{Shared}
+use Rattle.vm_state.specs.declared.text.Line.{Line}
+use Rattle.vm_state.specs.SharedState.{SharedState, with_line}
+use Rattle.vm_state.specs.Shares.{shared_of}
+use Rattle.semantics.specs.Steps.{Thread as DefinedThread, Ended as HasEnded, After}
+use Rattle.init_engine.specs.declared.world.Thread.{Thread}
+use Rattle.init_engine.specs.declared.world.Thread.TheVariants.{Going, Ended}
+use Rattle.init_engine.specs.declared.world.Done.{Done}
+use Rattle.init_engine.specs.declared.world.Done.TheVariants.{Went, Said, Waits, Over}
+use Rattle.init_engine.specs.Progress.{going}
+
+abbrev pub thread_of : Thread → DefinedThread
+thread_of (Going s) = going s
+thread_of (Ended end) = HasEnded end
+
+-- the stack of a thread that is going has the thread's number
+abbrev pub HasNumber : Thread → ℕ → Type 0
+HasNumber (Going s) t = s.thread ≡ t
+HasNumber (Ended end) t = Unit {0}
+
+-- what a step leaves, by what the code says of it
+abbrev pub left_by_going : Done → ℕ → Thread → SharedState → Option After
+left_by_going Went t thread sh = Some (record { shared = sh; thread = thread_of thread })
+left_by_going (Said text) t thread sh = Some (record { shared = with_line sh (record { thread = t; text = text }); thread = thread_of thread })
+left_by_going Waits t thread sh = None
+left_by_going Over t thread sh = None
+
+abbrev pub IsGoing : Thread → Type 0
+IsGoing (Going s) = Unit {0}
+IsGoing (Ended end) = ⊥
+
+abbrev pub HasEndedNow : Thread → Type 0
+HasEndedNow (Going s) = ⊥
+HasEndedNow (Ended end) = Unit {0}
+
+-- where there is no step all stays as it was
+abbrev pub IsUnchanged : Thread → Thread → Shared → Shared → Type 0
+IsUnchanged old new before after = (thread_of new ≡ thread_of old) × ((p : List Line) → shared_of after p ≡ shared_of before p)
+
+abbrev pub StaysAsItWas : Done → Thread → Thread → Shared → Shared → Type 0
+StaysAsItWas Went old new before after = Unit {0}
+StaysAsItWas (Said text) old new before after = Unit {0}
+StaysAsItWas Waits old new before after = IsGoing old × IsUnchanged old new before after
+StaysAsItWas Over old new before after = HasEndedNow old × IsUnchanged old new before after

@@ -1,0 +1,130 @@
+//! Worlds: threads, what they share, and what they printed.
+
+ghost use Rattle.std.specs.Prelude.{◌≡◌, ◌<◌, ◌∷◌, [], ℕ, List, length, IfOk, OnOk, OnErr, Some, None};
+ghost use Rattle.vm_state.specs.declared.text.Line.{Line};
+ghost use Rattle.vm_state.specs.Shares.{shared_of};
+ghost use Rattle.semantics.specs.Steps.{step_thread};
+ghost use Rattle.machine.specs.Linked.{program_of};
+ghost use Rattle.init_engine.specs.Threads.{thread_of, HasNumber, left_by_going, StaysAsItWas};
+ghost use Rattle.init_engine.specs.Turns.{IsTurn, world_of};
+
+use crate::procedure::{Progress, step_thread};
+use machine::program::Program;
+use std::alloc::{AllocError, Global};
+use std::marker::Model;
+use vm_state::ends::End;
+use vm_state::initialization::Frames;
+use vm_state::shared::Shared;
+use vm_state::text::{Line, Text};
+
+/// A thread with its stack, or how it ended.
+#[derive(Drop)]
+pub enum Thread {
+    Going(Frames),
+    Ended(End),
+}
+
+/// What a turn of a thread did.
+#[derive(Clone, Copy, PartialEq, Eq, Debug)]
+pub enum Turn {
+    /// One step.
+    Moved,
+    /// Nothing: the thread has no step until another one moves.
+    Waiting,
+    /// Nothing: the thread has ended.
+    Ended,
+}
+
+/// What was done in a turn of a thread.
+#[derive(Drop)]
+enum Done {
+    Went,
+    Said(Text),
+    Waits,
+    Over,
+}
+
+/// One step of a thread, where it has one.
+#[tactic(auto, unfolding(semantics::specs::Steps::step_thread))]
+fn take_turn(
+    alloc: Global,
+    program: &Program,
+    thread: &mut Thread,
+    shared: &mut Shared,
+) -> Result<Done, AllocError>
+    ensures number { (t : ℕ) → HasNumber thread.old t → HasNumber thread.new t }
+    ensures steps { IfOk result (λ r. (t : ℕ) → HasNumber thread.old t → (p : List Line) → step_thread (program_of program.now) t (shared_of shared.old p) (thread_of thread.old) ≡ left_by_going r t thread.new (shared_of shared.new p)) }
+    ensures stays { IfOk result (λ r. StaysAsItWas r thread.old thread.new shared.old shared.new) }
+    ensures err { OnErr result ((thread_of thread.new ≡ thread_of thread.old) × ((p : List Line) → shared_of shared.new p ≡ shared_of shared.old p)) }
+{
+    let progress = match thread {
+        Thread::Ended(_) => return Ok(Done::Over),
+        Thread::Going(frames) => step_thread(alloc, program, frames, shared)?,
+    };
+    match progress {
+        Progress::Moved => Ok(Done::Went),
+        Progress::Printed(text) => Ok(Done::Said(text)),
+        Progress::Ended(end) => {
+            *thread = Thread::Ended(end);
+            Ok(Done::Went)
+        }
+        Progress::Waits => Ok(Done::Waits),
+    }
+}
+
+/// The threads, what they share, and what they printed. A contract sees the three; `world_of` of them is the
+/// world as the definition has it.
+#[derive(Drop)]
+pub struct World {
+    threads: Vec<Thread>,
+    shared: Shared,
+    printed: Vec<Line>,
+}
+
+impl Model for World {
+    ghost use Rattle.init_engine.specs.Standing.{Standing};
+    ghost use Rattle.init_engine.specs.Numbering.{AreNumbered};
+
+    ghost Value = { Standing };
+
+    ghost view = { λ w. record { threads = w.threads.items; shared = w.shared; printed = w.printed.items } };
+
+    // Each thread's stack has the thread's number.
+    ghost invariant = { λ w. AreNumbered w.threads.items };
+}
+
+impl World {
+    /// How many threads there are.
+    pub fn thread_count(&self) -> usize
+        ensures { result ≡ length self.now.threads }
+    {
+        self.threads.len()
+    }
+
+    /// One step of a thread (JVMS 5.5), where it has one. Where it has none, and where memory is refused, the world
+    /// stays as it was.
+    pub fn step(
+        &mut self,
+        alloc: Global,
+        program: &Program,
+        thread: u32,
+    ) -> Result<Turn, AllocError>
+        requires { thread < length self.old.threads }
+        ensures ok { IfOk result (λ turn. IsTurn (program_of program.now) (world_of self.old) thread turn (world_of self.new)) }
+        ensures threads { length self.new.threads ≡ length self.old.threads }
+        ensures err { OnErr result (world_of self.new ≡ world_of self.old) }
+    {
+        self.printed.reserve(1)?;
+        let stepping = &mut self.threads[thread as usize];
+        match take_turn(alloc, program, stepping, &mut self.shared) {
+            Ok(Done::Went) => Ok(Turn::Moved),
+            Ok(Done::Said(text)) => {
+                self.printed.push_reserved(Line { thread, text });
+                Ok(Turn::Moved)
+            }
+            Ok(Done::Waits) => Ok(Turn::Waiting),
+            Ok(Done::Over) => Ok(Turn::Ended),
+            Err(error) => Err(error),
+        }
+    }
+}
