@@ -1,1 +1,2 @@
+pub mod Stints
 pub mod WorldSteps

@@ -2,4 +2,5 @@
 #![tactic(auto)]
 
 pub mod procedure;
+pub mod schedule;
 pub mod world;

@@ -1,0 +1,40 @@
+use Rattle.std.proofs.Common.{◌≡◌, ◌≢◌, ◌+◌, ◌≤◌, ◌<◌, ◌^◌, ◌∷◌, ◌++◌, [], length, arith, sym, ap, ◌∙◌, append-nil}
+use Rattle.init_engine.specs.Schedules.{schedule_of}
+use Rattle.init_engine.proofs.Stints.{schedule_of-longer, schedule_of-more, last_fits, stints_longer, stints_more, first_stint, never}
+use Rattle.init_engine.proofs.schedule.Schedule.add.Goals as goal
+
+pub overflow_add-self : goal.overflow_add-self
+overflow_add-self c =
+    let now = rw c.in-Some.is at c.self.view_is in
+    let fits = last_fits c.self.inside.stints.items c.in-Some.last c.in-Some.steps in
+    let whole = ap (λ stints. length (schedule_of stints)) now in
+    let small : c.in-Some.steps + 1 < 2 ^ 64 = omega (arith, fits, whole, c.requires) in
+    omega (arith, small)
+
+pub invariant_of-self : goal.invariant_of-self
+invariant_of-self c =
+    let kept = rw c.in-Some.is at c.self.invariant.0 in
+    (rw (← c.if-last-thread.true) (stints_longer c.self.inside.stints.items c.in-Some.last c.in-Some.steps kept), never _ _)
+
+pub returns-then-last-thread : goal.returns-then-last-thread
+returns-then-last-thread c =
+    let now = rw c.in-Some.is at c.self.view_is in
+    rw (← c.if-last-thread.true) (schedule_of-longer c.self.inside.stints.items c.in-Some.last c.in-Some.steps ∙ ap (λ stints. schedule_of stints ++ c.in-Some.last ∷ []) now)
+
+pub invariant_of-self-in-Some : goal.invariant_of-self-in-Some
+invariant_of-self-in-Some c =
+    let kept = rw c.in-Some.is at c.self.invariant.0 in
+    (rw c.in_ok-push-in-Some.ensures.items (stints_more c.self.inside.stints.items c.in-Some.last c.args.thread c.in-Some.steps kept c.if-last-thread.false), never _ _)
+
+pub invariant_of-self-in-None : goal.invariant_of-self-in-None
+invariant_of-self-in-None c = (first_stint c.self.inside.stints.items c.args.thread (c.self.invariant.1 c.in-None.is), never _ _)
+
+pub returns-in_ok-push-in-Some : goal.returns-in_ok-push-in-Some
+returns-in_ok-push-in-Some c =
+    let now = rw c.in-Some.is at c.self.view_is in
+    schedule_of-more c.push.new.self.items c.args.thread ∙ ap (λ stints. schedule_of stints ++ c.args.thread ∷ []) (c.in_ok-push-in-Some.ensures.items ∙ now)
+
+pub returns-in-None : goal.returns-in-None
+returns-in-None c =
+    let now = rw c.in-None.is at c.self.view_is in
+    schedule_of-more c.self.inside.stints.items c.args.thread ∙ ap (λ stints. schedule_of stints ++ c.args.thread ∷ []) (sym (append-nil c.self.inside.stints.items) ∙ now)

@@ -1,0 +1,20 @@
+-- Turns: in each round threads 0, 1, .. take one step each if they have one. It ends after a round without a step, or at the limit.
+use Rattle.std.specs.Prelude.{◌≡◌, ℕ, ◌+◌, ◌-◌, ◌<◌, ◌≤◌, List, [], ◌∷◌, ◌++◌, Option, Some, None, length}
+use Rattle.semantics.specs.Programs.{Program}
+use Rattle.semantics.specs.Worlds.{World, step}
+
+-- From the first world the threads below a number were asked in order, with fewer than so many steps done before each. This is the
+-- schedule of those that had a step, and it leads to this world.
+pub data Asked (P : Program) (first : World) (most : ℕ) : ℕ → List ℕ → World → Type 0 where
+  nobody : Asked P first most 0 [] first
+  steps : {t : ℕ} {schedule : List ℕ} {w new : World} → Asked P first most t schedule w → length schedule < most → step P w t ≡ Some new →
+      Asked P first most (t + 1) (schedule ++ t ∷ []) new
+  passes : {t : ℕ} {schedule : List ℕ} {w : World} → Asked P first most t schedule w → length schedule < most → step P w t ≡ None →
+      Asked P first most (t + 1) schedule w
+
+-- The turns of so many threads, of at most so many steps: rounds, up to one without a step, or up to the limit in the midst of one.
+pub data Turns (P : Program) (count : ℕ) : ℕ → World → List ℕ → World → Type 0 where
+  idle : {most : ℕ} {w : World} → Asked P w most count [] w → Turns P count most w [] w
+  limited : {most t : ℕ} {w last : World} {schedule : List ℕ} → Asked P w most t schedule last → t ≤ count → length schedule ≡ most → Turns P count most w schedule last
+  goes_on : {most : ℕ} {w next last : World} {round rest : List ℕ} → Asked P w most count round next → 0 < length round → Turns P count (most - length round) next rest last →
+      Turns P count most w (round ++ rest) last
