@@ -1,2 +1,3 @@
 pub mod Stints
+pub mod Turning
 pub mod WorldSteps

@@ -1,5 +1,5 @@
 -- Schedules as stints: a thread, and how many steps it made in a row.
-use Rattle.std.specs.Prelude.{◌≡◌, ◌≢◌, ℕ, ◌<◌, List, [], ◌∷◌, ◌++◌, Option, Some, None, replicate}
+use Rattle.std.specs.Prelude.{◌≢◌, ℕ, ◌<◌, List, [], ◌∷◌, ◌++◌, replicate}
 
 -- the schedule that a list of stints spells
 abbrev pub schedule_of : List (ℕ × ℕ) → List ℕ

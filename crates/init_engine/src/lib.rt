@@ -3,4 +3,5 @@
 
 pub mod procedure;
 pub mod schedule;
+pub mod turns;
 pub mod world;

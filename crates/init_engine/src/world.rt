@@ -82,6 +82,7 @@ pub struct World {
 }
 
 impl Model for World {
+    ghost use Rattle.std.specs.Prelude.{◌≤◌, length};
     ghost use Rattle.init_engine.specs.Standing.{Standing};
     ghost use Rattle.init_engine.specs.Numbering.{AreNumbered};
 
@@ -89,16 +90,16 @@ impl Model for World {
 
     ghost view = { λ w. record { threads = w.threads.items; shared = w.shared; printed = w.printed.items } };
 
-    // Each thread's stack has the thread's number.
-    ghost invariant = { λ w. AreNumbered w.threads.items };
+    // Each thread's stack has the thread's number, and there are at most 64.
+    ghost invariant = { λ w. AreNumbered w.threads.items × (length w.threads.items ≤ 64) };
 }
 
 impl World {
-    /// How many threads there are.
-    pub fn thread_count(&self) -> usize
+    /// How many threads there are: at most 64.
+    pub fn thread_count(&self) -> u32
         ensures { result ≡ length self.now.threads }
     {
-        self.threads.len()
+        self.threads.len() as u32
     }
 
     /// One step of a thread (JVMS 5.5), where it has one. Where it has none, and where memory is refused, the world

@@ -1,0 +1,106 @@
+-- Rounds one after the other are turns, and turns are runs.
+use Rattle.std.proofs.Common.{◌≡◌, ◌≢◌, ℕ, ◌+◌, ◌-◌, ◌<◌, ◌≤◌, ◌⊎◌, inl, inr, true, false, List, [], ◌∷◌, ◌++◌, length, refl, sym, ap, subst, ◌∙◌, arith, append_assoc, append-nil, length-append}
+use Rattle.semantics.specs.Programs.{Program}
+use Rattle.semantics.specs.Worlds.{World, Run}
+use Rattle.semantics.proofs.Runs.{runs_join_lem, run_more}
+use Rattle.init_engine.specs.Rounds.{Asked, nobody, steps, passes, Turns, idle, limited, goes_on, IsAsking, IsAskedSo, IsRound}
+
+-- ---- one round
+
+pub asked_nobody : (P : Program) (w : World) (most : ℕ) (before : List ℕ) → IsAskedSo P w most 0 0 w before before
+asked_nobody P w most before = record { round = []; are_asked = nobody; counted = refl; recorded = sym (append-nil before) }
+
+pub asked_moved : (P : Program) (first w new : World) (most t done : ℕ) (before now after : List ℕ) → IsAskedSo P first most t done w before now → done < most →
+    IsAsking P w t true new now after → IsAskedSo P first most (t + 1) (done + 1) new before after
+asked_moved P first w new most t done before now after so room (stepped, recorded) =
+    let fewer : length so.round < most = omega (arith, so.counted) in
+    record {
+      round = so.round ++ t ∷ [];
+      are_asked = steps so.are_asked fewer stepped;
+      counted = omega (arith, so.counted, length-append so.round (t ∷ []));
+      recorded = recorded ∙ (ap (λ r. r ++ t ∷ []) so.recorded ∙ append_assoc before so.round (t ∷ []));
+    }
+
+pub asked_passed : (P : Program) (first w new : World) (most t done : ℕ) (before now after : List ℕ) → IsAskedSo P first most t done w before now → done < most →
+    IsAsking P w t false new now after → IsAskedSo P first most (t + 1) done new before after
+asked_passed P first w new most t done before now after so room (stands, same, recorded) =
+    let fewer : length so.round < most = omega (arith, so.counted) in
+    record {
+      round = so.round;
+      are_asked = subst (λ (v : World). Asked P first most (t + 1) so.round v) (sym same) (passes so.are_asked fewer stands);
+      counted = so.counted;
+      recorded = recorded ∙ so.recorded;
+    }
+
+-- ---- rounds one after the other
+
+-- what turns go on from here, with these steps before them, are turns from the beginning
+abbrev pub GoOn : Program → ℕ → ℕ → World → ℕ → World → List ℕ → Type 0
+GoOn P count limit first left now before =
+    (rest : List ℕ) (last : World) → Turns P count left now rest last → Turns P count limit first (before ++ rest) last
+
+pub go_on_from_start : (P : Program) (count limit : ℕ) (w : World) → GoOn P count limit w limit w []
+go_on_from_start P count limit w rest last turns = turns
+
+-- a round without a step
+idle_as : (P : Program) (count left : ℕ) (w last : World) (round : List ℕ) → length round ≡ 0 → Asked P w left count round last → Turns P count left w round last
+idle_as P count left w last [] is asked = idle asked
+idle_as P count left w last (t ∷ ts) is asked = absurd (omega (arith, is))
+
+-- a last round
+ended : (P : Program) (count left done : ℕ) (w last : World) (before after : List ℕ) (r : IsRound P w left count done last before after) → (done ≡ 0) ⊎ (done ≡ left) →
+    Turns P count left w r.is.round last
+ended P count left done w last before after r (inr is) = limited r.is.are_asked r.within (r.is.counted ∙ is)
+ended P count left done w last before after r (inl is) = elim r.complete [
+  | inl full ↦ limited r.is.are_asked r.within (r.is.counted ∙ full)
+  | inr all ↦ idle_as P count left w last r.is.round (r.is.counted ∙ is) (subst (λ k. Asked P w left k r.is.round last) all r.is.are_asked)
+]
+
+pub turns_end : (P : Program) (count limit left done : ℕ) (first w last : World) (before after : List ℕ) → GoOn P count limit first left w before → IsRound P w left count done last before after →
+    (done ≡ 0) ⊎ (done ≡ left) → Turns P count limit first after last
+turns_end P count limit left done first w last before after on r stop =
+    subst (λ (s : List ℕ). Turns P count limit first s last) (sym r.is.recorded) (on r.is.round last (ended P count left done w last before after r stop))
+
+all_asked : (asked count done left : ℕ) → (done ≡ left) ⊎ (asked ≡ count) → done ≢ left → asked ≡ count
+all_asked asked count done left (inl full) more = absurd (more full)
+all_asked asked count done left (inr all) more = all
+
+-- a round before others
+pub turns_go_on : (P : Program) (count limit left done : ℕ) (first w next : World) (before after : List ℕ) → GoOn P count limit first left w before → IsRound P w left count done next before after →
+    done ≢ 0 → done ≢ left → GoOn P count limit first (left - done) next after
+turns_go_on P count limit left done first w next before after on r some more rest last turns =
+    let round = r.is.round in
+    let asked = subst (λ k. Asked P w left k round next) (all_asked r.asked count done left r.complete more) r.is.are_asked in
+    let steps_done : 0 < length round = omega (arith, r.is.counted, some) in
+    let later = subst (λ k. Turns P count (left - k) next rest last) (sym r.is.counted) turns in
+    let joined : before ++ (round ++ rest) ≡ after ++ rest = sym (append_assoc before round rest) ∙ ap (λ s. s ++ rest) (sym r.is.recorded) in
+    subst (λ (s : List ℕ). Turns P count limit first s last) joined (on (round ++ rest) last (goes_on asked steps_done later))
+
+-- ---- turns are runs
+
+run_of_asked : {P : Program} {first : World} {most t : ℕ} {schedule : List ℕ} {now : World} → Asked P first most t schedule now → Run P first schedule now
+run_of_asked nobody = refl
+run_of_asked {P} {first} (steps {t} {schedule} {w} {new} asked room stepped) = run_more P first w new schedule t (run_of_asked asked) stepped
+run_of_asked (passes asked room stands) = run_of_asked asked
+
+pub run_of_turns : {P : Program} {count most : ℕ} {first : World} {schedule : List ℕ} {last : World} → Turns P count most first schedule last → Run P first schedule last
+run_of_turns (idle asked) = run_of_asked asked
+run_of_turns (limited asked within reached) = run_of_asked asked
+run_of_turns {P} (goes_on {most} {w} {next} {last} {round} {rest} asked some turns) = runs_join_lem P w next last round rest (run_of_asked asked) (run_of_turns turns)
+
+-- ---- for the loops
+
+pub room_left : (done most : ℕ) → done ≤ most → done ≢ most → done < most
+room_left done most h apart = omega arith
+
+pub round_counts : (P : Program) (w last : World) (left count done : ℕ) (before after : List ℕ) → IsRound P w left count done last before after → length after ≡ length before + done
+round_counts P w last left count done before after r = omega (arith, ap length r.is.recorded, length-append before r.is.round, r.is.counted)
+
+either : (done left : ℕ) → (done ≡ 0) ⊎ ((done ≢ 0) × (done ≡ left)) → (done ≡ 0) ⊎ (done ≡ left)
+either done left (inl none) = inl none
+either done left (inr (some, all)) = inr all
+
+pub last_round : (P : Program) (count threads limit left done : ℕ) (first w last : World) (before after : List ℕ) → threads ≡ count → GoOn P count limit first left w before →
+    IsRound P w left threads done last before after → (done ≡ 0) ⊎ ((done ≢ 0) × (done ≡ left)) → Turns P count limit first after last
+last_round P count threads limit left done first w last before after is on r stop =
+    turns_end P count limit left done first w last before after on (subst (λ k. IsRound P w left k done last before after) is r) (either done left stop)

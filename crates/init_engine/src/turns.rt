@@ -1,0 +1,87 @@
+//! Turns: in each round threads 0, 1, .. take one step each if they have one.
+
+ghost use Rattle.std.specs.Prelude.{◌≡◌, ◌+◌, ◌<◌, ◌≤◌, ◌^◌, length, IfOk};
+ghost use Rattle.semantics.specs.Worlds.{Run};
+ghost use Rattle.machine.specs.Linked.{program_of};
+ghost use Rattle.init_engine.specs.Turns.{world_of};
+ghost use Rattle.init_engine.specs.Schedules.{schedule_of, AreStints};
+ghost use Rattle.init_engine.specs.Rounds.{IsAsking, IsRound, Turns};
+
+use crate::schedule::Schedule;
+use crate::world::{Turn, World};
+use machine::program::Program;
+use std::alloc::{AllocError, Global};
+
+/// Asks a thread for a step, and answers whether it had one.
+#[inline(always)]
+fn ask(
+    alloc: Global,
+    program: &Program,
+    world: &mut World,
+    schedule: &mut Schedule,
+    thread: u32,
+) -> Result<bool, AllocError>
+    requires thread { thread < length world.old.threads }
+    requires room { length (schedule_of schedule.old) + 1 < 2 ^ 64 }
+    ensures asking { IfOk result (λ moved. IsAsking (program_of program.now) (world_of world.old) thread moved (world_of world.new) (schedule_of schedule.old) (schedule_of schedule.new)) }
+    ensures threads { length world.new.threads ≡ length world.old.threads }
+{
+    match world.step(alloc, program, thread)? {
+        Turn::Moved => {
+            schedule.add(thread)?;
+            Ok(true)
+        }
+        Turn::Waiting => Ok(false),
+        Turn::Ended => Ok(false),
+    }
+}
+
+/// One round of at most so many steps, and how many it had.
+fn round(
+    alloc: Global,
+    program: &Program,
+    world: &mut World,
+    schedule: &mut Schedule,
+    most: u64,
+) -> Result<u64, AllocError>
+    requires { length (schedule_of schedule.old) + most < 2 ^ 64 }
+    ensures round { IfOk result (λ done. IsRound (program_of program.now) (world_of world.old) most (length world.old.threads) done (world_of world.new) (schedule_of schedule.old) (schedule_of schedule.new)) }
+    ensures threads { length world.new.threads ≡ length world.old.threads }
+{
+    let mut done = 0;
+    for thread in 0..world.thread_count() {
+        if done == most {
+            break;
+        }
+        if ask(alloc, program, world, schedule, thread)? {
+            done += 1;
+        }
+    }
+    Ok(done)
+}
+
+/// Runs a world by turns, up to a round without a step or to so many steps. It answers the last world, and the
+/// schedule as stints: a thread, and how many steps it made in a row; neighbours are of different threads.
+pub fn turns(
+    alloc: Global,
+    program: &Program,
+    world: World,
+    limit: u64,
+) -> Result<(World, Vec<(u32, u64)>), AllocError>
+    // The last world is that of a run over the schedule, and the schedule is the turns'.
+    ensures run { IfOk result (λ r. Run (program_of program.now) (world_of world) (schedule_of r.1.items) (world_of r.0)) }
+    ensures turns { IfOk result (λ r. Turns (program_of program.now) (length world.threads) limit (world_of world) (schedule_of r.1.items) (world_of r.0)) }
+    ensures stints { IfOk result (λ r. AreStints r.1.items) }
+    ensures threads { IfOk result (λ r. length r.0.threads ≡ length world.threads) }
+{
+    let mut world = world;
+    let mut schedule = Schedule::new(alloc);
+    let mut left = limit;
+    'rounds: loop {
+        let done = round(alloc, program, &mut world, &mut schedule, left)?;
+        if done == 0 || done == left {
+            return Ok((world, schedule.into_stints()?));
+        }
+        left -= done;
+    }
+}
