@@ -9,14 +9,14 @@ use Rattle.vm_state.specs.SharedState.{SharedState, with_line}
 use Rattle.vm_state.specs.Shares.{shared_of}
 use Rattle.semantics.specs.Programs.{Program}
 use Rattle.semantics.specs.Steps.{step_thread}
-use Rattle.semantics.specs.Worlds.{World, step, step_of, put_thread}
+use Rattle.semantics.specs.Worlds.{ending, World, step, step_of, put_thread}
 use Rattle.init_engine.specs.declared.world.Thread.{Thread}
 use Rattle.init_engine.specs.declared.world.Thread.TheVariants.{Going, Ended}
 use Rattle.init_engine.specs.declared.world.Done.{Done}
 use Rattle.init_engine.specs.declared.world.Done.TheVariants.{Went, Said, Waits, Over}
 use Rattle.init_engine.specs.declared.world.Turn.TheVariants.{Waiting}
 use Rattle.init_engine.specs.declared.world.Turn.TheVariants.{Ended as EndedTurn}
-use Rattle.init_engine.specs.Threads.{thread_of, HasNumber, left_by_going, IsGoing, HasEndedNow, IsUnchanged, StaysAsItWas}
+use Rattle.init_engine.specs.Threads.{thread_of, seen_of, HasNumber, left_by_going, IsGoing, HasEndedNow, IsUnchanged, StaysAsItWas}
 use Rattle.init_engine.specs.Numbering.{AreNumbered}
 use Rattle.init_engine.specs.Turns.{world_of, Goes, IsOver, IsTurn}
 
@@ -113,3 +113,8 @@ pub refused : (threads : List Thread) (before after : Shared) (printed : List Li
     world_with (slice_set threads i new) after printed ≡ world_with threads before printed
 refused threads before after printed i old new inside is same =
     stays_same threads before after printed i old new (slice_get-get_or threads i old inside ∙ ap Some (sym is)) same
+
+pub map-seen_of : (threads : List Thread) → map seen_of threads ≡ map ending (map thread_of threads)
+unfolding seen_of
+map-seen_of [] = refl
+map-seen_of (t ∷ ts) = ap (λ es. ending (thread_of t) ∷ es) (map-seen_of ts)

@@ -5,6 +5,8 @@ use Rattle.vm_state.specs.declared.text.Line.{Line}
 use Rattle.vm_state.specs.SharedState.{SharedState, with_line}
 use Rattle.vm_state.specs.Shares.{shared_of}
 use Rattle.semantics.specs.Steps.{Thread as DefinedThread, Ended as HasEnded, After}
+use Rattle.vm_state.specs.declared.ends.Ending.{Ending}
+use Rattle.semantics.specs.Worlds.{ending}
 use Rattle.init_engine.specs.declared.world.Thread.{Thread}
 use Rattle.init_engine.specs.declared.world.Thread.TheVariants.{Going, Ended}
 use Rattle.init_engine.specs.declared.world.Done.{Done}
@@ -14,6 +16,10 @@ use Rattle.init_engine.specs.Progress.{going}
 abbrev pub thread_of : Thread → DefinedThread
 thread_of (Going s) = going s
 thread_of (Ended end) = HasEnded end
+
+-- what is seen of a thread
+unfoldable pub seen_of : Thread → Ending
+seen_of t = ending (thread_of t)
 
 -- the stack of a thread that is going has the thread's number
 abbrev pub HasNumber : Thread → ℕ → Type 0

@@ -1,18 +1,20 @@
 //! Worlds: threads, what they share, and what they printed.
 
-ghost use Rattle.std.specs.Prelude.{◌≡◌, ◌<◌, ◌∷◌, [], ℕ, List, length, IfOk, OnOk, OnErr, Some, None};
+ghost use Rattle.std.specs.Prelude.{◌≡◌, ◌<◌, ◌∷◌, [], ℕ, List, length, map, IfOk, OnOk, OnErr, Some, None};
 ghost use Rattle.vm_state.specs.declared.text.Line.{Line};
 ghost use Rattle.vm_state.specs.Shares.{shared_of};
 ghost use Rattle.semantics.specs.Steps.{step_thread};
+ghost use Rattle.semantics.specs.Worlds.{seen};
+ghost use Rattle.init_engine.specs.Sights.{IsSight};
 ghost use Rattle.machine.specs.Linked.{program_of};
-ghost use Rattle.init_engine.specs.Threads.{thread_of, HasNumber, left_by_going, StaysAsItWas};
+ghost use Rattle.init_engine.specs.Threads.{thread_of, seen_of, HasNumber, left_by_going, StaysAsItWas};
 ghost use Rattle.init_engine.specs.Turns.{IsTurn, world_of};
 
 use crate::procedure::{Progress, step_thread};
 use machine::program::Program;
 use std::alloc::{AllocError, Global};
 use std::marker::Model;
-use vm_state::ends::End;
+use vm_state::ends::{End, Ending};
 use vm_state::initialization::Frames;
 use vm_state::shared::Shared;
 use vm_state::text::{Line, Text};
@@ -22,6 +24,19 @@ use vm_state::text::{Line, Text};
 pub enum Thread {
     Going(Frames),
     Ended(End),
+}
+
+impl Thread {
+    /// What is seen of it.
+    #[tactic(auto, unfolding(crate::specs::Threads::seen_of))]
+    pub fn ending(&self) -> Ending
+        ensures { result ≡ seen_of self.now }
+    {
+        match self {
+            Thread::Going(_) => Ending::Going,
+            Thread::Ended(end) => Ending::of(*end),
+        }
+    }
 }
 
 /// What a turn of a thread did.
@@ -94,7 +109,47 @@ impl Model for World {
     ghost invariant = { λ w. AreNumbered w.threads.items × (length w.threads.items ≤ 64) };
 }
 
+/// What a world has shown.
+#[derive(Drop, Debug)]
+pub struct Seen {
+    /// What was printed, in order.
+    pub printed: Vec<Line>,
+    /// How far each thread has come, by its number.
+    pub threads: Vec<Ending>,
+}
+
+/// The same lines once more.
+fn copies(alloc: Global, lines: &[Line]) -> Result<Vec<Line>, AllocError>
+    ensures { IfOk result (λ v. v.items ≡ lines.now) }
+{
+    let mut copies = Vec::new(alloc);
+    for line in lines {
+        copies.push(line.copy(alloc)?)?;
+    }
+    Ok(copies)
+}
+
+/// What is seen of each thread.
+fn endings(alloc: Global, threads: &[Thread]) -> Result<Vec<Ending>, AllocError>
+    ensures { IfOk result (λ v. v.items ≡ map seen_of threads.now) }
+{
+    let mut endings = Vec::new(alloc);
+    for thread in threads {
+        endings.push(thread.ending())?;
+    }
+    Ok(endings)
+}
+
 impl World {
+    /// What the world has shown.
+    pub fn seen(&self, alloc: Global) -> Result<Seen, AllocError>
+        ensures { IfOk result (λ s. IsSight s (seen (world_of self.now))) }
+    {
+        let printed = copies(alloc, self.printed.as_slice())?;
+        let threads = endings(alloc, self.threads.as_slice())?;
+        Ok(Seen { printed, threads })
+    }
+
     /// How many threads there are: at most 64.
     pub fn thread_count(&self) -> u32
         ensures { result ≡ length self.now.threads }

@@ -53,3 +53,15 @@ pub struct Line {
     pub thread: u32,
     pub text: Text,
 }
+
+impl Line {
+    /// The same line once more.
+    pub fn copy(&self, alloc: Global) -> Result<Line, AllocError>
+        ensures { IfOk result (λ l. l ≡ self.now) }
+    {
+        Ok(Line {
+            thread: self.thread,
+            text: self.text.copy(alloc)?,
+        })
+    }
+}
