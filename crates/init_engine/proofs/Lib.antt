@@ -1,3 +1,3 @@
 pub mod Stints
-pub mod Turning
+pub mod RoundLemmas
 pub mod WorldSteps

@@ -1,7 +1,15 @@
 //! The initialization procedure (JVMS 5.5): worlds of threads, their steps, and turns.
 #![tactic(auto)]
 
+pub mod fault;
 pub mod procedure;
 pub mod schedule;
-pub mod turns;
+pub mod starting;
+mod turning;
 pub mod world;
+
+pub use fault::EntryFault;
+pub use turning::turns;
+pub use vm_state::ends::Ending;
+pub use vm_state::text::{Line, Text};
+pub use world::{Seen, Turn, World};

@@ -3,7 +3,7 @@
 ghost use Rattle.std.specs.Prelude.{◌≡◌, ◌<◌, ◌∷◌, [], ℕ, List, length, map, IfOk, OnOk, OnErr, Some, None};
 ghost use Rattle.vm_state.specs.declared.text.Line.{Line};
 ghost use Rattle.vm_state.specs.Shares.{shared_of};
-ghost use Rattle.semantics.specs.Steps.{step_thread};
+ghost use Rattle.semantics.specs.Steps.{Going, step_thread};
 ghost use Rattle.semantics.specs.Worlds.{seen};
 ghost use Rattle.init_engine.specs.Sights.{IsSight};
 ghost use Rattle.machine.specs.Linked.{program_of};
@@ -15,7 +15,8 @@ use machine::program::Program;
 use std::alloc::{AllocError, Global};
 use std::marker::Model;
 use vm_state::ends::{End, Ending};
-use vm_state::initialization::Frames;
+use vm_state::frame::{Frame, FrameList};
+use vm_state::initialization::{Frames, LevelList};
 use vm_state::shared::Shared;
 use vm_state::text::{Line, Text};
 
@@ -148,6 +149,26 @@ impl World {
         let printed = copies(alloc, self.printed.as_slice())?;
         let threads = endings(alloc, self.threads.as_slice())?;
         Ok(Seen { printed, threads })
+    }
+
+    /// One thread, number 0, on this frame.
+    pub(crate) fn of_thread(alloc: Global, top: Frame, shared: Shared) -> Result<World, AllocError>
+        ensures { IfOk result (λ w. world_of w ≡ record { shared = shared_of shared []; threads = Going (top ∷ []) [] ∷ [] }) }
+    {
+        let thread = Thread::Going(Frames {
+            thread: 0,
+            top: Some(top),
+            callers: FrameList::none(alloc),
+            highest: None,
+            outer: LevelList::none(alloc),
+        });
+        let mut threads = Vec::new(alloc);
+        threads.push(thread)?;
+        Ok(World {
+            threads,
+            shared,
+            printed: Vec::new(alloc),
+        })
     }
 
     /// How many threads there are: at most 64.

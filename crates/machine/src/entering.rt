@@ -5,6 +5,7 @@ ghost use Rattle.machine.specs.Linked.{initializer_frame, start_frame};
 
 use crate::program::{Implementation, Program};
 use std::alloc::{AllocError, Global};
+use vm_state::classes::Classes;
 use vm_state::frame::{Activity, Frame};
 use vm_state::locals::Locals;
 use vm_state::operands::Operands;
@@ -46,4 +47,13 @@ pub fn start_frame(alloc: Global, class: u32, thread: u32) -> Result<Frame, Allo
         locals: Locals::new(alloc, 0)?,
         operands,
     })
+}
+
+/// The states and static fields of the program's classes before any is initialized.
+pub fn blank_classes(alloc: Global, program: &Program) -> Result<Classes, AllocError> {
+    let mut classes = Classes::new(alloc);
+    for class in &program.classes {
+        classes.add(alloc, class.statics.as_slice())?;
+    }
+    Ok(classes)
 }

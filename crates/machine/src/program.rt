@@ -4,7 +4,11 @@ ghost use Rattle.std.specs.Prelude.{◌≡◌, ◌<◌, ◌∷◌, [], length, S
 ghost use Rattle.machine.specs.Tables.{Tables, instruction_at, statics_in, parents_in, implementation_at, initializer_in, main_in};
 
 use crate::instruction::Instruction;
+use classfile::{ClassName, printed};
+use indexmap::IndexSet;
+use std::alloc::{AllocError, Global};
 use std::marker::Model;
+use vm_state::class_id::{ArrayType, ClassId, ElementType};
 use vm_state::classes::StaticField;
 
 /// The instructions of a method, by their places.
@@ -54,6 +58,15 @@ impl Model for StaticFields {
     ghost view = { λ s. s.fields.items };
 }
 
+impl StaticFields {
+    /// The fields as a slice.
+    pub fn as_slice(&self) -> &[StaticField]
+        ensures { result.now ≡ self.now }
+    {
+        self.fields.as_slice()
+    }
+}
+
 /// The classes and interfaces that are initialized before a class, in order (JVMS 5.5, step 7).
 #[derive(Drop)]
 pub struct InitializationOrder {
@@ -82,7 +95,7 @@ pub struct Class {
 /// Classes, methods and bodies by their numbers. Classes are numbered in the order of their names' bytes.
 #[derive(Drop)]
 pub struct Program {
-    pub(crate) names: Vec<Vec<u8>>,
+    pub(crate) names: IndexSet<Vec<u8>>,
     pub(crate) classes: Vec<Class>,
     pub(crate) methods: Vec<Implementation>,
 }
@@ -155,5 +168,55 @@ impl Program {
         ensures { result ≡ main_in self.now class }
     {
         self.classes.get(class as usize)?.main
+    }
+
+    /// The number of the given class of a name, if there is one.
+    pub fn class_named(&self, alloc: Global, name: &ClassName) -> Result<Option<u32>, AllocError> {
+        let bytes = name.modified_utf8(alloc)?;
+        let number = self.names.get_index_of(bytes.bytes());
+        Ok(number.and_then(|number| u32::try_from(number).ok()))
+    }
+
+    /// The name of a class with slashes, as messages print it.
+    pub fn class_text(&self, alloc: Global, class: ClassId) -> Result<String, AllocError> {
+        match class {
+            ClassId::Given(number) => self.given_text(alloc, number),
+            ClassId::BuiltIn(class) => String::from_str(alloc, class.name()),
+            ClassId::Array(array) => self.array_text(alloc, array),
+        }
+    }
+
+    fn given_text(&self, alloc: Global, number: u32) -> Result<String, AllocError> {
+        match self.names.get_index(number as usize) {
+            Some(name) => printed(alloc, name),
+            None => Ok(String::new(alloc)),
+        }
+    }
+
+    /// An array class's name is its descriptor (JVMS 4.4.1).
+    fn array_text(&self, alloc: Global, array: ArrayType) -> Result<String, AllocError> {
+        let mut text = String::new(alloc);
+        for _ in 0..array.dimensions {
+            text.push_str("[")?;
+        }
+        match array.element {
+            ElementType::Boolean => text.push_str("Z")?,
+            ElementType::Byte => text.push_str("B")?,
+            ElementType::Char => text.push_str("C")?,
+            ElementType::Short => text.push_str("S")?,
+            ElementType::Int => text.push_str("I")?,
+            ElementType::Long => text.push_str("J")?,
+            ElementType::Float => text.push_str("F")?,
+            ElementType::Double => text.push_str("D")?,
+            ElementType::Given(number) => {
+                let name = self.given_text(alloc, number)?;
+                write!(text, "L{name};")?;
+            }
+            ElementType::BuiltIn(class) => {
+                let name = class.name();
+                write!(text, "L{name};")?;
+            }
+        }
+        Ok(text)
     }
 }

@@ -1,5 +1,5 @@
 -- The states and the static fields of the given classes (JVMS 2.5.4, 5.5), as functions of the numbers of classes and fields.
-use Rattle.std.specs.Prelude.{ℕ, List, [], Option, Some, None, slice_get, slice_index_or, unwrap_or, if◌then◌else◌, ◌==◌}
+use Rattle.std.specs.Prelude.{ℕ, map, List, [], Option, Some, None, slice_get, slice_index_or, unwrap_or, if◌then◌else◌, ◌==◌}
 use Rattle.vm_state.specs.declared.value.Value.{Value}
 use Rattle.vm_state.specs.declared.value.Value.TheVariants.{Null}
 use Rattle.vm_state.specs.declared.classes.ClassState.{ClassState}
@@ -67,3 +67,7 @@ zero_of (Some field) = field.zero
 -- before a class's initialization each static field is zero or null (JVMS 2.3, 2.4, 5.4.2)
 abbrev pub zeros_of : List StaticField → ℕ → Value
 zeros_of statics f = zero_of (slice_get statics f)
+
+-- a class with these fields, whose initialization has not begun
+abbrev pub blank_area : List StaticField → ClassArea
+blank_area statics = record { state = Not; fields = map (λ (s : StaticField). s.zero) statics }

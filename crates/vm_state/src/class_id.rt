@@ -34,6 +34,29 @@ pub enum BuiltIn {
     PrintStream,
 }
 
+const ALL: [BuiltIn; 20] = [
+    BuiltIn::Object,
+    BuiltIn::String,
+    BuiltIn::System,
+    BuiltIn::Enum,
+    BuiltIn::Throwable,
+    BuiltIn::Exception,
+    BuiltIn::RuntimeException,
+    BuiltIn::ArithmeticException,
+    BuiltIn::NullPointerException,
+    BuiltIn::ClassCastException,
+    BuiltIn::ArrayStoreException,
+    BuiltIn::NegativeArraySizeException,
+    BuiltIn::IllegalMonitorStateException,
+    BuiltIn::IndexOutOfBoundsException,
+    BuiltIn::ArrayIndexOutOfBoundsException,
+    BuiltIn::Error,
+    BuiltIn::LinkageError,
+    BuiltIn::ExceptionInInitializerError,
+    BuiltIn::NoClassDefFoundError,
+    BuiltIn::PrintStream,
+];
+
 /// An array class (JVMS 4.3.2): so many dimensions of an element type.
 #[derive(Clone, Copy, PartialEq, Eq, Debug)]
 pub struct ArrayType {
@@ -58,6 +81,11 @@ pub enum ElementType {
 }
 
 impl BuiltIn {
+    /// The built-in class of a name, as its bytes with slashes.
+    pub fn named(name: &[u8]) -> Option<BuiltIn> {
+        ALL.into_iter().find(|class| class.name().as_bytes() == name)
+    }
+
     /// Its name, with slashes.
     pub fn name(self) -> &'static str {
         match self {

@@ -1,7 +1,7 @@
 //! The states and the static fields of the given classes.
 
-ghost use Rattle.std.specs.Prelude.{◌≡◌, ◌<◌, ◌^◌, ◌+◌, [], length, IfOk, OnErr, OnOk, true};
-ghost use Rattle.vm_state.specs.Statics.{usable, field_in, states_of, fields_of, with_state, with_fields, with_value, with_constant, with_constants};
+ghost use Rattle.std.specs.Prelude.{◌≡◌, ◌++◌, ◌∷◌, map, ◌<◌, ◌^◌, ◌+◌, [], length, IfOk, OnErr, OnOk, true};
+ghost use Rattle.vm_state.specs.Statics.{blank_area, usable, field_in, states_of, fields_of, with_state, with_fields, with_value, with_constant, with_constants};
 
 use crate::value::Value;
 use std::alloc::{AllocError, Global};
@@ -85,6 +85,17 @@ impl Fields {
         Fields {
             values: Vec::new(alloc),
         }
+    }
+
+    /// The fields of a class before its initialization.
+    pub fn zeros(alloc: Global, statics: &[StaticField]) -> Result<Fields, AllocError>
+        ensures { IfOk result (λ r. r ≡ map (λ s. s.zero) statics.now) }
+    {
+        let mut values = Vec::new(alloc);
+        for field in statics {
+            values.push(field.zero)?;
+        }
+        Ok(Fields { values })
     }
 
     /// The value of a field.
@@ -187,6 +198,18 @@ impl Classes {
         Classes {
             areas: Vec::new(alloc),
         }
+    }
+
+    /// One more class, with these static fields, whose initialization has not begun.
+    pub fn add(&mut self, alloc: Global, statics: &[StaticField]) -> Result<(), AllocError>
+        ensures { OnOk result (self.new ≡ self.old ++ blank_area statics.now ∷ []) }
+    {
+        let fields = Fields::zeros(alloc, statics)?;
+        self.areas.push(ClassArea {
+            state: ClassState::Not,
+            fields,
+        })?;
+        Ok(())
     }
 
     /// The state of a class.

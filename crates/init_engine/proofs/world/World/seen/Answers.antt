@@ -1,4 +1,4 @@
-use Rattle.std.proofs.Common.{◌≡◌, ap, ◌∙◌, map}
+use Rattle.std.proofs.Common.{ap, ◌∙◌, map}
 use Rattle.vm_state.specs.Shares.{shared_of}
 use Rattle.init_engine.specs.Standing.{Standing}
 use Rattle.init_engine.specs.Threads.{seen_of}

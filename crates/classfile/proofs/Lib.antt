@@ -1,0 +1,15 @@
+pub mod Loop
+pub mod Repeat
+pub mod Lawful
+pub mod Constants
+pub mod Slots
+pub mod Plain
+pub mod Reading
+pub mod Facts
+pub mod CodeReads
+pub mod AttributeReads
+pub mod Grammar
+pub mod MemberReads
+pub mod PoolReads
+pub mod ClassReads
+pub mod Units

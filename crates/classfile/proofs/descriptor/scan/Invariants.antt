@@ -1,0 +1,6 @@
+use Rattle.std.proofs.Common.{◌≡◌, drop}
+use Rattle.classfile.specs.Descriptors.{scan}
+use Rattle.classfile.proofs.descriptor.scan.Given as goal
+
+abbrev pub invariant-loop-byte : goal.invariant-loop-byte
+invariant-loop-byte l = scan l.place (drop l.byte-index l.bytes) ≡ scan l.fn.place l.bytes

@@ -1,0 +1,16 @@
+use Rattle.std.proofs.Common.{◌≡◌, ℕ, ◌<◌, ◌^◌, List, take, ap, ◌∙◌, arith}
+use Rattle.std.specs.List.{All}
+use Rattle.std.proofs.lemmas.List.{take_all}
+use Rattle.std.proofs.lemmas.List.Elements.{All-from_get_or}
+use Rattle.classfile.specs.Modified.{is_modified}
+use Rattle.classfile.specs.Units.{units_text}
+use Rattle.classfile.proofs.Units.{units_pass}
+use Rattle.classfile.proofs.modified.ModifiedUtf8.from_units.Goals as goal
+
+pub invariant_of-result : goal.invariant_of-result
+invariant_of-result c =
+    let units = c.args.units.now in
+    let all : take c.loop-unit.unit-index units ≡ units = take_all c.loop-unit.unit-index units c.loop-unit-test.false in
+    let text : c.loop-unit.bytes.items ≡ units_text units = c.loop-unit.invariant ∙ ap (λ (z : List ℕ). units_text z) all in
+    let each : All (λ unit. unit < 2 ^ 16) units = All-from_get_or (λ unit. unit < 2 ^ 16) units 0 (λ i lt. omega (arith, c.type_inv.units i)) in
+    ap is_modified text ∙ units_pass units each

@@ -1,0 +1,87 @@
+//! The attribute Code.
+
+ghost use Rattle.std.specs.Prelude.{◌≡◌};
+ghost use Rattle.classfile.specs.Numbers.{Gives};
+ghost use Rattle.classfile.specs.ReadCode.{code_length_at, code_bytes_at, code_at, whole_code};
+
+use crate::bytes::Bytes;
+use crate::constant::Constant;
+use crate::exceptions::{ExceptionTable, exceptions_at};
+use crate::fault::ClassFault;
+use crate::numbers::{run_at, u16_at, u32_at};
+use crate::unread::{UnreadAttributes, unread_attributes_at};
+use std::alloc::Global;
+
+/// The code of a method (JVMS 4.7.3): its limits, its bytes, from 1 to 65,535,
+/// its exception table, and its own attributes, which are kept unread.
+#[derive(Debug, Drop)]
+pub struct Code {
+    pub max_stack: u16,
+    pub max_locals: u16,
+    pub code: Bytes,
+    pub exceptions: ExceptionTable,
+    pub attributes: UnreadAttributes,
+}
+
+#[tactic(auto, unfolding(crate::specs::ReadCode::code_length_at))]
+fn code_length_at(total: usize, bytes: &[u8]) -> Result<(u32, &[u8]), ClassFault>
+    ensures { Gives (λ x. (x.0, x.1.now)) result (code_length_at total bytes.now) }
+{
+    let (length, rest) = u32_at(total, bytes)?;
+    if length == 0 || 65536 <= length {
+        return Err(ClassFault::Index {
+            at: total.saturating_sub(bytes.len()),
+        });
+    }
+    Ok((length, rest))
+}
+
+#[tactic(auto, unfolding(crate::specs::ReadCode::code_bytes_at))]
+fn code_bytes_at(alloc: Global, total: usize, bytes: &[u8]) -> Result<(Bytes, &[u8]), ClassFault>
+    ensures { Gives (λ x. (x.0, x.1.now)) result (code_bytes_at total bytes.now) }
+{
+    let (length, rest) = code_length_at(total, bytes)?;
+    let (code, rest) = run_at(total, length as usize, rest)?;
+    let code = Bytes::copy_of(alloc, code)?;
+    Ok((code, rest))
+}
+
+#[tactic(auto, unfolding(crate::specs::ReadCode::code_at))]
+fn code_at<'a>(
+    alloc: Global,
+    pool: &[Constant],
+    total: usize,
+    bytes: &'a [u8],
+) -> Result<(Code, &'a [u8]), ClassFault>
+    ensures { Gives (λ x. (x.0, x.1.now)) result (code_at pool.now total bytes.now) }
+{
+    let (max_stack, rest) = u16_at(total, bytes)?;
+    let (max_locals, rest) = u16_at(total, rest)?;
+    let (code, rest) = code_bytes_at(alloc, total, rest)?;
+    let length = code.as_slice().len();
+    let (exceptions, rest) = exceptions_at(alloc, pool, length, total, rest)?;
+    let (attributes, rest) = unread_attributes_at(alloc, pool, total, rest)?;
+    let code = Code {
+        max_stack,
+        max_locals,
+        code,
+        exceptions,
+        attributes,
+    };
+    Ok((code, rest))
+}
+
+/// The Code that fills these bytes.
+#[tactic(auto, unfolding(crate::specs::ReadCode::whole_code))]
+pub(crate) fn whole_code(alloc: Global, pool: &[Constant], bytes: &[u8]) -> Result<Code, ClassFault>
+    ensures { Gives (λ c. c) result (whole_code pool.now bytes.now) }
+{
+    let total = bytes.len();
+    let (code, rest) = code_at(alloc, pool, total, bytes)?;
+    if !rest.is_empty() {
+        return Err(ClassFault::Extra {
+            at: total.saturating_sub(rest.len()),
+        });
+    }
+    Ok(code)
+}

@@ -1,0 +1,139 @@
+//! A class's flags, its name, and its parents.
+
+ghost use Rattle.std.specs.Prelude.{◌≡◌};
+ghost use Rattle.classfile.specs.Numbers.{Gives};
+ghost use Rattle.classfile.specs.ReadClass.{this_class_at, super_class_at, interface_at, interfaces_at, declaration_at};
+
+use crate::constant::Constant;
+use crate::fault::ClassFault;
+use crate::lookup::{is_class, is_class_or_none, is_plain_class};
+use crate::numbers::u16_at;
+use std::alloc::Global;
+use std::marker::Model;
+
+/// Indices of Classes, in the file's order.
+#[derive(Debug, Drop)]
+pub(crate) struct Interfaces {
+    items: Vec<u16>,
+}
+
+impl Model for Interfaces {
+    ghost use Rattle.std.specs.Prelude.{List, ℕ};
+
+    ghost Value = { List ℕ };
+
+    ghost view = { λ i. i.items.items };
+}
+
+impl Interfaces {
+    pub(crate) fn as_slice(&self) -> &[u16]
+        ensures { result.now ≡ self.now }
+    {
+        &self.items
+    }
+}
+
+/// What stands between the constant pool and the members.
+#[derive(Debug, Drop)]
+pub(crate) struct Declaration {
+    pub(crate) access_flags: u16,
+    pub(crate) this_class: u16,
+    pub(crate) super_class: u16,
+    pub(crate) interfaces: Interfaces,
+}
+
+/// The index of a Class that is no array.
+#[tactic(auto, unfolding(crate::specs::ReadClass::this_class_at))]
+fn this_class_at<'a>(
+    pool: &[Constant],
+    total: usize,
+    bytes: &'a [u8],
+) -> Result<(u16, &'a [u8]), ClassFault>
+    ensures { Gives (λ x. (x.0, x.1.now)) result (this_class_at pool.now total bytes.now) }
+{
+    let (index, rest) = u16_at(total, bytes)?;
+    if !is_plain_class(pool, index) {
+        return Err(ClassFault::Index {
+            at: total.saturating_sub(bytes.len()),
+        });
+    }
+    Ok((index, rest))
+}
+
+/// 0, or the index of a Class.
+#[tactic(auto, unfolding(crate::specs::ReadClass::super_class_at))]
+fn super_class_at<'a>(
+    pool: &[Constant],
+    total: usize,
+    bytes: &'a [u8],
+) -> Result<(u16, &'a [u8]), ClassFault>
+    ensures { Gives (λ x. (x.0, x.1.now)) result (super_class_at pool.now total bytes.now) }
+{
+    let (index, rest) = u16_at(total, bytes)?;
+    if !is_class_or_none(pool, index) {
+        return Err(ClassFault::Index {
+            at: total.saturating_sub(bytes.len()),
+        });
+    }
+    Ok((index, rest))
+}
+
+/// The index of a Class.
+#[tactic(auto, unfolding(crate::specs::ReadClass::interface_at))]
+fn interface_at<'a>(
+    pool: &[Constant],
+    total: usize,
+    bytes: &'a [u8],
+) -> Result<(u16, &'a [u8]), ClassFault>
+    ensures { Gives (λ x. (x.0, x.1.now)) result (interface_at pool.now total bytes.now) }
+{
+    let (index, rest) = u16_at(total, bytes)?;
+    if !is_class(pool, index) {
+        return Err(ClassFault::Index {
+            at: total.saturating_sub(bytes.len()),
+        });
+    }
+    Ok((index, rest))
+}
+
+#[tactic(auto, unfolding(crate::specs::ReadClass::interfaces_at))]
+fn interfaces_at<'a>(
+    alloc: Global,
+    pool: &[Constant],
+    total: usize,
+    bytes: &'a [u8],
+) -> Result<(Interfaces, &'a [u8]), ClassFault>
+    ensures { Gives (λ x. (x.0, x.1.now)) result (interfaces_at pool.now total bytes.now) }
+{
+    let (count, rest) = u16_at(total, bytes)?;
+    let mut items = Vec::with_capacity(alloc, usize::from(count).min(rest.len()))?;
+    let mut rest = rest;
+    for _index in 0..count {
+        let (interface, after) = interface_at(pool, total, rest)?;
+        items.push(interface)?;
+        rest = after;
+    }
+    Ok((Interfaces { items }, rest))
+}
+
+#[tactic(auto, unfolding(crate::specs::ReadClass::declaration_at))]
+pub(crate) fn declaration_at<'a>(
+    alloc: Global,
+    pool: &[Constant],
+    total: usize,
+    bytes: &'a [u8],
+) -> Result<(Declaration, &'a [u8]), ClassFault>
+    ensures { Gives (λ x. (x.0, x.1.now)) result (declaration_at pool.now total bytes.now) }
+{
+    let (access_flags, rest) = u16_at(total, bytes)?;
+    let (this_class, rest) = this_class_at(pool, total, rest)?;
+    let (super_class, rest) = super_class_at(pool, total, rest)?;
+    let (interfaces, rest) = interfaces_at(alloc, pool, total, rest)?;
+    let declaration = Declaration {
+        access_flags,
+        this_class,
+        super_class,
+        interfaces,
+    };
+    Ok((declaration, rest))
+}

@@ -1,0 +1,39 @@
+//! Reads JVM class files of version 52 (JVMS SE 8, chapter 4).
+#![tactic(auto)]
+
+mod attribute;
+mod bytes;
+mod checks;
+mod class_file;
+mod code;
+mod constant;
+mod declaration;
+mod descriptor;
+mod entries;
+mod exceptions;
+mod fault;
+pub mod flags;
+mod lookup;
+mod member;
+mod modified;
+mod name;
+mod numbers;
+mod parts;
+mod pool;
+mod unread;
+
+pub use attribute::{Attribute, Attributes};
+pub use bytes::Bytes;
+pub use class_file::{ClassFile, read};
+pub use code::Code;
+pub use constant::Constant;
+pub use exceptions::{ExceptionHandler, ExceptionTable};
+pub use fault::ClassFault;
+pub use member::{Member, Members};
+pub use modified::{ModifiedUtf8, printed};
+pub use name::ClassName;
+pub use pool::ConstantPool;
+pub use unread::{UnreadAttribute, UnreadAttributes};
+
+#[cfg(test)]
+mod tests;

@@ -1,0 +1,102 @@
+//! What stands at an index of a constant pool.
+
+ghost use Rattle.std.specs.Prelude.{◌≡◌, option_map};
+ghost use Rattle.classfile.specs.Lookup.{text_of, has_text, same_text, class_name_of, is_class};
+ghost use Rattle.classfile.specs.Lookup.{is_class_or_none, is_plain_class, descriptor_of, is_member};
+
+use crate::constant::Constant;
+
+/// The bytes of the Utf8 at an index.
+#[tactic(auto, unfolding(crate::specs::Lookup::text_of))]
+pub(crate) fn text_of(pool: &[Constant], index: u16) -> Option<&[u8]>
+    ensures { text_of pool.now index ≡ option_map (λ t. t.now) result }
+{
+    match pool.get(usize::from(index)) {
+        Some(Constant::Utf8 { text }) => Some(text.bytes()),
+        _ => None,
+    }
+}
+
+/// Whether a Utf8 stands at an index.
+#[tactic(auto, unfolding(crate::specs::Lookup::has_text))]
+pub(crate) fn has_text(pool: &[Constant], index: u16) -> bool
+    ensures { result ≡ has_text pool.now index }
+{
+    text_of(pool, index).is_some()
+}
+
+/// Whether two indices name the same text.
+#[tactic(auto, unfolding(crate::specs::Lookup::same_text))]
+pub(crate) fn same_text(pool: &[Constant], a: u16, b: u16) -> bool
+    ensures { result ≡ same_text pool.now a b }
+{
+    match (text_of(pool, a), text_of(pool, b)) {
+        (Some(a), Some(b)) => a == b,
+        (None, None) => true,
+        _ => false,
+    }
+}
+
+/// The bytes of the name of the Class at an index.
+#[tactic(auto, unfolding(crate::specs::Lookup::class_name_of))]
+pub(crate) fn class_name_of(pool: &[Constant], index: u16) -> Option<&[u8]>
+    ensures { class_name_of pool.now index ≡ option_map (λ t. t.now) result }
+{
+    match pool.get(usize::from(index)) {
+        Some(Constant::Class { name }) => text_of(pool, *name),
+        _ => None,
+    }
+}
+
+/// Whether a Class stands at an index.
+#[tactic(auto, unfolding(crate::specs::Lookup::is_class))]
+pub(crate) fn is_class(pool: &[Constant], index: u16) -> bool
+    ensures { result ≡ is_class pool.now index }
+{
+    matches!(pool.get(usize::from(index)), Some(Constant::Class { .. }))
+}
+
+/// Whether an index is 0 or that of a Class.
+#[tactic(auto, unfolding(crate::specs::Lookup::is_class_or_none))]
+pub(crate) fn is_class_or_none(pool: &[Constant], index: u16) -> bool
+    ensures { result ≡ is_class_or_none pool.now index }
+{
+    index == 0 || is_class(pool, index)
+}
+
+/// Whether a Class that is no array stands at an index.
+#[tactic(auto, unfolding(crate::specs::Lookup::is_plain_class))]
+pub(crate) fn is_plain_class(pool: &[Constant], index: u16) -> bool
+    ensures { result ≡ is_plain_class pool.now index }
+{
+    match class_name_of(pool, index) {
+        None | Some([b'[', ..]) => false,
+        Some(_) => true,
+    }
+}
+
+/// The index of the descriptor of the NameAndType at an index.
+#[tactic(auto, unfolding(crate::specs::Lookup::descriptor_of))]
+pub(crate) fn descriptor_of(pool: &[Constant], index: u16) -> Option<u16>
+    ensures { result ≡ descriptor_of pool.now index }
+{
+    match pool.get(usize::from(index)) {
+        Some(Constant::NameAndType { descriptor, .. }) => Some(*descriptor),
+        _ => None,
+    }
+}
+
+/// Whether a Fieldref, Methodref or InterfaceMethodref stands at an index.
+#[tactic(auto, unfolding(crate::specs::Lookup::is_member))]
+pub(crate) fn is_member(pool: &[Constant], index: u16) -> bool
+    ensures { result ≡ is_member pool.now index }
+{
+    matches!(
+        pool.get(usize::from(index)),
+        Some(
+            Constant::Fieldref { .. }
+                | Constant::Methodref { .. }
+                | Constant::InterfaceMethodref { .. }
+        )
+    )
+}

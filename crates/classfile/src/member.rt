@@ -1,0 +1,236 @@
+//! Fields and methods.
+
+ghost use Rattle.std.specs.Prelude.{◌≡◌, option_map};
+ghost use Rattle.classfile.specs.Members.{code_among, value_among};
+ghost use Rattle.classfile.specs.Numbers.{Gives};
+ghost use Rattle.classfile.specs.ReadMembers.{is_descriptor_of, has_descriptor, descriptor_at, is_like, is_declared};
+ghost use Rattle.classfile.specs.ReadMembers.{owner_of, lacks_code, body_at, member_at, members_at};
+
+use crate::attribute::{Attribute, Attributes, Owner, attributes_at, has_code};
+use crate::code::Code;
+use crate::constant::Constant;
+use crate::descriptor::{is_field, is_method};
+use crate::fault::ClassFault;
+use crate::flags::has_no_body;
+use crate::lookup::{same_text, text_of};
+use crate::numbers::u16_at;
+use crate::unread::text_index_at;
+use std::alloc::Global;
+use std::marker::Model;
+
+/// A field or a method (JVMS 4.5, 4.6): its flags, the indices of its name and its descriptor,
+/// and its attributes.
+#[derive(Debug, Drop)]
+pub struct Member {
+    pub access_flags: u16,
+    pub name: u16,
+    pub descriptor: u16,
+    pub attributes: Attributes,
+}
+
+/// The fields or the methods of a class, in the file's order.
+#[derive(Debug, Drop)]
+pub struct Members {
+    items: Vec<Member>,
+}
+
+impl Member {
+    /// The method's code, if it has some (JVMS 4.7.3).
+    pub fn code(&self) -> Option<&Code>
+        ensures { option_map (λ c. c.now) result ≡ code_among self.now.attributes }
+    {
+        for attribute in self.attributes.as_slice() {
+            if let Attribute::Code { code, .. } = attribute {
+                return Some(code);
+            }
+        }
+        None
+    }
+
+    /// The index of the constant that is the value of a static field, if it has one (JVMS 4.7.2).
+    pub fn constant_value(&self) -> Option<u16>
+        ensures { result ≡ value_among self.now.attributes }
+    {
+        for attribute in self.attributes.as_slice() {
+            if let Attribute::ConstantValue { value, .. } = attribute {
+                return Some(*value);
+            }
+        }
+        None
+    }
+}
+
+impl Model for Members {
+    ghost use Rattle.std.specs.Prelude.{List};
+    ghost use Rattle.classfile.specs.declared.member.Member.{Member};
+
+    ghost Value = { List Member };
+
+    ghost view = { λ m. m.items.items };
+}
+
+impl Members {
+    /// The members as a slice.
+    pub fn as_slice(&self) -> &[Member]
+        ensures { result.now ≡ self.now }
+    {
+        &self.items
+    }
+}
+
+#[derive(Clone, Copy, Debug)]
+pub(crate) enum MemberKind {
+    Field,
+    Method,
+}
+
+fn is_descriptor_of(kind: MemberKind, text: &[u8]) -> bool
+    ensures { result ≡ is_descriptor_of kind text.now }
+{
+    match kind {
+        MemberKind::Field => is_field(text),
+        MemberKind::Method => is_method(text),
+    }
+}
+
+#[tactic(auto, unfolding(crate::specs::ReadMembers::has_descriptor))]
+fn has_descriptor(kind: MemberKind, pool: &[Constant], index: u16) -> bool
+    ensures { result ≡ has_descriptor kind pool.now index }
+{
+    match text_of(pool, index) {
+        None => false,
+        Some(text) => is_descriptor_of(kind, text),
+    }
+}
+
+/// The index of a descriptor.
+#[tactic(auto, unfolding(crate::specs::ReadMembers::descriptor_at))]
+fn descriptor_at<'a>(
+    kind: MemberKind,
+    pool: &[Constant],
+    total: usize,
+    bytes: &'a [u8],
+) -> Result<(u16, &'a [u8]), ClassFault>
+    ensures { Gives (λ x. (x.0, x.1.now)) result (descriptor_at kind pool.now total bytes.now) }
+{
+    let (index, rest) = text_index_at(pool, total, bytes)?;
+    if !has_descriptor(kind, pool, index) {
+        return Err(ClassFault::Descriptor { index });
+    }
+    Ok((index, rest))
+}
+
+/// Whether one of these members has this name and descriptor.
+#[tactic(auto, unfolding(crate::specs::ReadMembers::is_declared))]
+fn is_declared(pool: &[Constant], name: u16, descriptor: u16, earlier: &[Member]) -> bool
+    ensures { result ≡ is_declared pool.now name descriptor earlier.now }
+{
+    earlier.iter().any(|member| {
+        same_text(pool, member.name, name) && same_text(pool, member.descriptor, descriptor)
+    })
+}
+
+fn owner_of(kind: MemberKind, access_flags: u16, descriptor: u16) -> Owner
+    ensures { result ≡ owner_of kind access_flags descriptor }
+{
+    match kind {
+        MemberKind::Field => Owner::Field {
+            access_flags,
+            descriptor,
+        },
+        MemberKind::Method => Owner::Method { access_flags },
+    }
+}
+
+/// Whether a method that has to have code has none.
+fn lacks_code(kind: MemberKind, access_flags: u16, attributes: &Attributes) -> bool
+    ensures { result ≡ lacks_code kind access_flags attributes.now }
+{
+    match kind {
+        MemberKind::Field => false,
+        MemberKind::Method => !has_no_body(access_flags) && !has_code(attributes.as_slice()),
+    }
+}
+
+/// The attributes of the member that begins at `at`.
+#[tactic(auto, unfolding(crate::specs::ReadMembers::body_at))]
+fn body_at<'a>(
+    alloc: Global,
+    kind: MemberKind,
+    pool: &[Constant],
+    total: usize,
+    at: usize,
+    access_flags: u16,
+    name: u16,
+    descriptor: u16,
+    bytes: &'a [u8],
+) -> Result<(Member, &'a [u8]), ClassFault>
+    ensures { Gives (λ x. (x.0, x.1.now)) result
+        (body_at kind pool.now total at access_flags name descriptor bytes.now) }
+{
+    let owner = owner_of(kind, access_flags, descriptor);
+    let (attributes, rest) = attributes_at(alloc, pool, owner, total, bytes)?;
+    if lacks_code(kind, access_flags, &attributes) {
+        return Err(ClassFault::Attribute { at });
+    }
+    let member = Member {
+        access_flags,
+        name,
+        descriptor,
+        attributes,
+    };
+    Ok((member, rest))
+}
+
+#[tactic(auto, unfolding(crate::specs::ReadMembers::member_at))]
+fn member_at<'a>(
+    alloc: Global,
+    kind: MemberKind,
+    pool: &[Constant],
+    total: usize,
+    earlier: &[Member],
+    bytes: &'a [u8],
+) -> Result<(Member, &'a [u8]), ClassFault>
+    ensures { Gives (λ x. (x.0, x.1.now)) result (member_at kind pool.now total earlier.now bytes.now) }
+{
+    let at = total.saturating_sub(bytes.len());
+    let (access_flags, rest) = u16_at(total, bytes)?;
+    let (name, rest) = text_index_at(pool, total, rest)?;
+    let (descriptor, rest) = descriptor_at(kind, pool, total, rest)?;
+    if is_declared(pool, name, descriptor, earlier) {
+        return Err(ClassFault::Index { at });
+    }
+    body_at(
+        alloc,
+        kind,
+        pool,
+        total,
+        at,
+        access_flags,
+        name,
+        descriptor,
+        rest,
+    )
+}
+
+/// A table of fields or methods.
+#[tactic(auto, unfolding(crate::specs::ReadMembers::members_at))]
+pub(crate) fn members_at<'a>(
+    alloc: Global,
+    kind: MemberKind,
+    pool: &[Constant],
+    total: usize,
+    bytes: &'a [u8],
+) -> Result<(Members, &'a [u8]), ClassFault>
+    ensures { Gives (λ x. (x.0, x.1.now)) result (members_at kind pool.now total bytes.now) }
+{
+    let (count, rest) = u16_at(total, bytes)?;
+    let mut items = Vec::with_capacity(alloc, usize::from(count).min(rest.len()))?;
+    let mut rest = rest;
+    for _index in 0..count {
+        let (member, after) = member_at(alloc, kind, pool, total, &items, rest)?;
+        items.push(member)?;
+        rest = after;
+    }
+    Ok((Members { items }, rest))
+}

@@ -1,0 +1,164 @@
+//! Modified UTF-8 (JVMS 4.4.7).
+
+ghost use Rattle.std.specs.Prelude.{◌≡◌, ◌++◌, ◌<◌, length, true, IfOk, OnOk, IfSome};
+ghost use Rattle.classfile.specs.Modified.{is_one, is_two, is_three, all_one, is_modified};
+ghost use Rattle.classfile.specs.Units.{unit_text, units_text, IsModifiedUtf8};
+
+use std::alloc::{AllocError, Global};
+use std::marker::Model;
+
+/// Bytes that are modified UTF-8: each 16-bit unit in its one spelling.
+#[derive(Debug, Drop)]
+pub struct ModifiedUtf8 {
+    bytes: Vec<u8>,
+}
+
+impl Model for ModifiedUtf8 {
+    ghost use Rattle.std.specs.Prelude.{◌≡◌, List, ℕ, true};
+    ghost use Rattle.classfile.specs.Modified.{is_modified};
+
+    ghost Value = { List ℕ };
+
+    ghost view = { λ s. s.bytes.items };
+
+    ghost invariant = { λ s. is_modified s.bytes.items ≡ true };
+}
+
+impl ModifiedUtf8 {
+    /// A copy of bytes that are known to be modified UTF-8.
+    pub(crate) fn copy_of(alloc: Global, bytes: &[u8]) -> Result<Self, AllocError>
+        requires { is_modified bytes.now ≡ true }
+        ensures { IfOk result (λ s. s ≡ bytes.now) }
+    {
+        Ok(ModifiedUtf8 {
+            bytes: Vec::from_slice(alloc, bytes)?,
+        })
+    }
+
+    /// The spelling of 16-bit units, one by one.
+    pub fn from_units(alloc: Global, units: &[u16]) -> Result<Self, AllocError>
+        ensures { IfOk result (λ s. s ≡ units_text units.now) }
+    {
+        let mut bytes = Vec::new(alloc);
+        for unit in units {
+            push_unit(&mut bytes, *unit)?;
+        }
+        Ok(ModifiedUtf8 { bytes })
+    }
+
+    /// The bytes as a slice.
+    pub fn bytes(&self) -> &[u8]
+        ensures is { result.now ≡ self.now }
+        ensures modified { IsModifiedUtf8 self.now }
+    {
+        &self.bytes
+    }
+}
+
+/// Writes the spelling of a unit behind the bytes.
+fn push_unit(bytes: &mut Vec<u8>, unit: u16) -> Result<(), AllocError>
+    ensures { OnOk result (bytes.new.items ≡ bytes.old.items ++ unit_text unit) }
+{
+    let last = (128 + unit % 64) as u8;
+    if 0 < unit && unit < 128 {
+        bytes.extend_from_slice(&[unit as u8])
+    } else if unit < 2048 {
+        bytes.extend_from_slice(&[(192 + unit / 64) as u8, last])
+    } else {
+        bytes.extend_from_slice(&[
+            (224 + unit / 4096) as u8,
+            (128 + unit / 64 % 64) as u8,
+            last,
+        ])
+    }
+}
+
+/// The first unit of bytes that are modified UTF-8, and what follows it.
+fn first_unit(bytes: &[u8]) -> Option<(u16, &[u8])>
+    ensures { IfSome result (λ x. length x.1.now < length bytes.now) }
+{
+    match bytes {
+        [] => None,
+        [first, second, third, rest @ ..] if 224 <= *first => {
+            let high = u16::from(*first % 16) * 4096 + u16::from(*second % 64) * 64;
+            Some((high + u16::from(*third % 64), rest))
+        }
+        [first, second, rest @ ..] if 192 <= *first => {
+            Some((u16::from(*first % 32) * 64 + u16::from(*second % 64), rest))
+        }
+        [first, rest @ ..] => Some((u16::from(*first), rest)),
+    }
+}
+
+/// The text of modified UTF-8 for a reader: surrogate pairs are joined, and a lone surrogate is `?`.
+pub fn printed(alloc: Global, bytes: &[u8]) -> Result<String, AllocError> {
+    let mut units = Vec::new(alloc);
+    let mut left = bytes;
+    while let Some((unit, rest)) = first_unit(left) {
+        units.push(unit)?;
+        left = rest;
+    }
+    let mut text = String::new(alloc);
+    for character in char::decode_utf16(units.iter().copied()) {
+        text.push(character.unwrap_or('?'))?;
+    }
+    Ok(text)
+}
+
+#[tactic(auto, unfolding(crate::specs::Modified::is_one))]
+fn is_one(first: u8) -> bool
+    ensures { result ≡ is_one first }
+{
+    1 <= first && first < 128
+}
+
+#[tactic(auto, unfolding(crate::specs::Modified::is_two))]
+fn is_two(first: u8, second: u8) -> bool
+    ensures { result ≡ is_two first second }
+{
+    128 <= second && second < 192 && (194 <= first && first < 224 || first == 192 && second == 128)
+}
+
+#[tactic(auto, unfolding(crate::specs::Modified::is_three))]
+fn is_three(first: u8, second: u8, third: u8) -> bool
+    ensures { result ≡ is_three first second third }
+{
+    224 <= first
+        && first < 240
+        && 128 <= second
+        && second < 192
+        && 128 <= third
+        && third < 192
+        && (224 < first || 159 < second)
+}
+
+/// Whether each byte is a unit by itself.
+fn is_plain(bytes: &[u8]) -> bool
+    ensures { result ≡ all_one bytes.now }
+{
+    let mut plain = true;
+    for byte in bytes {
+        plain = is_one(*byte) & plain;
+    }
+    plain
+}
+
+/// Whether the bytes are modified UTF-8, in the one spelling of each unit.
+#[tactic(auto, using(crate::proofs::Plain::plain_is_modified), unfolding(crate::specs::Modified::is_modified))]
+pub(crate) fn is_modified(bytes: &[u8]) -> bool
+    ensures { result ≡ is_modified bytes.now }
+{
+    if is_plain(bytes) {
+        return true;
+    }
+    let mut rest = bytes;
+    while !rest.is_empty() {
+        rest = match rest {
+            [first, after @ ..] if is_one(*first) => after,
+            [first, second, after @ ..] if is_two(*first, *second) => after,
+            [first, second, third, after @ ..] if is_three(*first, *second, *third) => after,
+            _ => return false,
+        };
+    }
+    true
+}

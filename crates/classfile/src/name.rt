@@ -1,0 +1,53 @@
+//! Names of classes.
+
+ghost use Rattle.std.specs.Prelude.{◌≡◌, IfOk};
+ghost use Rattle.std.specs.List.{flat_map};
+ghost use Rattle.std.specs.Str.{chars};
+ghost use Rattle.std.specs.Char.Escape.{encode_utf16};
+ghost use Rattle.classfile.specs.Units.{units_text};
+
+use crate::modified::ModifiedUtf8;
+use std::alloc::{AllocError, Global};
+use std::marker::Model;
+
+/// The name of a class: a list of 16-bit units, with slashes (JVMS 4.2.1).
+#[derive(Debug, Drop)]
+pub struct ClassName {
+    units: Vec<u16>,
+}
+
+impl Model for ClassName {
+    ghost use Rattle.std.specs.Prelude.{List, ℕ};
+
+    ghost Value = { List ℕ };
+
+    ghost view = { λ n. n.units.items };
+}
+
+impl ClassName {
+    /// The name that has the units of a text in UTF-16.
+    pub fn from_text(alloc: Global, text: &str) -> Result<ClassName, AllocError>
+        ensures { IfOk result (λ name. name ≡ flat_map encode_utf16 (chars text.now)) }
+    {
+        let mut units = Vec::new(alloc);
+        for character in text.chars() {
+            let mut buffer = [0; 2];
+            units.extend_from_slice(character.encode_utf16(&mut buffer))?;
+        }
+        Ok(ClassName { units })
+    }
+
+    /// The units.
+    pub fn units(&self) -> &[u16]
+        ensures { result.now ≡ self.now }
+    {
+        self.units.as_slice()
+    }
+
+    /// The name as a class file spells it, unit by unit (JVMS 4.4.7).
+    pub fn modified_utf8(&self, alloc: Global) -> Result<ModifiedUtf8, AllocError>
+        ensures { IfOk result (λ text. text ≡ units_text self.now) }
+    {
+        ModifiedUtf8::from_units(alloc, &self.units)
+    }
+}

@@ -1,0 +1,58 @@
+//! Numbers and runs of bytes at the front of what is left of a file of `total` bytes.
+
+ghost use Rattle.std.specs.Prelude.{◌≡◌};
+ghost use Rattle.std.specs.Int.{w8, w16, w32};
+ghost use Rattle.classfile.specs.Numbers.{Gives, number_at, run_at};
+
+use crate::fault::ClassFault;
+
+pub(crate) fn u8_at(total: usize, bytes: &[u8]) -> Result<(u8, &[u8]), ClassFault>
+    ensures { Gives (λ x. (x.0, x.1.now)) result (number_at w8 total bytes.now) }
+{
+    if bytes.len() < 1 {
+        return Err(ClassFault::Truncated {
+            at: total.saturating_sub(bytes.len()),
+        });
+    }
+    let (front, rest) = bytes.split_at(1);
+    Ok((u8::from_be_bytes([front[0]]), rest))
+}
+
+pub(crate) fn u16_at(total: usize, bytes: &[u8]) -> Result<(u16, &[u8]), ClassFault>
+    ensures { Gives (λ x. (x.0, x.1.now)) result (number_at w16 total bytes.now) }
+{
+    if bytes.len() < 2 {
+        return Err(ClassFault::Truncated {
+            at: total.saturating_sub(bytes.len()),
+        });
+    }
+    let (front, rest) = bytes.split_at(2);
+    Ok((u16::from_be_bytes([front[0], front[1]]), rest))
+}
+
+pub(crate) fn u32_at(total: usize, bytes: &[u8]) -> Result<(u32, &[u8]), ClassFault>
+    ensures { Gives (λ x. (x.0, x.1.now)) result (number_at w32 total bytes.now) }
+{
+    if bytes.len() < 4 {
+        return Err(ClassFault::Truncated {
+            at: total.saturating_sub(bytes.len()),
+        });
+    }
+    let (front, rest) = bytes.split_at(4);
+    Ok((
+        u32::from_be_bytes([front[0], front[1], front[2], front[3]]),
+        rest,
+    ))
+}
+
+/// That many bytes.
+pub(crate) fn run_at(total: usize, count: usize, bytes: &[u8]) -> Result<(&[u8], &[u8]), ClassFault>
+    ensures { Gives (λ x. (x.0.now, x.1.now)) result (run_at count total bytes.now) }
+{
+    if bytes.len() < count {
+        return Err(ClassFault::Truncated {
+            at: total.saturating_sub(bytes.len()),
+        });
+    }
+    Ok(bytes.split_at(count))
+}

@@ -1,0 +1,106 @@
+//! Reading what a class file holds.
+
+ghost use Rattle.std.specs.Prelude.{◌≡◌, ◌<◌, ◌^◌};
+ghost use Rattle.classfile.specs.Numbers.{Gives};
+ghost use Rattle.classfile.specs.ReadClass.{magic_at, version_at, body_at, class_at, class_of};
+
+use crate::attribute::{Attributes, Owner, attributes_at};
+use crate::declaration::{Declaration, declaration_at};
+use crate::fault::ClassFault;
+use crate::member::{MemberKind, Members, members_at};
+use crate::numbers::{u16_at, u32_at};
+use crate::pool::{ConstantPool, pool_at};
+use std::alloc::Global;
+use std::marker::Model;
+
+/// The parts of a class file.
+#[derive(Debug, Drop)]
+pub(crate) struct Parts {
+    pub(crate) constants: ConstantPool,
+    pub(crate) declaration: Declaration,
+    pub(crate) fields: Members,
+    pub(crate) methods: Members,
+    pub(crate) attributes: Attributes,
+}
+
+impl Model for Parts {
+    ghost use Rattle.classfile.specs.Structure.{Structure, structure_of};
+
+    ghost Value = { Structure };
+
+    ghost view = { λ c. structure_of c.constants c.declaration c.fields c.methods c.attributes };
+}
+
+#[tactic(auto, unfolding(crate::specs::ReadClass::magic_at))]
+fn magic_at(total: usize, bytes: &[u8]) -> Result<(u32, &[u8]), ClassFault>
+    ensures { Gives (λ x. (x.0, x.1.now)) result (magic_at total bytes.now) }
+{
+    let (magic, rest) = u32_at(total, bytes)?;
+    if magic != 0xCAFE_BABE {
+        return Err(ClassFault::Magic);
+    }
+    Ok((magic, rest))
+}
+
+#[tactic(auto, unfolding(crate::specs::ReadClass::version_at))]
+fn version_at(total: usize, bytes: &[u8]) -> Result<((u16, u16), &[u8]), ClassFault>
+    ensures { Gives (λ x. (x.0, x.1.now)) result (version_at total bytes.now) }
+{
+    let (minor, rest) = u16_at(total, bytes)?;
+    let (major, rest) = u16_at(total, rest)?;
+    if minor != 0 || major != 52 {
+        return Err(ClassFault::Version { major, minor });
+    }
+    Ok(((minor, major), rest))
+}
+
+#[tactic(auto, unfolding(crate::specs::ReadClass::body_at))]
+fn body_at<'a>(
+    alloc: Global,
+    constants: ConstantPool,
+    declaration: Declaration,
+    total: usize,
+    bytes: &'a [u8],
+) -> Result<(Parts, &'a [u8]), ClassFault>
+    ensures { Gives (λ x. (x.0, x.1.now)) result (body_at constants declaration total bytes.now) }
+{
+    let pool = constants.as_slice();
+    let (fields, rest) = members_at(alloc, MemberKind::Field, pool, total, bytes)?;
+    let (methods, rest) = members_at(alloc, MemberKind::Method, pool, total, rest)?;
+    let (attributes, rest) = attributes_at(alloc, pool, Owner::Class, total, rest)?;
+    let class = Parts {
+        constants,
+        declaration,
+        fields,
+        methods,
+        attributes,
+    };
+    Ok((class, rest))
+}
+
+#[tactic(auto, unfolding(crate::specs::ReadClass::class_at))]
+fn class_at(alloc: Global, total: usize, bytes: &[u8]) -> Result<(Parts, &[u8]), ClassFault>
+    requires { total < 2 ^ 63 }
+    ensures { Gives (λ x. (x.0, x.1.now)) result (class_at total bytes.now) }
+{
+    let (_magic, rest) = magic_at(total, bytes)?;
+    let (_version, rest) = version_at(total, rest)?;
+    let (constants, rest) = pool_at(alloc, total, rest)?;
+    let (declaration, rest) = declaration_at(alloc, constants.as_slice(), total, rest)?;
+    body_at(alloc, constants, declaration, total, rest)
+}
+
+/// The class file that fills these bytes.
+#[tactic(auto, unfolding(crate::specs::ReadClass::class_of))]
+pub(crate) fn class_of(alloc: Global, bytes: &[u8]) -> Result<Parts, ClassFault>
+    ensures { Gives (λ c. c) result (class_of bytes.now) }
+{
+    let total = bytes.len();
+    let (class, rest) = class_at(alloc, total, bytes)?;
+    if !rest.is_empty() {
+        return Err(ClassFault::Extra {
+            at: total.saturating_sub(rest.len()),
+        });
+    }
+    Ok(class)
+}

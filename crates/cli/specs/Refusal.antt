@@ -1,0 +1,18 @@
+-- What a refusal is of, and what it ends a command with.
+use Rattle.std.specs.Prelude.{◌≡◌, ℕ, List, ⊤, string_bytes}
+use Rattle.cli.specs.declared.fault.Refusal.{Refusal}
+use Rattle.cli.specs.declared.fault.Refusal.TheVariants.{File, Device, Memory}
+use Rattle.cli.specs.declared.status.Status.{Status}
+use Rattle.cli.specs.declared.status.Status.TheVariants.{Refused, Failed}
+
+-- a file or standard output failed, or the command was refused
+abbrev pub refusal_status : Refusal → Status
+refusal_status (File _) = Failed
+refusal_status Device = Failed
+refusal_status _ = Refused
+
+-- the refusal names the file, unless memory for its name was refused
+abbrev pub IsOfFile : Refusal → List ℕ → Type 0
+IsOfFile (File text) name = string_bytes text ≡ name
+IsOfFile Memory _ = ⊤
+IsOfFile _ _ = ⊥

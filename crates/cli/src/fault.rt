@@ -1,0 +1,110 @@
+//! Why a command was refused.
+ghost use Rattle.std.specs.Prelude.{◌≡◌, ◌≢◌};
+ghost use Rattle.cli.specs.Refusal.{IsOfFile, refusal_status};
+ghost use Rattle.cli.specs.declared.fault.Refusal.TheVariants.{Memory};
+
+use crate::{FileFault, Status};
+use classfile::ClassFault;
+use init_engine::EntryFault;
+use machine::LinkFault;
+use std::alloc::{AllocError, AllocFailed, Global};
+use thiserror::Error;
+
+/// Why a command was refused. Its text follows `preinit: ` on standard error.
+#[derive(Debug, Drop, Error)]
+pub enum Refusal {
+    /// Memory was refused, by any of the calls.
+    #[error("Memory")]
+    Memory,
+    /// A file of this place among the class files, from 0, is no class file.
+    #[error("Class {0} {1}")]
+    Class(usize, ClassFault),
+    /// The classes do not make one program.
+    #[error("Link {0}")]
+    Link(LinkFault),
+    /// An entry can't be run.
+    #[error("Entry {0}")]
+    Entry(EntryFault),
+    /// The file of this name, as given, was not read or written.
+    #[error("File {0}")]
+    File(String),
+    /// Standard output failed.
+    #[error("Device")]
+    Device,
+}
+
+impl Refusal {
+    /// The status that the command then ends with: `Failed` for a file or standard output, and else
+    /// `Refused`.
+    pub fn status(&self) -> Status
+        ensures { result ≡ refusal_status self.now }
+    {
+        match self {
+            Refusal::File(_) | Refusal::Device => Status::Failed,
+            _ => Status::Refused,
+        }
+    }
+
+    /// The refusal of the class file at this place. Want of memory is no fault of the file.
+    pub(crate) fn of_class(place: usize, fault: ClassFault) -> Refusal
+        ensures memory { fault ≡ ClassFault.Memory → result ≡ Refusal.Memory }
+        ensures other { fault ≢ ClassFault.Memory → result ≡ Refusal.Class place fault }
+    {
+        match fault {
+            ClassFault::Memory => Refusal::Memory,
+            fault => Refusal::Class(place, fault),
+        }
+    }
+
+    /// The refusal of the classes together. Want of memory is no fault of theirs.
+    pub(crate) fn of_link(fault: LinkFault) -> Refusal
+        ensures memory { fault ≡ LinkFault.Memory → result ≡ Refusal.Memory }
+        ensures other { fault ≢ LinkFault.Memory → result ≡ Refusal.Link fault }
+    {
+        match fault {
+            LinkFault::Memory => Refusal::Memory,
+            fault => Refusal::Link(fault),
+        }
+    }
+
+    /// The refusal of an entry. Want of memory is no fault of its.
+    pub(crate) fn of_entry(fault: EntryFault) -> Refusal
+        ensures memory { fault ≡ EntryFault.Memory → result ≡ Refusal.Memory }
+        ensures other { fault ≢ EntryFault.Memory → result ≡ Refusal.Entry fault }
+    {
+        match fault {
+            EntryFault::Memory => Refusal::Memory,
+            fault => Refusal::Entry(fault),
+        }
+    }
+
+    /// The refusal of the file of this name. Want of memory is no fault of the file.
+    pub(crate) fn of_file(alloc: Global, name: &str, fault: FileFault) -> Refusal
+        ensures memory { fault ≡ FileFault.Memory → result ≡ Refusal.Memory }
+        ensures device { fault ≡ FileFault.Device → IsOfFile result name.now }
+    {
+        match fault {
+            FileFault::Memory => Refusal::Memory,
+            FileFault::Device => match String::from_str(alloc, name) {
+                Ok(name) => Refusal::File(name),
+                Err(_) => Refusal::Memory,
+            },
+        }
+    }
+}
+
+impl From<AllocError> for Refusal {
+    ghost from_gives = { λ _ e. e ≡ Memory };
+
+    fn from(_error: AllocError) -> Refusal {
+        Refusal::Memory
+    }
+}
+
+impl<T: Drop> From<AllocFailed<T>> for Refusal {
+    ghost from_gives = { λ _ e. e ≡ Memory };
+
+    fn from(_error: AllocFailed<T>) -> Refusal {
+        Refusal::Memory
+    }
+}

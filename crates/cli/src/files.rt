@@ -1,0 +1,26 @@
+//! The files that a command reads and writes.
+
+/// Why a file was not read or written.
+#[derive(Clone, Copy, Debug, PartialEq, Eq)]
+pub enum FileFault {
+    /// Memory was refused.
+    Memory,
+    /// The file is not there, may not be used, or its device failed.
+    Device,
+}
+
+/// The files of a command, by the names that its words give.
+pub trait Files {
+    /// The bytes of a file.
+    ///
+    /// # Errors
+    /// `Device` where the file can't be read, `Memory` where its bytes can't be held.
+    fn get(&mut self, name: &str) -> Result<Vec<u8>, FileFault>;
+
+    /// Makes a file of these bytes, in the place of one of that name.
+    ///
+    /// # Errors
+    /// `Device` where the file can't be written, `Memory` where memory was refused. What the file
+    /// then holds is open.
+    fn put(&mut self, name: &str, bytes: &[u8]) -> Result<(), FileFault>;
+}

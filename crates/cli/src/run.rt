@@ -1,0 +1,113 @@
+//! One command, from its words to its exit status.
+ghost use Rattle.std.specs.Prelude.{◌≡◌, ◌≢◌, ◌≤◌};
+ghost use Rattle.cli.specs.Refusal.{refusal_status};
+ghost use Rattle.cli.specs.Status.{IsTold};
+
+use crate::lazy::{self, Outcome};
+use crate::{Files, Lazy, Line, Refusal, Status, line};
+use clap::Error;
+use clap::error::ErrorKind;
+use std::alloc::Global;
+use std::io;
+use std::io::Write;
+
+/// Does one command for the words after the program's name, and answers the exit status and standard
+/// output back.
+///
+/// - 0: done; all threads returned. Help that was asked for is 0 too.
+/// - 1: refused. Standard error gets `preinit: ` and the refusal's text.
+/// - 2: the words are no command. Standard error gets what is wrong with them.
+/// - 3: a file or standard output failed, told as a refusal is.
+/// - 4: stuck; 5: the limit was reached with a thread that still has a step; 6: all threads ended,
+///   and not all returned.
+///
+/// With 1 and 2 nothing went to standard output. After a run it gets what was printed, and then
+/// standard error a line for each thread, but none where standard output failed. A failure of standard
+/// error is ignored.
+pub fn command<F: Files, W: Write + Send, E: Write>(
+    alloc: Global,
+    words: &[&str],
+    files: &mut F,
+    mut out: W,
+    errors: &mut E,
+) -> (u8, W)
+    ensures range { result.0 ≤ 6 }
+    ensures refused { result.0 ≡ 1 → result.1 ≡ out }
+    ensures words { result.0 ≡ 2 → result.1 ≡ out }
+{
+    let status = match line(alloc, words) {
+        Ok(Line::Lazy(words)) => run_lazily(alloc, words, files, &mut out, errors),
+        Err(error) => tell_words(&error, &mut out, errors),
+    };
+    (status.code(), out)
+}
+
+/// Does the command `lazy`.
+fn run_lazily<F: Files, W: Write, E: Write>(
+    alloc: Global,
+    words: Lazy<'_>,
+    files: &mut F,
+    out: &mut W,
+    errors: &mut E,
+) -> Status
+    ensures refused { result ≡ Status.Refused → out.new ≡ out.old }
+    ensures words { result ≢ Status.Words }
+{
+    match lazy::run(alloc, words, files) {
+        Ok(outcome) => tell(&outcome, out, errors),
+        Err(refusal) => refuse(&refusal, errors),
+    }
+}
+
+/// Tells what a run printed and how its threads ended.
+fn tell<W: Write, E: Write>(outcome: &Outcome, out: &mut W, errors: &mut E) -> Status
+    requires { IsTold outcome.now.status }
+    ensures told { IsTold result }
+    ensures status { result ≢ Status.Failed → result ≡ outcome.now.status }
+{
+    if print(outcome, out).is_err() {
+        return refuse(&Refusal::Device, errors);
+    }
+    // A failure of standard error is ignored.
+    let _ = errors.write_all(outcome.threads.as_bytes());
+    let _ = errors.flush();
+    outcome.status
+}
+
+fn print<W: Write>(outcome: &Outcome, out: &mut W) -> io::Result<()> {
+    for line in &outcome.printed {
+        out.write_all(line.text.as_bytes())?;
+    }
+    out.flush()
+}
+
+/// Tells a refusal on standard error.
+fn refuse<E: Write>(refusal: &Refusal, errors: &mut E) -> Status
+    ensures { result ≡ refusal_status refusal.now }
+{
+    // A failure of standard error is ignored.
+    let _ = writeln!(errors, "preinit: {refusal}");
+    let _ = errors.flush();
+    refusal.status()
+}
+
+/// Tells the text that the words gave in place of a command: help on standard output, and what is
+/// wrong with them on standard error.
+fn tell_words<W: Write, E: Write>(error: &Error, out: &mut W, errors: &mut E) -> Status
+    ensures refused { result ≡ Status.Refused → out.new ≡ out.old }
+    ensures words { result ≡ Status.Words → out.new ≡ out.old }
+{
+    if error.kind() == ErrorKind::OutOfMemory {
+        return refuse(&Refusal::Memory, errors);
+    }
+    if error.use_stderr() {
+        // A failure of standard error is ignored.
+        let _ = write!(errors, "{error}");
+        let _ = errors.flush();
+        return Status::Words;
+    }
+    if write!(out, "{error}").is_err() || out.flush().is_err() {
+        return refuse(&Refusal::Device, errors);
+    }
+    Status::Done
+}

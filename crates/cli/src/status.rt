@@ -1,0 +1,80 @@
+//! Exit statuses.
+ghost use Rattle.std.specs.Prelude.{◌≡◌, ◌≤◌};
+ghost use Rattle.cli.specs.Status.{IsTold, code_of, is_end, is_return, run_status};
+ghost use Rattle.std.specs.List.{list_all};
+
+use init_engine::Ending;
+
+/// How a command ended.
+#[derive(Clone, Copy, Debug, PartialEq, Eq)]
+pub enum Status {
+    /// It did what it was asked for, and all threads of a run returned.
+    Done,
+    /// A class file, a link, an entry or memory was refused.
+    Refused,
+    /// The words are no command.
+    Words,
+    /// A file or standard output failed.
+    Failed,
+    /// No thread of a run has a step, and one has not ended.
+    Stuck,
+    /// A run came to its limit, and a thread still has a step.
+    Limit,
+    /// All threads of a run ended, and not all returned.
+    Ended,
+}
+
+impl Status {
+    /// The exit status of the process, from 0 to 6.
+    pub fn code(self) -> u8
+        ensures code { result ≡ code_of self }
+        ensures refused { result ≡ 1 → self ≡ Status.Refused }
+        ensures words { result ≡ 2 → self ≡ Status.Words }
+        ensures range { result ≤ 6 }
+    {
+        match self {
+            Status::Done => 0,
+            Status::Refused => 1,
+            Status::Words => 2,
+            Status::Failed => 3,
+            Status::Stuck => 4,
+            Status::Limit => 5,
+            Status::Ended => 6,
+        }
+    }
+}
+
+/// The status of a run by turns, from how its threads ended and whether it is stuck.
+///
+/// Turns end where no thread has a step, or at the limit. So a run that is not stuck, with a thread
+/// that goes on, has a thread with a step and was ended by the limit.
+pub fn status_of(threads: &[Ending], stuck: bool) -> Status
+    ensures status { result ≡ run_status threads.now stuck }
+    ensures told { IsTold result }
+{
+    if all_returned(threads) {
+        Status::Done
+    } else if all_ended(threads) {
+        Status::Ended
+    } else if stuck {
+        Status::Stuck
+    } else {
+        Status::Limit
+    }
+}
+
+fn all_returned(threads: &[Ending]) -> bool
+    ensures { result ≡ list_all is_return threads.now }
+{
+    threads
+        .iter()
+        .all(|ending| matches!(ending, Ending::Returned))
+}
+
+fn all_ended(threads: &[Ending]) -> bool
+    ensures { result ≡ list_all is_end threads.now }
+{
+    threads
+        .iter()
+        .all(|ending| !matches!(ending, Ending::Going))
+}

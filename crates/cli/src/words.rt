@@ -1,0 +1,104 @@
+//! The words of the command line.
+
+use crate::{Lazy, Line};
+use clap::error::ErrorKind;
+use clap::{Arg, ArgMatches, Command, Error, value_parser};
+use std::alloc::{AllocError, Global};
+
+/// The steps after which a run ends, where the words name no limit.
+const DEFAULT_LIMIT: &str = "100000000";
+
+const GREATEST_LIMIT: i64 = 1_000_000_000_000_000;
+
+const PROGRAM_ABOUT: &str = "\
+Runs Java class files of version 52 (Java 8), by single steps of their threads.";
+
+const STATUSES: &str = "\
+Exit status:
+  0  done: all threads returned
+  1  refused: a class file, the classes together, an entry, or want of memory
+  2  the command line is wrong
+  3  a file or standard output failed
+  4  stuck: no thread has a step, and one has not ended
+  5  the limit was reached, and a thread still has a step
+  6  all threads ended, and not all of them returned
+
+A refusal is one line on standard error, 'preinit: ' and its name.";
+
+const LAZY_ABOUT: &str = "\
+Runs a class file by turns, each class initialized when it is first needed";
+
+const LAZY_LONG_ABOUT: &str = "\
+Runs the main method of each entry class in a thread of its own, by turns: in each round every thread takes one step,
+in the order of the list. A class is initialized when a thread first needs it.
+
+Standard output gets what the program prints. Then standard error gets a line for each thread:
+  thread 0 returned             its main method returned
+  thread 0 uncaught CLASS       it ended by an exception of this class
+  thread 0 faulted KIND         it met a fault: Fault, Unsupported (the instruction is left out here)
+                                or Missing (a class or member that is not there)
+  thread 0 going                it has not ended: the run is stuck, or came to its limit
+
+For example: preinit lazy --entries app.Main Main.class";
+
+/// Reads the words after the program's name.
+///
+/// # Errors
+/// The texts of `clap`: help that was asked for, or a fault of the words. Want of memory is the kind
+/// `OutOfMemory`.
+pub fn line<'a>(alloc: Global, words: &'a [&'a str]) -> Result<Line<'a>, Error> {
+    let mut program = program(alloc)?;
+    let matches = program.try_get_matches_from_mut(words)?;
+    if let Some(("lazy", matches)) = matches.subcommand()
+        && let Some(lazy) = lazy_of(matches)
+    {
+        return Ok(Line::Lazy(lazy));
+    }
+    Err(program.error(ErrorKind::MissingSubcommand, "a command is missing")?)
+}
+
+fn lazy_of<'a>(matches: &ArgMatches<'a>) -> Option<Lazy<'a>> {
+    Some(Lazy {
+        entries: matches.get_str("entries")?,
+        limit: matches.get_one::<u64>("limit")?,
+        file: matches.get_str("file")?,
+    })
+}
+
+fn program<'a>(alloc: Global) -> Result<Command<'a>, AllocError> {
+    Command::new(alloc, "preinit")
+        .bin_name("preinit")?
+        .no_binary_name(true)
+        .about(PROGRAM_ABOUT)
+        .after_help(STATUSES)
+        .subcommand_required(true)
+        .arg_required_else_help(true)
+        .subcommand(lazy_command(alloc)?)
+}
+
+fn lazy_command<'a>(alloc: Global) -> Result<Command<'a>, AllocError> {
+    let entries = Arg::new(alloc, "entries")
+        .long("entries")
+        .value_name("LIST")
+        .required(true)
+        .help(
+            "Classes whose main methods are run, with dots, separated by commas, as 'app.Main,app.Other'",
+        );
+    let limit = Arg::new(alloc, "limit")
+        .long("limit")
+        .value_name("N")
+        .default_value(DEFAULT_LIMIT)
+        .value_parser(value_parser!(u64).range(1..=GREATEST_LIMIT))
+        .help("Ends the run after this many steps, from 1 to 10^15");
+    let file = Arg::new(alloc, "file")
+        .value_name("FILE")
+        .required(true)
+        .help("The class file to run");
+    Command::new(alloc, "lazy")
+        .about(LAZY_ABOUT)
+        .long_about(LAZY_LONG_ABOUT)
+        .after_help(STATUSES)
+        .arg(entries)?
+        .arg(limit)?
+        .arg(file)
+}

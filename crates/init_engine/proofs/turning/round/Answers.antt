@@ -1,0 +1,22 @@
+use Rattle.std.proofs.Common.{arith, refl, ◌∙◌}
+use Rattle.init_engine.proofs.RoundLemmas.{asked_nobody, asked_moved, asked_passed, room_left}
+use Rattle.init_engine.proofs.turning.round.Goals as goal
+use Rattle.init_engine.proofs.turning.round.Goals.{then-branch, else-branch}
+
+pub loop-thread-init : goal.loop-thread-init
+loop-thread-init c = (asked_nobody _ _ _ _, omega arith, refl)
+
+pub loop-thread-preserved : goal.loop-thread-preserved
+loop-thread-preserved c =
+    let room = room_left c.loop-thread.done c.args.most c.loop-thread.invariant.1 c.if-done-most.false in
+    let threads = c.in_ok-ask.ensures.threads ∙ c.loop-thread.invariant.2 in
+    elim c.if-branch.branch [
+      | then-branch w ↦
+          let moved = rw w.if-branch.true at c.in_ok-ask.ensures.asking in
+          let so = asked_moved _ _ _ _ _ _ _ _ _ _ c.loop-thread.invariant.0 room moved in
+          (rw w.done-is so, omega (arith, room, w.done-is), threads)
+      | else-branch w ↦
+          let passed = rw w.if-branch.false at c.in_ok-ask.ensures.asking in
+          let so = asked_passed _ _ _ _ _ _ _ _ _ _ c.loop-thread.invariant.0 room passed in
+          (rw w.done-is so, omega (arith, room, w.done-is), threads)
+    ]

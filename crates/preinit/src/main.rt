@@ -1,0 +1,80 @@
+//! The program `preinit`: one command of the crate `cli`, over the files and streams of the process.
+//! `preinit --help` says what it does.
+#![tactic(auto)]
+
+use cli::{FileFault, Files, Refusal, Status, command};
+use std::io::{self, BufWriter, ErrorKind, Write};
+use std::process::ExitCode;
+use std::{env, fs, rt};
+
+/// The files of the system, by their paths.
+#[derive(Drop)]
+struct Disk<'a, R> {
+    rt: &'a R,
+}
+
+impl<R: rt::Files + AllocGlobal> Files for Disk<'_, R> {
+    fn get(&mut self, name: &str) -> Result<Vec<u8>, FileFault> {
+        fs::read(self.rt, name).map_err(file_fault)
+    }
+
+    fn put(&mut self, name: &str, bytes: &[u8]) -> Result<(), FileFault> {
+        fs::write(self.rt, name, bytes).map_err(file_fault)
+    }
+}
+
+fn file_fault(error: io::Error) -> FileFault {
+    match error.kind() {
+        ErrorKind::OutOfMemory => FileFault::Memory,
+        _ => FileFault::Device,
+    }
+}
+
+/// Why there was no command to do.
+#[derive(Drop)]
+enum Stop {
+    Memory,
+    /// A word is not UTF-8.
+    Words,
+}
+
+/// Does the command that the words of the process name.
+fn run<R, W, E>(rt: &R, out: W, errors: &mut E) -> Result<u8, Stop>
+where
+    R: rt::Env + rt::Files + AllocGlobal,
+    W: Write + Send + Drop,
+    E: Write,
+{
+    let alloc = rt.alloc();
+    let texts = env::args(rt).map_err(|error| match error.kind() {
+        ErrorKind::OutOfMemory => Stop::Memory,
+        _ => Stop::Words,
+    })?;
+    let texts: Vec<String> = texts.collect(alloc).map_err(|_| Stop::Memory)?;
+    let words: Vec<&str> = texts
+        .iter()
+        .skip(1)
+        .map(|text| text.as_str())
+        .collect(alloc)
+        .map_err(|_| Stop::Memory)?;
+    let out = BufWriter::new(alloc, out).map_err(|_| Stop::Memory)?;
+    let (status, _out) = command(alloc, words.as_slice(), &mut Disk { rt }, out, errors);
+    Ok(status)
+}
+
+fn main(rt: HostRuntime) -> ExitCode {
+    let mut errors = rt.stderr();
+    let status = match run(&rt, rt.stdout(), &mut errors) {
+        Ok(status) => status,
+        Err(Stop::Memory) => {
+            let refusal = Refusal::Memory;
+            let _ = writeln!(errors, "preinit: {refusal}");
+            refusal.status().code()
+        }
+        Err(Stop::Words) => {
+            let _ = writeln!(errors, "error: a word of the command line is not UTF-8");
+            Status::Words.code()
+        }
+    };
+    ExitCode::from(status)
+}
