@@ -1,8 +1,8 @@
 -- Exit statuses.
 use Rattle.std.specs.Prelude.{ℕ, List, Bool, true, false, if◌then◌else◌, ⊤}
 use Rattle.std.specs.List.{list_all}
-use Rattle.init_engine.specs.declared.Ending.{Ending}
-use Rattle.init_engine.specs.declared.Ending.TheVariants.{Going, Returned}
+use Rattle.vm_state.specs.declared.ends.Ending.{Ending}
+use Rattle.vm_state.specs.declared.ends.Ending.TheVariants.{Going, Returned}
 use Rattle.cli.specs.declared.status.Status.{Status}
 use Rattle.cli.specs.declared.status.Status.TheVariants.{Done, Refused, Words, Failed, Stuck, Limit, Ended}
 

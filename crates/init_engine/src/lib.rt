@@ -5,6 +5,7 @@ pub mod fault;
 pub mod procedure;
 pub mod schedule;
 pub mod starting;
+mod stuck;
 mod turning;
 pub mod world;
 

@@ -171,6 +171,18 @@ impl World {
         })
     }
 
+    pub(crate) fn threads(&self) -> &[Thread]
+        ensures { result.now ≡ self.now.threads }
+    {
+        self.threads.as_slice()
+    }
+
+    pub(crate) fn shared(&self) -> &Shared
+        ensures { result.now ≡ self.now.shared }
+    {
+        &self.shared
+    }
+
     /// How many threads there are: at most 64.
     pub fn thread_count(&self) -> u32
         ensures { result ≡ length self.now.threads }

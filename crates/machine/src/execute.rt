@@ -221,6 +221,26 @@ fn return_to(top: &mut Option<Frame>, callers: &mut FrameList)
     }
 }
 
+/// The class that an instruction, or a thread's start, needs (JVMS 5.5).
+fn needed_class(program: &Program, frame: &Frame) -> Option<u32> {
+    match frame.activity {
+        Activity::Start(class) => Some(class),
+        Activity::Method(method) => match program.instruction(method, frame.place) {
+            Some(Instruction::GetInt(class, _)) => Some(class),
+            Some(Instruction::PutInt(class, _)) => Some(class),
+            _ => None,
+        },
+    }
+}
+
+/// Whether another thread is in the way of a thread's next instruction, in this frame. It takes no memory.
+pub fn has_to_wait(program: &Program, thread: u32, frame: &Frame, shared: &Shared) -> bool {
+    match needed_class(program, frame) {
+        Some(class) => shared.state(class).usability(thread) == Usability::Busy,
+        None => false,
+    }
+}
+
 /// One instruction of a thread, on top of whose stack a frame stands. Where memory is refused nothing changes.
 #[tactic(auto, unfolding(crate::specs::Table::row))]
 pub fn effect(

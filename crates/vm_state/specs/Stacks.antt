@@ -41,3 +41,7 @@ parent_taken (l ∷ ls) = record l { entry = record l.entry { left = others_of l
 abbrev pub initializer_begun : List Level → List Level
 initializer_begun [] = []
 initializer_begun (l ∷ ls) = record l { entry = record l.entry { begun = true } } ∷ ls
+
+abbrev pub first_level : List Level → Option Level
+first_level [] = None
+first_level (l ∷ ls) = Some l

@@ -1,7 +1,7 @@
 //! Frames (JVMS 2.6), and lists of them.
 
-ghost use Rattle.std.specs.Prelude.{◌≡◌, ◌∷◌, [], IfOk, OnErr, MatchOption, None};
-ghost use Rattle.vm_state.specs.Segments.{frames_with};
+ghost use Rattle.std.specs.Prelude.{◌≡◌, ◌∷◌, [], IfOk, OnErr, MatchOption, None, option_copied};
+ghost use Rattle.vm_state.specs.Segments.{frames_with, first_frame};
 
 use crate::locals::Locals;
 use crate::operands::Operands;
@@ -51,6 +51,13 @@ impl FrameList {
         FrameList {
             frames: Vec::new(alloc),
         }
+    }
+
+    /// The innermost frame, which stays.
+    pub fn first(&self) -> Option<&Frame>
+        ensures { option_copied result ≡ first_frame self.now }
+    {
+        self.frames.last()
     }
 
     /// Takes the innermost frame.

@@ -1,8 +1,8 @@
 //! Initialization entries (JVMS 5.5), and the whole stack of a thread.
 
-ghost use Rattle.std.specs.Prelude.{◌≡◌, ◌∷◌, [], IfOk, OnOk, OnErr, MatchOption, Some, None, IsSome};
-ghost use Rattle.vm_state.specs.Segments.{frames_with};
-ghost use Rattle.vm_state.specs.Stacks.{first_of, others_of, levels_with, segment_of, levels_of, parent_taken, initializer_begun, IsLeft};
+ghost use Rattle.std.specs.Prelude.{◌≡◌, ◌∷◌, [], IfOk, OnOk, OnErr, MatchOption, Some, None, IsSome, option_copied};
+ghost use Rattle.vm_state.specs.Segments.{frames_with, first_frame};
+ghost use Rattle.vm_state.specs.Stacks.{first_of, others_of, first_level, levels_with, segment_of, levels_of, parent_taken, initializer_begun, IsLeft};
 
 use crate::frame::{Frame, FrameList};
 use crate::value::Name;
@@ -92,6 +92,13 @@ impl LevelList {
         }
     }
 
+    /// The innermost entry, which stays.
+    pub fn first(&self) -> Option<&Level>
+        ensures { option_copied result ≡ first_level self.now }
+    {
+        self.levels.last()
+    }
+
     /// Takes the innermost entry.
     pub fn pop(&mut self) -> Option<Level>
         ensures { MatchOption result ((self.old ≡ []) × (self.new ≡ [])) (λ l. self.old ≡ l ∷ self.new) }
@@ -152,6 +159,26 @@ impl Frames {
             &mut self.top,
             &mut self.callers,
         )
+    }
+
+    /// The innermost frame above the highest entry.
+    pub fn innermost(&self) -> Option<&Frame>
+        ensures { option_copied result ≡ first_frame (segment_of self.now) }
+    {
+        match &self.top {
+            Some(frame) => Some(frame),
+            None => self.callers.first(),
+        }
+    }
+
+    /// The highest entry.
+    pub fn entry(&self) -> Option<&Level>
+        ensures { option_copied result ≡ first_level (levels_of self.now) }
+    {
+        match &self.highest {
+            Some(level) => Some(level),
+            None => self.outer.first(),
+        }
     }
 
     /// Takes the highest entry away, with all frames above it; those under it are the topmost ones then.
