@@ -1,3 +1,5 @@
-pub mod Stints
+pub mod LocalRuns
 pub mod RoundLemmas
+pub mod StartLemmas
+pub mod Stints
 pub mod WorldSteps

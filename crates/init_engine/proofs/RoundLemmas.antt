@@ -1,9 +1,10 @@
 -- Rounds one after the other are turns, and turns are runs.
-use Rattle.std.proofs.Common.{◌≡◌, ◌≢◌, ℕ, ◌+◌, ◌-◌, ◌<◌, ◌≤◌, ◌⊎◌, inl, inr, true, false, List, [], ◌∷◌, ◌++◌, length, refl, sym, ap, subst, ◌∙◌, arith, append_assoc, append-nil, length-append}
+use Rattle.std.proofs.Common.{◌≡◌, ◌≢◌, ℕ, zero, suc, Some, replicate, ◌+◌, ◌-◌, ◌<◌, ◌≤◌, ◌⊎◌, inl, inr, true, false, List, [], ◌∷◌, ◌++◌, length, refl, sym, ap, subst, ◌∙◌, arith, append_assoc, append-nil, length-append}
+use Rattle.std.proofs.lemmas.List.{length-replicate}
 use Rattle.semantics.specs.Programs.{Program}
-use Rattle.semantics.specs.Worlds.{World, Run}
+use Rattle.semantics.specs.Worlds.{World, Run, step}
 use Rattle.semantics.proofs.Runs.{runs_join_lem, run_more}
-use Rattle.init_engine.specs.Rounds.{Asked, nobody, steps, passes, Turns, idle, limited, goes_on, IsAsking, IsAskedSo, IsRound}
+use Rattle.init_engine.specs.Rounds.{Asked, nobody, steps, passes, Turns, idle, limited, goes_on, IsAsking, IsAskedSo, IsRound, IsStride}
 
 -- ---- one round
 
@@ -104,3 +105,53 @@ pub last_round : (P : Program) (count threads limit left done : ℕ) (first w la
     IsRound P w left threads done last before after → (done ≡ 0) ⊎ ((done ≢ 0) × (done ≡ left)) → Turns P count limit first after last
 last_round P count threads limit left done first w last before after is on r stop =
     turns_end P count limit left done first w last before after on (subst (λ k. IsRound P w left k done last before after) is r) (either done left stop)
+
+-- ---- strides of the only thread
+
+none_less : (n : ℕ) → n - 0 ≡ n
+none_less n = omega arith
+
+one_round : (P : Program) (left : ℕ) (w next : World) → 0 < left → step P w 0 ≡ Some next → Asked P w left 1 (0 ∷ []) next
+one_round P left w next room stepped = steps nobody room stepped
+
+stride_turns : (P : Program) (n left : ℕ) (w now last : World) (rest : List ℕ) → Run P w (replicate n 0) now → n ≤ left → Turns P 1 (left - n) now rest last →
+    Turns P 1 left w (replicate n 0 ++ rest) last
+stride_turns P zero left w now last rest run fits turns = subst (λ (v : World). Turns P 1 left v rest last) (sym run) (subst (λ k. Turns P 1 k now rest last) (none_less left) turns)
+stride_turns P (suc n) left w now last rest run fits turns =
+    let next = run.0 in
+    let room : 0 < left = omega (arith, fits) in
+    let less : n ≤ left - 1 = omega (arith, fits) in
+    let further : left - suc n ≡ left - 1 - n = omega (arith, fits) in
+    let later = stride_turns P n (left - 1) next now last rest run.2 less (subst (λ k. Turns P 1 k now rest last) further turns) in
+    let some : 0 < 1 = omega arith in
+    goes_on (one_round P left w next room run.1) some later
+
+-- a stride before rounds
+alone_goes_on : (P : Program) (count limit left n : ℕ) (first w now : World) (before after : List ℕ) → GoOn P count limit first left w before → Run P w (replicate n 0) now → after ≡ before ++ replicate n 0 →
+    n ≤ left → (n ≡ 0) ⊎ (count ≡ 1) → GoOn P count limit first (left - n) now after
+alone_goes_on P count limit left zero first w now before after on run recorded fits alone rest last turns =
+    let whole : after ≡ before = recorded ∙ append-nil before in
+    rw whole (on rest last (subst (λ (v : World). Turns P count left v rest last) (sym run) (subst (λ k. Turns P count k now rest last) (none_less left) turns)))
+alone_goes_on P count limit left (suc n) first w now before after on run recorded fits (inl none) rest last turns = absurd (omega (arith, none))
+alone_goes_on P count limit left (suc n) first w now before after on run recorded fits (inr one) rest last turns =
+    let strides = stride_turns P (suc n) left w now last rest run fits (subst (λ k. Turns P k (left - suc n) now rest last) one turns) in
+    let joined : before ++ (replicate (suc n) 0 ++ rest) ≡ after ++ rest = sym (append_assoc before (replicate (suc n) 0) rest) ∙ ap (λ s. s ++ rest) (sym recorded) in
+    subst (λ (s : List ℕ). Turns P count limit first s last) joined
+        (on (replicate (suc n) 0 ++ rest) last (subst (λ k. Turns P k left w (replicate (suc n) 0 ++ rest) last) (sym one) strides))
+
+pub stride_goes_on : (P : Program) (count threads limit left n : ℕ) (first w now : World) (before after : List ℕ) → threads ≡ count → GoOn P count limit first left w before →
+    IsStride P threads w left n now before after → GoOn P count limit first (left - n) now after
+stride_goes_on P count threads limit left n first w now before after is on s =
+    alone_goes_on P count limit left n first w now before after on s.run s.recorded s.bounded (subst (λ k. (n ≡ 0) ⊎ (k ≡ 1)) is s.alone)
+
+pub stride_counts : (P : Program) (count left n : ℕ) (first now : World) (before after : List ℕ) → IsStride P count first left n now before after → length after ≡ length before + n
+stride_counts P count left n first now before after s = omega (arith, ap length s.recorded, length-append before (replicate n 0), length-replicate {A = ℕ} n 0)
+
+pub no_stride : (P : Program) (count most : ℕ) (w : World) (before : List ℕ) → IsStride P count w most 0 w before before
+no_stride P count most w before =
+    let bounded : 0 ≤ most = omega arith in
+    record { run = refl; recorded = sym (append-nil before); bounded = bounded; alone = inl refl }
+
+pub a_stride : (P : Program) (count most done : ℕ) (w now : World) (before after : List ℕ) → count ≡ 1 → Run P w (replicate done 0) now → after ≡ before ++ replicate done 0 → done ≤ most →
+    IsStride P count w most done now before after
+a_stride P count most done w now before after one run recorded bounded = record { run = run; recorded = recorded; bounded = bounded; alone = inr one }

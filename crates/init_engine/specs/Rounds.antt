@@ -1,7 +1,7 @@
 -- Turns: in each round threads 0, 1, .. take one step each if they have one. It ends after a round without a step, or at the limit.
-use Rattle.std.specs.Prelude.{◌≡◌, ℕ, ◌+◌, ◌-◌, ◌<◌, ◌≤◌, ◌⊎◌, Bool, true, false, List, [], ◌∷◌, ◌++◌, Some, None, length}
+use Rattle.std.specs.Prelude.{◌≡◌, ℕ, ◌+◌, ◌-◌, ◌<◌, ◌≤◌, ◌⊎◌, Bool, true, false, List, [], ◌∷◌, ◌++◌, Some, None, length, replicate}
 use Rattle.semantics.specs.Programs.{Program}
-use Rattle.semantics.specs.Worlds.{World, step}
+use Rattle.semantics.specs.Worlds.{World, Run, step}
 
 -- From the first world the threads below a number were asked in order, with fewer than so many steps done before each. This is the
 -- schedule of those that had a step, and it leads to this world.
@@ -40,3 +40,10 @@ pub record IsRound (P : Program) (first : World) (most count done : ℕ) (now : 
   pub within : asked ≤ count
   pub bounded : done ≤ most
   pub complete : (done ≡ most) ⊎ (asked ≡ count)
+
+-- rounds of one step of the only thread, if there were any
+pub record IsStride (P : Program) (count : ℕ) (first : World) (most done : ℕ) (now : World) (before after : List ℕ) : Type 0 where
+  pub run : Run P first (replicate done 0) now
+  pub recorded : after ≡ before ++ replicate done 0
+  pub bounded : done ≤ most
+  pub alone : (done ≡ 0) ⊎ (count ≡ 1)

@@ -1,12 +1,16 @@
 -- Threads as the definition has them, and what a turn of one says.
-use Rattle.std.specs.Prelude.{◌≡◌, ℕ, List, Option, Some, None}
+use Rattle.std.specs.Prelude.{◌≡◌, ◌⊎◌, ℕ, List, ◌∷◌, Option, Some, None}
 use Rattle.vm_state.specs.declared.shared.Shared.{Shared}
 use Rattle.vm_state.specs.declared.text.Line.{Line}
 use Rattle.vm_state.specs.SharedState.{SharedState, with_line}
 use Rattle.vm_state.specs.Shares.{shared_of}
-use Rattle.semantics.specs.Steps.{Thread as DefinedThread, Ended as HasEnded, After}
+use Rattle.semantics.specs.Steps.{Thread as DefinedThread, Going as IsGoingOn, Ended as HasEnded, After}
 use Rattle.vm_state.specs.declared.ends.Ending.{Ending}
 use Rattle.semantics.specs.Worlds.{ending}
+use Rattle.vm_state.specs.declared.frame.Frame.{Frame}
+use Rattle.vm_state.specs.declared.initialization.Frames.{Frames}
+use Rattle.machine.specs.Tables.{Tables}
+use Rattle.machine.specs.Strides.{local_run}
 use Rattle.init_engine.specs.declared.world.Thread.{Thread}
 use Rattle.init_engine.specs.declared.world.Thread.TheVariants.{Going, Ended}
 use Rattle.init_engine.specs.declared.world.Done.{Done}
@@ -50,3 +54,18 @@ StaysAsItWas Went old new before after = Unit {0}
 StaysAsItWas (Said text) old new before after = Unit {0}
 StaysAsItWas Waits old new before after = IsGoing old × IsUnchanged old new before after
 StaysAsItWas Over old new before after = HasEndedNow old × IsUnchanged old new before after
+
+-- the innermost frame, after so many steps of it alone
+abbrev pub AfterLocals : Tables → ℕ → Option Frame → Option Frame → Type 0
+AfterLocals P n None new = (n ≡ 0) × (new ≡ None)
+AfterLocals P n (Some f) None = ⊥
+AfterLocals P n (Some f) (Some g) = local_run P n f ≡ Some g
+
+abbrev pub TopRuns : Tables → ℕ → Frames → Frames → Type 0
+TopRuns P n old new = AfterLocals P n old.top new.top × (new ≡ record old { top = new.top })
+
+-- so many steps of the innermost frame alone
+abbrev pub RunsLocally : Tables → ℕ → Thread → Thread → Type 0
+RunsLocally P n (Ended end) new = (n ≡ 0) × (new ≡ Ended end)
+RunsLocally P n (Going old) (Ended end) = ⊥
+RunsLocally P n (Going old) (Going new) = TopRuns P n old new

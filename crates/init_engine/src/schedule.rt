@@ -1,6 +1,6 @@
 //! Schedules as they are recorded.
 
-ghost use Rattle.std.specs.Prelude.{◌≡◌, ◌+◌, ◌<◌, ◌^◌, ◌∷◌, [], ◌++◌, length, OnOk, IfOk};
+ghost use Rattle.std.specs.Prelude.{◌≡◌, ◌+◌, ◌<◌, ◌^◌, ◌∷◌, [], ◌++◌, length, replicate, OnOk, IfOk};
 ghost use Rattle.init_engine.specs.Schedules.{schedule_of, AreStints};
 
 use std::alloc::{AllocError, Global};
@@ -36,24 +36,25 @@ impl Schedule {
         }
     }
 
-    /// One more step, of a thread.
+    /// So many more steps, at least one, of a thread.
     #[inline(always)]
-    pub fn add(&mut self, thread: u32) -> Result<(), AllocError>
-        requires { length (schedule_of self.old) + 1 < 2 ^ 64 }
-        ensures { OnOk result (schedule_of self.new ≡ schedule_of self.old ++ thread ∷ []) }
+    pub fn add(&mut self, thread: u32, count: u64) -> Result<(), AllocError>
+        requires some { 0 < count }
+        requires room { length (schedule_of self.old) + count < 2 ^ 64 }
+        ensures { OnOk result (schedule_of self.new ≡ schedule_of self.old ++ replicate count thread) }
     {
         match self.last {
             Some((last, steps)) => {
                 if last == thread {
-                    self.last = Some((thread, steps + 1));
+                    self.last = Some((thread, steps + count));
                     return Ok(());
                 }
                 self.stints.push((last, steps))?;
-                self.last = Some((thread, 1));
+                self.last = Some((thread, count));
                 Ok(())
             }
             None => {
-                self.last = Some((thread, 1));
+                self.last = Some((thread, count));
                 Ok(())
             }
         }

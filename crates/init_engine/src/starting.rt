@@ -1,5 +1,12 @@
 //! The start of the lazy procedure.
 
+ghost use Rattle.std.specs.Prelude.{◌≡◌, ◌≢◌, ◌↔◌, ◌∷◌, [], length, Err, IfOk, IsSome, OnErr};
+ghost use Rattle.semantics.specs.Worlds.{argument, lazy_start};
+ghost use Rattle.machine.specs.Linked.{program_of};
+ghost use Rattle.machine.specs.Tables.{main_in};
+ghost use Rattle.init_engine.specs.Turns.{world_of};
+ghost use Rattle.init_engine.specs.Starts.{IsStart};
+
 use crate::fault::EntryFault;
 use crate::world::World;
 use classfile::ClassName;
@@ -17,7 +24,10 @@ fn entry_class(
     program: &Program,
     entry: usize,
     name: &ClassName,
-) -> Result<u32, EntryFault> {
+) -> Result<u32, EntryFault>
+    ensures main { IfOk result (λ class. IsSome (main_in program.now class)) }
+    ensures fault { result ≢ Err EntryFault.Count }
+{
     let Some(class) = program.class_named(alloc, name)? else {
         return Err(EntryFault::Unknown { entry });
     };
@@ -28,7 +38,9 @@ fn entry_class(
 }
 
 /// The array of no strings that `main` is called with.
-fn argument(alloc: Global) -> Object {
+fn argument(alloc: Global) -> Object
+    ensures { result ≡ argument }
+{
     Object {
         class: ClassId::Array(ArrayType {
             dimensions: 1,
@@ -40,7 +52,9 @@ fn argument(alloc: Global) -> Object {
 }
 
 /// The world of one thread that is about to need its entry class.
-fn start(alloc: Global, program: &Program, class: u32) -> Result<World, AllocError> {
+fn start(alloc: Global, program: &Program, class: u32) -> Result<World, AllocError>
+    ensures { IfOk result (λ w. world_of w ≡ lazy_start (program_of program.now) (class ∷ [])) }
+{
     let mut heap = Heap::new(alloc);
     heap.add_thread(alloc, argument(alloc))?;
     let shared = Shared {
@@ -61,7 +75,11 @@ impl World {
         alloc: Global,
         program: &Program,
         entries: &[ClassName],
-    ) -> Result<World, EntryFault> {
+    ) -> Result<World, EntryFault>
+        // The world is the start of a class that has such a `main`.
+        ensures start { IfOk result (λ w. IsStart program.now (world_of w)) }
+        ensures count { (result ≡ Err EntryFault.Count) ↔ (length entries.now ≢ 1) }
+    {
         match entries {
             [name] => {
                 let class = entry_class(alloc, program, 0, name)?;

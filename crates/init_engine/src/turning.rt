@@ -5,7 +5,7 @@ ghost use Rattle.semantics.specs.Worlds.{Run};
 ghost use Rattle.machine.specs.Linked.{program_of};
 ghost use Rattle.init_engine.specs.Turns.{world_of};
 ghost use Rattle.init_engine.specs.Schedules.{schedule_of, AreStints};
-ghost use Rattle.init_engine.specs.Rounds.{IsAsking, IsRound, Turns};
+ghost use Rattle.init_engine.specs.Rounds.{IsAsking, IsRound, IsStride, Turns};
 
 use crate::schedule::Schedule;
 use crate::world::{Turn, World};
@@ -28,7 +28,7 @@ fn ask(
 {
     match world.step(alloc, program, thread)? {
         Turn::Moved => {
-            schedule.add(thread)?;
+            schedule.add(thread, 1)?;
             Ok(true)
         }
         Turn::Waiting => Ok(false),
@@ -60,6 +60,28 @@ fn round(
     Ok(done)
 }
 
+/// Where there is one thread: instructions of its innermost frame alone, each of which is a round of one step.
+/// It answers how many there were.
+fn stride(
+    program: &Program,
+    world: &mut World,
+    schedule: &mut Schedule,
+    most: u64,
+) -> Result<u64, AllocError>
+    requires { length (schedule_of schedule.old) + most < 2 ^ 64 }
+    ensures stride { IfOk result (λ done. IsStride (program_of program.now) (length world.old.threads) (world_of world.old) most done (world_of world.new) (schedule_of schedule.old) (schedule_of schedule.new)) }
+    ensures threads { length world.new.threads ≡ length world.old.threads }
+{
+    if world.thread_count() != 1 {
+        return Ok(0);
+    }
+    let done = world.run_locals(program, 0, most);
+    if done > 0 {
+        schedule.add(0, done)?;
+    }
+    Ok(done)
+}
+
 /// Runs a world by turns, up to a round without a step or to so many steps. It answers the last world, and the
 /// schedule as stints: a thread, and how many steps it made in a row; neighbours are of different threads.
 pub fn turns(
@@ -78,6 +100,8 @@ pub fn turns(
     let mut schedule = Schedule::new(alloc);
     let mut left = limit;
     'rounds: loop {
+        let ahead = stride(program, &mut world, &mut schedule, left)?;
+        left -= ahead;
         let done = round(alloc, program, &mut world, &mut schedule, left)?;
         if done == 0 || done == left {
             return Ok((world, schedule.into_stints()?));

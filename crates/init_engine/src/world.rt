@@ -1,16 +1,18 @@
 //! Worlds: threads, what they share, and what they printed.
 
-ghost use Rattle.std.specs.Prelude.{◌≡◌, ◌<◌, ◌∷◌, [], ℕ, List, length, map, IfOk, OnOk, OnErr, Some, None};
+ghost use Rattle.std.specs.Prelude.{◌≡◌, ◌<◌, ◌≤◌, replicate, ◌∷◌, [], ℕ, List, length, map, IfOk, OnOk, OnErr, Some, None};
 ghost use Rattle.vm_state.specs.declared.text.Line.{Line};
 ghost use Rattle.vm_state.specs.Shares.{shared_of};
 ghost use Rattle.semantics.specs.Steps.{Going, step_thread};
-ghost use Rattle.semantics.specs.Worlds.{seen};
+ghost use Rattle.semantics.specs.Worlds.{Run, seen};
 ghost use Rattle.init_engine.specs.Sights.{IsSight};
+ghost use Rattle.init_engine.specs.Threads.{RunsLocally, TopRuns};
 ghost use Rattle.machine.specs.Linked.{program_of};
 ghost use Rattle.init_engine.specs.Threads.{thread_of, seen_of, HasNumber, left_by_going, StaysAsItWas};
 ghost use Rattle.init_engine.specs.Turns.{IsTurn, world_of};
 
 use crate::procedure::{Progress, step_thread};
+use machine::local::run_locals;
 use machine::program::Program;
 use std::alloc::{AllocError, Global};
 use std::marker::Model;
@@ -215,5 +217,43 @@ impl World {
             Ok(Done::Over) => Ok(Turn::Ended),
             Err(error) => Err(error),
         }
+    }
+
+    /// Runs instructions of a thread that touch its innermost frame alone, as long as the next is one and there were
+    /// fewer than so many, and answers how many steps that were.
+    pub fn run_locals(&mut self, program: &Program, thread: u32, most: u64) -> u64
+        requires { thread < length self.old.threads }
+        ensures run { Run (program_of program.now) (world_of self.old) (replicate result thread) (world_of self.new) }
+        ensures most { result ≤ most }
+        ensures threads { length self.new.threads ≡ length self.old.threads }
+    {
+        let running = &mut self.threads[thread as usize];
+        run_thread(program, running, most)
+    }
+}
+
+/// Runs instructions that touch the innermost frame alone.
+fn run_top(program: &Program, frames: &mut Frames, most: u64) -> u64
+    ensures run { TopRuns program.now result frames.old frames.new }
+    ensures most { result ≤ most }
+{
+    let Some(frame) = frames.top.take() else {
+        return 0;
+    };
+    let mut frame = frame;
+    let count = run_locals(program, &mut frame, most);
+    frames.top = Some(frame);
+    count
+}
+
+/// Runs instructions of a thread that touch its innermost frame alone.
+fn run_thread(program: &Program, thread: &mut Thread, most: u64) -> u64
+    ensures run { RunsLocally program.now result thread.old thread.new }
+    ensures most { result ≤ most }
+    ensures number { (t : ℕ) → HasNumber thread.old t → HasNumber thread.new t }
+{
+    match thread {
+        Thread::Going(frames) => run_top(program, frames, most),
+        Thread::Ended(_) => 0,
     }
 }

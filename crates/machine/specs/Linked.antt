@@ -1,10 +1,12 @@
 -- The linked program, as the initialization procedure and its threads ask of it.
-use Rattle.std.specs.Prelude.{ℕ, ◌+◌, List, [], ◌∷◌, Option, Some, None, Bool, false, ◌==◌, if◌then◌else◌, replicate}
+use Rattle.std.specs.Prelude.{ℕ, ◌+◌, List, [], ◌∷◌, Option, Some, None, Bool, false, ◌==◌, if◌then◌else◌, replicate, map}
 use Rattle.vm_state.specs.declared.value.Value.TheVariants.{OfThread}
 use Rattle.vm_state.specs.declared.ends.FaultKind.TheVariants.{Unsupported}
 use Rattle.vm_state.specs.declared.frame.Frame.{Frame}
 use Rattle.vm_state.specs.declared.frame.Activity.{Activity}
 use Rattle.vm_state.specs.declared.frame.Activity.TheVariants.{Start, Method}
+use Rattle.vm_state.specs.declared.classes.ClassArea.{ClassArea}
+use Rattle.vm_state.specs.Statics.{blank_area}
 use Rattle.semantics.specs.Programs.{Program}
 use Rattle.machine.specs.declared.program.Class.{Class}
 use Rattle.machine.specs.declared.program.Implementation.{Implementation}
@@ -46,6 +48,11 @@ initialized_by P (Method m) = initialized_from 0 P.classes m
 
 abbrev pub start_frame : ℕ → ℕ → Frame
 start_frame c t = record { activity = Start c; place = 0; locals = []; operands = record { free = 0; values = OfThread t 0 ∷ [] } }
+
+-- ---- before any class is initialized
+
+abbrev pub blank_areas : List Class → List ClassArea
+blank_areas classes = map (λ (k : Class). blank_area k.statics) classes
 
 -- Exceptions come later: a class whose initialization fails ends its thread.
 abbrev pub program_of : Tables → Program

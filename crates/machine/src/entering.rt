@@ -1,7 +1,7 @@
 //! The first frames of threads and of class initialization methods.
 
 ghost use Rattle.std.specs.Prelude.{◌≡◌, IfOk, Some, OnOk};
-ghost use Rattle.machine.specs.Linked.{initializer_frame, start_frame};
+ghost use Rattle.machine.specs.Linked.{blank_areas, initializer_frame, start_frame};
 
 use crate::program::{Implementation, Program};
 use std::alloc::{AllocError, Global};
@@ -50,9 +50,12 @@ pub fn start_frame(alloc: Global, class: u32, thread: u32) -> Result<Frame, Allo
 }
 
 /// The states and static fields of the program's classes before any is initialized.
-pub fn blank_classes(alloc: Global, program: &Program) -> Result<Classes, AllocError> {
+pub fn blank_classes(alloc: Global, program: &Program) -> Result<Classes, AllocError>
+    ensures { IfOk result (λ r. r ≡ blank_areas program.now.classes) }
+{
     let mut classes = Classes::new(alloc);
-    for class in &program.classes {
+    let given = program.classes.as_slice();
+    for class in given {
         classes.add(alloc, class.statics.as_slice())?;
     }
     Ok(classes)

@@ -1,12 +1,14 @@
-//! Instructions that touch their own frame alone. A fault leaves the frame anyhow: its thread ends.
+//! Instructions that touch their own frame alone. After a fault the frame is as it was.
 
-ghost use Rattle.std.specs.Prelude.{◌≡◌, Some, None, OnOk, OnErr};
+ghost use Rattle.std.specs.Prelude.{◌≡◌, ◌≤◌, Some, None, IfOk, OnOk, OnErr};
 ghost use Rattle.std.specs.Int.{w32, int_wrapping_neg};
 ghost use Rattle.machine.specs.IntOperations.{applied};
-ghost use Rattle.machine.specs.Locally.{pushes, load_int, store_int, increment, on_int, on_ints, if_int, if_ints, jumps, branches, advanced, local_after};
+ghost use Rattle.machine.specs.Locally.{pushes, load_int, store_int, increment, on_int, on_ints, if_int, if_ints, jumps, leads_to, advanced, local_after};
+ghost use Rattle.machine.specs.Strides.{local_run};
 
-use crate::instruction::{Comparison, IntOperator, Local};
-use vm_state::frame::Frame;
+use crate::instruction::{Comparison, Instruction, IntOperator, Local};
+use crate::program::Program;
+use vm_state::frame::{Activity, Frame};
 use vm_state::value::{Fault, Value};
 
 /// Goes on at the next instruction.
@@ -22,6 +24,8 @@ pub fn advance(frame: &mut Frame)
 pub fn push(frame: &mut Frame, value: Value) -> Result<(), Fault>
     ensures ok { OnOk result (pushes frame.old value frame.old.operands ≡ Some frame.new) }
     ensures err { OnErr result (pushes frame.old value frame.old.operands ≡ None) }
+    ensures same { OnErr result (frame.new ≡ frame.old) }
+    ensures activity { frame.new.activity ≡ frame.old.activity }
 {
     frame.operands.push(value)?;
     advance(frame);
@@ -32,6 +36,8 @@ pub fn push(frame: &mut Frame, value: Value) -> Result<(), Fault>
 fn load_int(frame: &mut Frame, at: u16) -> Result<(), Fault>
     ensures ok { OnOk result (load_int at frame.old ≡ Some frame.new) }
     ensures err { OnErr result (load_int at frame.old ≡ None) }
+    ensures same { OnErr result (frame.new ≡ frame.old) }
+    ensures activity { frame.new.activity ≡ frame.old.activity }
 {
     let number = frame.locals.int_at(at)?;
     push(frame, Value::Int(number))
@@ -41,9 +47,12 @@ fn load_int(frame: &mut Frame, at: u16) -> Result<(), Fault>
 fn store_int(frame: &mut Frame, at: u16) -> Result<(), Fault>
     ensures ok { OnOk result (store_int at frame.old ≡ Some frame.new) }
     ensures err { OnErr result (store_int at frame.old ≡ None) }
+    ensures same { OnErr result (frame.new ≡ frame.old) }
+    ensures activity { frame.new.activity ≡ frame.old.activity }
 {
-    let number = frame.operands.pop_int()?;
+    let number = frame.operands.top_int()?;
     frame.locals.store(at, Value::Int(number))?;
+    frame.operands.drop_top();
     advance(frame);
     Ok(())
 }
@@ -52,6 +61,8 @@ fn store_int(frame: &mut Frame, at: u16) -> Result<(), Fault>
 fn increment(frame: &mut Frame, at: u16, by: i32) -> Result<(), Fault>
     ensures ok { OnOk result (increment at by frame.old ≡ Some frame.new) }
     ensures err { OnErr result (increment at by frame.old ≡ None) }
+    ensures same { OnErr result (frame.new ≡ frame.old) }
+    ensures activity { frame.new.activity ≡ frame.old.activity }
 {
     let number = frame.locals.int_at(at)?;
     frame.locals.store(at, Value::Int(number.wrapping_add(by)))?;
@@ -59,48 +70,54 @@ fn increment(frame: &mut Frame, at: u16, by: i32) -> Result<(), Fault>
     Ok(())
 }
 
+#[tactic(auto, using(vm_state::proofs::OperandLemmas::room_for_two))]
 #[inline(always)]
 fn combine_ints(frame: &mut Frame, operator: IntOperator) -> Result<(), Fault>
     ensures ok { OnOk result (on_ints (applied operator) frame.old ≡ Some frame.new) }
     ensures err { OnErr result (on_ints (applied operator) frame.old ≡ None) }
+    ensures same { OnErr result (frame.new ≡ frame.old) }
+    ensures activity { frame.new.activity ≡ frame.old.activity }
 {
-    let right = frame.operands.pop_int()?;
-    let left = frame.operands.pop_int()?;
+    let right = frame.operands.top_int()?;
+    let left = frame.operands.second_int()?;
+    frame.operands.drop_top();
+    frame.operands.drop_top();
     push(frame, Value::Int(operator.apply(left, right)))
 }
 
+#[tactic(auto, using(vm_state::proofs::OperandLemmas::room_for_one))]
 #[inline(always)]
 fn negate_int(frame: &mut Frame) -> Result<(), Fault>
     ensures ok { OnOk result (on_int (int_wrapping_neg w32) frame.old ≡ Some frame.new) }
     ensures err { OnErr result (on_int (int_wrapping_neg w32) frame.old ≡ None) }
+    ensures same { OnErr result (frame.new ≡ frame.old) }
+    ensures activity { frame.new.activity ≡ frame.old.activity }
 {
-    let number = frame.operands.pop_int()?;
+    let number = frame.operands.top_int()?;
+    frame.operands.drop_top();
     push(frame, Value::Int(number.wrapping_neg()))
+}
+
+/// Where a branch leads: to its target where it is taken, and else to the next instruction.
+#[inline(always)]
+fn destination(place: u32, taken: bool, to: Option<u32>) -> Result<u32, Fault>
+    ensures ok { IfOk result (λ p. leads_to taken to place ≡ Some p) }
+    ensures err { OnErr result (leads_to taken to place ≡ None) }
+{
+    if taken {
+        return to.ok_or(Fault);
+    }
+    Ok(place.wrapping_add(1))
 }
 
 #[inline(always)]
 fn jump(frame: &mut Frame, to: Option<u32>) -> Result<(), Fault>
     ensures ok { OnOk result (jumps to frame.old ≡ Some frame.new) }
     ensures err { OnErr result (jumps to frame.old ≡ None) }
+    ensures same { OnErr result (frame.new ≡ frame.old) }
+    ensures activity { frame.new.activity ≡ frame.old.activity }
 {
-    match to {
-        Some(place) => {
-            frame.place = place;
-            Ok(())
-        }
-        None => Err(Fault),
-    }
-}
-
-#[inline(always)]
-fn branch(frame: &mut Frame, taken: bool, to: Option<u32>) -> Result<(), Fault>
-    ensures ok { OnOk result (branches taken to frame.old ≡ Some frame.new) }
-    ensures err { OnErr result (branches taken to frame.old ≡ None) }
-{
-    if taken {
-        return jump(frame, to);
-    }
-    advance(frame);
+    frame.place = to.ok_or(Fault)?;
     Ok(())
 }
 
@@ -108,27 +125,40 @@ fn branch(frame: &mut Frame, taken: bool, to: Option<u32>) -> Result<(), Fault>
 fn if_int(frame: &mut Frame, by: Comparison, to: Option<u32>) -> Result<(), Fault>
     ensures ok { OnOk result (if_int by to frame.old ≡ Some frame.new) }
     ensures err { OnErr result (if_int by to frame.old ≡ None) }
+    ensures same { OnErr result (frame.new ≡ frame.old) }
+    ensures activity { frame.new.activity ≡ frame.old.activity }
 {
-    let number = frame.operands.pop_int()?;
-    branch(frame, by.holds(number, 0), to)
+    let number = frame.operands.top_int()?;
+    let place = destination(frame.place, by.holds(number, 0), to)?;
+    frame.operands.drop_top();
+    frame.place = place;
+    Ok(())
 }
 
 #[inline(always)]
 fn if_ints(frame: &mut Frame, by: Comparison, to: Option<u32>) -> Result<(), Fault>
     ensures ok { OnOk result (if_ints by to frame.old ≡ Some frame.new) }
     ensures err { OnErr result (if_ints by to frame.old ≡ None) }
+    ensures same { OnErr result (frame.new ≡ frame.old) }
+    ensures activity { frame.new.activity ≡ frame.old.activity }
 {
-    let right = frame.operands.pop_int()?;
-    let left = frame.operands.pop_int()?;
-    branch(frame, by.holds(left, right), to)
+    let right = frame.operands.top_int()?;
+    let left = frame.operands.second_int()?;
+    let place = destination(frame.place, by.holds(left, right), to)?;
+    frame.operands.drop_top();
+    frame.operands.drop_top();
+    frame.place = place;
+    Ok(())
 }
 
-/// One instruction that touches its own frame alone.
+/// One instruction that touches its own frame alone. After a fault the frame is as it was.
 #[tactic(auto, unfolding(crate::specs::Locally::local_after))]
 #[inline(always)]
 pub fn execute_local(frame: &mut Frame, instruction: Local) -> Result<(), Fault>
     ensures ok { OnOk result (local_after instruction frame.old ≡ Some frame.new) }
     ensures err { OnErr result (local_after instruction frame.old ≡ None) }
+    ensures same { OnErr result (frame.new ≡ frame.old) }
+    ensures activity { frame.new.activity ≡ frame.old.activity }
 {
     match instruction {
         Local::Nop => {
@@ -145,4 +175,26 @@ pub fn execute_local(frame: &mut Frame, instruction: Local) -> Result<(), Fault>
         Local::IfInts(by, to) => if_ints(frame, by, to),
         Local::Goto(to) => jump(frame, to),
     }
+}
+
+/// Executes instructions that touch this frame alone, as long as the next is one and there were fewer than so many,
+/// and answers how many there were. A fault is left to whoever executes the next instruction.
+pub fn run_locals(program: &Program, frame: &mut Frame, most: u64) -> u64
+    ensures run { local_run program.now result frame.old ≡ Some frame.new }
+    ensures most { result ≤ most }
+{
+    let Activity::Method(method) = frame.activity else {
+        return 0;
+    };
+    let mut count = 0;
+    while count < most {
+        let Some(Instruction::Local(local)) = program.instruction(method, frame.place) else {
+            break;
+        };
+        if execute_local(frame, local).is_err() {
+            break;
+        }
+        count += 1;
+    }
+    count
 }

@@ -133,7 +133,8 @@ impl Program {
     pub fn implementation(&self, method: u32) -> Option<&Implementation>
         ensures { option_copied result ≡ implementation_at self.now method }
     {
-        self.methods.get(method as usize)
+        let number = method as usize;
+        self.methods.get(number)
     }
 
     /// The static fields of a class, in order; none of a class that is not there.

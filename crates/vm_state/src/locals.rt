@@ -44,12 +44,13 @@ impl Locals {
         }
     }
 
-    /// Stores a value of one place; a fault where there is no such variable.
+    /// Stores a value of one place; a fault, and nothing changed, where there is no such variable.
     #[tactic(auto, unfolding(crate::specs::Locals::stored))]
     #[inline(always)]
     pub fn store(&mut self, at: u16, value: Value) -> Result<(), Fault>
         ensures ok { OnOk result (stored self.old at value ≡ Some self.new) }
         ensures err { OnErr result (stored self.old at value ≡ None) }
+        ensures same { OnErr result (self.new ≡ self.old) }
     {
         let at = at as usize;
         if at >= self.variables.len() {

@@ -49,12 +49,13 @@ impl Operands {
         Ok(Operands { values, free: 0 })
     }
 
-    /// Puts a value on top; a fault where there is no room for it.
+    /// Puts a value on top; a fault, and nothing changed, where there is no room for it.
     #[tactic(auto, unfolding(crate::specs::Operands::pushed))]
     #[inline(always)]
     pub fn push(&mut self, value: Value) -> Result<(), Fault>
         ensures fits { OnOk result (pushed value self.old ≡ Some self.new) }
         ensures full { OnErr result (pushed value self.old ≡ None) }
+        ensures same { OnErr result (self.new ≡ self.old) }
     {
         let places = value.places();
         if self.free < places {
@@ -63,38 +64,6 @@ impl Operands {
         self.free -= places;
         self.values.push_reserved(value);
         Ok(())
-    }
-
-    /// Takes the value on top; a fault where there is none.
-    #[tactic(auto, unfolding(crate::specs::Operands::top, crate::specs::Operands::rest))]
-    #[inline(always)]
-    pub fn pop(&mut self) -> Result<Value, Fault>
-        ensures ok { IfOk result (λ v. (top self.old ≡ Some v) × (self.new ≡ rest self.old)) }
-        ensures err { OnErr result (top self.old ≡ None) }
-    {
-        match self.values.pop() {
-            Some(value) => {
-                self.free += value.places();
-                Ok(value)
-            }
-            None => Err(Fault),
-        }
-    }
-
-    /// Takes the int on top; a fault where no int is there.
-    #[tactic(auto, unfolding(crate::specs::Operands::top, crate::specs::Operands::rest))]
-    #[inline(always)]
-    pub fn pop_int(&mut self) -> Result<i32, Fault>
-        ensures ok { IfOk result (λ n. (top_int self.old ≡ Some n) × (self.new ≡ rest self.old)) }
-        ensures err { OnErr result (top_int self.old ≡ None) }
-    {
-        match self.values.pop() {
-            Some(Value::Int(number)) => {
-                self.free += 1;
-                Ok(number)
-            }
-            _ => Err(Fault),
-        }
     }
 
     /// The value on top, which stays.
@@ -127,6 +96,15 @@ impl Operands {
             return Err(Fault);
         }
         Ok(self.values[count - 2])
+    }
+
+    /// The int below the top, which stays.
+    #[inline(always)]
+    pub fn second_int(&self) -> Result<i32, Fault>
+        ensures ok { IfOk result (λ n. top_int (rest self.now) ≡ Some n) }
+        ensures err { OnErr result (top_int (rest self.now) ≡ None) }
+    {
+        self.second()?.int()
     }
 
     /// Takes the top off, where there is one.
