@@ -112,7 +112,7 @@ frame_runs P n threads shared printed t s f g at run =
     let after : Thread = Going (record s { top = Some g }) in
     let whole = runs_local P n (world_with threads shared printed) t f g s.callers (levels_of s) (thread_at threads t (Going (record s { top = Some f })) at) run in
     subst (λ (ts : List DefinedThread). Run (program_of P) (world_with threads shared printed) (replicate n t) (record { shared = shared_of shared printed; threads = ts }))
-        (sym (map-set thread_of threads t after)) whole
+    (sym (map-set thread_of threads t after)) whole
 
 top_runs : (P : Tables) (n : ℕ) (threads : List Thread) (shared : Shared) (printed : List Line) (t : ℕ) (s r : Frames) (before after : Option Frame) → s.top ≡ before → r.top ≡ after →
     AfterLocals P n before after → r ≡ record s { top = r.top } → slice_get threads t ≡ Some (Going s) →
@@ -120,19 +120,19 @@ top_runs : (P : Tables) (n : ℕ) (threads : List Thread) (shared : Shared) (pri
 top_runs P n threads shared printed t s r None after was is (none, left) rest at =
     let same : s ≡ r = ap (λ (x : Option Frame). record s { top = x }) (was ∙ (sym left ∙ sym is)) ∙ sym rest in
     subst (λ (x : Frames). Run (program_of P) (world_with threads shared printed) (replicate n t) (world_with (slice_set threads t (Going x)) shared printed)) same
-        (nothing_run P threads shared printed n t (Going s) at none)
+    (nothing_run P threads shared printed n t (Going s) at none)
 top_runs P n threads shared printed t s r (Some f) None was is run rest at = absurd run
 top_runs P n threads shared printed t s r (Some f) (Some g) was is run rest at =
     let began : s ≡ record s { top = Some f } = ap (λ (x : Option Frame). record s { top = x }) was in
     let left : record s { top = Some g } ≡ r = ap (λ (x : Option Frame). record s { top = x }) (sym is) ∙ sym rest in
     subst (λ (x : Frames). Run (program_of P) (world_with threads shared printed) (replicate n t) (world_with (slice_set threads t (Going x)) shared printed)) left
-        (frame_runs P n threads shared printed t s f g (at ∙ ap (λ (x : Frames). Some (Going x)) began) run)
+    (frame_runs P n threads shared printed t s f g (at ∙ ap (λ (x : Frames). Some (Going x)) began) run)
 
 thread_runs : (P : Tables) (n : ℕ) (threads : List Thread) (shared : Shared) (printed : List Line) (t : ℕ) (old new : Thread) → slice_get threads t ≡ Some old → RunsLocally P n old new →
     Run (program_of P) (world_with threads shared printed) (replicate n t) (world_with (slice_set threads t new) shared printed)
 thread_runs P n threads shared printed t (Ended end) new at (none, same) =
     subst (λ (x : Thread). Run (program_of P) (world_with threads shared printed) (replicate n t) (world_with (slice_set threads t x) shared printed)) (sym same)
-        (nothing_run P threads shared printed n t (Ended end) at none)
+    (nothing_run P threads shared printed n t (Ended end) at none)
 thread_runs P n threads shared printed t (Going s) (Ended end) at h = absurd h
 thread_runs P n threads shared printed t (Going s) (Going r) at (run, rest) = top_runs P n threads shared printed t s r s.top r.top refl refl run rest at
 

@@ -137,7 +137,7 @@ alone_goes_on P count limit left (suc n) first w now before after on run recorde
     let strides = stride_turns P (suc n) left w now last rest run fits (subst (λ k. Turns P k (left - suc n) now rest last) one turns) in
     let joined : before ++ (replicate (suc n) 0 ++ rest) ≡ after ++ rest = sym (append_assoc before (replicate (suc n) 0) rest) ∙ ap (λ s. s ++ rest) (sym recorded) in
     subst (λ (s : List ℕ). Turns P count limit first s last) joined
-        (on (replicate (suc n) 0 ++ rest) last (subst (λ k. Turns P k left w (replicate (suc n) 0 ++ rest) last) (sym one) strides))
+    (on (replicate (suc n) 0 ++ rest) last (subst (λ k. Turns P k left w (replicate (suc n) 0 ++ rest) last) (sym one) strides))
 
 pub stride_goes_on : (P : Program) (count threads limit left n : ℕ) (first w now : World) (before after : List ℕ) → threads ≡ count → GoOn P count limit first left w before →
     IsStride P threads w left n now before after → GoOn P count limit first (left - n) now after

@@ -74,14 +74,14 @@ pub start_shared : (P : Tables) (c : ℕ) → shared_of (record { classes = blan
 unfolding shared_of
 start_shared P c =
     ap (λ states. shared_by states (λ d. region (fields_of (blank_areas P.classes) d) (pool_in [] d)) (pool_in ((argument ∷ []) ∷ []))) (states-blank P.classes)
-        ∙ (ap (λ (regions : ℕ → Region). shared_by (λ d. Not) regions (pool_in ((argument ∷ []) ∷ []))) (fun_ext (blank_region-is P))
-        ∙ ap (λ (pools : ℕ → Pool). shared_by (λ d. Not) (blank_region (program_of P)) pools) (fun_ext pool_at))
+    ∙ (ap (λ (regions : ℕ → Region). shared_by (λ d. Not) regions (pool_in ((argument ∷ []) ∷ []))) (fun_ext (blank_region-is P))
+    ∙ ap (λ (pools : ℕ → Pool). shared_by (λ d. Not) (blank_region (program_of P)) pools) (fun_ext pool_at))
 
 pub one_thread : (none some : Objects) (first : Object) → none ≡ record { classes = []; threads = [] } → first ≡ argument → some ≡ record none { threads = none.threads ++ (first ∷ []) ∷ [] } →
     some ≡ record { classes = []; threads = (argument ∷ []) ∷ [] }
 one_thread none some first empty is more =
     more ∙ (ap (λ (h : Objects). record h { threads = h.threads ++ (first ∷ []) ∷ [] }) empty
-        ∙ ap (λ (o : Object). record { classes = []; threads = (o ∷ []) ∷ [] }) is)
+    ∙ ap (λ (o : Object). record { classes = []; threads = (o ∷ []) ∷ [] }) is)
 
 abbrev world_by : SharedState → Frame → World
 world_by shared frame = record { shared = shared; threads = Going (frame ∷ []) [] ∷ [] }
@@ -95,4 +95,4 @@ started P c frame classes heap r is-frame are-classes is-heap =
     let objects = ap (λ (h : Objects). world_by (shared_of (record { classes = blank_areas P.classes; heap = h }) []) (start_frame c 0)) is-heap in
     let tables = ap (λ (sh : SharedState). world_by sh (start_frame c 0)) (start_shared P c) in
     IfOk-weaker r (λ w. world_of w ≡ world_by (shared_of (record { classes = classes; heap = heap }) []) frame) (λ w. world_of w ≡ lazy_start (program_of P) (c ∷ []))
-        (λ w same. same ∙ (threads ∙ (blank ∙ (objects ∙ tables))))
+    (λ w same. same ∙ (threads ∙ (blank ∙ (objects ∙ tables))))

@@ -16,9 +16,9 @@ longer t n m =
 pub schedule_of-longer : (xs : List (ℕ × ℕ)) (t n m : ℕ) → schedule_of (xs ++ (t, n + m) ∷ []) ≡ schedule_of (xs ++ (t, n) ∷ []) ++ replicate m t
 schedule_of-longer xs t n m =
     schedule_of-append xs ((t, n + m) ∷ [])
-        ∙ (ap (λ r. schedule_of xs ++ r) (longer t n m)
-        ∙ (sym (append_assoc (schedule_of xs) (replicate n t ++ []) (replicate m t))
-        ∙ ap (λ r. r ++ replicate m t) (sym (schedule_of-append xs ((t, n) ∷ [])))))
+    ∙ (ap (λ r. schedule_of xs ++ r) (longer t n m)
+    ∙ (sym (append_assoc (schedule_of xs) (replicate n t ++ []) (replicate m t))
+    ∙ ap (λ r. r ++ replicate m t) (sym (schedule_of-append xs ((t, n) ∷ [])))))
 
 -- steps of another thread
 pub schedule_of-more : (xs : List (ℕ × ℕ)) (t m : ℕ) → schedule_of (xs ++ (t, m) ∷ []) ≡ schedule_of xs ++ replicate m t

@@ -37,9 +37,9 @@ pub steps_to : (P : Program) (threads : List Thread) (before after : Shared) (pr
     step P (world_with threads before printed) i ≡ Some (world_with (slice_set threads i new) after more)
 steps_to P threads before after printed more sh i old new at is stepped =
     stepping P threads before printed i old at
-        ∙ (ap (put_thread (world_with threads before printed) i) stepped
-        ∙ (ap (λ (s : SharedState). Some (record { shared = s; threads = slice_set (map thread_of threads) i (thread_of new) })) is
-        ∙ ap (λ ts. Some (record { shared = shared_of after more; threads = ts })) (sym (map-set thread_of threads i new))))
+    ∙ (ap (put_thread (world_with threads before printed) i) stepped
+    ∙ (ap (λ (s : SharedState). Some (record { shared = s; threads = slice_set (map thread_of threads) i (thread_of new) })) is
+    ∙ ap (λ ts. Some (record { shared = shared_of after more; threads = ts })) (sym (map-set thread_of threads i new))))
 
 pub more_printed : (s : Shared) (printed : List Line) (line : Line) → with_line (shared_of s printed) line ≡ shared_of s (printed ++ line ∷ [])
 unfolding shared_of
@@ -53,7 +53,7 @@ pub stays_same : (threads : List Thread) (before after : Shared) (printed : List
     world_with (slice_set threads i new) after printed ≡ world_with threads before printed
 stays_same threads before after printed i old new at (same, shared) =
     ap (λ (s : SharedState). record { shared = s; threads = map thread_of (slice_set threads i new) }) (shared printed)
-        ∙ ap (λ ts. record { shared = shared_of before printed; threads = ts }) (map-set_same thread_of threads i new old (same ∙ ap thread_of (sym (get_or_from_slice_get threads i old old at))))
+    ∙ ap (λ ts. record { shared = shared_of before printed; threads = ts }) (map-set_same thread_of threads i new old (same ∙ ap thread_of (sym (get_or_from_slice_get threads i old old at))))
 
 -- ---- going or ended
 
@@ -98,16 +98,18 @@ module _ {P : Program} {threads : List Thread} {before after : Shared} {i : ℕ}
       steps_to P threads before after printed (printed ++ line ∷ []) (with_line (shared_of after printed) line) i old new h.at (more_printed after printed line) (h.steps i (h.numbered i old h.at) printed)
 
   pub waits : (printed : List Line) → Turned P threads before after i old new Waits → IsTurn P (world_with threads before printed) i Waiting (world_with (slice_set threads i new) after printed)
-  waits printed h =
-      (goes_at threads i old h.at h.stays.0,
-       has_no_step P threads before printed i old h.at (h.steps i (h.numbered i old h.at) printed),
-       stays_same threads before after printed i old new h.at h.stays.1)
+  waits printed h = (
+    goes_at threads i old h.at h.stays.0,
+    has_no_step P threads before printed i old h.at (h.steps i (h.numbered i old h.at) printed),
+    stays_same threads before after printed i old new h.at h.stays.1,
+  )
 
   pub over : (printed : List Line) → Turned P threads before after i old new Over → IsTurn P (world_with threads before printed) i EndedTurn (world_with (slice_set threads i new) after printed)
-  over printed h =
-      (over_at threads i old h.at h.stays.0,
-       has_no_step P threads before printed i old h.at (h.steps i (h.numbered i old h.at) printed),
-       stays_same threads before after printed i old new h.at h.stays.1)
+  over printed h = (
+    over_at threads i old h.at h.stays.0,
+    has_no_step P threads before printed i old h.at (h.steps i (h.numbered i old h.at) printed),
+    stays_same threads before after printed i old new h.at h.stays.1,
+  )
 
 pub refused : (threads : List Thread) (before after : Shared) (printed : List Line) (i : ℕ) (old new : Thread) → i < length threads → old ≡ get_or threads i old → IsUnchanged old new before after →
     world_with (slice_set threads i new) after printed ≡ world_with threads before printed

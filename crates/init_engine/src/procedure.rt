@@ -11,8 +11,8 @@ ghost use Rattle.machine.specs.Linked.{program_of, initializer_frame};
 ghost use Rattle.machine.specs.Tables.{statics_in};
 ghost use Rattle.init_engine.specs.Progress.{Stands, Steps, StaysPut, IsSame, left_by_step};
 
-use machine::execute::effect;
 use machine::entering::initializer_frame;
+use machine::execute::effect;
 use machine::kinds::Effect;
 use machine::program::Program;
 use std::alloc::{AllocError, Global};
@@ -134,11 +134,7 @@ fn finish(
 }
 
 /// Fail (steps 7 and 11): the class of the highest entry is erroneous. Until exceptions are there its thread ends with it.
-fn fail(
-    alloc: Global,
-    shared: &mut Shared,
-    class: u32,
-) -> Result<Progress, AllocError>
+fn fail(alloc: Global, shared: &mut Shared, class: u32) -> Result<Progress, AllocError>
     ensures answer { IfOk result (λ r. r ≡ Progress.Ended (End.Faulted FaultKind.Unsupported)) }
     ensures ok { OnOk result ((p : List Line) → shared_of shared.new p ≡ set_state (shared_of shared.old p) class ClassState.Erroneous) }
     ensures err { OnErr result ((p : List Line) → shared_of shared.new p ≡ shared_of shared.old p) }

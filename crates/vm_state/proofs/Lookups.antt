@@ -111,7 +111,7 @@ pub constants_below-next : (statics : List StaticField) (fields new old : ℕ �
     old ≡ constants_below statics fields i → new ≡ with_constant old i (get_or statics i d).constant → new ≡ constants_below statics fields (i + 1)
 constants_below-next statics fields new old i d h was is =
     is ∙ (ap (λ (f : ℕ → Value). with_constant f i (get_or statics i d).constant) was
-        ∙ constants_below-step statics fields i (get_or statics i d) (slice_get-get_or statics i d h))
+    ∙ constants_below-step statics fields i (get_or statics i d) (slice_get-get_or statics i d h))
 
 -- ---- one class changed, seen from what it was
 

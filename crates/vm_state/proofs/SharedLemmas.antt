@@ -13,7 +13,6 @@ use Rattle.vm_state.specs.SharedState.{Pool, Region, SharedState, set_region, se
 use Rattle.vm_state.specs.Shares.{shared_of, pool_in, begun}
 use Rattle.vm_state.proofs.Lookups.{tested}
 
-
 pub shared_of-kept : (s : Shared) (b : List ClassArea) → states_of b ≡ states_of s.classes → fields_of b ≡ fields_of s.classes →
     (p : List Line) → shared_of (record s { classes = b }) p ≡ shared_of s p
 unfolding shared_of
@@ -48,7 +47,7 @@ pub shared_of-fields : (s : Shared) (b : List ClassArea) (c : ℕ) (fs : ℕ →
 unfolding shared_of
 shared_of-fields s b c fs states fields p =
     ap (λ g. shared_by g (λ d. region (fields_of b d) (pool_in s.heap.classes d)) (pool_in s.heap.threads) p) states
-        ∙ ap (λ g. shared_by (states_of s.classes) g (pool_in s.heap.threads) p) (regions_with (fields_of s.classes) (pool_in s.heap.classes) c fs (fields_of b) fields)
+    ∙ ap (λ g. shared_by (states_of s.classes) g (pool_in s.heap.threads) p) (regions_with (fields_of s.classes) (pool_in s.heap.classes) c fs (fields_of b) fields)
 
 pub shared_of-begun : (s : Shared) (b : List ClassArea) (c t : ℕ) (statics : List StaticField) → states_of b ≡ with_state (states_of s.classes) c (By t) →
     fields_of b ≡ with_fields (fields_of s.classes) c (with_constants statics (fields_of s.classes c)) →
@@ -56,8 +55,8 @@ pub shared_of-begun : (s : Shared) (b : List ClassArea) (c t : ℕ) (statics : L
 unfolding shared_of
 shared_of-begun s b c t statics states fields p =
     ap (λ g. shared_by g (λ d. region (fields_of b d) (pool_in s.heap.classes d)) (pool_in s.heap.threads) p) states
-        ∙ ap (λ g. shared_by (with_state (states_of s.classes) c (By t)) g (pool_in s.heap.threads) p)
-          (regions_with (fields_of s.classes) (pool_in s.heap.classes) c (with_constants statics (fields_of s.classes c)) (fields_of b) fields)
+    ∙ ap (λ g. shared_by (with_state (states_of s.classes) c (By t)) g (pool_in s.heap.threads) p)
+    (regions_with (fields_of s.classes) (pool_in s.heap.classes) c (with_constants statics (fields_of s.classes c)) (fields_of b) fields)
 
 pub shared_of-field : (s : Shared) (b : List ClassArea) (c f : ℕ) (v : Value) → states_of b ≡ states_of s.classes →
     fields_of b ≡ with_fields (fields_of s.classes) c (with_value (fields_of s.classes c) f v) →

@@ -83,7 +83,8 @@ pub enum ElementType {
 impl BuiltIn {
     /// The built-in class of a name, as its bytes with slashes.
     pub fn named(name: &[u8]) -> Option<BuiltIn> {
-        ALL.into_iter().find(|class| class.name().as_bytes() == name)
+        ALL.into_iter()
+            .find(|class| class.name().as_bytes() == name)
     }
 
     /// Its name, with slashes.

@@ -5,7 +5,7 @@ ghost use Rattle.vm_state.specs.declared.text.Line.{Line};
 ghost use Rattle.vm_state.specs.SharedState.{set_region, set_state, with_field};
 ghost use Rattle.vm_state.specs.Shares.{shared_of, begun};
 
-use crate::classes::{Classes, ClassState, StaticField};
+use crate::classes::{ClassState, Classes, StaticField};
 use crate::heap::Heap;
 use crate::value::Value;
 use std::alloc::{AllocError, Global};

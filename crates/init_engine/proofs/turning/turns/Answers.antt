@@ -27,7 +27,8 @@ rounds-preserved c =
     let same : length c.stride.new.world.threads ≡ length c.args.world.threads = c.stride.ensures.threads ∙ c.rounds.invariant.2 in
     let round = subst (λ k. IsRound (program_of c.args.program.now) (world_of c.stride.new.world) (c.rounds.left - c.in_ok-ahead.ahead) k c.in_ok-done.done (world_of c.round.new.world) (schedule_of c.stride.new.schedule) (schedule_of c.round.new.schedule)) same c.in_ok-done.ensures.round in
     let bounded = round.bounded in
-    let ahead = stride.bounded in
-    (turns_go_on _ _ _ _ _ _ _ _ _ _ on round c.if-done-eq0.false c.if-done-left.false,
-     omega (arith, round_counts _ _ _ _ _ _ _ _ round, stride_counts _ _ _ _ _ _ _ _ stride, bounded, ahead, c.rounds.invariant.1),
-     c.round.ensures.threads ∙ same)
+    let ahead = stride.bounded in (
+      turns_go_on _ _ _ _ _ _ _ _ _ _ on round c.if-done-eq0.false c.if-done-left.false,
+      omega (arith, round_counts _ _ _ _ _ _ _ _ round, stride_counts _ _ _ _ _ _ _ _ stride, bounded, ahead, c.rounds.invariant.1),
+      c.round.ensures.threads ∙ same,
+    )

@@ -8,7 +8,7 @@ use Rattle.init_engine.proofs.turning.turns.Given as goal
 abbrev pub invariant-rounds : goal.invariant-rounds
 invariant-rounds l =
     GoOn (program_of l.program) (length l.fn.world.threads) l.limit (world_of l.fn.world) l.left (world_of l.world) (schedule_of l.schedule)
-        × (length (schedule_of l.schedule) + l.left ≡ l.limit) × (length l.world.threads ≡ length l.fn.world.threads)
+    × (length (schedule_of l.schedule) + l.left ≡ l.limit) × (length l.world.threads ≡ length l.fn.world.threads)
 
 abbrev pub decreases-rounds : goal.decreases-rounds
 decreases-rounds l = l.left

@@ -7,10 +7,10 @@ pub returns-clause-fields : goal.returns-clause-fields
 returns-clause-fields c =
     let room : c.args.class < length c.self.inside.areas.items = search rules in
     fields_of-changed c.self.inside.areas.items c.args.class _ _ (λ fields. with_value fields c.args.field c.args.value) room c.index_mut-area.ensures.value c.in_ok-set.ensures.ok
-        ∙ ap (λ fields. with_fields fields c.args.class (with_value (fields c.args.class) c.args.field c.args.value)) (ap fields_of c.self.view_is ∙ c.in_ok-reach.ensures.fields)
+    ∙ ap (λ fields. with_fields fields c.args.class (with_value (fields c.args.class) c.args.field c.args.value)) (ap fields_of c.self.view_is ∙ c.in_ok-reach.ensures.fields)
 
 pub returns-clause-states : goal.returns-clause-states
 returns-clause-states c =
     let room : c.args.class < length c.self.inside.areas.items = search rules in
     states_of-kept c.self.inside.areas.items c.args.class _ _ room c.index_mut-area.ensures.value refl
-        ∙ (ap states_of c.self.view_is ∙ c.in_ok-reach.ensures.states)
+    ∙ (ap states_of c.self.view_is ∙ c.in_ok-reach.ensures.states)

@@ -7,10 +7,10 @@ pub returns-clause-states : goal.returns-clause-states
 returns-clause-states c =
     let room : c.args.class < length c.self.inside.areas.items = search rules in
     states_of-set c.self.inside.areas.items c.args.class _ room
-        ∙ ap (λ states. with_state states c.args.class c.args.state) (ap states_of c.self.view_is ∙ c.in_ok-reach.ensures.states)
+    ∙ ap (λ states. with_state states c.args.class c.args.state) (ap states_of c.self.view_is ∙ c.in_ok-reach.ensures.states)
 
 pub returns-clause-fields : goal.returns-clause-fields
 returns-clause-fields c =
     let room : c.args.class < length c.self.inside.areas.items = search rules in
     fields_of-kept c.self.inside.areas.items c.args.class _ _ room c.index_mut-area.ensures.value refl
-        ∙ (ap fields_of c.self.view_is ∙ c.in_ok-reach.ensures.fields)
+    ∙ (ap fields_of c.self.view_is ∙ c.in_ok-reach.ensures.fields)
