@@ -6,7 +6,6 @@ ghost use Rattle.machine.specs.declared.fault.LinkFault.TheVariants.{Memory};
 use std::alloc::{AllocError, AllocFailed};
 use thiserror::Error;
 
-
 /// Why classes do not make one program. Names are printed with slashes.
 #[derive(Debug, Drop, Error)]
 pub enum LinkFault {
@@ -19,7 +18,7 @@ pub enum LinkFault {
     #[error("BuiltIn {name}")]
     BuiltIn { name: String },
     /// A class with a bad parent: 1 no superclass, 2 a superclass that is not there, 3 one that can't be a superclass,
-    /// 5 a superinterface that is not there.
+    /// 5 a superinterface that is not there, 6 one that is no interface.
     #[error("Parent {name} {kind}")]
     Parent { name: String, kind: u8 },
     /// More than 65,535 classes.

@@ -43,7 +43,10 @@ fn name_of(file: &ClassFile) -> &[u8] {
 }
 
 /// The files in the order of their names' bytes.
-fn by_name(alloc: Global, files: Vec<ClassFile>) -> Result<BTreeMap<Vec<u8>, ClassFile>, LinkFault> {
+fn by_name(
+    alloc: Global,
+    files: Vec<ClassFile>,
+) -> Result<BTreeMap<Vec<u8>, ClassFile>, LinkFault> {
     let mut sorted = BTreeMap::new(alloc);
     let mut twice: Option<Vec<u8>> = None;
     for file in files {
@@ -96,14 +99,25 @@ fn bad_parent(file: &ClassFile) -> Option<u8> {
     let superclass = file.class_name(file.super_class()).unwrap_or(&[]);
     match BuiltIn::named(superclass) {
         Some(BuiltIn::Object) => {}
-        Some(BuiltIn::String) | Some(BuiltIn::System) | Some(BuiltIn::PrintStream) => return Some(3),
+        Some(BuiltIn::String) | Some(BuiltIn::System) | Some(BuiltIn::PrintStream) => return Some(
+            3,
+        ),
         _ => return Some(2),
     }
-    if file.interfaces().is_empty() {
-        None
-    } else {
-        Some(5)
+    bad_superinterface(file)
+}
+
+/// What is wrong with the superinterfaces of a class, where it has any: the least kind of theirs.
+fn bad_superinterface(file: &ClassFile) -> Option<u8> {
+    let mut kind = None;
+    for interface in file.interfaces() {
+        let name = file.class_name(*interface).unwrap_or(&[]);
+        if BuiltIn::named(name).is_none() {
+            return Some(5);
+        }
+        kind = Some(6);
     }
+    kind
 }
 
 /// The program of files in the order of their names.
@@ -190,12 +204,15 @@ fn implementation_of(
     resolver: Resolver<'_>,
     method: &Member,
 ) -> Result<Implementation, AllocError> {
-    let flags = method.access_flags;
-    if has_flag(flags, ABSTRACT) {
-        return Ok(Implementation::Abstract);
-    }
-    if has_flag(flags, NATIVE) || has_flag(flags, SYNCHRONIZED) {
-        return Ok(Implementation::Unsupported);
+    // The other flags of a class initialization method say nothing (JVMS 4.6).
+    if !is_initializer(resolver.file, method) {
+        let flags = method.access_flags;
+        if has_flag(flags, ABSTRACT) {
+            return Ok(Implementation::Abstract);
+        }
+        if has_flag(flags, NATIVE) || has_flag(flags, SYNCHRONIZED) {
+            return Ok(Implementation::Unsupported);
+        }
     }
     let Some(code) = method.code() else {
         return Ok(Implementation::Abstract);

@@ -7,7 +7,9 @@ use indexmap::IndexSet;
 use vm_state::ends::FaultKind;
 
 const FAULT: Instruction = Instruction::Refused(FaultKind::Fault);
+
 const MISSING: Instruction = Instruction::Refused(FaultKind::Missing);
+
 const UNSUPPORTED: Instruction = Instruction::Refused(FaultKind::Unsupported);
 
 /// The given classes in the order of their numbers.
@@ -72,10 +74,12 @@ impl<'a> Resolver<'a> {
     fn field_reference(&self, index: u16) -> Option<Reference<'a>> {
         let file: &'a ClassFile = self.file;
         match file.constant(index) {
-            Some(Constant::Fieldref {
-                class,
-                name_and_type,
-            }) => self.reference(*class, *name_and_type),
+            Some(
+                Constant::Fieldref {
+                    class,
+                    name_and_type,
+                },
+            ) => self.reference(*class, *name_and_type),
             _ => None,
         }
     }
@@ -83,10 +87,12 @@ impl<'a> Resolver<'a> {
     fn method_reference(&self, index: u16) -> Option<Reference<'a>> {
         let file: &'a ClassFile = self.file;
         match file.constant(index) {
-            Some(Constant::Methodref {
-                class,
-                name_and_type,
-            }) => self.reference(*class, *name_and_type),
+            Some(
+                Constant::Methodref {
+                    class,
+                    name_and_type,
+                },
+            ) => self.reference(*class, *name_and_type),
             _ => None,
         }
     }
@@ -136,12 +142,14 @@ impl<'a> Resolver<'a> {
     /// `getstatic` of the entry at an index of the constant pool.
     pub fn getstatic(&self, index: u16) -> Instruction {
         match self.field(index) {
-            Ok(Field::Static {
-                class,
-                field,
-                is_int: true,
-                ..
-            }) => Instruction::GetInt(class, field),
+            Ok(
+                Field::Static {
+                    class,
+                    field,
+                    is_int: true,
+                    ..
+                },
+            ) => Instruction::GetInt(class, field),
             Ok(Field::Static { .. }) => UNSUPPORTED,
             Ok(Field::Instance) => FAULT,
             Ok(Field::Out) => Instruction::GetOut,
@@ -153,12 +161,14 @@ impl<'a> Resolver<'a> {
     /// method of its own class alone.
     pub fn putstatic(&self, index: u16) -> Instruction {
         match self.field(index) {
-            Ok(Field::Static {
-                class,
-                field,
-                is_final,
-                is_int,
-            }) => {
+            Ok(
+                Field::Static {
+                    class,
+                    field,
+                    is_final,
+                    is_int,
+                },
+            ) => {
                 if is_final && self.initializes != Some(class) {
                     return FAULT;
                 }

@@ -5,24 +5,43 @@ use std::alloc::{AllocError, Global};
 /// The opcodes that are named where instructions are decoded.
 pub mod opcode {
     pub const BIPUSH: u8 = 16;
+
     pub const SIPUSH: u8 = 17;
+
     pub const ILOAD: u8 = 21;
+
     pub const ISTORE: u8 = 54;
+
     pub const IADD: u8 = 96;
+
     pub const ISUB: u8 = 100;
+
     pub const IMUL: u8 = 104;
+
     pub const INEG: u8 = 116;
+
     pub const IINC: u8 = 132;
+
     pub const GOTO: u8 = 167;
+
     pub const RET: u8 = 169;
+
     pub const TABLESWITCH: u8 = 170;
+
     pub const LOOKUPSWITCH: u8 = 171;
+
     pub const RETURN: u8 = 177;
+
     pub const GETSTATIC: u8 = 178;
+
     pub const PUTSTATIC: u8 = 179;
+
     pub const INVOKEVIRTUAL: u8 = 182;
+
     pub const NEWARRAY: u8 = 188;
+
     pub const WIDE: u8 = 196;
+
     pub const JSR_W: u8 = 201;
 }
 

@@ -1,3 +1,4 @@
 pub mod OperandLemmas
 pub mod Lookups
 pub mod SharedLemmas
+pub mod ClassNameLemmas

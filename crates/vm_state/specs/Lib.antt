@@ -8,3 +8,4 @@ pub mod Objects
 pub mod SharedState
 pub mod Shares
 pub mod Endings
+pub mod ClassNames

@@ -1,5 +1,9 @@
 //! Classes as values and objects name them.
 
+ghost use Rattle.std.specs.Prelude.{◌≡◌, ◌≢◌, MatchOption};
+ghost use Rattle.vm_state.specs.declared.class_id.BuiltIn.{BuiltIn as Class};
+ghost use Rattle.vm_state.specs.ClassNames.{name_of_built_in};
+
 /// A class: a given one, one that is built in, or an array class.
 #[derive(Clone, Copy, PartialEq, Eq, Debug)]
 pub enum ClassId {
@@ -82,13 +86,18 @@ pub enum ElementType {
 
 impl BuiltIn {
     /// The built-in class of a name, as its bytes with slashes.
-    pub fn named(name: &[u8]) -> Option<BuiltIn> {
-        ALL.into_iter()
+    pub fn named(name: &[u8]) -> Option<BuiltIn>
+        ensures { MatchOption result ((c : Class) → name_of_built_in c ≢ name.now) (λ c. name_of_built_in c ≡ name.now) }
+    {
+        ALL.iter()
             .find(|class| class.name().as_bytes() == name)
+            .copied()
     }
 
     /// Its name, with slashes.
-    pub fn name(self) -> &'static str {
+    pub fn name(self) -> &'static str
+        ensures { result.now ≡ name_of_built_in self }
+    {
         match self {
             BuiltIn::Object => "java/lang/Object",
             BuiltIn::String => "java/lang/String",

@@ -201,8 +201,10 @@ impl Classes {
     }
 
     /// One more class, with these static fields, whose initialization has not begun.
+    /// Where memory is refused nothing changes.
     pub fn add(&mut self, alloc: Global, statics: &[StaticField]) -> Result<(), AllocError>
-        ensures { OnOk result (self.new ≡ self.old ++ blank_area statics.now ∷ []) }
+        ensures ok { OnOk result (self.new ≡ self.old ++ blank_area statics.now ∷ []) }
+        ensures err { OnErr result (self.new ≡ self.old) }
     {
         let fields = Fields::zeros(alloc, statics)?;
         self.areas.push(ClassArea {

@@ -182,9 +182,11 @@ impl Frames {
     }
 
     /// Takes the highest entry away, with all frames above it; those under it are the topmost ones then.
+    /// Where there is no entry nothing changes.
     pub fn leave(&mut self)
         ensures thread { self.new.thread ≡ self.old.thread }
         ensures left { IsLeft (levels_of self.old) self.new }
+        ensures none { levels_of self.old ≡ [] → segment_of self.new ≡ segment_of self.old }
     {
         let left = match self.highest.take() {
             Some(level) => Some(level),
