@@ -4,9 +4,9 @@ use super::{Narrow, Shelf, run_command, samples};
 use crate::lazy::{program_of, thread_lines};
 use crate::{Refusal, Status, command, status_of};
 use init_engine::Ending;
-use machine::FaultKind;
 use std::alloc::Global;
 use std::test::Fail;
+use vm_state::ends::FaultKind;
 
 /// The files `A.class`, whose class has no main, and `cut.class`, which is its first 52 bytes.
 fn shelf_of_empty(alloc: Global) -> Result<Shelf, Fail> {

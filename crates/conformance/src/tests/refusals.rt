@@ -130,7 +130,7 @@ fn files_of(alloc: Global, classes: &[Parents<'_>]) -> Result<Vec<Vec<u8>>, Fail
 #[test]
 fn classes_that_do_not_link(rt: HostRuntime) -> Result<(), Fail> {
     let alloc = rt.alloc();
-    let rows: [(&[(&str, &str, &[&str])], &str); 13] = [
+    let rows: [(&[(&str, &str, &[&str])], &str); 15] = [
         (&[("A", OBJECT, &[]), ("A", OBJECT, &[])], "Twice A"),
         (
             &[
