@@ -1,8 +1,7 @@
 -- Instructions in a row that touch one frame alone are a run.
-use Rattle.std.proofs.Common.{◌≡◌, ℕ, zero, suc, ◌+◌, ◌<◌, ◌⊎◌, inl, inr, List, [], ◌∷◌, ◌++◌, Option, Some, None, map, length, get_or, slice_get, slice_set, replicate, refl, sym, ap, subst, ◌∙◌, arith}
-use Rattle.std.proofs.lemmas.List.{map-set, set-get_or, replicate-append-replicate}
-use Rattle.std.proofs.lemmas.Option.{slice_get-map, slice_get-get_or, slice_get_within, get_or_from_slice_get}
-use Rattle.std.proofs.Math.Seq.{map-set_same}
+use Rattle.std.proofs.Common.{◌≡◌, ℕ, zero, suc, ◌+◌, ◌<◌, List, [], ◌∷◌, ◌++◌, Option, Some, None, length, get_or, slice_get, slice_set, replicate, refl, sym, ap, subst, ◌∙◌, arith}
+use Rattle.std.proofs.lemmas.List.{map-set, replicate-append-replicate}
+use Rattle.std.proofs.lemmas.Option.{slice_get-get_or}
 use Rattle.vm_state.specs.declared.frame.Frame.{Frame}
 use Rattle.vm_state.specs.declared.frame.Activity.{Activity}
 use Rattle.vm_state.specs.declared.frame.Activity.TheVariants.{Start, Method}
@@ -12,8 +11,7 @@ use Rattle.vm_state.specs.declared.text.Line.{Line}
 use Rattle.vm_state.specs.SharedState.{SharedState}
 use Rattle.vm_state.specs.Shares.{shared_of}
 use Rattle.semantics.specs.Rows.{Ends, Next, run_row}
-use Rattle.semantics.specs.Programs.{Program}
-use Rattle.semantics.specs.Steps.{Thread as DefinedThread, Going as IsGoingOn, After, step_thread, instructed, maker_of}
+use Rattle.semantics.specs.Steps.{Thread as DefinedThread, Going as IsGoingOn, step_thread, instructed, maker_of}
 use Rattle.semantics.specs.Worlds.{World, Run, step, step_of, put_thread}
 use Rattle.semantics.proofs.Runs.{run_more}
 use Rattle.machine.specs.declared.instruction.Instruction.{Instruction}
@@ -21,7 +19,7 @@ use Rattle.machine.specs.declared.instruction.Instruction.TheVariants.{Local, Ge
 use Rattle.machine.specs.Tables.{Tables, instruction_at}
 use Rattle.machine.specs.Table.{row, active_row, fetched, goes_on}
 use Rattle.machine.specs.Linked.{program_of}
-use Rattle.machine.specs.Locally.{given, local_after}
+use Rattle.machine.specs.Locally.{given}
 use Rattle.machine.specs.Strides.{after_instruction, after_activity, local_step, local_run}
 use Rattle.vm_state.specs.declared.initialization.Frames.{Frames}
 use Rattle.vm_state.specs.Stacks.{levels_of}

@@ -1,5 +1,5 @@
 -- The tables of the lazy start are its shared state.
-use Rattle.std.proofs.Common.{◌≡◌, ℕ, zero, suc, false, List, [], ◌∷◌, ◌++◌, Option, Some, None, map, slice_get, refl, sym, ap, ◌∙◌, arith, nat_lt, if◌then◌else◌, ◌==◌, length}
+use Rattle.std.proofs.Common.{◌≡◌, ℕ, zero, suc, false, List, [], ◌∷◌, ◌++◌, Option, Some, None, map, slice_get, refl, ap, ◌∙◌, arith, nat_lt, if◌then◌else◌, ◌==◌}
 use Rattle.std.proofs.Math.Path.{fun_ext}
 use Rattle.std.proofs.lemmas.Result.{IfOk-weaker}
 use Rattle.std.specs.Prelude.{IfOk, Result}
@@ -12,9 +12,7 @@ use Rattle.vm_state.specs.declared.object.Object.{Object}
 use Rattle.vm_state.specs.declared.classes.ClassState.{ClassState}
 use Rattle.vm_state.specs.declared.classes.ClassState.TheVariants.{Not}
 use Rattle.vm_state.specs.declared.classes.StaticField.{StaticField}
-use Rattle.vm_state.specs.declared.shared.Shared.{Shared}
-use Rattle.vm_state.specs.declared.text.Line.{Line}
-use Rattle.vm_state.specs.Statics.{area_at, field_in, states_of, fields_of, zeros_of, zero_of, blank_area}
+use Rattle.vm_state.specs.Statics.{area_at, field_in, states_of, fields_of, zeros_of}
 use Rattle.vm_state.specs.SharedState.{Pool, Region, SharedState}
 use Rattle.vm_state.specs.Shares.{shared_of, pool_in}
 use Rattle.semantics.specs.Worlds.{World, argument, argument_pool, empty_pool, blank_region, lazy_start}

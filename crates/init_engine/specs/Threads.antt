@@ -1,10 +1,10 @@
 -- Threads as the definition has them, and what a turn of one says.
-use Rattle.std.specs.Prelude.{◌≡◌, ◌⊎◌, ℕ, List, ◌∷◌, Option, Some, None}
+use Rattle.std.specs.Prelude.{◌≡◌, ℕ, List, Option, Some, None}
 use Rattle.vm_state.specs.declared.shared.Shared.{Shared}
 use Rattle.vm_state.specs.declared.text.Line.{Line}
 use Rattle.vm_state.specs.SharedState.{SharedState, with_line}
 use Rattle.vm_state.specs.Shares.{shared_of}
-use Rattle.semantics.specs.Steps.{Thread as DefinedThread, Going as IsGoingOn, Ended as HasEnded, After}
+use Rattle.semantics.specs.Steps.{Thread as DefinedThread, Ended as HasEnded, After}
 use Rattle.vm_state.specs.declared.ends.Ending.{Ending}
 use Rattle.semantics.specs.Worlds.{ending}
 use Rattle.vm_state.specs.declared.frame.Frame.{Frame}

@@ -1,0 +1,9 @@
+pub mod Given
+pub mod LocalNames
+pub mod LocalMethods
+pub mod Initializers
+pub mod WaysOn
+pub mod TableNames
+pub mod TableFinals
+pub mod TableCalls
+pub mod LawfulTable

@@ -7,7 +7,7 @@ use Rattle.vm_state.specs.declared.frame.Activity.{Activity}
 use Rattle.vm_state.specs.declared.frame.Activity.TheVariants.{Start, Method}
 use Rattle.vm_state.specs.declared.classes.ClassArea.{ClassArea}
 use Rattle.vm_state.specs.Statics.{blank_area}
-use Rattle.semantics.specs.Programs.{Program}
+use Rattle.semantics.specs.Programs.{Escapes, Program}
 use Rattle.machine.specs.declared.program.Class.{Class}
 use Rattle.machine.specs.declared.program.Implementation.{Implementation}
 use Rattle.machine.specs.declared.program.Implementation.TheVariants as implementations
@@ -54,12 +54,13 @@ start_frame c t = record { activity = Start c; place = 0; locals = []; operands 
 abbrev pub blank_areas : List Class → List ClassArea
 blank_areas classes = map (λ (k : Class). blank_area k.statics) classes
 
--- Exceptions come later: a class whose initialization fails ends its thread.
+-- Exceptions come later: no instruction raises one, no handler is executed, and a class whose initialization fails ends its thread.
 abbrev pub program_of : Tables → Program
 program_of P = record {
   row = row P;
-  failing = λ c x fs. halts Unsupported;
-  orphaned = λ c fs. halts Unsupported;
+  unwinding = λ x class fs. Escapes;
+  failing = λ c x. halts Unsupported;
+  orphaned = λ c. halts Unsupported;
   initializer = initializer_frame P;
   parents = parents_in P;
   statics = statics_in P;

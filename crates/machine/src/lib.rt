@@ -7,6 +7,7 @@ pub mod execute;
 pub mod fault;
 pub mod instruction;
 pub mod kinds;
+pub mod laws;
 mod linking;
 pub mod local;
 pub mod program;

@@ -1,19 +1,32 @@
 -- What the initialization procedure and its threads ask of a program.
 use Rattle.std.specs.Prelude.{ℕ, List, Option}
 use Rattle.vm_state.specs.declared.value.Name.{Name}
+use Rattle.vm_state.specs.declared.class_id.ClassId.{ClassId}
+use Rattle.vm_state.specs.declared.ends.FaultKind.{FaultKind}
 use Rattle.vm_state.specs.declared.frame.Frame.{Frame}
 use Rattle.vm_state.specs.declared.classes.StaticField.{StaticField}
 use Rattle.semantics.specs.Rows.{Row}
+
+-- Where an exception goes that is raised in some frames (JVMS 2.10).
+pub data Unwinding : Type 0 where
+  -- to a handler, with which these frames go on
+  Caught : (frames : List Frame) → Unwinding
+  -- out of them all
+  Escapes : Unwinding
+  -- to a handler whose frame has no room for it
+  Stopped : (kind : FaultKind) → Unwinding
 
 -- Classes are the given ones, by their numbers.
 pub record Program : Type 0 where
   -- one instruction of the innermost frame of these, or a thread's start (JVMS chapter 6, 5.2)
   pub row : List Frame → Row
-  -- the end of a class's initialization by an exception, as it goes on in the frames below: the exception, or a new
-  -- ExceptionInInitializerError in its place, is raised there (JVMS 5.5, steps 10 and 11)
-  pub failing : (class : ℕ) → Name → List Frame → Row
+  -- where an exception of a class goes that is raised in some frames
+  pub unwinding : Name → ClassId → List Frame → Unwinding
+  -- the end of a class's initialization by an exception: the exception, or a new ExceptionInInitializerError in its place, is
+  -- raised in the frames below (JVMS 5.5, steps 10 and 11)
+  pub failing : (class : ℕ) → Name → Row
   -- the same with a new NoClassDefFoundError, for a parent whose initialization failed (JVMS 5.5, step 7)
-  pub orphaned : (class : ℕ) → List Frame → Row
+  pub orphaned : (class : ℕ) → Row
   -- the frame of a class's class initialization method (JVMS 2.9), where it has one
   pub initializer : ℕ → Option Frame
   -- the classes and interfaces that are initialized before a class, in order (JVMS 5.5, step 7)

@@ -1,5 +1,6 @@
 -- Worlds, runs over schedules, what is seen of them, and the start of the lazy procedure.
-use Rattle.std.specs.Prelude.{◌≡◌, ℕ, ◌+◌, List, [], ◌∷◌, Option, Some, None, ◌==◌, nat_lt, if◌then◌else◌, slice_get, slice_set, length, map}
+use Rattle.std.specs.Prelude.{◌≡◌, ℕ, ◌+◌, List, [], ◌∷◌, Option, Some, None, ◌==◌, nat_lt, if◌then◌else◌, slice_get, slice_set, length}
+use Rattle.std.specs.Prelude.{map}
 use Rattle.vm_state.specs.declared.class_id.ClassId.TheVariants.{Array}
 use Rattle.vm_state.specs.declared.class_id.BuiltIn.TheVariants.{String}
 use Rattle.vm_state.specs.declared.class_id.ElementType.TheVariants as elements

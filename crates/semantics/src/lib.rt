@@ -1,11 +1,62 @@
 //! What a program does, apart from any opcode: one instruction as a tree of accesses to what threads share, one
-//! step of one thread, runs over schedules, what is seen of them, and the start of the lazy procedure. The
-//! definitions stand in `specs/`.
+//! step of one thread, runs over schedules, what is seen of them, the classes that may be initialized at build time,
+//! and the two starts. The definitions stand in `specs/`. Each function here is a law: its contract is what is proved,
+//! and calling it does nothing.
 #![tactic(auto)]
 
 ghost use Rattle.semantics.specs.Laws.{RunsJoin};
+ghost use Rattle.semantics.specs.Answers.{AnswersDecide};
+ghost use Rattle.semantics.specs.Alone.{StepsAgree};
+ghost use Rattle.semantics.specs.Settling.{RefusalExcludes, OneRefusal};
+ghost use Rattle.semantics.specs.Acceptance.{OneRegion, WiderEnvironment};
+ghost use Rattle.semantics.specs.Erasure.{ErasedUnseen};
+ghost use Rattle.semantics.specs.Headline.{LazyToImage, ImageToLazy};
 
 /// A run over one schedule, and then one over another, is a run over both, one after the other.
 pub fn runs_join()
     ensures { RunsJoin }
+{}
+
+/// How an instruction ends, and what it does before, depend on its frames and on the answers of its accesses alone.
+pub fn answers_decide()
+    ensures { AnswersDecide }
+{}
+
+/// An initializer that runs alone leaves the same region at the same cost, whether each of its calls is taken as one
+/// whole body or instruction by instruction.
+pub fn steps_agree()
+    ensures { StepsAgree }
+{}
+
+/// An initializer that settles within a budget is not refused within it, and one that is refused is refused for one
+/// reason.
+pub fn refused_once()
+    ensures excludes { RefusalExcludes }
+    ensures one { OneRefusal }
+{}
+
+/// An accepted class has one region.
+pub fn one_region()
+    ensures { OneRegion }
+{}
+
+/// With more accepted classes at hand an initializer leaves the same region at the same cost.
+pub fn wider_environment()
+    ensures { WiderEnvironment }
+{}
+
+/// Nobody sees from outside what is erased of a lazy world: both worlds have printed the same, and their threads have
+/// come as far.
+pub fn erased_unseen()
+    ensures { ErasedUnseen }
+{}
+
+/// What the lazy procedure shows of a program under some schedule, a run from its image shows under some schedule.
+pub fn lazy_to_image()
+    ensures { LazyToImage }
+{}
+
+/// What a run from a program's image shows under some schedule, the lazy procedure shows under some schedule.
+pub fn image_to_lazy()
+    ensures { ImageToLazy }
 {}

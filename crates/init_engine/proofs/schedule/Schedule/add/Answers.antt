@@ -1,4 +1,4 @@
-use Rattle.std.proofs.Common.{◌+◌, ◌<◌, ◌^◌, ◌∷◌, ◌++◌, [], length, arith, sym, ap, ◌∙◌, append-nil, replicate}
+use Rattle.std.proofs.Common.{◌+◌, ◌<◌, ◌^◌, ◌++◌, length, arith, sym, ap, ◌∙◌, append-nil, replicate}
 use Rattle.init_engine.specs.Schedules.{schedule_of}
 use Rattle.init_engine.proofs.Stints.{schedule_of-longer, schedule_of-more, last_fits, stints_longer, stints_more, first_stint, never}
 use Rattle.init_engine.proofs.schedule.Schedule.add.Goals as goal

@@ -1,0 +1,5 @@
+use Rattle.semantics.proofs.ExactImages.{lazy_to_image_lem}
+use Rattle.semantics.proofs.lazy_to_image.Goals as goal
+
+pub returns : goal.returns
+returns c = lazy_to_image_lem
