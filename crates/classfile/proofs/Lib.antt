@@ -13,3 +13,4 @@ pub mod MemberReads
 pub mod PoolReads
 pub mod ClassReads
 pub mod Units
+pub mod Sizes

@@ -16,6 +16,7 @@ pub mod Structure
 pub mod Grammar
 pub mod Pool
 pub mod Text
+pub mod Sizes
 pub mod Members
 pub mod Class
 pub mod ReadClass

@@ -1,4 +1,4 @@
-//! Reads JVM class files of version 52 (JVMS SE 8, chapter 4).
+//! Reads and writes JVM class files of version 52 (JVMS SE 8, chapter 4).
 #![tactic(auto)]
 
 mod attribute;
@@ -21,6 +21,7 @@ mod numbers;
 mod parts;
 mod pool;
 mod unread;
+mod writing;
 
 pub use attribute::{Attribute, Attributes};
 pub use bytes::Bytes;
@@ -34,6 +35,4 @@ pub use modified::{ModifiedUtf8, printed};
 pub use name::ClassName;
 pub use pool::ConstantPool;
 pub use unread::{UnreadAttribute, UnreadAttributes};
-
-#[cfg(test)]
-mod tests;
+pub use writing::write;

@@ -1,0 +1,119 @@
+//! Fields (JVMS 4.5) and their values (JVMS 4.7.2).
+
+use super::{Place, differences};
+use std::alloc::Global;
+use std::test::Fail;
+
+/// The entries 5 to 27: x, I, ()V, ConstantValue, Code; at 10 an Integer, 11 a Float, 12 a Long, 14 a
+/// Double, 16 a String; then J, F, D, String's descriptor, S, C, B, Z, an array's, y, and I once more.
+/// The fields' count begins at offset 177, the first field at 179.
+const ENTRIES: &str =
+    "01 0001 'x' 01 0001 'I' 01 0003 '()V' 01 000D 'ConstantValue' 01 0004 'Code' \
+     03 00000007 04 00000000 05 00000000 00000007 06 00000000 00000000 08 0005 \
+     01 0001 'J' 01 0001 'F' 01 0001 'D' 01 0012 'Ljava/lang/String;' \
+     01 0001 'S' 01 0001 'C' 01 0001 'B' 01 0001 'Z' 01 0002 '[I' 01 0001 'y' 01 0001 'I'";
+
+/// The table of fields.
+const WHOLE: &str = "\
+0001 0000 0005 0006 0000 => read
+0001 FFFF 0005 0006 0000 => read
+0001 0000 0002 0006 0000 => Index 181
+0001 0000 0000 0006 0000 => Index 181
+0001 0000 001C 0006 0000 => Index 181
+0001 0000 0005 0002 0000 => Index 183
+0001 0000 0002 0002 0000 => Index 181
+0001 0000 0005 0007 0000 => Descriptor 7
+0001 0000 0005 0005 0000 => Descriptor 5
+# Two of one name and type, and of equal texts under another index.
+0002 0000 0005 0006 0000 0000 0005 0006 0000 => Index 187
+0002 0000 0005 0006 0000 0008 0005 001B 0000 => Index 187
+0002 0000 0005 0006 0000 0000 001A 0006 0000 => read
+0002 0000 0005 0006 0000 0000 0005 0011 0000 => read
+0003 0000 0005 0006 0000 0000 001A 0006 0000 0000 0005 0006 0000 => Index 195
+0002 0000 0005 0006 0000 0000 0005 0005 0000 => Descriptor 5
+# An attribute of another name.
+0001 0008 0005 0006 0001 0005 00000000 => read
+0001 0000 0005 0006 0001 0005 00000003 FFFFFF => read
+0001 0008 0005 0006 0001 0009 00000001 FF => read
+0001 0000 0005 0006 0001 0002 00000000 => Index 187
+# A static field's value of each type.
+0001 0008 0005 0006 0001 0008 00000002 000A => read
+0001 0018 0005 0006 0001 0008 00000002 000A => read
+0001 0008 0005 0015 0001 0008 00000002 000A => read
+0001 0008 0005 0016 0001 0008 00000002 000A => read
+0001 0008 0005 0017 0001 0008 00000002 000A => read
+0001 0008 0005 0018 0001 0008 00000002 000A => read
+0001 0008 0005 0012 0001 0008 00000002 000B => read
+0001 0008 0005 0011 0001 0008 00000002 000C => read
+0001 0008 0005 0013 0001 0008 00000002 000E => read
+0001 0008 0005 0014 0001 0008 00000002 0010 => read
+# And of a wrong one.
+0001 0008 0005 0006 0001 0008 00000002 000B => Attribute 187
+0001 0008 0005 0006 0001 0008 00000002 000C => Attribute 187
+0001 0008 0005 0018 0001 0008 00000002 0010 => Attribute 187
+0001 0008 0005 0011 0001 0008 00000002 000A => Attribute 187
+0001 0008 0005 0011 0001 0008 00000002 000E => Attribute 187
+0001 0008 0005 0012 0001 0008 00000002 000A => Attribute 187
+0001 0008 0005 0013 0001 0008 00000002 000C => Attribute 187
+0001 0008 0005 0014 0001 0008 00000002 0005 => Attribute 187
+0001 0008 0005 0014 0001 0008 00000002 000A => Attribute 187
+0001 0008 0005 0019 0001 0008 00000002 000A => Attribute 187
+0001 0008 0005 0019 0001 0008 00000002 0010 => Attribute 187
+0001 0008 0005 0006 0001 0008 00000002 0000 => Attribute 187
+0001 0008 0005 0006 0001 0008 00000002 000D => Attribute 187
+0001 0008 0005 0006 0001 0008 00000002 001C => Attribute 187
+0001 0008 0005 0006 0001 0008 00000000 => Attribute 187
+0001 0008 0005 0006 0001 0008 00000001 0A => Attribute 187
+0001 0008 0005 0006 0001 0008 00000003 000A00 => Attribute 187
+0001 0008 0005 0006 0002 0005 00000001 FF 0008 00000002 000B => Attribute 194
+# Two values.
+0001 0008 0005 0006 0002 0008 00000002 000A 0008 00000002 000A => Attribute 195
+0001 0008 0005 0006 0002 0008 00000002 000B 0008 00000002 000A => Attribute 187
+# A field that is not static: its value is not looked into.
+0001 0000 0005 0006 0001 0008 00000002 000A => read
+0001 0010 0005 0006 0001 0008 00000002 000B => read
+0001 0000 0005 0006 0001 0008 00000005 0102030405 => read
+0001 FFF7 0005 0006 0002 0008 00000000 0008 00000000 => read
+0002 0000 0005 0006 0001 0008 00000000 0008 001A 0006 0001 0008 00000002 000A => read
+0002 0000 0005 0006 0001 0008 00000000 0008 001A 0006 0001 0008 00000000 => Attribute 201
+";
+
+/// The same where the file ends with the fields.
+const CUT: &str = "\
+00 => Truncated 177
+0001 => Truncated 179
+0001 00 => Truncated 179
+0001 0000 00 => Truncated 181
+0001 0000 0005 00 => Truncated 183
+0001 0000 0005 0006 00 => Truncated 185
+0001 0000 0005 0006 0001 00 => Truncated 187
+0001 0000 0005 0006 0001 0005 000000 => Truncated 189
+0001 0000 0005 0006 0001 0005 00000002 00 => Truncated 193
+0001 0000 0005 0006 0001 0005 FFFFFFFF 00 => Truncated 193
+0001 0008 0005 0006 0001 0008 00000002 00 => Truncated 193
+0001 0000 0002 => Index 181
+# A member like another is refused before its attributes are read, and behind its descriptor.
+0002 0000 0005 0006 0000 0000 0005 0006 => Index 187
+0002 0000 0005 0006 0000 0000 0005 00 => Truncated 191
+";
+
+/// The rows that are answered otherwise, with this behind the fields.
+fn field_differences(alloc: Global, rows: &str, behind: &str) -> Result<String, Fail> {
+    let place = Place::Rest {
+        indices: 23,
+        entries: ENTRIES,
+        before: "0021 0002 0004 0000",
+        behind,
+    };
+    differences(alloc, place, rows, "read")
+}
+
+#[test]
+fn fields(rt: HostRuntime) -> Result<(), Fail> {
+    let alloc = rt.alloc();
+    let whole = field_differences(alloc, WHOLE, "0000 0000")?;
+    assert_eq!(rt; whole.as_str(), "");
+    let cut = field_differences(alloc, CUT, "")?;
+    assert_eq!(rt; cut.as_str(), "");
+    Ok(())
+}
