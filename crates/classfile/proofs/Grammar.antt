@@ -7,7 +7,7 @@ use Rattle.classfile.specs.declared.descriptor.Place.{Place}
 use Rattle.classfile.specs.declared.descriptor.Place.TheVariants as places
 use Rattle.classfile.specs.Descriptors.{is_base, step, scan, is_field, is_method, lacks_semicolon, is_class_name}
 use Rattle.classfile.specs.Grammar.{IsBaseType, IsElementType, IsFieldDescriptor, IsReturnDescriptor, IsMethodDescriptor, IsClassName}
-use Rattle.classfile.proofs.Facts.{either}
+use Rattle.classfile.proofs.Bools.{either}
 
 -- the parameters, the bracket behind them, and what is returned
 record Ends (text : List ℕ) : Type 0 where

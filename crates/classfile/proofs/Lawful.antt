@@ -1,5 +1,6 @@
 -- Readers whose answers and faults are what a part spells and how it fails.
-use Rattle.std.proofs.Common.{◌≡◌, ℕ, suc, ◌+◌, ◌%◌, ◌<◌, ◌≤◌, ◌⊎◌, Bool, true, false, cond, ltb, List, [], ◌∷◌, ◌++◌, length, get_or, take, drop, Result, Ok, Err, refl, sym, ap, subst, ◌∙◌, append_assoc, arith, inl, inr}
+use Rattle.std.proofs.Common.{◌≡◌, ℕ, suc, ◌+◌, ◌%◌, ◌<◌, ◌≤◌, ◌⊎◌, Bool, true, false, cond, ltb, List, [], ◌∷◌, ◌++◌, length, get_or, take}
+use Rattle.std.proofs.Common.{drop, Result, Ok, Err, refl, sym, ap, subst, ◌∙◌, append_assoc, arith, inl, inr}
 use Rattle.std.specs.Int.{Width, w8, w16, w32, byte_len, from_be_bytes, to_be_bytes}
 use Rattle.std.proofs.lemmas.Bool.{cases_lt, ltb-false, ltb-true, le-ltb, lt-ltb}
 use Rattle.std.proofs.lemmas.List.{take_at, drop_at, take-append-drop, length-append, length-take, get_or-drop, get_or-take, get_or_past}
@@ -30,17 +31,20 @@ pub record Takes {X : Type 0} (Spells : X → List ℕ → Type 0) (bytes : List
   pub parts : bytes ≡ text ++ rest
   pub rest_fits : IsBytes rest
 
-pub record Lawful {X : Type 0} (read : List ℕ → Result (X × List ℕ) ClassFault) (Spells : X → List ℕ → Type 0) (FailsAt : List ℕ → ClassFault → Type 0) : Type 0 where
+pub record Lawful {X : Type 0} (read : List ℕ → Result (X × List ℕ) ClassFault) (Spells : X → List ℕ → Type 0) (FailsAt : List ℕ
+    → ClassFault → Type 0) : Type 0 where
   pub takes : (bytes : List ℕ) (x : X) (rest : List ℕ) → IsBytes bytes → read bytes ≡ Ok (x, rest) → Takes Spells bytes x rest
   pub again : (x : X) (text : List ℕ) (rest : List ℕ) → Spells x text → read (text ++ rest) ≡ Ok (x, rest)
   pub blames : (bytes : List ℕ) (f : ClassFault) → IsBytes bytes → read bytes ≡ Err f → FailsAt bytes f
   pub blamed : (bytes : List ℕ) (f : ClassFault) → IsBytes bytes → FailsAt bytes f → read bytes ≡ Err f
 
-bind_ok : {A B : Type 0} (r : Result A ClassFault) (f : A → Result B ClassFault) (y : B) → (r >>= f) ≡ Ok y → (x : A) × (r ≡ Ok x) × (f x ≡ Ok y)
+pub bind_ok : {A B : Type 0} (r : Result A ClassFault) (f : A → Result B ClassFault) (y : B) → (r >>= f) ≡ Ok y
+    → (x : A) × (r ≡ Ok x) × (f x ≡ Ok y)
 bind_ok (Ok x) f y e = (x, refl, e)
 bind_ok (Err d) f y e = absurd cc
 
-bind_err : {A B : Type 0} (r : Result A ClassFault) (f : A → Result B ClassFault) (d : ClassFault) → (r >>= f) ≡ Err d → (r ≡ Err d) ⊎ ((x : A) × (r ≡ Ok x) × (f x ≡ Err d))
+pub bind_err : {A B : Type 0} (r : Result A ClassFault) (f : A → Result B ClassFault) (d : ClassFault) → (r >>= f) ≡ Err d → (r ≡ Err d)
+    ⊎ ((x : A) × (r ≡ Ok x) × (f x ≡ Err d))
 bind_err (Ok x) f d e = inr (x, refl, e)
 bind_err (Err c) f d e = inl (let q : c ≡ d = cc in rw q refl)
 
@@ -78,21 +82,32 @@ bind_lawful {X} {Y} r next S F T G one two =
             rest_fits = u.rest_fits;
           };
       again = λ y text rest s.
-          let same : text ++ rest ≡ s.front ++ (s.back ++ rest) = ap (λ (z : List ℕ). z ++ rest) s.parts ∙ append_assoc s.front s.back rest in
-          ap (λ (z : List ℕ). r z >>= go) same ∙ ap (λ (z : Result (X × List ℕ) ClassFault). z >>= go) (one.again s.value s.front (s.back ++ rest) s.first) ∙ (two s.value).again y s.back rest s.second;
+          let same : text ++ rest ≡ s.front ++ (s.back ++ rest) = ap (λ (z : List ℕ). z ++ rest) s.parts
+          ∙ append_assoc s.front s.back rest in
+          ap (λ (z : List ℕ). r z >>= go) same ∙ ap (λ (z : Result (X × List ℕ) ClassFault). z >>= go)
+          (one.again s.value s.front (s.back ++ rest) s.first) ∙ (two s.value).again y s.back rest s.second;
       blames = λ bytes f fits e.
           elim (bind_err (r bytes) go f e) [
             | inl here ↦ inl (one.blames bytes f fits here)
             | inr (x, is, there) ↦
                 let t = one.takes bytes x.0 x.1 fits is in
-                inr (record { value = x.0; text = t.text; rest = x.1; spelled = t.spelled; parts = t.parts; next = (two x.0).blames x.1 f t.rest_fits there })
+                inr (record {
+                  value = x.0;
+                  text = t.text;
+                  rest = x.1;
+                  spelled = t.spelled;
+                  parts = t.parts;
+                  next =
+                      (two x.0).blames x.1 f t.rest_fits there;
+                })
           ];
       blamed = λ bytes f fits h.
           elim h [
             | inl here ↦ ap (λ (z : Result (X × List ℕ) ClassFault). z >>= go) (one.blamed bytes f fits here)
             | inr w ↦
                 let back : IsBytes w.rest = IsBytes-back w.text w.rest (let P : List ℕ → Type 0 = λ z. IsBytes z in subst P w.parts fits) in
-                ap (λ (z : List ℕ). r z >>= go) w.parts ∙ ap (λ (z : Result (X × List ℕ) ClassFault). z >>= go) (one.again w.value w.text w.rest w.spelled) ∙ (two w.value).blamed w.rest f back w.next
+                ap (λ (z : List ℕ). r z >>= go) w.parts ∙ ap (λ (z : Result (X × List ℕ) ClassFault). z >>= go)
+                (one.again w.value w.text w.rest w.spelled) ∙ (two w.value).blamed w.rest f back w.next
           ];
     }
 
@@ -105,7 +120,13 @@ pub pure_lawful : {X : Type 0} (made : X) → Lawful (λ bytes. Ok (made, bytes)
 pure_lawful {X} made = record {
   takes = λ bytes x rest fits e.
       let p : (made, bytes) ≡ (x, rest) = cc in
-      record { text = []; spelled = (sym (ap (λ (q : X × List ℕ). q.0) p), refl); parts = ap (λ (q : X × List ℕ). q.1) p; rest_fits = (let P : List ℕ → Type 0 = λ z. IsBytes z in subst P (ap (λ (q : X × List ℕ). q.1) p) fits) };
+      record {
+        text = [];
+        spelled = (sym (ap (λ (q : X × List ℕ). q.0) p), refl);
+        parts = ap (λ (q : X × List ℕ). q.1) p;
+        rest_fits =
+            (let P : List ℕ → Type 0 = λ z. IsBytes z in subst P (ap (λ (q : X × List ℕ). q.1) p) fits);
+      };
   again = λ x text rest s. rw (s.0, s.1) refl;
   blames = λ bytes f fits e. absurd cc;
   blamed = λ bytes f fits h. absurd h;
@@ -148,22 +169,29 @@ wide8 = record {
   below = λ bytes fits. omega (arith, fits 0);
 }
 
-guard_ok : {A : Type 0} (b : Bool) (d : ClassFault) (x y : A) → cond b (Err d) (Ok x) ≡ Ok y → (b ≡ false) × (x ≡ y)
+pub guard_ok : {A : Type 0} (b : Bool) (d : ClassFault) (x y : A) → cond b (Err d) (Ok x) ≡ Ok y → (b ≡ false) × (x ≡ y)
 guard_ok true d x y e = absurd cc
 guard_ok false d x y e = (refl, cc)
 
-guard_err : {A : Type 0} (b : Bool) (d f : ClassFault) (x : A) → cond b (Err d) (Ok x) ≡ Err f → (b ≡ true) × (f ≡ d)
+pub guard_err : {A : Type 0} (b : Bool) (d f : ClassFault) (x : A) → cond b (Err d) (Ok x) ≡ Err f → (b ≡ true) × (f ≡ d)
 guard_err true d f x e = (refl, cc)
 guard_err false d f x e = absurd cc
 
 pub run_lawful : (count total : ℕ) → Lawful (run_at count total) (Run count) (Cut count total)
 run_lawful count total = record {
   takes = λ bytes x rest fits e.
-      let g = guard_ok (ltb (length bytes) count) (faults.Truncated (offset total bytes)) (take count bytes, drop count bytes) (x, rest) e in
+      let g = guard_ok (ltb (length bytes) count) (faults.Truncated (offset total bytes)) (take count bytes, drop count bytes)
+      (x, rest) e in
       let long : count ≤ length bytes = ltb-false _ _ g.0 in
       let x-is : take count bytes ≡ x = ap (λ (p : List ℕ × List ℕ). p.0) g.1 in
       let rest-is : drop count bytes ≡ rest = ap (λ (p : List ℕ × List ℕ). p.1) g.1 in
-      record { text = take count bytes; spelled = (rw (← x-is) (omega (arith, length-take count bytes)), x-is); parts = rw (← rest-is) (sym (take-append-drop count bytes)); rest_fits = rw (← rest-is) (IsBytes-drop count bytes fits) };
+      record {
+        text = take count bytes;
+        spelled = (rw (← x-is) (omega (arith, length-take count bytes)), x-is);
+        parts =
+            rw (← rest-is) (sym (take-append-drop count bytes));
+        rest_fits = rw (← rest-is) (IsBytes-drop count bytes fits);
+      };
   again = λ x text rest s.
       let long : ltb (length (x ++ rest)) count ≡ false = le-ltb _ _ (omega (arith, length-append x rest, s.0)) in
       rw (s.1, long, take_at x rest count s.0, drop_at x rest count s.0) refl;
@@ -176,18 +204,32 @@ run_lawful count total = record {
 pub number_lawful : (w : Width) (wide : IsWide w) (total : ℕ) → Lawful (number_at w total) (Number w) (CutNumber w total)
 number_lawful w wide total = record {
   takes = λ bytes n rest fits e.
-      let g = guard_ok (ltb (length bytes) (byte_len w)) (faults.Truncated (offset total bytes)) (from_be_bytes w (take (byte_len w) bytes), drop (byte_len w) bytes) (n, rest) e in
+      let g = guard_ok (ltb (length bytes) (byte_len w)) (faults.Truncated (offset total bytes))
+      (from_be_bytes w (take (byte_len w) bytes), drop (byte_len w) bytes) (n, rest) e in
       let long : byte_len w ≤ length bytes = ltb-false _ _ g.0 in
       let n-is : from_be_bytes w (take (byte_len w) bytes) ≡ n = ap (λ (p : ℕ × List ℕ). p.0) g.1 in
       let rest-is : drop (byte_len w) bytes ≡ rest = ap (λ (p : ℕ × List ℕ). p.1) g.1 in
-      let front : to_be_bytes w n ≡ take (byte_len w) bytes = rw (← n-is) (wide.back (take (byte_len w) bytes) (omega (arith, length-take (byte_len w) bytes)) (IsBytes-take (byte_len w) bytes fits)) in
-      record { text = to_be_bytes w n; spelled = (rw (← n-is) (wide.below (take (byte_len w) bytes) (IsBytes-take (byte_len w) bytes fits)), refl); parts = rw (front, ← rest-is) (sym (take-append-drop (byte_len w) bytes)); rest_fits = rw (← rest-is) (IsBytes-drop (byte_len w) bytes fits) };
+      let front : to_be_bytes w n ≡ take (byte_len w) bytes =
+      rw (← n-is) (wide.back (take (byte_len w) bytes) (omega (arith, length-take (byte_len w) bytes))
+      (IsBytes-take (byte_len w) bytes fits)) in
+      record {
+        text = to_be_bytes w n;
+        spelled =
+            (rw (← n-is) (wide.below (take (byte_len w) bytes) (IsBytes-take (byte_len w) bytes fits)), refl);
+        parts =
+            rw (front, ← rest-is) (sym (take-append-drop (byte_len w) bytes));
+        rest_fits =
+            rw (← rest-is) (IsBytes-drop (byte_len w) bytes fits);
+      };
   again = λ n text rest s.
       let len = wide.len n in
-      let long : ltb (length (to_be_bytes w n ++ rest)) (byte_len w) ≡ false = le-ltb _ _ (omega (arith, length-append (to_be_bytes w n) rest)) in
-      rw (s.1, long, take_at (to_be_bytes w n) rest (byte_len w) len, drop_at (to_be_bytes w n) rest (byte_len w) len, wide.again n s.0) refl;
+      let long : ltb (length (to_be_bytes w n ++ rest)) (byte_len w) ≡ false =
+      le-ltb _ _ (omega (arith, length-append (to_be_bytes w n) rest)) in
+      rw (s.1, long, take_at (to_be_bytes w n) rest (byte_len w) len, drop_at (to_be_bytes w n) rest (byte_len w) len, wide.again n s.0)
+      refl;
   blames = λ bytes f fits e.
-      let g = guard_err (ltb (length bytes) (byte_len w)) (faults.Truncated (offset total bytes)) f (from_be_bytes w (take (byte_len w) bytes), drop (byte_len w) bytes) e in
+      let g = guard_err (ltb (length bytes) (byte_len w)) (faults.Truncated (offset total bytes)) f
+      (from_be_bytes w (take (byte_len w) bytes), drop (byte_len w) bytes) e in
       (ltb-true _ _ g.0, g.1);
   blamed = λ bytes f fits h. rw (lt-ltb (length bytes) (byte_len w) h.0, h.1) refl;
 }
@@ -199,7 +241,8 @@ pub record Mapped {X Y : Type 0} (make : X → Y) (S : X → List ℕ → Type 0
   pub spelled : S value text
   pub is : y ≡ make value
 
-pub map_lawful : {X Y : Type 0} (make : X → Y) (r : List ℕ → Result (X × List ℕ) ClassFault) (S : X → List ℕ → Type 0) (F : List ℕ → ClassFault → Type 0)
+pub map_lawful : {X Y : Type 0} (make : X → Y) (r : List ℕ → Result (X × List ℕ) ClassFault) (S : X → List ℕ → Type 0) (F : List ℕ
+    → ClassFault → Type 0)
     → Lawful r S F → Lawful (λ bytes. r bytes >>= λ p. Ok (make p.0, p.1)) (Mapped make S) F
 map_lawful {X} {Y} make r S F one =
     let go : X × List ℕ → Result (Y × List ℕ) ClassFault = λ p. Ok (make p.0, p.1) in
@@ -209,7 +252,13 @@ map_lawful {X} {Y} make r S F one =
           let p : (make b.0.0, b.0.1) ≡ (y, rest) = ok_is (make b.0.0, b.0.1) (y, rest) b.2 in
           let t = one.takes bytes b.0.0 b.0.1 fits b.1 in
           let rest-is : b.0.1 ≡ rest = ap (λ (q : Y × List ℕ). q.1) p in
-          record { text = t.text; spelled = record { value = b.0.0; spelled = t.spelled; is = sym (ap (λ (q : Y × List ℕ). q.0) p) }; parts = t.parts ∙ ap (λ (z : List ℕ). t.text ++ z) rest-is; rest_fits = (let P : List ℕ → Type 0 = λ z. IsBytes z in subst P rest-is t.rest_fits) };
+          record {
+            text = t.text;
+            spelled = record { value = b.0.0; spelled = t.spelled; is = sym (ap (λ (q : Y × List ℕ). q.0) p) };
+            parts = t.parts ∙ ap (λ (z : List ℕ). t.text ++ z) rest-is;
+            rest_fits =
+                (let P : List ℕ → Type 0 = λ z. IsBytes z in subst P rest-is t.rest_fits);
+          };
       again = λ y text rest s. ap (λ (z : Result (X × List ℕ) ClassFault). z >>= go) (one.again s.value text rest s.spelled) ∙ rw s.is refl;
       blames = λ bytes f fits e.
           elim (bind_err (r bytes) go f e) [
@@ -224,7 +273,12 @@ map_lawful {X} {Y} make r S F one =
 pub reworded : {X : Type 0} (r : List ℕ → Result (X × List ℕ) ClassFault) (S T : X → List ℕ → Type 0) (F : List ℕ → ClassFault → Type 0)
     → Lawful r S F → ((x : X) (text : List ℕ) → S x text → T x text) → ((x : X) (text : List ℕ) → T x text → S x text) → Lawful r T F
 reworded r S T F one there back = record {
-  takes = λ bytes x rest fits e. let t = one.takes bytes x rest fits e in record { text = t.text; spelled = there x t.text t.spelled; parts = t.parts; rest_fits = t.rest_fits };
+  takes = λ bytes x rest fits e. let t = one.takes bytes x rest fits e in record {
+    text = t.text;
+    spelled = there x t.text t.spelled;
+    parts = t.parts;
+    rest_fits = t.rest_fits;
+  };
   again = λ x text rest s. one.again x text rest (back x text s);
   blames = one.blames;
   blamed = one.blamed;
@@ -237,7 +291,8 @@ pub record Tested {X : Type 0} (test : X → Bool) (wanted : Bool) (S : X → Li
   pub passes : test x ≡ wanted
 
 -- bad at some fault that the bytes before decide
-pub tested_lawful : {X : Type 0} (r : List ℕ → Result (X × List ℕ) ClassFault) (S : X → List ℕ → Type 0) (F : List ℕ → ClassFault → Type 0) (bad : X → Bool) (why : List ℕ → ClassFault)
+pub tested_lawful : {X : Type 0} (r : List ℕ → Result (X × List ℕ) ClassFault) (S : X → List ℕ → Type 0) (F : List ℕ → ClassFault
+    → Type 0) (bad : X → Bool) (why : List ℕ → ClassFault)
     → Lawful r S F → Lawful (λ bytes. r bytes >>= λ p. cond (bad p.0) (Err (why bytes)) (Ok p)) (Tested bad false S)
     (λ bytes f. F bytes f ⊎ FailsAfter S (λ x rest g. (bad x ≡ true) × (g ≡ why bytes)) bytes f)
 tested_lawful {X} r S F bad why one =
@@ -249,14 +304,29 @@ tested_lawful {X} r S F bad why one =
           let x-is : b.0.0 ≡ x = ap (λ (q : X × List ℕ). q.0) g.1 in
           let same : r bytes ≡ Ok (x, rest) = b.1 ∙ ap (λ (q : X × List ℕ). done q) g.1 in
           let t = one.takes bytes x rest fits same in
-          record { text = t.text; spelled = record { spelled = t.spelled; passes = ap bad (sym x-is) ∙ g.0 }; parts = t.parts; rest_fits = t.rest_fits };
-      again = λ x text rest s. ap (λ (z : Result (X × List ℕ) ClassFault). z >>= go (text ++ rest)) (one.again x text rest s.spelled) ∙ rw s.passes refl;
+          record {
+            text = t.text;
+            spelled = record { spelled = t.spelled; passes = ap bad (sym x-is) ∙ g.0 };
+            parts = t.parts;
+            rest_fits =
+                t.rest_fits;
+          };
+      again = λ x text rest s. ap (λ (z : Result (X × List ℕ) ClassFault). z >>= go (text ++ rest)) (one.again x text rest s.spelled)
+          ∙ rw s.passes refl;
       blames = λ bytes f fits e.
           elim (bind_err (r bytes) (go bytes) f e) [
             | inl here ↦ inl (one.blames bytes f fits here)
             | inr (x, is, there) ↦
                 let t = one.takes bytes x.0 x.1 fits is in
-                inr (record { value = x.0; text = t.text; rest = x.1; spelled = t.spelled; parts = t.parts; next = guard_err (bad x.0) (why bytes) f x there })
+                inr (record {
+                  value = x.0;
+                  text = t.text;
+                  rest = x.1;
+                  spelled = t.spelled;
+                  parts = t.parts;
+                  next =
+                      guard_err (bad x.0) (why bytes) f x there;
+                })
           ];
       blamed = λ bytes f fits h.
           elim h [

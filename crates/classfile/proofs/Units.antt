@@ -5,8 +5,8 @@ use Rattle.std.proofs.lemmas.Bool.{eqb-true, ne_eqb, ltb-true, lt-ltb, le-ltb, c
 use Rattle.std.proofs.lemmas.List.Elements.{All-nil, All-cons, All-head, All-tail}
 use Rattle.classfile.specs.Modified.{between, is_one, is_two, is_three, is_modified}
 use Rattle.classfile.specs.Units.{unit_text, units_text, IsModifiedUtf8}
-use Rattle.classfile.proofs.Facts.{both, either}
-use Rattle.classfile.proofs.Reading.{joined}
+use Rattle.classfile.proofs.Bools.{both, either}
+use Rattle.classfile.proofs.Rules.{joined}
 
 -- ---- what the tests mean
 

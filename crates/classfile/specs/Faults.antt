@@ -9,7 +9,7 @@ use Rattle.classfile.specs.declared.constant.Constant.TheVariants as constants
 use Rattle.classfile.specs.declared.constant.Kind.{Kind}
 use Rattle.classfile.specs.declared.constant.Kind.TheVariants as kinds
 use Rattle.classfile.specs.Numbers.{offset}
-use Rattle.classfile.specs.Modified.{is_modified}
+use Rattle.classfile.specs.Units.{IsModifiedUtf8}
 use Rattle.classfile.specs.Entries.{is_wide, kind_of}
 use Rattle.classfile.specs.Spelling.{constant_text, Fits, AreSlots, slots_text}
 
@@ -52,7 +52,7 @@ TwoFail v w total = Either (Number v) (CutNumber v total) (λ m. CutNumber w tot
 
 abbrev pub Utf8Fails : ℕ → ℕ → List ℕ → ClassFault → Type 0
 Utf8Fails total index = Either (Number w16) (CutNumber w16 total) (λ count. Either (Run count) (Cut count total)
-    (λ text rest fault. (is_modified text ≡ false) × (fault ≡ faults.Utf8 index)))
+    (λ text rest fault. (¬ IsModifiedUtf8 text) × (fault ≡ faults.Utf8 index)))
 
 abbrev pub BodyFails : Option Kind → ℕ → ℕ → List ℕ → ClassFault → Type 0
 BodyFails None total index bytes fault = fault ≡ faults.Tag index

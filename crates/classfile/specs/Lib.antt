@@ -21,3 +21,4 @@ pub mod Members
 pub mod Class
 pub mod ReadClass
 pub mod Checks
+pub mod FirstFault

@@ -8,7 +8,11 @@ use Rattle.classfile.specs.declared.exceptions.ExceptionHandler.{ExceptionHandle
 use Rattle.classfile.specs.declared.code.Code.{Code}
 use Rattle.classfile.specs.declared.attribute.Attribute.{Attribute}
 use Rattle.classfile.specs.declared.attribute.Attribute.TheVariants as attributes
+use Rattle.classfile.specs.declared.attribute.Owner.{Owner}
+use Rattle.classfile.specs.declared.attribute.Owner.TheVariants as owners
 use Rattle.classfile.specs.declared.member.Member.{Member}
+use Rattle.classfile.specs.declared.member.MemberKind.{MemberKind}
+use Rattle.classfile.specs.declared.member.MemberKind.TheVariants as kinds
 use Rattle.classfile.specs.Flags.{has_flag, has_no_body}
 use Rattle.classfile.specs.Names.{constant_value_name, code_name, string_descriptor}
 use Rattle.classfile.specs.Lookup.{text_of}
@@ -23,6 +27,11 @@ is_constant_value _ = false
 abbrev pub is_code : Attribute → Bool
 is_code (attributes.Code name code) = true
 is_code _ = false
+
+-- whose attributes a member's are
+abbrev pub owner_of : MemberKind → ℕ → ℕ → Owner
+owner_of kinds.Field flags descriptor = owners.Field flags descriptor
+owner_of kinds.Method flags descriptor = owners.Method flags
 
 -- the code of the first Code
 abbrev pub code_among : List Attribute → Option Code

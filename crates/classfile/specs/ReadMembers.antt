@@ -24,6 +24,7 @@ use Rattle.classfile.specs.Repeat.{table_at}
 use Rattle.classfile.specs.ReadCode.{text_index_at, framed_at, unread_of, whole_code}
 use Rattle.classfile.specs.Flags.{has_flag, has_no_body}
 use Rattle.classfile.specs.Members.{is_constant_value, is_code}
+pub use Rattle.classfile.specs.Members.{owner_of}
 use Rattle.classfile.specs.Names.{constant_value_name, code_name, string_descriptor}
 
 -- what an attribute of a name means to its owner
@@ -111,10 +112,6 @@ is_like pool name descriptor m = same_text pool m.name name && same_text pool m.
 -- whether one of these members has this name and descriptor
 unfoldable pub is_declared : List Constant → ℕ → ℕ → List Member → Bool
 is_declared pool name descriptor earlier = list_any (is_like pool name descriptor) earlier
-
-abbrev pub owner_of : MemberKind → ℕ → ℕ → Owner
-owner_of kinds.Field flags descriptor = owners.Field flags descriptor
-owner_of kinds.Method flags descriptor = owners.Method flags
 
 -- whether a method that has to have code has none
 abbrev pub lacks_code : MemberKind → ℕ → List Attribute → Bool

@@ -1,10 +1,13 @@
 //! Class files.
 
-ghost use Rattle.std.specs.Prelude.{◌≡◌, IfOk, option_map, slice_get};
+ghost use Rattle.std.specs.Prelude.{◌≡◌, ℕ, List, Ok, Err, IfOk, IfErr, option_map, slice_get};
+ghost use Rattle.classfile.specs.declared.fault.ClassFault.{ClassFault};
 ghost use Rattle.classfile.specs.Class.{IsStructure, IsClassText};
+ghost use Rattle.classfile.specs.Faults.{IsBytes};
+ghost use Rattle.classfile.specs.FirstFault.{FirstFault, IsFirstFault, ExactlyOne};
 ghost use Rattle.classfile.specs.Lookup.{text_of, class_name_of};
 ghost use Rattle.classfile.specs.Numbers.{Gives};
-ghost use Rattle.classfile.specs.ReadClass.{class_of};
+ghost use Rattle.classfile.specs.Structure.{Structure};
 
 use crate::attribute::Attribute;
 use crate::constant::Constant;
@@ -38,14 +41,23 @@ impl Model for ClassFile {
 /// Otherwise it answers the first rule that is broken, from the file's front to its back, or
 /// `Memory` where memory runs out.
 pub fn read(alloc: Global, bytes: &[u8]) -> Result<ClassFile, ClassFault>
-    // What is accepted is the text of a class file.
+    // What is accepted is the text of the class file that is answered.
     ensures text { IfOk result (λ class. IsClassText bytes.now class) }
-    // What is accepted, and which fault is answered otherwise, is what reading from front to back gives.
-    ensures answer { Gives (λ class. class) result (class_of bytes.now) }
+    // Every text of a class file is accepted as that class file, unless memory runs out.
+    ensures only_text { (class : Structure) → IsClassText bytes.now class → Gives (λ c. c) result (Ok class) }
+    // What is refused is refused for the first rule that it breaks, or because memory runs out.
+    ensures fault { IfErr result (λ fault. IsFirstFault bytes.now fault) }
+    // Everything else is refused for the first rule that it breaks, unless memory runs out.
+    ensures only_fault { (fault : ClassFault) → FirstFault bytes.now fault → Gives {Y = Structure} (λ c. c) result (Err fault) }
 {
     let parts = class_of(alloc, bytes)?;
     Ok(ClassFile { parts })
 }
+
+/// Bytes are the text of one class file or break one rule first, and never both.
+pub fn text_or_fault()
+    ensures { (bytes : List ℕ) → IsBytes bytes → ExactlyOne bytes }
+{}
 
 impl ClassFile {
     /// The entries of the constant pool by index (JVMS 4.4): index 0 is unusable, and so is the one

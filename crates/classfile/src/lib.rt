@@ -25,7 +25,7 @@ mod writing;
 
 pub use attribute::{Attribute, Attributes};
 pub use bytes::Bytes;
-pub use class_file::{ClassFile, read};
+pub use class_file::{ClassFile, read, text_or_fault};
 pub use code::Code;
 pub use constant::Constant;
 pub use exceptions::{ExceptionHandler, ExceptionTable};
