@@ -18,3 +18,7 @@ pub mod Memory
 pub mod AttributeLawful
 pub mod MemberLawful
 pub mod ClassLawful
+pub mod BadDescriptors
+pub mod TextForms
+pub mod EqualTexts
+pub mod EarlierMembers

@@ -22,3 +22,6 @@ pub mod Class
 pub mod ReadClass
 pub mod Checks
 pub mod FirstFault
+pub mod Kinds
+pub mod Forms
+pub mod Earlier

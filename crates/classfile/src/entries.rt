@@ -1,6 +1,8 @@
 //! Reads the entries of a constant pool.
 
+ghost use Rattle.std.specs.Prelude.{◌≡◌, true};
 ghost use Rattle.classfile.specs.Numbers.{Gives};
+ghost use Rattle.classfile.specs.Kinds.{is_of_one, is_of_halves, is_of_indices};
 ghost use Rattle.classfile.specs.Entries.{utf8_at, body_at, constant_at, slot_at, entries_at};
 
 use crate::constant::{Constant, Kind, kind_of};
@@ -27,6 +29,102 @@ fn utf8_at(
     Ok((Constant::Utf8 { text }, rest))
 }
 
+/// The body of a constant that is one number: an index, or the bits of an int or a float.
+#[tactic(auto, unfolding(crate::specs::Entries::body_at))]
+fn one_at(
+    kind: Kind,
+    total: usize,
+    index: u16,
+    bytes: &[u8],
+) -> Result<(Constant, &[u8]), ClassFault>
+    requires { is_of_one kind ≡ true }
+    ensures { Gives (λ x. (x.0, x.1.now)) result (body_at kind total index bytes.now) }
+{
+    if matches!(kind, Kind::Integer | Kind::Float) {
+        let (bits, rest) = u32_at(total, bytes)?;
+        let constant = match kind {
+            Kind::Integer => Constant::Integer { bits },
+            _ => Constant::Float { bits },
+        };
+        return Ok((constant, rest));
+    }
+    let (named, rest) = u16_at(total, bytes)?;
+    let constant = match kind {
+        Kind::Class => Constant::Class { name: named },
+        Kind::String => Constant::String { text: named },
+        _ => Constant::MethodType { descriptor: named },
+    };
+    Ok((constant, rest))
+}
+
+/// The body of a constant that is two halves.
+#[tactic(auto, unfolding(crate::specs::Entries::body_at))]
+fn halves_at(
+    kind: Kind,
+    total: usize,
+    index: u16,
+    bytes: &[u8],
+) -> Result<(Constant, &[u8]), ClassFault>
+    requires { is_of_halves kind ≡ true }
+    ensures { Gives (λ x. (x.0, x.1.now)) result (body_at kind total index bytes.now) }
+{
+    let (high, rest) = u32_at(total, bytes)?;
+    let (low, rest) = u32_at(total, rest)?;
+    let constant = match kind {
+        Kind::Long => Constant::Long { high, low },
+        _ => Constant::Double { high, low },
+    };
+    Ok((constant, rest))
+}
+
+/// The body of a constant that is two indices, or a bootstrap method's number and an index.
+#[tactic(auto, unfolding(crate::specs::Entries::body_at))]
+fn indices_at(
+    kind: Kind,
+    total: usize,
+    index: u16,
+    bytes: &[u8],
+) -> Result<(Constant, &[u8]), ClassFault>
+    requires { is_of_indices kind ≡ true }
+    ensures { Gives (λ x. (x.0, x.1.now)) result (body_at kind total index bytes.now) }
+{
+    let (first, rest) = u16_at(total, bytes)?;
+    let (second, rest) = u16_at(total, rest)?;
+    let constant = match kind {
+        Kind::Fieldref => Constant::Fieldref {
+            class: first,
+            name_and_type: second,
+        },
+        Kind::Methodref => Constant::Methodref {
+            class: first,
+            name_and_type: second,
+        },
+        Kind::InterfaceMethodref => Constant::InterfaceMethodref {
+            class: first,
+            name_and_type: second,
+        },
+        Kind::NameAndType => Constant::NameAndType {
+            name: first,
+            descriptor: second,
+        },
+        _ => Constant::InvokeDynamic {
+            bootstrap: first,
+            name_and_type: second,
+        },
+    };
+    Ok((constant, rest))
+}
+
+#[tactic(auto, unfolding(crate::specs::Entries::body_at))]
+fn method_handle_at(total: usize, index: u16, bytes: &[u8]) -> Result<(Constant, &[u8]), ClassFault>
+    ensures { Gives (λ x. (x.0, x.1.now)) result (body_at Kind.MethodHandle total index bytes.now) }
+{
+    let (kind, rest) = u8_at(total, bytes)?;
+    let (reference, rest) = u16_at(total, rest)?;
+    Ok((Constant::MethodHandle { kind, reference }, rest))
+}
+
+/// What stands behind a constant's tag (JVMS 4.4).
 #[tactic(auto, unfolding(crate::specs::Entries::body_at))]
 fn body_at(
     alloc: Global,
@@ -39,90 +137,16 @@ fn body_at(
 {
     match kind {
         Kind::Utf8 => utf8_at(alloc, total, index, bytes),
-        Kind::Integer => {
-            let (bits, rest) = u32_at(total, bytes)?;
-            Ok((Constant::Integer { bits }, rest))
+        Kind::Integer | Kind::Float | Kind::Class | Kind::String | Kind::MethodType => {
+            one_at(kind, total, index, bytes)
         }
-        Kind::Float => {
-            let (bits, rest) = u32_at(total, bytes)?;
-            Ok((Constant::Float { bits }, rest))
-        }
-        Kind::Long => {
-            let (high, rest) = u32_at(total, bytes)?;
-            let (low, rest) = u32_at(total, rest)?;
-            Ok((Constant::Long { high, low }, rest))
-        }
-        Kind::Double => {
-            let (high, rest) = u32_at(total, bytes)?;
-            let (low, rest) = u32_at(total, rest)?;
-            Ok((Constant::Double { high, low }, rest))
-        }
-        Kind::Class => {
-            let (name, rest) = u16_at(total, bytes)?;
-            Ok((Constant::Class { name }, rest))
-        }
-        Kind::String => {
-            let (text, rest) = u16_at(total, bytes)?;
-            Ok((Constant::String { text }, rest))
-        }
-        Kind::Fieldref => {
-            let (class, rest) = u16_at(total, bytes)?;
-            let (name_and_type, rest) = u16_at(total, rest)?;
-            Ok((
-                Constant::Fieldref {
-                    class,
-                    name_and_type,
-                },
-                rest,
-            ))
-        }
-        Kind::Methodref => {
-            let (class, rest) = u16_at(total, bytes)?;
-            let (name_and_type, rest) = u16_at(total, rest)?;
-            Ok((
-                Constant::Methodref {
-                    class,
-                    name_and_type,
-                },
-                rest,
-            ))
-        }
-        Kind::InterfaceMethodref => {
-            let (class, rest) = u16_at(total, bytes)?;
-            let (name_and_type, rest) = u16_at(total, rest)?;
-            Ok((
-                Constant::InterfaceMethodref {
-                    class,
-                    name_and_type,
-                },
-                rest,
-            ))
-        }
-        Kind::NameAndType => {
-            let (name, rest) = u16_at(total, bytes)?;
-            let (descriptor, rest) = u16_at(total, rest)?;
-            Ok((Constant::NameAndType { name, descriptor }, rest))
-        }
-        Kind::MethodHandle => {
-            let (kind, rest) = u8_at(total, bytes)?;
-            let (reference, rest) = u16_at(total, rest)?;
-            Ok((Constant::MethodHandle { kind, reference }, rest))
-        }
-        Kind::MethodType => {
-            let (descriptor, rest) = u16_at(total, bytes)?;
-            Ok((Constant::MethodType { descriptor }, rest))
-        }
-        Kind::InvokeDynamic => {
-            let (bootstrap, rest) = u16_at(total, bytes)?;
-            let (name_and_type, rest) = u16_at(total, rest)?;
-            Ok((
-                Constant::InvokeDynamic {
-                    bootstrap,
-                    name_and_type,
-                },
-                rest,
-            ))
-        }
+        Kind::Long | Kind::Double => halves_at(kind, total, index, bytes),
+        Kind::Fieldref
+        | Kind::Methodref
+        | Kind::InterfaceMethodref
+        | Kind::NameAndType
+        | Kind::InvokeDynamic => indices_at(kind, total, index, bytes),
+        Kind::MethodHandle => method_handle_at(total, index, bytes),
     }
 }
 

@@ -1,7 +1,7 @@
 //! What stands at an index of a constant pool.
 
 ghost use Rattle.std.specs.Prelude.{◌≡◌, option_map};
-ghost use Rattle.classfile.specs.Lookup.{text_of, has_text, same_text, class_name_of, is_class};
+ghost use Rattle.classfile.specs.Lookup.{text_of, has_text, class_name_of, is_class};
 ghost use Rattle.classfile.specs.Lookup.{is_class_or_none, is_plain_class, descriptor_of, is_member};
 
 use crate::constant::Constant;
@@ -23,18 +23,6 @@ pub(crate) fn has_text(pool: &[Constant], index: u16) -> bool
     ensures { result ≡ has_text pool.now index }
 {
     text_of(pool, index).is_some()
-}
-
-/// Whether two indices name the same text.
-#[tactic(auto, unfolding(crate::specs::Lookup::same_text))]
-pub(crate) fn same_text(pool: &[Constant], a: u16, b: u16) -> bool
-    ensures { result ≡ same_text pool.now a b }
-{
-    match (text_of(pool, a), text_of(pool, b)) {
-        (Some(a), Some(b)) => a == b,
-        (None, None) => true,
-        _ => false,
-    }
 }
 
 /// The bytes of the name of the Class at an index.

@@ -1,19 +1,20 @@
 //! Fields and methods.
 
-ghost use Rattle.std.specs.Prelude.{◌≡◌, option_map};
+ghost use Rattle.std.specs.Prelude.{◌≡◌, ◌++◌, [], ◌∷◌, option_map, IfOk};
+ghost use Rattle.classfile.specs.Earlier.{Finds};
 ghost use Rattle.classfile.specs.Members.{code_among, value_among};
 ghost use Rattle.classfile.specs.Numbers.{Gives};
-ghost use Rattle.classfile.specs.ReadMembers.{is_descriptor_of, has_descriptor, descriptor_at, is_like, is_declared};
+ghost use Rattle.classfile.specs.ReadMembers.{has_descriptor, descriptor_at};
 ghost use Rattle.classfile.specs.ReadMembers.{owner_of, lacks_code, body_at, member_at, members_at};
 
 use crate::attribute::{Attribute, Attributes, Owner, attributes_at, has_code};
 use crate::code::Code;
 use crate::constant::Constant;
-use crate::descriptor::{is_field, is_method};
+use crate::earlier::{Earlier, is_declared};
 use crate::fault::ClassFault;
 use crate::flags::has_no_body;
-use crate::lookup::{same_text, text_of};
 use crate::numbers::u16_at;
+use crate::pool::ConstantPool;
 use crate::unread::text_index_at;
 use std::alloc::Global;
 use std::marker::Model;
@@ -84,22 +85,13 @@ pub(crate) enum MemberKind {
     Method,
 }
 
-fn is_descriptor_of(kind: MemberKind, text: &[u8]) -> bool
-    ensures { result ≡ is_descriptor_of kind text.now }
-{
-    match kind {
-        MemberKind::Field => is_field(text),
-        MemberKind::Method => is_method(text),
-    }
-}
-
 #[tactic(auto, unfolding(crate::specs::ReadMembers::has_descriptor))]
-fn has_descriptor(kind: MemberKind, pool: &[Constant], index: u16) -> bool
+fn has_descriptor(kind: MemberKind, pool: &ConstantPool, index: u16) -> bool
     ensures { result ≡ has_descriptor kind pool.now index }
 {
-    match text_of(pool, index) {
-        None => false,
-        Some(text) => is_descriptor_of(kind, text),
+    match kind {
+        MemberKind::Field => pool.is_field(index),
+        MemberKind::Method => pool.is_method(index),
     }
 }
 
@@ -107,27 +99,17 @@ fn has_descriptor(kind: MemberKind, pool: &[Constant], index: u16) -> bool
 #[tactic(auto, unfolding(crate::specs::ReadMembers::descriptor_at))]
 fn descriptor_at<'a>(
     kind: MemberKind,
-    pool: &[Constant],
+    pool: &ConstantPool,
     total: usize,
     bytes: &'a [u8],
 ) -> Result<(u16, &'a [u8]), ClassFault>
     ensures { Gives (λ x. (x.0, x.1.now)) result (descriptor_at kind pool.now total bytes.now) }
 {
-    let (index, rest) = text_index_at(pool, total, bytes)?;
+    let (index, rest) = text_index_at(pool.as_slice(), total, bytes)?;
     if !has_descriptor(kind, pool, index) {
         return Err(ClassFault::Descriptor { index });
     }
     Ok((index, rest))
-}
-
-/// Whether one of these members has this name and descriptor.
-#[tactic(auto, unfolding(crate::specs::ReadMembers::is_declared))]
-fn is_declared(pool: &[Constant], name: u16, descriptor: u16, earlier: &[Member]) -> bool
-    ensures { result ≡ is_declared pool.now name descriptor earlier.now }
-{
-    earlier.iter().any(|member| {
-        same_text(pool, member.name, name) && same_text(pool, member.descriptor, descriptor)
-    })
 }
 
 fn owner_of(kind: MemberKind, access_flags: u16, descriptor: u16) -> Owner
@@ -182,35 +164,41 @@ fn body_at<'a>(
     Ok((member, rest))
 }
 
+/// The next member. From then on it is one of those that stand before.
 #[tactic(auto, unfolding(crate::specs::ReadMembers::member_at))]
-fn member_at<'a>(
+fn member_at<'p, 'a>(
     alloc: Global,
     kind: MemberKind,
-    pool: &[Constant],
+    pool: &'p ConstantPool,
     total: usize,
-    earlier: &[Member],
+    earlier: &mut Earlier<'p>,
     bytes: &'a [u8],
 ) -> Result<(Member, &'a [u8]), ClassFault>
-    ensures { Gives (λ x. (x.0, x.1.now)) result (member_at kind pool.now total earlier.now bytes.now) }
+    requires { Finds pool.now earlier.old earlier.old.members.items }
+    ensures value { Gives (λ x. (x.0, x.1.now)) result
+        (member_at kind pool.now total earlier.old.members.items bytes.now) }
+    ensures members { earlier.new.members ≡ earlier.old.members }
+    ensures finds { IfOk result (λ x. Finds pool.now earlier.new (earlier.old.members.items ++ x.0 ∷ [])) }
 {
     let at = total.saturating_sub(bytes.len());
     let (access_flags, rest) = u16_at(total, bytes)?;
-    let (name, rest) = text_index_at(pool, total, rest)?;
+    let (name, rest) = text_index_at(pool.as_slice(), total, rest)?;
     let (descriptor, rest) = descriptor_at(kind, pool, total, rest)?;
-    if is_declared(pool, name, descriptor, earlier) {
+    if is_declared(pool.as_slice(), earlier, name, descriptor)? {
         return Err(ClassFault::Index { at });
     }
-    body_at(
+    let (member, rest) = body_at(
         alloc,
         kind,
-        pool,
+        pool.as_slice(),
         total,
         at,
         access_flags,
         name,
         descriptor,
         rest,
-    )
+    )?;
+    Ok((member, rest))
 }
 
 /// A table of fields or methods.
@@ -218,19 +206,20 @@ fn member_at<'a>(
 pub(crate) fn members_at<'a>(
     alloc: Global,
     kind: MemberKind,
-    pool: &[Constant],
+    pool: &ConstantPool,
     total: usize,
     bytes: &'a [u8],
 ) -> Result<(Members, &'a [u8]), ClassFault>
     ensures { Gives (λ x. (x.0, x.1.now)) result (members_at kind pool.now total bytes.now) }
 {
     let (count, rest) = u16_at(total, bytes)?;
-    let mut items = Vec::with_capacity(alloc, usize::from(count).min(rest.len()))?;
+    let mut earlier = Earlier::new(alloc, pool.as_slice())?;
     let mut rest = rest;
     for _index in 0..count {
-        let (member, after) = member_at(alloc, kind, pool, total, &items, rest)?;
-        items.push(member)?;
+        let (member, after) = member_at(alloc, kind, pool, total, &mut earlier, rest)?;
+        earlier.members.push(member)?;
         rest = after;
     }
+    let items = earlier.members;
     Ok((Members { items }, rest))
 }

@@ -64,9 +64,9 @@ fn body_at<'a>(
 ) -> Result<(Parts, &'a [u8]), ClassFault>
     ensures { Gives (λ x. (x.0, x.1.now)) result (body_at constants declaration total bytes.now) }
 {
+    let (fields, rest) = members_at(alloc, MemberKind::Field, &constants, total, bytes)?;
+    let (methods, rest) = members_at(alloc, MemberKind::Method, &constants, total, rest)?;
     let pool = constants.as_slice();
-    let (fields, rest) = members_at(alloc, MemberKind::Field, pool, total, bytes)?;
-    let (methods, rest) = members_at(alloc, MemberKind::Method, pool, total, rest)?;
     let (attributes, rest) = attributes_at(alloc, pool, Owner::Class, total, rest)?;
     let class = Parts {
         constants,

@@ -1,6 +1,9 @@
 //! Constant pools.
 
-ghost use Rattle.std.specs.Prelude.{◌≡◌, ◌<◌, ◌^◌, List};
+ghost use Rattle.std.specs.Prelude.{◌≡◌, ◌<◌, ◌^◌, IfOk, option_map, slice_get};
+ghost use Rattle.classfile.specs.Descriptors.{is_field, is_method, is_class_name};
+ghost use Rattle.classfile.specs.Forms.{form_of};
+ghost use Rattle.classfile.specs.Lookup.{text_of, passes};
 ghost use Rattle.classfile.specs.Numbers.{Gives};
 ghost use Rattle.classfile.specs.ReadPool.{pool_at};
 
@@ -8,8 +11,9 @@ use crate::checks::check_all;
 use crate::constant::Constant;
 use crate::entries::entries_at;
 use crate::fault::ClassFault;
+use crate::forms::{Form, forms_of};
 use crate::numbers::u16_at;
-use std::alloc::Global;
+use std::alloc::{AllocError, Global};
 use std::marker::Model;
 
 /// A constant pool (JVMS 4.4). Its indices are those of the file: index 0 is unusable, and so is
@@ -17,15 +21,20 @@ use std::marker::Model;
 #[derive(Debug, Drop)]
 pub struct ConstantPool {
     constants: Vec<Constant>,
+    /// What each text is, so that none is looked through twice.
+    forms: Vec<Form>,
 }
 
 impl Model for ConstantPool {
-    ghost use Rattle.std.specs.Prelude.{List};
+    ghost use Rattle.std.specs.Prelude.{◌≡◌, List};
     ghost use Rattle.classfile.specs.declared.constant.Constant.{Constant};
+    ghost use Rattle.classfile.specs.Forms.{forms_of};
 
     ghost Value = { List Constant };
 
     ghost view = { λ p. p.constants.items };
+
+    ghost invariant = { λ p. p.forms.items ≡ forms_of p.constants.items };
 }
 
 impl ConstantPool {
@@ -34,6 +43,55 @@ impl ConstantPool {
         ensures { result.now ≡ self.now }
     {
         &self.constants
+    }
+
+    fn from_entries(alloc: Global, constants: Vec<Constant>) -> Result<Self, AllocError>
+        ensures { IfOk result (λ p. p ≡ constants.items) }
+    {
+        let forms = forms_of(alloc, &constants)?;
+        Ok(ConstantPool { constants, forms })
+    }
+
+    fn form(&self, index: u16) -> Option<Form>
+        ensures { result ≡ option_map form_of (slice_get self.now index) }
+    {
+        self.forms.get(usize::from(index)).copied()
+    }
+
+    /// Whether the descriptor of a field stands at an index (JVMS 4.3.2).
+    #[tactic(auto, using(crate::proofs::TextForms::field_form), unfolding(crate::specs::Lookup::text_of))]
+    pub(crate) fn is_field(&self, index: u16) -> bool
+        ensures { result ≡ passes is_field (text_of self.now index) }
+    {
+        matches!(self.form(index), Some(Form { is_field: true, .. }))
+    }
+
+    /// Whether the descriptor of a method stands at an index (JVMS 4.3.3).
+    #[tactic(auto, using(crate::proofs::TextForms::method_form), unfolding(crate::specs::Lookup::text_of))]
+    pub(crate) fn is_method(&self, index: u16) -> bool
+        ensures { result ≡ passes is_method (text_of self.now index) }
+    {
+        matches!(
+            self.form(index),
+            Some(Form {
+                is_method: true,
+                ..
+            })
+        )
+    }
+
+    /// Whether the name of a class or the descriptor of an array stands at an index (JVMS 4.4.1).
+    #[tactic(auto, using(crate::proofs::TextForms::class_name_form), unfolding(crate::specs::Lookup::text_of))]
+    pub(crate) fn is_class_name(&self, index: u16) -> bool
+        ensures { result ≡ passes is_class_name (text_of self.now index) }
+    {
+        matches!(
+            self.form(index),
+            Some(Form {
+                is_class_name: true,
+                ..
+            })
+        )
     }
 }
 
@@ -55,6 +113,7 @@ pub(crate) fn pool_at(
     }
     let left = rest.len();
     let (constants, rest) = entries_at(alloc, total, count, rest)?;
-    check_all(&constants, total, left)?;
-    Ok((ConstantPool { constants }, rest))
+    let pool = ConstantPool::from_entries(alloc, constants)?;
+    check_all(&pool, total, left)?;
+    Ok((pool, rest))
 }
