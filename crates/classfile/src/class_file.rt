@@ -1,6 +1,6 @@
 //! Class files.
 
-ghost use Rattle.std.specs.Prelude.{◌≡◌, ℕ, List, Ok, Err, IfOk, IfErr, option_map, slice_get};
+ghost use Rattle.std.specs.Prelude.{◌≡◌, ◌<◌, ◌^◌, ℕ, List, length, Ok, Err, IfOk, IfErr, option_map, slice_get};
 ghost use Rattle.classfile.specs.declared.fault.ClassFault.{ClassFault};
 ghost use Rattle.classfile.specs.Class.{IsStructure, IsClassText};
 ghost use Rattle.classfile.specs.Faults.{IsBytes};
@@ -98,16 +98,18 @@ impl ClassFile {
         self.parts.declaration.interfaces.as_slice()
     }
 
-    /// The fields, in the file's order.
+    /// The fields, in the file's order: at most 65,535.
     pub fn fields(&self) -> &[Member]
-        ensures { result.now ≡ self.now.fields }
+        ensures value { result.now ≡ self.now.fields }
+        ensures count { length result.now < 2 ^ 16 }
     {
         self.parts.fields.as_slice()
     }
 
-    /// The methods, in the file's order.
+    /// The methods, in the file's order: at most 65,535.
     pub fn methods(&self) -> &[Member]
-        ensures { result.now ≡ self.now.methods }
+        ensures value { result.now ≡ self.now.methods }
+        ensures count { length result.now < 2 ^ 16 }
     {
         self.parts.methods.as_slice()
     }

@@ -1,10 +1,10 @@
 //! The attribute Code.
 
-ghost use Rattle.std.specs.Prelude.{◌≡◌};
+ghost use Rattle.std.specs.Prelude.{◌≡◌, ◌<◌, ◌^◌, IfOk};
 ghost use Rattle.classfile.specs.Numbers.{Gives};
 ghost use Rattle.classfile.specs.ReadCode.{code_length_at, code_bytes_at, code_at, whole_code};
 
-use crate::bytes::Bytes;
+use crate::code_bytes::CodeBytes;
 use crate::constant::Constant;
 use crate::exceptions::{ExceptionTable, exceptions_at};
 use crate::fault::ClassFault;
@@ -18,14 +18,15 @@ use std::alloc::Global;
 pub struct Code {
     pub max_stack: u16,
     pub max_locals: u16,
-    pub code: Bytes,
+    pub code: CodeBytes,
     pub exceptions: ExceptionTable,
     pub attributes: UnreadAttributes,
 }
 
 #[tactic(auto, unfolding(crate::specs::ReadCode::code_length_at))]
 fn code_length_at(total: usize, bytes: &[u8]) -> Result<(u32, &[u8]), ClassFault>
-    ensures { Gives (λ x. (x.0, x.1.now)) result (code_length_at total bytes.now) }
+    ensures read { Gives (λ x. (x.0, x.1.now)) result (code_length_at total bytes.now) }
+    ensures short { IfOk result (λ x. x.0 < 2 ^ 16) }
 {
     let (length, rest) = u32_at(total, bytes)?;
     if length == 0 || 65536 <= length {
@@ -37,12 +38,16 @@ fn code_length_at(total: usize, bytes: &[u8]) -> Result<(u32, &[u8]), ClassFault
 }
 
 #[tactic(auto, unfolding(crate::specs::ReadCode::code_bytes_at))]
-fn code_bytes_at(alloc: Global, total: usize, bytes: &[u8]) -> Result<(Bytes, &[u8]), ClassFault>
+fn code_bytes_at(
+    alloc: Global,
+    total: usize,
+    bytes: &[u8],
+) -> Result<(CodeBytes, &[u8]), ClassFault>
     ensures { Gives (λ x. (x.0, x.1.now)) result (code_bytes_at total bytes.now) }
 {
     let (length, rest) = code_length_at(total, bytes)?;
     let (code, rest) = run_at(total, length as usize, rest)?;
-    let code = Bytes::copy_of(alloc, code)?;
+    let code = CodeBytes::copy_of(alloc, code)?;
     Ok((code, rest))
 }
 

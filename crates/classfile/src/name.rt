@@ -8,6 +8,7 @@ ghost use Rattle.classfile.specs.Units.{units_text};
 
 use crate::modified::ModifiedUtf8;
 use std::alloc::{AllocError, Global};
+use std::fmt::{self, Display, Formatter, Write};
 use std::marker::Model;
 
 /// The name of a class: a list of 16-bit units, with slashes (JVMS 4.2.1).
@@ -49,5 +50,15 @@ impl ClassName {
         ensures { IfOk result (λ text. text ≡ units_text self.now) }
     {
         ModifiedUtf8::from_units(alloc, &self.units)
+    }
+}
+
+/// Surrogate pairs are joined, and a lone surrogate is `?`.
+impl Display for ClassName {
+    fn fmt<W: Write>(&self, formatter: &mut Formatter<W>) -> Result<(), fmt::Error> {
+        for character in char::decode_utf16(self.units.iter().copied()) {
+            formatter.write_char(character.unwrap_or('?'))?;
+        }
+        Ok(())
     }
 }

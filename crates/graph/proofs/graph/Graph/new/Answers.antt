@@ -1,0 +1,7 @@
+use Rattle.std.proofs.Common.{sym, subst}
+use Rattle.graph.specs.Rows.{Rows, IsClosed}
+use Rattle.graph.proofs.Edges.{closed_empty}
+use Rattle.graph.proofs.graph.Graph.new.Goals as goal
+
+pub invariant_of-result : goal.invariant_of-result
+invariant_of-result c = subst (λ (graph : Rows). IsClosed graph) (sym c.loop.invariant) (closed_empty c.loop.counter)

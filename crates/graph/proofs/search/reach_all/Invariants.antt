@@ -1,0 +1,12 @@
+use Rattle.std.proofs.Common.{◌≡◌, ◌-◌, length}
+use Rattle.graph.proofs.Searches.{Searching}
+use Rattle.graph.proofs.search.reach_all.Given as goal
+
+abbrev pub invariant-loop-next : goal.invariant-loop-next
+invariant-loop-next l = record {
+  limit : l.seen.limit ≡ length l.graph;
+  searching : Searching l.graph l.from l.seen.items l.next;
+}
+
+abbrev pub decreases-loop-next : goal.decreases-loop-next
+decreases-loop-next l = length l.graph - l.next

@@ -1,0 +1,19 @@
+//! Directed graphs of numbered vertices: what a vertex reaches, an order in which successors come first, and cycles.
+#![tactic(auto)]
+
+mod arrangement;
+mod circle;
+mod components;
+mod graph;
+mod search;
+#[cfg(test)]
+mod tests;
+mod visited;
+mod walk;
+
+pub use arrangement::{Arrangement, arrange};
+pub use circle::is_on_cycle;
+pub use graph::Graph;
+pub use search::{reach, reach_all};
+pub use visited::Visited;
+pub use walk::order;

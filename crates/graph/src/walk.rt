@@ -1,0 +1,108 @@
+//! An order of the vertices, by a walk in depth.
+
+ghost use Rattle.std.specs.Prelude.{◌≡◌, ℕ, ◌+◌, ◌-◌, ◌*◌, ◌<◌, ◌≤◌, [], length, slice_index, IfOk, OnOk, vec_len};
+ghost use Rattle.std.specs.List.{Contains};
+ghost use Rattle.graph.specs.Order.{IsPostorder};
+ghost use Rattle.graph.specs.Walking.{Walking};
+
+use crate::graph::Graph;
+use crate::visited::Visited;
+use std::alloc::{AllocError, Global};
+
+/// A walk: what was seen is on the path or finished.
+#[derive(Drop)]
+struct Walk {
+    seen: Visited,
+    /// From a root down, each the successor of the one before.
+    path: Vec<usize>,
+    /// By vertex: how many of its successors were passed.
+    passed: Vec<usize>,
+    finished: Vec<usize>,
+}
+
+/// The first place from `from` on whose vertex was not seen, or the row's length.
+fn skip(row: &[usize], from: usize, seen: &Visited) -> usize
+    requires from { from ≤ length row.now }
+    requires before { (j : ℕ) → j < from → Contains seen.now.items (slice_index row.now j) }
+    ensures bound { result ≤ length row.now }
+    ensures passed { (j : ℕ) → j < result → Contains seen.now.items (slice_index row.now j) }
+    ensures stops { result < length row.now → ¬ Contains seen.now.items (slice_index row.now result) }
+{
+    let mut at = from;
+    while at < row.len() {
+        if !seen.has(row[at]) {
+            return at;
+        }
+        at += 1;
+    }
+    at
+}
+
+/// One step from the end of the path: to a successor that was not seen, or back.
+fn step(walk: &mut Walk, graph: &Graph) -> Result<(), AllocError>
+    requires limit { walk.old.seen.limit ≡ length graph.now }
+    requires passed { length walk.old.passed.items ≡ length graph.now }
+    requires open { 0 < vec_len walk.old.path }
+    requires walking { Walking graph.now walk.old.seen.items walk.old.path.items walk.old.passed.items walk.old.finished.items }
+    ensures limit { walk.new.seen.limit ≡ length graph.now }
+    ensures passed { length walk.new.passed.items ≡ length graph.now }
+    ensures keeps { OnOk result ((x : ℕ) → Contains walk.old.seen.items x → Contains walk.new.seen.items x) }
+    ensures nearer { OnOk result
+        (2 * (length graph.now - length walk.new.seen.items) + vec_len walk.new.path
+        < 2 * (length graph.now - length walk.old.seen.items) + vec_len walk.old.path) }
+    ensures walking { OnOk result
+        (Walking graph.now walk.new.seen.items walk.new.path.items walk.new.passed.items walk.new.finished.items) }
+{
+    let vertex = walk.path[walk.path.len() - 1];
+    let row = graph.successors(vertex);
+    let next = skip(row, walk.passed[vertex], &walk.seen);
+    walk.passed[vertex] = next;
+    if next < row.len() {
+        let to = row[next];
+        walk.seen.add(to)?;
+        walk.path.push(to)?;
+    } else {
+        walk.path.pop();
+        walk.finished.push(vertex)?;
+    }
+    Ok(())
+}
+
+/// Begins at a root, if it was not seen.
+fn enter(walk: &mut Walk, graph: &Graph, root: usize) -> Result<(), AllocError>
+    requires root { root < length graph.now }
+    requires limit { walk.old.seen.limit ≡ length graph.now }
+    requires empty { walk.old.path.items ≡ [] }
+    requires walking { Walking graph.now walk.old.seen.items [] walk.old.passed.items walk.old.finished.items }
+    ensures limit { walk.new.seen.limit ≡ length graph.now }
+    ensures passed { walk.new.passed.items ≡ walk.old.passed.items }
+    ensures has { OnOk result (Contains walk.new.seen.items root) }
+    ensures keeps { OnOk result ((x : ℕ) → Contains walk.old.seen.items x → Contains walk.new.seen.items x) }
+    ensures walking { OnOk result
+        (Walking graph.now walk.new.seen.items walk.new.path.items walk.new.passed.items walk.new.finished.items) }
+{
+    if !walk.seen.add(root)? {
+        return Ok(());
+    }
+    walk.path.push(root)?;
+    Ok(())
+}
+
+/// Each vertex once, after its successors, but for those that reach it.
+pub fn order(alloc: Global, graph: &Graph) -> Result<Vec<usize>, AllocError>
+    ensures { IfOk result (λ order. IsPostorder graph.now order.items) }
+{
+    let mut walk = Walk {
+        seen: Visited::new(alloc, graph.len())?,
+        path: Vec::new(alloc),
+        passed: vec![in alloc; 0usize; graph.len()]?,
+        finished: Vec::new(alloc),
+    };
+    for root in 0..graph.len() {
+        enter(&mut walk, graph, root)?;
+        while !walk.path.is_empty() {
+            step(&mut walk, graph)?;
+        }
+    }
+    Ok(walk.finished)
+}
