@@ -5,6 +5,7 @@ pub mod Constants
 pub mod Slots
 pub mod Plain
 pub mod Units
+pub mod FirstUnits
 pub mod Sizes
 pub mod Bools
 pub mod Lookups

@@ -10,11 +10,11 @@ use Rattle.classfile.proofs.Rules.{joined}
 
 -- ---- what the tests mean
 
-and_false : (a b : Bool) → b ≡ false → (a && b) ≡ false
+pub and_false : (a b : Bool) → b ≡ false → (a && b) ≡ false
 and_false true b e = e
 and_false false b e = refl
 
-between_is : (a b c : ℕ) → between a b c ≡ true → (a ≤ b) × (b < c)
+pub between_is : (a b c : ℕ) → between a b c ≡ true → (a ≤ b) × (b < c)
 between_is a b c e =
     let h = both (ltb a (b + 1)) (ltb b c) e in
     let low : a < b + 1 = ltb-true a (b + 1) h.0 in
@@ -26,25 +26,25 @@ is_between a b c low high =
     let h : ltb b c ≡ true = lt-ltb b c high in
     rw (l, h) refl
 
-not_between : (a b c : ℕ) → (b < a) ⊎ (c ≤ b) → between a b c ≡ false
+pub not_between : (a b c : ℕ) → (b < a) ⊎ (c ≤ b) → between a b c ≡ false
 not_between a b c (inl low) = let l : ltb a (b + 1) ≡ false = le-ltb a (b + 1) (omega arith) in rw l refl
 not_between a b c (inr high) = let h : ltb b c ≡ false = le-ltb b c high in and_false (ltb a (b + 1)) (ltb b c) h
 
 -- ---- spellings by their length
 
-one_text : (u : ℕ) → 0 < u → u < 128 → unit_text u ≡ u ∷ []
+pub one_text : (u : ℕ) → 0 < u → u < 128 → unit_text u ≡ u ∷ []
 one_text u low high =
     let l : ltb 0 u ≡ true = lt-ltb 0 u low in
     let h : ltb u 128 ≡ true = lt-ltb u 128 high in
     rw (l, h) refl
 
-two_text : (u : ℕ) → 128 ≤ u → u < 2048 → unit_text u ≡ (192 + u / 64) ∷ (128 + u % 64) ∷ []
+pub two_text : (u : ℕ) → 128 ≤ u → u < 2048 → unit_text u ≡ (192 + u / 64) ∷ (128 + u % 64) ∷ []
 two_text u low high =
     let l : (ltb 0 u && ltb u 128) ≡ false = and_false (ltb 0 u) (ltb u 128) (le-ltb u 128 low) in
     let h : ltb u 2048 ≡ true = lt-ltb u 2048 high in
     rw (l, h) refl
 
-three_text : (u : ℕ) → 2048 ≤ u → unit_text u ≡ (224 + u / 4096) ∷ (128 + u / 64 % 64) ∷ (128 + u % 64) ∷ []
+pub three_text : (u : ℕ) → 2048 ≤ u → unit_text u ≡ (224 + u / 4096) ∷ (128 + u / 64 % 64) ∷ (128 + u % 64) ∷ []
 three_text u low =
     let l : (ltb 0 u && ltb u 128) ≡ false = and_false (ltb 0 u) (ltb u 128) (le-ltb u 128 (omega arith)) in
     let h : ltb u 2048 ≡ false = le-ltb u 2048 low in
@@ -57,10 +57,10 @@ record IsUnit (front : List ℕ) : Type 0 where
   fits : unit < 2 ^ 16
   spelled : front ≡ unit_text unit
 
-pair_is : (a b c d : ℕ) → a ≡ c → b ≡ d → a ∷ b ∷ [] ≡ c ∷ d ∷ []
+pub pair_is : (a b c d : ℕ) → a ≡ c → b ≡ d → a ∷ b ∷ [] ≡ c ∷ d ∷ []
 pair_is a b c d p q = rw (p, q) refl
 
-triple_is : (a b c d e f : ℕ) → a ≡ d → b ≡ e → c ≡ f → a ∷ b ∷ c ∷ [] ≡ d ∷ e ∷ f ∷ []
+pub triple_is : (a b c d e f : ℕ) → a ≡ d → b ≡ e → c ≡ f → a ∷ b ∷ c ∷ [] ≡ d ∷ e ∷ f ∷ []
 triple_is a b c d e f p q r = rw (p, q, r) refl
 
 one_is : (a : ℕ) → is_one a ≡ true → IsUnit (a ∷ [])
@@ -117,7 +117,7 @@ unit_then front rest one others = record {
   spelled = joined front (unit_text one.unit) rest (units_text others.units) one.spelled others.spelled;
 }
 
-chosen : (b c d : Bool) → cond b c d ≡ true → ((b ≡ true) × (c ≡ true)) ⊎ ((b ≡ false) × (d ≡ true))
+pub chosen : (b c d : Bool) → cond b c d ≡ true → ((b ≡ true) × (c ≡ true)) ⊎ ((b ≡ false) × (d ≡ true))
 chosen true c d e = inl (refl, e)
 chosen false c d e = inr (refl, e)
 
@@ -166,11 +166,11 @@ two_wide a b a-low a-high b-low b-high =
     let second = is_between 128 b 192 b-low b-high in
     rw (second, first) refl
 
-not_one : (a : ℕ) → 128 ≤ a → is_one a ≡ false
+pub not_one : (a : ℕ) → 128 ≤ a → is_one a ≡ false
 unfolding is_one
 not_one a low = not_between 1 a 128 (inr low)
 
-not_two : (a b : ℕ) → 224 ≤ a → is_two a b ≡ false
+pub not_two : (a b : ℕ) → 224 ≤ a → is_two a b ≡ false
 unfolding is_two
 not_two a b low =
     let wide = not_between 194 a 224 (inr low) in

@@ -1,6 +1,6 @@
 //! Class files.
 
-ghost use Rattle.std.specs.Prelude.{◌≡◌, ◌<◌, ◌^◌, ℕ, List, length, Ok, Err, IfOk, IfErr, option_map, slice_get};
+ghost use Rattle.std.specs.Prelude.{◌≡◌, ◌<◌, ◌^◌, ℕ, List, length, Ok, Err, IfOk, IfErr, IfSome, option_map, slice_get};
 ghost use Rattle.classfile.specs.declared.fault.ClassFault.{ClassFault};
 ghost use Rattle.classfile.specs.Class.{IsStructure, IsClassText};
 ghost use Rattle.classfile.specs.Faults.{IsBytes};
@@ -8,6 +8,7 @@ ghost use Rattle.classfile.specs.FirstFault.{FirstFault, IsFirstFault, ExactlyOn
 ghost use Rattle.classfile.specs.Lookup.{text_of, class_name_of};
 ghost use Rattle.classfile.specs.Numbers.{Gives};
 ghost use Rattle.classfile.specs.Structure.{Structure};
+ghost use Rattle.classfile.specs.Units.{IsModifiedUtf8};
 
 use crate::attribute::Attribute;
 use crate::constant::Constant;
@@ -130,14 +131,16 @@ impl ClassFile {
 
     /// The bytes of the Utf8 at an index, if one stands there (JVMS 4.4.7).
     pub fn text(&self, index: u16) -> Option<&[u8]>
-        ensures { option_map (λ t. t.now) result ≡ text_of self.now.constants index }
+        ensures value { option_map (λ t. t.now) result ≡ text_of self.now.constants index }
+        ensures modified { IfSome result (λ t. IsModifiedUtf8 t.now) }
     {
         text_of(self.constants(), index)
     }
 
     /// The bytes of the name of the Class at an index, if one stands there (JVMS 4.4.1).
     pub fn class_name(&self, index: u16) -> Option<&[u8]>
-        ensures { option_map (λ t. t.now) result ≡ class_name_of self.now.constants index }
+        ensures value { option_map (λ t. t.now) result ≡ class_name_of self.now.constants index }
+        ensures modified { IfSome result (λ t. IsModifiedUtf8 t.now) }
     {
         class_name_of(self.constants(), index)
     }

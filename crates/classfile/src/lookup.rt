@@ -1,15 +1,17 @@
 //! What stands at an index of a constant pool.
 
-ghost use Rattle.std.specs.Prelude.{◌≡◌, option_map};
+ghost use Rattle.std.specs.Prelude.{◌≡◌, IfSome, option_map};
 ghost use Rattle.classfile.specs.Lookup.{text_of, has_text, class_name_of, is_class};
 ghost use Rattle.classfile.specs.Lookup.{is_class_or_none, is_plain_class, descriptor_of, is_member};
+ghost use Rattle.classfile.specs.Units.{IsModifiedUtf8};
 
 use crate::constant::Constant;
 
 /// The bytes of the Utf8 at an index.
 #[tactic(auto, unfolding(crate::specs::Lookup::text_of))]
 pub(crate) fn text_of(pool: &[Constant], index: u16) -> Option<&[u8]>
-    ensures { text_of pool.now index ≡ option_map (λ t. t.now) result }
+    ensures value { text_of pool.now index ≡ option_map (λ t. t.now) result }
+    ensures modified { IfSome result (λ t. IsModifiedUtf8 t.now) }
 {
     match pool.get(usize::from(index)) {
         Some(Constant::Utf8 { text }) => Some(text.bytes()),
@@ -28,7 +30,8 @@ pub(crate) fn has_text(pool: &[Constant], index: u16) -> bool
 /// The bytes of the name of the Class at an index.
 #[tactic(auto, unfolding(crate::specs::Lookup::class_name_of))]
 pub(crate) fn class_name_of(pool: &[Constant], index: u16) -> Option<&[u8]>
-    ensures { class_name_of pool.now index ≡ option_map (λ t. t.now) result }
+    ensures value { class_name_of pool.now index ≡ option_map (λ t. t.now) result }
+    ensures modified { IfSome result (λ t. IsModifiedUtf8 t.now) }
 {
     match pool.get(usize::from(index)) {
         Some(Constant::Class { name }) => text_of(pool, *name),

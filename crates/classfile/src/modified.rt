@@ -1,8 +1,8 @@
 //! Modified UTF-8 (JVMS 4.4.7).
 
-ghost use Rattle.std.specs.Prelude.{◌≡◌, ◌++◌, ◌<◌, length, true, IfOk, OnOk, IfSome};
+ghost use Rattle.std.specs.Prelude.{◌≡◌, ◌++◌, ◌<◌, length, true, [], IfOk, OnOk, IfSome, MatchOption};
 ghost use Rattle.classfile.specs.Modified.{is_one, is_two, is_three, all_one, is_modified};
-ghost use Rattle.classfile.specs.Units.{unit_text, units_text, IsModifiedUtf8};
+ghost use Rattle.classfile.specs.Units.{unit_text, units_text, IsModifiedUtf8, IsSpelledFirst};
 
 use std::alloc::{AllocError, Global};
 use std::marker::Model;
@@ -74,20 +74,21 @@ fn push_unit(bytes: &mut Vec<u8>, unit: u16) -> Result<(), AllocError>
 }
 
 /// The first unit of bytes that are modified UTF-8, and what follows it.
-fn first_unit(bytes: &[u8]) -> Option<(u16, &[u8])>
-    ensures { IfSome result (λ x. length x.1.now < length bytes.now) }
+pub(crate) fn first_unit(bytes: &[u8]) -> Option<(u16, &[u8])>
+    ensures shorter { IfSome result (λ x. length x.1.now < length bytes.now) }
+    ensures spelled { is_modified bytes.now ≡ true → MatchOption result (bytes.now ≡ []) (λ x. IsSpelledFirst x.0 x.1.now bytes.now) }
 {
-    match bytes {
-        [] => None,
-        [first, second, third, rest @ ..] if 224 <= *first => {
-            let high = u16::from(*first % 16) * 4096 + u16::from(*second % 64) * 64;
-            Some((high + u16::from(*third % 64), rest))
-        }
-        [first, second, rest @ ..] if 192 <= *first => {
-            Some((u16::from(*first % 32) * 64 + u16::from(*second % 64), rest))
-        }
-        [first, rest @ ..] => Some((u16::from(*first), rest)),
+    let (first, rest) = bytes.split_first()?;
+    if *first < 192 {
+        return Some((u16::from(*first), rest));
     }
+    let (second, rest) = rest.split_first()?;
+    if *first < 224 {
+        return Some((u16::from(*first % 32) * 64 + u16::from(*second % 64), rest));
+    }
+    let (third, rest) = rest.split_first()?;
+    let high = u16::from(*first % 16) * 4096 + u16::from(*second % 64) * 64;
+    Some((high + u16::from(*third % 64), rest))
 }
 
 /// The text of modified UTF-8 for a reader: surrogate pairs are joined, and a lone surrogate is `?`.

@@ -4,9 +4,9 @@ ghost use Rattle.std.specs.Prelude.{◌≡◌, IfOk};
 ghost use Rattle.std.specs.List.{flat_map};
 ghost use Rattle.std.specs.Str.{chars};
 ghost use Rattle.std.specs.Char.Escape.{encode_utf16};
-ghost use Rattle.classfile.specs.Units.{units_text};
+ghost use Rattle.classfile.specs.Units.{units_text, IsModifiedUtf8};
 
-use crate::modified::ModifiedUtf8;
+use crate::modified::{ModifiedUtf8, first_unit};
 use std::alloc::{AllocError, Global};
 use std::fmt::{self, Display, Formatter, Write};
 use std::marker::Model;
@@ -34,6 +34,19 @@ impl ClassName {
         for character in text.chars() {
             let mut buffer = [0; 2];
             units.extend_from_slice(character.encode_utf16(&mut buffer))?;
+        }
+        Ok(ClassName { units })
+    }
+
+    /// The name that a class file spells, if the bytes are modified UTF-8 (JVMS 4.4.7).
+    pub fn from_modified_utf8(alloc: Global, bytes: &[u8]) -> Result<ClassName, AllocError>
+        ensures { IsModifiedUtf8 bytes.now → IfOk result (λ name. units_text name ≡ bytes.now) }
+    {
+        let mut units = Vec::new(alloc);
+        let mut left = bytes;
+        while let Some((unit, rest)) = first_unit(left) {
+            units.push(unit)?;
+            left = rest;
         }
         Ok(ClassName { units })
     }

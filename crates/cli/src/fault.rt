@@ -5,8 +5,8 @@ ghost use Rattle.cli.specs.declared.fault.Refusal.TheVariants.{Memory};
 
 use crate::{FileFault, Status};
 use classfile::ClassFault;
+use hierarchy::fault::LinkFault;
 use init_engine::EntryFault;
-use machine::LinkFault;
 use std::alloc::{AllocError, AllocFailed, Global};
 use thiserror::Error;
 

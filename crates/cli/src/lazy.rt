@@ -5,8 +5,8 @@ ghost use Rattle.cli.specs.Status.{IsTold};
 use crate::status::status_of;
 use crate::{Files, Lazy, Refusal, Status};
 use classfile::ClassName;
+use hierarchy::program::Program;
 use init_engine::{Ending, World};
-use machine::Program;
 use std::alloc::{AllocError, Global};
 
 /// What a run has to tell.
@@ -47,7 +47,7 @@ pub fn program_of(alloc: Global, files: &[&[u8]]) -> Result<Program, Refusal> {
         let class = classfile::read(alloc, bytes).map_err(|fault| Refusal::of_class(place, fault))?;
         classes.push(class)?;
     }
-    machine::link(alloc, classes).map_err(Refusal::of_link)
+    hierarchy::link(alloc, classes).map_err(Refusal::of_link)
 }
 
 /// The class names of a list: cut at commas, with slashes for dots.

@@ -11,8 +11,10 @@ mod samples;
 mod whole_runs;
 
 use classfile::ClassName;
+use hierarchy::fault::LinkFault;
+use hierarchy::link;
+use hierarchy::program::Program;
 use init_engine::{Ending, World, turns};
-use machine::{LinkFault, Program, link};
 use std::alloc::Global;
 use std::test::Fail;
 

@@ -14,13 +14,14 @@ use Rattle.semantics.specs.Rows.{Ends, Next, run_row}
 use Rattle.semantics.specs.Steps.{Thread as DefinedThread, Going as IsGoingOn, step_thread, instructed, maker_of}
 use Rattle.semantics.specs.Worlds.{World, Run, step, step_of, put_thread}
 use Rattle.semantics.proofs.Runs.{run_more}
-use Rattle.machine.specs.declared.instruction.Instruction.{Instruction}
-use Rattle.machine.specs.declared.instruction.Instruction.TheVariants.{Local, GetInt, PutInt, GetOut, PrintInt, Return, Refused}
-use Rattle.machine.specs.Tables.{Tables, instruction_at}
+use Rattle.machine.specs.declared.operation.Operation.{Operation}
+use Rattle.machine.specs.declared.operation.Operation.TheVariants.{Local, GetInt, PutInt, GetOut, PrintInt, Return, Refused}
+use Rattle.hierarchy.specs.Tables.{Tables}
+use Rattle.machine.specs.Operations.{operation_at}
 use Rattle.machine.specs.Table.{row, active_row, fetched, goes_on}
 use Rattle.machine.specs.Linked.{program_of}
 use Rattle.machine.specs.Locally.{given}
-use Rattle.machine.specs.Strides.{after_instruction, after_activity, local_step, local_run}
+use Rattle.machine.specs.Strides.{after_operation, after_activity, local_step, local_run}
 use Rattle.vm_state.specs.declared.initialization.Frames.{Frames}
 use Rattle.vm_state.specs.Stacks.{levels_of}
 use Rattle.init_engine.specs.declared.world.Thread.{Thread}
@@ -28,7 +29,7 @@ use Rattle.init_engine.specs.declared.world.Thread.TheVariants.{Going, Ended}
 use Rattle.init_engine.specs.Threads.{thread_of, AfterLocals, RunsLocally}
 use Rattle.init_engine.proofs.WorldSteps.{world_with, thread_at}
 
-fetched_local : (o : Option Instruction) (m g : Frame) (fs : List Frame) → after_instruction o m ≡ Some g → fetched o m fs ≡ Ends (Next (g ∷ fs))
+fetched_local : (o : Option Operation) (m g : Frame) (fs : List Frame) → after_operation o m ≡ Some g → fetched o m fs ≡ Ends (Next (g ∷ fs))
 fetched_local None m g fs h = cc
 fetched_local (Some (Local i)) m g fs h = ap (goes_on fs) h
 fetched_local (Some (GetInt c k)) m g fs h = cc
@@ -40,7 +41,7 @@ fetched_local (Some (Refused kind)) m g fs h = cc
 
 active_local : (P : Tables) (a : Activity) (m g : Frame) (fs : List Frame) → after_activity P a m ≡ Some g → active_row P a m fs ≡ Ends (Next (g ∷ fs))
 active_local P (Start c) m g fs h = cc
-active_local P (Method k) m g fs h = fetched_local (instruction_at P k m.place) m g fs h
+active_local P (Method c k) m g fs h = fetched_local (operation_at P c k m.place) m g fs h
 
 row_local : (P : Tables) (m g : Frame) (fs : List Frame) → local_step P m ≡ Some g → row P (m ∷ fs) ≡ Ends (Next (g ∷ fs))
 unfolding row

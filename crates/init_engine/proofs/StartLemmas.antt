@@ -16,8 +16,8 @@ use Rattle.vm_state.specs.Statics.{area_at, field_in, states_of, fields_of, zero
 use Rattle.vm_state.specs.SharedState.{Pool, Region, SharedState}
 use Rattle.vm_state.specs.Shares.{shared_of, pool_in}
 use Rattle.semantics.specs.Worlds.{World, argument, argument_pool, empty_pool, blank_region, lazy_start}
-use Rattle.machine.specs.declared.program.Class.{Class}
-use Rattle.machine.specs.Tables.{Tables, statics_of}
+use Rattle.hierarchy.specs.declared.class.Class.{Class}
+use Rattle.hierarchy.specs.Tables.{Tables, statics_if}
 use Rattle.machine.specs.Linked.{blank_areas, program_of, start_frame}
 use Rattle.init_engine.specs.Standing.{Standing}
 use Rattle.init_engine.specs.Turns.{world_of}
@@ -32,7 +32,7 @@ zero_at [] f = refl
 zero_at (s ∷ ss) zero = refl
 zero_at (s ∷ ss) (suc f) = zero_at ss f
 
-blank_field : (ks : List Class) (c f : ℕ) → field_in (area_at (blank_areas ks) c).fields f ≡ zeros_of (statics_of (slice_get ks c)) f
+blank_field : (ks : List Class) (c f : ℕ) → field_in (area_at (blank_areas ks) c).fields f ≡ zeros_of (statics_if (slice_get ks c)) f
 blank_field [] c f = refl
 blank_field (k ∷ ks) zero f = zero_at k.statics f
 blank_field (k ∷ ks) (suc c) f = blank_field ks c f

@@ -9,7 +9,7 @@ use Rattle.vm_state.specs.declared.ends.Ending.{Ending}
 use Rattle.semantics.specs.Worlds.{ending}
 use Rattle.vm_state.specs.declared.frame.Frame.{Frame}
 use Rattle.vm_state.specs.declared.initialization.Frames.{Frames}
-use Rattle.machine.specs.Tables.{Tables}
+use Rattle.hierarchy.specs.Tables.{Tables}
 use Rattle.machine.specs.Strides.{local_run}
 use Rattle.init_engine.specs.declared.world.Thread.{Thread}
 use Rattle.init_engine.specs.declared.world.Thread.TheVariants.{Going, Ended}

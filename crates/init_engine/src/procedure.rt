@@ -8,13 +8,13 @@ ghost use Rattle.vm_state.specs.Shares.{shared_of, begun};
 ghost use Rattle.vm_state.specs.Stacks.{segment_of, levels_of};
 ghost use Rattle.semantics.specs.Steps.{Going, standing, entry_of, finishes, initializes, step_thread};
 ghost use Rattle.machine.specs.Linked.{program_of, initializer_frame};
-ghost use Rattle.machine.specs.Tables.{statics_in};
+ghost use Rattle.hierarchy.specs.Tables.{statics_in};
 ghost use Rattle.init_engine.specs.Progress.{Stands, Steps, StaysPut, IsSame, left_by_step};
 
+use hierarchy::program::Program;
 use machine::entering::initializer_frame;
 use machine::execute::effect;
 use machine::kinds::Effect;
-use machine::program::Program;
 use std::alloc::{AllocError, Global};
 use vm_state::classes::{ClassState, Usability};
 use vm_state::ends::{End, FaultKind};
@@ -59,7 +59,7 @@ fn begin(
     ensures levels { OnOk result (levels_of frames.new ≡ record { entry = entry_of (program_of program.now) class; under = segment_of frames.old } ∷ levels_of frames.old) }
     ensures err { OnErr result (IsSame frames.old frames.new × ((p : List Line) → shared_of shared.new p ≡ shared_of shared.old p)) }
 {
-    let left = Parents::of(alloc, program.parents(class))?;
+    let left = Parents::of(alloc, program.init_order(class))?;
     let thread = frames.thread;
     frames.enter(
         alloc,

@@ -3,15 +3,15 @@
 ghost use Rattle.std.specs.Prelude.{◌≡◌, ◌≢◌, ◌↔◌, ◌∷◌, [], length, Err, IfOk, IsSome, OnErr};
 ghost use Rattle.semantics.specs.Worlds.{argument, lazy_start};
 ghost use Rattle.machine.specs.Linked.{program_of};
-ghost use Rattle.machine.specs.Tables.{main_in};
+ghost use Rattle.hierarchy.specs.Tables.{main_in};
 ghost use Rattle.init_engine.specs.Turns.{world_of};
 ghost use Rattle.init_engine.specs.Starts.{IsStart};
 
 use crate::fault::EntryFault;
 use crate::world::World;
 use classfile::ClassName;
+use hierarchy::program::Program;
 use machine::entering::{blank_classes, start_frame};
-use machine::program::Program;
 use std::alloc::{AllocError, Global};
 use vm_state::class_id::{ArrayType, BuiltIn, ClassId, ElementType};
 use vm_state::heap::Heap;

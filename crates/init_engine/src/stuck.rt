@@ -1,8 +1,8 @@
 //! Whether a world is stuck.
 
 use crate::world::{Thread, World};
+use hierarchy::program::Program;
 use machine::execute::has_to_wait;
-use machine::program::Program;
 use vm_state::classes::Usability;
 use vm_state::initialization::{Frames, Level};
 use vm_state::shared::Shared;

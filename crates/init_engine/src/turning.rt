@@ -9,7 +9,7 @@ ghost use Rattle.init_engine.specs.Rounds.{IsAsking, IsRound, IsStride, Turns};
 
 use crate::schedule::Schedule;
 use crate::world::{Turn, World};
-use machine::program::Program;
+use hierarchy::program::Program;
 use std::alloc::{AllocError, Global};
 
 /// Asks a thread for a step, and answers whether it had one.

@@ -12,8 +12,8 @@ ghost use Rattle.init_engine.specs.Threads.{thread_of, seen_of, HasNumber, left_
 ghost use Rattle.init_engine.specs.Turns.{IsTurn, world_of};
 
 use crate::procedure::{Progress, step_thread};
+use hierarchy::program::Program;
 use machine::local::run_locals;
-use machine::program::Program;
 use std::alloc::{AllocError, Global};
 use std::marker::Model;
 use vm_state::ends::{End, Ending};

@@ -2,9 +2,9 @@
 use Rattle.std.proofs.Common.{◌≡◌, ℕ, Some, None, sym, ap, subst, ◌∙◌}
 use Rattle.vm_state.specs.declared.frame.Frame.{Frame}
 use Rattle.semantics.specs.Lawful.{Names, KnowsFrame}
-use Rattle.machine.specs.Tables.{Tables}
+use Rattle.hierarchy.specs.Tables.{Tables}
 use Rattle.machine.specs.Linked.{initializer_frame, initialized_by}
-use Rattle.machine.specs.Laws.{AreSound, TableIsLawful}
+use Rattle.machine.specs.Laws.{TableIsLawful}
 use Rattle.machine.proofs.Initializers.{found_class_has, initializer_frame_is}
 use Rattle.machine.proofs.TableNames.{blank_known, row_known}
 use Rattle.machine.proofs.TableFinals.{row_owned}
@@ -16,12 +16,12 @@ initializer_known P known c f h =
     let frame = initializer_frame_is P c f h in subst (KnowsFrame known) (sym frame.is) (tt, blank_known known frame.code.max_locals)
 
 -- and is of its class alone
-initializer_owned : (P : Tables) → AreSound P → (c d : ℕ) (f : Frame) →
+initializer_owned : (P : Tables) (c d : ℕ) (f : Frame) →
     initializer_frame P c ≡ Some f → initialized_by P f.activity ≡ Some d → d ≡ c
-initializer_owned P sound c d f h of =
+initializer_owned P c d f h of =
     let frame = initializer_frame_is P c f h in
     let found = ap (λ (g : Frame). initialized_by P g.activity) (sym frame.is) ∙ of in
-    sound.initializers c d frame.method frame.has (found_class_has sound frame.method d found)
+    (found_class_has P c frame.method d found).0
 
 pub table_is_lawful_lem : TableIsLawful
 table_is_lawful_lem P sound = record {
@@ -37,7 +37,7 @@ table_is_lawful_lem P sound = record {
   plain_orphaned = λ c. tt;
   calls_once = λ f fs. row_calls f fs P;
   initializer_names = initializer_known P;
-  initializer_owner = initializer_owned P sound;
+  initializer_owner = initializer_owned P;
   start_names = λ known entry t h. ((h, tt), tt);
   start_owner = λ entry t c h. (let clash : None ≡ Some c = h in cc);
   statics = sound.statics;

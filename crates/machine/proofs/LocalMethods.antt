@@ -9,9 +9,9 @@ use Rattle.vm_state.specs.declared.frame.Frame.{Frame}
 use Rattle.vm_state.specs.declared.frame.Activity.{Activity}
 use Rattle.vm_state.specs.Operands.{OperandStack, pushed, top_int, rest}
 use Rattle.vm_state.specs.Locals.{int_at, stored}
-use Rattle.machine.specs.declared.instruction.Local.{Local}
-use Rattle.machine.specs.declared.instruction.Local.TheVariants.{Nop, PushInt, LoadInt, StoreInt, Increment}
-use Rattle.machine.specs.declared.instruction.Local.TheVariants.{CombineInts, NegateInt, IfInt, IfInts, Goto}
+use Rattle.machine.specs.declared.operation.Local.{Local}
+use Rattle.machine.specs.declared.operation.Local.TheVariants.{Nop, PushInt, LoadInt, StoreInt, Increment}
+use Rattle.machine.specs.declared.operation.Local.TheVariants.{CombineInts, NegateInt, IfInt, IfInts, Goto}
 use Rattle.machine.specs.IntOperations.{holds, applied}
 use Rattle.machine.specs.Locally.{pushes, jumps, leads_to, local_after}
 use Rattle.machine.proofs.Given.{given_any}

@@ -11,9 +11,9 @@ use Rattle.vm_state.specs.Values.{places}
 use Rattle.vm_state.specs.Operands.{OperandStack, pushed, top, top_of, top_int, rest, rest_of}
 use Rattle.vm_state.specs.Locals.{int_at, stored}
 use Rattle.semantics.specs.Lawful.{Names, Knows, KnowsAll, KnowsSome, KnowsFrame}
-use Rattle.machine.specs.declared.instruction.Local.{Local}
-use Rattle.machine.specs.declared.instruction.Local.TheVariants.{Nop, PushInt, LoadInt, StoreInt, Increment}
-use Rattle.machine.specs.declared.instruction.Local.TheVariants.{CombineInts, NegateInt, IfInt, IfInts, Goto}
+use Rattle.machine.specs.declared.operation.Local.{Local}
+use Rattle.machine.specs.declared.operation.Local.TheVariants.{Nop, PushInt, LoadInt, StoreInt, Increment}
+use Rattle.machine.specs.declared.operation.Local.TheVariants.{CombineInts, NegateInt, IfInt, IfInts, Goto}
 use Rattle.machine.specs.IntOperations.{holds, applied}
 use Rattle.machine.specs.Locally.{given, advanced, with_operands, pushes, jumps, leads_to, local_after}
 use Rattle.machine.proofs.Given.{given_any, given_such}

@@ -8,11 +8,12 @@ use Rattle.vm_state.specs.declared.frame.Activity.TheVariants.{Start, Method}
 use Rattle.vm_state.specs.Operands.{top, top_int, rest}
 use Rattle.semantics.specs.Rows.{Next, Row}
 use Rattle.semantics.specs.Lawful.{ReturnsOrCalls, CallsOnce}
-use Rattle.machine.specs.declared.instruction.Instruction.{Instruction}
-use Rattle.machine.specs.declared.instruction.Instruction.TheVariants.{Local, GetInt, PutInt, GetOut, PrintInt, Return, Refused}
+use Rattle.machine.specs.declared.operation.Operation.{Operation}
+use Rattle.machine.specs.declared.operation.Operation.TheVariants.{Local, GetInt, PutInt, GetOut, PrintInt, Return, Refused}
 use Rattle.machine.specs.Locally.{pushes, local_after}
-use Rattle.machine.specs.Tables.{Tables, instruction_at, implementation_at, main_in}
-use Rattle.machine.specs.Table.{halts, print_on, returned_to, instruction_row, call_main, fetched, active_row, row}
+use Rattle.hierarchy.specs.Tables.{Tables, implementation_at, main_in}
+use Rattle.machine.specs.Operations.{operation_at}
+use Rattle.machine.specs.Table.{halts, print_on, returned_to, operation_row, call_main, fetched, active_row, row}
 use Rattle.machine.proofs.WaysOn.{needing_any, goes_on_any, if_usable_any, print_any, called_any}
 
 returned_count : (fs : List Frame) → length (returned_to fs) ≡ length fs
@@ -30,7 +31,7 @@ module _ (f : Frame) (fs : List Frame) where
   replaced : (g : Frame) → ReturnsOrCalls (length fs) (Next (g ∷ fs))
   replaced g = inr (inl refl)
 
-  instruction_calls : (i : Instruction) → Calls (instruction_row i f fs)
+  instruction_calls : (i : Operation) → Calls (operation_row i f fs)
   instruction_calls (Local i) = goes_on_any Calls halted fs (local_after i f) (λ g e. replaced g)
   instruction_calls (GetInt c k) =
       λ b. if_usable_any Calls halted _ b (λ v. goes_on_any Calls halted fs (pushes f v f.operands) (λ g e. replaced g))
@@ -42,17 +43,17 @@ module _ (f : Frame) (fs : List Frame) where
   instruction_calls Return = inl (returned_count fs)
   instruction_calls (Refused kind) = tt
 
-  fetched_calls : (o : Option Instruction) → Calls (fetched o f fs)
+  fetched_calls : (o : Option Operation) → Calls (fetched o f fs)
   fetched_calls None = tt
   fetched_calls (Some i) = instruction_calls i
 
-  main_calls : (P : Tables) (o : Option ℕ) → Calls (call_main P f fs o)
-  main_calls P None = tt
-  main_calls P (Some m) = called_any Calls halted m f fs (implementation_at P m) (λ code argument locals on_top is_stored. replaced f)
+  main_calls : (P : Tables) (c : ℕ) (o : Option ℕ) → Calls (call_main P c f fs o)
+  main_calls P c None = tt
+  main_calls P c (Some m) = called_any Calls halted c m f fs (implementation_at P c m) (λ code argument locals on_top is_stored. replaced f)
 
   active_calls : (P : Tables) (a : Activity) → Calls (active_row P a f fs)
-  active_calls P (Start c) = λ b. if_usable_any Calls halted _ b (main_calls P (main_in P c))
-  active_calls P (Method m) = fetched_calls (instruction_at P m f.place)
+  active_calls P (Start c) = λ b. if_usable_any Calls halted _ b (main_calls P c (main_in P c))
+  active_calls P (Method c m) = fetched_calls (operation_at P c m f.place)
 
   pub row_calls : (P : Tables) → Calls (row P (f ∷ fs))
   unfolding row

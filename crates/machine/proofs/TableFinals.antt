@@ -10,11 +10,12 @@ use Rattle.vm_state.specs.Operands.{top, top_int, rest}
 use Rattle.semantics.specs.Rows.{Row}
 use Rattle.semantics.specs.Quiet.{is_final}
 use Rattle.semantics.specs.Lawful.{Owns, Respects}
-use Rattle.machine.specs.declared.instruction.Instruction.{Instruction}
-use Rattle.machine.specs.declared.instruction.Instruction.TheVariants.{Local, GetInt, PutInt, GetOut, PrintInt, Return, Refused}
+use Rattle.machine.specs.declared.operation.Operation.{Operation}
+use Rattle.machine.specs.declared.operation.Operation.TheVariants.{Local, GetInt, PutInt, GetOut, PrintInt, Return, Refused}
 use Rattle.machine.specs.Locally.{pushes, local_after}
-use Rattle.machine.specs.Tables.{Tables, instruction_at, implementation_at, main_in}
-use Rattle.machine.specs.Table.{halts, goes_on, print_on, returned_to, instruction_row, call_main, fetched, active_row, row}
+use Rattle.hierarchy.specs.Tables.{Tables, implementation_at, main_in}
+use Rattle.machine.specs.Operations.{operation_at}
+use Rattle.machine.specs.Table.{halts, goes_on, print_on, returned_to, operation_row, call_main, fetched, active_row, row}
 use Rattle.machine.specs.Linked.{initialized_by, program_of}
 use Rattle.machine.specs.Laws.{AreSound}
 use Rattle.machine.proofs.Given.{of_some}
@@ -44,14 +45,14 @@ module _ {P : Tables} (sound : AreSound P) (own : ℕ → Bool) where
         ((λ c of. hs.0 c (ap (initialized_by P) (sym same) ∙ of)), hs.1))
 
     -- an instruction of a method, whose frame this is
-    module _ (m : ℕ) (runs : f.activity ≡ Method m) where
-      instruction_owned : (i : Instruction) → instruction_at P m f.place ≡ Some i → Respected (instruction_row i f fs)
+    module _ (d m : ℕ) (runs : f.activity ≡ Method d m) where
+      instruction_owned : (i : Operation) → operation_at P d m f.place ≡ Some i → Respected (operation_row i f fs)
       instruction_owned (Local i) at = replaced (local_after i f) (local_in f.activity i f refl)
       instruction_owned (GetInt c k) at =
           λ b. if_usable_any Respected halted _ b (λ v. replaced (pushes f v f.operands) (pushes_in f.activity f v f.operands refl))
       instruction_owned (PutInt c k) at =
           let may : is_final (program_of P) c k ≡ true → own c ≡ true =
-          λ final. hs.0 c (ap (initialized_by P) runs ∙ class_is_found sound m c (sound.finals m f.place c k at final)) in
+          λ final. let found = sound.finals d m f.place c k at final in hs.0 c (ap (initialized_by P) runs ∙ class_is_found P d m c found.0 found.1) in
           λ b. if_usable_any Respected halted _ b (needing_any Respected halted (top_int f.operands) _ (λ n e. (may, hs)))
       instruction_owned GetOut at = replaced (pushes f values.Out f.operands) (pushes_in f.activity f values.Out f.operands refl)
       instruction_owned PrintInt at =
@@ -60,19 +61,19 @@ module _ {P : Tables} (sound : AreSound P) (own : ℕ → Bool) where
       instruction_owned Return at = returned_owned fs hs.1
       instruction_owned (Refused kind) at = tt
 
-      fetched_owned : (o : Option Instruction) → instruction_at P m f.place ≡ o → Respected (fetched o f fs)
+      fetched_owned : (o : Option Operation) → operation_at P d m f.place ≡ o → Respected (fetched o f fs)
       fetched_owned None at = tt
       fetched_owned (Some i) at = instruction_owned i at
 
-    main_owned : (c : ℕ) (o : Option ℕ) → main_in P c ≡ o → Respected (call_main P f fs o)
+    main_owned : (c : ℕ) (o : Option ℕ) → main_in P c ≡ o → Respected (call_main P c f fs o)
     main_owned c None is = tt
     main_owned c (Some m) is =
-        called_any Respected halted m f fs (implementation_at P m) (λ code argument locals on_top is_stored.
-        ((λ d of. absurd (sound.mains c d m is (found_class_has sound m d of))), hs.1))
+        called_any Respected halted c m f fs (implementation_at P c m) (λ code argument locals on_top is_stored.
+        ((λ d of. absurd (sound.mains c m is (found_class_has P c m d of).1)), hs.1))
 
     active_owned : (a : Activity) → f.activity ≡ a → Respected (active_row P a f fs)
     active_owned (Start c) runs = λ b. if_usable_any Respected halted _ b (main_owned c (main_in P c) refl)
-    active_owned (Method m) runs = fetched_owned m runs (instruction_at P m f.place) refl
+    active_owned (Method d m) runs = fetched_owned d m runs (operation_at P d m f.place) refl
 
   pub row_owned : (fs : List Frame) → AreOwned fs → Respected (row P fs)
   unfolding row

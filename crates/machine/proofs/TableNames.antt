@@ -9,11 +9,12 @@ use Rattle.vm_state.specs.declared.frame.Activity.TheVariants.{Start, Method}
 use Rattle.vm_state.specs.Operands.{top, top_int, rest}
 use Rattle.semantics.specs.Rows.{Row}
 use Rattle.semantics.specs.Lawful.{Names, Knows, KnowsFrame, KnowsFrames, KeepsTo}
-use Rattle.machine.specs.declared.instruction.Instruction.{Instruction}
-use Rattle.machine.specs.declared.instruction.Instruction.TheVariants.{Local, GetInt, PutInt, GetOut, PrintInt, Return, Refused}
+use Rattle.machine.specs.declared.operation.Operation.{Operation}
+use Rattle.machine.specs.declared.operation.Operation.TheVariants.{Local, GetInt, PutInt, GetOut, PrintInt, Return, Refused}
 use Rattle.machine.specs.Locally.{pushes, local_after}
-use Rattle.machine.specs.Tables.{Tables, instruction_at, implementation_at, main_in}
-use Rattle.machine.specs.Table.{halts, goes_on, print_on, returned_to, instruction_row, call_main, fetched, active_row, row}
+use Rattle.hierarchy.specs.Tables.{Tables, implementation_at, main_in}
+use Rattle.machine.specs.Operations.{operation_at}
+use Rattle.machine.specs.Table.{halts, goes_on, print_on, returned_to, operation_row, call_main, fetched, active_row, row}
 use Rattle.machine.proofs.Given.{of_some}
 use Rattle.machine.proofs.WaysOn.{needing_any, goes_on_any, if_usable_any, print_any, HoldsOfCall, called_any}
 use Rattle.machine.proofs.LocalNames.{KnowsLocals, top_known, stored_known, pushes_known, one_less, two_less, local_known}
@@ -39,7 +40,7 @@ module _ (known : Names) where
     replaced : (o : Option Frame) → IfSome o (KnowsFrame known) → Keeps (goes_on fs o)
     replaced o are = goes_on_any Keeps halted fs o (λ g e. (of_some (KnowsFrame known) o g are e, hs))
 
-    instruction_known : (i : Instruction) → Keeps (instruction_row i f fs)
+    instruction_known : (i : Operation) → Keeps (operation_row i f fs)
     instruction_known (Local i) = replaced (local_after i f) (local_known known i f h)
     instruction_known (GetInt c k) =
         λ b. if_usable_any Keeps halted _ b (λ v hv. replaced (pushes f v f.operands) (pushes_known known f v f.operands hv h.0 h.1))
@@ -53,23 +54,23 @@ module _ (known : Names) where
     instruction_known Return = returned_known fs hs
     instruction_known (Refused kind) = tt
 
-    fetched_known : (o : Option Instruction) → Keeps (fetched o f fs)
+    fetched_known : (o : Option Operation) → Keeps (fetched o f fs)
     fetched_known None = tt
     fetched_known (Some i) = instruction_known i
 
-    call_known : (m : ℕ) → HoldsOfCall Keeps halted m f fs
-    call_known m code argument locals on_top is_stored =
+    call_known : (c m : ℕ) → HoldsOfCall Keeps halted c m f fs
+    call_known c m code argument locals on_top is_stored =
         let blank = blank_known code.max_locals in
         let given = of_some (Knows known) (top f.operands) argument (top_known known f.operands h.0) on_top in
         ((tt, of_some (KnowsLocals known) _ locals (stored_known known _ 0 argument blank given) is_stored), hs)
 
-    main_known : (P : Tables) (o : Option ℕ) → Keeps (call_main P f fs o)
-    main_known P None = tt
-    main_known P (Some m) = called_any Keeps halted m f fs (implementation_at P m) (call_known m)
+    main_known : (P : Tables) (c : ℕ) (o : Option ℕ) → Keeps (call_main P c f fs o)
+    main_known P c None = tt
+    main_known P c (Some m) = called_any Keeps halted c m f fs (implementation_at P c m) (call_known c m)
 
     active_known : (P : Tables) (a : Activity) → Keeps (active_row P a f fs)
-    active_known P (Start c) = λ b. if_usable_any Keeps halted _ b (main_known P (main_in P c))
-    active_known P (Method m) = fetched_known (instruction_at P m f.place)
+    active_known P (Start c) = λ b. if_usable_any Keeps halted _ b (main_known P c (main_in P c))
+    active_known P (Method c m) = fetched_known (operation_at P c m f.place)
 
   pub row_known : (P : Tables) (fs : List Frame) → KnowsFrames known fs → Keeps (row P fs)
   unfolding row

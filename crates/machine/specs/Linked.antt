@@ -1,5 +1,5 @@
 -- The linked program, as the initialization procedure and its threads ask of it.
-use Rattle.std.specs.Prelude.{ℕ, ◌+◌, List, [], ◌∷◌, Option, Some, None, Bool, false, ◌==◌, if◌then◌else◌, replicate, map}
+use Rattle.std.specs.Prelude.{ℕ, List, [], ◌∷◌, Option, Some, None, if◌then◌else◌, replicate, map}
 use Rattle.vm_state.specs.declared.value.Value.TheVariants.{OfThread}
 use Rattle.vm_state.specs.declared.ends.FaultKind.TheVariants.{Unsupported}
 use Rattle.vm_state.specs.declared.frame.Frame.{Frame}
@@ -8,41 +8,33 @@ use Rattle.vm_state.specs.declared.frame.Activity.TheVariants.{Start, Method}
 use Rattle.vm_state.specs.declared.classes.ClassArea.{ClassArea}
 use Rattle.vm_state.specs.Statics.{blank_area}
 use Rattle.semantics.specs.Programs.{Escapes, Program}
-use Rattle.machine.specs.declared.program.Class.{Class}
-use Rattle.machine.specs.declared.program.Implementation.{Implementation}
-use Rattle.machine.specs.declared.program.Implementation.TheVariants as implementations
-use Rattle.machine.specs.Tables.{Tables, implementation_at, initializer_in, parents_in, statics_in}
+use Rattle.hierarchy.specs.declared.class.Class.{Class}
+use Rattle.hierarchy.specs.declared.class.Implementation.{Implementation}
+use Rattle.hierarchy.specs.declared.class.Implementation.TheVariants as implementations
+use Rattle.hierarchy.specs.Tables.{Tables, implementation_at, initializer_in, order_in, statics_in}
+use Rattle.machine.specs.Operations.{is_method}
 use Rattle.machine.specs.Table.{row, called, halts}
 
 -- ---- the frame of a class initialization method (JVMS 2.9)
 
-abbrev pub initializer_called : ℕ → Option Implementation → Option Frame
-initializer_called m None = None
-initializer_called m (Some (implementations.Code code)) = Some (called m code (replicate code.max_locals None))
-initializer_called m (Some implementations.Abstract) = None
-initializer_called m (Some implementations.Unsupported) = None
+abbrev pub initializer_called : ℕ → ℕ → Option Implementation → Option Frame
+initializer_called c m None = None
+initializer_called c m (Some (implementations.Code code)) = Some (called c m code (replicate code.max_locals None))
+initializer_called c m (Some implementations.Abstract) = None
+initializer_called c m (Some implementations.Unsupported) = None
 
-abbrev pub initializer_frame_of : Tables → Option ℕ → Option Frame
-initializer_frame_of P None = None
-initializer_frame_of P (Some m) = initializer_called m (implementation_at P m)
+abbrev pub initializer_frame_of : Tables → ℕ → Option ℕ → Option Frame
+initializer_frame_of P c None = None
+initializer_frame_of P c (Some m) = initializer_called c m (implementation_at P c m)
 
 abbrev pub initializer_frame : Tables → ℕ → Option Frame
-initializer_frame P c = initializer_frame_of P (initializer_in P c)
+initializer_frame P c = initializer_frame_of P c (initializer_in P c)
 
 -- ---- whose class initialization method a frame runs
 
-abbrev pub is_method : Option ℕ → ℕ → Bool
-is_method None m = false
-is_method (Some n) m = n == m
-
--- the first class, counted from c, with this class initialization method
-abbrev pub initialized_from : ℕ → List Class → ℕ → Option ℕ
-initialized_from c [] m = None
-initialized_from c (k ∷ ks) m = if is_method k.initializer m then Some c else initialized_from (c + 1) ks m
-
 abbrev pub initialized_by : Tables → Activity → Option ℕ
 initialized_by P (Start c) = None
-initialized_by P (Method m) = initialized_from 0 P.classes m
+initialized_by P (Method c m) = if is_method m (initializer_in P c) then Some c else None
 
 -- ---- a thread's first frame: its argument is its own first object (JVMS 5.2)
 
@@ -62,7 +54,7 @@ program_of P = record {
   failing = λ c x. halts Unsupported;
   orphaned = λ c. halts Unsupported;
   initializer = initializer_frame P;
-  parents = parents_in P;
+  parents = order_in P;
   statics = statics_in P;
   initializes = λ f. initialized_by P f.activity;
   start = start_frame;

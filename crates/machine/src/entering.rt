@@ -3,7 +3,8 @@
 ghost use Rattle.std.specs.Prelude.{◌≡◌, IfOk, Some, OnOk};
 ghost use Rattle.machine.specs.Linked.{blank_areas, initializer_frame, start_frame};
 
-use crate::program::{Implementation, Program};
+use hierarchy::class::Implementation;
+use hierarchy::program::Program;
 use std::alloc::{AllocError, Global};
 use vm_state::classes::Classes;
 use vm_state::frame::{Activity, Frame};
@@ -22,9 +23,12 @@ pub fn initializer_frame(
     let Some(method) = program.initializer(class) else {
         return Ok(None);
     };
-    match program.implementation(method) {
+    match program.implementation(class, method) {
         Some(Implementation::Code(code)) => Ok(Some(Frame {
-            activity: Activity::Method(method),
+            activity: Activity::Method {
+                class,
+                index: method,
+            },
             place: 0,
             locals: Locals::new(alloc, code.max_locals)?,
             operands: Operands::new(alloc, code.max_stack)?,
@@ -54,7 +58,7 @@ pub fn blank_classes(alloc: Global, program: &Program) -> Result<Classes, AllocE
     ensures { IfOk result (λ r. r ≡ blank_areas program.now.classes) }
 {
     let mut classes = Classes::new(alloc);
-    let given = program.classes.as_slice();
+    let given = program.classes();
     for class in given {
         classes.add(alloc, class.statics.as_slice())?;
     }

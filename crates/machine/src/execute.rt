@@ -8,15 +8,16 @@ ghost use Rattle.vm_state.specs.declared.text.Line.{Line};
 ghost use Rattle.vm_state.specs.Shares.{shared_of};
 ghost use Rattle.vm_state.specs.Locals.{stored};
 ghost use Rattle.vm_state.specs.Segments.{frames_with};
-ghost use Rattle.machine.specs.Tables.{main_in};
+ghost use Rattle.hierarchy.specs.Tables.{main_in};
 ghost use Rattle.vm_state.specs.Stacks.{segment_of, levels_of};
-ghost use Rattle.machine.specs.Table.{row, get_int, put_int, print_int, start_row, call_main, called, goes_on, instruction_row, returned_to};
+ghost use Rattle.machine.specs.Table.{row, get_int, put_int, print_int, start_row, call_main, called, goes_on, operation_row, returned_to};
 ghost use Rattle.machine.specs.Effects.{Gives, Stays, StandsAfterPrint};
 
-use crate::instruction::Instruction;
 use crate::kinds::Effect;
 use crate::local::{advance, execute_local, push};
-use crate::program::{Code, Implementation, Program};
+use crate::operation::{Operation, operation_at};
+use hierarchy::class::{Code, Implementation};
+use hierarchy::program::Program;
 use std::alloc::{AllocError, Global};
 use vm_state::classes::Usability;
 use vm_state::ends::FaultKind;
@@ -112,21 +113,21 @@ fn execute(
     thread: u32,
     frame: &mut Frame,
     shared: &mut Shared,
-    instruction: Instruction,
+    operation: Operation,
 ) -> Result<Effect, AllocError>
-    requires { instruction ≢ Instruction.Return }
-    ensures gives { IfOk result (λ e. (fs : List Frame) → Gives thread (instruction_row instruction frame.old fs) shared.old e (frame.new ∷ fs) shared.new) }
+    requires { operation ≢ Operation.Return }
+    ensures gives { IfOk result (λ e. (fs : List Frame) → Gives thread (operation_row operation frame.old fs) shared.old e (frame.new ∷ fs) shared.new) }
     ensures stays { IfOk result (λ e. (Stays e frame.old frame.new) × (Stays e shared.old shared.new)) }
     ensures err { OnErr result ((frame.new ≡ frame.old) × ((p : List Line) → shared_of shared.new p ≡ shared_of shared.old p)) }
 {
-    match instruction {
-        Instruction::Local(local) => Ok(effect_of(execute_local(frame, local))),
-        Instruction::GetInt(class, field) => Ok(get_int(thread, frame, shared, class, field)),
-        Instruction::PutInt(class, field) => put_int(alloc, thread, frame, shared, class, field),
-        Instruction::GetOut => Ok(effect_of(push(frame, Value::Out))),
-        Instruction::PrintInt => print_int(alloc, thread, frame),
-        Instruction::Return => unreachable!(),
-        Instruction::Refused(kind) => Ok(Effect::Halt(kind)),
+    match operation {
+        Operation::Local(local) => Ok(effect_of(execute_local(frame, local))),
+        Operation::GetInt(class, field) => Ok(get_int(thread, frame, shared, class, field)),
+        Operation::PutInt(class, field) => put_int(alloc, thread, frame, shared, class, field),
+        Operation::GetOut => Ok(effect_of(push(frame, Value::Out))),
+        Operation::PrintInt => print_int(alloc, thread, frame),
+        Operation::Return => unreachable!(),
+        Operation::Refused(kind) => Ok(Effect::Halt(kind)),
     }
 }
 
@@ -134,18 +135,22 @@ fn execute(
 /// for it.
 fn called(
     alloc: Global,
-    method: u32,
+    class: u32,
+    method: u16,
     code: &Code,
     argument: Value,
 ) -> Result<Option<Frame>, AllocError>
     ensures none { IfOk result (λ r. IfNone r (stored (replicate code.now.max_locals None) 0 argument ≡ None)) }
-    ensures some { IfOk result (λ r. IfSome r (λ f. (locals : List (Option Value)) × (stored (replicate code.now.max_locals None) 0 argument ≡ Some locals) × (f ≡ called method code.now locals))) }
+    ensures some { IfOk result (λ r. IfSome r (λ f. (locals : List (Option Value)) × (stored (replicate code.now.max_locals None) 0 argument ≡ Some locals) × (f ≡ called class method code.now locals))) }
 {
     let mut locals = Locals::new(alloc, code.max_locals)?;
     let operands = Operands::new(alloc, code.max_stack)?;
     match locals.store(0, argument) {
         Ok(()) => Ok(Some(Frame {
-            activity: Activity::Method(method),
+            activity: Activity::Method {
+                class,
+                index: method,
+            },
             place: 0,
             locals,
             operands,
@@ -161,14 +166,14 @@ fn call_main(
     frame: &mut Frame,
     class: u32,
 ) -> Result<Effect, AllocError>
-    ensures gives { IfOk result (λ e. (t : ℕ) (fs : List Frame) (s : Shared) → Gives t (call_main program.now frame.old fs (main_in program.now class)) s e (frame.new ∷ fs) s) }
+    ensures gives { IfOk result (λ e. (t : ℕ) (fs : List Frame) (s : Shared) → Gives t (call_main program.now class frame.old fs (main_in program.now class)) s e (frame.new ∷ fs) s) }
     ensures stays { IfOk result (λ e. Stays e frame.old frame.new) }
     ensures err { OnErr result (frame.new ≡ frame.old) }
 {
     let Some(method) = program.main(class) else {
         return Ok(Effect::Halt(FaultKind::Missing));
     };
-    match program.implementation(method) {
+    match program.implementation(class, method) {
         None => Ok(Effect::Halt(FaultKind::Missing)),
         Some(Implementation::Abstract) => Ok(Effect::Halt(FaultKind::Missing)),
         Some(Implementation::Unsupported) => Ok(Effect::Halt(FaultKind::Unsupported)),
@@ -176,7 +181,7 @@ fn call_main(
             let Ok(argument) = frame.operands.top() else {
                 return Ok(Effect::Halt(FaultKind::Fault));
             };
-            match called(alloc, method, code, argument)? {
+            match called(alloc, class, method, code, argument)? {
                 Some(callee) => {
                     *frame = callee;
                     Ok(Effect::Next)
@@ -225,9 +230,14 @@ fn return_to(top: &mut Option<Frame>, callers: &mut FrameList)
 fn needed_class(program: &Program, frame: &Frame) -> Option<u32> {
     match frame.activity {
         Activity::Start(class) => Some(class),
-        Activity::Method(method) => match program.instruction(method, frame.place) {
-            Some(Instruction::GetInt(class, _)) => Some(class),
-            Some(Instruction::PutInt(class, _)) => Some(class),
+        Activity::Method { class, index } => match operation_at(
+            program,
+            class,
+            index,
+            frame.place,
+        ) {
+            Some(Operation::GetInt(class, _)) => Some(class),
+            Some(Operation::PutInt(class, _)) => Some(class),
             _ => None,
         },
     }
@@ -270,12 +280,17 @@ pub fn effect(
     };
     match frame.activity {
         Activity::Start(class) => start(alloc, program, thread, frame, shared, class),
-        Activity::Method(method) => match program.instruction(method, frame.place) {
-            Some(Instruction::Return) => {
+        Activity::Method { class, index } => match operation_at(
+            program,
+            class,
+            index,
+            frame.place,
+        ) {
+            Some(Operation::Return) => {
                 return_to(&mut frames.top, &mut frames.callers);
                 Ok(Effect::Next)
             }
-            Some(instruction) => execute(alloc, thread, frame, shared, instruction),
+            Some(operation) => execute(alloc, thread, frame, shared, operation),
             None => Ok(Effect::Halt(FaultKind::Fault)),
         },
     }

@@ -6,8 +6,10 @@ ghost use Rattle.machine.specs.IntOperations.{applied};
 ghost use Rattle.machine.specs.Locally.{pushes, load_int, store_int, increment, on_int, on_ints, if_int, if_ints, jumps, leads_to, advanced, local_after};
 ghost use Rattle.machine.specs.Strides.{local_run};
 
-use crate::instruction::{Comparison, Instruction, IntOperator, Local};
-use crate::program::Program;
+use crate::arithmetic::holds;
+use crate::operation::{Arithmetic, Local, local_at};
+use bytecode::Comparison;
+use hierarchy::program::Program;
 use vm_state::frame::{Activity, Frame};
 use vm_state::value::{Fault, Value};
 
@@ -72,7 +74,7 @@ fn increment(frame: &mut Frame, at: u16, by: i32) -> Result<(), Fault>
 
 #[tactic(auto, using(vm_state::proofs::OperandLemmas::room_for_two))]
 #[inline(always)]
-fn combine_ints(frame: &mut Frame, operator: IntOperator) -> Result<(), Fault>
+fn combine_ints(frame: &mut Frame, operator: Arithmetic) -> Result<(), Fault>
     ensures ok { OnOk result (on_ints (applied operator) frame.old ≡ Some frame.new) }
     ensures err { OnErr result (on_ints (applied operator) frame.old ≡ None) }
     ensures same { OnErr result (frame.new ≡ frame.old) }
@@ -129,7 +131,7 @@ fn if_int(frame: &mut Frame, by: Comparison, to: Option<u32>) -> Result<(), Faul
     ensures activity { frame.new.activity ≡ frame.old.activity }
 {
     let number = frame.operands.top_int()?;
-    let place = destination(frame.place, by.holds(number, 0), to)?;
+    let place = destination(frame.place, holds(by, number, 0), to)?;
     frame.operands.drop_top();
     frame.place = place;
     Ok(())
@@ -144,7 +146,7 @@ fn if_ints(frame: &mut Frame, by: Comparison, to: Option<u32>) -> Result<(), Fau
 {
     let right = frame.operands.top_int()?;
     let left = frame.operands.second_int()?;
-    let place = destination(frame.place, by.holds(left, right), to)?;
+    let place = destination(frame.place, holds(by, left, right), to)?;
     frame.operands.drop_top();
     frame.operands.drop_top();
     frame.place = place;
@@ -183,12 +185,12 @@ pub fn run_locals(program: &Program, frame: &mut Frame, most: u64) -> u64
     ensures run { local_run program.now result frame.old ≡ Some frame.new }
     ensures most { result ≤ most }
 {
-    let Activity::Method(method) = frame.activity else {
+    let Activity::Method { class, index } = frame.activity else {
         return 0;
     };
     let mut count = 0;
     while count < most {
-        let Some(Instruction::Local(local)) = program.instruction(method, frame.place) else {
+        let Some(local) = local_at(program, class, index, frame.place) else {
             break;
         };
         if execute_local(frame, local).is_err() {

@@ -75,7 +75,7 @@ module _ (p : Code) (f : Frame) (fs : List Frame) where
 
   active_once : (activity : Activity) → CallsOnce (length fs) (active_row p activity f fs)
   active_once (Start c) = start_once c
-  active_once (Method m) =
+  active_once (Method c m) =
       needing_holds admits Fault (slice_get (p.body m) f.place) (λ i. instruction_row p i f fs) (λ i e. instruction_once i)
 
   pub toy_row_once : CallsOnce (length fs) (toy_row p (f ∷ fs))

@@ -92,7 +92,7 @@ module _ (p : Code) (own : ℕ → Bool) where
 
     active_respects : (activity : Activity) → Respects (toy p) own (active_row p activity f fs)
     active_respects (Start c) = start_respects c
-    active_respects (Method m) =
+    active_respects (Method c m) =
         needing_holds admits Fault (slice_get (p.body m) f.place) (λ i. instruction_row p i f fs) (λ i e. instruction_respects i)
 
   pub toy_row_respects : (fs : List Frame) → Owns (toy p) own fs → Respects (toy p) own (toy_row p fs)

@@ -114,10 +114,10 @@ with_length (negsuc n) go = raises classes.NegativeArraySizeException
 
 abbrev pub initialized_by : Code → Activity → Option ℕ
 initialized_by p (Start c) = None
-initialized_by p (Method m) = p.initialized m
+initialized_by p (Method c m) = p.initialized m
 
 abbrev pub method_frame : Code → List (Option Value) → ℕ → Frame
-method_frame p locals m = record { activity = Method m; place = 0; locals = locals; operands = record { free = p.room m; values = [] } }
+method_frame p locals m = record { activity = Method 0 m; place = 0; locals = locals; operands = record { free = p.room m; values = [] } }
 
 -- a fault where the method is a class initialization method
 abbrev pub unless_initializer : Option ℕ → Row → Row
@@ -193,7 +193,7 @@ start_row p c f fs = with_class c (needing Missing (p.main c) (λ m. needing Fau
 
 abbrev pub active_row : Code → Activity → Frame → List Frame → Row
 active_row p (Start c) f fs = start_row p c f fs
-active_row p (Method m) f fs = needing Fault (slice_get (p.body m) f.place) (λ i. instruction_row p i f fs)
+active_row p (Method c m) f fs = needing Fault (slice_get (p.body m) f.place) (λ i. instruction_row p i f fs)
 
 abbrev pub toy_row : Code → List Frame → Row
 toy_row p [] = halts Fault
@@ -203,7 +203,7 @@ toy_row p (f ∷ fs) = active_row p f.activity f fs
 
 abbrev pub handler_in : Code → Activity → ℕ → ClassId → Option ℕ
 handler_in p (Start c) place class = None
-handler_in p (Method m) place class = p.handler m place class
+handler_in p (Method c m) place class = p.handler m place class
 
 -- no operands, in all the room that there is
 abbrev pub emptied : OperandStack → OperandStack

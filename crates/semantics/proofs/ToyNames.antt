@@ -186,7 +186,7 @@ module _ (known : Names) where
 
     active_keeps : ((c : ℕ) → KnowsAll known (p.slots c)) → (activity : Activity) → KeepsTo known (active_row p activity f fs)
     active_keeps slots (Start c) = start_keeps c
-    active_keeps slots (Method m) =
+    active_keeps slots (Method c m) =
         needing_holds admits Fault (slice_get (p.body m) f.place) (λ i. instruction_row p i f fs) (λ i e. instruction_keeps slots i)
 
   pub toy_row_keeps : (p : Code) → ((c : ℕ) → KnowsAll known (p.slots c)) →

@@ -14,8 +14,8 @@ use std::mem;
 pub enum Activity {
     /// The start of a thread, which calls the `main` of this class (JVMS 5.2).
     Start(u32),
-    /// A method, by its number in the program.
-    Method(u32),
+    /// A method of a given class, by its place among those that the class declares.
+    Method { class: u32, index: u16 },
 }
 
 /// The frame of one call.

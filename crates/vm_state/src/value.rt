@@ -26,7 +26,7 @@ pub enum Value {
     Long(i64),
     Null,
     /// A string, by its number in the program's table of distinct strings.
-    Text(u32),
+    Text(usize),
     /// An object that was made while a class was being initialized.
     OfClass(u32, u64),
     /// An object that a thread made otherwise.

@@ -65,7 +65,8 @@ fn check(
 /// The operand stack and the local variables (JVMS 2.6.1, 2.6.2): main has two of each.
 #[test]
 fn stacks_and_locals(rt: HostRuntime) -> Result<(), Fail> {
-    let rows: [Row<'_>; 20] = [
+    let rows: [Row<'_>; 21] = [
+        (&[Piece::Bytes(&[op::WIDE, op::ILOAD, 0, 0])], 1, FAULT),
         (&[Piece::Bytes(&[op::IADD])], 1, FAULT),
         (&[Piece::Bytes(&[op::ICONST_1, op::IADD])], 2, FAULT),
         (&[Piece::Bytes(&[op::INEG])], 1, FAULT),
@@ -380,14 +381,9 @@ fn references(rt: HostRuntime) -> Result<(), Fail> {
 /// What is executed later: these rows move when it is.
 #[test]
 fn left_out_so_far(rt: HostRuntime) -> Result<(), Fail> {
-    let rows: [Row<'_>; 3] = [
+    let rows: [Row<'_>; 2] = [
         (&[Piece::Bytes(&[op::LDC, 2])], 1, UNSUPPORTED),
         (&[Piece::Bytes(&[op::ICONST_1, op::POP])], 2, UNSUPPORTED),
-        (
-            &[Piece::Bytes(&[op::WIDE, op::ILOAD, 0, 0])],
-            1,
-            UNSUPPORTED,
-        ),
     ];
     check(&rt, rt.alloc(), 1, 1, &rows)
 }

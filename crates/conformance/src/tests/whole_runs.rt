@@ -2,8 +2,8 @@
 
 use super::{ENOUGH, javac, linked, run, samples, sight, steps_of};
 use classfile::ClassName;
+use hierarchy::program::Program;
 use init_engine::{Ending, Turn, World, turns};
-use machine::Program;
 use std::alloc::Global;
 use std::process::Abort;
 use std::test::Fail;

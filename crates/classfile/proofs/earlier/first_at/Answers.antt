@@ -32,6 +32,6 @@ pub returns-clause-firsts : goal.returns-clause-firsts
 returns-clause-firsts c =
     let within : c.args.index < length c.args.pool.now = text_is_within c.args.pool.now c.args.index c.requires.text in
     let inside : c.args.index < length c.args.firsts.now.items = omega arith in
-    let text : text_of c.args.pool.now c.args.index ≡ Some c.in-Some-text_of.text.now = c.in-Some-text_of.ensures in
+    let text : text_of c.args.pool.now c.args.index ≡ Some c.in-Some-text_of.text.now = c.in-Some-text_of.ensures.value in
     rw c.from-2.ensures (firsts_after c.args.pool.now c.args.firsts.now.items _ _ c.in-Some-text_of.text.now c.args.index
     c.in_ok-first.first c.requires.firsts text c.in_ok-first.ensures.first inside c.in_ok-first.ensures.after)

@@ -1,0 +1,109 @@
+//! Puts a program together from class files (JVMS 5.4).
+
+ghost use Rattle.std.specs.Prelude.{◌≡◌, ◌⊎◌, Err, IfOk, IfErr, OnOk, IsOk};
+ghost use Rattle.hierarchy.specs.declared.fault.LinkFault.{LinkFault as Fault};
+ghost use Rattle.hierarchy.specs.declared.fault.LinkFault.TheVariants.{Memory};
+ghost use Rattle.hierarchy.specs.Families.{IsFamilyOf};
+ghost use Rattle.hierarchy.specs.Files.{LinkFails, Links};
+ghost use Rattle.hierarchy.specs.Initialization.{AreOrders};
+
+use crate::class::Class;
+use crate::entries::Resolver;
+use crate::family::Family;
+use crate::fault::LinkFault;
+use crate::given::GivenClass;
+use crate::hierarchy::Hierarchy;
+use crate::initialization::InitializationOrders;
+use crate::linking::family_of;
+use crate::methods::{initializer_of, main_of, methods_of};
+use crate::program::Program;
+use crate::slots::Slots;
+use crate::statics::statics_of;
+use crate::superinterfaces::Superinterfaces;
+use crate::texts::Texts;
+use classfile::ClassFile;
+use std::alloc::{AllocError, Global};
+
+/// Links class files into one program. Classes are numbered in the order of their names' bytes, whatever the order of the
+/// files (JVMS 5.3.5, 5.4).
+///
+/// # Errors
+/// The first of `Memory`, `Limit`, `Twice`, `BuiltIn`, `Parent` and `Circle` that holds; among several of one kind the
+/// one of the least name, and then of the least kind of bad parent.
+pub fn link(alloc: Global, files: Vec<ClassFile>) -> Result<Program, LinkFault>
+    // The classes of the program are those of the files.
+    ensures family { IfOk result (λ program. IsFamilyOf files.items program.family) }
+    // Before each class is initialized what the procedure says.
+    ensures orders { IfOk result (λ program. AreOrders program.family program.orders) }
+    // A program is answered exactly where nothing is wrong with the files, unless memory runs out.
+    ensures links { OnOk result (Links files.items) }
+    ensures only_links { Links files.items → IsOk result ⊎ (result ≡ Err Memory) }
+    // What is answered otherwise is the first fault, or want of memory.
+    ensures fault { IfErr result (λ x. (x ≡ Memory) ⊎ LinkFails files.items x) }
+    ensures only_fault { (x : Fault) → LinkFails files.items x → (result ≡ Err x) ⊎ (result ≡ Err Memory) }
+{
+    let family = family_of(alloc, files)?;
+    Ok(program_of(alloc, family)?)
+}
+
+/// The program of a family.
+fn program_of(alloc: Global, family: Family) -> Result<Program, AllocError>
+    ensures family { IfOk result (λ program. program.family ≡ family) }
+    ensures orders { IfOk result (λ program. AreOrders program.family program.orders) }
+{
+    let interfaces = Superinterfaces::of(alloc, &family)?;
+    let orders = InitializationOrders::of(alloc, &family)?;
+    let hierarchy = Hierarchy::new(alloc, family, interfaces)?;
+    let mut strings = Texts::new(alloc);
+    let classes = classes_of(alloc, &hierarchy, &mut strings)?;
+    Ok(Program {
+        hierarchy,
+        orders,
+        classes,
+        strings,
+    })
+}
+
+/// What the machine uses of each class.
+fn classes_of(
+    alloc: Global,
+    hierarchy: &Hierarchy,
+    strings: &mut Texts,
+) -> Result<Vec<Class>, AllocError> {
+    let slots = slots_of(alloc, hierarchy.classes())?;
+    let resolver = Resolver {
+        hierarchy,
+        slots: slots.as_slice(),
+    };
+    let mut classes = Vec::new(alloc);
+    for given in hierarchy.classes() {
+        classes.push(class_of(alloc, &resolver, strings, given)?)?;
+    }
+    Ok(classes)
+}
+
+/// By class: the numbers of its static fields.
+fn slots_of(alloc: Global, classes: &[GivenClass]) -> Result<Vec<Slots>, AllocError> {
+    let mut slots = Vec::new(alloc);
+    for given in classes {
+        slots.push(Slots::of_class(alloc, &given.file)?)?;
+    }
+    Ok(slots)
+}
+
+/// What the machine uses of a class.
+fn class_of(
+    alloc: Global,
+    resolver: &Resolver<'_>,
+    strings: &mut Texts,
+    given: &GivenClass,
+) -> Result<Class, AllocError> {
+    let file = &given.file;
+    Ok(Class {
+        statics: statics_of(alloc, file)?,
+        methods: methods_of(alloc, file)?,
+        initializer: initializer_of(file),
+        main: main_of(file),
+        entries: resolver.entries_of(alloc, strings, file)?,
+    })
+}

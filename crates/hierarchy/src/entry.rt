@@ -1,0 +1,59 @@
+//! Run-time constant pools (JVMS 5.1): what the entries of a class's constant pool stand for, once they are resolved.
+
+use crate::member::{Method, Unresolved};
+use vm_state::class_id::ClassId;
+
+/// How a field's value is stored, by its type (JVMS 2.11.1, 4.3.2).
+#[derive(Clone, Copy, PartialEq, Eq, Debug)]
+pub enum FieldKind {
+    Boolean,
+    Byte,
+    Char,
+    Short,
+    Int,
+    Long,
+    /// Left out: fields of this type have no value.
+    Float,
+    /// Left out: fields of this type have no value.
+    Double,
+    Reference,
+}
+
+/// A field as instructions use it.
+#[derive(Clone, Copy, PartialEq, Eq, Debug)]
+pub enum FieldTarget {
+    Static {
+        class: u32,
+        /// Its number among the class's static fields that have values.
+        slot: u32,
+        is_final: bool,
+    },
+    /// A field of instances.
+    Instance {
+        class: u32,
+        index: u16,
+    },
+    /// `System.out`.
+    Out,
+}
+
+/// What an entry of a constant pool stands for.
+#[derive(Clone, Copy, PartialEq, Eq, Debug)]
+pub enum Entry {
+    /// No instruction names it, or what it stands for is left out.
+    Other,
+    Int(i32),
+    Long(i64),
+    Float,
+    Double,
+    /// A string, by its number in the program's table of distinct strings.
+    Text(usize),
+    /// A class, if it is given or built in, or an array class of such.
+    Class(Option<ClassId>),
+    /// A field reference: the kind of its descriptor, and what it resolves to.
+    Field(FieldKind, Result<FieldTarget, Unresolved>),
+    /// A method reference, and what it resolves to.
+    Method(Result<Method, Unresolved>),
+    /// The same of a method of an interface.
+    InterfaceMethod(Result<Method, Unresolved>),
+}

@@ -1,0 +1,167 @@
+//! The linked program.
+
+ghost use Rattle.std.specs.Prelude.{◌≡◌, ◌≢◌, ℕ, [], length, Option, Some, IfOk, MatchOption, option_copied, option_map};
+ghost use Rattle.classfile.specs.Units.{units_text};
+ghost use Rattle.hierarchy.specs.Families.{name_in};
+ghost use Rattle.hierarchy.specs.Tables.{Tables, instruction_at, implementation_at, entry_at, statics_in, order_in, initializer_in, main_in};
+
+use crate::class::{Class, Implementation};
+use crate::entry::Entry;
+use crate::hierarchy::Hierarchy;
+use crate::initialization::InitializationOrders;
+use crate::texts::Texts;
+use bytecode::Instruction;
+use classfile::{ClassName, printed};
+use std::alloc::{AllocError, Global};
+use std::marker::Model;
+use vm_state::class_id::{ArrayType, ClassId, ElementType};
+use vm_state::classes::StaticField;
+
+/// Given classes by their numbers, which are in the order of their names' bytes, with their members and parents by number.
+#[derive(Drop)]
+pub struct Program {
+    pub(crate) hierarchy: Hierarchy,
+    pub(crate) orders: InitializationOrders,
+    pub(crate) classes: Vec<Class>,
+    /// The distinct strings, as class files spell them.
+    pub(crate) strings: Texts,
+}
+
+impl Model for Program {
+    ghost use Rattle.hierarchy.specs.Tables.{Tables};
+
+    ghost Value = { Tables };
+
+    ghost view = { λ s. record { family = s.hierarchy.family; orders = s.orders; classes = s.classes.items; strings = s.strings } };
+}
+
+impl Program {
+    /// The given classes, as the machine uses them.
+    pub fn classes(&self) -> &[Class]
+        ensures { result.now ≡ self.now.classes }
+    {
+        self.classes.as_slice()
+    }
+
+    /// How many classes were given.
+    pub fn class_count(&self) -> usize
+        ensures { result ≡ length self.now.classes }
+    {
+        self.classes.len()
+    }
+
+    /// How a method of a class is implemented.
+    #[inline(always)]
+    pub fn implementation(&self, class: u32, method: u16) -> Option<&Implementation>
+        ensures { option_copied result ≡ implementation_at self.now class method }
+    {
+        let class = self.classes.get(class as usize)?;
+        class.methods.methods.get(usize::from(method))
+    }
+
+    /// The instruction at a place of a method's body.
+    #[tactic(auto, unfolding(crate::specs::Tables::instruction_at))]
+    #[inline(always)]
+    pub fn instruction(&self, class: u32, method: u16, place: u32) -> Option<&Instruction>
+        ensures { option_copied result ≡ instruction_at self.now class method place }
+    {
+        match self.implementation(class, method)? {
+            Implementation::Code(code) => code.body.instruction(place),
+            _ => None,
+        }
+    }
+
+    /// The entry at an index of a class's run-time constant pool.
+    pub fn entry(&self, class: u32, index: u16) -> Option<Entry>
+        ensures { result ≡ entry_at self.now class index }
+    {
+        let class = self.classes.get(class as usize)?;
+        class.entries.entries.get(usize::from(index)).copied()
+    }
+
+    /// The static fields of a class that have values, in order; none of a class that is not there.
+    pub fn statics(&self, class: u32) -> &[StaticField]
+        ensures { result.now ≡ statics_in self.now class }
+    {
+        match self.classes.get(class as usize) {
+            Some(class) => class.statics.fields.as_slice(),
+            None => &[],
+        }
+    }
+
+    /// What is initialized before a class, in order (JVMS 5.5, step 7).
+    pub fn init_order(&self, class: u32) -> &[u32]
+        ensures { result.now ≡ order_in self.now class }
+    {
+        self.orders.of_class(class)
+    }
+
+    /// The class initialization method of a class.
+    pub fn initializer(&self, class: u32) -> Option<u16>
+        ensures { result ≡ initializer_in self.now class }
+    {
+        self.classes.get(class as usize)?.initializer
+    }
+
+    /// The `main` that a thread calls which begins with a class.
+    pub fn main(&self, class: u32) -> Option<u16>
+        ensures { result ≡ main_in self.now class }
+    {
+        self.classes.get(class as usize)?.main
+    }
+
+    /// The number of the given class of a name, if there is one.
+    pub fn class_named(&self, alloc: Global, name: &ClassName) -> Result<Option<u32>, AllocError>
+        ensures { IfOk result (λ number. MatchOption number
+            ((c : ℕ) → name_in self.now.family c ≢ Some (units_text name.now))
+            (λ c. name_in self.now.family c ≡ Some (units_text name.now))) }
+    {
+        let bytes = name.modified_utf8(alloc)?;
+        Ok(self.hierarchy.number_of(bytes.bytes()))
+    }
+
+    /// The name of a class with slashes, as messages print it. An array class's name is its descriptor (JVMS 4.4.1).
+    pub fn class_text(&self, alloc: Global, class: ClassId) -> Result<String, AllocError> {
+        match class {
+            ClassId::Given(number) => self.given_text(alloc, number),
+            ClassId::BuiltIn(class) => String::from_str(alloc, class.name()),
+            ClassId::Array(array) => self.array_text(alloc, array),
+        }
+    }
+
+    fn given_text(&self, alloc: Global, number: u32) -> Result<String, AllocError> {
+        let Some(class) = self.hierarchy.classes().get(number as usize) else {
+            return Ok(String::new(alloc));
+        };
+        match class.file.class_name(class.file.this_class()) {
+            Some(name) => printed(alloc, name),
+            None => Ok(String::new(alloc)),
+        }
+    }
+
+    fn array_text(&self, alloc: Global, array: ArrayType) -> Result<String, AllocError> {
+        let mut text = String::new(alloc);
+        for _ in 0..array.dimensions {
+            text.push_str("[")?;
+        }
+        match array.element {
+            ElementType::Boolean => text.push_str("Z")?,
+            ElementType::Byte => text.push_str("B")?,
+            ElementType::Char => text.push_str("C")?,
+            ElementType::Short => text.push_str("S")?,
+            ElementType::Int => text.push_str("I")?,
+            ElementType::Long => text.push_str("J")?,
+            ElementType::Float => text.push_str("F")?,
+            ElementType::Double => text.push_str("D")?,
+            ElementType::Given(number) => {
+                let name = self.given_text(alloc, number)?;
+                write!(text, "L{name};")?;
+            }
+            ElementType::BuiltIn(class) => {
+                let name = class.name();
+                write!(text, "L{name};")?;
+            }
+        }
+        Ok(text)
+    }
+}

@@ -1,0 +1,112 @@
+//! The static fields of a class.
+
+ghost use Rattle.std.specs.Prelude.{◌≡◌, map, IfOk, Some};
+ghost use Rattle.hierarchy.specs.Entries.{kind_of, has_value, is_static_field, statics_of};
+ghost use Rattle.hierarchy.specs.Names.{text_at};
+ghost use Rattle.hierarchy.specs.Programs.{zero_of, int_constant, constant_at, constant_of, static_field};
+
+use crate::class::StaticFields;
+use crate::entry::FieldKind;
+use classfile::flags::{FINAL, STATIC, has_flag};
+use classfile::{ClassFile, Constant, Member};
+use std::alloc::{AllocError, Global};
+use vm_state::classes::StaticField;
+use vm_state::value::Value;
+
+/// How values of a type are stored, by the descriptor.
+#[tactic(auto, unfolding(crate::specs::Entries::kind_of))]
+pub(crate) fn kind_of(descriptor: &[u8]) -> FieldKind
+    ensures { result ≡ kind_of descriptor.now }
+{
+    match descriptor {
+        b"Z" => FieldKind::Boolean,
+        b"B" => FieldKind::Byte,
+        b"C" => FieldKind::Char,
+        b"S" => FieldKind::Short,
+        b"I" => FieldKind::Int,
+        b"J" => FieldKind::Long,
+        b"F" => FieldKind::Float,
+        b"D" => FieldKind::Double,
+        _ => FieldKind::Reference,
+    }
+}
+
+/// The text at an index of a class file's constants, or no bytes.
+pub(crate) fn text_at(file: &ClassFile, index: u16) -> &[u8]
+    ensures { result.now ≡ text_at file.now index }
+{
+    file.text(index).unwrap_or(&[])
+}
+
+/// Whether a field of a kind has a value.
+fn has_value(kind: FieldKind) -> bool
+    ensures { result ≡ has_value kind }
+{
+    !matches!(kind, FieldKind::Float | FieldKind::Double)
+}
+
+/// Whether a field is static and has a value.
+pub(crate) fn is_static_field(file: &ClassFile, field: &Member) -> bool
+    ensures { result ≡ is_static_field file.now field.now }
+{
+    has_flag(field.access_flags, STATIC) && has_value(kind_of(text_at(file, field.descriptor)))
+}
+
+/// What a field holds before its class is initialized (JVMS 2.3, 2.4).
+fn zero_of(kind: FieldKind) -> Value
+    ensures { result ≡ zero_of kind }
+{
+    match kind {
+        FieldKind::Long => Value::Long(0),
+        FieldKind::Reference => Value::Null,
+        _ => Value::Int(0),
+    }
+}
+
+fn int_constant(file: &ClassFile, index: u16) -> Option<Value>
+    ensures { result ≡ constant_at file.now (Some index) }
+{
+    match file.constant(index) {
+        Some(Constant::Integer { bits }) => {
+            Some(Value::Int(i32::from_be_bytes(bits.to_be_bytes())))
+        }
+        _ => None,
+    }
+}
+
+/// The ConstantValue of a final int field (JVMS 4.7.2).
+fn constant_of(file: &ClassFile, kind: FieldKind, field: &Member) -> Option<Value>
+    ensures { result ≡ constant_of file.now kind field.now }
+{
+    match kind {
+        FieldKind::Int if has_flag(field.access_flags, FINAL) => {
+            int_constant(file, field.constant_value()?)
+        }
+        _ => None,
+    }
+}
+
+fn static_field(file: &ClassFile, field: &Member) -> StaticField
+    ensures { result ≡ static_field file.now field.now }
+{
+    let kind = kind_of(text_at(file, field.descriptor));
+    StaticField {
+        is_final: has_flag(field.access_flags, FINAL),
+        zero: zero_of(kind),
+        constant: constant_of(file, kind, field),
+    }
+}
+
+/// The static fields of a class that have values, in the order of its file.
+pub(crate) fn statics_of(alloc: Global, file: &ClassFile) -> Result<StaticFields, AllocError>
+    ensures { IfOk result (λ statics. statics ≡ map (static_field file.now) (statics_of file.now)) }
+{
+    let mut statics = Vec::new(alloc);
+    let fields = file.fields();
+    for field in fields {
+        if is_static_field(file, field) {
+            statics.push(static_field(file, field))?;
+        }
+    }
+    Ok(StaticFields { fields: statics })
+}

@@ -1,0 +1,12 @@
+//! What is looked for in a class.
+
+/// The kind of member that counts.
+#[derive(Clone, Copy, Debug)]
+pub(crate) enum Wanted {
+    Field,
+    Method,
+    /// A method that is neither private nor static.
+    InstanceMethod,
+    /// The same of an interface: a superinterface method as it is looked up (JVMS 5.4.3.3).
+    InterfaceMethod,
+}
