@@ -23,16 +23,40 @@ pub struct Outcome {
 pub fn run<F: Files>(alloc: Global, words: Lazy<'_>, files: &mut F) -> Result<Outcome, Refusal>
     ensures { IfOk result (λ outcome. IsTold outcome.status) }
 {
-    let bytes = files
-        .get(words.file)
-        .map_err(|fault| Refusal::of_file(alloc, words.file, fault))?;
-    let program = program_of(alloc, &[bytes.as_slice()])?;
+    let program = program_in(alloc, words.file, files)?;
     let entries = entries_of(alloc, words.entries)?;
-    let world = World::lazy(alloc, &program, entries.as_slice()).map_err(Refusal::of_entry)?;
-    let (world, _schedule) = init_engine::turns(alloc, &program, world, words.limit)?;
+    run_program(alloc, &program, entries.as_slice(), words.limit)
+}
+
+/// The program of the class file of a name.
+fn program_in<F: Files>(alloc: Global, file: &str, files: &mut F) -> Result<Program, Refusal> {
+    let bytes = files
+        .get(file)
+        .map_err(|fault| Refusal::of_file(alloc, file, fault))?;
+    program_of(alloc, &[bytes.as_slice()])
+}
+
+/// Runs a program with these entries, for at most so many steps.
+fn run_program(
+    alloc: Global,
+    program: &Program,
+    entries: &[ClassName],
+    limit: u64,
+) -> Result<Outcome, Refusal>
+    ensures { IfOk result (λ outcome. IsTold outcome.status) }
+{
+    let world = World::lazy(alloc, program, entries).map_err(Refusal::of_entry)?;
+    let (world, _schedule) = init_engine::turns(alloc, program, world, limit)?;
+    Ok(outcome_of(alloc, program, &world)?)
+}
+
+/// What is to be told of a world.
+fn outcome_of(alloc: Global, program: &Program, world: &World) -> Result<Outcome, AllocError>
+    ensures { IfOk result (λ outcome. IsTold outcome.status) }
+{
     let seen = world.seen(alloc)?;
-    let threads = thread_lines(alloc, &program, seen.threads.as_slice())?;
-    let status = status_of(seen.threads.as_slice(), world.stuck(&program));
+    let threads = thread_lines(alloc, program, seen.threads.as_slice())?;
+    let status = status_of(seen.threads.as_slice(), world.stuck(program));
     Ok(Outcome {
         printed: seen.printed,
         threads,
