@@ -5,7 +5,7 @@ ghost use Rattle.cli.specs.declared.fault.Refusal.TheVariants.{Memory};
 
 use crate::{FileFault, Status};
 use classfile::ClassFault;
-use hierarchy::fault::LinkFault;
+use hierarchy::LinkFault;
 use init_engine::EntryFault;
 use std::alloc::{AllocError, AllocFailed, Global};
 use thiserror::Error;

@@ -11,7 +11,7 @@ mod samples;
 mod whole_runs;
 
 use classfile::ClassName;
-use hierarchy::fault::LinkFault;
+use hierarchy::LinkFault;
 use hierarchy::link;
 use hierarchy::program::Program;
 use init_engine::{Ending, World, turns};

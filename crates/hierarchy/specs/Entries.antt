@@ -1,6 +1,6 @@
 -- Run-time constant pools (JVMS 5.1), and the static fields of classes.
-use Rattle.std.specs.Prelude.{◌≡◌, ℕ, ℤ, ◌+◌, ◌*◌, ◌^◌, Bool, true, false, ◌&&◌, List, Option, Some, None, Ok, Err}
-use Rattle.std.specs.Prelude.{slice_get, codes, take, if◌then◌else◌}
+use Rattle.std.specs.Prelude.{◌≡◌, ◌≢◌, ℕ, ℤ, ◌+◌, ◌*◌, ◌^◌, ◌<◌, Bool, true, false, ◌&&◌, List, [], length, Option, Some, None, Ok, Err}
+use Rattle.std.specs.Prelude.{slice_get, slice_index_or, codes, take, if◌then◌else◌}
 use Rattle.std.specs.List.{count_by, filter}
 use Rattle.std.specs.Str.{bytes_eq}
 use Rattle.std.specs.Int.{w32, w64, cast_signed}
@@ -17,14 +17,14 @@ use Rattle.hierarchy.specs.declared.entry.FieldKind.{FieldKind}
 use Rattle.hierarchy.specs.declared.entry.FieldKind.TheVariants as kinds
 use Rattle.hierarchy.specs.declared.entry.FieldTarget.{FieldTarget}
 use Rattle.hierarchy.specs.declared.entry.FieldTarget.TheVariants as targets
-use Rattle.hierarchy.specs.declared.member.Field.{Field}
-use Rattle.hierarchy.specs.declared.member.Field.TheVariants as fields
-use Rattle.hierarchy.specs.declared.member.Method.{Method}
-use Rattle.hierarchy.specs.declared.member.Unresolved.{Unresolved}
-use Rattle.hierarchy.specs.Names.{class_name_at, text_at}
-use Rattle.hierarchy.specs.Families.{Family, file_in}
-use Rattle.hierarchy.specs.ClassIds.{StandsFor}
-use Rattle.hierarchy.specs.References.{reference_of, ResolvesFieldAt, ResolvesMethodAt}
+use Rattle.resolution.specs.declared.member.Field.{Field}
+use Rattle.resolution.specs.declared.member.Field.TheVariants as fields
+use Rattle.resolution.specs.declared.member.Method.{Method}
+use Rattle.resolution.specs.declared.member.Unresolved.{Unresolved}
+use Rattle.loading.specs.Names.{class_name_at, text_at}
+use Rattle.loading.specs.Families.{Family, file_in}
+use Rattle.loading.specs.ClassIds.{StandsFor}
+use Rattle.hierarchy.specs.References.{key_at, ResolvesFieldAt, ResolvesMethodAt}
 
 -- ---- types of fields (JVMS 4.3.2)
 
@@ -57,6 +57,17 @@ statics_of f = filter (is_static_field f) f.fields
 abbrev pub slot_of : Structure → ℕ → ℕ
 slot_of f k = count_by (is_static_field f) (take k f.fields)
 
+-- by field of a class: its number
+abbrev pub AreSlots : Structure → List ℕ → Type 0
+AreSlots f slots = (k : ℕ) → k < length f.fields → slice_get slots k ≡ Some (slot_of f k)
+
+abbrev pub slot_in : List (List ℕ) → ℕ → ℕ → ℕ
+slot_in slots c k = slice_index_or (slice_index_or slots c []) k 0
+
+-- by class: those of its fields
+abbrev pub AreSlotsOf : Family → List (List ℕ) → Type 0
+AreSlotsOf family slots = (c k : ℕ) (f : Structure) → file_in family c ≡ Some f → k < length f.fields → slot_in slots c k ≡ slot_of f k
+
 abbrev pub final_of : Option Member → Bool
 final_of None = false
 final_of (Some m) = has_flag m.access_flags 16
@@ -79,6 +90,10 @@ abbrev pub targeted : Family → Result Field Unresolved → Result FieldTarget 
 targeted family (Ok m) = Ok (target_of family m)
 targeted family (Err e) = Err e
 
+-- what the field that the Fieldref at an index resolves to is for instructions
+abbrev pub IsTargetAt : Family → Structure → ℕ → Result FieldTarget Unresolved → Type 0
+IsTargetAt family f index target = (r : Result Field Unresolved) × ResolvesFieldAt family f index r × (target ≡ targeted family r)
+
 -- ---- numbers (JVMS 4.4.4, 4.4.5): two's complement
 
 abbrev pub int_of_bits : ℕ → ℤ
@@ -96,9 +111,9 @@ pub data IsEntry (family : Family) (strings : List (List ℕ)) (f : Structure) (
   text : {utf8 n : ℕ} → slice_get strings n ≡ Some (text_at f utf8) → IsEntry family strings f index (constants.String utf8) (entries.Text n)
   class : {name : ℕ} {x : Option ClassId} → StandsFor family (class_name_at f index) x → IsEntry family strings f index (constants.Class name)
       (entries.Class x)
-  field : {c n : ℕ} {r : Result Field Unresolved} → ResolvesFieldAt family f index r
+  field : {c n : ℕ} (r : Result Field Unresolved) → ResolvesFieldAt family f index r
       → IsEntry family strings f index (constants.Fieldref c n)
-      (entries.Field (kind_of (reference_of f c n).key.descriptor) (targeted family r))
+      (entries.Field (kind_of (key_at f n).descriptor) (targeted family r))
   method : {c n : ℕ} {r : Result Method Unresolved} → ResolvesMethodAt family f index r
       → IsEntry family strings f index (constants.Methodref c n) (entries.Method r)
   interface_method : {c n : ℕ} {r : Result Method Unresolved} → ResolvesMethodAt family f index r
@@ -109,3 +124,14 @@ pub data IsEntry (family : Family) (strings : List (List ℕ)) (f : Structure) (
   method_handle : {kind reference : ℕ} → IsEntry family strings f index (constants.MethodHandle kind reference) entries.Other
   method_type : {descriptor : ℕ} → IsEntry family strings f index (constants.MethodType descriptor) entries.Other
   invoke_dynamic : {bootstrap n : ℕ} → IsEntry family strings f index (constants.InvokeDynamic bootstrap n) entries.Other
+
+-- an entry that is no string is the same whatever strings there are
+abbrev pub IsResolved : Family → Structure → ℕ → Constant → Entry → Type 0
+IsResolved family f index constant entry = (strings : List (List ℕ)) → ((utf8 : ℕ) → constant ≢ constants.String utf8)
+    → IsEntry family strings f index constant entry
+
+-- The run-time constant pool of a class file: an entry for each constant.
+pub record AreEntries (family : Family) (strings : List (List ℕ)) (f : Structure) (entries : List Entry) : Type 0 where
+  pub count : length entries ≡ length f.constants
+  pub each : (index : ℕ) (constant : Constant) (entry : Entry) → slice_get f.constants index ≡ Some constant
+      → slice_get entries index ≡ Some entry → IsEntry family strings f index constant entry

@@ -6,7 +6,7 @@ use Rattle.classfile.specs.Flags.{has_flag}
 use Rattle.classfile.specs.Structure.{Structure}
 use Rattle.classfile.specs.Members.{code_among, value_among}
 use Rattle.classfile.specs.declared.member.Member.{Member}
-use Rattle.hierarchy.specs.Names.{text_at}
+use Rattle.loading.specs.Names.{text_at}
 use Rattle.bytecode.specs.Body.{IsBody}
 use Rattle.classfile.specs.declared.code.Code.{Code as CodeAttribute}
 use Rattle.classfile.specs.declared.constant.Constant.{Constant}
@@ -18,13 +18,13 @@ use Rattle.hierarchy.specs.declared.class.Class.{Class}
 use Rattle.hierarchy.specs.declared.class.Code.{Code}
 use Rattle.hierarchy.specs.declared.class.Implementation.{Implementation}
 use Rattle.hierarchy.specs.declared.class.Implementation.TheVariants as implementations
-use Rattle.hierarchy.specs.declared.entry.Entry.{Entry}
 use Rattle.hierarchy.specs.declared.entry.FieldKind.{FieldKind}
 use Rattle.hierarchy.specs.declared.entry.FieldKind.TheVariants as kinds
-use Rattle.hierarchy.specs.declared.given.GivenClass.{GivenClass}
-use Rattle.hierarchy.specs.Families.{Family}
-use Rattle.hierarchy.specs.Initialization.{IsInitializationOrder}
-use Rattle.hierarchy.specs.Entries.{statics_of, kind_of, int_of_bits, IsEntry}
+use Rattle.loading.specs.declared.given.GivenClass.{GivenClass}
+use Rattle.loading.specs.Families.{Family}
+use Rattle.resolution.specs.Initialization.{IsInitializationOrder}
+use Rattle.hierarchy.specs.Entries.{statics_of, kind_of, int_of_bits, AreEntries}
+use Rattle.resolution.specs.Texts.{AreDistinct}
 use Rattle.hierarchy.specs.Tables.{Tables, order_in}
 
 -- ---- the methods that the machine calls by itself
@@ -104,19 +104,19 @@ pub data IsImplementation (f : Structure) (m : Member) : Implementation → Type
 
 -- ---- a whole class, and the program
 
-pub record IsClass (family : Family) (strings : List (List ℕ)) (c : ℕ) (f : Structure) (class : Class) : Type 0 where
+pub record IsClass (family : Family) (strings : List (List ℕ)) (f : Structure) (class : Class) : Type 0 where
   pub statics : class.statics ≡ map (static_field f) (statics_of f)
   pub methods : AllZip (IsImplementation f) f.methods class.methods
   pub initializer : class.initializer ≡ initializer_of f
   pub main : class.main ≡ main_of f
-  pub entry_count : length class.entries ≡ length f.constants
-  pub entries : (index : ℕ) (constant : Constant) (entry : Entry) → slice_get f.constants index ≡ Some constant
-      → slice_get class.entries index ≡ Some entry → IsEntry family strings f index constant entry
+  pub entries : AreEntries family strings f class.entries
+
+-- a class for each given one
+abbrev pub AreClasses : Family → List (List ℕ) → List Class → Type 0
+AreClasses family strings classes = AllZip (λ (given : GivenClass) (class : Class). IsClass family strings given.file class) family classes
 
 -- The tables are those of their family: a class for each given one, and strings that differ from one another.
 pub record IsProgram (P : Tables) : Type 0 where
-  pub count : length P.classes ≡ length P.family
   pub orders : (c : ℕ) → c < length P.family → IsInitializationOrder P.family c (order_in P c)
-  pub classes : (c : ℕ) (given : GivenClass) (class : Class) → slice_get P.family c ≡ Some given → slice_get P.classes c ≡ Some class
-      → IsClass P.family P.strings c given.file class
-  pub distinct : (i j : ℕ) (units : List ℕ) → slice_get P.strings i ≡ Some units → slice_get P.strings j ≡ Some units → i ≡ j
+  pub classes : AreClasses P.family P.strings P.classes
+  pub distinct : AreDistinct P.strings

@@ -6,37 +6,23 @@ use Rattle.classfile.specs.declared.constant.Constant.{Constant}
 use Rattle.classfile.specs.declared.constant.Constant.TheVariants as constants
 use Rattle.vm_state.specs.declared.class_id.ClassId.{ClassId}
 use Rattle.vm_state.specs.declared.class_id.ClassId.TheVariants as class
-use Rattle.hierarchy.specs.declared.member.Field.{Field}
-use Rattle.hierarchy.specs.declared.member.Method.{Method}
-use Rattle.hierarchy.specs.declared.member.Unresolved.{Unresolved}
-use Rattle.hierarchy.specs.declared.member.Unresolved.TheVariants.{NoReference, Missing, Incompatible}
-use Rattle.hierarchy.specs.Keys.{NameAndType}
-use Rattle.hierarchy.specs.Names.{class_name_at, text_at}
-use Rattle.hierarchy.specs.Families.{Family, is_interface_in}
-use Rattle.hierarchy.specs.ClassIds.{StandsFor}
-use Rattle.hierarchy.specs.Resolution.{ResolvesField, ResolvesMethod}
+use Rattle.resolution.specs.declared.member.Field.{Field}
+use Rattle.resolution.specs.declared.member.Method.{Method}
+use Rattle.resolution.specs.declared.member.Unresolved.{Unresolved}
+use Rattle.resolution.specs.declared.member.Unresolved.TheVariants.{NoReference, Missing, Incompatible}
+use Rattle.resolution.specs.Keys.{NameAndType}
+use Rattle.loading.specs.Names.{class_name_at, text_at}
+use Rattle.loading.specs.Families.{Family, file_in, is_interface_in}
+use Rattle.loading.specs.ClassIds.{StandsFor}
+use Rattle.resolution.specs.Resolution.{ResolvesField, ResolvesMethod}
 
--- a reference to a member: the name of its class, and its own name and descriptor
-pub record Reference : Type 0 where
-  pub class : List ℕ
-  pub key : NameAndType
-
+-- the name and the descriptor that a NameAndType gives (JVMS 4.4.6)
 abbrev pub key_of : Structure → Option Constant → NameAndType
 key_of f (Some (constants.NameAndType name descriptor)) = record { name = text_at f name; descriptor = text_at f descriptor }
 key_of f _ = record { name = []; descriptor = [] }
 
-abbrev pub reference_of : Structure → ℕ → ℕ → Reference
-reference_of f class name_and_type = record { class = class_name_at f class; key = key_of f (slice_get f.constants name_and_type) }
-
-abbrev pub field_reference : Structure → Option Constant → Option Reference
-field_reference f (Some (constants.Fieldref class name_and_type)) = Some (reference_of f class name_and_type)
-field_reference f _ = None
-
--- a method's reference, and whether it is one to a method of an interface
-abbrev pub method_reference : Structure → Option Constant → Option (Bool × Reference)
-method_reference f (Some (constants.Methodref class name_and_type)) = Some (false, reference_of f class name_and_type)
-method_reference f (Some (constants.InterfaceMethodref class name_and_type)) = Some (true, reference_of f class name_and_type)
-method_reference f _ = None
+abbrev pub key_at : Structure → ℕ → NameAndType
+key_at f index = key_of f (slice_get f.constants index)
 
 -- whether a class is an interface
 abbrev pub is_interface_id : Family → ClassId → Bool
@@ -44,27 +30,53 @@ is_interface_id family (class.Given c) = is_interface_in family c
 is_interface_id family (class.BuiltIn b) = false
 is_interface_id family (class.Array a) = false
 
--- What the Fieldref at an index of a class file resolves to.
-pub data ResolvesFieldAt (family : Family) (f : Structure) (index : ℕ) : Result Field Unresolved → Type 0 where
-  no_reference : field_reference f (slice_get f.constants index) ≡ None → ResolvesFieldAt family f index (Err NoReference)
-  unknown : {r : Reference} → field_reference f (slice_get f.constants index) ≡ Some r → StandsFor family r.class None
-      → ResolvesFieldAt family f index (Err Missing)
-  missing : {r : Reference} {x : ClassId} → field_reference f (slice_get f.constants index) ≡ Some r → StandsFor family r.class (Some x)
-      → ResolvesField family r.key x None → ResolvesFieldAt family f index (Err Missing)
-  found : {r : Reference} {x : ClassId} {m : Field} → field_reference f (slice_get f.constants index) ≡ Some r
-      → StandsFor family r.class (Some x) → ResolvesField family r.key x (Some m) → ResolvesFieldAt family f index (Ok m)
+-- The field that the class of a name has, by the field's name and descriptor.
+pub data FindsField (family : Family) (name : List ℕ) (key : NameAndType) : Result Field Unresolved → Type 0 where
+  unknown : StandsFor family name None → FindsField family name key (Err Missing)
+  missing : {x : ClassId} → StandsFor family name (Some x) → ResolvesField family key x None → FindsField family name key (Err Missing)
+  found : {x : ClassId} {m : Field} → StandsFor family name (Some x) → ResolvesField family key x (Some m) → FindsField family name key (Ok m)
 
--- What the Methodref or InterfaceMethodref at an index resolves to. The first may not name an interface, and the second
--- must (JVMS 5.4.3.3, 5.4.3.4).
-pub data ResolvesMethodAt (family : Family) (f : Structure) (index : ℕ) : Result Method Unresolved → Type 0 where
-  no_reference : method_reference f (slice_get f.constants index) ≡ None → ResolvesMethodAt family f index (Err NoReference)
-  unknown : {b : Bool} {r : Reference} → method_reference f (slice_get f.constants index) ≡ Some (b, r) → StandsFor family r.class None
-      → ResolvesMethodAt family f index (Err Missing)
-  incompatible : {b : Bool} {r : Reference} {x : ClassId} → method_reference f (slice_get f.constants index) ≡ Some (b, r)
-      → StandsFor family r.class (Some x) → is_interface_id family x ≢ b → ResolvesMethodAt family f index (Err Incompatible)
-  missing : {b : Bool} {r : Reference} {x : ClassId} → method_reference f (slice_get f.constants index) ≡ Some (b, r)
-      → StandsFor family r.class (Some x) → is_interface_id family x ≡ b → ResolvesMethod family r.key x None
-      → ResolvesMethodAt family f index (Err Missing)
-  found : {b : Bool} {r : Reference} {x : ClassId} {m : Method} → method_reference f (slice_get f.constants index) ≡ Some (b, r)
-      → StandsFor family r.class (Some x) → is_interface_id family x ≡ b → ResolvesMethod family r.key x (Some m)
-      → ResolvesMethodAt family f index (Ok m)
+-- The method that the class of a name has. A Methodref may not name an interface, and an InterfaceMethodref must (JVMS
+-- 5.4.3.3, 5.4.3.4).
+pub data FindsMethod (family : Family) (of_interface : Bool) (name : List ℕ) (key : NameAndType) : Result Method Unresolved → Type 0 where
+  unknown : StandsFor family name None → FindsMethod family of_interface name key (Err Missing)
+  incompatible : {x : ClassId} → StandsFor family name (Some x) → is_interface_id family x ≢ of_interface
+      → FindsMethod family of_interface name key (Err Incompatible)
+  missing : {x : ClassId} → StandsFor family name (Some x) → is_interface_id family x ≡ of_interface → ResolvesMethod family key x None
+      → FindsMethod family of_interface name key (Err Missing)
+  found : {x : ClassId} {m : Method} → StandsFor family name (Some x) → is_interface_id family x ≡ of_interface
+      → ResolvesMethod family key x (Some m) → FindsMethod family of_interface name key (Ok m)
+
+abbrev pub FieldOfConstant : Family → Structure → Option Constant → Result Field Unresolved → Type 0
+FieldOfConstant family f (Some (constants.Fieldref class n)) result = FindsField family (class_name_at f class) (key_at f n) result
+FieldOfConstant family f _ result = result ≡ Err NoReference
+
+abbrev pub MethodOfConstant : Family → Structure → Option Constant → Result Method Unresolved → Type 0
+MethodOfConstant family f (Some (constants.Methodref class n)) result = FindsMethod family false (class_name_at f class) (key_at f n) result
+MethodOfConstant family f (Some (constants.InterfaceMethodref class n)) result
+    = FindsMethod family true (class_name_at f class) (key_at f n) result
+MethodOfConstant family f _ result = result ≡ Err NoReference
+
+-- What the Fieldref at an index of a class file resolves to.
+abbrev pub ResolvesFieldAt : Family → Structure → ℕ → Result Field Unresolved → Type 0
+ResolvesFieldAt family f index result = FieldOfConstant family f (slice_get f.constants index) result
+
+-- What the Methodref or InterfaceMethodref at an index resolves to.
+abbrev pub ResolvesMethodAt : Family → Structure → ℕ → Result Method Unresolved → Type 0
+ResolvesMethodAt family f index result = MethodOfConstant family f (slice_get f.constants index) result
+
+-- the same where there may be no class file
+abbrev pub FieldOfFile : Family → Option Structure → ℕ → Result Field Unresolved → Type 0
+FieldOfFile family None index result = result ≡ Err NoReference
+FieldOfFile family (Some f) index result = ResolvesFieldAt family f index result
+
+abbrev pub MethodOfFile : Family → Option Structure → ℕ → Result Method Unresolved → Type 0
+MethodOfFile family None index result = result ≡ Err NoReference
+MethodOfFile family (Some f) index result = ResolvesMethodAt family f index result
+
+-- the same at an index of the constant pool of a class
+abbrev pub ResolvesFieldOf : Family → ℕ → ℕ → Result Field Unresolved → Type 0
+ResolvesFieldOf family c index result = FieldOfFile family (file_in family c) index result
+
+abbrev pub ResolvesMethodOf : Family → ℕ → ℕ → Result Method Unresolved → Type 0
+ResolvesMethodOf family c index result = MethodOfFile family (file_in family c) index result

@@ -1,27 +1,30 @@
 //! Puts a program together from class files (JVMS 5.4).
 
 ghost use Rattle.std.specs.Prelude.{◌≡◌, ◌⊎◌, Err, IfOk, IfErr, OnOk, IsOk};
-ghost use Rattle.hierarchy.specs.declared.fault.LinkFault.{LinkFault as Fault};
-ghost use Rattle.hierarchy.specs.declared.fault.LinkFault.TheVariants.{Memory};
-ghost use Rattle.hierarchy.specs.Families.{IsFamilyOf};
-ghost use Rattle.hierarchy.specs.Files.{LinkFails, Links};
-ghost use Rattle.hierarchy.specs.Initialization.{AreOrders};
+ghost use Rattle.loading.specs.declared.fault.LinkFault.{LinkFault as Fault};
+ghost use Rattle.loading.specs.declared.fault.LinkFault.TheVariants.{Memory};
+ghost use Rattle.loading.specs.Families.{IsFamilyOf};
+ghost use Rattle.loading.specs.Files.{LinkFails, Links};
+ghost use Rattle.hierarchy.specs.Entries.{AreSlotsOf};
+ghost use Rattle.resolution.specs.Initialization.{AreOrders};
+ghost use Rattle.hierarchy.specs.Programs.{AreClasses, IsClass, IsProgram};
+ghost use Rattle.resolution.specs.Texts.{Grows};
 
 use crate::class::Class;
 use crate::entries::Resolver;
-use crate::family::Family;
-use crate::fault::LinkFault;
-use crate::given::GivenClass;
-use crate::hierarchy::Hierarchy;
-use crate::initialization::InitializationOrders;
-use crate::linking::family_of;
 use crate::methods::{initializer_of, main_of, methods_of};
 use crate::program::Program;
 use crate::slots::Slots;
 use crate::statics::statics_of;
-use crate::superinterfaces::Superinterfaces;
-use crate::texts::Texts;
 use classfile::ClassFile;
+use loading::family::Family;
+use loading::family_of;
+use loading::fault::LinkFault;
+use loading::given::GivenClass;
+use resolution::hierarchy::Hierarchy;
+use resolution::initialization::InitializationOrders;
+use resolution::superinterfaces::Superinterfaces;
+use resolution::texts::Texts;
 use std::alloc::{AllocError, Global};
 
 /// Links class files into one program. Classes are numbered in the order of their names' bytes, whatever the order of the
@@ -33,6 +36,8 @@ use std::alloc::{AllocError, Global};
 pub fn link(alloc: Global, files: Vec<ClassFile>) -> Result<Program, LinkFault>
     // The classes of the program are those of the files.
     ensures family { IfOk result (λ program. IsFamilyOf files.items program.family) }
+    // Its tables are those of its classes.
+    ensures program { IfOk result IsProgram }
     // Before each class is initialized what the procedure says.
     ensures orders { IfOk result (λ program. AreOrders program.family program.orders) }
     // A program is answered exactly where nothing is wrong with the files, unless memory runs out.
@@ -49,6 +54,7 @@ pub fn link(alloc: Global, files: Vec<ClassFile>) -> Result<Program, LinkFault>
 /// The program of a family.
 fn program_of(alloc: Global, family: Family) -> Result<Program, AllocError>
     ensures family { IfOk result (λ program. program.family ≡ family) }
+    ensures program { IfOk result IsProgram }
     ensures orders { IfOk result (λ program. AreOrders program.family program.orders) }
 {
     let interfaces = Superinterfaces::of(alloc, &family)?;
@@ -69,7 +75,10 @@ fn classes_of(
     alloc: Global,
     hierarchy: &Hierarchy,
     strings: &mut Texts,
-) -> Result<Vec<Class>, AllocError> {
+) -> Result<Vec<Class>, AllocError>
+    ensures classes { IfOk result (λ classes. AreClasses hierarchy.now.family strings.new classes.items) }
+    ensures grows { OnOk result (Grows strings.old strings.new) }
+{
     let slots = slots_of(alloc, hierarchy.classes())?;
     let resolver = Resolver {
         hierarchy,
@@ -77,13 +86,15 @@ fn classes_of(
     };
     let mut classes = Vec::new(alloc);
     for given in hierarchy.classes() {
-        classes.push(class_of(alloc, &resolver, strings, given)?)?;
+        classes.push(class_of(alloc, &resolver, strings, &given.file)?)?;
     }
     Ok(classes)
 }
 
 /// By class: the numbers of its static fields.
-fn slots_of(alloc: Global, classes: &[GivenClass]) -> Result<Vec<Slots>, AllocError> {
+fn slots_of(alloc: Global, classes: &[GivenClass]) -> Result<Vec<Slots>, AllocError>
+    ensures { IfOk result (λ slots. AreSlotsOf classes.now slots.items) }
+{
     let mut slots = Vec::new(alloc);
     for given in classes {
         slots.push(Slots::of_class(alloc, &given.file)?)?;
@@ -96,9 +107,11 @@ fn class_of(
     alloc: Global,
     resolver: &Resolver<'_>,
     strings: &mut Texts,
-    given: &GivenClass,
-) -> Result<Class, AllocError> {
-    let file = &given.file;
+    file: &ClassFile,
+) -> Result<Class, AllocError>
+    ensures class { IfOk result (IsClass resolver.now.hierarchy.now.family strings.new file.now) }
+    ensures grows { OnOk result (Grows strings.old strings.new) }
+{
     Ok(Class {
         statics: statics_of(alloc, file)?,
         methods: methods_of(alloc, file)?,

@@ -1,6 +1,6 @@
 //! Run-time constant pools (JVMS 5.1): what the entries of a class's constant pool stand for, once they are resolved.
 
-use crate::member::{Method, Unresolved};
+use resolution::member::{Method, Unresolved};
 use vm_state::class_id::ClassId;
 
 /// How a field's value is stored, by its type (JVMS 2.11.1, 4.3.2).

@@ -2,15 +2,15 @@
 
 ghost use Rattle.std.specs.Prelude.{◌≡◌, IfOk};
 ghost use Rattle.std.specs.List.{AllZip, position_from};
-ghost use Rattle.hierarchy.specs.Names.{text_at};
+ghost use Rattle.loading.specs.Names.{text_at};
 ghost use Rattle.hierarchy.specs.Programs.{is_initializer, initializer_of, is_main, main_of, returns_nothing, is_abstract_method, is_left_out};
 ghost use Rattle.hierarchy.specs.Programs.{IsCode, IsImplementation};
 
 use crate::class::{Code, Implementation, Methods};
-use crate::statics::text_at;
 use bytecode::decode;
 use classfile::flags::{ABSTRACT, NATIVE, STATIC, SYNCHRONIZED, has_flag};
 use classfile::{ClassFile, Member};
+use loading::names::text_at;
 use std::alloc::{AllocError, Global};
 
 /// Whether it is the class initialization method (JVMS 2.9): static, of that name, without parameters and result, and

@@ -1,17 +1,19 @@
 //! The linked program.
 
-ghost use Rattle.std.specs.Prelude.{◌≡◌, ◌≢◌, ℕ, [], length, Option, Some, IfOk, MatchOption, option_copied, option_map};
+ghost use Rattle.std.specs.Prelude.{◌≡◌, ◌≢◌, ◌<◌, ℕ, [], length, Option, Some, IfOk, MatchOption, option_copied};
 ghost use Rattle.classfile.specs.Units.{units_text};
-ghost use Rattle.hierarchy.specs.Families.{name_in};
+ghost use Rattle.loading.specs.Families.{name_in};
+ghost use Rattle.resolution.specs.Initialization.{IsInitializationOrder};
+ghost use Rattle.hierarchy.specs.Programs.{IsProgram};
 ghost use Rattle.hierarchy.specs.Tables.{Tables, instruction_at, implementation_at, entry_at, statics_in, order_in, initializer_in, main_in};
 
 use crate::class::{Class, Implementation};
 use crate::entry::Entry;
-use crate::hierarchy::Hierarchy;
-use crate::initialization::InitializationOrders;
-use crate::texts::Texts;
 use bytecode::Instruction;
 use classfile::{ClassName, printed};
+use resolution::hierarchy::Hierarchy;
+use resolution::initialization::InitializationOrders;
+use resolution::texts::Texts;
 use std::alloc::{AllocError, Global};
 use std::marker::Model;
 use vm_state::class_id::{ArrayType, ClassId, ElementType};
@@ -28,17 +30,23 @@ pub struct Program {
 }
 
 impl Model for Program {
+    ghost use Rattle.hierarchy.specs.Programs.{IsProgram};
     ghost use Rattle.hierarchy.specs.Tables.{Tables};
 
     ghost Value = { Tables };
 
     ghost view = { λ s. record { family = s.hierarchy.family; orders = s.orders; classes = s.classes.items; strings = s.strings } };
+
+    ghost invariant = { λ s. IsProgram
+        (record { family = s.hierarchy.family; orders = s.orders; classes = s.classes.items; strings = s.strings }) };
 }
 
 impl Program {
     /// The given classes, as the machine uses them.
     pub fn classes(&self) -> &[Class]
-        ensures { result.now ≡ self.now.classes }
+        ensures value { result.now ≡ self.now.classes }
+        // What holds of every linked program.
+        ensures fits { IsProgram self.now }
     {
         self.classes.as_slice()
     }
@@ -91,7 +99,8 @@ impl Program {
 
     /// What is initialized before a class, in order (JVMS 5.5, step 7).
     pub fn init_order(&self, class: u32) -> &[u32]
-        ensures { result.now ≡ order_in self.now class }
+        ensures value { result.now ≡ order_in self.now class }
+        ensures order { class < length self.now.family → IsInitializationOrder self.now.family class result.now }
     {
         self.orders.of_class(class)
     }

@@ -1,92 +1,32 @@
 //! References of class files, resolved (JVMS 5.4.3).
 
-ghost use Rattle.std.specs.Prelude.{◌≡◌, slice_get};
-ghost use Rattle.hierarchy.specs.References.{reference_of, field_reference, method_reference, is_interface_id};
+ghost use Rattle.std.specs.Prelude.{◌≡◌};
+ghost use Rattle.hierarchy.specs.References.{key_at, is_interface_id, FindsField, FindsMethod, ResolvesFieldAt, ResolvesMethodAt};
 
-use crate::hierarchy::Hierarchy;
-use crate::member::{Field, Method, Unresolved};
-use crate::naming::class_named;
-use crate::statics::text_at;
 use classfile::{ClassFile, Constant};
-use std::marker::Model;
+use loading::class_named;
+use loading::names::{class_name_at, text_at};
+use resolution::hierarchy::Hierarchy;
+use resolution::member::{Field, Method, Unresolved};
 use vm_state::class_id::ClassId;
 
-/// A reference to a member: the name of its class, and its own name and descriptor.
-#[derive(Drop)]
-pub(crate) struct Reference<'a> {
-    class: &'a [u8],
-    name: &'a [u8],
-    descriptor: &'a [u8],
-}
-
-impl<'a> Model for Reference<'a> {
-    ghost use Rattle.hierarchy.specs.References.{Reference as Spelled};
-
-    ghost Value = { Spelled };
-
-    ghost view = { λ r. record { class = r.class.now; key = record { name = r.name.now; descriptor = r.descriptor.now } } };
-}
-
-impl<'a> Reference<'a> {
-    /// The descriptor of the member.
-    pub(crate) fn descriptor(&self) -> &'a [u8]
-        ensures { result.now ≡ self.now.key.descriptor }
-    {
-        self.descriptor
-    }
-}
-
-/// What a reference to a member of this class, with this NameAndType, says.
-pub(crate) fn reference_of(file: &ClassFile, class: u16, name_and_type: u16) -> Reference<'_>
-    ensures { result ≡ reference_of file.now class name_and_type }
-{
-    let class = file.class_name(class).unwrap_or(&[]);
-    match file.constant(name_and_type) {
-        Some(Constant::NameAndType { name, descriptor }) => Reference {
-            class,
-            name: text_at(file, *name),
-            descriptor: text_at(file, *descriptor),
-        },
-        _ => Reference {
-            class,
-            name: &[],
-            descriptor: &[],
-        },
-    }
-}
-
-fn field_reference(file: &ClassFile, index: u16) -> Option<Reference<'_>>
-    ensures { result ≡ field_reference file.now (slice_get file.now.constants index) }
+/// The name that the NameAndType at an index gives, or no bytes.
+fn name_at(file: &ClassFile, index: u16) -> &[u8]
+    ensures { result.now ≡ (key_at file.now index).name }
 {
     match file.constant(index) {
-        Some(
-            Constant::Fieldref {
-                class,
-                name_and_type,
-            },
-        ) => Some(reference_of(file, *class, *name_and_type)),
-        _ => None,
+        Some(Constant::NameAndType { name, .. }) => text_at(file, *name),
+        _ => &[],
     }
 }
 
-/// A method's reference, and whether it is one to a method of an interface.
-fn method_reference(file: &ClassFile, index: u16) -> Option<(bool, Reference<'_>)>
-    ensures { result ≡ method_reference file.now (slice_get file.now.constants index) }
+/// The descriptor that the NameAndType at an index gives, or no bytes.
+pub(crate) fn descriptor_at(file: &ClassFile, index: u16) -> &[u8]
+    ensures { result.now ≡ (key_at file.now index).descriptor }
 {
     match file.constant(index) {
-        Some(
-            Constant::Methodref {
-                class,
-                name_and_type,
-            },
-        ) => Some((false, reference_of(file, *class, *name_and_type))),
-        Some(
-            Constant::InterfaceMethodref {
-                class,
-                name_and_type,
-            },
-        ) => Some((true, reference_of(file, *class, *name_and_type))),
-        _ => None,
+        Some(Constant::NameAndType { descriptor, .. }) => text_at(file, *descriptor),
+        _ => &[],
     }
 }
 
@@ -99,21 +39,67 @@ fn is_interface(hierarchy: &Hierarchy, class: ClassId) -> bool
     }
 }
 
+/// The field of this name and descriptor that the class of a name has.
+fn find_field(
+    hierarchy: &Hierarchy,
+    class: &[u8],
+    name: &[u8],
+    descriptor: &[u8],
+) -> Result<Field, Unresolved>
+    ensures { FindsField hierarchy.now.family class.now (record { name = name.now; descriptor = descriptor.now }) result }
+{
+    let Some(class) = class_named(hierarchy.family(), class) else {
+        return Err(Unresolved::Missing);
+    };
+    match hierarchy.resolve_field(class, name, descriptor) {
+        Some(field) => Ok(field),
+        None => Err(Unresolved::Missing),
+    }
+}
+
+/// The method of this name and descriptor that the class of a name has, which must be an interface or must be none.
+fn find_method(
+    hierarchy: &Hierarchy,
+    of_interface: bool,
+    class: &[u8],
+    name: &[u8],
+    descriptor: &[u8],
+) -> Result<Method, Unresolved>
+    ensures { FindsMethod hierarchy.now.family of_interface class.now (record { name = name.now; descriptor = descriptor.now }) result }
+{
+    let Some(class) = class_named(hierarchy.family(), class) else {
+        return Err(Unresolved::Missing);
+    };
+    if is_interface(hierarchy, class) != of_interface {
+        return Err(Unresolved::Incompatible);
+    }
+    match hierarchy.resolve_method(class, name, descriptor) {
+        Some(method) => Ok(method),
+        None => Err(Unresolved::Missing),
+    }
+}
+
 /// What the Fieldref at an index of a class file resolves to.
 pub(crate) fn resolve_field_at(
     hierarchy: &Hierarchy,
     file: &ClassFile,
     index: u16,
-) -> Result<Field, Unresolved> {
-    let Some(reference) = field_reference(file, index) else {
-        return Err(Unresolved::NoReference);
-    };
-    let Some(class) = class_named(hierarchy.family(), reference.class) else {
-        return Err(Unresolved::Missing);
-    };
-    match hierarchy.resolve_field(class, reference.name, reference.descriptor) {
-        Some(field) => Ok(field),
-        None => Err(Unresolved::Missing),
+) -> Result<Field, Unresolved>
+    ensures { ResolvesFieldAt hierarchy.now.family file.now index result }
+{
+    match file.constant(index) {
+        Some(
+            Constant::Fieldref {
+                class,
+                name_and_type,
+            },
+        ) => find_field(
+            hierarchy,
+            class_name_at(file, *class),
+            name_at(file, *name_and_type),
+            descriptor_at(file, *name_and_type),
+        ),
+        _ => Err(Unresolved::NoReference),
     }
 }
 
@@ -122,18 +108,29 @@ pub(crate) fn resolve_method_at(
     hierarchy: &Hierarchy,
     file: &ClassFile,
     index: u16,
-) -> Result<Method, Unresolved> {
-    let Some((of_interface, reference)) = method_reference(file, index) else {
-        return Err(Unresolved::NoReference);
+) -> Result<Method, Unresolved>
+    ensures { ResolvesMethodAt hierarchy.now.family file.now index result }
+{
+    let (of_interface, class, name_and_type) = match file.constant(index) {
+        Some(
+            Constant::Methodref {
+                class,
+                name_and_type,
+            },
+        ) => (false, *class, *name_and_type),
+        Some(
+            Constant::InterfaceMethodref {
+                class,
+                name_and_type,
+            },
+        ) => (true, *class, *name_and_type),
+        _ => return Err(Unresolved::NoReference),
     };
-    let Some(class) = class_named(hierarchy.family(), reference.class) else {
-        return Err(Unresolved::Missing);
-    };
-    if is_interface(hierarchy, class) != of_interface {
-        return Err(Unresolved::Incompatible);
-    }
-    match hierarchy.resolve_method(class, reference.name, reference.descriptor) {
-        Some(method) => Ok(method),
-        None => Err(Unresolved::Missing),
-    }
+    find_method(
+        hierarchy,
+        of_interface,
+        class_name_at(file, class),
+        name_at(file, name_and_type),
+        descriptor_at(file, name_and_type),
+    )
 }

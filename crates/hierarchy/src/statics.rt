@@ -2,13 +2,14 @@
 
 ghost use Rattle.std.specs.Prelude.{◌≡◌, map, IfOk, Some};
 ghost use Rattle.hierarchy.specs.Entries.{kind_of, has_value, is_static_field, statics_of};
-ghost use Rattle.hierarchy.specs.Names.{text_at};
+ghost use Rattle.loading.specs.Names.{text_at};
 ghost use Rattle.hierarchy.specs.Programs.{zero_of, int_constant, constant_at, constant_of, static_field};
 
 use crate::class::StaticFields;
 use crate::entry::FieldKind;
 use classfile::flags::{FINAL, STATIC, has_flag};
 use classfile::{ClassFile, Constant, Member};
+use loading::names::text_at;
 use std::alloc::{AllocError, Global};
 use vm_state::classes::StaticField;
 use vm_state::value::Value;
@@ -29,13 +30,6 @@ pub(crate) fn kind_of(descriptor: &[u8]) -> FieldKind
         b"D" => FieldKind::Double,
         _ => FieldKind::Reference,
     }
-}
-
-/// The text at an index of a class file's constants, or no bytes.
-pub(crate) fn text_at(file: &ClassFile, index: u16) -> &[u8]
-    ensures { result.now ≡ text_at file.now index }
-{
-    file.text(index).unwrap_or(&[])
 }
 
 /// Whether a field of a kind has a value.

@@ -12,7 +12,7 @@ use Rattle.machine.specs.Operations.{is_method}
 use Rattle.machine.specs.Table.{called}
 use Rattle.machine.specs.Linked.{initializer_called, initializer_frame_of, initializer_frame, initialized_by}
 
-method_is : (m : ℕ) (o : Option ℕ) → is_method m o ≡ true → o ≡ Some m
+pub method_is : (m : ℕ) (o : Option ℕ) → is_method m o ≡ true → o ≡ Some m
 method_is m None h = let clash : false ≡ true = h in cc
 method_is m (Some n) h = ap Some (eqb-true n m h)
 

@@ -1,10 +1,10 @@
 -- The table of instructions is lawful.
 use Rattle.std.proofs.Common.{◌≡◌, ℕ, Some, None, sym, ap, subst, ◌∙◌}
 use Rattle.vm_state.specs.declared.frame.Frame.{Frame}
-use Rattle.semantics.specs.Lawful.{Names, KnowsFrame}
+use Rattle.semantics.specs.Lawful.{Names, KnowsFrame, IsLawful}
 use Rattle.hierarchy.specs.Tables.{Tables}
-use Rattle.machine.specs.Linked.{initializer_frame, initialized_by}
-use Rattle.machine.specs.Laws.{TableIsLawful}
+use Rattle.machine.specs.Linked.{initializer_frame, initialized_by, program_of}
+use Rattle.machine.specs.Laws.{AreSound}
 use Rattle.machine.proofs.Initializers.{found_class_has, initializer_frame_is}
 use Rattle.machine.proofs.TableNames.{blank_known, row_known}
 use Rattle.machine.proofs.TableFinals.{row_owned}
@@ -23,8 +23,8 @@ initializer_owned P c d f h of =
     let found = ap (λ (g : Frame). initialized_by P g.activity) (sym frame.is) ∙ of in
     (found_class_has P c frame.method d found).0
 
-pub table_is_lawful_lem : TableIsLawful
-table_is_lawful_lem P sound = record {
+pub sound_is_lawful : (P : Tables) → AreSound P → IsLawful (program_of P)
+sound_is_lawful P sound = record {
   names = λ known fs h. row_known known P fs h;
   names_failing = λ known c x h. tt;
   names_orphaned = λ known c. tt;

@@ -1,3 +1,5 @@
+pub mod StaticNumbers
+pub mod SoundTables
 pub mod Given
 pub mod LocalNames
 pub mod LocalMethods

@@ -5,10 +5,11 @@ use Rattle.semantics.specs.Quiet.{is_final}
 use Rattle.semantics.specs.Lawful.{HoldsNoName, IsLawful}
 use Rattle.machine.specs.declared.operation.Operation.TheVariants.{PutInt}
 use Rattle.hierarchy.specs.Tables.{Tables, initializer_in, main_in, statics_in}
+use Rattle.hierarchy.specs.Programs.{IsProgram}
 use Rattle.machine.specs.Operations.{operation_at}
 use Rattle.machine.specs.Linked.{program_of}
 
--- What linking owes: what holds of linked tables, as far as the law needs it.
+-- What the law needs of tables. It holds of those of every linked program.
 pub record AreSound (P : Tables) : Type 0 where
   -- a static field begins as zero, null or a constant, and none of these is an object
   pub statics : (c : ℕ) → AllByRecursion HoldsNoName (statics_in P c)
@@ -18,6 +19,6 @@ pub record AreSound (P : Tables) : Type 0 where
   -- a `main`, which a thread's start calls, is no class initialization method
   pub mains : (c m : ℕ) → main_in P c ≡ Some m → initializer_in P c ≢ Some m
 
--- Over such tables the table of instructions is lawful.
+-- The table of instructions is lawful over every linked program.
 abbrev pub TableIsLawful : Type 0
-TableIsLawful = (P : Tables) → AreSound P → IsLawful (program_of P)
+TableIsLawful = (P : Tables) → IsProgram P → IsLawful (program_of P)

@@ -3,7 +3,7 @@
 ghost use Rattle.machine.specs.Laws.{TableIsLawful};
 
 /// No instruction makes up a reference to an object, writes a final where it may not, or makes the frame of a class
-/// initialization method, over tables as linking owes them.
+/// initialization method, over the tables of every linked program.
 pub fn table_is_lawful()
     ensures { TableIsLawful }
 {}

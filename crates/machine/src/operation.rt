@@ -6,10 +6,10 @@ ghost use Rattle.machine.specs.Operations.{local_of, get_static, put_static, may
 ghost use Rattle.machine.specs.Operations.{call_of, invokevirtual_of, return_of, shared_operation, operation_at};
 
 use bytecode::{Comparison, Instruction, IntOperator};
-use hierarchy::built_in::{BuiltInMethod, Printed};
+use hierarchy::{BuiltInMethod, Printed};
 use hierarchy::class::Implementation;
 use hierarchy::entry::{Entry, FieldKind, FieldTarget};
-use hierarchy::member::{Method, Unresolved};
+use hierarchy::{Method, Unresolved};
 use hierarchy::program::Program;
 use vm_state::ends::FaultKind;
 

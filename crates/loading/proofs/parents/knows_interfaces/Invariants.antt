@@ -1,0 +1,5 @@
+use Rattle.loading.proofs.Interfaces.{KnownBefore}
+use Rattle.loading.proofs.parents.knows_interfaces.Given as goal
+
+abbrev pub invariant-loop-index : goal.invariant-loop-index
+invariant-loop-index l = KnownBefore l.files l.file l.index-index

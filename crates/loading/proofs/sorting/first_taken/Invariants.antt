@@ -1,0 +1,6 @@
+use Rattle.loading.proofs.FilePlaces.{NoneBefore}
+use Rattle.loading.proofs.Taken.{HasTakenName}
+use Rattle.loading.proofs.sorting.first_taken.Given as goal
+
+abbrev pub invariant-loop-file : goal.invariant-loop-file
+invariant-loop-file l = NoneBefore HasTakenName l.files l.file-index

@@ -1,0 +1,5 @@
+use Rattle.loading.proofs.Twice.{Apart}
+use Rattle.loading.proofs.sorting.first_twice.Given as goal
+
+abbrev pub invariant-loop-next : goal.invariant-loop-next
+invariant-loop-next l = Apart l.files l.next

@@ -1,0 +1,6 @@
+pub mod Names
+pub mod Files
+pub mod Families
+pub mod ClassIds
+pub mod Linking
+pub mod InterfaceFaults

@@ -1,0 +1,59 @@
+//! Given classes by number, each with its parents.
+
+ghost use Rattle.std.specs.Prelude.{◌≡◌, ◌≢◌, ℕ, ◌≤◌, length, MatchOption};
+ghost use Rattle.loading.specs.Families.{IsFamily, IsParentsFirst, AreParentsWithin, name_in};
+
+use crate::given::{ClassNumbers, GivenClass};
+use crate::names::name_of;
+use std::marker::Model;
+
+/// The given classes in the order of their names' bytes, which is that of their numbers. Their parents are among them or
+/// built in, and no class is its own ancestor.
+#[derive(Drop)]
+pub struct Family {
+    pub(crate) classes: Vec<GivenClass>,
+    /// All classes, each behind its parents.
+    pub(crate) order: ClassNumbers,
+}
+
+impl Model for Family {
+    ghost use Rattle.std.specs.Prelude.{List, ◌≤◌, length};
+    ghost use Rattle.loading.specs.declared.given.GivenClass.{GivenClass};
+    ghost use Rattle.loading.specs.Families.{IsFamily, IsParentsFirst};
+
+    ghost Value = { List GivenClass };
+
+    ghost view = { λ s. s.classes.items };
+
+    ghost invariant = { λ s. IsFamily s.classes.items × IsParentsFirst s.classes.items s.order × (length s.classes.items ≤ 65535) };
+}
+
+impl Family {
+    /// The classes by their numbers.
+    pub fn classes(&self) -> &[GivenClass]
+        ensures value { result.now ≡ self.now }
+        ensures fits { IsFamily self.now }
+        ensures within { AreParentsWithin self.now }
+        ensures few { length self.now ≤ 65535 }
+    {
+        self.classes.as_slice()
+    }
+
+    /// All classes, each behind its parents.
+    pub fn parents_first(&self) -> &[u32]
+        ensures { IsParentsFirst self.now result.now }
+    {
+        self.order.as_slice()
+    }
+
+    /// The number of the class of a name, as its bytes.
+    pub fn number_of(&self, name: &[u8]) -> Option<u32>
+        ensures { MatchOption result ((c : ℕ) → name_in self.now c ≢ Some name.now) (λ c. name_in self.now c ≡ Some name.now) }
+    {
+        let classes = self.classes();
+        match classes.binary_search_by(|class| name_of(&class.file).cmp(&name)) {
+            Ok(number) => Some(number as u32),
+            Err(_) => None,
+        }
+    }
+}

@@ -1,0 +1,78 @@
+//! Why classes do not make one program.
+
+ghost use Rattle.std.specs.Prelude.{◌≡◌};
+ghost use Rattle.loading.specs.declared.fault.LinkFault.TheVariants.{Memory};
+
+use classfile::ClassName;
+use std::alloc::{AllocError, AllocFailed};
+use std::fmt::{self, Display, Formatter, Write};
+use thiserror::Error;
+
+/// What is wrong with the parents of a class.
+#[derive(Clone, Copy, PartialEq, Eq, Debug)]
+pub enum BadParent {
+    /// 1: it has no superclass.
+    NoSuperclass,
+    /// 2: its superclass is neither given nor built in.
+    UnknownSuperclass,
+    /// 3: its superclass is an interface, or `String`, `System` or `PrintStream`.
+    NoClass,
+    /// 4: it is an interface whose superclass is not `Object`.
+    NotObject,
+    /// 5: a superinterface is neither given nor built in.
+    UnknownInterface,
+    /// 6: a superinterface is no interface.
+    NoInterface,
+}
+
+/// Why classes do not make one program. Names are printed with slashes.
+#[derive(Debug, Drop, Error)]
+pub enum LinkFault {
+    #[error("Memory")]
+    Memory,
+    /// More than 65,535 classes.
+    #[error("Limit")]
+    Limit,
+    /// Two classes of one name.
+    #[error("Twice {name}")]
+    Twice { name: ClassName },
+    /// A class that has the name of a built-in one.
+    #[error("BuiltIn {name}")]
+    BuiltIn { name: ClassName },
+    /// A class with a bad parent (JVMS 5.3.5).
+    #[error("Parent {name} {kind}")]
+    Parent { name: ClassName, kind: BadParent },
+    /// A class that is its own ancestor (JVMS 5.3.5).
+    #[error("Circle {name}")]
+    Circle { name: ClassName },
+}
+
+impl Display for BadParent {
+    fn fmt<W: Write>(&self, formatter: &mut Formatter<W>) -> Result<(), fmt::Error> {
+        let number = match self {
+            BadParent::NoSuperclass => 1,
+            BadParent::UnknownSuperclass => 2,
+            BadParent::NoClass => 3,
+            BadParent::NotObject => 4,
+            BadParent::UnknownInterface => 5,
+            BadParent::NoInterface => 6,
+        };
+        write!(formatter, "{number}")
+    }
+}
+
+impl From<AllocError> for LinkFault {
+    ghost from_gives = { λ _ e. e ≡ Memory };
+
+    fn from(_error: AllocError) -> LinkFault {
+        LinkFault::Memory
+    }
+}
+
+impl<T: Drop> From<AllocFailed<T>> for LinkFault {
+    ghost from_gives = { λ _ e. e ≡ Memory };
+
+    fn from(_error: AllocFailed<T>) -> LinkFault {
+        LinkFault::Memory
+    }
+}

@@ -1,0 +1,16 @@
+//! From class files to classes by number, each with its parents (JVMS SE 8, 5.3.5).
+#![tactic(auto)]
+
+mod circle;
+mod class_at;
+pub mod family;
+pub mod fault;
+pub mod given;
+mod linking;
+pub mod names;
+mod naming;
+mod parents;
+mod sorting;
+
+pub use linking::{family_of, links_or_fails};
+pub use naming::class_named;

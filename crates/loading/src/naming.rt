@@ -1,0 +1,107 @@
+//! The classes that names stand for (JVMS 4.3.2, 4.4.1).
+
+ghost use Rattle.std.specs.Prelude.{◌≡◌, ◌≢◌, ◌≤◌, ℕ, List, [], ◌∷◌, ◌++◌, length, drop, replicate, Some, SomeIff, MatchOption};
+ghost use Rattle.vm_state.specs.declared.class_id.ElementType.{ElementType as Element};
+ghost use Rattle.vm_state.specs.declared.class_id.ArrayType.{ArrayType as Array};
+ghost use Rattle.loading.specs.ClassIds.{object_type, element_text, IsBaseType, IsNoBaseType, IsNamed, StandsFor};
+
+use crate::family::Family;
+use vm_state::class_id::{ArrayType, BuiltIn, ClassId, ElementType};
+
+/// The element type that a letter alone stands for.
+fn base_type(letter: u8) -> Option<ElementType>
+    ensures { MatchOption result (IsNoBaseType letter) (IsBaseType letter) }
+{
+    match letter {
+        b'Z' => Some(ElementType::Boolean),
+        b'B' => Some(ElementType::Byte),
+        b'C' => Some(ElementType::Char),
+        b'S' => Some(ElementType::Short),
+        b'I' => Some(ElementType::Int),
+        b'J' => Some(ElementType::Long),
+        b'F' => Some(ElementType::Float),
+        b'D' => Some(ElementType::Double),
+        _ => None,
+    }
+}
+
+/// The name between an object type's `L` and `;`.
+fn object_name(text: &[u8]) -> Option<&[u8]>
+    ensures { MatchOption result ((name : List ℕ) → text.now ≢ object_type name) (λ name. text.now ≡ object_type name.now) }
+{
+    text.strip_prefix(b"L")?.strip_suffix(b";")
+}
+
+/// The given or built-in class of a name, as an element type.
+fn object_named(family: &Family, name: &[u8]) -> Option<ElementType>
+    ensures { MatchOption result ((e : Element) → element_text family.now e ≢ Some (object_type name.now))
+        (λ e. element_text family.now e ≡ Some (object_type name.now)) }
+{
+    match family.number_of(name) {
+        Some(number) => Some(ElementType::Given(number)),
+        None => BuiltIn::named(name).map(ElementType::BuiltIn),
+    }
+}
+
+/// The element type of a descriptor.
+fn element_named(family: &Family, text: &[u8]) -> Option<ElementType>
+    ensures { MatchOption result ((e : Element) → element_text family.now e ≢ Some text.now)
+        (λ e. element_text family.now e ≡ Some text.now) }
+{
+    match text {
+        [letter] => base_type(*letter),
+        _ => object_named(family, object_name(text)?),
+    }
+}
+
+/// How many `[` a name begins with.
+fn leading_brackets(name: &[u8]) -> usize
+    ensures within { result ≤ length name.now }
+    ensures brackets { name.now ≡ replicate result 91 ++ drop result name.now }
+    ensures whole { (rest : List ℕ) → drop result name.now ≢ 91 ∷ rest }
+{
+    for (count, byte) in name.iter().enumerate() {
+        if *byte != b'[' {
+            return count;
+        }
+    }
+    name.len()
+}
+
+/// So many dimensions, if an array type can have them (JVMS 4.3.2).
+fn dimensions_of(count: usize) -> Option<u8>
+    ensures { SomeIff result ((1 ≤ count) × (count ≤ 255)) count }
+{
+    match count {
+        1..=255 => Some(count as u8),
+        _ => None,
+    }
+}
+
+/// The array class of a name, which is the descriptor of its type.
+fn array_named(family: &Family, name: &[u8]) -> Option<ArrayType>
+    ensures { MatchOption result ((a : Array) → IsNamed family.now name.now (ClassId.Array a) → ⊥)
+        (λ a. IsNamed family.now name.now (ClassId.Array a)) }
+{
+    let count = leading_brackets(name);
+    let dimensions = dimensions_of(count)?;
+    let element = element_named(family, &name[count..])?;
+    Some(ArrayType {
+        dimensions,
+        element,
+    })
+}
+
+/// The class that a name stands for: a given one, a built-in one, or an array class, whose name is its descriptor.
+pub fn class_named(family: &Family, name: &[u8]) -> Option<ClassId>
+    ensures { StandsFor family.now name.now result }
+{
+    if let Some(number) = family.number_of(name) {
+        return Some(ClassId::Given(number));
+    }
+    if let Some(class) = BuiltIn::named(name) {
+        return Some(ClassId::BuiltIn(class));
+    }
+    let array = array_named(family, name)?;
+    Some(ClassId::Array(array))
+}

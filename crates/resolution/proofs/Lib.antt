@@ -1,0 +1,17 @@
+pub mod TextNumbers
+pub mod MemberPlaces
+pub mod Indexes
+pub mod Tables
+pub mod BuiltInLists
+pub mod Chains
+pub mod Searches
+pub mod UpClassesSteps
+pub mod Ancestors
+pub mod DefaultTests
+pub mod Collecting
+pub mod Firsts
+pub mod ParentSearch
+pub mod Behinds
+pub mod OneAnswer
+pub mod SuperclassChains
+pub mod Rows

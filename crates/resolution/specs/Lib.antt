@@ -1,0 +1,12 @@
+pub mod Search
+pub mod Keys
+pub mod BuiltInMembers
+pub mod MemberLookup
+pub mod Resolution
+pub mod Initialization
+pub mod Texts
+pub mod MemberIndexes
+pub mod MemberTables
+pub mod Superinterfaces
+pub mod Hierarchies
+pub mod Defaults

@@ -1,0 +1,194 @@
+//! A family with what its members are found by.
+
+ghost use Rattle.std.specs.Prelude.{◌≡◌, ◌≢◌, ℕ, IfOk, Some, MatchOption, option_map, option_to_list};
+ghost use Rattle.loading.specs.Families.{IsFamily, AreParentsWithin, is_interface_in, superclass_in, superclasses_in, name_in};
+ghost use Rattle.resolution.specs.Hierarchies.{wanted_in};
+ghost use Rattle.resolution.specs.Keys.{NameAndType};
+ghost use Rattle.resolution.specs.MemberIndexes.{AreNumbers, IsLookup};
+ghost use Rattle.resolution.specs.MemberLookup.{flags_in, method_in, is_inherited, key_in};
+ghost use Rattle.resolution.specs.Resolution.{instance_method_in};
+ghost use Rattle.resolution.specs.Search.{IsInterfaceList};
+ghost use Rattle.resolution.specs.Superinterfaces.{AreInterfaceLists};
+
+use crate::member_index::MemberKey;
+use crate::member_table::MemberTable;
+use crate::superinterfaces::Superinterfaces;
+use crate::wanted::Wanted;
+use classfile::flags::{INTERFACE, PRIVATE, STATIC, has_flag};
+use loading::family::Family;
+use loading::given::{GivenClass, Superclass};
+use loading::names::text_at;
+use std::alloc::{AllocError, Global};
+use std::marker::Model;
+
+/// The classes of a family, found by number, and their members, found by name and descriptor.
+#[derive(Drop)]
+pub struct Hierarchy {
+    family: Family,
+    table: MemberTable,
+    interfaces: Superinterfaces,
+}
+
+impl Model for Hierarchy {
+    ghost use Rattle.resolution.specs.Hierarchies.{NumberedFamily, IsHierarchy};
+
+    ghost Value = { NumberedFamily };
+
+    ghost view = { λ h. record { family = h.family; texts = h.table.texts } };
+
+    ghost invariant = { λ h. IsHierarchy h.family h.table h.interfaces };
+}
+
+impl Hierarchy {
+    /// Puts a family and the lists of its classes' superinterfaces together.
+    pub fn new(
+        alloc: Global,
+        family: Family,
+        interfaces: Superinterfaces,
+    ) -> Result<Self, AllocError>
+        requires { AreInterfaceLists family interfaces }
+        ensures { IfOk result (λ h. h.family ≡ family) }
+    {
+        let table = MemberTable::of_classes(alloc, family.classes())?;
+        Ok(Hierarchy {
+            family,
+            table,
+            interfaces,
+        })
+    }
+
+    /// The classes by their numbers.
+    pub fn classes(&self) -> &[GivenClass]
+        ensures value { result.now ≡ self.now.family }
+        ensures fits { IsFamily self.now.family }
+        ensures within { AreParentsWithin self.now.family }
+    {
+        self.family.classes()
+    }
+
+    /// The family itself.
+    pub fn family(&self) -> &Family
+        ensures { result.now ≡ self.now.family }
+    {
+        &self.family
+    }
+
+    /// The number of the class of a name, if one was given.
+    pub fn number_of(&self, name: &[u8]) -> Option<u32>
+        ensures { MatchOption result ((c : ℕ) → name_in self.now.family c ≢ Some name.now) (λ c. name_in self.now.family c ≡ Some name.now) }
+    {
+        self.family.number_of(name)
+    }
+
+    /// The numbers of a name and a descriptor. Without numbers no given class has such a member.
+    pub fn key_of(&self, name: &[u8], descriptor: &[u8]) -> Option<MemberKey>
+        ensures { IsLookup self.now.texts (record { name = name.now; descriptor = descriptor.now }) result }
+    {
+        self.table.key_of(name, descriptor)
+    }
+
+    /// The place of a class's method by the numbers of its name and its descriptor.
+    pub fn method_by(&self, class: u32, key: MemberKey) -> Option<u16>
+        ensures { (name : NameAndType) → AreNumbers self.now.texts name key → result ≡ method_in self.now.family name class }
+    {
+        self.table.method(class, Some(key))
+    }
+
+    /// The superclass of a class.
+    pub fn superclass(&self, class: u32) -> Option<Superclass>
+        ensures value { result ≡ superclass_in self.now.family class }
+        ensures fits { IsFamily self.now.family }
+    {
+        let given = self.classes().get(class as usize)?;
+        Some(given.superclass)
+    }
+
+    /// The superclass of a class, if it is a given one.
+    pub(crate) fn given_superclass(&self, class: u32) -> Option<u32>
+        ensures value { superclasses_in self.now.family class ≡ option_to_list result }
+        ensures fits { IsFamily self.now.family }
+    {
+        match self.superclass(class) {
+            Some(Superclass::Given(above)) => Some(above),
+            Some(Superclass::BuiltIn(_)) | None => None,
+        }
+    }
+
+    /// Whether a class is an interface.
+    pub fn is_interface(&self, class: u32) -> bool
+        ensures { result ≡ is_interface_in self.now.family class }
+    {
+        match self.classes().get(class as usize) {
+            Some(given) => has_flag(given.file.access_flags(), INTERFACE),
+            None => false,
+        }
+    }
+
+    /// The superinterfaces of a class, without those of its superclass.
+    pub(crate) fn superinterfaces(&self, class: u32) -> &[u32]
+        ensures list { IsInterfaceList self.now.family class result.now }
+        ensures fits { IsFamily self.now.family }
+    {
+        self.interfaces.of_class(class)
+    }
+
+    /// The access flags of the method at a place of a class, or no flags.
+    pub(crate) fn flags(&self, class: u32, index: u16) -> u16
+        ensures { result ≡ flags_in self.now.family class index }
+    {
+        match self.classes().get(class as usize) {
+            Some(given) => match given.file.methods().get(usize::from(index)) {
+                Some(method) => method.access_flags,
+                None => 0,
+            },
+            None => 0,
+        }
+    }
+
+    /// The name and the descriptor of the method at a place of a class.
+    pub fn names(&self, class: u32, index: u16) -> Option<(&[u8], &[u8])>
+        ensures { option_map (λ x. record { name = x.0.now; descriptor = x.1.now }) result ≡ key_in self.now.family class index }
+    {
+        let given = self.classes().get(class as usize)?;
+        let method = given.file.methods().get(usize::from(index))?;
+        let name = text_at(&given.file, method.name);
+        Some((name, text_at(&given.file, method.descriptor)))
+    }
+
+    /// The place of a class's member of some kind.
+    pub(crate) fn find(&self, wanted: Wanted, class: u32, key: Option<MemberKey>) -> Option<u16>
+        ensures { (name : NameAndType) → IsLookup self.now.texts name key
+            → result ≡ wanted_in wanted self.now.family name class }
+    {
+        match wanted {
+            Wanted::Field => self.table.field(class, key),
+            Wanted::Method => self.table.method(class, key),
+            Wanted::InstanceMethod => self.instance_method(class, key),
+            Wanted::InterfaceMethod => {
+                if self.is_interface(class) {
+                    self.instance_method(class, key)
+                } else {
+                    None
+                }
+            }
+        }
+    }
+
+    /// The place of a class's method that is neither private nor static.
+    fn instance_method(&self, class: u32, key: Option<MemberKey>) -> Option<u16>
+        ensures { (name : NameAndType) → IsLookup self.now.texts name key
+            → result ≡ instance_method_in self.now.family name class }
+    {
+        match self.table.method(class, key) {
+            Some(index) if is_inherited(self.flags(class, index)) => Some(index),
+            _ => None,
+        }
+    }
+}
+
+/// Whether a method of these flags is neither private nor static.
+fn is_inherited(flags: u16) -> bool
+    ensures { result ≡ is_inherited flags }
+{
+    !(has_flag(flags, PRIVATE) || has_flag(flags, STATIC))
+}

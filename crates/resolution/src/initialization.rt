@@ -1,0 +1,205 @@
+//! What is initialized before each class (JVMS 5.5, step 7).
+
+ghost use Rattle.std.specs.Prelude.{◌≡◌, ℕ, ◌<◌, ◌≤◌, ◌^◌, true, [], ◌∷◌, length, IfOk, OnOk};
+ghost use Rattle.std.specs.List.{All, Contains, filter, flat_map};
+ghost use Rattle.graph.specs.Rows.{IsClosed};
+ghost use Rattle.loading.specs.Families.{interfaces_in, superclasses_in, is_interface_in};
+ghost use Rattle.resolution.specs.Initialization.{IsInitializationOrder, IsBehind};
+ghost use Rattle.resolution.specs.Initialization.{is_initialized_first, declares_default, is_default_method};
+ghost use Rattle.resolution.specs.Search.{GoesOn, row_in};
+
+use crate::joined::{empty_lists, join, listed, listed_behind};
+use classfile::flags::{ABSTRACT, STATIC, has_flag};
+use classfile::{ClassFile, Member};
+use graph::Visited;
+use loading::family::Family;
+use loading::given::{ClassNumbers, Superclass};
+use std::alloc::{AllocError, Global};
+use std::marker::Model;
+
+/// By class: what is initialized before it. Before an interface that is nothing. Before a class it is its given superclass,
+/// and then, of its direct superinterfaces and all above them, those that declare a method that is neither abstract nor
+/// static, each once and behind its own superinterfaces.
+#[derive(Drop)]
+pub struct InitializationOrders {
+    rows: Vec<ClassNumbers>,
+}
+
+impl Model for InitializationOrders {
+    ghost use Rattle.std.specs.Prelude.{List, ℕ};
+    ghost use Rattle.graph.specs.Rows.{IsClosed};
+
+    ghost Value = { List (List ℕ) };
+
+    ghost view = { λ s. s.rows.items };
+
+    ghost invariant = { λ s. IsClosed s.rows.items };
+}
+
+impl InitializationOrders {
+    /// The orders of the classes of a family.
+    pub fn of(alloc: Global, family: &Family) -> Result<InitializationOrders, AllocError>
+        ensures len { IfOk result (λ rows. length rows ≡ length family.now) }
+        ensures orders { IfOk result (λ rows. (c : ℕ) → c < length family.now → IsInitializationOrder family.now c (row_in rows c)) }
+    {
+        let behind = interfaces_behind(alloc, family)?;
+        let count = family.classes().len();
+        let order = family.parents_first();
+        let mut seen = Visited::new(alloc, count)?;
+        let mut rows = empty_lists(alloc, count)?;
+        for class in order {
+            let row = order_of(alloc, family, *class, &behind, &mut seen)?;
+            rows[*class as usize] = row;
+        }
+        Ok(InitializationOrders { rows })
+    }
+
+    /// The order of a class. Empty for a number of no class.
+    pub fn of_class(&self, class: u32) -> &[u32]
+        ensures value { result.now ≡ row_in self.now class }
+        ensures within { All (λ c. c < length self.now) result.now }
+    {
+        match self.rows.get(class as usize) {
+            Some(row) => row.as_slice(),
+            None => &[],
+        }
+    }
+}
+
+/// By interface: itself and those above it, each behind its own superinterfaces, of which those stay that are initialized
+/// first. Empty for a class.
+fn interfaces_behind(alloc: Global, family: &Family) -> Result<Vec<ClassNumbers>, AllocError>
+    ensures len { IfOk result (λ lists. length lists.items ≡ length family.now) }
+    ensures closed { IfOk result (λ lists. IsClosed lists.items) }
+    ensures lists { IfOk result (λ lists. (i : ℕ) → i < length family.now
+        → is_interface_in family.now i ≡ true → IsBehind family.now i (row_in lists.items i)) }
+{
+    let count = family.classes().len();
+    let order = family.parents_first();
+    let mut seen = Visited::new(alloc, count)?;
+    let mut lists = empty_lists(alloc, count)?;
+    for class in order {
+        let list = behind_of(alloc, family, *class, &lists, &mut seen)?;
+        lists[*class as usize] = list;
+    }
+    Ok(lists)
+}
+
+/// The list of an interface from those of its direct superinterfaces. Empty for a class.
+fn behind_of(
+    alloc: Global,
+    family: &Family,
+    class: u32,
+    lists: &[ClassNumbers],
+    seen: &mut Visited,
+) -> Result<ClassNumbers, AllocError>
+    requires limit { seen.old.limit ≡ length lists.now }
+    requires few { length lists.now ≤ 2 ^ 32 }
+    requires len { length lists.now ≡ length family.now }
+    requires class { class < length lists.now }
+    requires closed { IsClosed lists.now }
+    requires lists { (i : ℕ) → Contains (interfaces_in family.now class) i → IsBehind family.now i (row_in lists.now i) }
+    ensures limit { OnOk result (seen.new.limit ≡ seen.old.limit) }
+    ensures list { IfOk result (λ list. is_interface_in family.now class ≡ true → IsBehind family.now class list) }
+    ensures within { IfOk result (All (λ c. c < length lists.now)) }
+{
+    if !family.is_interface(class) {
+        return Ok(ClassNumbers::new(Vec::new(alloc)));
+    }
+    seen.clear();
+    join_behind(family.interfaces(class), lists, seen)?;
+    join_itself(family, class, seen)?;
+    listed(alloc, seen)
+}
+
+/// What is initialized before a class, from the lists of its direct superinterfaces.
+fn order_of(
+    alloc: Global,
+    family: &Family,
+    class: u32,
+    lists: &[ClassNumbers],
+    seen: &mut Visited,
+) -> Result<ClassNumbers, AllocError>
+    requires limit { seen.old.limit ≡ length lists.now }
+    requires few { length lists.now ≤ 2 ^ 32 }
+    requires len { length lists.now ≡ length family.now }
+    requires closed { IsClosed lists.now }
+    requires lists { (i : ℕ) → Contains (interfaces_in family.now class) i → IsBehind family.now i (row_in lists.now i) }
+    ensures limit { OnOk result (seen.new.limit ≡ seen.old.limit) }
+    ensures order { IfOk result (λ order. IsInitializationOrder family.now class order) }
+    ensures within { IfOk result (All (λ c. c < length lists.now)) }
+{
+    if family.is_interface(class) {
+        return Ok(ClassNumbers::new(Vec::new(alloc)));
+    }
+    seen.clear();
+    join_behind(family.interfaces(class), lists, seen)?;
+    let superclass = superclass_alone(alloc, family, class)?;
+    listed_behind(superclass, seen)
+}
+
+/// The superclass of a class, if it is given, and nothing else.
+fn superclass_alone(alloc: Global, family: &Family, class: u32) -> Result<Vec<u32>, AllocError>
+    ensures value { IfOk result (λ numbers. numbers.items ≡ superclasses_in family.now class) }
+    ensures within { IfOk result (λ numbers. All (λ c. c < length family.now) numbers.items) }
+{
+    let mut numbers = Vec::new(alloc);
+    let Some(Superclass::Given(superclass)) = family.superclass(class) else {
+        return Ok(numbers);
+    };
+    numbers.push(superclass)?;
+    Ok(numbers)
+}
+
+/// Adds the lists of some interfaces.
+fn join_behind(
+    interfaces: &[u32],
+    lists: &[ClassNumbers],
+    seen: &mut Visited,
+) -> Result<(), AllocError>
+    requires limit { seen.old.limit ≡ length lists.now }
+    requires interfaces { All (λ i. i < length lists.now) interfaces.now }
+    requires closed { IsClosed lists.now }
+    ensures limit { seen.new.limit ≡ seen.old.limit }
+    ensures joined { OnOk result (GoesOn seen.old.items (flat_map (row_in lists.now) interfaces.now) seen.new.items) }
+{
+    for interface in interfaces {
+        join(lists[*interface as usize].as_slice(), seen)?;
+    }
+    Ok(())
+}
+
+/// Adds an interface if it is initialized first.
+fn join_itself(family: &Family, class: u32, seen: &mut Visited) -> Result<(), AllocError>
+    requires { class < seen.old.limit }
+    ensures limit { seen.new.limit ≡ seen.old.limit }
+    ensures joined { OnOk result (GoesOn seen.old.items (filter (is_initialized_first family.now) (class ∷ [])) seen.new.items) }
+{
+    if !is_initialized_first(family, class) {
+        return Ok(());
+    }
+    seen.add(class as usize)?;
+    Ok(())
+}
+
+fn is_initialized_first(family: &Family, class: u32) -> bool
+    ensures { result ≡ is_initialized_first family.now class }
+{
+    match family.file(class) {
+        Some(file) => declares_default(file),
+        None => false,
+    }
+}
+
+/// Whether an interface declares a method that is neither abstract nor static.
+fn declares_default(file: &ClassFile) -> bool
+    ensures { result ≡ declares_default file.now }
+{
+    file.methods().iter().any(is_default_method)
+}
+
+fn is_default_method(method: &Member) -> bool
+    ensures { result ≡ is_default_method method.now }
+{
+    !(has_flag(method.access_flags, ABSTRACT) || has_flag(method.access_flags, STATIC))
+}

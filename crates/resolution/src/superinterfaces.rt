@@ -1,0 +1,101 @@
+//! The superinterfaces of each class (JVMS 5.4.3.2, 5.4.3.3).
+
+ghost use Rattle.std.specs.Prelude.{◌≡◌, ℕ, ◌∷◌, ◌<◌, ◌≤◌, ◌^◌, length, IfOk, OnOk};
+ghost use Rattle.std.specs.List.{All, flat_map};
+ghost use Rattle.graph.specs.Rows.{IsClosed};
+ghost use Rattle.graph.specs.Seen.{AreDistinct};
+ghost use Rattle.resolution.specs.Search.{GoesOn, IsInterfaceList, firsts, row_in};
+
+use crate::joined::{empty_lists, join, listed};
+use graph::Visited;
+use loading::family::Family;
+use loading::given::ClassNumbers;
+use std::alloc::{AllocError, Global};
+use std::marker::Model;
+
+/// By class: its direct superinterfaces and all above them, each once, in the order in which searches come to them.
+#[derive(Drop)]
+pub struct Superinterfaces {
+    rows: Vec<ClassNumbers>,
+}
+
+impl Model for Superinterfaces {
+    ghost use Rattle.std.specs.Prelude.{List, ℕ};
+    ghost use Rattle.graph.specs.Rows.{IsClosed};
+
+    ghost Value = { List (List ℕ) };
+
+    ghost view = { λ s. s.rows.items };
+
+    ghost invariant = { λ s. IsClosed s.rows.items };
+}
+
+impl Superinterfaces {
+    /// The lists of the classes of a family.
+    pub fn of(alloc: Global, family: &Family) -> Result<Superinterfaces, AllocError>
+        ensures len { IfOk result (λ rows. length rows ≡ length family.now) }
+        ensures lists { IfOk result (λ rows. (c : ℕ) → c < length family.now → IsInterfaceList family.now c (row_in rows c)) }
+    {
+        let count = family.classes().len();
+        let order = family.parents_first();
+        let mut seen = Visited::new(alloc, count)?;
+        let mut rows = empty_lists(alloc, count)?;
+        for class in order {
+            let row = row_of(alloc, family.interfaces(*class), &rows, &mut seen)?;
+            rows[*class as usize] = row;
+        }
+        Ok(Superinterfaces { rows })
+    }
+
+    /// The list of a class. Empty for a number of no class.
+    pub fn of_class(&self, class: u32) -> &[u32]
+        ensures value { result.now ≡ row_in self.now class }
+        ensures within { All (λ i. i < length self.now) result.now }
+    {
+        match self.rows.get(class as usize) {
+            Some(row) => row.as_slice(),
+            None => &[],
+        }
+    }
+}
+
+/// The list of a class whose direct superinterfaces these are.
+fn row_of(
+    alloc: Global,
+    interfaces: &[u32],
+    rows: &[ClassNumbers],
+    seen: &mut Visited,
+) -> Result<ClassNumbers, AllocError>
+    requires limit { seen.old.limit ≡ length rows.now }
+    requires few { length rows.now ≤ 2 ^ 32 }
+    requires interfaces { All (λ i. i < length rows.now) interfaces.now }
+    requires closed { IsClosed rows.now }
+    ensures limit { OnOk result (seen.new.limit ≡ seen.old.limit) }
+    ensures row { IfOk result (λ row. row ≡ firsts (flat_map (λ i. i ∷ row_in rows.now i) interfaces.now)) }
+    ensures distinct { IfOk result AreDistinct }
+    ensures within { IfOk result (All (λ c. c < length rows.now)) }
+{
+    seen.clear();
+    join_above(interfaces, rows, seen)?;
+    listed(alloc, seen)
+}
+
+/// Adds each of some interfaces and then those above it.
+fn join_above(
+    interfaces: &[u32],
+    rows: &[ClassNumbers],
+    seen: &mut Visited,
+) -> Result<(), AllocError>
+    requires limit { seen.old.limit ≡ length rows.now }
+    requires interfaces { All (λ i. i < length rows.now) interfaces.now }
+    requires closed { IsClosed rows.now }
+    ensures limit { seen.new.limit ≡ seen.old.limit }
+    ensures joined { OnOk result
+        (GoesOn seen.old.items (flat_map (λ i. i ∷ row_in rows.now i) interfaces.now) seen.new.items) }
+{
+    for interface in interfaces {
+        seen.add(*interface as usize)?;
+        join(rows[*interface as usize].as_slice(), seen)?;
+    }
+    Ok(())
+}
