@@ -141,4 +141,5 @@ def main():
     print(kind, len(data), "bytes", pool.count, "entries")
 
 
-main()
+if __name__ == "__main__":
+    main()

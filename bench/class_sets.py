@@ -1,0 +1,105 @@
+#!/usr/bin/env python3
+"""Writes class files that make one program: class_sets.py KIND COUNT FILE. KINDS, below, has the kinds.
+
+In the file stand the class files one behind the other, each behind its length in four bytes, in an order that is not the
+one of their names.
+"""
+import random
+import struct
+import sys
+
+from class_files import Pool, attribute, member
+
+OBJECT = "java/lang/Object"
+
+
+def class_file(name, above=OBJECT, interfaces=(), flags=0x21, members=None):
+    """A class file, with the fields and methods that `members` makes of its constant pool."""
+    pool = Pool()
+    numbers = [flags, pool.named(7, name), pool.named(7, above), len(interfaces)]
+    numbers += [pool.named(7, interface) for interface in interfaces]
+    fields, methods = members(pool) if members else ([], [])
+    tables = b"".join(struct.pack(">H", len(table)) + b"".join(table) for table in (fields, methods, ()))
+    return b"\xca\xfe\xba\xbe" + struct.pack(">HH", 0, 52) + pool.bytes() + struct.pack(">%dH" % len(numbers), *numbers) + tables
+
+
+def method(pool, flags, name, descriptor, code=None):
+    attributes = []
+    if code is not None:
+        body = struct.pack(">HHI", 4, 4, len(code)) + code + struct.pack(">HH", 0, 0)
+        attributes.append(attribute(pool, "Code", body))
+    return member(flags, pool.text(name), pool.text(descriptor), attributes)
+
+
+def interface(name, above=()):
+    def members(pool):
+        return [], [method(pool, 0x1, "run", "()V", b"\xb1")]
+    return class_file(name, OBJECT, above, 0x601, members)
+
+
+def small_class(number, above, interfaces):
+    """Two fields, and two methods whose code names fields, a method and a constant."""
+    name = "org/example/Class%d" % number
+
+    def members(pool):
+        static = pool.pair(9, pool.named(7, name), pool.name_and_type("count%d" % (number % 50), "I"))
+        upper = pool.pair(9, pool.named(7, above), pool.name_and_type("value", "J"))
+        called = pool.pair(10, pool.named(7, name), pool.name_and_type("run", "()V"))
+        constant = pool.add(struct.pack(">BI", 3, number))
+        fields = [member(0x8, pool.text("count%d" % (number % 50)), pool.text("I")),
+                  member(0x0, pool.text("value"), pool.text("J"))]
+        # ldc, putstatic, aload_0, getfield, pop2, return; aload_0, invokevirtual, return
+        first = bytes([18, constant, 179]) + struct.pack(">H", static) + bytes([42, 180]) + struct.pack(">H", upper) + bytes([88, 177])
+        second = bytes([42, 182]) + struct.pack(">H", called) + bytes([177])
+        return fields, [method(pool, 0x1, "step%d" % (number % 20), "()V", first), method(pool, 0x1, "again", "()V", second)]
+    return class_file(name, above, interfaces, 0x21, members)
+
+
+def small(count):
+    """One interface to nine classes, ten below one another in a row, each of which implements one interface."""
+    files = []
+    for number in range(count):
+        group = number - number % 10
+        if number == group:
+            files.append(interface("org/example/Able%d" % group))
+        else:
+            above = OBJECT if number == group + 1 else "org/example/Class%d" % (number - 1)
+            files.append(small_class(number, above, ["org/example/Able%d" % group]))
+    return files
+
+
+def chain(count):
+    """Each class below the one before."""
+    return [class_file("C%d" % number, "C%d" % (number - 1) if number else OBJECT) for number in range(count)]
+
+
+def chain_of_references(count):
+    """The same, where each class names a method of the first one as its own."""
+    files = []
+    for number in range(count):
+        def members(pool, name="C%d" % number, is_first=number == 0):
+            pool.pair(10, pool.named(7, name), pool.name_and_type("run", "()V"))
+            return [], [method(pool, 0x1, "run", "()V", b"\xb1")] if is_first else []
+        files.append(class_file("C%d" % number, "C%d" % (number - 1) if number else OBJECT, members=members))
+    return files
+
+
+def interface_chain(count):
+    """Each interface below the one before."""
+    return [interface("I%d" % number, ["I%d" % (number - 1)] if number else []) for number in range(count)]
+
+
+KINDS = {kind.__name__: kind for kind in (small, chain, chain_of_references, interface_chain)}
+
+
+def main():
+    kind, count, path = sys.argv[1:]
+    files = KINDS[kind](int(count))
+    random.Random(1).shuffle(files)
+    with open(path, "wb") as file:
+        for data in files:
+            file.write(struct.pack(">I", len(data)) + data)
+    print(kind, len(files), "classes,", sum(map(len, files)), "bytes")
+
+
+main()
