@@ -12,8 +12,6 @@ pub mod flag;
 mod modified_utf8;
 pub mod op;
 mod pool;
-#[cfg(test)]
-mod tests;
 
 pub use class::ClassBuilder;
 pub use code::{Assembly, Label};

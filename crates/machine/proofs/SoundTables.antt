@@ -327,7 +327,7 @@ module _ (P : Tables) (program : IsProgram P) where
       → Puts d m c k kind target
   put_target_is d m c k kind (Ok (targets.Static e j final)) h =
       elim (is_int kind) [
-        inl int ↦ subst (λ (kind : FieldKind). Puts d m c k kind (Ok (targets.Static e j final))) (sym int)
+        | inl int ↦ subst (λ (kind : FieldKind). Puts d m c k kind (Ok (targets.Static e j final))) (sym int)
             (put_int d m c k e j final (subst (λ (kind : FieldKind). if_valued kind (put_target P d m kind (Ok (targets.Static e j final))) ≡ PutInt c k) int h))
         | inr other ↦ absurd (valued_puts_not kind (put_target P d m kind (Ok (targets.Static e j final)))
             (either_puts_not (may_write P d m e final) (put_static e j kind) (Refused Fault) (put_static_puts_not kind e j other) (refusal_puts_not Fault)) c k h)

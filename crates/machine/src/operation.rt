@@ -6,11 +6,10 @@ ghost use Rattle.machine.specs.Operations.{local_of, get_static, put_static, may
 ghost use Rattle.machine.specs.Operations.{call_of, invokevirtual_of, return_of, shared_operation, operation_at};
 
 use bytecode::{Comparison, Instruction, IntOperator};
-use hierarchy::{BuiltInMethod, Printed};
 use hierarchy::class::Implementation;
 use hierarchy::entry::{Entry, FieldKind, FieldTarget};
-use hierarchy::{Method, Unresolved};
 use hierarchy::program::Program;
+use hierarchy::{BuiltInMethod, Method, Printed, Unresolved};
 use vm_state::ends::FaultKind;
 
 /// An operator on two ints that never fails (JVMS 6.5, `iadd`, `isub`, `imul`). Results wrap.

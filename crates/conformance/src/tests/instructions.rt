@@ -1,238 +1,170 @@
 //! What the int instructions give (JVMS 6.5), seen by printing it.
 
-use super::pieces::{Piece, add};
-use super::{ENOUGH, run};
-use assembler::{Assembly, AssemblyError, ClassBuilder, op};
-use init_engine::Ending;
+use super::check;
 use std::alloc::Global;
+use std::process::Abort;
 use std::test::Fail;
 
-/// A class `T` whose main prints the int that this code leaves.
-fn printing(alloc: Global, code: &[&[u8]]) -> Result<Vec<u8>, AssemblyError> {
-    let mut class = ClassBuilder::new(alloc, "T")?;
-    let mut main = Assembly::new(alloc);
-    main.limits(4, 256);
-    add(&mut class, &mut main, &[Piece::Out])?;
-    for bytes in code {
-        main.bytes(bytes)?;
-    }
-    add(&mut class, &mut main, &[Piece::Println])?;
-    main.op(op::RETURN)?;
-    class.main(main)?;
-    class.finish()
-}
-
 /// The least int, -2^31, as -2^15 * 2^14 * 4.
-const LEAST: [u8; 9] = [
-    op::SIPUSH,
-    0x80,
-    0x00,
-    op::SIPUSH,
-    0x40,
-    0x00,
-    op::IMUL,
-    op::ICONST_4,
-    op::IMUL,
-];
+const LEAST: &str = "sipush 128 0 sipush 64 0 imul iconst_4 imul";
 
 /// One more than an int, and then the negative of that: of the least int it makes the greatest.
-const NEGATIVE_OF_NEXT: [u8; 3] = [op::ICONST_1, op::IADD, op::INEG];
+const NEGATIVE_OF_NEXT: &str = "iconst_1 iadd ineg";
 
-const CONSTANTS: [(&[u8], &str); 13] = [
-    (&[op::ICONST_M1], "-1\n"),
-    (&[op::ICONST_0], "0\n"),
-    (&[op::ICONST_1], "1\n"),
-    (&[op::ICONST_2], "2\n"),
-    (&[op::ICONST_3], "3\n"),
-    (&[op::ICONST_4], "4\n"),
-    (&[op::ICONST_5], "5\n"),
-    (&[op::BIPUSH, 0x80], "-128\n"),
-    (&[op::BIPUSH, 0x7F], "127\n"),
-    (&[op::SIPUSH, 0x80, 0x00], "-32768\n"),
-    (&[op::SIPUSH, 0x7F, 0xFF], "32767\n"),
-    (&[op::SIPUSH, 0x00, 0xC8], "200\n"),
-    (&[op::NOP, op::ICONST_1, op::NOP], "1\n"),
-];
+/// A class whose main prints the int that this code leaves. The class begins, finishes and starts; getstatic, the code,
+/// println and return follow.
+const PRINTING: &str = "class 0021 T, main 4 256 out {} println return";
 
-const LOCALS: [(&[u8], &str); 11] = [
-    (&[op::ICONST_1, op::ISTORE_0, op::ILOAD_0], "1\n"),
-    (&[op::ICONST_2, op::ISTORE_1, op::ILOAD_1], "2\n"),
-    (&[op::ICONST_3, op::ISTORE_2, op::ILOAD_2], "3\n"),
-    (&[op::ICONST_4, op::ISTORE_3, op::ILOAD_3], "4\n"),
-    (&[op::ICONST_5, op::ISTORE, 4, op::ILOAD, 4], "5\n"),
-    (&[op::ICONST_5, op::ISTORE, 255, op::ILOAD, 255], "5\n"),
-    // The short and the long forms name the same local variables, and each has its own.
-    (
-        &[
-            op::ICONST_1,
-            op::ISTORE_2,
-            op::ICONST_3,
-            op::ISTORE_3,
-            op::ILOAD,
-            2,
-        ],
-        "1\n",
-    ),
-    (
-        &[
-            op::ICONST_1,
-            op::ISTORE,
-            3,
-            op::ICONST_2,
-            op::ISTORE_3,
-            op::ILOAD,
-            3,
-        ],
-        "2\n",
-    ),
-    (
-        &[op::ICONST_5, op::ISTORE_1, op::IINC, 1, 0xF9, op::ILOAD_1],
-        "-2\n",
-    ),
-    (
-        &[
-            op::ICONST_5,
-            op::ISTORE,
-            200,
-            op::IINC,
-            200,
-            0x7F,
-            op::ILOAD,
-            200,
-        ],
-        "132\n",
-    ),
-    // A load leaves the variable as it is.
-    (
-        &[
-            op::ICONST_5,
-            op::ISTORE_1,
-            op::ILOAD_1,
-            op::ILOAD_1,
-            op::IADD,
-        ],
-        "10\n",
-    ),
-];
+/// A class whose main prints 1 where the comparison at the code's end jumps, and 0 where not: it jumps over
+/// `iconst_0; goto` to `iconst_1`, and the goto over that.
+const CHOOSING: &str =
+    "class 0021 T, main 4 256 out {} 0 7 iconst_0 goto 0 4 iconst_1 println return";
 
-const ARITHMETIC: [(&[&[u8]], &str); 14] = [
-    (&[&[op::BIPUSH, 7, op::ICONST_3, op::IADD]], "10\n"),
-    (&[&[op::BIPUSH, 7, op::ICONST_3, op::ISUB]], "4\n"),
-    (&[&[op::ICONST_3, op::BIPUSH, 7, op::ISUB]], "-4\n"),
-    (&[&[op::BIPUSH, 0xF9, op::ICONST_3, op::IMUL]], "-21\n"),
-    (&[&[op::BIPUSH, 7, op::INEG]], "-7\n"),
-    (&[&LEAST], "-2147483648\n"),
-    (&[&LEAST, &NEGATIVE_OF_NEXT], "2147483647\n"),
-    (&[&LEAST, &[op::INEG]], "-2147483648\n"),
-    (&[&LEAST, &[op::ICONST_M1, op::IADD]], "2147483647\n"),
-    (&[&LEAST, &LEAST, &[op::IADD]], "0\n"),
-    (&[&LEAST, &[op::ICONST_1, op::ISUB]], "2147483647\n"),
-    (&[&LEAST, &[op::ICONST_M1, op::IMUL]], "-2147483648\n"),
-    (
-        // 32767 * 32767 * 3 is 3221028867, and 2^32 less is below 0.
-        &[&[
-            op::SIPUSH,
-            0x7F,
-            0xFF,
-            op::SIPUSH,
-            0x7F,
-            0xFF,
-            op::IMUL,
-            op::ICONST_3,
-            op::IMUL,
-        ]],
-        "-1073938429\n",
-    ),
-    (
-        &[&LEAST, &[op::ISTORE_1, op::IINC, 1, 0xFF, op::ILOAD_1]],
-        "2147483647\n",
-    ),
-];
+const CONSTANTS: &str = "\
+iconst_m1 => 7 Returned -1;
+iconst_0 => 7 Returned 0;
+iconst_1 => 7 Returned 1;
+iconst_2 => 7 Returned 2;
+iconst_3 => 7 Returned 3;
+iconst_4 => 7 Returned 4;
+iconst_5 => 7 Returned 5;
+bipush 128 => 7 Returned -128;
+bipush 127 => 7 Returned 127;
+sipush 128 0 => 7 Returned -32768;
+sipush 127 255 => 7 Returned 32767;
+sipush 0 200 => 7 Returned 200;
+nop iconst_1 nop => 9 Returned 1;
+";
 
-/// The class begins, finishes and starts; getstatic, the code, println and return follow.
+const LOCALS: &str = "\
+iconst_1 istore_0 iload_0 => 9 Returned 1;
+iconst_2 istore_1 iload_1 => 9 Returned 2;
+iconst_3 istore_2 iload_2 => 9 Returned 3;
+iconst_4 istore_3 iload_3 => 9 Returned 4;
+iconst_5 istore 4 iload 4 => 9 Returned 5;
+iconst_5 istore 255 iload 255 => 9 Returned 5;
+# The short and the long forms name the same local variables, and each has its own.
+iconst_1 istore_2 iconst_3 istore_3 iload 2 => 11 Returned 1;
+iconst_1 istore 3 iconst_2 istore_3 iload 3 => 11 Returned 2;
+iconst_5 istore_1 iinc 1 249 iload_1 => 10 Returned -2;
+iconst_5 istore 200 iinc 200 127 iload 200 => 10 Returned 132;
+# A load leaves the variable as it is.
+iconst_5 istore_1 iload_1 iload_1 iadd => 11 Returned 10;
+";
+
+const ARITHMETIC: &str = "\
+bipush 7 iconst_3 iadd => 9 Returned 10;
+bipush 7 iconst_3 isub => 9 Returned 4;
+iconst_3 bipush 7 isub => 9 Returned -4;
+bipush 249 iconst_3 imul => 9 Returned -21;
+bipush 7 ineg => 8 Returned -7;
+LEAST => 11 Returned -2147483648;
+LEAST NEXT => 14 Returned 2147483647;
+LEAST ineg => 12 Returned -2147483648;
+LEAST iconst_m1 iadd => 13 Returned 2147483647;
+LEAST LEAST iadd => 17 Returned 0;
+LEAST iconst_1 isub => 13 Returned 2147483647;
+LEAST iconst_m1 imul => 13 Returned -2147483648;
+# 32767 * 32767 * 3 is 3221028867, and 2^32 less is below 0.
+sipush 127 255 sipush 127 255 imul iconst_3 imul => 11 Returned -1073938429;
+LEAST istore_1 iinc 1 255 iload_1 => 14 Returned 2147483647;
+";
+
+/// The opcode is the last one of a row's code.
+const COMPARISONS: &str = "\
+# The least int, 0 and the greatest int with 0, and then -1, 0 and 1.
+LEAST ifeq => 14 Returned 0;
+iconst_0 ifeq => 9 Returned 1;
+LEAST NEXT ifeq => 17 Returned 0;
+iconst_m1 ifeq => 10 Returned 0;
+iconst_0 ifeq => 9 Returned 1;
+iconst_1 ifeq => 10 Returned 0;
+LEAST ifne => 13 Returned 1;
+iconst_0 ifne => 10 Returned 0;
+LEAST NEXT ifne => 16 Returned 1;
+iconst_m1 ifne => 9 Returned 1;
+iconst_0 ifne => 10 Returned 0;
+iconst_1 ifne => 9 Returned 1;
+LEAST iflt => 13 Returned 1;
+iconst_0 iflt => 10 Returned 0;
+LEAST NEXT iflt => 17 Returned 0;
+iconst_m1 iflt => 9 Returned 1;
+iconst_0 iflt => 10 Returned 0;
+iconst_1 iflt => 10 Returned 0;
+LEAST ifge => 14 Returned 0;
+iconst_0 ifge => 9 Returned 1;
+LEAST NEXT ifge => 16 Returned 1;
+iconst_m1 ifge => 10 Returned 0;
+iconst_0 ifge => 9 Returned 1;
+iconst_1 ifge => 9 Returned 1;
+LEAST ifgt => 14 Returned 0;
+iconst_0 ifgt => 10 Returned 0;
+LEAST NEXT ifgt => 16 Returned 1;
+iconst_m1 ifgt => 10 Returned 0;
+iconst_0 ifgt => 10 Returned 0;
+iconst_1 ifgt => 9 Returned 1;
+LEAST ifle => 13 Returned 1;
+iconst_0 ifle => 9 Returned 1;
+LEAST NEXT ifle => 17 Returned 0;
+iconst_m1 ifle => 9 Returned 1;
+iconst_0 ifle => 9 Returned 1;
+iconst_1 ifle => 10 Returned 0;
+# The least int with the greatest and itself and the greatest with the least, and then 1, 2 and 2 with 2, 2 and 1.
+LEAST LEAST NEXT if_icmpeq => 22 Returned 0;
+LEAST LEAST if_icmpeq => 18 Returned 1;
+LEAST NEXT LEAST if_icmpeq => 22 Returned 0;
+iconst_1 iconst_2 if_icmpeq => 11 Returned 0;
+iconst_2 iconst_2 if_icmpeq => 10 Returned 1;
+iconst_2 iconst_1 if_icmpeq => 11 Returned 0;
+LEAST LEAST NEXT if_icmpne => 21 Returned 1;
+LEAST LEAST if_icmpne => 19 Returned 0;
+LEAST NEXT LEAST if_icmpne => 21 Returned 1;
+iconst_1 iconst_2 if_icmpne => 10 Returned 1;
+iconst_2 iconst_2 if_icmpne => 11 Returned 0;
+iconst_2 iconst_1 if_icmpne => 10 Returned 1;
+LEAST LEAST NEXT if_icmplt => 21 Returned 1;
+LEAST LEAST if_icmplt => 19 Returned 0;
+LEAST NEXT LEAST if_icmplt => 22 Returned 0;
+iconst_1 iconst_2 if_icmplt => 10 Returned 1;
+iconst_2 iconst_2 if_icmplt => 11 Returned 0;
+iconst_2 iconst_1 if_icmplt => 11 Returned 0;
+LEAST LEAST NEXT if_icmpge => 22 Returned 0;
+LEAST LEAST if_icmpge => 18 Returned 1;
+LEAST NEXT LEAST if_icmpge => 21 Returned 1;
+iconst_1 iconst_2 if_icmpge => 11 Returned 0;
+iconst_2 iconst_2 if_icmpge => 10 Returned 1;
+iconst_2 iconst_1 if_icmpge => 10 Returned 1;
+LEAST LEAST NEXT if_icmpgt => 22 Returned 0;
+LEAST LEAST if_icmpgt => 19 Returned 0;
+LEAST NEXT LEAST if_icmpgt => 21 Returned 1;
+iconst_1 iconst_2 if_icmpgt => 11 Returned 0;
+iconst_2 iconst_2 if_icmpgt => 11 Returned 0;
+iconst_2 iconst_1 if_icmpgt => 10 Returned 1;
+LEAST LEAST NEXT if_icmple => 21 Returned 1;
+LEAST LEAST if_icmple => 18 Returned 1;
+LEAST NEXT LEAST if_icmple => 22 Returned 0;
+iconst_1 iconst_2 if_icmple => 10 Returned 1;
+iconst_2 iconst_2 if_icmple => 10 Returned 1;
+iconst_2 iconst_1 if_icmple => 11 Returned 0;
+";
+
+/// Checks the rows, after `LEAST` and `NEXT` in them have become code.
+fn check_ints(rt: &impl Abort, alloc: Global, template: &str, table: &str) -> Result<(), Fail> {
+    let table = table.replace(alloc, "LEAST", LEAST)?;
+    let table = table.replace(alloc, "NEXT", NEGATIVE_OF_NEXT)?;
+    check(rt, alloc, template, table.as_str())
+}
+
 #[test]
 fn ints(rt: HostRuntime) -> Result<(), Fail> {
     let alloc = rt.alloc();
-    for (code, text) in ARITHMETIC {
-        let whole = run(alloc, &[printing(alloc, code)?], "T", ENOUGH)?;
-        assert_eq!(rt; whole.text.as_str(), text, "{code:?}");
-        assert_eq!(rt; whole.ending, Ending::Returned, "{code:?}");
-    }
-    for table in [CONSTANTS.as_slice(), LOCALS.as_slice()] {
-        for (code, text) in table {
-            let whole = run(alloc, &[printing(alloc, &[*code])?], "T", ENOUGH)?;
-            assert_eq!(rt; whole.text.as_str(), *text, "{code:?}");
-            assert_eq!(rt; whole.ending, Ending::Returned, "{code:?}");
-        }
+    for table in [CONSTANTS, LOCALS, ARITHMETIC] {
+        check_ints(&rt, alloc, PRINTING, table)?;
     }
     Ok(())
-}
-
-/// A comparison's opcode, and whether it holds where the left int is less than, equal to and greater than the
-/// right one.
-const COMPARISONS: [(u8, [bool; 3]); 12] = [
-    (op::IFEQ, [false, true, false]),
-    (op::IFNE, [true, false, true]),
-    (op::IFLT, [true, false, false]),
-    (op::IFGE, [false, true, true]),
-    (op::IFGT, [false, false, true]),
-    (op::IFLE, [true, true, false]),
-    (op::IF_ICMPEQ, [false, true, false]),
-    (op::IF_ICMPNE, [true, false, true]),
-    (op::IF_ICMPLT, [true, false, false]),
-    (op::IF_ICMPGE, [false, true, true]),
-    (op::IF_ICMPGT, [false, false, true]),
-    (op::IF_ICMPLE, [true, true, false]),
-];
-
-/// Whether a comparison of the ints that the code leaves jumps: main prints 1 where it does, and 0 where not.
-fn jumps(alloc: Global, code: &[&[u8]], opcode: u8) -> Result<bool, Fail> {
-    // The comparison jumps over `iconst_0; goto` to `iconst_1`, and the goto over that.
-    let choice = [opcode, 0, 7, op::ICONST_0, op::GOTO, 0, 4, op::ICONST_1];
-    let mut pieces = Vec::new(alloc);
-    for bytes in code {
-        pieces.push(*bytes)?;
-    }
-    pieces.push(choice.as_slice())?;
-    let whole = run(alloc, &[printing(alloc, pieces.as_slice())?], "T", ENOUGH)?;
-    match (whole.text.as_str(), whole.ending) {
-        ("0\n", Ending::Returned) => Ok(false),
-        ("1\n", Ending::Returned) => Ok(true),
-        _ => Err(Fail::new(format_args!("{} {:?}", whole.text, whole.ending))),
-    }
 }
 
 #[test]
 fn comparisons(rt: HostRuntime) -> Result<(), Fail> {
-    let alloc = rt.alloc();
-    for (opcode, expected) in COMPARISONS {
-        // Below IF_ICMPEQ an int is compared with 0.
-        let pairs: [&[&[u8]]; 3] = if opcode < op::IF_ICMPEQ {
-            [&[&LEAST], &[&[op::ICONST_0]], &[&LEAST, &NEGATIVE_OF_NEXT]]
-        } else {
-            [
-                &[&LEAST, &LEAST, &NEGATIVE_OF_NEXT],
-                &[&LEAST, &LEAST],
-                &[&LEAST, &NEGATIVE_OF_NEXT, &LEAST],
-            ]
-        };
-        let near: [&[&[u8]]; 3] = if opcode < op::IF_ICMPEQ {
-            [&[&[op::ICONST_M1]], &[&[op::ICONST_0]], &[&[op::ICONST_1]]]
-        } else {
-            [
-                &[&[op::ICONST_1, op::ICONST_2]],
-                &[&[op::ICONST_2, op::ICONST_2]],
-                &[&[op::ICONST_2, op::ICONST_1]],
-            ]
-        };
-        for codes in [pairs, near] {
-            let seen = [
-                jumps(alloc, codes[0], opcode)?,
-                jumps(alloc, codes[1], opcode)?,
-                jumps(alloc, codes[2], opcode)?,
-            ];
-            assert_eq!(rt; seen, expected, "{opcode}");
-        }
-    }
-    Ok(())
+    check_ints(&rt, rt.alloc(), CHOOSING, COMPARISONS)
 }

@@ -1,7 +1,7 @@
-//! Bytes worked out by hand.
+//! Class files and their bytes.
 
-use crate::flag::{PUBLIC, STATIC};
-use crate::{Assembly, AssemblyError, ClassBuilder, op};
+use assembler::flag::{PUBLIC, STATIC};
+use assembler::{Assembly, AssemblyError, ClassBuilder, op};
 use std::alloc::Global;
 use std::test::Fail;
 
@@ -44,9 +44,8 @@ fn an_empty_class_has_53_bytes(rt: HostRuntime) -> Result<(), Fail> {
     Ok(())
 }
 
-#[test]
-fn a_class_that_prints_seven(rt: HostRuntime) -> Result<(), Fail> {
-    let alloc = rt.alloc();
+/// `M`, whose main prints 7.
+fn seven(alloc: Global) -> Result<Vec<u8>, AssemblyError> {
     let mut class = ClassBuilder::new(alloc, "M")?;
     let mut code = Assembly::new(alloc);
     code.out(&mut class, 7)?;
@@ -57,7 +56,13 @@ fn a_class_that_prints_seven(rt: HostRuntime) -> Result<(), Fail> {
         "([Ljava/lang/String;)V",
         Some(code),
     )?;
-    let class = class.finish()?;
+    class.finish()
+}
+
+#[test]
+fn a_class_that_prints_seven(rt: HostRuntime) -> Result<(), Fail> {
+    let alloc = rt.alloc();
+    let class = seven(alloc)?;
     // The pool: 1 and 2 the class, 3 to 8 System.out, 9 and 10 PrintStream's parts and so on.
     let expected = bytes_of(
         alloc,
@@ -75,9 +80,8 @@ fn a_class_that_prints_seven(rt: HostRuntime) -> Result<(), Fail> {
     Ok(())
 }
 
-#[test]
-fn jumps_switches_and_handlers(rt: HostRuntime) -> Result<(), Fail> {
-    let alloc = rt.alloc();
+/// `J`, whose main has jumps, switches and an exception handler.
+fn jumping(alloc: Global) -> Result<Vec<u8>, AssemblyError> {
     let mut class = ClassBuilder::new(alloc, "J")?;
     let mut code = Assembly::new(alloc);
     code.limits(2, 3);
@@ -93,7 +97,13 @@ fn jumps_switches_and_handlers(rt: HostRuntime) -> Result<(), Fail> {
     code.op(op::RETURN)?;
     code.handler(start, end, end, 0)?;
     class.main(code)?;
-    let class = class.finish()?;
+    class.finish()
+}
+
+#[test]
+fn jumps_switches_and_handlers(rt: HostRuntime) -> Result<(), Fail> {
+    let alloc = rt.alloc();
+    let class = jumping(alloc)?;
     let expected = bytes_of(
         alloc,
         "0002 0003 00000036 00 04 9A 0033 04 AA 00 FFFFFFFA FFFFFFFF 00000000 0000002F FFFFFFFA \
@@ -110,48 +120,54 @@ fn jumps_switches_and_handlers(rt: HostRuntime) -> Result<(), Fail> {
 fn texts_are_modified_utf8(rt: HostRuntime) -> Result<(), Fail> {
     let alloc = rt.alloc();
     for (text, digits) in [
-        ("a\u{7f}", "617F"),
-        ("\0", "C080"),
-        ("\u{80}\u{7ff}", "C280 DFBF"),
-        ("\u{800}\u{ffff}", "E0A080 EFBFBF"),
-        ("\u{1f600}", "EDA0BD EDB880"),
+        ("a\u{7f}", "01 0002 617F 07 0001"),
+        ("\0", "01 0002 C080 07 0001"),
+        ("\u{80}\u{7ff}", "01 0004 C280 DFBF 07 0001"),
+        ("\u{800}\u{ffff}", "01 0006 E0A080 EFBFBF 07 0001"),
+        ("\u{1f600}", "01 0006 EDA0BD EDB880 07 0001"),
     ] {
-        let bytes = crate::modified_utf8::encode(alloc, text)?;
-        assert_eq!(rt;
-            bytes.as_slice(),
-            bytes_of(alloc, digits)?.as_slice(),
-            "{digits}"
-        );
+        let class = ClassBuilder::new(alloc, text)?.finish()?;
+        let expected = bytes_of(alloc, digits)?;
+        assert!(rt; contains(class.as_slice(), expected.as_slice()), "{digits}");
     }
     Ok(())
+}
+
+/// The indices of entries, some of them asked for again. A raw entry is a new one each time.
+fn indices(class: &mut ClassBuilder) -> Result<[u16; 8], AssemblyError> {
+    Ok([
+        class.long(-2)?,
+        class.integer(5)?,
+        class.long(-2)?,
+        class.integer(5)?,
+        class.utf8("P")?,
+        class.class("P")?,
+        class.raw_constant(&[2, 9])?,
+        class.raw_constant(&[2, 9])?,
+    ])
+}
+
+/// The indices of a method's reference, of the same again, and of that of an interface's method.
+fn references(class: &mut ClassBuilder) -> Result<[u16; 3], AssemblyError> {
+    Ok([
+        class.method_reference("P", "f", "()V")?,
+        class.method_reference("P", "f", "()V")?,
+        class.interface_method_reference("P", "f", "()V")?,
+    ])
 }
 
 #[test]
 fn entries_are_found_again(rt: HostRuntime) -> Result<(), Fail> {
     let alloc = rt.alloc();
     let mut class = ClassBuilder::new(alloc, "P")?;
-    let wide = class.long(-2)?;
-    let after = class.integer(5)?;
-    assert_eq!(rt; (wide, after), (3, 5));
-    assert_eq!(rt; (class.long(-2)?, class.integer(5)?), (3, 5));
-    assert_eq!(rt; class.utf8("P")?, 1);
-    assert_eq!(rt; class.class("P")?, 2);
-    let raw = class.raw_constant(&[2, 9])?;
-    assert_eq!(rt; class.raw_constant(&[2, 9])?, 7);
-    assert_eq!(rt; raw, 6);
-    let reference = class.method_reference("P", "f", "()V")?;
-    assert_eq!(rt; class.method_reference("P", "f", "()V")?, reference);
-    assert_ne!(rt;
-        class.interface_method_reference("P", "f", "()V")?,
-        reference
-    );
+    assert_eq!(rt; indices(&mut class)?, [3, 5, 3, 5, 1, 2, 6, 7]);
+    let [reference, again, of_interface] = references(&mut class)?;
+    assert_eq!(rt; again, reference);
+    assert_ne!(rt; of_interface, reference);
     Ok(())
 }
 
-#[test]
-fn every_kind_of_part(rt: HostRuntime) -> Result<(), Fail> {
-    let alloc = rt.alloc();
-    let mut class = ClassBuilder::new(alloc, "Q")?;
+fn add_members(class: &mut ClassBuilder) -> Result<(), AssemblyError> {
     class.version(52, 0);
     class.flags(0x0601);
     class.superclass("S")?;
@@ -160,7 +176,11 @@ fn every_kind_of_part(rt: HostRuntime) -> Result<(), Fail> {
     class.constant_field(STATIC, "K", "I", five)?;
     class.field(STATIC, "x", "I")?;
     class.method(0x0401, "f", "()V", None)?;
-    class.attribute("SourceFile", &[0, 1])?;
+    class.attribute("SourceFile", &[0, 1])
+}
+
+/// Adds an entry of each kind, and answers the indices of a String, an InvokeDynamic and a MethodHandle.
+fn add_constants(class: &mut ClassBuilder) -> Result<[u16; 3], AssemblyError> {
     let utf8 = class.utf8_bytes(&[0xED, 0xA0, 0xBD])?;
     let string = class.string_of(utf8)?;
     class.string("text")?;
@@ -169,6 +189,11 @@ fn every_kind_of_part(rt: HostRuntime) -> Result<(), Fail> {
     class.method_type("()V")?;
     let call = class.invoke_dynamic(0, "g", "()V")?;
     let handle = class.method_handle(6, call)?;
+    Ok([string, call, handle])
+}
+
+/// Instructions of each form, and an empty attribute of this name.
+fn every_form(alloc: Global, string: u16, call: u16, name: u16) -> Result<Assembly, AssemblyError> {
     let mut code = Assembly::new(alloc);
     code.constant(string)?;
     code.constant(0x1234)?;
@@ -178,9 +203,19 @@ fn every_kind_of_part(rt: HostRuntime) -> Result<(), Fail> {
     code.wide_increment(300, -300)?;
     code.invoke_interface(call, 1)?;
     code.invoke_dynamic(call)?;
-    assert_eq!(rt; code.place(), 31);
-    let name = class.utf8("Empty")?;
     code.attribute(name, &[])?;
+    Ok(code)
+}
+
+#[test]
+fn every_kind_of_part(rt: HostRuntime) -> Result<(), Fail> {
+    let alloc = rt.alloc();
+    let mut class = ClassBuilder::new(alloc, "Q")?;
+    add_members(&mut class)?;
+    let [string, call, handle] = add_constants(&mut class)?;
+    let name = class.utf8("Empty")?;
+    let code = every_form(alloc, string, call, name)?;
+    assert_eq!(rt; code.place(), 31);
     class.initializer(code)?;
     class.this_class_index(handle);
     class.superclass_index(0);

@@ -1,16 +1,36 @@
 //! Classes that the tests run.
 
+use super::Shelf;
 use assembler::flag::STATIC;
 use assembler::{Assembly, AssemblyError, ClassBuilder, op};
 use std::alloc::Global;
+use std::test::Fail;
+
+/// All these classes, each as the file of its name, and as `cut.class` the first 52 bytes of `A`.
+pub fn shelf(alloc: Global) -> Result<Shelf, Fail> {
+    let mut shelf = Shelf::new(alloc);
+    shelf.add("A.class", empty(alloc)?)?;
+    shelf.add("cut.class", cut(alloc)?)?;
+    shelf.add("M.class", seven(alloc)?)?;
+    shelf.add("Lp.class", sum(alloc)?)?;
+    shelf.add("F.class", float(alloc)?)?;
+    shelf.add("Ever.class", endless(alloc)?)?;
+    shelf.add("Error.class", built_in(alloc)?)?;
+    Ok(shelf)
+}
 
 /// `A`, which has nothing.
 pub fn empty(alloc: Global) -> Result<Vec<u8>, AssemblyError> {
     ClassBuilder::new(alloc, "A")?.finish()
 }
 
+fn cut(alloc: Global) -> Result<Vec<u8>, Fail> {
+    let whole = empty(alloc)?;
+    Ok(Vec::from_slice(alloc, whole.get(..52).ok_or("52 bytes")?)?)
+}
+
 /// `M`, whose main prints 7.
-pub fn seven(alloc: Global) -> Result<Vec<u8>, AssemblyError> {
+fn seven(alloc: Global) -> Result<Vec<u8>, AssemblyError> {
     let mut class = ClassBuilder::new(alloc, "M")?;
     let mut code = Assembly::new(alloc);
     code.out(&mut class, 7)?;
@@ -20,7 +40,7 @@ pub fn seven(alloc: Global) -> Result<Vec<u8>, AssemblyError> {
 }
 
 /// `Lp`, whose main adds 3, 2 and 1 to a static in a loop and prints it.
-pub fn sum(alloc: Global) -> Result<Vec<u8>, AssemblyError> {
+fn sum(alloc: Global) -> Result<Vec<u8>, AssemblyError> {
     let mut class = ClassBuilder::new(alloc, "Lp")?;
     class.field(STATIC, "x", "I")?;
     let x = class.field_reference("Lp", "x", "I")?;
@@ -44,7 +64,7 @@ pub fn sum(alloc: Global) -> Result<Vec<u8>, AssemblyError> {
 }
 
 /// `p/F`, whose main prints 1 and then meets a float instruction.
-pub fn float(alloc: Global) -> Result<Vec<u8>, AssemblyError> {
+fn float(alloc: Global) -> Result<Vec<u8>, AssemblyError> {
     let mut class = ClassBuilder::new(alloc, "p/F")?;
     let mut code = Assembly::new(alloc);
     code.out(&mut class, 1)?;
@@ -54,7 +74,7 @@ pub fn float(alloc: Global) -> Result<Vec<u8>, AssemblyError> {
 }
 
 /// `Ever`, whose main never ends.
-pub fn endless(alloc: Global) -> Result<Vec<u8>, AssemblyError> {
+fn endless(alloc: Global) -> Result<Vec<u8>, AssemblyError> {
     let mut class = ClassBuilder::new(alloc, "Ever")?;
     let mut code = Assembly::new(alloc);
     let again = code.here()?;
@@ -64,6 +84,6 @@ pub fn endless(alloc: Global) -> Result<Vec<u8>, AssemblyError> {
 }
 
 /// A class that has the name of one that is built in.
-pub fn built_in(alloc: Global) -> Result<Vec<u8>, AssemblyError> {
+fn built_in(alloc: Global) -> Result<Vec<u8>, AssemblyError> {
     ClassBuilder::new(alloc, "java/lang/Error")?.finish()
 }
