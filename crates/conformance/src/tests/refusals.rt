@@ -125,9 +125,10 @@ fn classes_that_do_not_link(rt: HostRuntime) -> Result<(), Fail> {
 
 /// So many files of the class `A`, which has nothing.
 fn files_of_one_class(alloc: Global, count: u32) -> Result<Vec<Vec<u8>>, AssemblyError> {
+    let file = ClassBuilder::new(alloc, "A")?.finish()?;
     let mut files = Vec::new(alloc);
     for _ in 0..count {
-        files.push(ClassBuilder::new(alloc, "A")?.finish()?)?;
+        files.push(file.clone()?)?;
     }
     Ok(files)
 }
