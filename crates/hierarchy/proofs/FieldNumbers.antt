@@ -1,5 +1,6 @@
 -- The numbers of static fields.
-use Rattle.std.proofs.Common.{◌≡◌, ℕ, zero, suc, ◌+◌, ◌<◌, List, [], ◌∷◌, ◌++◌, length, Some, slice_get, sym, ap, ◌∙◌, subst, inl, inr, arith}
+use Rattle.std.proofs.Common.{◌≡◌, ℕ, zero, suc, ◌+◌, ◌<◌, List, [], ◌∷◌, ◌++◌, length, Some, slice_get, sym, ap, ◌∙◌, subst, inl, inr}
+use Rattle.std.proofs.Common.{arith}
 use Rattle.std.specs.List.{AllZip}
 use Rattle.std.proofs.lemmas.Bool.{cases_eq}
 use Rattle.std.proofs.lemmas.Option.{get_or_from_slice_get}
@@ -11,10 +12,12 @@ use Rattle.loading.proofs.Places.{kept_at, last_at}
 
 -- one more field has its number
 pub slots_next : (f : Structure) (slots new : List ℕ) (i before : ℕ) → length slots ≡ i → before ≡ slot_of f i
-    → ((k : ℕ) → k < i → slice_get slots k ≡ Some (slot_of f k)) → new ≡ slots ++ before ∷ [] → (k : ℕ) → k < i + 1 → slice_get new k ≡ Some (slot_of f k)
+    → ((k : ℕ) → k < i → slice_get slots k ≡ Some (slot_of f k)) → new ≡ slots ++ before ∷ [] → (k : ℕ) → k < i + 1
+    → slice_get new k ≡ Some (slot_of f k)
 slots_next f slots new i before count here was e k small = elim (cases_eq k i) [
   | inl same ↦ (let at : k ≡ length slots = same ∙ sym count in
-      ap (λ (xs : List ℕ). slice_get xs k) e ∙ ap (slice_get (slots ++ before ∷ [])) at ∙ last_at slots before ∙ ap Some (here ∙ ap (slot_of f) (sym same)))
+      ap (λ (xs : List ℕ). slice_get xs k) e ∙ ap (slice_get (slots ++ before ∷ [])) at
+      ∙ last_at slots before ∙ ap Some (here ∙ ap (slot_of f) (sym same)))
   | inr other ↦ ap (λ (xs : List ℕ). slice_get xs k) e ∙ kept_at slots before (slot_of f k) k (was k (omega arith))
 ]
 

@@ -12,16 +12,14 @@ use Rattle.resolution.specs.Texts.{KeepsNumbers, Grows}
 use Rattle.hierarchy.specs.Entries.{IsEntry}
 use Rattle.hierarchy.specs.Programs.{IsClass}
 
-pub grows_none : (texts : List (List ℕ)) → Grows texts texts
-grows_none texts = record { keeps = λ i text at. at; distinct = λ apart. apart }
-
 pub grows_twice : {a b c : List (List ℕ)} → Grows a b → Grows b c → Grows a c
 grows_twice first second = record {
   keeps = λ i text at. second.keeps i text (first.keeps i text at);
   distinct = λ apart. second.distinct (first.distinct apart);
 }
 
-pub entry_kept : {family : Family} {old new : List (List ℕ)} {f : Structure} {index : ℕ} {constant : Constant} {entry : Entry} → KeepsNumbers old new
+pub entry_kept : {family : Family} {old new : List (List ℕ)} {f : Structure} {index : ℕ} {constant : Constant} {entry : Entry}
+    → KeepsNumbers old new
     → IsEntry family old f index constant entry → IsEntry family new f index constant entry
 entry_kept keeps IsEntry.int = IsEntry.int
 entry_kept keeps IsEntry.long = IsEntry.long
@@ -39,14 +37,19 @@ entry_kept keeps IsEntry.method_handle = IsEntry.method_handle
 entry_kept keeps IsEntry.method_type = IsEntry.method_type
 entry_kept keeps IsEntry.invoke_dynamic = IsEntry.invoke_dynamic
 
-pub class_kept : {family : Family} {old new : List (List ℕ)} {f : Structure} {class : Class} → KeepsNumbers old new → IsClass family old f class
+pub class_kept : {family : Family} {old new : List (List ℕ)} {f : Structure} {class : Class} → KeepsNumbers old new
+    → IsClass family old f class
     → IsClass family new f class
 class_kept keeps was = record {
   statics = was.statics;
   methods = was.methods;
   initializer = was.initializer;
   main = was.main;
-  entries = record { count = was.entries.count; each = λ index constant entry at also. entry_kept keeps (was.entries.each index constant entry at also) };
+  entries = record {
+    count = was.entries.count;
+    each = λ index constant entry at also.
+        entry_kept keeps (was.entries.each index constant entry at also);
+  };
 }
 
 pub classes_kept : (family : Family) (old new : List (List ℕ)) → KeepsNumbers old new → (givens : List GivenClass) (classes : List Class)
@@ -55,4 +58,5 @@ pub classes_kept : (family : Family) (old new : List (List ℕ)) → KeepsNumber
 classes_kept family old new keeps [] [] all = tt
 classes_kept family old new keeps [] (class ∷ classes) all = absurd all
 classes_kept family old new keeps (given ∷ givens) [] all = absurd all
-classes_kept family old new keeps (given ∷ givens) (class ∷ classes) all = (class_kept keeps all.0, classes_kept family old new keeps givens classes all.1)
+classes_kept family old new keeps (given ∷ givens) (class ∷ classes) all =
+    (class_kept keeps all.0, classes_kept family old new keeps givens classes all.1)

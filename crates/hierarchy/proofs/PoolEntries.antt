@@ -46,13 +46,11 @@ abbrev pub HaveEntries : Family → List (List ℕ) → Structure → List Entry
 HaveEntries family strings f entries = (index : ℕ) (constant : Constant) (entry : Entry) → slice_get f.constants index ≡ Some constant
     → slice_get entries index ≡ Some entry → IsEntry family strings f index constant entry
 
-pub no_entries : (family : Family) (strings : List (List ℕ)) (f : Structure) (entries : List Entry) → entries ≡ [] → HaveEntries family strings f entries
-no_entries family strings f entries none index constant entry at also = let n : slice_get [] index ≡ Some entry = rw none at also in absurd cc
-
 -- one more constant has its entry
-pub entries_next : (family : Family) (old strings : List (List ℕ)) (f : Structure) (entries new : List Entry) (i : ℕ) (constant : Constant) (entry : Entry)
-    → length entries ≡ i → KeepsNumbers old strings → slice_get f.constants i ≡ Some constant → IsEntry family strings f i constant entry
-    → HaveEntries family old f entries → new ≡ entries ++ entry ∷ [] → HaveEntries family strings f new
+pub entries_next : (family : Family) (old strings : List (List ℕ)) (f : Structure) (entries new : List Entry) (i : ℕ)
+    (constant : Constant) (entry : Entry) → length entries ≡ i → KeepsNumbers old strings → slice_get f.constants i ≡ Some constant
+    → IsEntry family strings f i constant entry → HaveEntries family old f entries → new ≡ entries ++ entry ∷ []
+    → HaveEntries family strings f new
 entries_next family old strings f entries new i constant entry count keeps here is was e index other stands at also =
     elim (pushed_at entries entry stands index (subst (λ (xs : List Entry). slice_get xs index ≡ Some stands) e also)) [
       | inl before ↦ entry_kept keeps (was index other stands at before)

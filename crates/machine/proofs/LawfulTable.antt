@@ -3,8 +3,10 @@ use Rattle.std.proofs.Common.{◌≡◌, ℕ, Some, None, sym, ap, subst, ◌∙
 use Rattle.vm_state.specs.declared.frame.Frame.{Frame}
 use Rattle.semantics.specs.Lawful.{Names, KnowsFrame, IsLawful}
 use Rattle.hierarchy.specs.Tables.{Tables}
-use Rattle.machine.specs.Linked.{initializer_frame, initialized_by, program_of}
-use Rattle.machine.specs.Laws.{AreSound}
+use Rattle.machine.specs.Linked.{program_of, initializer_frame, initialized_by}
+use Rattle.machine.specs.Laws.{AreSound, LinkedTablesAreSound, TableIsLawful}
+use Rattle.machine.proofs.LinkedStatics.{plain_statics, mains_apart}
+use Rattle.machine.proofs.LinkedFinals.{finals_written}
 use Rattle.machine.proofs.Initializers.{found_class_has, initializer_frame_is}
 use Rattle.machine.proofs.TableNames.{blank_known, row_known}
 use Rattle.machine.proofs.TableFinals.{row_owned}
@@ -23,8 +25,8 @@ initializer_owned P c d f h of =
     let found = ap (λ (g : Frame). initialized_by P g.activity) (sym frame.is) ∙ of in
     (found_class_has P c frame.method d found).0
 
-pub sound_is_lawful : (P : Tables) → AreSound P → IsLawful (program_of P)
-sound_is_lawful P sound = record {
+lawful_over : (P : Tables) → AreSound P → IsLawful (program_of P)
+lawful_over P sound = record {
   names = λ known fs h. row_known known P fs h;
   names_failing = λ known c x h. tt;
   names_orphaned = λ known c. tt;
@@ -42,3 +44,13 @@ sound_is_lawful P sound = record {
   start_owner = λ entry t c h. (let clash : None ≡ Some c = h in cc);
   statics = sound.statics;
 }
+
+pub linked_tables_are_sound_lem : LinkedTablesAreSound
+linked_tables_are_sound_lem P is = record {
+  statics = plain_statics P is;
+  finals = finals_written P is;
+  mains = mains_apart P is;
+}
+
+pub table_is_lawful_lem : TableIsLawful
+table_is_lawful_lem P is = lawful_over P (linked_tables_are_sound_lem P is)

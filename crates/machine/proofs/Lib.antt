@@ -1,5 +1,3 @@
-pub mod StaticNumbers
-pub mod SoundTables
 pub mod Given
 pub mod LocalNames
 pub mod LocalMethods
@@ -8,4 +6,7 @@ pub mod WaysOn
 pub mod TableNames
 pub mod TableFinals
 pub mod TableCalls
+pub mod ListPlaces
+pub mod LinkedStatics
+pub mod LinkedFinals
 pub mod LawfulTable

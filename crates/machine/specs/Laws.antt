@@ -4,12 +4,12 @@ use Rattle.std.specs.List.{AllByRecursion}
 use Rattle.semantics.specs.Quiet.{is_final}
 use Rattle.semantics.specs.Lawful.{HoldsNoName, IsLawful}
 use Rattle.machine.specs.declared.operation.Operation.TheVariants.{PutInt}
-use Rattle.hierarchy.specs.Tables.{Tables, initializer_in, main_in, statics_in}
 use Rattle.hierarchy.specs.Programs.{IsProgram}
+use Rattle.hierarchy.specs.Tables.{Tables, initializer_in, main_in, statics_in}
 use Rattle.machine.specs.Operations.{operation_at}
 use Rattle.machine.specs.Linked.{program_of}
 
--- What the law needs of tables. It holds of those of every linked program.
+-- What linking owes: what holds of linked tables, as far as the law needs it.
 pub record AreSound (P : Tables) : Type 0 where
   -- a static field begins as zero, null or a constant, and none of these is an object
   pub statics : (c : ℕ) → AllByRecursion HoldsNoName (statics_in P c)
@@ -19,6 +19,10 @@ pub record AreSound (P : Tables) : Type 0 where
   -- a `main`, which a thread's start calls, is no class initialization method
   pub mains : (c m : ℕ) → main_in P c ≡ Some m → initializer_in P c ≢ Some m
 
--- The table of instructions is lawful over every linked program.
+-- A linked program's are so.
+abbrev pub LinkedTablesAreSound : Type 0
+LinkedTablesAreSound = (P : Tables) → IsProgram P → AreSound P
+
+-- Over a linked program the table of instructions is lawful.
 abbrev pub TableIsLawful : Type 0
 TableIsLawful = (P : Tables) → IsProgram P → IsLawful (program_of P)

@@ -8,11 +8,13 @@ use Rattle.hierarchy.proofs.entries.Resolver.resolved.Goals as goal
 
 pub returns-in-Integer : goal.returns-in-Integer
 returns-in-Integer c = λ strings plain.
-    entry_is _ strings _ _ _ _ _ _ c.in-Integer.is (ap entries.Int (to_z-of_z w32 c.int_of_bits.result (search rules) ∙ c.int_of_bits.ensures)) IsEntry.int
+    entry_is _ strings _ _ _ _ _ _ c.in-Integer.is
+    (ap entries.Int (to_z-of_z w32 c.int_of_bits.result (search rules) ∙ c.int_of_bits.ensures)) IsEntry.int
 
 pub returns-in-Long : goal.returns-in-Long
 returns-in-Long c = λ strings plain.
-    entry_is _ strings _ _ _ _ _ _ c.in-Long.is (ap entries.Long (to_z-of_z w64 c.long_of_halves.result (search rules) ∙ c.long_of_halves.ensures)) IsEntry.long
+    entry_is _ strings _ _ _ _ _ _ c.in-Long.is
+    (ap entries.Long (to_z-of_z w64 c.long_of_halves.result (search rules) ∙ c.long_of_halves.ensures)) IsEntry.long
 
 pub returns-in-Float : goal.returns-in-Float
 returns-in-Float c = λ strings plain. rw c.in-Float.is IsEntry.float
@@ -28,7 +30,8 @@ returns-in-Fieldref c = λ strings plain.
     let target = c.field_at.ensures in
     let descriptor = (key_at c.args.file.now c.in-Fieldref.name_and_type).descriptor in
     let kind : c.kind_of.result ≡ kind_of descriptor = c.kind_of.ensures ∙ ap kind_of c.descriptor_at.ensures in
-    entry_is _ strings _ _ _ _ _ _ c.in-Fieldref.is (ap (λ k. entries.Field k c.field_at.result) kind ∙ ap (entries.Field (kind_of descriptor)) target.2)
+    entry_is _ strings _ _ _ _ _ _ c.in-Fieldref.is
+    (ap (λ k. entries.Field k c.field_at.result) kind ∙ ap (entries.Field (kind_of descriptor)) target.2)
     (IsEntry.field target.0 target.1)
 
 pub returns-in-Methodref : goal.returns-in-Methodref
@@ -41,4 +44,5 @@ returns-in-InterfaceMethodref c = λ strings plain.
 pub returns-in_default : goal.returns-in_default
 returns-in_default c = λ strings plain.
     let d = c.in_default in
-    other_entry _ strings _ _ _ d.not-Integer d.not-Float d.not-Long d.not-Double d.not-Class d.not-Fieldref d.not-Methodref d.not-InterfaceMethodref plain
+    other_entry _ strings _ _ _ d.not-Integer d.not-Float d.not-Long d.not-Double d.not-Class
+    d.not-Fieldref d.not-Methodref d.not-InterfaceMethodref plain

@@ -13,9 +13,12 @@ loop-field-preserved c =
     let i = c.loop-field.field-index in
     let field = c.field-item.result in
     let within : i < length f.fields = omega (arith, ap length c.fields-fields.ensures.value) in
-    let item : field ≡ get_or f.fields i field = c.field-item.is ∙ ap (λ (xs : List Member). get_or xs i field) c.fields-fields.ensures.value in
-    let tested : is_static_field f (get_or f.fields i field) ≡ c.is_static_field.result = ap (is_static_field f) (sym item) ∙ sym c.is_static_field.ensures in
-    let count : length c.push.new.self.items ≡ i + 1 = omega (arith, ap length c.in_ok-push.ensures.items, length_push c.loop-field.slots.items c.loop-field.before) in
+    let item : field ≡ get_or f.fields i field =
+    c.field-item.is ∙ ap (λ (xs : List Member). get_or xs i field) c.fields-fields.ensures.value in
+    let tested : is_static_field f (get_or f.fields i field) ≡ c.is_static_field.result =
+    ap (is_static_field f) (sym item) ∙ sym c.is_static_field.ensures in
+    let count : length c.push.new.self.items ≡ i + 1 =
+    omega (arith, ap length c.in_ok-push.ensures.items, length_push c.loop-field.slots.items c.loop-field.before) in
     let slots = slots_next f c.loop-field.slots.items c.push.new.self.items i c.loop-field.before c.loop-field.invariant.count
     c.loop-field.invariant.before c.loop-field.invariant.slots c.in_ok-push.ensures.items in
     elim c.if-is_static_field.branch [
