@@ -23,9 +23,18 @@ pub struct Outcome {
 pub fn run<F: Files>(alloc: Global, words: Lazy<'_>, files: &mut F) -> Result<Outcome, Refusal>
     ensures { IfOk result (λ outcome. IsTold outcome.status) }
 {
-    let program = program_in(alloc, words.file, files)?;
+    match program_in(alloc, words.file, files) {
+        Ok(program) => run_words(alloc, &program, words),
+        Err(refusal) => Err(refusal),
+    }
+}
+
+/// Runs a program as the words say.
+fn run_words(alloc: Global, program: &Program, words: Lazy<'_>) -> Result<Outcome, Refusal>
+    ensures { IfOk result (λ outcome. IsTold outcome.status) }
+{
     let entries = entries_of(alloc, words.entries)?;
-    run_program(alloc, &program, entries.as_slice(), words.limit)
+    run_program(alloc, program, entries.as_slice(), words.limit)
 }
 
 /// The program of the class file of a name.
@@ -92,15 +101,25 @@ pub fn thread_lines(
 ) -> Result<String, AllocError> {
     let mut text = String::new(alloc);
     for (thread, ending) in threads.iter().enumerate() {
-        match ending {
-            Ending::Going => writeln!(text, "thread {thread} going")?,
-            Ending::Returned => writeln!(text, "thread {thread} returned")?,
-            Ending::Uncaught(class) => {
-                let class = program.class_text(alloc, *class)?;
-                writeln!(text, "thread {thread} uncaught {class}")?;
-            }
-            Ending::Faulted(kind) => writeln!(text, "thread {thread} faulted {kind}")?,
-        }
+        add_thread_line(alloc, &mut text, program, thread, ending)?;
     }
     Ok(text)
+}
+
+fn add_thread_line(
+    alloc: Global,
+    text: &mut String,
+    program: &Program,
+    thread: usize,
+    ending: &Ending,
+) -> Result<(), AllocError> {
+    match ending {
+        Ending::Going => writeln!(text, "thread {thread} going"),
+        Ending::Returned => writeln!(text, "thread {thread} returned"),
+        Ending::Uncaught(class) => {
+            let class = program.class_text(alloc, *class)?;
+            writeln!(text, "thread {thread} uncaught {class}")
+        }
+        Ending::Faulted(kind) => writeln!(text, "thread {thread} faulted {kind}"),
+    }
 }

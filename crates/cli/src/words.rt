@@ -48,6 +48,10 @@ For example: preinit lazy --entries app.Main Main.class";
 /// `OutOfMemory`.
 pub fn line<'a>(alloc: Global, words: &'a [&'a str]) -> Result<Line<'a>, Error> {
     let mut program = program(alloc)?;
+    line_of(&mut program, words)
+}
+
+fn line_of<'a>(program: &mut Command<'a>, words: &'a [&'a str]) -> Result<Line<'a>, Error> {
     let matches = program.try_get_matches_from_mut(words)?;
     if let Some(("lazy", matches)) = matches.subcommand()
         && let Some(lazy) = lazy_of(matches)
@@ -77,28 +81,37 @@ fn program<'a>(alloc: Global) -> Result<Command<'a>, AllocError> {
 }
 
 fn lazy_command<'a>(alloc: Global) -> Result<Command<'a>, AllocError> {
-    let entries = Arg::new(alloc, "entries")
+    Command::new(alloc, "lazy")
+        .about(LAZY_ABOUT)
+        .long_about(LAZY_LONG_ABOUT)
+        .after_help(STATUSES)
+        .arg(entries(alloc))?
+        .arg(limit(alloc))?
+        .arg(file(alloc))
+}
+
+fn entries<'a>(alloc: Global) -> Arg<'a> {
+    Arg::new(alloc, "entries")
         .long("entries")
         .value_name("LIST")
         .required(true)
         .help(
             "Classes whose main methods are run, with dots, separated by commas, as 'app.Main,app.Other'",
-        );
-    let limit = Arg::new(alloc, "limit")
+        )
+}
+
+fn limit<'a>(alloc: Global) -> Arg<'a> {
+    Arg::new(alloc, "limit")
         .long("limit")
         .value_name("N")
         .default_value(DEFAULT_LIMIT)
         .value_parser(value_parser!(u64).range(1..=GREATEST_LIMIT))
-        .help("Ends the run after this many steps, from 1 to 10^15");
-    let file = Arg::new(alloc, "file")
+        .help("Ends the run after this many steps, from 1 to 10^15")
+}
+
+fn file<'a>(alloc: Global) -> Arg<'a> {
+    Arg::new(alloc, "file")
         .value_name("FILE")
         .required(true)
-        .help("The class file to run");
-    Command::new(alloc, "lazy")
-        .about(LAZY_ABOUT)
-        .long_about(LAZY_LONG_ABOUT)
-        .after_help(STATUSES)
-        .arg(entries)?
-        .arg(limit)?
-        .arg(file)
+        .help("The class file to run")
 }

@@ -8,7 +8,7 @@ ghost use Rattle.loading.specs.Files.{LinkFails, Links};
 ghost use Rattle.hierarchy.specs.Entries.{AreSlotsOf};
 ghost use Rattle.resolution.specs.Initialization.{AreOrders};
 ghost use Rattle.hierarchy.specs.Programs.{AreClasses, IsClass, IsProgram};
-ghost use Rattle.resolution.specs.Texts.{Grows};
+ghost use Rattle.resolution.specs.Texts.{AreDistinct, Grows};
 
 use crate::class::Class;
 use crate::entries::Resolver;
@@ -57,17 +57,64 @@ fn program_of(alloc: Global, family: Family) -> Result<Program, AllocError>
     ensures program { IfOk result IsProgram }
     ensures orders { IfOk result (λ program. AreOrders program.family program.orders) }
 {
-    let interfaces = Superinterfaces::of(alloc, &family)?;
     let orders = InitializationOrders::of(alloc, &family)?;
-    let hierarchy = Hierarchy::new(alloc, family, interfaces)?;
+    let hierarchy = hierarchy_of(alloc, family)?;
+    with_tables(alloc, hierarchy, orders)
+}
+
+/// The program of a hierarchy.
+fn with_tables(
+    alloc: Global,
+    hierarchy: Hierarchy,
+    orders: InitializationOrders,
+) -> Result<Program, AllocError>
+    requires { AreOrders hierarchy.family orders }
+    ensures family { IfOk result (λ program. program.family ≡ hierarchy.family) }
+    ensures orders { IfOk result (λ program. program.orders ≡ orders) }
+    ensures program { IfOk result IsProgram }
+{
+    let (classes, strings) = tables_of(alloc, &hierarchy)?;
+    Ok(joined(hierarchy, orders, classes, strings))
+}
+
+/// A family with the lists of its classes' superinterfaces.
+fn hierarchy_of(alloc: Global, family: Family) -> Result<Hierarchy, AllocError>
+    ensures { IfOk result (λ hierarchy. hierarchy.family ≡ family) }
+{
+    let interfaces = Superinterfaces::of(alloc, &family)?;
+    Hierarchy::new(alloc, family, interfaces)
+}
+
+/// What the machine uses of each class, and the distinct strings.
+fn tables_of(alloc: Global, hierarchy: &Hierarchy) -> Result<(Vec<Class>, Texts), AllocError>
+    ensures classes { IfOk result (λ tables. AreClasses hierarchy.now.family tables.1 tables.0.items) }
+    ensures distinct { IfOk result (λ tables. AreDistinct tables.1) }
+{
     let mut strings = Texts::new(alloc);
-    let classes = classes_of(alloc, &hierarchy, &mut strings)?;
-    Ok(Program {
+    let classes = classes_of(alloc, hierarchy, &mut strings)?;
+    Ok((classes, strings))
+}
+
+/// A program of its parts.
+fn joined(
+    hierarchy: Hierarchy,
+    orders: InitializationOrders,
+    classes: Vec<Class>,
+    strings: Texts,
+) -> Program
+    requires orders { AreOrders hierarchy.family orders }
+    requires classes { AreClasses hierarchy.family strings classes.items }
+    requires distinct { AreDistinct strings }
+    ensures family { result.family ≡ hierarchy.family }
+    ensures orders { result.orders ≡ orders }
+    ensures program { IsProgram result }
+{
+    Program {
         hierarchy,
         orders,
         classes,
         strings,
-    })
+    }
 }
 
 /// What the machine uses of each class.

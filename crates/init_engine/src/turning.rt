@@ -1,6 +1,6 @@
 //! Turns: in each round threads 0, 1, .. take one step each if they have one.
 
-ghost use Rattle.std.specs.Prelude.{◌≡◌, ◌+◌, ◌<◌, ◌≤◌, ◌^◌, length, IfOk};
+ghost use Rattle.std.specs.Prelude.{◌≡◌, ◌+◌, ◌<◌, ◌≤◌, ◌^◌, [], length, IfOk, OnOk};
 ghost use Rattle.semantics.specs.Worlds.{Run};
 ghost use Rattle.machine.specs.Linked.{program_of};
 ghost use Rattle.init_engine.specs.Turns.{world_of};
@@ -82,8 +82,33 @@ fn stride(
     Ok(done)
 }
 
+/// Rounds from an empty schedule on, up to one without a step or to so many steps.
+fn run_rounds(
+    alloc: Global,
+    program: &Program,
+    world: &mut World,
+    schedule: &mut Schedule,
+    limit: u64,
+) -> Result<(), AllocError>
+    requires { schedule_of schedule.old ≡ [] }
+    ensures turns { OnOk result (Turns (program_of program.now) (length world.old.threads) limit (world_of world.old) (schedule_of schedule.new) (world_of world.new)) }
+    ensures threads { OnOk result (length world.new.threads ≡ length world.old.threads) }
+{
+    let mut left = limit;
+    'rounds: loop {
+        let ahead = stride(program, world, schedule, left)?;
+        left -= ahead;
+        let done = round(alloc, program, world, schedule, left)?;
+        if done == 0 || done == left {
+            return Ok(());
+        }
+        left -= done;
+    }
+}
+
 /// Runs a world by turns, up to a round without a step or to so many steps. It answers the last world, and the
 /// schedule as stints: a thread, and how many steps it made in a row; neighbours are of different threads.
+#[tactic(auto, using(crate::proofs::RoundLemmas::run_of_turns))]
 pub fn turns(
     alloc: Global,
     program: &Program,
@@ -98,14 +123,6 @@ pub fn turns(
 {
     let mut world = world;
     let mut schedule = Schedule::new(alloc);
-    let mut left = limit;
-    'rounds: loop {
-        let ahead = stride(program, &mut world, &mut schedule, left)?;
-        left -= ahead;
-        let done = round(alloc, program, &mut world, &mut schedule, left)?;
-        if done == 0 || done == left {
-            return Ok((world, schedule.into_stints()?));
-        }
-        left -= done;
-    }
+    run_rounds(alloc, program, &mut world, &mut schedule, limit)?;
+    Ok((world, schedule.into_stints()?))
 }

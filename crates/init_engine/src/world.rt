@@ -43,7 +43,7 @@ impl Thread {
 }
 
 /// What a turn of a thread did.
-#[derive(Clone, Copy, PartialEq, Eq, Debug)]
+#[derive(Clone, Copy, Debug)]
 pub enum Turn {
     /// One step.
     Moved,

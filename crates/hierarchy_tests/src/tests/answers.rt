@@ -3,7 +3,7 @@
 use super::references::{are_asking, class_asking, class_id};
 use classfile::{ClassFile, ClassName, read};
 use hierarchy::program::Program;
-use hierarchy::{Field, Method, Unresolved, link};
+use hierarchy::{Field, LinkFault, Method, Unresolved, link};
 use std::alloc::Global;
 use std::test::Fail;
 use vm_state::class_id::ClassId;
@@ -16,14 +16,39 @@ use vm_state::class_id::ClassId;
 /// method a call of that method runs on an object of a class. A member is answered by its class and its place there.
 pub fn answers(alloc: Global, files: &[Vec<u8>], lines: &str) -> Result<String, Fail> {
     let asking = class_asking(alloc, lines)?;
+    let classes = classes_of(alloc, files, lines, asking.bytes.as_slice())?;
+    of_classes(alloc, classes, lines, asking.indices.as_slice())
+}
+
+/// The classes of some files, and the one that asks where a question needs it.
+fn classes_of(
+    alloc: Global,
+    files: &[Vec<u8>],
+    lines: &str,
+    asking: &[u8],
+) -> Result<Vec<ClassFile>, Fail> {
     let mut classes = read_all(alloc, files)?;
     if are_asking(lines) {
-        classes.push(read(alloc, asking.bytes.as_slice())?)?;
+        classes.push(read(alloc, asking)?)?;
     }
+    Ok(classes)
+}
+
+fn of_classes(
+    alloc: Global,
+    classes: Vec<ClassFile>,
+    lines: &str,
+    indices: &[u16],
+) -> Result<String, Fail> {
     match link(alloc, classes) {
-        Ok(program) => of_program(alloc, &program, lines, asking.indices.as_slice()),
-        Err(fault) => of_fault(alloc, lines, fault.to_string(alloc)?.as_str()),
+        Ok(program) => of_program(alloc, &program, lines, indices),
+        Err(fault) => of_link_fault(alloc, lines, &fault),
     }
+}
+
+fn of_link_fault(alloc: Global, lines: &str, fault: &LinkFault) -> Result<String, Fail> {
+    let text = fault.to_string(alloc)?;
+    of_fault(alloc, lines, text.as_str())
 }
 
 fn read_all(alloc: Global, files: &[Vec<u8>]) -> Result<Vec<ClassFile>, Fail> {

@@ -3,7 +3,7 @@ use Rattle.machine.specs.Linked.{program_of}
 use Rattle.init_engine.specs.Turns.{world_of}
 use Rattle.init_engine.specs.Schedules.{schedule_of}
 use Rattle.init_engine.proofs.RoundLemmas.{GoOn}
-use Rattle.init_engine.proofs.turning.turns.Given as goal
+use Rattle.init_engine.proofs.turning.run_rounds.Given as goal
 
 abbrev pub invariant-rounds : goal.invariant-rounds
 invariant-rounds l =
