@@ -1,0 +1,134 @@
+//! Files of cases: what is asked, and what the answer has to be.
+//!
+//! A case begins with a heading behind `# `. Lines with ` => ` ask: before it stands what is asked, behind it the answer
+//! that is wanted. A line that begins with `## ` is a remark. All other lines give what the questions of the case are about,
+//! and those before the first heading what all questions of the file are about. A file begins with one of these two.
+
+use crate::repeated::repeated;
+use std::alloc::{AllocError, Global};
+use std::io::{self, Write};
+
+/// What the cases of a file are about.
+pub trait Subject {
+    /// What is found when this is asked of what is given. Faults are answers too.
+    fn answer(&self, alloc: Global, given: &str, asked: &str) -> Result<String, AllocError>;
+}
+
+/// How many questions there were, and how many had another answer than is wanted.
+#[derive(Clone, Copy, Default)]
+pub struct Tally {
+    pub questions: u64,
+    pub others: u64,
+}
+
+/// Asks the questions of a file. Writes each that has another answer, and a line with the counts.
+pub fn run_cases<S: Subject, W: Write>(
+    alloc: Global,
+    out: &mut W,
+    subject: &S,
+    name: &str,
+    text: &str,
+) -> io::Result<Tally> {
+    let mut tally = Tally::default();
+    let (before, parts) = text.split_once("\n# ").unwrap_or((text, ""));
+    for part in parts.split("\n# ") {
+        if let Some((heading, lines)) = part.split_once('\n') {
+            let given = given_of(alloc, before, lines)?;
+            let case = Case {
+                name,
+                heading,
+                given: &given,
+                lines,
+            };
+            run_case(alloc, out, subject, case, &mut tally)?;
+        }
+    }
+    let Tally { questions, others } = tally;
+    writeln!(out, "{name}: {questions} questions, {others} otherwise")?;
+    Ok(tally)
+}
+
+/// A case: where it stands, what it gives, and its other lines.
+#[derive(Clone, Copy)]
+struct Case<'a> {
+    name: &'a str,
+    heading: &'a str,
+    given: &'a str,
+    lines: &'a str,
+}
+
+/// Asks the questions of a case.
+fn run_case<S: Subject, W: Write>(
+    alloc: Global,
+    out: &mut W,
+    subject: &S,
+    case: Case<'_>,
+    tally: &mut Tally,
+) -> io::Result<()> {
+    for line in case.lines.lines() {
+        if let Some((asked, wanted)) = line.split_once(" => ") {
+            tally.questions = tally.questions.saturating_add(1);
+            if !ask(alloc, out, subject, case, asked, wanted)? {
+                tally.others = tally.others.saturating_add(1);
+            }
+        }
+    }
+    Ok(())
+}
+
+/// Asks a question, and answers whether the answer is as it is wanted.
+fn ask<S: Subject, W: Write>(
+    alloc: Global,
+    out: &mut W,
+    subject: &S,
+    case: Case<'_>,
+    asked: &str,
+    wanted: &str,
+) -> io::Result<bool> {
+    let found = found(alloc, subject, case.given, asked)?;
+    let is_wanted = found.as_str() == repeated(alloc, wanted, " ")?.as_str();
+    if !is_wanted {
+        let Case { name, heading, .. } = case;
+        writeln!(out, "{name}: {heading}: {asked} => {found}")?;
+    }
+    Ok(is_wanted)
+}
+
+/// The lines that give something, of those before all cases and of those of a case.
+fn given_of(alloc: Global, before: &str, lines: &str) -> Result<String, AllocError> {
+    let mut given = String::new(alloc);
+    add_given(alloc, &mut given, before)?;
+    add_given(alloc, &mut given, lines)?;
+    Ok(given)
+}
+
+fn add_given(alloc: Global, given: &mut String, lines: &str) -> Result<(), AllocError> {
+    for line in lines.lines() {
+        if !line.contains(" => ") && !line.starts_with("## ") {
+            let text = repeated(alloc, line, "\n")?;
+            given.push_str(&text)?;
+            given.push('\n')?;
+        }
+    }
+    Ok(())
+}
+
+/// What is found, with the end of a line as `;`, and U+0000 and U+007F as a class file's text form has them.
+fn found<S: Subject>(
+    alloc: Global,
+    subject: &S,
+    given: &str,
+    asked: &str,
+) -> Result<String, AllocError> {
+    let found = subject.answer(alloc, given, asked)?;
+    let mut text = String::new(alloc);
+    for character in found.chars() {
+        match character {
+            '\n' => text.push(';')?,
+            '\0' => text.push_str("\\u0000")?,
+            '\u{7F}' => text.push_str("\\u007F")?,
+            _ => text.push(character)?,
+        }
+    }
+    Ok(text)
+}

@@ -1,0 +1,80 @@
+//! Commands, over files and streams in memory.
+
+use crate::shelf::Shelf;
+use crate::streams::Narrow;
+use cli::command;
+use std::alloc::{AllocError, Global};
+use std::str::from_utf8;
+
+/// The words of a text; `''` is an empty one.
+pub fn words_of<'a>(alloc: Global, text: &'a str) -> Result<Vec<&'a str>, AllocError> {
+    let mut words = Vec::new(alloc);
+    for word in text.split_whitespace() {
+        words.push(word.trim_matches('\''))?;
+    }
+    Ok(words)
+}
+
+/// What a command answers: the status, and between brackets what standard output and what standard error got.
+pub fn answer(alloc: Global, shelf: &mut Shelf, text: &str) -> Result<String, AllocError> {
+    let words = words_of(alloc, text)?;
+    let mut errors = Vec::new(alloc);
+    let (status, out) = command(alloc, &words, shelf, Vec::new(alloc), &mut errors);
+    told(alloc, status, &out, &errors)
+}
+
+fn told(alloc: Global, status: u8, out: &[u8], errors: &[u8]) -> Result<String, AllocError> {
+    let out = from_utf8(out).unwrap_or("no text");
+    let errors = from_utf8(errors).unwrap_or("no text");
+    format!(in alloc; "{status} [{out}] [{errors}]")
+}
+
+/// What a command answers whose standard output has so much room.
+pub fn with_output(
+    alloc: Global,
+    shelf: &mut Shelf,
+    room: usize,
+    text: &str,
+) -> Result<String, AllocError> {
+    let words = words_of(alloc, text)?;
+    let mut errors = Vec::new(alloc);
+    let (status, _out) = command(alloc, &words, shelf, Narrow { room }, &mut errors);
+    told(alloc, status, &[], &errors)
+}
+
+/// What a command answers whose standard error has so much room.
+pub fn with_errors(
+    alloc: Global,
+    shelf: &mut Shelf,
+    room: usize,
+    text: &str,
+) -> Result<String, AllocError> {
+    let words = words_of(alloc, text)?;
+    let mut errors = Narrow { room };
+    let (status, out) = command(alloc, &words, shelf, Vec::new(alloc), &mut errors);
+    told(alloc, status, &out, &[])
+}
+
+/// The status of a command, and which of the two streams got a text where the other got nothing.
+pub fn whether_with(
+    alloc: Global,
+    shelf: &mut Shelf,
+    text: &str,
+    words: &str,
+) -> Result<String, AllocError> {
+    let words = words_of(alloc, words)?;
+    let mut errors = Vec::new(alloc);
+    let (status, out) = command(alloc, &words, shelf, Vec::new(alloc), &mut errors);
+    let stream = if errors.is_empty() && has(&out, text) {
+        "output"
+    } else if out.is_empty() && has(&errors, text) {
+        "errors"
+    } else {
+        "neither"
+    };
+    format!(in alloc; "{status} {stream}")
+}
+
+fn has(bytes: &[u8], text: &str) -> bool {
+    from_utf8(bytes).unwrap_or("").contains(text)
+}

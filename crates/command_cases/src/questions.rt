@@ -1,0 +1,164 @@
+//! What is asked of commands.
+
+use crate::commands::{self, words_of};
+use crate::shelf::Shelf;
+use cli::{Lazy, Line, Refusal, Status, entries_of, line, program_of, status_of, thread_lines};
+use hierarchy::program::Program;
+use init_engine::Ending;
+use std::alloc::{AllocError, Global};
+use std::str::SplitWhitespace;
+use vm_state::ends::FaultKind;
+
+/// Given are files, each as its name, ` = ` and a class in its text form.
+///
+/// Asked are the words of a command, for the status, and between brackets what standard output and standard error got. Behind the words may
+/// stand ` | ` and `begins LENGTH`, for that many bytes of the answer; `has TEXT`, for the status and which of the two has the text where the other has nothing; `output
+/// ROOM` or `errors ROOM`, for what is answered when that stream fails behind so many bytes.
+///
+/// `line WORDS` asks what the words ask for, and `entries LIST` for the names of a list. `program FILE ..` asks why files make no program, `lines
+/// ENDING ..` for the lines of threads, `status ENDING ..` for the status of a run, and `stuck ENDING ..` for that of one that is stuck.
+pub fn answer(alloc: Global, given: &str, asked: &str) -> Result<String, AllocError> {
+    let mut shelf = Shelf::new(alloc);
+    let lines = given.replace(alloc, "\n  ", " ")?;
+    let misspelled = shelf.add_lines(&lines)?;
+    if !misspelled.is_empty() {
+        return format!(in alloc; "misspelled{misspelled}");
+    }
+    match asked.strip_prefix("preinit") {
+        Some(words) => of_command(alloc, &mut shelf, words),
+        None => of_part(alloc, &shelf, asked),
+    }
+}
+
+fn of_command(alloc: Global, shelf: &mut Shelf, asked: &str) -> Result<String, AllocError> {
+    let Some((words, how)) = asked.split_once(" | ") else {
+        return commands::answer(alloc, shelf, asked);
+    };
+    match how.split_once(' ') {
+        Some(("output", room)) => commands::with_output(alloc, shelf, number(room), words),
+        Some(("errors", room)) => commands::with_errors(alloc, shelf, number(room), words),
+        Some(("begins", length)) => beginning(alloc, shelf, number(length), words),
+        Some(("has", text)) => commands::whether_with(alloc, shelf, text, words),
+        _ => String::from_str(alloc, "no question"),
+    }
+}
+
+fn number(word: &str) -> usize {
+    word.parse().unwrap_or(0)
+}
+
+/// The first bytes of an answer.
+fn beginning(
+    alloc: Global,
+    shelf: &mut Shelf,
+    length: usize,
+    words: &str,
+) -> Result<String, AllocError> {
+    let whole = commands::answer(alloc, shelf, words)?;
+    match whole.as_str().get(..length) {
+        Some(part) => String::from_str(alloc, part),
+        None => Ok(whole),
+    }
+}
+
+fn of_part(alloc: Global, shelf: &Shelf, asked: &str) -> Result<String, AllocError> {
+    let (word, about) = asked.split_once(' ').unwrap_or((asked, ""));
+    match word {
+        "line" => request(alloc, about),
+        "entries" => names_in(alloc, about),
+        "program" => of_program(alloc, shelf, about),
+        "lines" => lines_of(alloc, shelf, about),
+        "status" => status_text(alloc, about, false),
+        "stuck" => status_text(alloc, about, true),
+        _ => String::from_str(alloc, "no question"),
+    }
+}
+
+/// What the words of a text ask for.
+fn request(alloc: Global, text: &str) -> Result<String, AllocError> {
+    let words = words_of(alloc, text)?;
+    match line(alloc, &words) {
+        Ok(Line::Lazy(lazy)) => lazy_text(alloc, lazy),
+        Err(_) => String::from_str(alloc, "no command"),
+    }
+}
+
+fn lazy_text(alloc: Global, lazy: Lazy<'_>) -> Result<String, AllocError> {
+    let entries = lazy.entries;
+    let limit = lazy.limit;
+    let file = lazy.file;
+    format!(in alloc; "lazy [{entries}] {limit} [{file}]")
+}
+
+/// The names of a list of entries, each between quotes.
+fn names_in(alloc: Global, list: &str) -> Result<String, AllocError> {
+    let mut names = String::new(alloc);
+    let entries = entries_of(alloc, list)?;
+    for entry in &entries {
+        write!(names, "'{entry}'")?;
+    }
+    Ok(names)
+}
+
+/// The files of a text of names; one that is not there is empty.
+fn files_of<'a>(alloc: Global, shelf: &'a Shelf, names: &str) -> Result<Vec<&'a [u8]>, AllocError> {
+    let mut files = Vec::new(alloc);
+    for name in names.split_whitespace() {
+        files.push(shelf.find(name).unwrap_or(&[]))?;
+    }
+    Ok(files)
+}
+
+/// Why files make no program, and the status then.
+fn of_program(alloc: Global, shelf: &Shelf, names: &str) -> Result<String, AllocError> {
+    let files = files_of(alloc, shelf, names)?;
+    match program_of(alloc, &files) {
+        Ok(_) => String::from_str(alloc, "a program"),
+        Err(refusal) => refusal_text(alloc, &refusal),
+    }
+}
+
+fn refusal_text(alloc: Global, refusal: &Refusal) -> Result<String, AllocError> {
+    let status = refusal.status();
+    format!(in alloc; "{refusal}, {status:?}")
+}
+
+/// The lines of threads that ended so, over a program without classes.
+fn lines_of(alloc: Global, shelf: &Shelf, endings: &str) -> Result<String, AllocError> {
+    let files = files_of(alloc, shelf, "")?;
+    match program_of(alloc, &files) {
+        Ok(program) => lines_over(alloc, &program, endings),
+        Err(refusal) => refusal_text(alloc, &refusal),
+    }
+}
+
+fn lines_over(alloc: Global, program: &Program, endings: &str) -> Result<String, AllocError> {
+    let endings = endings_of(alloc, endings.split_whitespace())?;
+    thread_lines(alloc, program, &endings)
+}
+
+fn endings_of(alloc: Global, words: SplitWhitespace<'_>) -> Result<Vec<Ending>, AllocError> {
+    let mut endings = Vec::new(alloc);
+    for word in words {
+        endings.push(ending_of(word))?;
+    }
+    Ok(endings)
+}
+
+fn ending_of(word: &str) -> Ending {
+    match word {
+        "returned" => Ending::Returned,
+        "going" => Ending::Going,
+        "missing" => Ending::Faulted(FaultKind::Missing),
+        "unsupported" => Ending::Faulted(FaultKind::Unsupported),
+        _ => Ending::Faulted(FaultKind::Fault),
+    }
+}
+
+/// The status of a run whose threads ended so.
+fn status_text(alloc: Global, endings: &str, is_stuck: bool) -> Result<String, AllocError> {
+    let endings = endings_of(alloc, endings.split_whitespace())?;
+    let status: Status = status_of(&endings, is_stuck);
+    let code = status.code();
+    format!(in alloc; "{code} {status:?}")
+}

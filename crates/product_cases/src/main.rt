@@ -1,0 +1,132 @@
+//! The program `product_cases`: asks the questions of the files of cases that its command line names, and compares the answers
+//! with those that stand behind them. The folder of a file says what its cases are about ([`About`]).
+//!
+//! What the files expect follows from the rules of the JVM specification (JVMS SE 8) and was worked out by hand.
+//!
+//! A word that ends with `.class` names a class file, which is read and written back, and one that ends with `/` has the class
+//! files since the last such word linked.
+//!
+//! It prints a line for each word, and one for each answer that is not as it is wanted. Its status is 0 where all are.
+#![tactic(auto)]
+
+mod class_bytes;
+mod class_files;
+mod codes;
+mod graphs;
+mod members;
+mod programs;
+mod questions;
+mod rewriting;
+mod runs;
+
+use cases::{Subject, run_cases};
+use classfile::ClassFile;
+use rewriting::{add_class, rewritten};
+use std::alloc::{AllocError, Global};
+use std::io::{self, Write};
+use std::process::ExitCode;
+use std::{env, fs, mem, rt};
+
+/// What the cases of a folder are about.
+#[derive(Clone, Copy)]
+enum About {
+    /// The bytes of codes, and the instructions that they spell.
+    Codes,
+    /// The bytes of class files, and what reading them answers.
+    ClassFiles,
+    /// The text form of class files, and the bytes that it stands for.
+    ClassBytes,
+    /// Graphs and their arrangements.
+    Graphs,
+    /// Classes, what linking them answers, and what is seen of their runs.
+    Programs,
+}
+
+impl Subject for About {
+    fn answer(&self, alloc: Global, given: &str, asked: &str) -> Result<String, AllocError> {
+        match self {
+            About::Codes => codes::answer(alloc, given, asked),
+            About::ClassFiles => class_files::answer(alloc, given, asked),
+            About::ClassBytes => class_bytes::answer(alloc, given, asked),
+            About::Graphs => graphs::answer(alloc, given, asked),
+            About::Programs => programs::answer(alloc, given, asked),
+        }
+    }
+}
+
+/// What the cases of a file are about, by its folder.
+fn subject_of(name: &str) -> About {
+    match name.split_once('/') {
+        Some(("codes", _)) => About::Codes,
+        Some(("class_files", _)) => About::ClassFiles,
+        Some(("class_bytes", _)) => About::ClassBytes,
+        Some(("graphs", _)) => About::Graphs,
+        _ => About::Programs,
+    }
+}
+
+/// Does one word, and answers whether all is as it is wanted.
+fn do_word<R, W>(rt: &R, out: &mut W, word: &str, classes: &mut Vec<ClassFile>) -> io::Result<bool>
+where
+    R: rt::Files + AllocGlobal,
+    W: Write,
+{
+    if word.ends_with('/') {
+        let since = mem::replace(classes, Vec::new(rt.alloc()));
+        return do_folder(rt.alloc(), out, word, since);
+    }
+    if word.ends_with(".class") {
+        let bytes = fs::read(rt, word)?;
+        return do_class_file(rt.alloc(), out, word, &bytes, classes);
+    }
+    let text = fs::read_to_string(rt, word)?;
+    let tally = run_cases(rt.alloc(), out, &subject_of(word), word, &text)?;
+    Ok(tally.others == 0)
+}
+
+/// Writes what comes of a class file that is read and written back, and adds its class to others.
+fn do_class_file<W: Write>(
+    alloc: Global,
+    out: &mut W,
+    name: &str,
+    bytes: &[u8],
+    classes: &mut Vec<ClassFile>,
+) -> io::Result<bool> {
+    add_class(alloc, classes, bytes)?;
+    let text = rewritten(alloc, bytes)?;
+    writeln!(out, "{name}: {text}")?;
+    Ok(text.as_str() == "same")
+}
+
+/// Writes what comes of class files that are linked.
+fn do_folder<W: Write>(
+    alloc: Global,
+    out: &mut W,
+    name: &str,
+    classes: Vec<ClassFile>,
+) -> io::Result<bool> {
+    let count = classes.len();
+    let text = programs::linked(alloc, classes)?;
+    writeln!(out, "{name}: {count} {text}")?;
+    Ok(text.as_str() == "linked")
+}
+
+/// Does the words of the command line in order, and answers whether all is as it is wanted.
+fn run<R, W>(rt: &R, out: &mut W) -> io::Result<bool>
+where
+    R: rt::Env + rt::Files + AllocGlobal,
+    W: Write,
+{
+    let mut all_well = true;
+    let mut classes = Vec::new(rt.alloc());
+    for word in env::args(rt)?.skip(1) {
+        all_well &= do_word(rt, out, &word, &mut classes)?;
+    }
+    Ok(all_well)
+}
+
+fn main(rt: HostRuntime) -> io::Result<ExitCode> {
+    let mut out = rt.stdout();
+    let all_well = run(&rt, &mut out)?;
+    Ok(ExitCode::from(if all_well { 0 } else { 1 }))
+}

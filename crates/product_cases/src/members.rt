@@ -1,0 +1,161 @@
+//! What a linked program answers of its classes and their members.
+
+use classfile::ClassName;
+use hierarchy::program::Program;
+use hierarchy::{Field, Method, Unresolved};
+use std::alloc::{AllocError, Global};
+use vm_state::class_id::{ArrayType, BuiltIn, ClassId, ElementType};
+
+/// The number of the given class of a name.
+fn number_of(alloc: Global, program: &Program, class: &str) -> Result<Option<u32>, AllocError> {
+    let name = ClassName::from_text(alloc, class)?;
+    program.class_named(alloc, &name)
+}
+
+/// The names of all classes, by their numbers.
+pub fn all_names(alloc: Global, program: &Program) -> Result<String, AllocError> {
+    let mut text = String::new(alloc);
+    for number in 0..u32::try_from(program.class_count()).unwrap_or(0) {
+        add_name(alloc, &mut text, program, number)?;
+    }
+    or_nothing(text)
+}
+
+/// The given superclasses of a class, nearest first.
+pub fn superclasses(alloc: Global, program: &Program, class: &str) -> Result<String, AllocError> {
+    let Some(class) = number_of(alloc, program, class)? else {
+        return no_class(alloc);
+    };
+    let mut text = String::new(alloc);
+    for number in program.supers(class) {
+        add_name(alloc, &mut text, program, number)?;
+    }
+    or_nothing(text)
+}
+
+/// What is initialized before a class.
+pub fn before(alloc: Global, program: &Program, class: &str) -> Result<String, AllocError> {
+    let Some(class) = number_of(alloc, program, class)? else {
+        return no_class(alloc);
+    };
+    let mut text = String::new(alloc);
+    for number in program.init_order(class) {
+        add_name(alloc, &mut text, program, *number)?;
+    }
+    or_nothing(text)
+}
+
+fn no_class(alloc: Global) -> Result<String, AllocError> {
+    String::from_str(alloc, "no given class")
+}
+
+fn or_nothing(mut names: String) -> Result<String, AllocError> {
+    if names.is_empty() {
+        names.push_str("nothing")?;
+    }
+    Ok(names)
+}
+
+/// Adds the name of a class behind other names.
+fn add_name(
+    alloc: Global,
+    text: &mut String,
+    program: &Program,
+    number: u32,
+) -> Result<(), AllocError> {
+    if !text.is_empty() {
+        text.push(' ')?;
+    }
+    let name = program.class_text(alloc, ClassId::Given(number))?;
+    text.push_str(name.as_str())
+}
+
+/// The field that an index of the pool of `Asking` resolves to.
+pub fn resolved_field(alloc: Global, program: &Program, index: u16) -> Result<String, AllocError> {
+    let Some(asking) = number_of(alloc, program, "Asking")? else {
+        return no_class(alloc);
+    };
+    match program.resolve_field(asking, index) {
+        Ok(Field::Given { class, index }) => member_text(alloc, program, class, index),
+        Ok(Field::Out) => String::from_str(alloc, "System.out"),
+        Err(why) => unresolved_text(alloc, why),
+    }
+}
+
+/// The method that an index of the pool of `Asking` resolves to.
+pub fn resolved_method(alloc: Global, program: &Program, index: u16) -> Result<String, AllocError> {
+    match resolution(alloc, program, index)? {
+        Ok(method) => method_text(alloc, program, method),
+        Err(why) => unresolved_text(alloc, why),
+    }
+}
+
+fn resolution(
+    alloc: Global,
+    program: &Program,
+    index: u16,
+) -> Result<Result<Method, Unresolved>, AllocError> {
+    match number_of(alloc, program, "Asking")? {
+        Some(asking) => Ok(program.resolve_method(asking, index)),
+        None => Ok(Err(Unresolved::NoReference)),
+    }
+}
+
+/// The method that is run on an object of a class.
+pub fn selected(
+    alloc: Global,
+    program: &Program,
+    class: &str,
+    index: u16,
+) -> Result<String, AllocError> {
+    let Some(class) = class_id(alloc, program, class)? else {
+        return no_class(alloc);
+    };
+    match resolution(alloc, program, index)? {
+        Ok(method) => match program.select(class, method) {
+            Some(method) => method_text(alloc, program, method),
+            None => String::from_str(alloc, "nothing"),
+        },
+        Err(why) => unresolved_text(alloc, why),
+    }
+}
+
+/// The class of a name: an array of `int`, a built-in class, or a given one.
+fn class_id(alloc: Global, program: &Program, name: &str) -> Result<Option<ClassId>, AllocError> {
+    if name.starts_with('[') {
+        let array = ArrayType {
+            dimensions: 1,
+            element: ElementType::Int,
+        };
+        return Ok(Some(ClassId::Array(array)));
+    }
+    if let Some(class) = BuiltIn::named(name.as_bytes()) {
+        return Ok(Some(ClassId::BuiltIn(class)));
+    }
+    match number_of(alloc, program, name)? {
+        Some(number) => Ok(Some(ClassId::Given(number))),
+        None => Ok(None),
+    }
+}
+
+fn method_text(alloc: Global, program: &Program, method: Method) -> Result<String, AllocError> {
+    match method {
+        Method::Given { class, index } => member_text(alloc, program, class, index),
+        Method::BuiltIn(member) => format!(in alloc; "{member:?}"),
+    }
+}
+
+/// A member by its class and its place there.
+fn member_text(
+    alloc: Global,
+    program: &Program,
+    class: u32,
+    index: u16,
+) -> Result<String, AllocError> {
+    let class = program.class_text(alloc, ClassId::Given(class))?;
+    format!(in alloc; "{class} {index}")
+}
+
+fn unresolved_text(alloc: Global, why: Unresolved) -> Result<String, AllocError> {
+    format!(in alloc; "{why:?}")
+}

@@ -1,0 +1,173 @@
+//! Runs of programs with one entry, and what is seen of them.
+
+use cases::modified_utf8;
+use classfile::ClassName;
+use hierarchy::program::Program;
+use init_engine::{Ending, Line, World, turns};
+use std::alloc::{AllocError, Global};
+use std::str::from_utf8;
+
+/// The name that a text spells.
+fn name_of(alloc: Global, text: &str) -> Result<ClassName, AllocError> {
+    ClassName::from_modified_utf8(alloc, &modified_utf8(alloc, text)?)
+}
+
+/// Adds the entries of a word: a name between quotes, with the number of its times before it.
+fn add_entries(alloc: Global, entries: &mut Vec<ClassName>, word: &str) -> Result<(), AllocError> {
+    let (times, name) = word.split_once('*').unwrap_or(("1", word));
+    for _ in 0..times.parse::<u32>().unwrap_or(0) {
+        entries.push(name_of(alloc, name.trim_matches('\''))?)?;
+    }
+    Ok(())
+}
+
+/// Whether a run may start with a list of entries.
+pub fn started(alloc: Global, program: &Program, list: &str) -> Result<String, AllocError> {
+    let mut entries = Vec::new(alloc);
+    for word in list.split_whitespace() {
+        add_entries(alloc, &mut entries, word)?;
+    }
+    match World::lazy(alloc, program, &entries) {
+        Ok(_) => String::from_str(alloc, "started"),
+        Err(fault) => fault.to_string(alloc),
+    }
+}
+
+/// A run by turns: how many steps there were, and what is seen then. Of an entry that is refused it is the fault.
+pub fn run(
+    alloc: Global,
+    program: &Program,
+    entry: &str,
+    limit: u64,
+) -> Result<String, AllocError> {
+    let entries = [name_of(alloc, entry)?];
+    match World::lazy(alloc, program, &entries) {
+        Ok(world) => run_on(alloc, program, world, limit),
+        Err(fault) => fault.to_string(alloc),
+    }
+}
+
+fn run_on(
+    alloc: Global,
+    program: &Program,
+    world: World,
+    limit: u64,
+) -> Result<String, AllocError> {
+    let (world, schedule) = turns(alloc, program, world, limit)?;
+    told(alloc, program, &world, &schedule)
+}
+
+/// The steps of a schedule, and what is seen of the world that it led to.
+fn told(
+    alloc: Global,
+    program: &Program,
+    world: &World,
+    schedule: &[(u32, u64)],
+) -> Result<String, AllocError> {
+    let mut text = String::new(alloc);
+    write_steps(&mut text, schedule)?;
+    add_seen(alloc, &mut text, program, world)?;
+    Ok(text)
+}
+
+/// The steps of a schedule of thread 0 alone.
+fn write_steps(text: &mut String, schedule: &[(u32, u64)]) -> Result<(), AllocError> {
+    let mut all = 0u64;
+    for (thread, steps) in schedule.iter().copied() {
+        if thread != 0 {
+            text.push_str("another thread moved ")?;
+        }
+        all = all.saturating_add(steps);
+    }
+    write!(text, "{all} ")
+}
+
+/// What is seen of a world of one thread: how the thread stands, each line that it printed, and `stuck` where it has to wait.
+fn add_seen(
+    alloc: Global,
+    text: &mut String,
+    program: &Program,
+    world: &World,
+) -> Result<(), AllocError> {
+    let seen = world.seen(alloc)?;
+    add_endings(text, &seen.threads)?;
+    add_lines(text, &seen.printed)?;
+    if world.stuck(program) {
+        text.push_str(" stuck")?;
+    }
+    Ok(())
+}
+
+fn add_endings(text: &mut String, endings: &[Ending]) -> Result<(), AllocError> {
+    for ending in endings {
+        write!(text, "{ending:?}")?;
+    }
+    Ok(())
+}
+
+fn add_lines(text: &mut String, lines: &[Line]) -> Result<(), AllocError> {
+    for line in lines {
+        if line.thread != 0 {
+            text.push_str(" another thread printed")?;
+        }
+        text.push(' ')?;
+        text.push_str(from_utf8(line.text.as_bytes()).unwrap_or("no text"))?;
+    }
+    Ok(())
+}
+
+/// Single steps of thread 0, what the last one gave and what is seen then, and what a run by turns does behind it.
+pub fn steps(
+    alloc: Global,
+    program: &Program,
+    entry: &str,
+    count: u64,
+) -> Result<String, AllocError> {
+    let entries = [name_of(alloc, entry)?];
+    match World::lazy(alloc, program, &entries) {
+        Ok(world) => steps_on(alloc, program, world, count),
+        Err(fault) => fault.to_string(alloc),
+    }
+}
+
+fn steps_on(
+    alloc: Global,
+    program: &Program,
+    mut world: World,
+    count: u64,
+) -> Result<String, AllocError> {
+    match stepped(alloc, program, &mut world, count) {
+        Ok(text) => then_run(alloc, program, world, text),
+        Err(error) => Err(error),
+    }
+}
+
+/// Takes single steps. Answers the last one, and what is seen then.
+fn stepped(
+    alloc: Global,
+    program: &Program,
+    world: &mut World,
+    count: u64,
+) -> Result<String, AllocError> {
+    let mut text = String::new(alloc);
+    for _ in 0..count {
+        if world.thread_count() != 1 {
+            return String::from_str(alloc, "not one thread");
+        }
+        let turn = world.step(alloc, program, 0)?;
+        text = format!(in alloc; "{turn:?} ")?;
+    }
+    add_seen(alloc, &mut text, program, world)?;
+    Ok(text)
+}
+
+/// Adds a run by turns.
+fn then_run(
+    alloc: Global,
+    program: &Program,
+    world: World,
+    before: String,
+) -> Result<String, AllocError> {
+    let rest = run_on(alloc, program, world, 10_000)?;
+    format!(in alloc; "{before}, then {rest}")
+}
