@@ -7,7 +7,7 @@ use crate::{FileFault, Status};
 use classfile::ClassFault;
 use hierarchy::LinkFault;
 use init_engine::EntryFault;
-use std::alloc::{AllocError, AllocFailed, Global};
+use std::alloc::{AllocError, Global};
 use thiserror::Error;
 
 /// Why a command was refused. Its text follows `preinit: ` on standard error.
@@ -97,14 +97,6 @@ impl From<AllocError> for Refusal {
     ghost from_gives = { λ _ e. e ≡ Memory };
 
     fn from(_error: AllocError) -> Refusal {
-        Refusal::Memory
-    }
-}
-
-impl<T: Drop> From<AllocFailed<T>> for Refusal {
-    ghost from_gives = { λ _ e. e ≡ Memory };
-
-    fn from(_error: AllocFailed<T>) -> Refusal {
         Refusal::Memory
     }
 }

@@ -4,16 +4,17 @@ ghost use Rattle.cli.specs.Status.{IsTold};
 
 use crate::status::status_of;
 use crate::{Files, Lazy, Refusal, Status};
-use classfile::ClassName;
+use classfile::{ClassFile, ClassName};
 use hierarchy::program::Program;
-use init_engine::{Ending, World};
+use init_engine::{Ending, Line, Seen, World};
 use std::alloc::{AllocError, Global};
+use vm_state::class_id::ClassId;
 
 /// What a run has to tell.
 #[derive(Drop)]
 pub struct Outcome {
     /// What the threads printed, in order.
-    pub printed: Vec<init_engine::Line>,
+    pub printed: Vec<u8>,
     /// A line for each thread, how it ended.
     pub threads: String,
     pub status: Status,
@@ -39,10 +40,10 @@ fn run_words(alloc: Global, program: &Program, words: Lazy<'_>) -> Result<Outcom
 
 /// The program of the class file of a name.
 fn program_in<F: Files>(alloc: Global, file: &str, files: &mut F) -> Result<Program, Refusal> {
-    let bytes = files
-        .get(file)
-        .map_err(|fault| Refusal::of_file(alloc, file, fault))?;
-    program_of(alloc, &[bytes.as_slice()])
+    match files.get(file) {
+        Ok(bytes) => program_of(alloc, &[bytes.as_slice()]),
+        Err(fault) => Err(Refusal::of_file(alloc, file, fault)),
+    }
 }
 
 /// Runs a program with these entries, for at most so many steps.
@@ -54,9 +55,23 @@ fn run_program(
 ) -> Result<Outcome, Refusal>
     ensures { IfOk result (λ outcome. IsTold outcome.status) }
 {
-    let world = World::lazy(alloc, program, entries).map_err(Refusal::of_entry)?;
+    match World::lazy(alloc, program, entries) {
+        Ok(world) => Ok(run_world(alloc, program, world, limit)?),
+        Err(fault) => Err(Refusal::of_entry(fault)),
+    }
+}
+
+/// Runs a world for at most so many steps.
+fn run_world(
+    alloc: Global,
+    program: &Program,
+    world: World,
+    limit: u64,
+) -> Result<Outcome, AllocError>
+    ensures { IfOk result (λ outcome. IsTold outcome.status) }
+{
     let (world, _schedule) = init_engine::turns(alloc, program, world, limit)?;
-    Ok(outcome_of(alloc, program, &world)?)
+    outcome_of(alloc, program, &world)
 }
 
 /// What is to be told of a world.
@@ -64,33 +79,65 @@ fn outcome_of(alloc: Global, program: &Program, world: &World) -> Result<Outcome
     ensures { IfOk result (λ outcome. IsTold outcome.status) }
 {
     let seen = world.seen(alloc)?;
+    outcome_of_seen(alloc, program, &seen, world.stuck(program))
+}
+
+/// What is to be told of what a world has shown.
+fn outcome_of_seen(
+    alloc: Global,
+    program: &Program,
+    seen: &Seen,
+    stuck: bool,
+) -> Result<Outcome, AllocError>
+    ensures { IfOk result (λ outcome. IsTold outcome.status) }
+{
+    let printed = printed_bytes(alloc, seen.printed.as_slice())?;
     let threads = thread_lines(alloc, program, seen.threads.as_slice())?;
-    let status = status_of(seen.threads.as_slice(), world.stuck(program));
     Ok(Outcome {
-        printed: seen.printed,
+        printed,
         threads,
-        status,
+        status: status_of(seen.threads.as_slice(), stuck),
     })
+}
+
+/// What was printed, line behind line.
+fn printed_bytes(alloc: Global, lines: &[Line]) -> Result<Vec<u8>, AllocError> {
+    let mut bytes = Vec::new(alloc);
+    for line in lines {
+        bytes.extend_from_slice(line.text.as_bytes())?;
+    }
+    Ok(bytes)
 }
 
 /// The program that class files make. The first file at fault is named by its place, from 0.
 pub fn program_of(alloc: Global, files: &[&[u8]]) -> Result<Program, Refusal> {
     let mut classes = Vec::new(alloc);
     for (place, bytes) in files.iter().enumerate() {
-        let class = classfile::read(alloc, bytes).map_err(|fault| Refusal::of_class(place, fault))?;
-        classes.push(class)?;
+        match classfile::read(alloc, bytes) {
+            Ok(class) => add_class(&mut classes, class)?,
+            Err(fault) => return Err(Refusal::of_class(place, fault)),
+        }
     }
     hierarchy::link(alloc, classes).map_err(Refusal::of_link)
+}
+
+fn add_class(classes: &mut Vec<ClassFile>, class: ClassFile) -> Result<(), AllocError> {
+    Ok(classes.push(class)?)
 }
 
 /// The class names of a list: cut at commas, with slashes for dots.
 pub fn entries_of(alloc: Global, list: &str) -> Result<Vec<ClassName>, AllocError> {
     let mut entries = Vec::new(alloc);
     for name in list.split(',') {
-        let name = name.replace(alloc, '.', "/")?;
-        entries.push(ClassName::from_text(alloc, name.as_str())?)?;
+        entries.push(entry_of(alloc, name)?)?;
     }
     Ok(entries)
+}
+
+/// The class name of an entry, with slashes for dots.
+fn entry_of(alloc: Global, name: &str) -> Result<ClassName, AllocError> {
+    let name = name.replace(alloc, '.', "/")?;
+    ClassName::from_text(alloc, name.as_str())
 }
 
 /// A line for each thread, how it ended.
@@ -116,10 +163,19 @@ fn add_thread_line(
     match ending {
         Ending::Going => writeln!(text, "thread {thread} going"),
         Ending::Returned => writeln!(text, "thread {thread} returned"),
-        Ending::Uncaught(class) => {
-            let class = program.class_text(alloc, *class)?;
-            writeln!(text, "thread {thread} uncaught {class}")
-        }
+        Ending::Uncaught(class) => add_uncaught(alloc, text, program, thread, *class),
         Ending::Faulted(kind) => writeln!(text, "thread {thread} faulted {kind}"),
     }
+}
+
+/// The line of a thread that ended by an exception of this class.
+fn add_uncaught(
+    alloc: Global,
+    text: &mut String,
+    program: &Program,
+    thread: usize,
+    class: ClassId,
+) -> Result<(), AllocError> {
+    let class = program.class_text(alloc, class)?;
+    writeln!(text, "thread {thread} uncaught {class}")
 }

@@ -8,15 +8,12 @@
 mod fault;
 mod files;
 mod lazy;
-mod request;
 mod run;
 mod status;
-mod words;
 
+pub use command_line::{Lazy, Line, WordsFault, line};
 pub use fault::Refusal;
 pub use files::{FileFault, Files};
 pub use lazy::{entries_of, program_of, thread_lines};
-pub use request::{Lazy, Line};
 pub use run::command;
 pub use status::{Status, status_of};
-pub use words::line;

@@ -4,9 +4,7 @@ ghost use Rattle.cli.specs.Refusal.{refusal_status};
 ghost use Rattle.cli.specs.Status.{IsTold};
 
 use crate::lazy::{self, Outcome};
-use crate::{Files, Lazy, Line, Refusal, Status, line};
-use clap::Error;
-use clap::error::ErrorKind;
+use crate::{Files, Lazy, Line, Refusal, Status, WordsFault, line};
 use std::alloc::Global;
 use std::io;
 use std::io::Write;
@@ -37,7 +35,7 @@ pub fn command<F: Files, W: Write + Send, E: Write>(
 {
     let status = match line(alloc, words) {
         Ok(Line::Lazy(words)) => run_lazily(alloc, words, files, &mut out, errors),
-        Err(error) => tell_words(&error, &mut out, errors),
+        Err(fault) => tell_words(&fault, &mut out, errors),
     };
     (status.code(), out)
 }
@@ -75,9 +73,7 @@ fn tell<W: Write, E: Write>(outcome: &Outcome, out: &mut W, errors: &mut E) -> S
 }
 
 fn print<W: Write>(outcome: &Outcome, out: &mut W) -> io::Result<()> {
-    for line in &outcome.printed {
-        out.write_all(line.text.as_bytes())?;
-    }
+    out.write_all(outcome.printed.as_slice())?;
     out.flush()
 }
 
@@ -91,23 +87,36 @@ fn refuse<E: Write>(refusal: &Refusal, errors: &mut E) -> Status
     refusal.status()
 }
 
-/// Tells the text that the words gave in place of a command: help on standard output, and what is
-/// wrong with them on standard error.
-fn tell_words<W: Write, E: Write>(error: &Error, out: &mut W, errors: &mut E) -> Status
+/// Tells what the words gave in place of a command: help on standard output, and what is wrong with
+/// them on standard error.
+fn tell_words<W: Write, E: Write>(fault: &WordsFault, out: &mut W, errors: &mut E) -> Status
     ensures refused { result ≡ Status.Refused → out.new ≡ out.old }
     ensures words { result ≡ Status.Words → out.new ≡ out.old }
 {
-    if error.kind() == ErrorKind::OutOfMemory {
-        return refuse(&Refusal::Memory, errors);
+    match fault {
+        WordsFault::Memory => refuse(&Refusal::Memory, errors),
+        WordsFault::Help(text) => tell_help(text.as_str(), out, errors),
+        WordsFault::Wrong(text) => tell_wrong(text.as_str(), errors),
     }
-    if error.use_stderr() {
-        // A failure of standard error is ignored.
-        let _ = write!(errors, "{error}");
-        let _ = errors.flush();
-        return Status::Words;
-    }
-    if write!(out, "{error}").is_err() || out.flush().is_err() {
+}
+
+/// Tells help on standard output.
+fn tell_help<W: Write, E: Write>(text: &str, out: &mut W, errors: &mut E) -> Status
+    ensures refused { result ≢ Status.Refused }
+    ensures words { result ≢ Status.Words }
+{
+    if out.write_all(text.as_bytes()).is_err() || out.flush().is_err() {
         return refuse(&Refusal::Device, errors);
     }
     Status::Done
+}
+
+/// Tells what is wrong with the words on standard error.
+fn tell_wrong<E: Write>(text: &str, errors: &mut E) -> Status
+    ensures { result ≡ Status.Words }
+{
+    // A failure of standard error is ignored.
+    let _ = errors.write_all(text.as_bytes());
+    let _ = errors.flush();
+    Status::Words
 }

@@ -3,7 +3,7 @@
 #![tactic(auto)]
 
 use cli::{FileFault, Files, Refusal, Status, command};
-use std::io::{self, BufWriter, ErrorKind, Write};
+use std::io::{self, ErrorKind, Write};
 use std::process::ExitCode;
 use std::{env, fs, rt};
 
@@ -45,19 +45,39 @@ where
     W: Write + Send + Drop,
     E: Write,
 {
-    let alloc = rt.alloc();
-    let texts = env::args(rt).map_err(|error| match error.kind() {
+    let texts = texts_of(rt)?;
+    run_words(rt, texts.as_slice(), out, errors)
+}
+
+/// The words of the process, the program's name first.
+fn texts_of<R: rt::Env + AllocGlobal>(rt: &R) -> Result<Vec<String>, Stop> {
+    match env::args(rt) {
+        Ok(texts) => texts.collect(rt.alloc()).map_err(|_| Stop::Memory),
+        Err(error) => Err(stop_of(error)),
+    }
+}
+
+fn stop_of(error: io::Error) -> Stop {
+    match error.kind() {
         ErrorKind::OutOfMemory => Stop::Memory,
         _ => Stop::Words,
-    })?;
-    let texts: Vec<String> = texts.collect(alloc).map_err(|_| Stop::Memory)?;
+    }
+}
+
+/// Does the command that these words name, behind the program's name.
+fn run_words<R, W, E>(rt: &R, texts: &[String], out: W, errors: &mut E) -> Result<u8, Stop>
+where
+    R: rt::Files + AllocGlobal,
+    W: Write + Send + Drop,
+    E: Write,
+{
+    let alloc = rt.alloc();
     let words: Vec<&str> = texts
         .iter()
         .skip(1)
         .map(|text| text.as_str())
         .collect(alloc)
         .map_err(|_| Stop::Memory)?;
-    let out = BufWriter::new(alloc, out).map_err(|_| Stop::Memory)?;
     let (status, _out) = command(alloc, words.as_slice(), &mut Disk { rt }, out, errors);
     Ok(status)
 }

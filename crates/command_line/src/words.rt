@@ -1,8 +1,9 @@
 //! The words of the command line.
 
-use crate::{Lazy, Line};
+use crate::parsed::fault_of;
+use crate::{Lazy, Line, WordsFault};
 use clap::error::ErrorKind;
-use clap::{Arg, ArgMatches, Command, Error, value_parser};
+use clap::{Arg, ArgMatches, Command, value_parser};
 use std::alloc::{AllocError, Global};
 
 /// The steps after which a run ends, where the words name no limit.
@@ -44,21 +45,34 @@ For example: preinit lazy --entries app.Main Main.class";
 /// Reads the words after the program's name.
 ///
 /// # Errors
-/// The texts of `clap`: help that was asked for, or a fault of the words. Want of memory is the kind
-/// `OutOfMemory`.
-pub fn line<'a>(alloc: Global, words: &'a [&'a str]) -> Result<Line<'a>, Error> {
-    let mut program = program(alloc)?;
-    line_of(&mut program, words)
+/// `Help` where help was asked for, `Wrong` where the words are no command, and `Memory`.
+pub fn line<'a>(alloc: Global, words: &'a [&'a str]) -> Result<Line<'a>, WordsFault> {
+    match program(alloc) {
+        Ok(mut program) => line_of(alloc, &mut program, words),
+        Err(_) => Err(WordsFault::Memory),
+    }
 }
 
-fn line_of<'a>(program: &mut Command<'a>, words: &'a [&'a str]) -> Result<Line<'a>, Error> {
-    let matches = program.try_get_matches_from_mut(words)?;
-    if let Some(("lazy", matches)) = matches.subcommand()
-        && let Some(lazy) = lazy_of(matches)
-    {
-        return Ok(Line::Lazy(lazy));
+fn line_of<'a>(
+    alloc: Global,
+    program: &mut Command<'a>,
+    words: &'a [&'a str],
+) -> Result<Line<'a>, WordsFault> {
+    match program.try_get_matches_from_mut(words) {
+        Ok(matches) => match command_of(&matches) {
+            Some(line) => Ok(line),
+            None => Err(missing(alloc, program)),
+        },
+        Err(error) => Err(fault_of(alloc, &error)),
     }
-    Err(program.error(ErrorKind::MissingSubcommand, "a command is missing")?)
+}
+
+/// The command that was matched.
+fn command_of<'a>(matches: &ArgMatches<'a>) -> Option<Line<'a>> {
+    match matches.subcommand() {
+        Some(("lazy", matches)) => Some(Line::Lazy(lazy_of(matches)?)),
+        _ => None,
+    }
 }
 
 fn lazy_of<'a>(matches: &ArgMatches<'a>) -> Option<Lazy<'a>> {
@@ -69,25 +83,50 @@ fn lazy_of<'a>(matches: &ArgMatches<'a>) -> Option<Lazy<'a>> {
     })
 }
 
+/// The fault of words without a command.
+fn missing(alloc: Global, program: &mut Command<'_>) -> WordsFault {
+    match program.error(ErrorKind::MissingSubcommand, "a command is missing") {
+        Ok(error) => fault_of(alloc, &error),
+        Err(_) => WordsFault::Memory,
+    }
+}
+
 fn program<'a>(alloc: Global) -> Result<Command<'a>, AllocError> {
+    let lazy = lazy_command(alloc)?;
+    with_lazy(described_program(alloc), lazy)
+}
+
+/// The program with its command.
+fn with_lazy<'a>(program: Command<'a>, lazy: Command<'a>) -> Result<Command<'a>, AllocError> {
+    program.subcommand(lazy)?.bin_name("preinit")
+}
+
+/// The program without its commands.
+fn described_program<'a>(alloc: Global) -> Command<'a> {
     Command::new(alloc, "preinit")
-        .bin_name("preinit")?
         .no_binary_name(true)
         .about(PROGRAM_ABOUT)
         .after_help(STATUSES)
         .subcommand_required(true)
         .arg_required_else_help(true)
-        .subcommand(lazy_command(alloc)?)
 }
 
 fn lazy_command<'a>(alloc: Global) -> Result<Command<'a>, AllocError> {
+    let lazy = described_lazy(alloc).arg(entries(alloc))?;
+    with_limit_and_file(alloc, lazy)
+}
+
+/// The command `lazy` with its further arguments.
+fn with_limit_and_file<'a>(alloc: Global, lazy: Command<'a>) -> Result<Command<'a>, AllocError> {
+    lazy.arg(limit(alloc))?.arg(file(alloc))
+}
+
+/// The command `lazy` without its arguments.
+fn described_lazy<'a>(alloc: Global) -> Command<'a> {
     Command::new(alloc, "lazy")
         .about(LAZY_ABOUT)
         .long_about(LAZY_LONG_ABOUT)
         .after_help(STATUSES)
-        .arg(entries(alloc))?
-        .arg(limit(alloc))?
-        .arg(file(alloc))
 }
 
 fn entries<'a>(alloc: Global) -> Arg<'a> {
