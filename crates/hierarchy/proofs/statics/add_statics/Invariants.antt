@@ -2,7 +2,7 @@ use Rattle.std.proofs.Common.{◌≡◌, map, ◌++◌, drop}
 use Rattle.std.specs.List.{filter}
 use Rattle.hierarchy.specs.Entries.{is_static_field, statics_of}
 use Rattle.hierarchy.specs.Programs.{static_field}
-use Rattle.hierarchy.proofs.statics.statics_of.Given as goal
+use Rattle.hierarchy.proofs.statics.add_statics.Given as goal
 
 abbrev pub invariant-loop-field : goal.invariant-loop-field
 invariant-loop-field l =

@@ -1,7 +1,7 @@
 use Rattle.std.proofs.Common.{◌≡◌, length}
 use Rattle.resolution.specs.Texts.{Grows}
 use Rattle.hierarchy.proofs.PoolEntries.{HaveEntries}
-use Rattle.hierarchy.proofs.entries.Resolver.entries_of.Given as goal
+use Rattle.hierarchy.proofs.entries.Resolver.add_entries.Given as goal
 
 abbrev pub invariant-loop-index : goal.invariant-loop-index
 invariant-loop-index l = record {
