@@ -57,6 +57,51 @@ fn number_component(
     Ok(())
 }
 
+/// Gives numbers from the last vertex of an order to the first.
+fn number_all(
+    back: &Graph,
+    order: &[usize],
+    seen: &mut Visited,
+    numbers: &mut [usize],
+) -> Result<(), AllocError>
+    requires order { All (λ v. v < length back.now) order.now }
+    requires limit { seen.old.limit ≡ length back.now }
+    requires numbers { length numbers.old ≡ length back.now }
+{
+    for root in order.iter().rev() {
+        number_component(back, *root, seen, numbers)?;
+    }
+    Ok(())
+}
+
+/// Gives each vertex of an order a number, by the graph with its edges turned round.
+fn number_by(
+    alloc: Global,
+    back: &Graph,
+    order: &[usize],
+    numbers: &mut [usize],
+) -> Result<(), AllocError>
+    requires order { All (λ v. v < length back.now) order.now }
+    requires numbers { length numbers.old ≡ length back.now }
+{
+    let mut seen = Visited::new(alloc, back.len())?;
+    number_all(back, order, &mut seen, numbers)
+}
+
+/// Gives each vertex of an order a number.
+fn number_components(
+    alloc: Global,
+    graph: &Graph,
+    order: &[usize],
+    numbers: &mut [usize],
+) -> Result<(), AllocError>
+    requires order { All (λ v. v < length graph.now) order.now }
+    requires numbers { length numbers.old ≡ length graph.now }
+{
+    let back = reversed(alloc, graph)?;
+    number_by(alloc, &back, order, numbers)
+}
+
 /// The lowest number of a row's vertices.
 fn lowest(row: &[usize], numbers: &[usize]) -> usize
     requires { All (λ v. v < length numbers.now) row.now }
@@ -94,17 +139,21 @@ pub(crate) fn component_numbers(
     ensures len { IfOk result (λ numbers. length numbers.items ≡ length graph.now) }
     ensures never_falls { IfOk result (λ numbers. NeverFalls graph.now numbers.items) }
 {
-    let back = reversed(alloc, graph)?;
-    let mut seen = Visited::new(alloc, graph.len())?;
     let mut numbers = vec![in alloc; 0usize; graph.len()]?;
-    for root in order.iter().rev() {
-        number_component(&back, *root, &mut seen, numbers.as_mut_slice())?;
-    }
+    number_components(alloc, graph, order, numbers.as_mut_slice())?;
     if never_falls(graph, numbers.as_slice()) {
         return Ok(numbers);
     }
-    let one_component = vec![in alloc; 0usize; graph.len()]?;
-    Ok(one_component)
+    one_component(alloc, graph)
+}
+
+/// One number for all vertices.
+fn one_component(alloc: Global, graph: &Graph) -> Result<Vec<usize>, AllocError>
+    ensures len { IfOk result (λ numbers. length numbers.items ≡ length graph.now) }
+    ensures never_falls { IfOk result (λ numbers. NeverFalls graph.now numbers.items) }
+{
+    let numbers = vec![in alloc; 0usize; graph.len()]?;
+    Ok(numbers)
 }
 
 /// Whether each successor of a vertex has a higher number. Then it is on no cycle.

@@ -2,7 +2,7 @@
 
 ghost use Rattle.std.specs.Prelude.{◌≡◌, ◌+◌, ◌<◌, [], ◌∷◌, ◌++◌, length, replicate, slice_set, IfOk, OnOk, OnErr};
 ghost use Rattle.std.specs.List.{All};
-ghost use Rattle.graph.specs.Rows.{successors_of};
+ghost use Rattle.graph.specs.Rows.{rows_of, successors_of};
 
 use std::alloc::{AllocError, Global};
 use std::marker::Model;
@@ -31,9 +31,7 @@ impl Graph {
         ensures len { IfOk result (λ graph. length graph ≡ count) }
     {
         let mut rows = Vec::with_capacity(alloc, count)?;
-        for _ in 0..count {
-            rows.push(Vec::new(alloc))?;
-        }
+        add_rows(alloc, count, &mut rows)?;
         Ok(Graph { rows })
     }
 
@@ -66,4 +64,15 @@ impl Graph {
             None => &[],
         }
     }
+}
+
+/// Adds a row without successors for each of so many vertices.
+fn add_rows(alloc: Global, count: usize, rows: &mut Vec<Vec<usize>>) -> Result<(), AllocError>
+    requires { rows.old.items ≡ [] }
+    ensures { OnOk result (rows_of rows.new.items ≡ replicate count []) }
+{
+    for _ in 0..count {
+        rows.push(Vec::new(alloc))?;
+    }
+    Ok(())
 }

@@ -6,8 +6,6 @@ mod circle;
 mod components;
 mod graph;
 mod search;
-#[cfg(test)]
-mod tests;
 mod visited;
 mod walk;
 

@@ -1,6 +1,6 @@
 //! An order of the vertices, by a walk in depth.
 
-ghost use Rattle.std.specs.Prelude.{◌≡◌, ℕ, ◌+◌, ◌-◌, ◌*◌, ◌<◌, ◌≤◌, [], length, slice_index, IfOk, OnOk, vec_len};
+ghost use Rattle.std.specs.Prelude.{◌≡◌, ℕ, ◌+◌, ◌-◌, ◌*◌, ◌<◌, ◌≤◌, [], ◌∷◌, ◌++◌, length, replicate, slice_index, IfOk, OnOk, vec_len};
 ghost use Rattle.std.specs.List.{Contains};
 ghost use Rattle.graph.specs.Order.{IsPostorder};
 ghost use Rattle.graph.specs.Walking.{Walking};
@@ -58,13 +58,40 @@ fn step(walk: &mut Walk, graph: &Graph) -> Result<(), AllocError>
     let next = skip(row, walk.passed[vertex], &walk.seen);
     walk.passed[vertex] = next;
     if next < row.len() {
-        let to = row[next];
-        walk.seen.add(to)?;
-        walk.path.push(to)?;
+        go_down(walk, row[next])?;
     } else {
-        walk.path.pop();
-        walk.finished.push(vertex)?;
+        go_up(walk, vertex)?;
     }
+    Ok(())
+}
+
+/// A vertex that was not seen goes onto the path.
+fn go_down(walk: &mut Walk, to: usize) -> Result<(), AllocError>
+    requires below { to < walk.old.seen.limit }
+    requires fresh { ¬ Contains walk.old.seen.items to }
+    ensures limit { walk.new.seen.limit ≡ walk.old.seen.limit }
+    ensures passed { walk.new.passed.items ≡ walk.old.passed.items }
+    ensures finished { walk.new.finished.items ≡ walk.old.finished.items }
+    ensures seen { OnOk result (walk.new.seen.items ≡ walk.old.seen.items ++ to ∷ []) }
+    ensures small { OnOk result (length walk.new.seen.items ≤ walk.new.seen.limit) }
+    ensures path { OnOk result (walk.new.path.items ≡ walk.old.path.items ++ to ∷ []) }
+{
+    walk.seen.add(to)?;
+    walk.path.push(to)?;
+    Ok(())
+}
+
+/// The last vertex of the path is finished.
+fn go_up(walk: &mut Walk, vertex: usize) -> Result<(), AllocError>
+    requires open { 0 < vec_len walk.old.path }
+    requires last { vertex ≡ slice_index walk.old.path.items (vec_len walk.old.path - 1) }
+    ensures seen { walk.new.seen ≡ walk.old.seen }
+    ensures passed { walk.new.passed.items ≡ walk.old.passed.items }
+    ensures path { OnOk result (walk.old.path.items ≡ walk.new.path.items ++ vertex ∷ []) }
+    ensures finished { OnOk result (walk.new.finished.items ≡ walk.old.finished.items ++ vertex ∷ []) }
+{
+    walk.path.pop();
+    walk.finished.push(vertex)?;
     Ok(())
 }
 
@@ -81,28 +108,73 @@ fn enter(walk: &mut Walk, graph: &Graph, root: usize) -> Result<(), AllocError>
     ensures walking { OnOk result
         (Walking graph.now walk.new.seen.items walk.new.path.items walk.new.passed.items walk.new.finished.items) }
 {
-    if !walk.seen.add(root)? {
+    if walk.seen.has(root) {
         return Ok(());
     }
-    walk.path.push(root)?;
+    go_down(walk, root)?;
     Ok(())
+}
+
+/// Walks from a root and back to it, if it was not seen.
+fn walk_from(walk: &mut Walk, graph: &Graph, root: usize) -> Result<(), AllocError>
+    requires root { root < length graph.now }
+    requires limit { walk.old.seen.limit ≡ length graph.now }
+    requires passed { length walk.old.passed.items ≡ length graph.now }
+    requires empty { walk.old.path.items ≡ [] }
+    requires walking { Walking graph.now walk.old.seen.items [] walk.old.passed.items walk.old.finished.items }
+    ensures limit { OnOk result (walk.new.seen.limit ≡ length graph.now) }
+    ensures passed { OnOk result (length walk.new.passed.items ≡ length graph.now) }
+    ensures empty { OnOk result (walk.new.path.items ≡ []) }
+    ensures has { OnOk result (Contains walk.new.seen.items root) }
+    ensures keeps { OnOk result ((x : ℕ) → Contains walk.old.seen.items x → Contains walk.new.seen.items x) }
+    ensures walking { OnOk result (Walking graph.now walk.new.seen.items [] walk.new.passed.items walk.new.finished.items) }
+{
+    enter(walk, graph, root)?;
+    while !walk.path.is_empty() {
+        step(walk, graph)?;
+    }
+    Ok(())
+}
+
+/// Walks from each vertex.
+fn walk_all(walk: &mut Walk, graph: &Graph) -> Result<(), AllocError>
+    requires limit { walk.old.seen.limit ≡ length graph.now }
+    requires passed { length walk.old.passed.items ≡ length graph.now }
+    requires empty { walk.old.path.items ≡ [] }
+    requires walking { Walking graph.now walk.old.seen.items [] walk.old.passed.items walk.old.finished.items }
+    ensures { OnOk result (IsPostorder graph.now walk.new.finished.items) }
+{
+    for root in 0..graph.len() {
+        walk_from(walk, graph, root)?;
+    }
+    Ok(())
+}
+
+impl Walk {
+    /// The walk that was nowhere, over so many vertices.
+    fn new(alloc: Global, count: usize) -> Result<Walk, AllocError>
+        ensures limit { IfOk result (λ walk. walk.seen.limit ≡ count) }
+        ensures seen { IfOk result (λ walk. walk.seen.items ≡ []) }
+        ensures path { IfOk result (λ walk. walk.path.items ≡ []) }
+        ensures passed { IfOk result (λ walk. walk.passed.items ≡ replicate count 0) }
+        ensures finished { IfOk result (λ walk. walk.finished.items ≡ []) }
+    {
+        let seen = Visited::new(alloc, count)?;
+        let passed = vec![in alloc; 0usize; count]?;
+        Ok(Walk {
+            seen,
+            path: Vec::new(alloc),
+            passed,
+            finished: Vec::new(alloc),
+        })
+    }
 }
 
 /// Each vertex once, after its successors, but for those that reach it.
 pub fn order(alloc: Global, graph: &Graph) -> Result<Vec<usize>, AllocError>
     ensures { IfOk result (λ order. IsPostorder graph.now order.items) }
 {
-    let mut walk = Walk {
-        seen: Visited::new(alloc, graph.len())?,
-        path: Vec::new(alloc),
-        passed: vec![in alloc; 0usize; graph.len()]?,
-        finished: Vec::new(alloc),
-    };
-    for root in 0..graph.len() {
-        enter(&mut walk, graph, root)?;
-        while !walk.path.is_empty() {
-            step(&mut walk, graph)?;
-        }
-    }
+    let mut walk = Walk::new(alloc, graph.len())?;
+    walk_all(&mut walk, graph)?;
     Ok(walk.finished)
 }

@@ -1,16 +1,18 @@
 //! Puts a program together from class files (JVMS 5.4).
 
-ghost use Rattle.std.specs.Prelude.{◌≡◌, ◌⊎◌, Err, IfOk, IfErr, OnOk, IsOk};
+ghost use Rattle.std.specs.Prelude.{◌≡◌, ◌⊎◌, [], ◌∷◌, ◌++◌, map, Err, IfOk, IfErr, OnOk, IsOk};
+ghost use Rattle.std.specs.List.{AllZip};
 ghost use Rattle.loading.specs.declared.fault.LinkFault.{LinkFault as Fault};
 ghost use Rattle.loading.specs.declared.fault.LinkFault.TheVariants.{Memory};
 ghost use Rattle.loading.specs.Families.{IsFamilyOf};
 ghost use Rattle.loading.specs.Files.{LinkFails, Links};
-ghost use Rattle.hierarchy.specs.Entries.{AreSlotsOf};
+ghost use Rattle.hierarchy.specs.declared.class.Class.{Class as ClassTables};
+ghost use Rattle.hierarchy.specs.Entries.{AreSlotsOf, statics_of};
 ghost use Rattle.resolution.specs.Initialization.{AreOrders};
-ghost use Rattle.hierarchy.specs.Programs.{AreClasses, IsClass, IsProgram};
+ghost use Rattle.hierarchy.specs.Programs.{AreClasses, IsClass, IsProgram, IsImplementation, static_field};
 ghost use Rattle.resolution.specs.Texts.{AreDistinct, Grows};
 
-use crate::class::Class;
+use crate::class::{Class, Methods, StaticFields};
 use crate::entries::Resolver;
 use crate::methods::{initializer_of, main_of, methods_of};
 use crate::program::Program;
@@ -47,8 +49,23 @@ pub fn link(alloc: Global, files: Vec<ClassFile>) -> Result<Program, LinkFault>
     ensures fault { IfErr result (λ x. (x ≡ Memory) ⊎ LinkFails files.items x) }
     ensures only_fault { (x : Fault) → LinkFails files.items x → (result ≡ Err x) ⊎ (result ≡ Err Memory) }
 {
-    let family = family_of(alloc, files)?;
-    Ok(program_of(alloc, family)?)
+    match family_of(alloc, files) {
+        Ok(family) => linked(alloc, family),
+        Err(fault) => Err(fault),
+    }
+}
+
+/// The program of a family, or want of memory.
+fn linked(alloc: Global, family: Family) -> Result<Program, LinkFault>
+    ensures family { IfOk result (λ program. program.family ≡ family) }
+    ensures program { IfOk result IsProgram }
+    ensures orders { IfOk result (λ program. AreOrders program.family program.orders) }
+    ensures fault { IfErr result (λ x. x ≡ Memory) }
+{
+    match program_of(alloc, family) {
+        Ok(program) => Ok(program),
+        Err(_) => Err(LinkFault::Memory),
+    }
 }
 
 /// The program of a family.
@@ -57,24 +74,25 @@ fn program_of(alloc: Global, family: Family) -> Result<Program, AllocError>
     ensures program { IfOk result IsProgram }
     ensures orders { IfOk result (λ program. AreOrders program.family program.orders) }
 {
-    let orders = InitializationOrders::of(alloc, &family)?;
-    let hierarchy = hierarchy_of(alloc, family)?;
-    with_tables(alloc, hierarchy, orders)
+    match hierarchy_of(alloc, family) {
+        Ok(hierarchy) => with_tables(alloc, hierarchy),
+        Err(error) => Err(error),
+    }
 }
 
 /// The program of a hierarchy.
-fn with_tables(
-    alloc: Global,
-    hierarchy: Hierarchy,
-    orders: InitializationOrders,
-) -> Result<Program, AllocError>
-    requires { AreOrders hierarchy.family orders }
+fn with_tables(alloc: Global, hierarchy: Hierarchy) -> Result<Program, AllocError>
     ensures family { IfOk result (λ program. program.family ≡ hierarchy.family) }
-    ensures orders { IfOk result (λ program. program.orders ≡ orders) }
     ensures program { IfOk result IsProgram }
+    ensures orders { IfOk result (λ program. AreOrders program.family program.orders) }
 {
-    let (classes, strings) = tables_of(alloc, &hierarchy)?;
-    Ok(joined(hierarchy, orders, classes, strings))
+    match tables_of(alloc, &hierarchy) {
+        Ok(tables) => Ok(joined(hierarchy, tables)),
+        Err(error) => {
+            drop(hierarchy);
+            Err(error)
+        }
+    }
 }
 
 /// A family with the lists of its classes' superinterfaces.
@@ -85,35 +103,70 @@ fn hierarchy_of(alloc: Global, family: Family) -> Result<Hierarchy, AllocError>
     Hierarchy::new(alloc, family, interfaces)
 }
 
+/// What a program has beside its classes' parents and members.
+#[derive(Drop)]
+struct Tables {
+    orders: InitializationOrders,
+    classes: Vec<Class>,
+    strings: Texts,
+}
+
+/// The tables of a hierarchy.
+fn tables_of(alloc: Global, hierarchy: &Hierarchy) -> Result<Tables, AllocError>
+    ensures orders { IfOk result (λ tables. AreOrders hierarchy.now.family tables.orders) }
+    ensures classes { IfOk result (λ tables. AreClasses hierarchy.now.family tables.strings tables.classes.items) }
+    ensures distinct { IfOk result (λ tables. AreDistinct tables.strings) }
+{
+    let orders = InitializationOrders::of(alloc, hierarchy.family())?;
+    with_classes(alloc, hierarchy, orders)
+}
+
+/// The tables of a hierarchy, from its classes' orders.
+fn with_classes(
+    alloc: Global,
+    hierarchy: &Hierarchy,
+    orders: InitializationOrders,
+) -> Result<Tables, AllocError>
+    ensures orders { IfOk result (λ tables. tables.orders ≡ orders) }
+    ensures classes { IfOk result (λ tables. AreClasses hierarchy.now.family tables.strings tables.classes.items) }
+    ensures distinct { IfOk result (λ tables. AreDistinct tables.strings) }
+{
+    match class_tables(alloc, hierarchy) {
+        Ok((classes, strings)) => Ok(Tables {
+            orders,
+            classes,
+            strings,
+        }),
+        Err(error) => Err(error),
+    }
+}
+
 /// What the machine uses of each class, and the distinct strings.
-fn tables_of(alloc: Global, hierarchy: &Hierarchy) -> Result<(Vec<Class>, Texts), AllocError>
+fn class_tables(alloc: Global, hierarchy: &Hierarchy) -> Result<(Vec<Class>, Texts), AllocError>
     ensures classes { IfOk result (λ tables. AreClasses hierarchy.now.family tables.1 tables.0.items) }
     ensures distinct { IfOk result (λ tables. AreDistinct tables.1) }
 {
     let mut strings = Texts::new(alloc);
-    let classes = classes_of(alloc, hierarchy, &mut strings)?;
-    Ok((classes, strings))
+    match classes_of(alloc, hierarchy, &mut strings) {
+        Ok(classes) => Ok((classes, strings)),
+        Err(error) => Err(error),
+    }
 }
 
 /// A program of its parts.
-fn joined(
-    hierarchy: Hierarchy,
-    orders: InitializationOrders,
-    classes: Vec<Class>,
-    strings: Texts,
-) -> Program
-    requires orders { AreOrders hierarchy.family orders }
-    requires classes { AreClasses hierarchy.family strings classes.items }
-    requires distinct { AreDistinct strings }
+fn joined(hierarchy: Hierarchy, tables: Tables) -> Program
+    requires orders { AreOrders hierarchy.family tables.orders }
+    requires classes { AreClasses hierarchy.family tables.strings tables.classes.items }
+    requires distinct { AreDistinct tables.strings }
     ensures family { result.family ≡ hierarchy.family }
-    ensures orders { result.orders ≡ orders }
+    ensures orders { result.orders ≡ tables.orders }
     ensures program { IsProgram result }
 {
     Program {
         hierarchy,
-        orders,
-        classes,
-        strings,
+        orders: tables.orders,
+        classes: tables.classes,
+        strings: tables.strings,
     }
 }
 
@@ -131,11 +184,55 @@ fn classes_of(
         hierarchy,
         slots: slots.as_slice(),
     };
+    resolved_classes(alloc, &resolver, strings)
+}
+
+/// The same with what references are resolved with.
+fn resolved_classes(
+    alloc: Global,
+    resolver: &Resolver<'_>,
+    strings: &mut Texts,
+) -> Result<Vec<Class>, AllocError>
+    ensures classes { IfOk result (λ classes. AreClasses resolver.now.hierarchy.now.family strings.new classes.items) }
+    ensures grows { OnOk result (Grows strings.old strings.new) }
+{
     let mut classes = Vec::new(alloc);
-    for given in hierarchy.classes() {
-        classes.push(class_of(alloc, &resolver, strings, &given.file)?)?;
-    }
+    add_classes(alloc, resolver, strings, &mut classes)?;
     Ok(classes)
+}
+
+/// Adds what the machine uses of each class.
+fn add_classes(
+    alloc: Global,
+    resolver: &Resolver<'_>,
+    strings: &mut Texts,
+    classes: &mut Vec<Class>,
+) -> Result<(), AllocError>
+    requires { classes.old.items ≡ [] }
+    ensures classes { OnOk result (AreClasses resolver.now.hierarchy.now.family strings.new classes.new.items) }
+    ensures grows { OnOk result (Grows strings.old strings.new) }
+{
+    for given in resolver.hierarchy.classes() {
+        add_class(alloc, resolver, strings, &given.file, classes)?;
+    }
+    Ok(())
+}
+
+/// Adds what the machine uses of one more class.
+fn add_class(
+    alloc: Global,
+    resolver: &Resolver<'_>,
+    strings: &mut Texts,
+    file: &ClassFile,
+    classes: &mut Vec<Class>,
+) -> Result<(), AllocError>
+    ensures class { OnOk result ((class : ClassTables) × IsClass resolver.now.hierarchy.now.family strings.new file.now class
+        × (classes.new.items ≡ classes.old.items ++ class ∷ [])) }
+    ensures grows { OnOk result (Grows strings.old strings.new) }
+{
+    let class = class_of(alloc, resolver, strings, file)?;
+    classes.push(class)?;
+    Ok(())
 }
 
 /// By class: the numbers of its static fields.
@@ -159,11 +256,25 @@ fn class_of(
     ensures class { IfOk result (IsClass resolver.now.hierarchy.now.family strings.new file.now) }
     ensures grows { OnOk result (Grows strings.old strings.new) }
 {
-    Ok(Class {
-        statics: statics_of(alloc, file)?,
-        methods: methods_of(alloc, file)?,
-        initializer: initializer_of(file),
-        main: main_of(file),
-        entries: resolver.entries_of(alloc, strings, file)?,
-    })
+    let entries = resolver.entries_of(alloc, strings, file)?;
+    match members_of(alloc, file) {
+        Ok((statics, methods)) => Ok(Class {
+            statics,
+            methods,
+            initializer: initializer_of(file),
+            main: main_of(file),
+            entries,
+        }),
+        Err(error) => Err(error),
+    }
+}
+
+/// The static fields and the methods of a class.
+fn members_of(alloc: Global, file: &ClassFile) -> Result<(StaticFields, Methods), AllocError>
+    ensures statics { IfOk result (λ members. members.0 ≡ map (static_field file.now) (statics_of file.now)) }
+    ensures methods { IfOk result (λ members. AllZip (IsImplementation file.now) file.now.methods members.1) }
+{
+    let statics = statics_of(alloc, file)?;
+    let methods = methods_of(alloc, file)?;
+    Ok((statics, methods))
 }

@@ -1,8 +1,11 @@
 //! The run-time constant pool of a class (JVMS 5.1).
 
-ghost use Rattle.std.specs.Prelude.{◌≡◌, IfOk, OnOk};
+ghost use Rattle.std.specs.Prelude.{◌≡◌, ◌<◌, [], ◌∷◌, ◌++◌, length, Some, IfOk, OnOk, if◌then◌else◌};
 ghost use Rattle.loading.specs.ClassIds.{StandsFor};
-ghost use Rattle.hierarchy.specs.Entries.{AreSlotsOf, slot_in, target_of, int_of_bits, long_of_halves};
+ghost use Rattle.hierarchy.specs.Entries.{AreSlotsOf, slot_in, slot_of, static_of, final_of, target_in, target_of, int_of_bits, long_of_halves};
+ghost use Rattle.hierarchy.specs.declared.entry.Entry.{Entry as PoolEntry};
+ghost use Rattle.hierarchy.specs.declared.entry.FieldTarget.TheVariants as targets;
+ghost use Rattle.loading.specs.Families.{file_in};
 ghost use Rattle.hierarchy.specs.Entries.{IsTargetAt, IsResolved, IsEntry, AreEntries};
 ghost use Rattle.loading.specs.Names.{class_name_at};
 ghost use Rattle.resolution.specs.Texts.{Grows};
@@ -13,7 +16,7 @@ use crate::references::{descriptor_at, resolve_field_at, resolve_method_at};
 use crate::slots::Slots;
 use crate::statics::kind_of;
 use classfile::flags::{FINAL, STATIC, has_flag};
-use classfile::{ClassFile, Constant};
+use classfile::{ClassFile, Constant, Member};
 use loading::class_named;
 use loading::names::{class_name_at, text_at};
 use resolution::hierarchy::Hierarchy;
@@ -46,24 +49,51 @@ fn long_of_halves(high: u32, low: u32) -> i64
     i64::from_be_bytes(bits.to_be_bytes())
 }
 
+/// A field of a class file as instructions use it, from its number.
+fn target_in(file: &ClassFile, class: u32, index: u16, slot: u32) -> FieldTarget
+    requires { index < length file.now.fields → slot ≡ slot_of file.now index }
+    ensures { result ≡ target_in (Some file.now) class index }
+{
+    match file.fields().get(usize::from(index)) {
+        Some(field) => target_of_field(field, class, index, slot),
+        None => FieldTarget::Instance { class, index },
+    }
+}
+
+/// A field as instructions use it, from its number.
+fn target_of_field(field: &Member, class: u32, index: u16, slot: u32) -> FieldTarget
+    ensures { result ≡ (if static_of (Some field.now) then targets.Static class slot (final_of (Some field.now))
+        else targets.Instance class index) }
+{
+    if has_flag(field.access_flags, STATIC) {
+        FieldTarget::Static {
+            class,
+            slot,
+            is_final: has_flag(field.access_flags, FINAL),
+        }
+    } else {
+        FieldTarget::Instance { class, index }
+    }
+}
+
 impl<'a> Resolver<'a> {
     /// A field as instructions use it.
     fn target_of(&self, field: Field) -> FieldTarget
         ensures { result ≡ target_of self.now.hierarchy.now.family field }
     {
-        let Field::Given { class, index } = field else {
-            return FieldTarget::Out;
-        };
-        let Some(file) = self.hierarchy.family().file(class) else {
-            return FieldTarget::Instance { class, index };
-        };
-        match file.fields().get(usize::from(index)) {
-            Some(member) if has_flag(member.access_flags, STATIC) => FieldTarget::Static {
-                class,
-                slot: self.slot(class, index),
-                is_final: has_flag(member.access_flags, FINAL),
-            },
-            _ => FieldTarget::Instance { class, index },
+        match field {
+            Field::Given { class, index } => self.given_target(class, index),
+            Field::Out => FieldTarget::Out,
+        }
+    }
+
+    /// A field of a given class as instructions use it.
+    fn given_target(&self, class: u32, index: u16) -> FieldTarget
+        ensures { result ≡ target_in (file_in self.now.hierarchy.now.family class) class index }
+    {
+        match self.hierarchy.family().file(class) {
+            Some(file) => target_in(file, class, index, self.slot(class, index)),
+            None => FieldTarget::Instance { class, index },
         }
     }
 
@@ -147,11 +177,47 @@ impl<'a> Resolver<'a> {
         ensures entries { IfOk result (AreEntries self.now.hierarchy.now.family strings.new file.now) }
         ensures grows { OnOk result (Grows strings.old strings.new) }
     {
-        let constants = file.constants();
-        let mut entries = Vec::with_capacity(alloc, constants.len())?;
-        for (index, constant) in constants.iter().enumerate() {
-            entries.push(self.entry_of(alloc, strings, file, index as u16, constant)?)?;
-        }
+        let mut entries = Vec::with_capacity(alloc, file.constants().len())?;
+        self.add_entries(alloc, strings, file, &mut entries)?;
         Ok(Entries { entries })
+    }
+
+    /// Adds an entry for each constant of a class file.
+    fn add_entries(
+        &self,
+        alloc: Global,
+        strings: &mut Texts,
+        file: &ClassFile,
+        entries: &mut Vec<Entry>,
+    ) -> Result<(), AllocError>
+        requires { entries.old.items ≡ [] }
+        ensures entries { OnOk result (AreEntries self.now.hierarchy.now.family strings.new file.now entries.new.items) }
+        ensures grows { OnOk result (Grows strings.old strings.new) }
+    {
+        let constants = file.constants();
+        for (index, constant) in constants.iter().enumerate() {
+            self.add_entry(alloc, strings, file, index as u16, constant, entries)?;
+        }
+        Ok(())
+    }
+
+    /// Adds an entry for one more constant.
+    fn add_entry(
+        &self,
+        alloc: Global,
+        strings: &mut Texts,
+        file: &ClassFile,
+        index: u16,
+        constant: &Constant,
+        entries: &mut Vec<Entry>,
+    ) -> Result<(), AllocError>
+        ensures entry { OnOk result ((entry : PoolEntry)
+            × IsEntry self.now.hierarchy.now.family strings.new file.now index constant.now entry
+            × (entries.new.items ≡ entries.old.items ++ entry ∷ [])) }
+        ensures grows { OnOk result (Grows strings.old strings.new) }
+    {
+        let entry = self.entry_of(alloc, strings, file, index, constant)?;
+        entries.push(entry)?;
+        Ok(())
     }
 }

@@ -150,27 +150,54 @@ impl Program {
 
     fn array_text(&self, alloc: Global, array: ArrayType) -> Result<String, AllocError> {
         let mut text = String::new(alloc);
+        self.push_array(alloc, array, &mut text)?;
+        Ok(text)
+    }
+
+    /// Adds the descriptor of an array class.
+    fn push_array(
+        &self,
+        alloc: Global,
+        array: ArrayType,
+        text: &mut String,
+    ) -> Result<(), AllocError> {
         for _ in 0..array.dimensions {
             text.push_str("[")?;
         }
-        match array.element {
-            ElementType::Boolean => text.push_str("Z")?,
-            ElementType::Byte => text.push_str("B")?,
-            ElementType::Char => text.push_str("C")?,
-            ElementType::Short => text.push_str("S")?,
-            ElementType::Int => text.push_str("I")?,
-            ElementType::Long => text.push_str("J")?,
-            ElementType::Float => text.push_str("F")?,
-            ElementType::Double => text.push_str("D")?,
-            ElementType::Given(number) => {
-                let name = self.given_text(alloc, number)?;
-                write!(text, "L{name};")?;
-            }
-            ElementType::BuiltIn(class) => {
-                let name = class.name();
-                write!(text, "L{name};")?;
-            }
-        }
-        Ok(text)
+        self.push_element(alloc, array.element, text)
     }
+
+    /// Adds the descriptor of an array's elements (JVMS 4.3.2).
+    fn push_element(
+        &self,
+        alloc: Global,
+        element: ElementType,
+        text: &mut String,
+    ) -> Result<(), AllocError> {
+        match element {
+            ElementType::Boolean => text.push_str("Z"),
+            ElementType::Byte => text.push_str("B"),
+            ElementType::Char => text.push_str("C"),
+            ElementType::Short => text.push_str("S"),
+            ElementType::Int => text.push_str("I"),
+            ElementType::Long => text.push_str("J"),
+            ElementType::Float => text.push_str("F"),
+            ElementType::Double => text.push_str("D"),
+            ElementType::Given(number) => self.push_given(alloc, number, text),
+            ElementType::BuiltIn(class) => push_class(class.name(), text),
+        }
+    }
+
+    /// Adds the descriptor of a given class.
+    fn push_given(&self, alloc: Global, number: u32, text: &mut String) -> Result<(), AllocError> {
+        let name = self.given_text(alloc, number)?;
+        push_class(&name, text)
+    }
+}
+
+/// Adds the descriptor of the class of a name.
+fn push_class(name: &str, text: &mut String) -> Result<(), AllocError> {
+    text.push_str("L")?;
+    text.push_str(name)?;
+    text.push_str(";")
 }

@@ -1,6 +1,7 @@
 //! The static fields of a class.
 
-ghost use Rattle.std.specs.Prelude.{◌≡◌, map, IfOk, Some};
+ghost use Rattle.std.specs.Prelude.{◌≡◌, [], ◌∷◌, ◌++◌, map, IfOk, OnOk, Some};
+ghost use Rattle.std.specs.List.{filter};
 ghost use Rattle.hierarchy.specs.Entries.{kind_of, has_value, is_static_field, statics_of};
 ghost use Rattle.loading.specs.Names.{text_at};
 ghost use Rattle.hierarchy.specs.Programs.{zero_of, int_constant, constant_at, constant_of, static_field};
@@ -96,11 +97,33 @@ pub(crate) fn statics_of(alloc: Global, file: &ClassFile) -> Result<StaticFields
     ensures { IfOk result (λ statics. statics ≡ map (static_field file.now) (statics_of file.now)) }
 {
     let mut statics = Vec::new(alloc);
+    add_statics(file, &mut statics)?;
+    Ok(StaticFields { fields: statics })
+}
+
+/// Adds the static fields of a class that have values.
+fn add_statics(file: &ClassFile, statics: &mut Vec<StaticField>) -> Result<(), AllocError>
+    requires { statics.old.items ≡ [] }
+    ensures { OnOk result (statics.new.items ≡ map (static_field file.now) (statics_of file.now)) }
+{
     let fields = file.fields();
     for field in fields {
-        if is_static_field(file, field) {
-            statics.push(static_field(file, field))?;
-        }
+        add_static(file, field, statics)?;
     }
-    Ok(StaticFields { fields: statics })
+    Ok(())
+}
+
+/// Adds a field, if it is static and has a value.
+fn add_static(
+    file: &ClassFile,
+    field: &Member,
+    statics: &mut Vec<StaticField>,
+) -> Result<(), AllocError>
+    ensures { OnOk result (statics.new.items
+        ≡ statics.old.items ++ map (static_field file.now) (filter (is_static_field file.now) (field.now ∷ []))) }
+{
+    if is_static_field(file, field) {
+        statics.push(static_field(file, field))?;
+    }
+    Ok(())
 }

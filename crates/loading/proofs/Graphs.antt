@@ -48,16 +48,16 @@ least_circle family graph v g least = record {
 pub circle_vertex : (family : Family) (graph : Rows) (v : ℕ) → IsGraphOf family graph → IsLeastOnCycle graph v → v < length family
 circle_vertex family graph v g least = (let on = least.on_cycle in let small = has_successor graph v on.0 on.1 in omega (arith, small, g.count))
 
-pub circle_fault : (family : Family) (graph : Rows) (v : ℕ) (x : GivenClass) (name : List ℕ) → IsGraphOf family graph → IsLeastOnCycle graph v → x ≡ get_or family v x
+pub fault_of_circle : (family : Family) (v : ℕ) (x : GivenClass) (name : List ℕ) → v < length family → IsLeastCircle family v → x ≡ get_or family v x
     → units_text name ≡ name_of x.file → IsCircleFault family (faults.Circle name)
-circle_fault family graph v x name g least read is =
-    let at-x : slice_get family v ≡ Some x = slice_get_read family (length family) v x refl (circle_vertex family graph v g least) read in
+fault_of_circle family v x name within least read is =
+    let at-x : slice_get family v ≡ Some x = slice_get_read family (length family) v x refl within read in
     record {
       number = v;
       name = name;
       is = refl;
       names = ap (λ (o : Option GivenClass). option_map name_of (file_of o)) at-x ∙ ap Some (sym is);
-      least = least_circle family graph v g least;
+      least = least;
     }
 
 -- ---- orders

@@ -4,8 +4,8 @@ ghost use Rattle.std.specs.Prelude.{◌≡◌, ℕ, ◌<◌, ◌≤◌, ◌^◌,
 ghost use Rattle.std.specs.List.{All, Contains};
 ghost use Rattle.graph.specs.Rows.{successors_of};
 ghost use Rattle.loading.specs.declared.fault.LinkFault.TheVariants.{Memory};
-ghost use Rattle.loading.specs.Families.{parents_in, IsFamily};
-ghost use Rattle.loading.specs.Linking.{numbers_of_class, AreLinked, IsGraphOf, IsCircleFault};
+ghost use Rattle.loading.specs.Families.{parents_in, IsFamily, IsParentsFirst};
+ghost use Rattle.loading.specs.Linking.{numbers_of_class, AreLinked, IsGraphOf, IsLeastCircle, IsCircleFault};
 
 use crate::family::Family;
 use crate::fault::LinkFault;
@@ -61,10 +61,20 @@ fn numbers_of(alloc: Global, vertices: &[usize]) -> Result<ClassNumbers, AllocEr
     ensures { IfOk result (λ numbers. numbers ≡ vertices.now) }
 {
     let mut numbers = Vec::with_capacity(alloc, vertices.len())?;
+    add_numbers(vertices, &mut numbers)?;
+    Ok(ClassNumbers { numbers })
+}
+
+/// Adds the vertices of a graph as numbers of classes.
+fn add_numbers(vertices: &[usize], numbers: &mut Vec<u32>) -> Result<(), AllocError>
+    requires fits { All (λ v. v < 2 ^ 32) vertices.now }
+    requires empty { numbers.old.items ≡ [] }
+    ensures { OnOk result (numbers.new.items ≡ vertices.now) }
+{
     for vertex in vertices {
         numbers.push(*vertex as u32)?;
     }
-    Ok(ClassNumbers { numbers })
+    Ok(())
 }
 
 /// The family of classes with their parents, or the least class that is its own ancestor.
@@ -74,15 +84,35 @@ pub(crate) fn arranged(alloc: Global, classes: Vec<GivenClass>) -> Result<Family
     ensures ok { IfOk result (λ family. (family ≡ classes.items) × IsFamily family) }
     ensures fault { IfErr result (λ x. (x ≡ Memory) ⊎ IsCircleFault classes.items x) }
 {
-    let graph = graph_of(alloc, classes.as_slice())?;
+    match order_of(alloc, classes.as_slice()) {
+        Ok(order) => Ok(Family { classes, order }),
+        Err(fault) => Err(fault),
+    }
+}
+
+/// All classes, each behind its parents, or the fault of the least class that is its own ancestor.
+fn order_of(alloc: Global, classes: &[GivenClass]) -> Result<ClassNumbers, LinkFault>
+    requires few { length classes.now ≤ 65535 }
+    requires linked { AreLinked classes.now }
+    ensures fits { OnOk result (IsFamily classes.now) }
+    ensures order { IfOk result (IsParentsFirst classes.now) }
+    ensures fault { IfErr result (λ x. (x ≡ Memory) ⊎ IsCircleFault classes.now x) }
+{
+    let graph = graph_of(alloc, classes)?;
     match arrange(alloc, &graph)? {
-        Arrangement::Order(order) => {
-            let order = numbers_of(alloc, order.as_slice())?;
-            Ok(Family { classes, order })
-        }
-        Arrangement::Circle(vertex) => {
-            let name = copy_of_name(alloc, &classes[vertex].file)?;
-            Err(LinkFault::Circle { name })
-        }
+        Arrangement::Order(order) => Ok(numbers_of(alloc, order.as_slice())?),
+        Arrangement::Circle(vertex) => Err(circle_fault(alloc, classes, vertex)),
+    }
+}
+
+/// The fault of the least class that is its own ancestor.
+fn circle_fault(alloc: Global, classes: &[GivenClass], number: usize) -> LinkFault
+    requires number { number < length classes.now }
+    requires least { IsLeastCircle classes.now number }
+    ensures { (result ≡ Memory) ⊎ IsCircleFault classes.now result }
+{
+    match copy_of_name(alloc, &classes[number].file) {
+        Ok(name) => LinkFault::Circle { name },
+        Err(_) => LinkFault::Memory,
     }
 }

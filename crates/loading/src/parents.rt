@@ -1,6 +1,6 @@
 //! The parents of a class by number, or what is wrong with them (JVMS 5.3.5).
 
-ghost use Rattle.std.specs.Prelude.{◌≡◌, ◌⊎◌, true, false, Some, IfOk, IfErr, MatchOption, MatchResult};
+ghost use Rattle.std.specs.Prelude.{◌≡◌, ◌⊎◌, [], true, false, Some, IfOk, IfErr, MatchOption, MatchResult};
 ghost use Rattle.std.specs.List.{All};
 ghost use Rattle.loading.specs.declared.fault.LinkFault.TheVariants.{Memory};
 ghost use Rattle.loading.specs.declared.fault.BadParent.TheVariants as bad;
@@ -177,15 +177,34 @@ fn interfaces_of(
     if !knows_interfaces(files, file) {
         return Err(InterfaceFault::Bad(BadParent::UnknownInterface));
     }
+    let mut numbers = Vec::with_capacity(alloc, file.interfaces().len())?;
+    match add_interfaces(files, file, &mut numbers) {
+        Ok(()) => Ok(ClassNumbers { numbers }),
+        Err(fault) => Err(fault),
+    }
+}
+
+/// Adds the numbers of the direct superinterfaces of a class whose names are all known, up to the first that is no
+/// interface's.
+fn add_interfaces(
+    files: &[ClassFile],
+    file: &ClassFile,
+    numbers: &mut Vec<u32>,
+) -> Result<(), InterfaceFault>
+    requires few { WithinLimit files.now }
+    requires ascending { Ascend files.now }
+    requires known { All (λ name. ¬ IsUnknown files.now name) (interfaces_of file.now) }
+    requires empty { numbers.old.items ≡ [] }
+    ensures { MatchResult result (λ _. AreInterfaces files.now file.now numbers.new.items) (FailsFor files.now file.now) }
+{
     let indices = file.interfaces();
-    let mut numbers = Vec::with_capacity(alloc, indices.len())?;
     for index in indices {
         match interface_named(files, class_name_at(file, *index)) {
             Ok(number) => numbers.push(number)?,
             Err(kind) => return Err(InterfaceFault::Bad(kind)),
         }
     }
-    Ok(ClassNumbers { numbers })
+    Ok(())
 }
 
 /// The fault of a class with a bad parent of this kind, the least that it has.

@@ -1,11 +1,11 @@
 //! A family with what its members are found by.
 
-ghost use Rattle.std.specs.Prelude.{◌≡◌, ◌≢◌, ℕ, IfOk, Some, MatchOption, option_map, option_to_list};
+ghost use Rattle.std.specs.Prelude.{◌≡◌, ◌≢◌, ℕ, IfOk, Some, MatchOption, option_map, option_to_list, slice_get};
 ghost use Rattle.loading.specs.Families.{IsFamily, AreParentsWithin, is_interface_in, superclass_in, superclasses_in, name_in};
 ghost use Rattle.resolution.specs.Hierarchies.{wanted_in};
 ghost use Rattle.resolution.specs.Keys.{NameAndType};
 ghost use Rattle.resolution.specs.MemberIndexes.{AreNumbers, IsLookup};
-ghost use Rattle.resolution.specs.MemberLookup.{flags_in, method_in, is_inherited, key_in};
+ghost use Rattle.resolution.specs.MemberLookup.{flags_in, member_flags, method_in, is_inherited, key_in, key_of};
 ghost use Rattle.resolution.specs.Resolution.{instance_method_in};
 ghost use Rattle.resolution.specs.Search.{IsInterfaceList};
 ghost use Rattle.resolution.specs.Superinterfaces.{AreInterfaceLists};
@@ -14,6 +14,7 @@ use crate::member_index::MemberKey;
 use crate::member_table::MemberTable;
 use crate::superinterfaces::Superinterfaces;
 use crate::wanted::Wanted;
+use classfile::ClassFile;
 use classfile::flags::{INTERFACE, PRIVATE, STATIC, has_flag};
 use loading::family::Family;
 use loading::given::{GivenClass, Superclass};
@@ -136,11 +137,8 @@ impl Hierarchy {
     pub(crate) fn flags(&self, class: u32, index: u16) -> u16
         ensures { result ≡ flags_in self.now.family class index }
     {
-        match self.classes().get(class as usize) {
-            Some(given) => match given.file.methods().get(usize::from(index)) {
-                Some(method) => method.access_flags,
-                None => 0,
-            },
+        match self.family.file(class) {
+            Some(file) => flags_at(file, index),
             None => 0,
         }
     }
@@ -149,10 +147,8 @@ impl Hierarchy {
     pub fn names(&self, class: u32, index: u16) -> Option<(&[u8], &[u8])>
         ensures { option_map (λ x. record { name = x.0.now; descriptor = x.1.now }) result ≡ key_in self.now.family class index }
     {
-        let given = self.classes().get(class as usize)?;
-        let method = given.file.methods().get(usize::from(index))?;
-        let name = text_at(&given.file, method.name);
-        Some((name, text_at(&given.file, method.descriptor)))
+        let file = self.family.file(class)?;
+        names_at(file, index)
     }
 
     /// The place of a class's member of some kind.
@@ -184,6 +180,26 @@ impl Hierarchy {
             _ => None,
         }
     }
+}
+
+/// The access flags of the method at a place of a class file, or no flags.
+fn flags_at(file: &ClassFile, index: u16) -> u16
+    ensures { result ≡ member_flags (slice_get file.now.methods index) }
+{
+    match file.methods().get(usize::from(index)) {
+        Some(method) => method.access_flags,
+        None => 0,
+    }
+}
+
+/// The name and the descriptor of the method at a place of a class file.
+fn names_at(file: &ClassFile, index: u16) -> Option<(&[u8], &[u8])>
+    ensures { option_map (λ x. record { name = x.0.now; descriptor = x.1.now }) result
+        ≡ key_of file.now (slice_get file.now.methods index) }
+{
+    let method = file.methods().get(usize::from(index))?;
+    let name = text_at(file, method.name);
+    Some((name, text_at(file, method.descriptor)))
 }
 
 /// Whether a method of these flags is neither private nor static.

@@ -3,7 +3,7 @@
 ghost use Rattle.std.specs.Prelude.{◌≡◌, ℕ, ◌<◌, ◌≤◌, ◌^◌, true, [], ◌∷◌, length, IfOk, OnOk};
 ghost use Rattle.std.specs.List.{All, Contains, filter, flat_map};
 ghost use Rattle.graph.specs.Rows.{IsClosed};
-ghost use Rattle.loading.specs.Families.{interfaces_in, superclasses_in, is_interface_in};
+ghost use Rattle.loading.specs.Families.{IsFamily, AreParentsWithin, interfaces_in, superclasses_in, is_interface_in};
 ghost use Rattle.resolution.specs.Initialization.{IsInitializationOrder, IsBehind};
 ghost use Rattle.resolution.specs.Initialization.{is_initialized_first, declares_default, is_default_method};
 ghost use Rattle.resolution.specs.Search.{GoesOn, row_in};
@@ -42,16 +42,8 @@ impl InitializationOrders {
         ensures len { IfOk result (λ rows. length rows ≡ length family.now) }
         ensures orders { IfOk result (λ rows. (c : ℕ) → c < length family.now → IsInitializationOrder family.now c (row_in rows c)) }
     {
-        let behind = interfaces_behind(alloc, family)?;
-        let count = family.classes().len();
-        let order = family.parents_first();
-        let mut seen = Visited::new(alloc, count)?;
-        let mut rows = empty_lists(alloc, count)?;
-        for class in order {
-            let row = order_of(alloc, family, *class, &behind, &mut seen)?;
-            rows[*class as usize] = row;
-        }
-        Ok(InitializationOrders { rows })
+        let mut seen = Visited::new(alloc, family.classes().len())?;
+        orders_of(alloc, family, &mut seen)
     }
 
     /// The order of a class. Empty for a number of no class.
@@ -66,23 +58,112 @@ impl InitializationOrders {
     }
 }
 
+/// The orders of the classes of a family.
+fn orders_of(
+    alloc: Global,
+    family: &Family,
+    seen: &mut Visited,
+) -> Result<InitializationOrders, AllocError>
+    requires { seen.old.limit ≡ length family.now }
+    ensures len { IfOk result (λ rows. length rows ≡ length family.now) }
+    ensures orders { IfOk result (λ rows. (c : ℕ) → c < length family.now → IsInitializationOrder family.now c (row_in rows c)) }
+{
+    let behind = interfaces_behind(alloc, family, seen)?;
+    orders_from(alloc, family, &behind, seen)
+}
+
+/// The orders of the classes of a family, from the lists of its interfaces.
+fn orders_from(
+    alloc: Global,
+    family: &Family,
+    behind: &[ClassNumbers],
+    seen: &mut Visited,
+) -> Result<InitializationOrders, AllocError>
+    requires limit { seen.old.limit ≡ length family.now }
+    requires len { length behind.now ≡ length family.now }
+    requires closed { IsClosed behind.now }
+    requires lists { (i : ℕ) → i < length family.now
+        → is_interface_in family.now i ≡ true → IsBehind family.now i (row_in behind.now i) }
+    ensures len { IfOk result (λ rows. length rows ≡ length family.now) }
+    ensures orders { IfOk result (λ rows. (c : ℕ) → c < length family.now → IsInitializationOrder family.now c (row_in rows c)) }
+{
+    let mut rows = empty_lists(alloc, family.classes().len())?;
+    fill_orders(alloc, family, behind, seen, &mut rows)?;
+    Ok(InitializationOrders { rows })
+}
+
+/// Gives each class its order.
+fn fill_orders(
+    alloc: Global,
+    family: &Family,
+    behind: &[ClassNumbers],
+    seen: &mut Visited,
+    rows: &mut Vec<ClassNumbers>,
+) -> Result<(), AllocError>
+    requires fits { IsFamily family.now }
+    requires within { AreParentsWithin family.now }
+    requires limit { seen.old.limit ≡ length family.now }
+    requires behind { length behind.now ≡ length family.now }
+    requires behind_closed { IsClosed behind.now }
+    requires lists { (i : ℕ) → i < length family.now
+        → is_interface_in family.now i ≡ true → IsBehind family.now i (row_in behind.now i) }
+    requires len { length rows.old.items ≡ length family.now }
+    requires closed { IsClosed rows.old.items }
+    ensures len { OnOk result (length rows.new.items ≡ length family.now) }
+    ensures closed { OnOk result (IsClosed rows.new.items) }
+    ensures orders { OnOk result ((c : ℕ) → c < length family.now
+        → IsInitializationOrder family.now c (row_in rows.new.items c)) }
+{
+    let order = family.parents_first();
+    for class in order {
+        let row = order_of(alloc, family, *class, behind, seen)?;
+        rows[*class as usize] = row;
+    }
+    Ok(())
+}
+
 /// By interface: itself and those above it, each behind its own superinterfaces, of which those stay that are initialized
 /// first. Empty for a class.
-fn interfaces_behind(alloc: Global, family: &Family) -> Result<Vec<ClassNumbers>, AllocError>
+fn interfaces_behind(
+    alloc: Global,
+    family: &Family,
+    seen: &mut Visited,
+) -> Result<Vec<ClassNumbers>, AllocError>
+    requires { seen.old.limit ≡ length family.now }
+    ensures limit { OnOk result (seen.new.limit ≡ seen.old.limit) }
     ensures len { IfOk result (λ lists. length lists.items ≡ length family.now) }
     ensures closed { IfOk result (λ lists. IsClosed lists.items) }
     ensures lists { IfOk result (λ lists. (i : ℕ) → i < length family.now
         → is_interface_in family.now i ≡ true → IsBehind family.now i (row_in lists.items i)) }
 {
-    let count = family.classes().len();
+    let mut lists = empty_lists(alloc, family.classes().len())?;
+    fill_behind(alloc, family, seen, &mut lists)?;
+    Ok(lists)
+}
+
+/// Gives each interface its list.
+fn fill_behind(
+    alloc: Global,
+    family: &Family,
+    seen: &mut Visited,
+    lists: &mut Vec<ClassNumbers>,
+) -> Result<(), AllocError>
+    requires fits { IsFamily family.now }
+    requires limit { seen.old.limit ≡ length family.now }
+    requires len { length lists.old.items ≡ length family.now }
+    requires closed { IsClosed lists.old.items }
+    ensures limit { OnOk result (seen.new.limit ≡ seen.old.limit) }
+    ensures len { OnOk result (length lists.new.items ≡ length family.now) }
+    ensures closed { OnOk result (IsClosed lists.new.items) }
+    ensures lists { OnOk result ((i : ℕ) → i < length family.now
+        → is_interface_in family.now i ≡ true → IsBehind family.now i (row_in lists.new.items i)) }
+{
     let order = family.parents_first();
-    let mut seen = Visited::new(alloc, count)?;
-    let mut lists = empty_lists(alloc, count)?;
     for class in order {
-        let list = behind_of(alloc, family, *class, &lists, &mut seen)?;
+        let list = behind_of(alloc, family, *class, lists, seen)?;
         lists[*class as usize] = list;
     }
-    Ok(lists)
+    Ok(())
 }
 
 /// The list of an interface from those of its direct superinterfaces. Empty for a class.

@@ -51,8 +51,21 @@ pub(crate) fn empty_lists(alloc: Global, count: usize) -> Result<Vec<ClassNumber
     ensures { IfOk result (λ lists. lists.items ≡ replicate count []) }
 {
     let mut lists = Vec::with_capacity(alloc, count)?;
+    add_empty_lists(alloc, count, &mut lists)?;
+    Ok(lists)
+}
+
+/// Adds an empty list for each of so many classes.
+fn add_empty_lists(
+    alloc: Global,
+    count: usize,
+    lists: &mut Vec<ClassNumbers>,
+) -> Result<(), AllocError>
+    requires { lists.old.items ≡ [] }
+    ensures { OnOk result (lists.new.items ≡ replicate count []) }
+{
     for _ in 0..count {
         lists.push(ClassNumbers::new(Vec::new(alloc)))?;
     }
-    Ok(lists)
+    Ok(())
 }

@@ -70,15 +70,20 @@ impl MemberTable {
     pub(crate) fn of_classes(alloc: Global, classes: &[GivenClass]) -> Result<Self, AllocError>
         ensures { IfOk result (IsTableOf classes.now) }
     {
-        let mut table = MemberTable {
+        let mut table = MemberTable::new(alloc);
+        add_classes(alloc, &mut table, classes)?;
+        Ok(table)
+    }
+
+    /// The table of no classes.
+    fn new(alloc: Global) -> Self
+        ensures { IsTableOf [] result }
+    {
+        MemberTable {
             texts: Texts::new(alloc),
             fields: MemberIndex::new(alloc),
             methods: MemberIndex::new(alloc),
-        };
-        for (class, given) in classes.iter().enumerate() {
-            add_class(alloc, &mut table, class, given)?;
         }
-        Ok(table)
     }
 
     /// The numbers of a name and a descriptor, if both have some.
@@ -105,6 +110,21 @@ impl MemberTable {
     {
         self.methods.place(class as usize, key?)
     }
+}
+
+/// Notes the fields and the methods of all classes.
+fn add_classes(
+    alloc: Global,
+    table: &mut MemberTable,
+    classes: &[GivenClass],
+) -> Result<(), AllocError>
+    requires { IsTableOf [] table.old }
+    ensures { OnOk result (IsTableOf classes.now table.new) }
+{
+    for (class, given) in classes.iter().enumerate() {
+        add_class(alloc, table, class, given)?;
+    }
+    Ok(())
 }
 
 /// Notes the fields and the methods of the next class.

@@ -4,6 +4,7 @@ ghost use Rattle.std.specs.Prelude.{◌≡◌, ℕ, ◌∷◌, ◌<◌, ◌≤�
 ghost use Rattle.std.specs.List.{All, flat_map};
 ghost use Rattle.graph.specs.Rows.{IsClosed};
 ghost use Rattle.graph.specs.Seen.{AreDistinct};
+ghost use Rattle.loading.specs.Families.{IsFamily};
 ghost use Rattle.resolution.specs.Search.{GoesOn, IsInterfaceList, firsts, row_in};
 
 use crate::joined::{empty_lists, join, listed};
@@ -36,15 +37,8 @@ impl Superinterfaces {
         ensures len { IfOk result (λ rows. length rows ≡ length family.now) }
         ensures lists { IfOk result (λ rows. (c : ℕ) → c < length family.now → IsInterfaceList family.now c (row_in rows c)) }
     {
-        let count = family.classes().len();
-        let order = family.parents_first();
-        let mut seen = Visited::new(alloc, count)?;
-        let mut rows = empty_lists(alloc, count)?;
-        for class in order {
-            let row = row_of(alloc, family.interfaces(*class), &rows, &mut seen)?;
-            rows[*class as usize] = row;
-        }
-        Ok(Superinterfaces { rows })
+        let mut seen = Visited::new(alloc, family.classes().len())?;
+        lists_of(alloc, family, &mut seen)
     }
 
     /// The list of a class. Empty for a number of no class.
@@ -57,6 +51,44 @@ impl Superinterfaces {
             None => &[],
         }
     }
+}
+
+/// The lists of the classes of a family.
+fn lists_of(
+    alloc: Global,
+    family: &Family,
+    seen: &mut Visited,
+) -> Result<Superinterfaces, AllocError>
+    requires { seen.old.limit ≡ length family.now }
+    ensures len { IfOk result (λ rows. length rows ≡ length family.now) }
+    ensures lists { IfOk result (λ rows. (c : ℕ) → c < length family.now → IsInterfaceList family.now c (row_in rows c)) }
+{
+    let mut rows = empty_lists(alloc, family.classes().len())?;
+    fill_lists(alloc, family, seen, &mut rows)?;
+    Ok(Superinterfaces { rows })
+}
+
+/// Gives each class its list.
+fn fill_lists(
+    alloc: Global,
+    family: &Family,
+    seen: &mut Visited,
+    rows: &mut Vec<ClassNumbers>,
+) -> Result<(), AllocError>
+    requires fits { IsFamily family.now }
+    requires limit { seen.old.limit ≡ length family.now }
+    requires len { length rows.old.items ≡ length family.now }
+    requires closed { IsClosed rows.old.items }
+    ensures len { OnOk result (length rows.new.items ≡ length family.now) }
+    ensures closed { OnOk result (IsClosed rows.new.items) }
+    ensures lists { OnOk result ((c : ℕ) → c < length family.now → IsInterfaceList family.now c (row_in rows.new.items c)) }
+{
+    let order = family.parents_first();
+    for class in order {
+        let row = row_of(alloc, family.interfaces(*class), rows, seen)?;
+        rows[*class as usize] = row;
+    }
+    Ok(())
 }
 
 /// The list of a class whose direct superinterfaces these are.

@@ -1,10 +1,10 @@
-use Rattle.std.proofs.Common.{◌≡◌, ℕ, ◌+◌, ◌-◌, ◌<◌, ◌≤◌, List, [], ◌∷◌, ◌++◌, Some, length, slice_index, set, sym, subst, ap, ◌∙◌, arith, vec_len}
+use Rattle.std.proofs.Common.{◌≡◌, ℕ, ◌+◌, ◌-◌, ◌<◌, ◌≤◌, List, [], ◌∷◌, length, slice_index, set, sym, subst, ap, ◌∙◌, arith}
 use Rattle.std.specs.List.{Contains}
 use Rattle.std.proofs.lemmas.Grind.{common_steps}
 use Rattle.std.proofs.lemmas.List.{length_push}
 use Rattle.std.proofs.lemmas.List.Elements.{All-contains, Contains-get_or, Contains-append_left}
 use Rattle.graph.specs.Rows.{successors_of}
-use Rattle.graph.proofs.Walks.{last_is_vertex, fresh_only, walk_look, walk_push, walk_pop}
+use Rattle.graph.proofs.Walks.{last_is_vertex, walk_look, walk_push, walk_pop}
 use Rattle.graph.proofs.walk.step.Goals as goal
 
 pub index-requires : goal.index-requires
@@ -41,25 +41,22 @@ skip-next-requires-clause-before c =
     let passed : c.index.result.now ≡ slice_index w.passed.items v = grind (arith, common_steps) in
     λ j h. subst (λ (r : List ℕ). Contains w.seen.items (slice_index r j)) (sym c.successors-row.ensures.value) (c.requires.walking.looked v j (rw passed at h))
 
-pub returns-in_ok-push-clause-keeps : goal.returns-in_ok-push-clause-keeps
-returns-in_ok-push-clause-keeps c =
+pub returns-in_ok-go_down-clause-keeps : goal.returns-in_ok-go_down-clause-keeps
+returns-in_ok-go_down-clause-keeps c =
     let w = c.args.walk.now in
     let to : ℕ = slice_index c.successors-row.result.now c.skip-next.result in
-    let es : c.add.new.self.items ≡ w.seen.items ++ to ∷ [] =
-    fresh_only c.in_ok-add.field-0 w.seen.items c.add.new.self.items to (c.skip-next.ensures.stops (omega arith)) c.in_ok-add.ensures.ok in
-    λ x h. rw es (Contains-append_left w.seen.items (to ∷ []) x h)
+    λ x h. rw c.in_ok-go_down.ensures.seen (Contains-append_left w.seen.items (to ∷ []) x h)
 
-pub returns-in_ok-push-clause-nearer : goal.returns-in_ok-push-clause-nearer
-returns-in_ok-push-clause-nearer c =
+pub returns-in_ok-go_down-clause-nearer : goal.returns-in_ok-go_down-clause-nearer
+returns-in_ok-go_down-clause-nearer c =
     let w = c.args.walk.now in
     let to : ℕ = slice_index c.successors-row.result.now c.skip-next.result in
-    let es : c.add.new.self.items ≡ w.seen.items ++ to ∷ [] =
-    fresh_only c.in_ok-add.field-0 w.seen.items c.add.new.self.items to (c.skip-next.ensures.stops (omega arith)) c.in_ok-add.ensures.ok in
-    let n : length c.add.new.self.items ≡ length w.seen.items + 1 = ap length es ∙ length_push w.seen.items to in
-    omega (arith, n, c.in_ok-add.ensures.small, c.in_ok-add.ensures.limit, c.in_ok-push.ensures.len)
+    let n : length c.go_down.new.walk.seen.items ≡ length w.seen.items + 1 = ap length c.in_ok-go_down.ensures.seen ∙ length_push w.seen.items to in
+    let p : length c.go_down.new.walk.path.items ≡ length w.path.items + 1 = ap length c.in_ok-go_down.ensures.path ∙ length_push w.path.items to in
+    omega (arith, n, p, c.in_ok-go_down.ensures.small, c.in_ok-go_down.ensures.limit)
 
-pub returns-in_ok-push-clause-walking : goal.returns-in_ok-push-clause-walking
-returns-in_ok-push-clause-walking c =
+pub returns-in_ok-go_down-clause-walking : goal.returns-in_ok-go_down-clause-walking
+returns-in_ok-go_down-clause-walking c =
     let g = c.args.graph.now in
     let w = c.args.walk.now in
     let v = c.index-vertex.result.now in
@@ -70,17 +67,17 @@ returns-in_ok-push-clause-walking c =
     let row = c.successors-row.ensures.value in
     let to : ℕ = slice_index slice next in
     let absent = c.skip-next.ensures.stops (omega arith) in
-    let es : c.add.new.self.items ≡ w.seen.items ++ to ∷ [] = fresh_only c.in_ok-add.field-0 w.seen.items c.add.new.self.items to absent c.in_ok-add.ensures.ok in
     let edge : Contains (successors_of g v) to = subst (λ (r : List ℕ). Contains r to) row (Contains-get_or slice next 0 (omega arith)) in
     let small : to < length g = All-contains (λ b. b < length g) slice to c.successors-row.ensures.within (Contains-get_or slice next 0 (omega arith)) in
     let looked = walk_look g w.seen.items w.path.items w.passed.items w.finished.items v next (omega arith)
     (subst (λ (r : List ℕ). next ≤ length r) row c.skip-next.ensures.bound)
     (λ j h. subst (λ (r : List ℕ). Contains w.seen.items (slice_index r j)) row (c.skip-next.ensures.passed j h)) c.requires.walking in
-    walk_push g w.seen.items c.add.new.self.items w.path.items c.push.new.self.items (set w.passed.items v next) w.finished.items v to
-    (omega arith) last edge small absent es c.in_ok-push.ensures.items looked
+    rw (c.in_ok-go_down.ensures.passed, c.in_ok-go_down.ensures.finished)
+    (walk_push g w.seen.items c.go_down.new.walk.seen.items w.path.items c.go_down.new.walk.path.items (set w.passed.items v next) w.finished.items v to
+    (omega arith) last edge small absent c.in_ok-go_down.ensures.seen c.in_ok-go_down.ensures.path looked)
 
-pub returns-in_ok-push-2-clause-walking : goal.returns-in_ok-push-2-clause-walking
-returns-in_ok-push-2-clause-walking c =
+pub returns-in_ok-go_up-clause-walking : goal.returns-in_ok-go_up-clause-walking
+returns-in_ok-go_up-clause-walking c =
     let g = c.args.graph.now in
     let w = c.args.walk.now in
     let v = c.index-vertex.result.now in
@@ -93,8 +90,22 @@ returns-in_ok-push-2-clause-walking c =
     let bound : next ≤ length (successors_of g v) = subst (λ (r : List ℕ). next ≤ length r) row c.skip-next.ensures.bound in
     let whole : length (successors_of g v) ≤ next = subst (λ (r : List ℕ). length r ≤ next) row (omega arith) in
     let looked = walk_look g w.seen.items w.path.items w.passed.items w.finished.items v next (omega arith) bound passed c.requires.walking in
-    let last_read : slice_index w.path.items (vec_len w.path - 1) ≡ v = grind (arith, common_steps) in
-    let popped : c.pop.result ≡ Some v = c.pop.ensures.value 0 (omega arith) ∙ ap Some last_read in
-    let ep : w.path.items ≡ c.pop.new.self.items ++ v ∷ [] = rw popped at c.pop.ensures.items in
-    walk_pop g w.seen.items w.path.items c.pop.new.self.items (set w.passed.items v next) w.finished.items c.push-else-next-row.new.self.items v
-    ep c.in_ok-push-2.ensures.items (λ j h. passed j (omega arith)) looked
+    rw (c.in_ok-go_up.ensures.seen, c.in_ok-go_up.ensures.passed)
+    (walk_pop g w.seen.items w.path.items c.go_up.new.walk.path.items (set w.passed.items v next) w.finished.items c.go_up.new.walk.finished.items v
+    c.in_ok-go_up.ensures.path c.in_ok-go_up.ensures.finished (λ j h. passed j (omega arith)) looked)
+
+pub returns-in_ok-go_up-clause-keeps : goal.returns-in_ok-go_up-clause-keeps
+returns-in_ok-go_up-clause-keeps c = λ x h. rw c.in_ok-go_up.ensures.seen h
+
+pub returns-in_ok-go_up-clause-nearer : goal.returns-in_ok-go_up-clause-nearer
+returns-in_ok-go_up-clause-nearer c =
+    let v = c.index-vertex.result.now in
+    let path = c.go_up.new.walk.path.items in
+    let shorter : length c.args.walk.now.path.items ≡ length path + 1 = ap length c.in_ok-go_up.ensures.path ∙ length_push path v in
+    rw c.in_ok-go_up.ensures.seen (omega arith)
+
+pub returns-in_ok-go_up-clause-limit : goal.returns-in_ok-go_up-clause-limit
+returns-in_ok-go_up-clause-limit c = rw c.in_ok-go_up.ensures.seen c.requires.limit
+
+pub returns-in_ok-go_down-clause-limit : goal.returns-in_ok-go_down-clause-limit
+returns-in_ok-go_down-clause-limit c = c.in_ok-go_down.ensures.limit ∙ c.requires.limit

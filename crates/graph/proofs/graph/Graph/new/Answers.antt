@@ -4,4 +4,4 @@ use Rattle.graph.proofs.Edges.{closed_empty}
 use Rattle.graph.proofs.graph.Graph.new.Goals as goal
 
 pub invariant_of-result : goal.invariant_of-result
-invariant_of-result c = subst (λ (graph : Rows). IsClosed graph) (sym c.loop.invariant) (closed_empty c.loop.counter)
+invariant_of-result c = subst (λ (graph : Rows). IsClosed graph) (sym c.in_ok-add_rows.ensures) (closed_empty c.args.count)

@@ -1,0 +1,14 @@
+use Rattle.std.proofs.Common.{take}
+use Rattle.std.specs.List.{AllZip}
+use Rattle.hierarchy.specs.declared.class.Class.{Class}
+use Rattle.loading.specs.declared.given.GivenClass.{GivenClass}
+use Rattle.hierarchy.specs.Programs.{IsClass}
+use Rattle.resolution.specs.Texts.{Grows}
+use Rattle.hierarchy.proofs.assembly.add_classes.Given as goal
+
+abbrev pub invariant-loop-given : goal.invariant-loop-given
+invariant-loop-given l = record {
+  classes : AllZip (λ (given : GivenClass) (class : Class). IsClass l.resolver.hierarchy.now.family l.strings given.file class)
+      (take l.given-index l.resolver.hierarchy.now.family) l.classes.items;
+  grows : Grows l.initial.strings l.strings;
+}

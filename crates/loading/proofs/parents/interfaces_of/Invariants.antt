@@ -1,5 +1,0 @@
-use Rattle.loading.proofs.Interfaces.{AreSoFar}
-use Rattle.loading.proofs.parents.interfaces_of.Given as goal
-
-abbrev pub invariant-loop-index : goal.invariant-loop-index
-invariant-loop-index l = AreSoFar l.files l.file l.index-index l.numbers.items

@@ -1,0 +1,14 @@
+use Rattle.std.proofs.Common.{◌≡◌, ℕ, ◌≤◌, ◌^◌, length, take}
+use Rattle.std.specs.List.{Contains}
+use Rattle.graph.specs.Rows.{IsClosed}
+use Rattle.resolution.specs.Search.{IsInterfaceList, row_in}
+use Rattle.resolution.proofs.superinterfaces.fill_lists.Given as goal
+
+abbrev pub invariant-loop-class : goal.invariant-loop-class
+invariant-loop-class l = record {
+  limit : l.seen.limit ≡ length l.family;
+  few : length l.family ≤ 2 ^ 32;
+  len : length l.rows.items ≡ length l.family;
+  closed : IsClosed l.rows.items;
+  lists : (c : ℕ) → Contains (take l.class-index l.order) c → IsInterfaceList l.family c (row_in l.rows.items c);
+}
