@@ -127,6 +127,13 @@ body_at kind pool total at flags name descriptor bytes =
     attributes_at pool (owner_of kind flags descriptor) total bytes >>= λ found.
     if lacks_code kind flags found.0 then Err (faults.Attribute at) else Ok (member_of flags name descriptor found.0, found.1)
 
+-- the indices of a member's name and descriptor
+unfoldable pub signature_at : MemberKind → List Constant → ℕ → List ℕ → Result ((ℕ × ℕ) × List ℕ) ClassFault
+signature_at kind pool total bytes = do
+  name ← text_index_at pool total bytes
+  descriptor ← descriptor_at kind pool total name.1
+  Ok ((name.0, descriptor.0), descriptor.1)
+
 unfoldable pub member_at : MemberKind → List Constant → ℕ → List Member → List ℕ → Result (Member × List ℕ) ClassFault
 member_at kind pool total earlier bytes = do
   flags ← number_at w16 total bytes

@@ -1,14 +1,15 @@
 //! Modified UTF-8 (JVMS 4.4.7).
 
-ghost use Rattle.std.specs.Prelude.{◌≡◌, ◌++◌, ◌<◌, length, true, [], IfOk, OnOk, IfSome, MatchOption};
+ghost use Rattle.std.specs.Prelude.{◌≡◌, ◌++◌, ◌+◌, ◌*◌, ◌%◌, ◌<◌, length, true, [], IfOk, OnOk, IfSome, MatchOption};
 ghost use Rattle.classfile.specs.Modified.{is_one, is_two, is_three, all_one, is_modified};
 ghost use Rattle.classfile.specs.Units.{unit_text, units_text, IsModifiedUtf8, IsSpelledFirst};
 
+use crate::name::ClassName;
 use std::alloc::{AllocError, Global};
 use std::marker::Model;
 
 /// Bytes that are modified UTF-8: each 16-bit unit in its one spelling.
-#[derive(Debug, Drop)]
+#[derive(Drop)]
 pub struct ModifiedUtf8 {
     bytes: Vec<u8>,
 }
@@ -84,26 +85,29 @@ pub(crate) fn first_unit(bytes: &[u8]) -> Option<(u16, &[u8])>
     }
     let (second, rest) = rest.split_first()?;
     if *first < 224 {
-        return Some((u16::from(*first % 32) * 64 + u16::from(*second % 64), rest));
+        return Some((unit_of_two(*first, *second), rest));
     }
     let (third, rest) = rest.split_first()?;
-    let high = u16::from(*first % 16) * 4096 + u16::from(*second % 64) * 64;
-    Some((high + u16::from(*third % 64), rest))
+    Some((unit_of_three(*first, *second, *third), rest))
+}
+
+/// The unit that two bytes spell.
+fn unit_of_two(first: u8, second: u8) -> u16
+    ensures { result ≡ first % 32 * 64 + second % 64 }
+{
+    u16::from(first % 32) * 64 + u16::from(second % 64)
+}
+
+/// The unit that three bytes spell.
+fn unit_of_three(first: u8, second: u8, third: u8) -> u16
+    ensures { result ≡ first % 16 * 4096 + second % 64 * 64 + third % 64 }
+{
+    u16::from(first % 16) * 4096 + u16::from(second % 64) * 64 + u16::from(third % 64)
 }
 
 /// The text of modified UTF-8 for a reader: surrogate pairs are joined, and a lone surrogate is `?`.
 pub fn printed(alloc: Global, bytes: &[u8]) -> Result<String, AllocError> {
-    let mut units = Vec::new(alloc);
-    let mut left = bytes;
-    while let Some((unit, rest)) = first_unit(left) {
-        units.push(unit)?;
-        left = rest;
-    }
-    let mut text = String::new(alloc);
-    for character in char::decode_utf16(units.iter().copied()) {
-        text.push(character.unwrap_or('?'))?;
-    }
-    Ok(text)
+    ClassName::from_modified_utf8(alloc, bytes)?.to_string(alloc)
 }
 
 #[tactic(auto, unfolding(crate::specs::Modified::is_one))]
