@@ -25,3 +25,4 @@ pub mod EqualTexts
 pub mod EarlierMembers
 pub mod Pushes
 pub mod ModifiedSteps
+pub mod Pairs

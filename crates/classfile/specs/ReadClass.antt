@@ -86,6 +86,13 @@ body_at pool declaration total bytes = do
   attributes ← attributes_at pool owners.Class total methods.1
   Ok (structure_of pool declaration fields.0 methods.0 attributes.0, attributes.1)
 
+-- the constant pool, and what is behind it
+unfoldable pub contents_at : ℕ → List ℕ → Result (Structure × List ℕ) ClassFault
+contents_at total bytes = do
+  pool ← pool_at total bytes
+  declaration ← declaration_at pool.0 total pool.1
+  body_at pool.0 declaration.0 total declaration.1
+
 unfoldable pub class_at : ℕ → List ℕ → Result (Structure × List ℕ) ClassFault
 class_at total bytes = do
   magic ← magic_at total bytes
@@ -93,13 +100,6 @@ class_at total bytes = do
   pool ← pool_at total version.1
   declaration ← declaration_at pool.0 total pool.1
   body_at pool.0 declaration.0 total declaration.1
-
--- the magic number and the version, and what is behind them
-unfoldable pub header_at : ℕ → List ℕ → Result (List ℕ) ClassFault
-header_at total bytes = do
-  magic ← magic_at total bytes
-  version ← version_at total magic.1
-  Ok version.1
 
 -- a class file and nothing behind it
 unfoldable pub class_of : List ℕ → Result Structure ClassFault

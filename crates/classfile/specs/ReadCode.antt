@@ -81,6 +81,14 @@ code_of max_stack max_locals code exceptions attributes = record {
   attributes = attributes;
 }
 
+-- what is behind the limits of code
+unfoldable pub limited_code_at : List Constant → ℕ → ℕ → ℕ → List ℕ → Result (Code × List ℕ) ClassFault
+limited_code_at pool max_stack max_locals total bytes = do
+  code ← code_bytes_at total bytes
+  exceptions ← exceptions_at pool (length code.0) total code.1
+  attributes ← unread_attributes_at pool total exceptions.1
+  Ok (code_of max_stack max_locals code.0 exceptions.0 attributes.0, attributes.1)
+
 -- an exception table, and attributes that are kept unread
 unfoldable pub code_tables_at : List Constant → ℕ → ℕ → List ℕ → Result ((List ExceptionHandler × List UnreadAttribute) × List ℕ) ClassFault
 code_tables_at pool code_length total bytes = do

@@ -2,7 +2,8 @@
 
 ghost use Rattle.std.specs.Prelude.{◌≡◌, ◌<◌, ◌^◌, IfOk};
 ghost use Rattle.classfile.specs.Numbers.{Gives};
-ghost use Rattle.classfile.specs.ReadCode.{code_length_at, code_bytes_at, code_tables_at, code_at, whole_code};
+ghost use Rattle.classfile.specs.ReadCode.{code_length_at, code_bytes_at, code_tables_at, limited_code_at};
+ghost use Rattle.classfile.specs.ReadCode.{code_at, whole_code};
 
 use crate::code_bytes::CodeBytes;
 use crate::constant::Constant;
@@ -67,7 +68,7 @@ fn code_tables_at<'a>(
     Ok(((exceptions, attributes), rest))
 }
 
-#[tactic(auto, unfolding(crate::specs::ReadCode::code_at, crate::specs::ReadCode::code_tables_at))]
+#[tactic(auto, unfolding(crate::specs::ReadCode::code_at, crate::specs::ReadCode::limited_code_at))]
 fn code_at<'a>(
     alloc: Global,
     pool: &[Constant],
@@ -77,7 +78,21 @@ fn code_at<'a>(
     ensures { Gives (λ x. (x.0, x.1.now)) result (code_at pool.now total bytes.now) }
 {
     let ((max_stack, max_locals), rest) = u16_pair_at(total, bytes)?;
-    let (code, rest) = code_bytes_at(alloc, total, rest)?;
+    limited_code_at(alloc, pool, max_stack, max_locals, total, rest)
+}
+
+/// What is behind the limits of code.
+fn limited_code_at<'a>(
+    alloc: Global,
+    pool: &[Constant],
+    max_stack: u16,
+    max_locals: u16,
+    total: usize,
+    bytes: &'a [u8],
+) -> Result<(Code, &'a [u8]), ClassFault>
+    ensures { Gives (λ x. (x.0, x.1.now)) result (limited_code_at pool.now max_stack max_locals total bytes.now) }
+{
+    let (code, rest) = code_bytes_at(alloc, total, bytes)?;
     let length = code.as_slice().len();
     let ((exceptions, attributes), rest) = code_tables_at(alloc, pool, length, total, rest)?;
     let code = Code {

@@ -109,6 +109,13 @@ impl<'a> Earlier<'a> {
             pairs: BTreeSet::new(alloc),
         })
     }
+
+    /// The members alone.
+    pub(crate) fn into_members(self) -> Vec<Member>
+        ensures { result ≡ self.entry.members }
+    {
+        self.members
+    }
 }
 
 /// Whether one of these members has this name and descriptor. From then on they are found.

@@ -44,24 +44,39 @@ impl ClassFault {
             _ => ClassFault::Attribute { at },
         }
     }
+
+    /// The word that its text begins with.
+    fn word(&self) -> &'static str {
+        match self {
+            ClassFault::Memory => "Memory",
+            ClassFault::Truncated { .. } => "Truncated",
+            ClassFault::Extra { .. } => "Extra",
+            ClassFault::Magic => "Magic",
+            ClassFault::Version { .. } => "Version",
+            ClassFault::Tag { .. } => "Tag",
+            ClassFault::Index { .. } => "Index",
+            ClassFault::Utf8 { .. } => "Utf8",
+            ClassFault::Descriptor { .. } => "Descriptor",
+            ClassFault::Attribute { .. } => "Attribute",
+        }
+    }
 }
 
 /// A word, and its numbers behind it.
 impl Display for ClassFault {
     fn fmt<W: Write>(&self, formatter: &mut Formatter<W>) -> Result<(), fmt::Error> {
         match self {
-            ClassFault::Memory => formatter.write_str("Memory"),
-            ClassFault::Truncated { at } => write_number(formatter, "Truncated", *at),
-            ClassFault::Extra { at } => write_number(formatter, "Extra", *at),
-            ClassFault::Magic => formatter.write_str("Magic"),
-            ClassFault::Version { major, minor } => write_version(formatter, *major, *minor),
-            ClassFault::Tag { index } => write_number(formatter, "Tag", usize::from(*index)),
-            ClassFault::Index { at } => write_number(formatter, "Index", *at),
-            ClassFault::Utf8 { index } => write_number(formatter, "Utf8", usize::from(*index)),
-            ClassFault::Descriptor { index } => {
-                write_number(formatter, "Descriptor", usize::from(*index))
+            ClassFault::Memory | ClassFault::Magic => formatter.write_str(self.word()),
+            ClassFault::Truncated { at }
+            | ClassFault::Extra { at }
+            | ClassFault::Index { at }
+            | ClassFault::Attribute { at } => write_number(formatter, self.word(), *at),
+            ClassFault::Tag { index }
+            | ClassFault::Utf8 { index }
+            | ClassFault::Descriptor { index } => {
+                write_number(formatter, self.word(), usize::from(*index))
             }
-            ClassFault::Attribute { at } => write_number(formatter, "Attribute", *at),
+            ClassFault::Version { major, minor } => write_version(formatter, *major, *minor),
         }
     }
 }

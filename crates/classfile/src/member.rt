@@ -7,7 +7,7 @@ ghost use Rattle.classfile.specs.Numbers.{Gives};
 ghost use Rattle.classfile.specs.Repeat.{repeat_at};
 ghost use Rattle.classfile.specs.Lookup.{has_text};
 ghost use Rattle.classfile.specs.ReadMembers.{has_descriptor, descriptor_at, signature_at};
-ghost use Rattle.classfile.specs.ReadMembers.{owner_of, lacks_code, body_at, member_at, members_at};
+ghost use Rattle.classfile.specs.ReadMembers.{owner_of, lacks_code, body_at, member_at, counted_members_at, members_at};
 
 use crate::attribute::{Attribute, Attributes, Owner, attributes_at, has_code};
 use crate::code::Code;
@@ -183,7 +183,6 @@ fn body_at<'a>(
 }
 
 /// The next member. From then on it is one of those that stand before.
-#[tactic(auto, unfolding(crate::specs::ReadMembers::member_at, crate::specs::ReadMembers::signature_at))]
 fn member_at<'p, 'a>(
     alloc: Global,
     kind: MemberKind,
@@ -229,9 +228,23 @@ pub(crate) fn members_at<'a>(
     ensures { Gives (λ x. (x.0, x.1.now)) result (members_at kind pool.now total bytes.now) }
 {
     let (count, rest) = u16_at(total, bytes)?;
+    counted_members_at(alloc, kind, pool, total, count, rest)
+}
+
+/// So many members.
+fn counted_members_at<'a>(
+    alloc: Global,
+    kind: MemberKind,
+    pool: &ConstantPool,
+    total: usize,
+    count: u16,
+    bytes: &'a [u8],
+) -> Result<(Members, &'a [u8]), ClassFault>
+    ensures { Gives (λ x. (x.0, x.1.now)) result (counted_members_at kind pool.now total count bytes.now) }
+{
     let mut earlier = Earlier::new(alloc, pool.as_slice())?;
-    let rest = push_members_at(alloc, kind, pool, total, count, &mut earlier, rest)?;
-    let items = earlier.members;
+    let rest = push_members_at(alloc, kind, pool, total, count, &mut earlier, bytes)?;
+    let items = earlier.into_members();
     Ok((Members { items }, rest))
 }
 

@@ -1,10 +1,9 @@
 //! Modified UTF-8 (JVMS 4.4.7).
 
-ghost use Rattle.std.specs.Prelude.{◌≡◌, ◌++◌, ◌+◌, ◌*◌, ◌%◌, ◌<◌, length, true, [], IfOk, OnOk, IfSome, MatchOption};
+ghost use Rattle.std.specs.Prelude.{◌≡◌, ◌++◌, ◌+◌, ◌*◌, ◌%◌, ◌<◌, ◌≤◌, ◌∷◌, length, true, [], IfOk, OnOk, IfSome, MatchOption};
 ghost use Rattle.classfile.specs.Modified.{is_one, is_two, is_three, all_one, is_modified};
 ghost use Rattle.classfile.specs.Units.{unit_text, units_text, IsModifiedUtf8, IsSpelledFirst};
 
-use crate::name::ClassName;
 use std::alloc::{AllocError, Global};
 use std::marker::Model;
 
@@ -83,12 +82,22 @@ pub(crate) fn first_unit(bytes: &[u8]) -> Option<(u16, &[u8])>
     if *first < 192 {
         return Some((u16::from(*first), rest));
     }
-    let (second, rest) = rest.split_first()?;
-    if *first < 224 {
-        return Some((unit_of_two(*first, *second), rest));
+    longer_unit(*first, rest)
+}
+
+/// The unit of two or three bytes, of which the first is known.
+fn longer_unit(first: u8, bytes: &[u8]) -> Option<(u16, &[u8])>
+    requires { 192 ≤ first }
+    ensures shorter { IfSome result (λ x. length x.1.now < length bytes.now) }
+    ensures spelled { is_modified (first ∷ bytes.now) ≡ true
+        → MatchOption result ⊥ (λ x. IsSpelledFirst x.0 x.1.now (first ∷ bytes.now)) }
+{
+    let (second, rest) = bytes.split_first()?;
+    if first < 224 {
+        return Some((unit_of_two(first, *second), rest));
     }
     let (third, rest) = rest.split_first()?;
-    Some((unit_of_three(*first, *second, *third), rest))
+    Some((unit_of_three(first, *second, *third), rest))
 }
 
 /// The unit that two bytes spell.
@@ -103,11 +112,6 @@ fn unit_of_three(first: u8, second: u8, third: u8) -> u16
     ensures { result ≡ first % 16 * 4096 + second % 64 * 64 + third % 64 }
 {
     u16::from(first % 16) * 4096 + u16::from(second % 64) * 64 + u16::from(third % 64)
-}
-
-/// The text of modified UTF-8 for a reader: surrogate pairs are joined, and a lone surrogate is `?`.
-pub fn printed(alloc: Global, bytes: &[u8]) -> Result<String, AllocError> {
-    ClassName::from_modified_utf8(alloc, bytes)?.to_string(alloc)
 }
 
 #[tactic(auto, unfolding(crate::specs::Modified::is_one))]

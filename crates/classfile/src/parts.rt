@@ -4,8 +4,8 @@ ghost use Rattle.std.specs.Prelude.{◌≡◌, ◌<◌, ◌^◌};
 ghost use Rattle.classfile.specs.Numbers.{Gives};
 ghost use Rattle.classfile.specs.ReadCode.{ends_at};
 ghost use Rattle.classfile.specs.Structure.{Structure};
-ghost use Rattle.classfile.specs.ReadClass.{magic_at, version_at, header_at, methods_and_attributes_at, tables_at};
-ghost use Rattle.classfile.specs.ReadClass.{body_at, class_at, class_of};
+ghost use Rattle.classfile.specs.ReadClass.{magic_at, version_at, methods_and_attributes_at, tables_at};
+ghost use Rattle.classfile.specs.ReadClass.{body_at, contents_at, class_at, class_of};
 
 use crate::attribute::{Attributes, Owner, attributes_at};
 use crate::declaration::{Declaration, declaration_at};
@@ -107,25 +107,25 @@ fn body_at<'a>(
     Ok((class, rest))
 }
 
-/// The magic number and the version, of which nothing has to be kept.
-#[tactic(auto, unfolding(crate::specs::ReadClass::header_at))]
-fn header_at(total: usize, bytes: &[u8]) -> Result<&[u8], ClassFault>
-    ensures { Gives (λ rest. rest.now) result (header_at total bytes.now) }
+/// The constant pool, and what is behind it.
+#[tactic(auto, unfolding(crate::specs::ReadClass::contents_at))]
+fn contents_at(alloc: Global, total: usize, bytes: &[u8]) -> Result<(Parts, &[u8]), ClassFault>
+    requires { total < 2 ^ 63 }
+    ensures { Gives (λ x. (x.0, x.1.now)) result (contents_at total bytes.now) }
 {
-    let (_magic, rest) = magic_at(total, bytes)?;
-    let (_version, rest) = version_at(total, rest)?;
-    Ok(rest)
+    let (constants, rest) = pool_at(alloc, total, bytes)?;
+    let (declaration, rest) = declaration_at(alloc, constants.as_slice(), total, rest)?;
+    body_at(alloc, constants, declaration, total, rest)
 }
 
-#[tactic(auto, unfolding(crate::specs::ReadClass::class_at, crate::specs::ReadClass::header_at))]
+#[tactic(auto, unfolding(crate::specs::ReadClass::class_at, crate::specs::ReadClass::contents_at))]
 fn class_at(alloc: Global, total: usize, bytes: &[u8]) -> Result<(Parts, &[u8]), ClassFault>
     requires { total < 2 ^ 63 }
     ensures { Gives (λ x. (x.0, x.1.now)) result (class_at total bytes.now) }
 {
-    let rest = header_at(total, bytes)?;
-    let (constants, rest) = pool_at(alloc, total, rest)?;
-    let (declaration, rest) = declaration_at(alloc, constants.as_slice(), total, rest)?;
-    body_at(alloc, constants, declaration, total, rest)
+    let (_magic, rest) = magic_at(total, bytes)?;
+    let (_version, rest) = version_at(total, rest)?;
+    contents_at(alloc, total, rest)
 }
 
 /// The class file that fills these bytes.
