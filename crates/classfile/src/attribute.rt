@@ -7,7 +7,8 @@ ghost use Rattle.classfile.specs.Numbers.{Gives};
 ghost use Rattle.classfile.specs.Members.{is_constant_value, is_code};
 ghost use Rattle.classfile.specs.Repeat.{repeat_at};
 ghost use Rattle.classfile.specs.ReadMembers.{meaning_of, meaning_at, is_int_descriptor, suits, suits_at, value_of};
-ghost use Rattle.classfile.specs.ReadMembers.{constant_value_of, code_attribute_of, content_of, attribute_at, attributes_at};
+ghost use Rattle.classfile.specs.ReadMembers.{constant_value_of, code_attribute_of, content_of};
+ghost use Rattle.classfile.specs.ReadMembers.{attribute_at, attributes_at};
 
 use crate::bytes::Bytes;
 use crate::code::{Code, whole_code};

@@ -1,6 +1,7 @@
 //! Modified UTF-8 (JVMS 4.4.7).
 
-ghost use Rattle.std.specs.Prelude.{◌≡◌, ◌++◌, ◌+◌, ◌*◌, ◌%◌, ◌<◌, ◌≤◌, ◌∷◌, length, true, [], IfOk, OnOk, IfSome, MatchOption};
+ghost use Rattle.std.specs.Prelude.{◌≡◌, ◌++◌, ◌+◌, ◌*◌, ◌%◌, ◌<◌, ◌≤◌, ◌∷◌, length, true, []};
+ghost use Rattle.std.specs.Prelude.{IfOk, OnOk, IfSome, MatchOption};
 ghost use Rattle.classfile.specs.Modified.{is_one, is_two, is_three, all_one, is_modified};
 ghost use Rattle.classfile.specs.Units.{unit_text, units_text, IsModifiedUtf8, IsSpelledFirst};
 
