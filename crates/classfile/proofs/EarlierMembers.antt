@@ -9,13 +9,13 @@ use Rattle.std.specs.BTreeSet.{BTreeSet, contains}
 use Rattle.std.proofs.lemmas.List.Folds.{list_any-append, list_all-append}
 use Rattle.classfile.specs.declared.constant.Constant.{Constant}
 use Rattle.classfile.specs.declared.member.Member.{Member}
-use Rattle.std.specs.Prelude.{Result, Ok, Err, if◌then◌else◌}
+use Rattle.std.specs.Prelude.{Result, Ok, Err, IfOk, if◌then◌else◌}
 use Rattle.std.specs.Int.{w16}
 use Rattle.classfile.specs.declared.fault.ClassFault.{ClassFault}
 use Rattle.classfile.specs.declared.fault.ClassFault.TheVariants as faults
 use Rattle.classfile.specs.declared.attribute.Attribute.{Attribute}
 use Rattle.classfile.specs.declared.member.MemberKind.{MemberKind}
-use Rattle.classfile.specs.Numbers.{◌>>=◌, number_at}
+use Rattle.classfile.specs.Numbers.{◌>>=◌, Gives, number_at}
 use Rattle.classfile.specs.Lookup.{has_text, same_text}
 use Rattle.classfile.specs.ReadCode.{text_index_at}
 use Rattle.classfile.specs.ReadMembers.{is_like, is_declared, has_descriptor, descriptor_at, attributes_at}
@@ -178,3 +178,13 @@ pub member_is_named : (kind : MemberKind) (pool : List Constant) (total at flags
 unfolding body_at
 member_is_named kind pool total at flags name descriptor bytes m rest h =
     member_by_read kind at flags name descriptor (attributes_at pool (owner_of kind flags descriptor) total bytes) m rest h
+
+-- what holds of each member with this name and descriptor holds of the one that is read
+pub named_member : {R : Type 0} (view : R → List ℕ) (read : Result (Member × R) ClassFault) (kind : MemberKind) (pool : List Constant)
+    (total at flags name descriptor : ℕ) (bytes : List ℕ) (P : Member → Type 0)
+    → Gives (λ x. (x.0, view x.1)) read (body_at kind pool total at flags name descriptor bytes)
+    → ((m : Member) → m.name ≡ name → m.descriptor ≡ descriptor → P m) → IfOk read (λ x. P x.0)
+named_member view (Err e) kind pool total at flags name descriptor bytes P h each = tt
+named_member view (Ok x) kind pool total at flags name descriptor bytes P h each =
+    let named = member_is_named kind pool total at flags name descriptor bytes x.0 (view x.1) h in
+    each x.0 named.0 named.1

@@ -23,3 +23,6 @@ pub mod BadDescriptors
 pub mod TextForms
 pub mod EqualTexts
 pub mod EarlierMembers
+pub mod Pushes
+pub mod ModifiedSteps
+pub mod Pairs

@@ -5,11 +5,7 @@ use Rattle.classfile.specs.declared.fault.ClassFault.{ClassFault}
 use Rattle.classfile.specs.declared.fault.ClassFault.TheVariants as faults
 use Rattle.classfile.specs.declared.constant.Constant.{Constant}
 use Rattle.classfile.specs.Numbers.{◌>>=◌, Fails}
-use Rattle.classfile.specs.Entries.{is_wide, slot_at, slots_at}
-
--- what was read before, and what is still read
-abbrev pub with_front : List Constant → Result (List Constant × List ℕ) ClassFault → Result (List Constant × List ℕ) ClassFault
-with_front front read = read >>= λ x. Ok (front ++ x.0, x.1)
+use Rattle.classfile.specs.Entries.{is_wide, with_front, slot_at, slots_at}
 
 regroup : (front : List Constant) (n : Constant) (read : Result (List Constant × List ℕ) ClassFault) → with_front front (read >>= λ x. Ok (n ∷ x.0, x.1)) ≡ with_front (front ++ n ∷ []) read
 regroup front n (Ok x) = ap (λ (ns : List Constant). Ok (ns, x.1)) (simp append_assoc)

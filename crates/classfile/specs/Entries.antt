@@ -1,6 +1,6 @@
 -- The entries of a pool, read from left to right.
 use Rattle.std.specs.Prelude.{ℕ, zero, suc, ◌+◌, ◌-◌, Bool, true, false, ◌&&◌, List, []}
-use Rattle.std.specs.Prelude.{◌∷◌, Option, Some, None, Result, Ok, Err, nat_eq, ◌==◌, if◌then◌else◌}
+use Rattle.std.specs.Prelude.{◌∷◌, ◌++◌, Option, Some, None, Result, Ok, Err, nat_eq, ◌==◌, if◌then◌else◌}
 use Rattle.std.specs.Int.{Width, w8, w16, w32}
 use Rattle.classfile.specs.declared.fault.ClassFault.{ClassFault}
 use Rattle.classfile.specs.declared.fault.ClassFault.TheVariants as faults
@@ -32,6 +32,10 @@ kind_of tag =
     (if tag == 15 then Some kinds.MethodHandle else
     (if tag == 16 then Some kinds.MethodType else
     (if tag == 18 then Some kinds.InvokeDynamic else None)))))))))))))
+
+-- what stands before, and what is read behind it
+abbrev pub with_front : List Constant → Result (List Constant × List ℕ) ClassFault → Result (List Constant × List ℕ) ClassFault
+with_front front read = read >>= λ x. Ok (front ++ x.0, x.1)
 
 -- one number, two numbers
 abbrev pub one_at : Width → (ℕ → Constant) → ℕ → List ℕ → Result (Constant × List ℕ) ClassFault

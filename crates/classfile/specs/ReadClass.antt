@@ -5,6 +5,8 @@ use Rattle.classfile.specs.declared.fault.ClassFault.{ClassFault}
 use Rattle.classfile.specs.declared.fault.ClassFault.TheVariants as faults
 use Rattle.classfile.specs.declared.constant.Constant.{Constant}
 use Rattle.classfile.specs.declared.declaration.Declaration.{Declaration}
+use Rattle.classfile.specs.declared.member.Member.{Member}
+use Rattle.classfile.specs.declared.attribute.Attribute.{Attribute}
 use Rattle.classfile.specs.declared.attribute.Owner.TheVariants as owners
 use Rattle.classfile.specs.declared.member.MemberKind.TheVariants as kinds
 use Rattle.classfile.specs.Structure.{Structure, structure_of}
@@ -26,6 +28,13 @@ interface_at pool total bytes = index_at (is_class pool) total bytes
 
 unfoldable pub interfaces_at : List Constant → ℕ → List ℕ → Result (List ℕ × List ℕ) ClassFault
 interfaces_at pool total bytes = table_at (λ earlier. interface_at pool total) total bytes
+
+-- the class's own Class, and its superclass's or 0
+unfoldable pub class_indices_at : List Constant → ℕ → List ℕ → Result ((ℕ × ℕ) × List ℕ) ClassFault
+class_indices_at pool total bytes = do
+  this ← this_class_at pool total bytes
+  super ← super_class_at pool total this.1
+  Ok ((this.0, super.0), super.1)
 
 abbrev pub declaration_of : ℕ → ℕ → ℕ → List ℕ → Declaration
 declaration_of flags this super interfaces = record {
@@ -56,6 +65,19 @@ is_version v = v.0 == 0 && v.1 == 52
 unfoldable pub version_at : ℕ → List ℕ → Result ((ℕ × ℕ) × List ℕ) ClassFault
 version_at total bytes = two_at total bytes >>= λ v. if is_version v.0 then Ok v else Err (faults.Version v.0.1 v.0.0)
 
+-- the methods and the class's own attributes, behind the fields
+unfoldable pub methods_and_attributes_at : List Constant → ℕ → List ℕ → Result ((List Member × List Attribute) × List ℕ) ClassFault
+methods_and_attributes_at pool total bytes = do
+  methods ← members_at kinds.Method pool total bytes
+  attributes ← attributes_at pool owners.Class total methods.1
+  Ok ((methods.0, attributes.0), attributes.1)
+
+unfoldable pub tables_at : List Constant → ℕ → List ℕ → Result ((List Member × (List Member × List Attribute)) × List ℕ) ClassFault
+tables_at pool total bytes = do
+  fields ← members_at kinds.Field pool total bytes
+  others ← methods_and_attributes_at pool total fields.1
+  Ok ((fields.0, others.0), others.1)
+
 -- the fields, the methods and the class's own attributes
 unfoldable pub body_at : List Constant → Declaration → ℕ → List ℕ → Result (Structure × List ℕ) ClassFault
 body_at pool declaration total bytes = do
@@ -63,6 +85,13 @@ body_at pool declaration total bytes = do
   methods ← members_at kinds.Method pool total fields.1
   attributes ← attributes_at pool owners.Class total methods.1
   Ok (structure_of pool declaration fields.0 methods.0 attributes.0, attributes.1)
+
+-- the constant pool, and what is behind it
+unfoldable pub contents_at : ℕ → List ℕ → Result (Structure × List ℕ) ClassFault
+contents_at total bytes = do
+  pool ← pool_at total bytes
+  declaration ← declaration_at pool.0 total pool.1
+  body_at pool.0 declaration.0 total declaration.1
 
 unfoldable pub class_at : ℕ → List ℕ → Result (Structure × List ℕ) ClassFault
 class_at total bytes = do

@@ -19,6 +19,10 @@ index_at test total bytes = number_at w16 total bytes >>= λ index. if test inde
 unfoldable pub text_index_at : List Constant → ℕ → List ℕ → Result (ℕ × List ℕ) ClassFault
 text_index_at pool total bytes = index_at (has_text pool) total bytes
 
+-- a length, and so many bytes
+unfoldable pub content_at : ℕ → List ℕ → Result (List ℕ × List ℕ) ClassFault
+content_at total bytes = number_at w32 total bytes >>= λ count. run_at count.0 total count.1
+
 -- an attribute's name, and so many bytes as its length says
 unfoldable pub framed_at : List Constant → ℕ → List ℕ → Result ((ℕ × List ℕ) × List ℕ) ClassFault
 framed_at pool total bytes = do
@@ -76,6 +80,21 @@ code_of max_stack max_locals code exceptions attributes = record {
   exceptions = exceptions;
   attributes = attributes;
 }
+
+-- what is behind the limits of code
+unfoldable pub limited_code_at : List Constant → ℕ → ℕ → ℕ → List ℕ → Result (Code × List ℕ) ClassFault
+limited_code_at pool max_stack max_locals total bytes = do
+  code ← code_bytes_at total bytes
+  exceptions ← exceptions_at pool (length code.0) total code.1
+  attributes ← unread_attributes_at pool total exceptions.1
+  Ok (code_of max_stack max_locals code.0 exceptions.0 attributes.0, attributes.1)
+
+-- an exception table, and attributes that are kept unread
+unfoldable pub code_tables_at : List Constant → ℕ → ℕ → List ℕ → Result ((List ExceptionHandler × List UnreadAttribute) × List ℕ) ClassFault
+code_tables_at pool code_length total bytes = do
+  exceptions ← exceptions_at pool code_length total bytes
+  attributes ← unread_attributes_at pool total exceptions.1
+  Ok ((exceptions.0, attributes.0), attributes.1)
 
 unfoldable pub code_at : List Constant → ℕ → List ℕ → Result (Code × List ℕ) ClassFault
 code_at pool total bytes = do

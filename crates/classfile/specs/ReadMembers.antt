@@ -20,7 +20,7 @@ use Rattle.classfile.specs.declared.member.MemberKind.TheVariants as kinds
 use Rattle.classfile.specs.Numbers.{◌>>=◌, number_at, offset, inside_attribute}
 use Rattle.classfile.specs.Lookup.{text_of, passes, same_text}
 use Rattle.classfile.specs.Descriptors.{is_field, is_method}
-use Rattle.classfile.specs.Repeat.{table_at}
+use Rattle.classfile.specs.Repeat.{repeat_at, table_at}
 use Rattle.classfile.specs.ReadCode.{text_index_at, framed_at, unread_of, whole_code}
 use Rattle.classfile.specs.Flags.{has_flag, has_no_body}
 use Rattle.classfile.specs.Members.{is_constant_value, is_code}
@@ -127,6 +127,13 @@ body_at kind pool total at flags name descriptor bytes =
     attributes_at pool (owner_of kind flags descriptor) total bytes >>= λ found.
     if lacks_code kind flags found.0 then Err (faults.Attribute at) else Ok (member_of flags name descriptor found.0, found.1)
 
+-- the indices of a member's name and descriptor
+unfoldable pub signature_at : MemberKind → List Constant → ℕ → List ℕ → Result ((ℕ × ℕ) × List ℕ) ClassFault
+signature_at kind pool total bytes = do
+  name ← text_index_at pool total bytes
+  descriptor ← descriptor_at kind pool total name.1
+  Ok ((name.0, descriptor.0), descriptor.1)
+
 unfoldable pub member_at : MemberKind → List Constant → ℕ → List Member → List ℕ → Result (Member × List ℕ) ClassFault
 member_at kind pool total earlier bytes = do
   flags ← number_at w16 total bytes
@@ -134,6 +141,10 @@ member_at kind pool total earlier bytes = do
   descriptor ← descriptor_at kind pool total name.1
   if is_declared pool name.0 descriptor.0 earlier then Err (faults.Index (offset total bytes))
       else body_at kind pool total (offset total bytes) flags.0 name.0 descriptor.0 descriptor.1
+
+-- so many members
+abbrev pub counted_members_at : MemberKind → List Constant → ℕ → ℕ → List ℕ → Result (List Member × List ℕ) ClassFault
+counted_members_at kind pool total count bytes = repeat_at (member_at kind pool total) count [] bytes
 
 unfoldable pub members_at : MemberKind → List Constant → ℕ → List ℕ → Result (List Member × List ℕ) ClassFault
 members_at kind pool total bytes = table_at (member_at kind pool total) total bytes

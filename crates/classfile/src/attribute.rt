@@ -2,10 +2,13 @@
 
 ghost use Rattle.std.specs.Prelude.{◌≡◌, List, option_map};
 ghost use Rattle.std.specs.List.{list_any};
+ghost use Rattle.classfile.specs.Lookup.{text_of};
 ghost use Rattle.classfile.specs.Numbers.{Gives};
 ghost use Rattle.classfile.specs.Members.{is_constant_value, is_code};
+ghost use Rattle.classfile.specs.Repeat.{repeat_at};
 ghost use Rattle.classfile.specs.ReadMembers.{meaning_of, meaning_at, is_int_descriptor, suits, suits_at, value_of};
-ghost use Rattle.classfile.specs.ReadMembers.{constant_value_of, code_attribute_of, content_of, attribute_at, attributes_at};
+ghost use Rattle.classfile.specs.ReadMembers.{constant_value_of, code_attribute_of, content_of};
+ghost use Rattle.classfile.specs.ReadMembers.{attribute_at, attributes_at};
 
 use crate::bytes::Bytes;
 use crate::code::{Code, whole_code};
@@ -13,13 +16,13 @@ use crate::constant::Constant;
 use crate::fault::ClassFault;
 use crate::flags::{STATIC, has_flag, has_no_body};
 use crate::lookup::text_of;
-use crate::numbers::u16_at;
+use crate::numbers::{room_for, u16_at};
 use crate::unread::{UnreadAttribute, framed_at};
 use std::alloc::Global;
 use std::marker::Model;
 
 /// An attribute (JVMS 4.7). `name` is the index of its name.
-#[derive(Debug, Drop)]
+#[derive(Drop)]
 pub enum Attribute {
     /// The value of a static field (JVMS 4.7.2): the index of a constant that suits the field's descriptor.
     ConstantValue { name: u16, value: u16 },
@@ -30,7 +33,7 @@ pub enum Attribute {
 }
 
 /// Attributes in the file's order.
-#[derive(Debug, Drop)]
+#[derive(Drop)]
 pub struct Attributes {
     items: Vec<Attribute>,
 }
@@ -54,7 +57,7 @@ impl Attributes {
 }
 
 /// What has the attributes.
-#[derive(Clone, Copy, Debug)]
+#[derive(Clone, Copy)]
 pub(crate) enum Owner {
     Class,
     Field { access_flags: u16, descriptor: u16 },
@@ -62,7 +65,7 @@ pub(crate) enum Owner {
 }
 
 /// What an attribute's name means to its owner.
-#[derive(Clone, Copy, Debug)]
+#[derive(Clone, Copy)]
 enum Meaning {
     /// The value of a field with the descriptor at this index.
     ConstantValue { descriptor: u16 },
@@ -228,6 +231,16 @@ fn content_of(
     }
 }
 
+/// What the name at an index means to an attribute's owner.
+fn meaning_at(pool: &[Constant], owner: Owner, name: u16) -> Meaning
+    ensures { result ≡ meaning_at owner (text_of pool.now name) }
+{
+    match text_of(pool, name) {
+        None => Meaning::Unread,
+        Some(text) => meaning_of(owner, text),
+    }
+}
+
 #[tactic(auto, unfolding(crate::specs::ReadMembers::attribute_at))]
 fn attribute_at<'a>(
     alloc: Global,
@@ -242,10 +255,7 @@ fn attribute_at<'a>(
 {
     let at = total.saturating_sub(bytes.len());
     let ((name, content), rest) = framed_at(pool, total, bytes)?;
-    let meaning = match text_of(pool, name) {
-        None => Meaning::Unread,
-        Some(text) => meaning_of(owner, text),
-    };
+    let meaning = meaning_at(pool, owner, name);
     let attribute = content_of(alloc, pool, at, meaning, earlier, name, content)?;
     Ok((attribute, rest))
 }
@@ -262,12 +272,29 @@ pub(crate) fn attributes_at<'a>(
     ensures { Gives (λ x. (x.0, x.1.now)) result (attributes_at pool.now owner total bytes.now) }
 {
     let (count, rest) = u16_at(total, bytes)?;
-    let mut items = Vec::with_capacity(alloc, usize::from(count).min(rest.len()))?;
-    let mut rest = rest;
+    let mut items = Vec::with_capacity(alloc, room_for(count, rest))?;
+    let rest = push_attributes_at(alloc, pool, owner, total, count, &mut items, rest)?;
+    Ok((Attributes { items }, rest))
+}
+
+/// Reads so many attributes behind those that stand before.
+fn push_attributes_at<'a>(
+    alloc: Global,
+    pool: &[Constant],
+    owner: Owner,
+    total: usize,
+    count: u16,
+    items: &mut Vec<Attribute>,
+    bytes: &'a [u8],
+) -> Result<&'a [u8], ClassFault>
+    ensures { Gives (λ rest. (items.new.items, rest.now)) result
+        (repeat_at (attribute_at pool.now owner total) count items.old.items bytes.now) }
+{
+    let mut rest = bytes;
     for _index in 0..count {
-        let (attribute, after) = attribute_at(alloc, pool, owner, total, &items, rest)?;
+        let (attribute, after) = attribute_at(alloc, pool, owner, total, items, rest)?;
         items.push(attribute)?;
         rest = after;
     }
-    Ok((Attributes { items }, rest))
+    Ok(rest)
 }

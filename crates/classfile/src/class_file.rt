@@ -20,7 +20,7 @@ use std::alloc::Global;
 use std::marker::Model;
 
 /// A class file of version 52 (JVMS 4.1). [`read`] alone makes one, and it keeps what every byte says.
-#[derive(Debug, Drop)]
+#[derive(Drop)]
 pub struct ClassFile {
     parts: Parts,
 }

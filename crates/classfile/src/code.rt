@@ -2,19 +2,20 @@
 
 ghost use Rattle.std.specs.Prelude.{◌≡◌, ◌<◌, ◌^◌, IfOk};
 ghost use Rattle.classfile.specs.Numbers.{Gives};
-ghost use Rattle.classfile.specs.ReadCode.{code_length_at, code_bytes_at, code_at, whole_code};
+ghost use Rattle.classfile.specs.ReadCode.{code_length_at, code_bytes_at, code_tables_at, limited_code_at};
+ghost use Rattle.classfile.specs.ReadCode.{code_at, whole_code};
 
 use crate::code_bytes::CodeBytes;
 use crate::constant::Constant;
 use crate::exceptions::{ExceptionTable, exceptions_at};
 use crate::fault::ClassFault;
-use crate::numbers::{run_at, u16_at, u32_at};
+use crate::numbers::{run_at, u16_pair_at, u32_at};
 use crate::unread::{UnreadAttributes, unread_attributes_at};
 use std::alloc::Global;
 
 /// The code of a method (JVMS 4.7.3): its limits, its bytes, from 1 to 65,535,
 /// its exception table, and its own attributes, which are kept unread.
-#[derive(Debug, Drop)]
+#[derive(Drop)]
 pub struct Code {
     pub max_stack: u16,
     pub max_locals: u16,
@@ -51,7 +52,23 @@ fn code_bytes_at(
     Ok((code, rest))
 }
 
-#[tactic(auto, unfolding(crate::specs::ReadCode::code_at))]
+/// The tables behind code of so many bytes.
+#[tactic(auto, unfolding(crate::specs::ReadCode::code_tables_at))]
+fn code_tables_at<'a>(
+    alloc: Global,
+    pool: &[Constant],
+    code_length: usize,
+    total: usize,
+    bytes: &'a [u8],
+) -> Result<((ExceptionTable, UnreadAttributes), &'a [u8]), ClassFault>
+    ensures { Gives (λ x. ((x.0.0, x.0.1), x.1.now)) result (code_tables_at pool.now code_length total bytes.now) }
+{
+    let (exceptions, rest) = exceptions_at(alloc, pool, code_length, total, bytes)?;
+    let (attributes, rest) = unread_attributes_at(alloc, pool, total, rest)?;
+    Ok(((exceptions, attributes), rest))
+}
+
+#[tactic(auto, unfolding(crate::specs::ReadCode::code_at, crate::specs::ReadCode::limited_code_at))]
 fn code_at<'a>(
     alloc: Global,
     pool: &[Constant],
@@ -60,12 +77,24 @@ fn code_at<'a>(
 ) -> Result<(Code, &'a [u8]), ClassFault>
     ensures { Gives (λ x. (x.0, x.1.now)) result (code_at pool.now total bytes.now) }
 {
-    let (max_stack, rest) = u16_at(total, bytes)?;
-    let (max_locals, rest) = u16_at(total, rest)?;
-    let (code, rest) = code_bytes_at(alloc, total, rest)?;
+    let ((max_stack, max_locals), rest) = u16_pair_at(total, bytes)?;
+    limited_code_at(alloc, pool, max_stack, max_locals, total, rest)
+}
+
+/// What is behind the limits of code.
+fn limited_code_at<'a>(
+    alloc: Global,
+    pool: &[Constant],
+    max_stack: u16,
+    max_locals: u16,
+    total: usize,
+    bytes: &'a [u8],
+) -> Result<(Code, &'a [u8]), ClassFault>
+    ensures { Gives (λ x. (x.0, x.1.now)) result (limited_code_at pool.now max_stack max_locals total bytes.now) }
+{
+    let (code, rest) = code_bytes_at(alloc, total, bytes)?;
     let length = code.as_slice().len();
-    let (exceptions, rest) = exceptions_at(alloc, pool, length, total, rest)?;
-    let (attributes, rest) = unread_attributes_at(alloc, pool, total, rest)?;
+    let ((exceptions, attributes), rest) = code_tables_at(alloc, pool, length, total, rest)?;
     let code = Code {
         max_stack,
         max_locals,

@@ -6,7 +6,7 @@ use std::alloc::{AllocError, Global};
 use std::marker::Model;
 
 /// The bytes of a method's code, fewer than 65,536 of them (JVMS 4.7.3), seen as their list.
-#[derive(Debug, Drop)]
+#[derive(Drop)]
 pub struct CodeBytes {
     bytes: Vec<u8>,
 }

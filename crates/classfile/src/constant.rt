@@ -7,7 +7,7 @@ ghost use Rattle.classfile.specs.Spelling.{constant_text};
 use crate::modified::ModifiedUtf8;
 
 /// An entry of a constant pool (JVMS 4.4). A number that names another entry is its index.
-#[derive(Debug, Drop)]
+#[derive(Drop)]
 pub enum Constant {
     /// Index 0, and the second index of a Long or a Double.
     Unusable,
@@ -65,7 +65,7 @@ impl Constant {
 }
 
 /// What a tag stands for (JVMS 4.4, table 4.4-A).
-#[derive(Clone, Copy, Debug, Drop)]
+#[derive(Clone, Copy, Drop)]
 pub(crate) enum Kind {
     Utf8,
     Integer,

@@ -2,17 +2,20 @@
 
 ghost use Rattle.std.specs.Prelude.{◌≡◌};
 ghost use Rattle.classfile.specs.Numbers.{Gives};
-ghost use Rattle.classfile.specs.ReadClass.{this_class_at, super_class_at, interface_at, interfaces_at, declaration_at};
+ghost use Rattle.classfile.specs.Repeat.{repeat_at};
+ghost use Rattle.classfile.specs.ReadClass.{this_class_at, super_class_at, class_indices_at};
+ghost use Rattle.classfile.specs.ReadClass.{interface_at, interfaces_at};
+ghost use Rattle.classfile.specs.ReadClass.{declaration_at};
 
 use crate::constant::Constant;
 use crate::fault::ClassFault;
 use crate::lookup::{is_class, is_class_or_none, is_plain_class};
-use crate::numbers::u16_at;
+use crate::numbers::{room_for, u16_at};
 use std::alloc::Global;
 use std::marker::Model;
 
 /// Indices of Classes, in the file's order.
-#[derive(Debug, Drop)]
+#[derive(Drop)]
 pub(crate) struct Interfaces {
     items: Vec<u16>,
 }
@@ -34,7 +37,7 @@ impl Interfaces {
 }
 
 /// What stands between the constant pool and the members.
-#[derive(Debug, Drop)]
+#[derive(Drop)]
 pub(crate) struct Declaration {
     pub(crate) access_flags: u16,
     pub(crate) this_class: u16,
@@ -78,6 +81,20 @@ fn super_class_at<'a>(
     Ok((index, rest))
 }
 
+/// The indices of the class itself and of its superclass.
+#[tactic(auto, unfolding(crate::specs::ReadClass::class_indices_at))]
+fn class_indices_at<'a>(
+    pool: &[Constant],
+    total: usize,
+    bytes: &'a [u8],
+) -> Result<((u16, u16), &'a [u8]), ClassFault>
+    ensures { Gives (λ x. (x.0, x.1.now)) result (class_indices_at pool.now total bytes.now) }
+{
+    let (this_class, rest) = this_class_at(pool, total, bytes)?;
+    let (super_class, rest) = super_class_at(pool, total, rest)?;
+    Ok(((this_class, super_class), rest))
+}
+
 /// The index of a Class.
 #[tactic(auto, unfolding(crate::specs::ReadClass::interface_at))]
 fn interface_at<'a>(
@@ -106,17 +123,32 @@ fn interfaces_at<'a>(
     ensures { Gives (λ x. (x.0, x.1.now)) result (interfaces_at pool.now total bytes.now) }
 {
     let (count, rest) = u16_at(total, bytes)?;
-    let mut items = Vec::with_capacity(alloc, usize::from(count).min(rest.len()))?;
-    let mut rest = rest;
+    let mut items = Vec::with_capacity(alloc, room_for(count, rest))?;
+    let rest = push_interfaces_at(pool, total, count, &mut items, rest)?;
+    Ok((Interfaces { items }, rest))
+}
+
+/// Reads so many indices behind those that stand before.
+fn push_interfaces_at<'a>(
+    pool: &[Constant],
+    total: usize,
+    count: u16,
+    items: &mut Vec<u16>,
+    bytes: &'a [u8],
+) -> Result<&'a [u8], ClassFault>
+    ensures { Gives (λ rest. (items.new.items, rest.now)) result
+        (repeat_at (λ earlier. interface_at pool.now total) count items.old.items bytes.now) }
+{
+    let mut rest = bytes;
     for _index in 0..count {
         let (interface, after) = interface_at(pool, total, rest)?;
         items.push(interface)?;
         rest = after;
     }
-    Ok((Interfaces { items }, rest))
+    Ok(rest)
 }
 
-#[tactic(auto, unfolding(crate::specs::ReadClass::declaration_at))]
+#[tactic(auto, unfolding(crate::specs::ReadClass::declaration_at, crate::specs::ReadClass::class_indices_at))]
 pub(crate) fn declaration_at<'a>(
     alloc: Global,
     pool: &[Constant],
@@ -126,8 +158,7 @@ pub(crate) fn declaration_at<'a>(
     ensures { Gives (λ x. (x.0, x.1.now)) result (declaration_at pool.now total bytes.now) }
 {
     let (access_flags, rest) = u16_at(total, bytes)?;
-    let (this_class, rest) = this_class_at(pool, total, rest)?;
-    let (super_class, rest) = super_class_at(pool, total, rest)?;
+    let ((this_class, super_class), rest) = class_indices_at(pool, total, rest)?;
     let (interfaces, rest) = interfaces_at(alloc, pool, total, rest)?;
     let declaration = Declaration {
         access_flags,

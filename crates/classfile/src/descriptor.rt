@@ -4,7 +4,7 @@ ghost use Rattle.std.specs.Prelude.{◌≡◌, ◌==◌, if◌then◌else◌};
 ghost use Rattle.classfile.specs.Descriptors.{is_base, step, scan, is_field, is_method, is_class_name, lacks_semicolon};
 
 /// What may stand next in a descriptor.
-#[derive(Clone, Copy, Debug, Drop, PartialEq, Eq)]
+#[derive(Clone, Copy, Drop)]
 pub(crate) enum Place {
     /// The bracket before the parameters.
     Open,

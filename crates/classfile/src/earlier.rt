@@ -1,6 +1,6 @@
 //! The members of a table that stand before, found by name and descriptor.
 
-ghost use Rattle.std.specs.Prelude.{◌≡◌, ◌++◌, ℕ, List, [], ◌∷◌, Some, true, unwrap_or, IfOk, OnOk};
+ghost use Rattle.std.specs.Prelude.{◌≡◌, ◌++◌, ℕ, List, [], ◌∷◌, Some, None, true, unwrap_or, IfOk, OnOk};
 ghost use Rattle.classfile.specs.Earlier.{text_hash, find_text, find_after, first_of, AreFirsts, Grows, Finds};
 ghost use Rattle.classfile.specs.Lookup.{has_text};
 ghost use Rattle.classfile.specs.ReadMembers.{is_declared};
@@ -48,11 +48,25 @@ fn first_with<'a>(
     let hash = hash_of(text);
     match by_text.get(&(hash, text)) {
         Some(first) => Ok(*first),
-        None => {
-            by_text.insert((hash, text), index)?;
-            Ok(index)
-        }
+        None => note_first(by_text, hash, text, index),
     }
+}
+
+/// Notes the first index of a text, by its number, and answers it.
+fn note_first<'a>(
+    by_text: &mut BTreeMap<(u64, &'a [u8]), u16>,
+    hash: u64,
+    text: &'a [u8],
+    index: u16,
+) -> Result<u16, AllocError>
+    requires hash { hash ≡ text_hash text.now }
+    requires none { find_text by_text.old text.now ≡ None }
+    ensures first { IfOk result (λ first. first ≡ index) }
+    ensures after { OnOk result ((other : List ℕ) → find_text by_text.new other
+        ≡ find_after (find_text by_text.old) text.now index other) }
+{
+    by_text.insert((hash, text), index)?;
+    Ok(index)
 }
 
 /// The first index that was asked for of those with the text at an index.
@@ -94,6 +108,13 @@ impl<'a> Earlier<'a> {
             by_text: BTreeMap::new(alloc),
             pairs: BTreeSet::new(alloc),
         })
+    }
+
+    /// The members alone.
+    pub(crate) fn into_members(self) -> Vec<Member>
+        ensures { result ≡ self.entry.members }
+    {
+        self.members
     }
 }
 

@@ -1,14 +1,14 @@
 //! Reads the entries of a constant pool.
 
-ghost use Rattle.std.specs.Prelude.{◌≡◌, true};
+ghost use Rattle.std.specs.Prelude.{◌≡◌, ◌-◌, true, false};
 ghost use Rattle.classfile.specs.Numbers.{Gives};
 ghost use Rattle.classfile.specs.Kinds.{is_of_one, is_of_halves, is_of_indices};
-ghost use Rattle.classfile.specs.Entries.{utf8_at, body_at, constant_at, slot_at, entries_at};
+ghost use Rattle.classfile.specs.Entries.{utf8_at, body_at, constant_at, slot_at, slots_at, with_front, entries_at};
 
 use crate::constant::{Constant, Kind, kind_of};
 use crate::fault::ClassFault;
 use crate::modified::{ModifiedUtf8, is_modified};
-use crate::numbers::{run_at, u8_at, u16_at, u32_at};
+use crate::numbers::{room_for, run_at, u8_at, u16_at, u16_pair_at, u32_at};
 use std::alloc::Global;
 
 #[tactic(auto, unfolding(crate::specs::Entries::utf8_at))]
@@ -88,8 +88,7 @@ fn indices_at(
     requires { is_of_indices kind ≡ true }
     ensures { Gives (λ x. (x.0, x.1.now)) result (body_at kind total index bytes.now) }
 {
-    let (first, rest) = u16_at(total, bytes)?;
-    let (second, rest) = u16_at(total, rest)?;
+    let ((first, second), rest) = u16_pair_at(total, bytes)?;
     let constant = match kind {
         Kind::Fieldref => Constant::Fieldref {
             class: first,
@@ -201,8 +200,23 @@ pub(crate) fn entries_at(
     ensures { Gives (λ x. (x.0.items, x.1.now)) result (entries_at count total bytes.now) }
 {
     // No more than the bytes can fill: each entry takes at least three.
-    let mut constants = Vec::with_capacity(alloc, usize::from(count).min(bytes.len()))?;
+    let mut constants = Vec::with_capacity(alloc, room_for(count, bytes))?;
     constants.push(Constant::Unusable)?;
+    let rest = push_slots_at(alloc, total, count, &mut constants, bytes)?;
+    Ok((constants, rest))
+}
+
+/// Reads the entries 1 to `count` - 1 behind those that stand before.
+fn push_slots_at<'a>(
+    alloc: Global,
+    total: usize,
+    count: u16,
+    constants: &mut Vec<Constant>,
+    bytes: &'a [u8],
+) -> Result<&'a [u8], ClassFault>
+    ensures { Gives (λ rest. (constants.new.items, rest.now)) result
+        (with_front constants.old.items (slots_at (count - 1) false total count 1 bytes.now)) }
+{
     let mut rest = bytes;
     let mut behind_wide = false;
     for index in 1..count {
@@ -212,5 +226,5 @@ pub(crate) fn entries_at(
         constants.push(constant)?;
         rest = after;
     }
-    Ok((constants, rest))
+    Ok(rest)
 }

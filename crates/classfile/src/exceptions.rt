@@ -2,18 +2,19 @@
 
 ghost use Rattle.std.specs.Prelude.{◌≡◌, List};
 ghost use Rattle.classfile.specs.Numbers.{Gives};
+ghost use Rattle.classfile.specs.Repeat.{repeat_at};
 ghost use Rattle.classfile.specs.ReadCode.{is_handler, handler_numbers_at, handler_at, exceptions_at};
 
 use crate::constant::Constant;
 use crate::fault::ClassFault;
 use crate::lookup::is_class_or_none;
-use crate::numbers::u16_at;
+use crate::numbers::{room_for, u16_at, u16_pair_at};
 use std::alloc::Global;
 use std::marker::Model;
 
 /// An entry of an exception table (JVMS 4.7.3). Offsets into the code are in bytes;
 /// `end_pc` is exclusive, and `catch_type` is 0 or the index of a Class.
-#[derive(Clone, Copy, Debug)]
+#[derive(Clone, Copy)]
 pub struct ExceptionHandler {
     pub start_pc: u16,
     pub end_pc: u16,
@@ -22,7 +23,7 @@ pub struct ExceptionHandler {
 }
 
 /// An exception table, in the file's order.
-#[derive(Debug, Drop)]
+#[derive(Drop)]
 pub struct ExceptionTable {
     items: Vec<ExceptionHandler>,
 }
@@ -59,10 +60,8 @@ fn is_handler(pool: &[Constant], code_length: usize, handler: &ExceptionHandler)
 fn handler_numbers_at(total: usize, bytes: &[u8]) -> Result<(ExceptionHandler, &[u8]), ClassFault>
     ensures { Gives (λ x. (x.0, x.1.now)) result (handler_numbers_at total bytes.now) }
 {
-    let (start_pc, rest) = u16_at(total, bytes)?;
-    let (end_pc, rest) = u16_at(total, rest)?;
-    let (handler_pc, rest) = u16_at(total, rest)?;
-    let (catch_type, rest) = u16_at(total, rest)?;
+    let ((start_pc, end_pc), rest) = u16_pair_at(total, bytes)?;
+    let ((handler_pc, catch_type), rest) = u16_pair_at(total, rest)?;
     let handler = ExceptionHandler {
         start_pc,
         end_pc,
@@ -102,12 +101,28 @@ pub(crate) fn exceptions_at<'a>(
     ensures { Gives (λ x. (x.0, x.1.now)) result (exceptions_at pool.now code_length total bytes.now) }
 {
     let (count, rest) = u16_at(total, bytes)?;
-    let mut items = Vec::with_capacity(alloc, usize::from(count).min(rest.len()))?;
-    let mut rest = rest;
+    let mut items = Vec::with_capacity(alloc, room_for(count, rest))?;
+    let rest = push_handlers_at(pool, code_length, total, count, &mut items, rest)?;
+    Ok((ExceptionTable { items }, rest))
+}
+
+/// Reads so many entries behind those that stand before.
+fn push_handlers_at<'a>(
+    pool: &[Constant],
+    code_length: usize,
+    total: usize,
+    count: u16,
+    items: &mut Vec<ExceptionHandler>,
+    bytes: &'a [u8],
+) -> Result<&'a [u8], ClassFault>
+    ensures { Gives (λ rest. (items.new.items, rest.now)) result
+        (repeat_at (λ earlier. handler_at pool.now code_length total) count items.old.items bytes.now) }
+{
+    let mut rest = bytes;
     for _index in 0..count {
         let (handler, after) = handler_at(pool, code_length, total, rest)?;
         items.push(handler)?;
         rest = after;
     }
-    Ok((ExceptionTable { items }, rest))
+    Ok(rest)
 }

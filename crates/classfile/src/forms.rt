@@ -8,7 +8,7 @@ use crate::descriptor::{is_class_name, is_field, is_method};
 use std::alloc::{AllocError, Global};
 
 /// Whether a text is a field's descriptor, a method's descriptor (JVMS 4.3), and a class's name (JVMS 4.4.1).
-#[derive(Clone, Copy, Debug)]
+#[derive(Clone, Copy)]
 pub(crate) struct Form {
     pub(crate) is_field: bool,
     pub(crate) is_method: bool,

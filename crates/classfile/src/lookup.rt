@@ -1,8 +1,8 @@
 //! What stands at an index of a constant pool.
 
-ghost use Rattle.std.specs.Prelude.{◌≡◌, IfSome, option_map};
+ghost use Rattle.std.specs.Prelude.{◌≡◌, Some, IfSome, option_map};
 ghost use Rattle.classfile.specs.Lookup.{text_of, has_text, class_name_of, is_class};
-ghost use Rattle.classfile.specs.Lookup.{is_class_or_none, is_plain_class, descriptor_of, is_member};
+ghost use Rattle.classfile.specs.Lookup.{is_class_or_none, is_plain_class, descriptor_of, member_in, is_member};
 ghost use Rattle.classfile.specs.Units.{IsModifiedUtf8};
 
 use crate::constant::Constant;
@@ -82,12 +82,18 @@ pub(crate) fn descriptor_of(pool: &[Constant], index: u16) -> Option<u16>
 pub(crate) fn is_member(pool: &[Constant], index: u16) -> bool
     ensures { result ≡ is_member pool.now index }
 {
+    match pool.get(usize::from(index)) {
+        Some(constant) => is_reference(constant),
+        None => false,
+    }
+}
+
+/// Whether an entry is a Fieldref, Methodref or InterfaceMethodref.
+fn is_reference(constant: &Constant) -> bool
+    ensures { result ≡ member_in (Some constant.now) }
+{
     matches!(
-        pool.get(usize::from(index)),
-        Some(
-            Constant::Fieldref { .. }
-                | Constant::Methodref { .. }
-                | Constant::InterfaceMethodref { .. }
-        )
+        constant,
+        Constant::Fieldref { .. } | Constant::Methodref { .. } | Constant::InterfaceMethodref { .. }
     )
 }

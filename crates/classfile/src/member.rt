@@ -1,11 +1,13 @@
 //! Fields and methods.
 
-ghost use Rattle.std.specs.Prelude.{◌≡◌, ◌++◌, [], ◌∷◌, option_map, IfOk};
+ghost use Rattle.std.specs.Prelude.{◌≡◌, ◌++◌, [], ◌∷◌, true, option_map, IfOk};
 ghost use Rattle.classfile.specs.Earlier.{Finds};
 ghost use Rattle.classfile.specs.Members.{code_among, value_among};
 ghost use Rattle.classfile.specs.Numbers.{Gives};
-ghost use Rattle.classfile.specs.ReadMembers.{has_descriptor, descriptor_at};
-ghost use Rattle.classfile.specs.ReadMembers.{owner_of, lacks_code, body_at, member_at, members_at};
+ghost use Rattle.classfile.specs.Repeat.{repeat_at};
+ghost use Rattle.classfile.specs.Lookup.{has_text};
+ghost use Rattle.classfile.specs.ReadMembers.{has_descriptor, descriptor_at, signature_at};
+ghost use Rattle.classfile.specs.ReadMembers.{owner_of, lacks_code, body_at, member_at, counted_members_at, members_at};
 
 use crate::attribute::{Attribute, Attributes, Owner, attributes_at, has_code};
 use crate::code::Code;
@@ -21,7 +23,7 @@ use std::marker::Model;
 
 /// A field or a method (JVMS 4.5, 4.6): its flags, the indices of its name and its descriptor,
 /// and its attributes.
-#[derive(Debug, Drop)]
+#[derive(Drop)]
 pub struct Member {
     pub access_flags: u16,
     pub name: u16,
@@ -30,7 +32,7 @@ pub struct Member {
 }
 
 /// The fields or the methods of a class, in the file's order.
-#[derive(Debug, Drop)]
+#[derive(Drop)]
 pub struct Members {
     items: Vec<Member>,
 }
@@ -79,7 +81,7 @@ impl Members {
     }
 }
 
-#[derive(Clone, Copy, Debug)]
+#[derive(Clone, Copy)]
 pub(crate) enum MemberKind {
     Field,
     Method,
@@ -110,6 +112,22 @@ fn descriptor_at<'a>(
         return Err(ClassFault::Descriptor { index });
     }
     Ok((index, rest))
+}
+
+/// The indices of a member's name and descriptor.
+#[tactic(auto, unfolding(crate::specs::ReadMembers::signature_at))]
+fn signature_at<'a>(
+    kind: MemberKind,
+    pool: &ConstantPool,
+    total: usize,
+    bytes: &'a [u8],
+) -> Result<((u16, u16), &'a [u8]), ClassFault>
+    ensures read { Gives (λ x. (x.0, x.1.now)) result (signature_at kind pool.now total bytes.now) }
+    ensures texts { IfOk result (λ x. (has_text pool.now x.0.0 ≡ true) × (has_text pool.now x.0.1 ≡ true)) }
+{
+    let (name, rest) = text_index_at(pool.as_slice(), total, bytes)?;
+    let (descriptor, rest) = descriptor_at(kind, pool, total, rest)?;
+    Ok(((name, descriptor), rest))
 }
 
 fn owner_of(kind: MemberKind, access_flags: u16, descriptor: u16) -> Owner
@@ -165,7 +183,6 @@ fn body_at<'a>(
 }
 
 /// The next member. From then on it is one of those that stand before.
-#[tactic(auto, unfolding(crate::specs::ReadMembers::member_at))]
 fn member_at<'p, 'a>(
     alloc: Global,
     kind: MemberKind,
@@ -182,12 +199,11 @@ fn member_at<'p, 'a>(
 {
     let at = total.saturating_sub(bytes.len());
     let (access_flags, rest) = u16_at(total, bytes)?;
-    let (name, rest) = text_index_at(pool.as_slice(), total, rest)?;
-    let (descriptor, rest) = descriptor_at(kind, pool, total, rest)?;
+    let ((name, descriptor), rest) = signature_at(kind, pool, total, rest)?;
     if is_declared(pool.as_slice(), earlier, name, descriptor)? {
         return Err(ClassFault::Index { at });
     }
-    let (member, rest) = body_at(
+    body_at(
         alloc,
         kind,
         pool.as_slice(),
@@ -197,8 +213,7 @@ fn member_at<'p, 'a>(
         name,
         descriptor,
         rest,
-    )?;
-    Ok((member, rest))
+    )
 }
 
 /// A table of fields or methods.
@@ -213,13 +228,45 @@ pub(crate) fn members_at<'a>(
     ensures { Gives (λ x. (x.0, x.1.now)) result (members_at kind pool.now total bytes.now) }
 {
     let (count, rest) = u16_at(total, bytes)?;
+    counted_members_at(alloc, kind, pool, total, count, rest)
+}
+
+/// So many members.
+fn counted_members_at<'a>(
+    alloc: Global,
+    kind: MemberKind,
+    pool: &ConstantPool,
+    total: usize,
+    count: u16,
+    bytes: &'a [u8],
+) -> Result<(Members, &'a [u8]), ClassFault>
+    ensures { Gives (λ x. (x.0, x.1.now)) result (counted_members_at kind pool.now total count bytes.now) }
+{
     let mut earlier = Earlier::new(alloc, pool.as_slice())?;
-    let mut rest = rest;
+    let rest = push_members_at(alloc, kind, pool, total, count, &mut earlier, bytes)?;
+    let items = earlier.into_members();
+    Ok((Members { items }, rest))
+}
+
+/// Reads so many members behind those that stand before.
+fn push_members_at<'p, 'a>(
+    alloc: Global,
+    kind: MemberKind,
+    pool: &'p ConstantPool,
+    total: usize,
+    count: u16,
+    earlier: &mut Earlier<'p>,
+    bytes: &'a [u8],
+) -> Result<&'a [u8], ClassFault>
+    requires { Finds pool.now earlier.old earlier.old.members.items }
+    ensures { Gives (λ rest. (earlier.new.members.items, rest.now)) result
+        (repeat_at (member_at kind pool.now total) count earlier.old.members.items bytes.now) }
+{
+    let mut rest = bytes;
     for _index in 0..count {
-        let (member, after) = member_at(alloc, kind, pool, total, &mut earlier, rest)?;
+        let (member, after) = member_at(alloc, kind, pool, total, earlier, rest)?;
         earlier.members.push(member)?;
         rest = after;
     }
-    let items = earlier.members;
-    Ok((Members { items }, rest))
+    Ok(rest)
 }

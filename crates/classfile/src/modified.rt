@@ -1,6 +1,7 @@
 //! Modified UTF-8 (JVMS 4.4.7).
 
-ghost use Rattle.std.specs.Prelude.{◌≡◌, ◌++◌, ◌<◌, length, true, [], IfOk, OnOk, IfSome, MatchOption};
+ghost use Rattle.std.specs.Prelude.{◌≡◌, ◌++◌, ◌+◌, ◌*◌, ◌%◌, ◌<◌, ◌≤◌, ◌∷◌, length, true, []};
+ghost use Rattle.std.specs.Prelude.{IfOk, OnOk, IfSome, MatchOption};
 ghost use Rattle.classfile.specs.Modified.{is_one, is_two, is_three, all_one, is_modified};
 ghost use Rattle.classfile.specs.Units.{unit_text, units_text, IsModifiedUtf8, IsSpelledFirst};
 
@@ -8,7 +9,7 @@ use std::alloc::{AllocError, Global};
 use std::marker::Model;
 
 /// Bytes that are modified UTF-8: each 16-bit unit in its one spelling.
-#[derive(Debug, Drop)]
+#[derive(Drop)]
 pub struct ModifiedUtf8 {
     bytes: Vec<u8>,
 }
@@ -82,28 +83,36 @@ pub(crate) fn first_unit(bytes: &[u8]) -> Option<(u16, &[u8])>
     if *first < 192 {
         return Some((u16::from(*first), rest));
     }
-    let (second, rest) = rest.split_first()?;
-    if *first < 224 {
-        return Some((u16::from(*first % 32) * 64 + u16::from(*second % 64), rest));
-    }
-    let (third, rest) = rest.split_first()?;
-    let high = u16::from(*first % 16) * 4096 + u16::from(*second % 64) * 64;
-    Some((high + u16::from(*third % 64), rest))
+    longer_unit(*first, rest)
 }
 
-/// The text of modified UTF-8 for a reader: surrogate pairs are joined, and a lone surrogate is `?`.
-pub fn printed(alloc: Global, bytes: &[u8]) -> Result<String, AllocError> {
-    let mut units = Vec::new(alloc);
-    let mut left = bytes;
-    while let Some((unit, rest)) = first_unit(left) {
-        units.push(unit)?;
-        left = rest;
+/// The unit of two or three bytes, of which the first is known.
+fn longer_unit(first: u8, bytes: &[u8]) -> Option<(u16, &[u8])>
+    requires { 192 ≤ first }
+    ensures shorter { IfSome result (λ x. length x.1.now < length bytes.now) }
+    ensures spelled { is_modified (first ∷ bytes.now) ≡ true
+        → MatchOption result ⊥ (λ x. IsSpelledFirst x.0 x.1.now (first ∷ bytes.now)) }
+{
+    let (second, rest) = bytes.split_first()?;
+    if first < 224 {
+        return Some((unit_of_two(first, *second), rest));
     }
-    let mut text = String::new(alloc);
-    for character in char::decode_utf16(units.iter().copied()) {
-        text.push(character.unwrap_or('?'))?;
-    }
-    Ok(text)
+    let (third, rest) = rest.split_first()?;
+    Some((unit_of_three(first, *second, *third), rest))
+}
+
+/// The unit that two bytes spell.
+fn unit_of_two(first: u8, second: u8) -> u16
+    ensures { result ≡ first % 32 * 64 + second % 64 }
+{
+    u16::from(first % 32) * 64 + u16::from(second % 64)
+}
+
+/// The unit that three bytes spell.
+fn unit_of_three(first: u8, second: u8, third: u8) -> u16
+    ensures { result ≡ first % 16 * 4096 + second % 64 * 64 + third % 64 }
+{
+    u16::from(first % 16) * 4096 + u16::from(second % 64) * 64 + u16::from(third % 64)
 }
 
 #[tactic(auto, unfolding(crate::specs::Modified::is_one))]

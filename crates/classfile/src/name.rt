@@ -75,3 +75,8 @@ impl Display for ClassName {
         Ok(())
     }
 }
+
+/// The text of modified UTF-8 for a reader: surrogate pairs are joined, and a lone surrogate is `?`.
+pub fn printed(alloc: Global, bytes: &[u8]) -> Result<String, AllocError> {
+    ClassName::from_modified_utf8(alloc, bytes)?.to_string(alloc)
+}

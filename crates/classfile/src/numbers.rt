@@ -1,8 +1,9 @@
 //! Numbers and runs of bytes at the front of what is left of a file of `total` bytes.
 
-ghost use Rattle.std.specs.Prelude.{◌≡◌};
+ghost use Rattle.std.specs.Prelude.{◌≡◌, ◌≤◌};
 ghost use Rattle.std.specs.Int.{w8, w16, w32};
 ghost use Rattle.classfile.specs.Numbers.{Gives, number_at, run_at};
+ghost use Rattle.classfile.specs.ReadClass.{two_at};
 
 use crate::fault::ClassFault;
 
@@ -30,6 +31,15 @@ pub(crate) fn u16_at(total: usize, bytes: &[u8]) -> Result<(u16, &[u8]), ClassFa
     Ok((u16::from_be_bytes([front[0], front[1]]), rest))
 }
 
+/// Two numbers of 16 bits.
+pub(crate) fn u16_pair_at(total: usize, bytes: &[u8]) -> Result<((u16, u16), &[u8]), ClassFault>
+    ensures { Gives (λ x. (x.0, x.1.now)) result (two_at total bytes.now) }
+{
+    let (first, rest) = u16_at(total, bytes)?;
+    let (second, rest) = u16_at(total, rest)?;
+    Ok(((first, second), rest))
+}
+
 pub(crate) fn u32_at(total: usize, bytes: &[u8]) -> Result<(u32, &[u8]), ClassFault>
     ensures { Gives (λ x. (x.0, x.1.now)) result (number_at w32 total bytes.now) }
 {
@@ -43,6 +53,13 @@ pub(crate) fn u32_at(total: usize, bytes: &[u8]) -> Result<(u32, &[u8]), ClassFa
         u32::from_be_bytes([front[0], front[1], front[2], front[3]]),
         rest,
     ))
+}
+
+/// Room for so many items, and no more than the bytes can hold.
+pub(crate) fn room_for(count: u16, bytes: &[u8]) -> usize
+    ensures { result ≤ count }
+{
+    usize::from(count).min(bytes.len())
 }
 
 /// That many bytes.

@@ -2,19 +2,22 @@
 
 ghost use Rattle.std.specs.Prelude.{◌≡◌, ◌<◌, ◌^◌};
 ghost use Rattle.classfile.specs.Numbers.{Gives};
-ghost use Rattle.classfile.specs.ReadClass.{magic_at, version_at, body_at, class_at, class_of};
+ghost use Rattle.classfile.specs.ReadCode.{ends_at};
+ghost use Rattle.classfile.specs.Structure.{Structure};
+ghost use Rattle.classfile.specs.ReadClass.{magic_at, version_at, methods_and_attributes_at, tables_at};
+ghost use Rattle.classfile.specs.ReadClass.{body_at, contents_at, class_at, class_of};
 
 use crate::attribute::{Attributes, Owner, attributes_at};
 use crate::declaration::{Declaration, declaration_at};
 use crate::fault::ClassFault;
 use crate::member::{MemberKind, Members, members_at};
-use crate::numbers::{u16_at, u32_at};
+use crate::numbers::{u16_pair_at, u32_at};
 use crate::pool::{ConstantPool, pool_at};
 use std::alloc::Global;
 use std::marker::Model;
 
 /// The parts of a class file.
-#[derive(Debug, Drop)]
+#[derive(Drop)]
 pub(crate) struct Parts {
     pub(crate) constants: ConstantPool,
     pub(crate) declaration: Declaration,
@@ -46,15 +49,44 @@ fn magic_at(total: usize, bytes: &[u8]) -> Result<(u32, &[u8]), ClassFault>
 fn version_at(total: usize, bytes: &[u8]) -> Result<((u16, u16), &[u8]), ClassFault>
     ensures { Gives (λ x. (x.0, x.1.now)) result (version_at total bytes.now) }
 {
-    let (minor, rest) = u16_at(total, bytes)?;
-    let (major, rest) = u16_at(total, rest)?;
+    let ((minor, major), rest) = u16_pair_at(total, bytes)?;
     if minor != 0 || major != 52 {
         return Err(ClassFault::Version { major, minor });
     }
     Ok(((minor, major), rest))
 }
 
-#[tactic(auto, unfolding(crate::specs::ReadClass::body_at))]
+/// The methods, and the class's own attributes.
+#[tactic(auto, unfolding(crate::specs::ReadClass::methods_and_attributes_at))]
+fn methods_and_attributes_at<'a>(
+    alloc: Global,
+    pool: &ConstantPool,
+    total: usize,
+    bytes: &'a [u8],
+) -> Result<((Members, Attributes), &'a [u8]), ClassFault>
+    ensures { Gives (λ x. ((x.0.0, x.0.1), x.1.now)) result (methods_and_attributes_at pool.now total bytes.now) }
+{
+    let (methods, rest) = members_at(alloc, MemberKind::Method, pool, total, bytes)?;
+    let (attributes, rest) = attributes_at(alloc, pool.as_slice(), Owner::Class, total, rest)?;
+    Ok(((methods, attributes), rest))
+}
+
+/// The fields, and behind them the methods and the class's own attributes.
+#[tactic(auto, unfolding(crate::specs::ReadClass::tables_at))]
+fn tables_at<'a>(
+    alloc: Global,
+    pool: &ConstantPool,
+    total: usize,
+    bytes: &'a [u8],
+) -> Result<((Members, (Members, Attributes)), &'a [u8]), ClassFault>
+    ensures { Gives (λ x. ((x.0.0, (x.0.1.0, x.0.1.1)), x.1.now)) result (tables_at pool.now total bytes.now) }
+{
+    let (fields, rest) = members_at(alloc, MemberKind::Field, pool, total, bytes)?;
+    let (others, rest) = methods_and_attributes_at(alloc, pool, total, rest)?;
+    Ok(((fields, others), rest))
+}
+
+#[tactic(auto, unfolding(crate::specs::ReadClass::body_at, crate::specs::ReadClass::tables_at, crate::specs::ReadClass::methods_and_attributes_at))]
 fn body_at<'a>(
     alloc: Global,
     constants: ConstantPool,
@@ -64,10 +96,7 @@ fn body_at<'a>(
 ) -> Result<(Parts, &'a [u8]), ClassFault>
     ensures { Gives (λ x. (x.0, x.1.now)) result (body_at constants declaration total bytes.now) }
 {
-    let (fields, rest) = members_at(alloc, MemberKind::Field, &constants, total, bytes)?;
-    let (methods, rest) = members_at(alloc, MemberKind::Method, &constants, total, rest)?;
-    let pool = constants.as_slice();
-    let (attributes, rest) = attributes_at(alloc, pool, Owner::Class, total, rest)?;
+    let ((fields, (methods, attributes)), rest) = tables_at(alloc, &constants, total, bytes)?;
     let class = Parts {
         constants,
         declaration,
@@ -78,16 +107,25 @@ fn body_at<'a>(
     Ok((class, rest))
 }
 
-#[tactic(auto, unfolding(crate::specs::ReadClass::class_at))]
+/// The constant pool, and what is behind it.
+#[tactic(auto, unfolding(crate::specs::ReadClass::contents_at))]
+fn contents_at(alloc: Global, total: usize, bytes: &[u8]) -> Result<(Parts, &[u8]), ClassFault>
+    requires { total < 2 ^ 63 }
+    ensures { Gives (λ x. (x.0, x.1.now)) result (contents_at total bytes.now) }
+{
+    let (constants, rest) = pool_at(alloc, total, bytes)?;
+    let (declaration, rest) = declaration_at(alloc, constants.as_slice(), total, rest)?;
+    body_at(alloc, constants, declaration, total, rest)
+}
+
+#[tactic(auto, unfolding(crate::specs::ReadClass::class_at, crate::specs::ReadClass::contents_at))]
 fn class_at(alloc: Global, total: usize, bytes: &[u8]) -> Result<(Parts, &[u8]), ClassFault>
     requires { total < 2 ^ 63 }
     ensures { Gives (λ x. (x.0, x.1.now)) result (class_at total bytes.now) }
 {
     let (_magic, rest) = magic_at(total, bytes)?;
     let (_version, rest) = version_at(total, rest)?;
-    let (constants, rest) = pool_at(alloc, total, rest)?;
-    let (declaration, rest) = declaration_at(alloc, constants.as_slice(), total, rest)?;
-    body_at(alloc, constants, declaration, total, rest)
+    contents_at(alloc, total, rest)
 }
 
 /// The class file that fills these bytes.
@@ -97,6 +135,13 @@ pub(crate) fn class_of(alloc: Global, bytes: &[u8]) -> Result<Parts, ClassFault>
 {
     let total = bytes.len();
     let (class, rest) = class_at(alloc, total, bytes)?;
+    ended(class, total, rest)
+}
+
+/// A class behind which nothing may be left.
+fn ended(class: Parts, total: usize, rest: &[u8]) -> Result<Parts, ClassFault>
+    ensures { Gives (λ c. c) result (ends_at {X = Structure} total (class, rest.now)) }
+{
     if !rest.is_empty() {
         return Err(ClassFault::Extra {
             at: total.saturating_sub(rest.len()),

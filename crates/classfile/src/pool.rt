@@ -5,7 +5,7 @@ ghost use Rattle.classfile.specs.Descriptors.{is_field, is_method, is_class_name
 ghost use Rattle.classfile.specs.Forms.{form_of};
 ghost use Rattle.classfile.specs.Lookup.{text_of, passes};
 ghost use Rattle.classfile.specs.Numbers.{Gives};
-ghost use Rattle.classfile.specs.ReadPool.{pool_at};
+ghost use Rattle.classfile.specs.ReadPool.{checked_at, pool_at};
 
 use crate::checks::check_all;
 use crate::constant::Constant;
@@ -18,7 +18,7 @@ use std::marker::Model;
 
 /// A constant pool (JVMS 4.4). Its indices are those of the file: index 0 is unusable, and so is
 /// the one behind a Long or a Double.
-#[derive(Debug, Drop)]
+#[derive(Drop)]
 pub struct ConstantPool {
     constants: Vec<Constant>,
     /// What each text is, so that none is looked through twice.
@@ -111,9 +111,21 @@ pub(crate) fn pool_at(
             at: total.saturating_sub(bytes.len()),
         });
     }
-    let left = rest.len();
-    let (constants, rest) = entries_at(alloc, total, count, rest)?;
+    checked_at(alloc, total, count, rest)
+}
+
+/// So many entries, checked against one another.
+fn checked_at(
+    alloc: Global,
+    total: usize,
+    count: u16,
+    bytes: &[u8],
+) -> Result<(ConstantPool, &[u8]), ClassFault>
+    requires { total < 2 ^ 63 }
+    ensures { Gives (λ x. (x.0, x.1.now)) result (checked_at count total bytes.now) }
+{
+    let (constants, rest) = entries_at(alloc, total, count, bytes)?;
     let pool = ConstantPool::from_entries(alloc, constants)?;
-    check_all(&pool, total, left)?;
+    check_all(&pool, total, bytes.len())?;
     Ok((pool, rest))
 }

@@ -2,25 +2,26 @@
 
 ghost use Rattle.std.specs.Prelude.{◌≡◌, List};
 ghost use Rattle.classfile.specs.Numbers.{Gives};
-ghost use Rattle.classfile.specs.ReadCode.{text_index_at, framed_at, unread_at, unread_attributes_at};
+ghost use Rattle.classfile.specs.Repeat.{repeat_at};
+ghost use Rattle.classfile.specs.ReadCode.{text_index_at, content_at, framed_at, unread_at, unread_attributes_at};
 
 use crate::bytes::Bytes;
 use crate::constant::Constant;
 use crate::fault::ClassFault;
 use crate::lookup::has_text;
-use crate::numbers::{run_at, u16_at, u32_at};
+use crate::numbers::{room_for, run_at, u16_at, u32_at};
 use std::alloc::Global;
 use std::marker::Model;
 
 /// An attribute that is not looked into (JVMS 4.7): the index of its name, and its bytes.
-#[derive(Debug, Drop)]
+#[derive(Drop)]
 pub struct UnreadAttribute {
     pub name: u16,
     pub bytes: Bytes,
 }
 
 /// Attributes that are not looked into, in the file's order.
-#[derive(Debug, Drop)]
+#[derive(Drop)]
 pub struct UnreadAttributes {
     items: Vec<UnreadAttribute>,
 }
@@ -61,8 +62,17 @@ pub(crate) fn text_index_at<'a>(
     Ok((index, rest))
 }
 
+/// A length, and so many bytes.
+#[tactic(auto, unfolding(crate::specs::ReadCode::content_at))]
+fn content_at(total: usize, bytes: &[u8]) -> Result<(&[u8], &[u8]), ClassFault>
+    ensures { Gives (λ x. (x.0.now, x.1.now)) result (content_at total bytes.now) }
+{
+    let (length, rest) = u32_at(total, bytes)?;
+    run_at(total, length as usize, rest)
+}
+
 /// The name and the content of an attribute.
-#[tactic(auto, unfolding(crate::specs::ReadCode::framed_at))]
+#[tactic(auto, unfolding(crate::specs::ReadCode::framed_at, crate::specs::ReadCode::content_at))]
 pub(crate) fn framed_at<'a>(
     pool: &[Constant],
     total: usize,
@@ -71,8 +81,7 @@ pub(crate) fn framed_at<'a>(
     ensures { Gives (λ x. ((x.0.0, x.0.1.now), x.1.now)) result (framed_at pool.now total bytes.now) }
 {
     let (name, rest) = text_index_at(pool, total, bytes)?;
-    let (length, rest) = u32_at(total, rest)?;
-    let (content, rest) = run_at(total, length as usize, rest)?;
+    let (content, rest) = content_at(total, rest)?;
     Ok(((name, content), rest))
 }
 
@@ -101,12 +110,28 @@ pub(crate) fn unread_attributes_at<'a>(
     ensures { Gives (λ x. (x.0, x.1.now)) result (unread_attributes_at pool.now total bytes.now) }
 {
     let (count, rest) = u16_at(total, bytes)?;
-    let mut items = Vec::with_capacity(alloc, usize::from(count).min(rest.len()))?;
-    let mut rest = rest;
+    let mut items = Vec::with_capacity(alloc, room_for(count, rest))?;
+    let rest = push_unread_at(alloc, pool, total, count, &mut items, rest)?;
+    Ok((UnreadAttributes { items }, rest))
+}
+
+/// Reads so many attributes behind those that stand before.
+fn push_unread_at<'a>(
+    alloc: Global,
+    pool: &[Constant],
+    total: usize,
+    count: u16,
+    items: &mut Vec<UnreadAttribute>,
+    bytes: &'a [u8],
+) -> Result<&'a [u8], ClassFault>
+    ensures { Gives (λ rest. (items.new.items, rest.now)) result
+        (repeat_at (λ earlier. unread_at pool.now total) count items.old.items bytes.now) }
+{
+    let mut rest = bytes;
     for _index in 0..count {
         let (attribute, after) = unread_at(alloc, pool, total, rest)?;
         items.push(attribute)?;
         rest = after;
     }
-    Ok((UnreadAttributes { items }, rest))
+    Ok(rest)
 }

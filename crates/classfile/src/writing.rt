@@ -1,6 +1,7 @@
 //! Writes class files: a function for each part, which appends the part's text.
 
 ghost use Rattle.std.specs.Prelude.{◌≡◌, ◌++◌, ◌<◌, ◌^◌, length, IfOk, OnOk};
+ghost use Rattle.classfile.specs.Class.{IsStructure};
 ghost use Rattle.classfile.specs.Sizes.{IsTable, IsSizedConstant, IsSizedUnread};
 ghost use Rattle.classfile.specs.Sizes.{IsSizedCode, IsSizedAttribute, IsSizedMember};
 ghost use Rattle.classfile.specs.Spelling.{u1, u2, u4, constant_text};
@@ -23,18 +24,43 @@ pub fn write(alloc: Global, class: &ClassFile) -> Result<Vec<u8>, AllocError>
 {
     let constants = class.constants();
     let mut out = Vec::new(alloc);
-    push_u32(&mut out, 0xCAFE_BABE)?;
-    push_u16(&mut out, 0)?;
-    push_u16(&mut out, 52)?;
+    push_header(&mut out)?;
     push_constants(&mut out, constants)?;
-    push_u16(&mut out, class.access_flags())?;
-    push_u16(&mut out, class.this_class())?;
-    push_u16(&mut out, class.super_class())?;
-    push_interfaces(&mut out, class.interfaces())?;
-    push_members(alloc, &mut out, class.fields())?;
-    push_members(alloc, &mut out, class.methods())?;
-    push_attributes(alloc, &mut out, class.attributes())?;
+    push_declaration(&mut out, class)?;
+    push_tables(alloc, &mut out, class)?;
     Ok(out)
+}
+
+/// The magic number and the version.
+fn push_header(out: &mut Vec<u8>) -> Result<(), AllocError>
+    ensures { OnOk result (out.new.items ≡ out.old.items ++ (u4 3405691582 ++ (u2 0 ++ u2 52))) }
+{
+    push_u32(out, 0xCAFE_BABE)?;
+    push_u16(out, 0)?;
+    push_u16(out, 52)
+}
+
+/// The flags, the class and its parents.
+fn push_declaration(out: &mut Vec<u8>, class: &ClassFile) -> Result<(), AllocError>
+    requires { IsStructure class.now }
+    ensures { OnOk result (out.new.items ≡ out.old.items ++ (u2 class.now.access_flags ++ (u2 class.now.this_class
+        ++ (u2 class.now.super_class ++ table_text u2 class.now.interfaces)))) }
+{
+    push_u16(out, class.access_flags())?;
+    push_u16(out, class.this_class())?;
+    push_u16(out, class.super_class())?;
+    push_interfaces(out, class.interfaces())
+}
+
+/// The fields, the methods and the class's own attributes.
+fn push_tables(alloc: Global, out: &mut Vec<u8>, class: &ClassFile) -> Result<(), AllocError>
+    requires { IsStructure class.now }
+    ensures { OnOk result (out.new.items ≡ out.old.items ++ (table_text member_text class.now.fields
+        ++ (table_text member_text class.now.methods ++ table_text attribute_text class.now.attributes))) }
+{
+    push_members(alloc, out, class.fields())?;
+    push_members(alloc, out, class.methods())?;
+    push_attributes(alloc, out, class.attributes())
 }
 
 fn push_u8(out: &mut Vec<u8>, number: u8) -> Result<(), AllocError>

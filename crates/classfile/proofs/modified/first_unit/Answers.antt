@@ -1,22 +1,15 @@
-use Rattle.std.proofs.Common.{arith}
-use Rattle.classfile.proofs.FirstUnits.{one_at, two_at, three_at, no_end_at, no_end_at_two}
+use Rattle.std.proofs.Common.{Option, Some, None}
+use Rattle.std.specs.Prelude.{MatchOption}
+use Rattle.classfile.proofs.FirstUnits.{one_at}
 use Rattle.classfile.proofs.modified.first_unit.Goals as goal
 
 pub returns-then-first-lt192-clause-spelled : goal.returns-then-first-lt192-clause-spelled
 returns-then-first-lt192-clause-spelled c e = one_at _ _ _ _ c.in_ok-first.ensures.cases.0 c.if-first-lt192.true c.from.ensures e
 
-pub returns-then-first-lt224-clause-spelled : goal.returns-then-first-lt224-clause-spelled
-returns-then-first-lt224-clause-spelled c e =
-    two_at _ _ _ _ _ _ _ c.in_ok-first.ensures.cases.0 c.in_ok-second.ensures.cases.0 c.if-first-lt192.false c.if-first-lt224.true
-    c.from-then-first-lt224.ensures c.from-then-first-lt224-2.ensures e
-
-pub returns-in_err-second-clause-spelled : goal.returns-in_err-second-clause-spelled
-returns-in_err-second-clause-spelled c e = absurd (no_end_at _ _ _ c.in_ok-first.ensures.cases.0 c.in_err-second.ensures.cases c.if-first-lt192.false e)
-
-pub returns-in_err-third-clause-spelled : goal.returns-in_err-third-clause-spelled
-returns-in_err-third-clause-spelled c e = absurd (no_end_at_two _ _ _ _ _ c.in_ok-first.ensures.cases.0 c.in_ok-second.ensures.cases.0 c.in_err-third.ensures.cases c.if-first-lt224.false e)
+weaker : {X : Type 0} (found : Option X) (Q : Type 0) (P : X → Type 0) → MatchOption found ⊥ P → MatchOption found Q P
+weaker None Q P h = absurd h
+weaker (Some x) Q P h = h
 
 pub returns-clause-spelled : goal.returns-clause-spelled
 returns-clause-spelled c e =
-    three_at _ _ _ _ _ _ _ _ _ _ c.in_ok-first.ensures.cases.0 c.in_ok-second.ensures.cases.0 c.in_ok-third.ensures.cases.0 c.if-first-lt224.false
-    c.from-2.ensures c.from-3.ensures c.from-4.ensures e
+    rw c.in_ok-first.ensures.cases.0 (weaker c.longer_unit.result _ _ (c.longer_unit.ensures.spelled (rw c.in_ok-first.ensures.cases.0 at e)))

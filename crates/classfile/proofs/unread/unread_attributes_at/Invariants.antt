@@ -1,7 +1,0 @@
-use Rattle.std.proofs.Common.{◌≡◌, ◌-◌}
-use Rattle.classfile.specs.Repeat.{repeat_at}
-use Rattle.classfile.specs.ReadCode.{unread_at, unread_attributes_at}
-use Rattle.classfile.proofs.unread.unread_attributes_at.Given as goal
-
-abbrev pub invariant-loop-index : goal.invariant-loop-index
-invariant-loop-index l = repeat_at (λ earlier. unread_at l.pool l.total) (l.count - l._index) l.items.items l.rest ≡ unread_attributes_at l.pool l.total l.bytes
