@@ -1,6 +1,6 @@
 -- What a turn of one thread is of the whole world.
-use Rattle.std.proofs.Common.{◌≡◌, ℕ, ◌<◌, List, [], ◌∷◌, ◌++◌, Some, None, map, length, get_or, slice_get, slice_set, option_map, refl, sym, ap, subst, ◌∙◌}
-use Rattle.std.proofs.lemmas.List.{map-set}
+use Rattle.std.proofs.Common.{◌≡◌, ℕ, zero, suc, ◌<◌, List, [], ◌∷◌, ◌++◌, Some, None, map, length, get_or, slice_get, slice_set, option_map, refl, sym, ap, subst, ◌∙◌}
+use Rattle.std.proofs.lemmas.List.{append-nil, map-set}
 use Rattle.std.proofs.lemmas.Option.{slice_get-map, slice_get-get_or, get_or_from_slice_get}
 use Rattle.std.proofs.Math.Seq.{map-set_same}
 use Rattle.vm_state.specs.declared.shared.Shared.{Shared}
@@ -14,11 +14,12 @@ use Rattle.init_engine.specs.declared.world.Thread.{Thread}
 use Rattle.init_engine.specs.declared.world.Thread.TheVariants.{Going, Ended}
 use Rattle.init_engine.specs.declared.world.Done.{Done}
 use Rattle.init_engine.specs.declared.world.Done.TheVariants.{Went, Said, Waits, Over}
+use Rattle.init_engine.specs.declared.world.Turn.{Turn}
 use Rattle.init_engine.specs.declared.world.Turn.TheVariants.{Waiting}
 use Rattle.init_engine.specs.declared.world.Turn.TheVariants.{Ended as EndedTurn}
 use Rattle.init_engine.specs.Threads.{thread_of, seen_of, HasNumber, left_by_going, IsGoing, HasEndedNow, IsUnchanged, StaysAsItWas}
 use Rattle.init_engine.specs.Numbering.{AreNumbered}
-use Rattle.init_engine.specs.Turns.{world_of, Goes, IsOver, IsTurn}
+use Rattle.init_engine.specs.Turns.{world_of, Goes, IsOver, IsTurn, turn_of, lines_of}
 
 abbrev pub world_with : List Thread → Shared → List Line → World
 world_with threads shared printed = world_of (record { threads = threads; shared = shared; printed = printed })
@@ -111,10 +112,34 @@ module _ {P : Program} {threads : List Thread} {before after : Shared} {i : ℕ}
     stays_same threads before after printed i old new h.at h.stays.1,
   )
 
+-- all four at once
+pub noted : (P : Program) (threads : List Thread) (before after : Shared) (i : ℕ) (old new : Thread) (done : Done) (printed more : List Line) (answer : Turn) →
+    more ≡ printed ++ lines_of i done → answer ≡ turn_of done → Turned P threads before after i old new done →
+    IsTurn P (world_with threads before printed) i answer (world_with (slice_set threads i new) after more)
+noted P threads before after i old new Went printed more answer is same h = rw (same, is, append-nil printed) (went printed h)
+noted P threads before after i old new (Said text) printed more answer is same h = rw (same, is) (said printed text h)
+noted P threads before after i old new Waits printed more answer is same h = rw (same, is, append-nil printed) (waits printed h)
+noted P threads before after i old new Over printed more answer is same h = rw (same, is, append-nil printed) (over printed h)
+
 pub refused : (threads : List Thread) (before after : Shared) (printed : List Line) (i : ℕ) (old new : Thread) → i < length threads → old ≡ get_or threads i old → IsUnchanged old new before after →
     world_with (slice_set threads i new) after printed ≡ world_with threads before printed
 refused threads before after printed i old new inside is same =
     stays_same threads before after printed i old new (slice_get-get_or threads i old inside ∙ ap Some (sym is)) same
+
+-- what holds at each place still does after one is written
+set_keeps : {X : Type 0} (P : ℕ → X → Type 0) (xs : List X) (i : ℕ) (new : X) → ((t : ℕ) (x : X) → slice_get xs t ≡ Some x → P t x) → P i new →
+    (t : ℕ) (x : X) → slice_get (slice_set xs i new) t ≡ Some x → P t x
+set_keeps P [] i new all here t x at = all t x at
+set_keeps P (y ∷ ys) zero new all here zero x at = let e : new ≡ x = cc in subst (P zero) e here
+set_keeps P (y ∷ ys) zero new all here (suc t) x at = all (suc t) x at
+set_keeps P (y ∷ ys) (suc i) new all here zero x at = all zero x at
+set_keeps P (y ∷ ys) (suc i) new all here (suc t) x at = set_keeps (λ n. P (suc n)) ys i new (λ n z h. all (suc n) z h) here t x at
+
+-- a thread of the same number in its place
+pub numbered_set : (threads : List Thread) (i : ℕ) (old new : Thread) → i < length threads → old ≡ get_or threads i old → AreNumbered threads →
+    ((t : ℕ) → HasNumber old t → HasNumber new t) → AreNumbered (slice_set threads i new)
+numbered_set threads i old new inside is numbered same =
+    set_keeps (λ t thread. HasNumber thread t) threads i new numbered (same i (numbered i old (slice_get-get_or threads i old inside ∙ ap Some (sym is))))
 
 pub map-seen_of : (threads : List Thread) → map seen_of threads ≡ map ending (map thread_of threads)
 unfolding seen_of

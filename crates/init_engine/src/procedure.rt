@@ -79,6 +79,25 @@ fn begin(
     }
 }
 
+/// The step in which a thread begins the initialization of a class.
+fn step_begin(
+    alloc: Global,
+    program: &Program,
+    frames: &mut Frames,
+    shared: &mut Shared,
+    class: u32,
+) -> Result<Progress, AllocError>
+    ensures answer { IfOk result (λ r. r ≡ Progress.Moved) }
+    ensures thread { frames.new.thread ≡ frames.old.thread }
+    ensures shared { OnOk result ((p : List Line) → shared_of shared.new p ≡ begun (shared_of shared.old p) class frames.old.thread (statics_in program.now class)) }
+    ensures segment { OnOk result (segment_of frames.new ≡ []) }
+    ensures levels { OnOk result (levels_of frames.new ≡ record { entry = entry_of (program_of program.now) class; under = segment_of frames.old } ∷ levels_of frames.old) }
+    ensures err { OnErr result (IsSame frames.old frames.new × ((p : List Line) → shared_of shared.new p ≡ shared_of shared.old p)) }
+{
+    begin(alloc, program, frames, shared, class)?;
+    Ok(Progress::Moved)
+}
+
 /// An instruction, or the begin that it needs, of a thread on top of whose stack a frame stands.
 #[tactic(auto, unfolding(semantics::specs::Steps::step_thread))]
 fn step_frame(
@@ -101,10 +120,7 @@ fn step_frame(
                 None => Ok(Progress::Moved),
             }
         }
-        Effect::Needs(class) => {
-            begin(alloc, program, frames, shared, class)?;
-            Ok(Progress::Moved)
-        }
+        Effect::Needs(class) => step_begin(alloc, program, frames, shared, class),
         Effect::Wait => Ok(Progress::Waits),
         Effect::Print(text) => Ok(Progress::Printed(text)),
         Effect::Halt(kind) => Ok(Progress::Ended(End::Faulted(kind))),
@@ -196,10 +212,7 @@ fn step_entry(
                 frames.take_parent();
                 Ok(Progress::Moved)
             }
-            Usability::Fresh => {
-                begin(alloc, program, frames, shared, parent)?;
-                Ok(Progress::Moved)
-            }
+            Usability::Fresh => step_begin(alloc, program, frames, shared, parent),
             Usability::Busy => Ok(Progress::Waits),
             Usability::Broken => fail(alloc, shared, class),
         },

@@ -106,6 +106,22 @@ fn run_rounds(
     }
 }
 
+/// Runs a world by turns, and answers the schedule as stints.
+fn stints_of(
+    alloc: Global,
+    program: &Program,
+    world: &mut World,
+    limit: u64,
+) -> Result<Vec<(u32, u64)>, AllocError>
+    ensures turns { IfOk result (λ r. Turns (program_of program.now) (length world.old.threads) limit (world_of world.old) (schedule_of r.items) (world_of world.new)) }
+    ensures stints { IfOk result (λ r. AreStints r.items) }
+    ensures threads { OnOk result (length world.new.threads ≡ length world.old.threads) }
+{
+    let mut schedule = Schedule::new(alloc);
+    run_rounds(alloc, program, world, &mut schedule, limit)?;
+    schedule.into_stints()
+}
+
 /// Runs a world by turns, up to a round without a step or to so many steps. It answers the last world, and the
 /// schedule as stints: a thread, and how many steps it made in a row; neighbours are of different threads.
 #[tactic(auto, using(crate::proofs::RoundLemmas::run_of_turns))]
@@ -122,7 +138,8 @@ pub fn turns(
     ensures threads { IfOk result (λ r. length r.0.threads ≡ length world.threads) }
 {
     let mut world = world;
-    let mut schedule = Schedule::new(alloc);
-    run_rounds(alloc, program, &mut world, &mut schedule, limit)?;
-    Ok((world, schedule.into_stints()?))
+    match stints_of(alloc, program, &mut world, limit) {
+        Ok(stints) => Ok((world, stints)),
+        Err(error) => Err(error),
+    }
 }

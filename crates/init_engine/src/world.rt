@@ -1,6 +1,7 @@
 //! Worlds: threads, what they share, and what they printed.
 
-ghost use Rattle.std.specs.Prelude.{◌≡◌, ◌<◌, ◌≤◌, replicate, ◌∷◌, [], ℕ, List, length, map, IfOk, OnOk, OnErr, Some, None};
+ghost use Rattle.std.specs.Prelude.{◌≡◌, ◌+◌, ◌<◌, ◌≤◌, ◌++◌, replicate, ◌∷◌, [], ℕ, List, length, map, vec_len, vec_capacity};
+ghost use Rattle.std.specs.Prelude.{IfOk, OnOk, OnErr, Some, None};
 ghost use Rattle.vm_state.specs.declared.text.Line.{Line};
 ghost use Rattle.vm_state.specs.Shares.{shared_of};
 ghost use Rattle.semantics.specs.Steps.{Going, step_thread};
@@ -9,7 +10,7 @@ ghost use Rattle.init_engine.specs.Sights.{IsSight};
 ghost use Rattle.init_engine.specs.Threads.{RunsLocally, TopRuns};
 ghost use Rattle.machine.specs.Linked.{program_of};
 ghost use Rattle.init_engine.specs.Threads.{thread_of, seen_of, HasNumber, left_by_going, StaysAsItWas};
-ghost use Rattle.init_engine.specs.Turns.{IsTurn, world_of};
+ghost use Rattle.init_engine.specs.Turns.{IsTurn, lines_of, turn_of, world_of};
 
 use crate::procedure::{Progress, step_thread};
 use hierarchy::program::Program;
@@ -90,6 +91,23 @@ fn take_turn(
     }
 }
 
+/// Keeps what a thread printed, where there is room, and answers what its turn did.
+fn noted(printed: &mut Vec<Line>, thread: u32, done: Done) -> Turn
+    requires { vec_len printed.old + 1 ≤ vec_capacity printed.old }
+    ensures turn { result ≡ turn_of done }
+    ensures printed { printed.new.items ≡ printed.old.items ++ lines_of thread done }
+{
+    match done {
+        Done::Went => Turn::Moved,
+        Done::Said(text) => {
+            printed.push_reserved(Line { thread, text });
+            Turn::Moved
+        }
+        Done::Waits => Turn::Waiting,
+        Done::Over => Turn::Ended,
+    }
+}
+
 /// The threads, what they share, and what they printed. A contract sees the three; `world_of` of them is the
 /// world as the definition has it.
 #[derive(Drop)]
@@ -143,6 +161,20 @@ fn endings(alloc: Global, threads: &[Thread]) -> Result<Vec<Ending>, AllocError>
     Ok(endings)
 }
 
+/// Thread 0 on this frame.
+fn first_thread(alloc: Global, top: Frame) -> Thread
+    ensures thread { thread_of result ≡ Going (top ∷ []) [] }
+    ensures number { HasNumber result 0 }
+{
+    Thread::Going(Frames {
+        thread: 0,
+        top: Some(top),
+        callers: FrameList::none(alloc),
+        highest: None,
+        outer: LevelList::none(alloc),
+    })
+}
+
 impl World {
     /// What the world has shown.
     pub fn seen(&self, alloc: Global) -> Result<Seen, AllocError>
@@ -157,15 +189,8 @@ impl World {
     pub(crate) fn of_thread(alloc: Global, top: Frame, shared: Shared) -> Result<World, AllocError>
         ensures { IfOk result (λ w. world_of w ≡ record { shared = shared_of shared []; threads = Going (top ∷ []) [] ∷ [] }) }
     {
-        let thread = Thread::Going(Frames {
-            thread: 0,
-            top: Some(top),
-            callers: FrameList::none(alloc),
-            highest: None,
-            outer: LevelList::none(alloc),
-        });
         let mut threads = Vec::new(alloc);
-        threads.push(thread)?;
+        threads.push(first_thread(alloc, top))?;
         Ok(World {
             threads,
             shared,
@@ -208,13 +233,7 @@ impl World {
         self.printed.reserve(1)?;
         let stepping = &mut self.threads[thread as usize];
         match take_turn(alloc, program, stepping, &mut self.shared) {
-            Ok(Done::Went) => Ok(Turn::Moved),
-            Ok(Done::Said(text)) => {
-                self.printed.push_reserved(Line { thread, text });
-                Ok(Turn::Moved)
-            }
-            Ok(Done::Waits) => Ok(Turn::Waiting),
-            Ok(Done::Over) => Ok(Turn::Ended),
+            Ok(done) => Ok(noted(&mut self.printed, thread, done)),
             Err(error) => Err(error),
         }
     }

@@ -13,7 +13,7 @@ use hierarchy::{BuiltInMethod, Method, Printed, Unresolved};
 use vm_state::ends::FaultKind;
 
 /// An operator on two ints that never fails (JVMS 6.5, `iadd`, `isub`, `imul`). Results wrap.
-#[derive(Clone, Copy, PartialEq, Eq, Debug)]
+#[derive(Clone, Copy)]
 pub enum Arithmetic {
     Add,
     Subtract,
@@ -22,7 +22,7 @@ pub enum Arithmetic {
 
 /// What touches its own frame alone. A branch target is the place of an instruction of the same body, or none where no
 /// instruction begins at the byte that was named: a jump there is a fault.
-#[derive(Clone, Copy, PartialEq, Eq, Debug)]
+#[derive(Clone, Copy)]
 pub enum Local {
     Nop,
     /// `iconst`, `bipush` and `sipush`.
@@ -45,7 +45,7 @@ pub enum Local {
 }
 
 /// What an instruction does in its method.
-#[derive(Clone, Copy, PartialEq, Eq, Debug)]
+#[derive(Clone, Copy)]
 pub enum Operation {
     Local(Local),
     /// `getstatic` of an int field of a given class, by the number of the class and the field's among its static fields.
