@@ -66,7 +66,7 @@ unfoldable pub version_at : ℕ → List ℕ → Result ((ℕ × ℕ) × List �
 version_at total bytes = two_at total bytes >>= λ v. if is_version v.0 then Ok v else Err (faults.Version v.0.1 v.0.0)
 
 -- the methods and the class's own attributes, behind the fields
-unfoldable pub methods_and_attributes_at : List Constant → ℕ → List ℕ → Result ((List Member × List Attribute) × List ℕ) ClassFault
+abbrev pub methods_and_attributes_at : List Constant → ℕ → List ℕ → Result ((List Member × List Attribute) × List ℕ) ClassFault
 methods_and_attributes_at pool total bytes = do
   methods ← members_at kinds.Method pool total bytes
   attributes ← attributes_at pool owners.Class total methods.1

@@ -4,8 +4,7 @@ ghost use Rattle.std.specs.Prelude.{◌≡◌};
 ghost use Rattle.classfile.specs.Numbers.{Gives};
 ghost use Rattle.classfile.specs.Repeat.{repeat_at};
 ghost use Rattle.classfile.specs.ReadClass.{this_class_at, super_class_at, class_indices_at};
-ghost use Rattle.classfile.specs.ReadClass.{interface_at, interfaces_at};
-ghost use Rattle.classfile.specs.ReadClass.{declaration_at};
+ghost use Rattle.classfile.specs.ReadClass.{interface_at, interfaces_at, declaration_at};
 
 use crate::constant::Constant;
 use crate::fault::ClassFault;

@@ -57,7 +57,6 @@ fn version_at(total: usize, bytes: &[u8]) -> Result<((u16, u16), &[u8]), ClassFa
 }
 
 /// The methods, and the class's own attributes.
-#[tactic(auto, unfolding(crate::specs::ReadClass::methods_and_attributes_at))]
 fn methods_and_attributes_at<'a>(
     alloc: Global,
     pool: &ConstantPool,
@@ -86,7 +85,7 @@ fn tables_at<'a>(
     Ok(((fields, others), rest))
 }
 
-#[tactic(auto, unfolding(crate::specs::ReadClass::body_at, crate::specs::ReadClass::tables_at, crate::specs::ReadClass::methods_and_attributes_at))]
+#[tactic(auto, unfolding(crate::specs::ReadClass::body_at, crate::specs::ReadClass::tables_at))]
 fn body_at<'a>(
     alloc: Global,
     constants: ConstantPool,
