@@ -154,7 +154,8 @@ impl ClassBuilder {
         add_attribute(self.attributes.row(), name, content)
     }
 
-    /// The index of the entry of the constant pool that a word spells, as `T.x:I` or `int:5`; 0 where it is misspelled.
+    /// The index of the entry of the constant pool that a word spells, as `T.x:I` or `int:5`; 0 where it is
+    /// misspelled.
     pub fn constant(&mut self, word: &str) -> Result<u16, AllocError> {
         match self.pool.constant(word)? {
             Some(index) => Ok(index),
@@ -211,7 +212,8 @@ impl ClassBuilder {
     }
 }
 
-/// Adds a field or a method (JVMS 4.5 and 4.6): its header, and the one attribute, by its name's index and its content.
+/// Adds a field or a method (JVMS 4.5 and 4.6): its header, and the one attribute, by its name's index and its
+/// content.
 fn add_member(
     out: &mut Vec<u8>,
     header: [u16; 3],

@@ -1,9 +1,10 @@
 //! Class files from a text.
 //!
-//! A class is a line, which goes on in the lines that begin with two spaces, or stands behind ` | ` and another. It begins
-//! with `class` or `interface`, and its name; then in this order, each only where it is there: `below` and a superclass, which
-//! is `java/lang/Object` otherwise and none at all where it is `nothing`; `implements` and superinterfaces; and behind a colon
-//! the members, apart by commas. Access flags as four hexadecimal digits may stand before the name.
+//! A class is a line, which goes on in the lines that begin with two spaces, or stands behind ` | ` and another. It
+//! begins with `class` or `interface`, and its name; then in this order, each only where it is there: `below` and a
+//! superclass, which is `java/lang/Object` otherwise and none at all where it is `nothing`; `implements` and
+//! superinterfaces; and behind a colon the members, apart by commas. Access flags as four hexadecimal digits may
+//! stand before the name.
 //!
 //! A member begins with its flags, as words or as four hexadecimal digits:
 //!
@@ -18,8 +19,8 @@
 //! attribute Name 0A0B                an attribute of the class, with its bytes
 //! ```
 //!
-//! A line that begins with `bytes` is a class file as its bytes are spelled. In names and other texts a backslash, `u` and four
-//! hexadecimal digits are a UTF-16 unit.
+//! A line that begins with `bytes` is a class file as its bytes are spelled. In names and other texts a backslash,
+//! `u` and four hexadecimal digits are a UTF-16 unit.
 
 use crate::class::{ClassBuilder, Member};
 use crate::code::CodeText;

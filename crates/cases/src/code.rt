@@ -45,11 +45,12 @@ struct Handler<'a> {
 
 /// The code of one method, while its words are read.
 ///
-/// A word is the name of an instruction, which begins one; a byte in decimal digits; `#300` and `##300`, a number of two
-/// and of four bytes; an entry of the constant pool, as `T.x:I`, for its index; `here:`, a label of this place; `>here` and
-/// `>>here`, the offset of a label from the instruction, in two and in four bytes; `pad`, zeros up to a multiple of four;
-/// `catch:from,to,handler,T`, three labels and a class or `any`, an entry of the exception table; `out`, `getstatic` of
-/// `System.out`; or `println`, `invokevirtual` of `PrintStream.println(int)`. A number and `*` before one repeat it.
+/// A word is the name of an instruction, which begins one; a byte in decimal digits; `#300` and `##300`, a number of
+/// two and of four bytes; an entry of the constant pool, as `T.x:I`, for its index; `here:`, a label of this place;
+/// `>here` and `>>here`, the offset of a label from the instruction, in two and in four bytes; `pad`, zeros up to a
+/// multiple of four; `catch:from,to,handler,T`, three labels and a class or `any`, an entry of the exception table;
+/// `out`, `getstatic` of `System.out`; or `println`, `invokevirtual` of `PrintStream.println(int)`. A number and `*`
+/// before one repeat it.
 #[derive(Drop)]
 pub struct CodeText<'a> {
     alloc: Global,

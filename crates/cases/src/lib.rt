@@ -1,8 +1,8 @@
 //! What tests as data are made of: files of cases, class files from a text form, and bytes from their spelling.
 //!
 //! [`run_cases`] asks the questions of one file of cases and compares the answers that a [`Subject`] finds.
-//! [`add_class_files`] makes class files of texts, and [`spelled`] bytes of words. Nothing is verified: what a text asks for
-//! is written. What cannot be written is answered as misspelled, so that no case passes by it.
+//! [`add_class_files`] makes class files of texts, and [`spelled`] bytes of words. Nothing is verified: what a text
+//! asks for is written. What cannot be written is answered as misspelled, so that no case passes by it.
 #![tactic(auto)]
 
 mod class;

@@ -9,8 +9,8 @@ pub fn modified_utf8(alloc: Global, text: &str) -> Result<Vec<u8>, AllocError> {
     Ok(bytes)
 }
 
-/// Adds a text in modified UTF-8 (JVMS 4.4.7): each UTF-16 unit by itself, in one to three bytes, and the unit 0 in two.
-/// A backslash, `u` and four hexadecimal digits are one unit.
+/// Adds a text in modified UTF-8 (JVMS 4.4.7): each UTF-16 unit by itself, in one to three bytes, and the unit 0 in
+/// two. A backslash, `u` and four hexadecimal digits are one unit.
 pub fn add_text(bytes: &mut Vec<u8>, text: &str) -> Result<(), AllocError> {
     let mut parts = text.split("\\u");
     if let Some(plain) = parts.next() {

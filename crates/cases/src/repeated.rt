@@ -2,8 +2,8 @@
 
 use std::alloc::{AllocError, Global};
 
-/// What a text that begins with `repeat N: ` stands for: what follows it, N times, with this between. Each other text stands
-/// for itself.
+/// What a text that begins with `repeat N: ` stands for: what follows it, N times, with this between. Each other text
+/// stands for itself.
 ///
 /// In it `<0>` is the number of the round, from 0 on, `<1>` one more, and `<->` the number of those that follow.
 pub fn repeated(alloc: Global, text: &str, between: &str) -> Result<String, AllocError> {

@@ -18,8 +18,9 @@ struct Bracket {
     bytes: Vec<u8>,
 }
 
-/// The bytes of words: `0A1B` is two bytes, `'Code'` is the letters, and `255*5B` is a byte so many times; `0*00` is nothing.
-/// The words between `[` and `]` come behind the number of their bytes, which has two bytes, and between `[[` and `]]` four.
+/// The bytes of words: `0A1B` is two bytes, `'Code'` is the letters, and `255*5B` is a byte so many times; `0*00` is
+/// nothing. The words between `[` and `]` come behind the number of their bytes, which has two bytes, and between
+/// `[[` and `]]` four.
 pub fn spelled(alloc: Global, spelling: &str) -> Result<SpelledBytes, AllocError> {
     let mut reading = Reading {
         alloc,

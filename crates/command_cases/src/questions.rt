@@ -11,12 +11,14 @@ use vm_state::ends::FaultKind;
 
 /// Given are files, each as its name, ` = ` and a class in its text form.
 ///
-/// Asked are the words of a command, for the status, and between brackets what standard output and standard error got. Behind the words may
-/// stand ` | ` and `begins LENGTH`, for that many bytes of the answer; `has TEXT`, for the status and which of the two has the text where the other has nothing; `output
-/// ROOM` or `errors ROOM`, for what is answered when that stream fails behind so many bytes.
+/// Asked are the words of a command, for the status, and between brackets what standard output and standard error
+/// got. Behind the words may stand ` | ` and `begins LENGTH`, for that many bytes of the answer; `has TEXT`, for the
+/// status and which of the two has the text where the other has nothing; `output ROOM` or `errors ROOM`, for what is
+/// answered when that stream fails behind so many bytes.
 ///
-/// `line WORDS` asks what the words ask for, and `entries LIST` for the names of a list. `program FILE ..` asks why files make no program, `lines
-/// ENDING ..` for the lines of threads, `status ENDING ..` for the status of a run, and `stuck ENDING ..` for that of one that is stuck.
+/// `line WORDS` asks what the words ask for, and `entries LIST` for the names of a list. `program FILE ..` asks why
+/// files make no program, `lines ENDING ..` for the lines of threads, `status ENDING ..` for the status of a run, and
+/// `stuck ENDING ..` for that of one that is stuck.
 pub fn answer(alloc: Global, given: &str, asked: &str) -> Result<String, AllocError> {
     let mut shelf = Shelf::new(alloc);
     let lines = given.replace(alloc, "\n  ", " ")?;

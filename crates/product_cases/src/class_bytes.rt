@@ -3,7 +3,8 @@
 use cases::add_class_files;
 use std::alloc::{AllocError, Global};
 
-/// Given is a class. Asked is `length`, for that of its file, or an offset and a length, for the bytes that stand there.
+/// Given is a class. Asked is `length`, for that of its file, or an offset and a length, for the bytes that stand
+/// there.
 pub fn answer(alloc: Global, given: &str, asked: &str) -> Result<String, AllocError> {
     let mut files = Vec::new(alloc);
     let misspelled = add_class_files(alloc, &mut files, given)?;

@@ -7,9 +7,10 @@ use std::alloc::{AllocError, Global};
 
 /// What reading a class file answers: a fault, or `read` where the same bytes are written back.
 ///
-/// Given is the file, with `{}` for what is asked; before a colon stands only what that is. Of a file without `{}` asked are
-/// `at OFFSET BYTES`, with other bytes there; `first LENGTH`, that many of its bytes; `then BYTES`, more behind it; `parts`; and
-/// `entries`. Without a file `name TEXT` asks for the forms of a class's name, and `units TEXT` for those of one with any units.
+/// Given is the file, with `{}` for what is asked; before a colon stands only what that is. Of a file without `{}`
+/// asked are `at OFFSET BYTES`, with other bytes there; `first LENGTH`, that many of its bytes; `then BYTES`, more
+/// behind it; `parts`; and `entries`. Without a file `name TEXT` asks for the forms of a class's name, and `units
+/// TEXT` for those of one with any units.
 pub fn answer(alloc: Global, given: &str, asked: &str) -> Result<String, AllocError> {
     if given.is_empty() {
         return name_answer(alloc, asked);

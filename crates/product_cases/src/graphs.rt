@@ -4,11 +4,11 @@ use graph::{Arrangement, Graph, Visited, arrange, reach};
 use std::alloc::{AllocError, Global};
 use std::str::SplitWhitespace;
 
-/// Given are lines: `vertices COUNT`, then `edge FROM TO`, `chain`, which has each vertex lead to the next, and `diamonds COUNT`, each
-/// of three vertices that lead to the next one's first.
+/// Given are lines: `vertices COUNT`, then `edge FROM TO`, `chain`, which has each vertex lead to the next, and
+/// `diamonds COUNT`, each of three vertices that lead to the next one's first.
 ///
-/// Asked is `arrange`, for the order or the least vertex on a cycle; `arrange all`, for whether the order has all vertices, each behind
-/// its successors; or `reach VERTEX` and `reach VERTEX cleared`, for what is reached.
+/// Asked is `arrange`, for the order or the least vertex on a cycle; `arrange all`, for whether the order has all
+/// vertices, each behind its successors; or `reach VERTEX` and `reach VERTEX cleared`, for what is reached.
 pub fn answer(alloc: Global, given: &str, asked: &str) -> Result<String, AllocError> {
     let graph = graph_of(alloc, given)?;
     match asked.split_once(' ') {

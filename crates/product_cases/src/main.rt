@@ -1,12 +1,13 @@
-//! The program `product_cases`: asks the questions of the files of cases that its command line names, and compares the answers
-//! with those that stand behind them. The folder of a file says what its cases are about ([`About`]).
+//! The program `product_cases`: asks the questions of the files of cases that its command line names, and compares
+//! the answers with those that stand behind them. The folder of a file says what its cases are about ([`About`]).
 //!
 //! What the files expect follows from the rules of the JVM specification (JVMS SE 8) and was worked out by hand.
 //!
-//! A word that ends with `.class` names a class file, which is read and written back, and one that ends with `/` has the class
-//! files since the last such word linked.
+//! A word that ends with `.class` names a class file, which is read and written back, and one that ends with `/` has
+//! the class files since the last such word linked.
 //!
-//! It prints a line for each word, and one for each answer that is not as it is wanted. Its status is 0 where all are.
+//! It prints a line for each word, and one for each answer that is not as it is wanted. Its status is 0 where all
+//! are.
 #![tactic(auto)]
 
 mod class_bytes;

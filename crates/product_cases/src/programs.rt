@@ -10,8 +10,8 @@ use std::alloc::{AllocError, Global};
 
 /// Given are classes. The order of their files makes no difference, so both ends are tried.
 ///
-/// Where they have a `{}`, what is asked stands there, and the answer is that of `run T 10000`. A fault of reading or of linking is the answer
-/// to every question.
+/// Where they have a `{}`, what is asked stands there, and the answer is that of `run T 10000`. A fault of reading or
+/// of linking is the answer to every question.
 pub fn answer(alloc: Global, given: &str, asked: &str) -> Result<String, AllocError> {
     if given.contains("{}") {
         let text = filled(alloc, given, asked)?;

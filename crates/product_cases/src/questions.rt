@@ -93,8 +93,8 @@ fn counted(verb: Verb, about: &str) -> Question<'_> {
     }
 }
 
-/// A question with a reference: an entry as the text form of class files spells it, or any index of the pool, in which 1 is the Utf8
-/// `Asking` and 2 its Class.
+/// A question with a reference: an entry as the text form of class files spells it, or any index of the pool, in
+/// which 1 is the Utf8 `Asking` and 2 its Class.
 fn asking<'a>(
     alloc: Global,
     verb: Verb,

@@ -82,7 +82,8 @@ fn write_steps(text: &mut String, schedule: &[(u32, u64)]) -> Result<(), AllocEr
     write!(text, "{all} ")
 }
 
-/// What is seen of a world of one thread: how the thread stands, each line that it printed, and `stuck` where it has to wait.
+/// What is seen of a world of one thread: how the thread stands, each line that it printed, and `stuck` where it has
+/// to wait.
 fn add_seen(
     alloc: Global,
     text: &mut String,
