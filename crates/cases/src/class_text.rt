@@ -56,11 +56,21 @@ pub fn add_class_files(
     let mut misspelled = String::new(alloc);
     let text = lines_of(alloc, text)?;
     for line in text.lines() {
-        let file = class_file(alloc, line)?;
-        misspelled.push_str(&file.misspelled)?;
-        files.push(file.bytes)?;
+        add_class_file(alloc, files, &mut misspelled, line)?;
     }
     Ok(misspelled)
+}
+
+fn add_class_file(
+    alloc: Global,
+    files: &mut Vec<Vec<u8>>,
+    misspelled: &mut String,
+    line: &str,
+) -> Result<(), AllocError> {
+    let file = class_file(alloc, line)?;
+    misspelled.push_str(&file.misspelled)?;
+    files.push(file.bytes)?;
+    Ok(())
 }
 
 /// The class file of a line.
@@ -70,10 +80,15 @@ fn class_file(alloc: Global, line: &str) -> Result<SpelledBytes, AllocError> {
     }
     let (head, members) = line.split_once(": ").unwrap_or((line, ""));
     let mut class = begun(alloc, head)?;
-    for member in members.split(", ") {
-        add_member(alloc, &mut class, member)?;
-    }
+    add_members(alloc, &mut class, members)?;
     class.finish()
+}
+
+fn add_members(alloc: Global, class: &mut ClassBuilder, members: &str) -> Result<(), AllocError> {
+    for member in members.split(", ") {
+        add_member(alloc, class, member)?;
+    }
+    Ok(())
 }
 
 /// A class without members.
@@ -84,10 +99,7 @@ fn begun(alloc: Global, head: &str) -> Result<ClassBuilder, AllocError> {
     let (flags, name) = flags_before(kind, name);
     let mut class = ClassBuilder::new(alloc, name)?;
     class.flags(flags);
-    if kind != "class" && kind != "interface" {
-        class.misspell(kind)?;
-    }
-    add_parents(&mut class, superclass, interfaces)?;
+    add_parents(&mut class, kind, superclass, interfaces)?;
     Ok(class)
 }
 
@@ -105,11 +117,16 @@ fn flags_before<'a>(kind: &str, name: &'a str) -> (u16, &'a str) {
     }
 }
 
+/// Adds the parents of a class. Its kind is misspelled where it is none.
 fn add_parents(
     class: &mut ClassBuilder,
+    kind: &str,
     superclass: &str,
     interfaces: &str,
 ) -> Result<(), AllocError> {
+    if kind != "class" && kind != "interface" {
+        class.misspell(kind)?;
+    }
     if !superclass.is_empty() {
         class.superclass(superclass)?;
     }

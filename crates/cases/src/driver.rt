@@ -33,20 +33,32 @@ pub fn run_cases<S: Subject, W: Write>(
     let mut tally = Tally::default();
     let (before, parts) = text.split_once("\n# ").unwrap_or((text, ""));
     for part in parts.split("\n# ") {
-        if let Some((heading, lines)) = part.split_once('\n') {
-            let given = given_of(alloc, before, lines)?;
-            let case = Case {
-                name,
-                heading,
-                given: &given,
-                lines,
-            };
-            run_case(alloc, out, subject, case, &mut tally)?;
-        }
+        run_part(alloc, out, subject, name, before, part, &mut tally)?;
     }
     let Tally { questions, others } = tally;
     writeln!(out, "{name}: {questions} questions, {others} otherwise")?;
     Ok(tally)
+}
+
+/// Asks the questions of a part of a file, which begins with its heading.
+fn run_part<S: Subject, W: Write>(
+    alloc: Global,
+    out: &mut W,
+    subject: &S,
+    name: &str,
+    before: &str,
+    part: &str,
+    tally: &mut Tally,
+) -> io::Result<()> {
+    let (heading, lines) = part.split_once('\n').unwrap_or((part, ""));
+    let given = given_of(alloc, before, lines)?;
+    let case = Case {
+        name,
+        heading,
+        given: &given,
+        lines,
+    };
+    run_case(alloc, out, subject, case, tally)
 }
 
 /// A case: where it stands, what it gives, and its other lines.
@@ -86,13 +98,28 @@ fn ask<S: Subject, W: Write>(
     asked: &str,
     wanted: &str,
 ) -> io::Result<bool> {
-    let found = found(alloc, subject, case.given, asked)?;
-    let is_wanted = found.as_str() == repeated(alloc, wanted, " ")?.as_str();
-    if !is_wanted {
-        let Case { name, heading, .. } = case;
-        writeln!(out, "{name}: {heading}: {asked} => {found}")?;
+    let Some(found) = found_otherwise(alloc, subject, case.given, asked, wanted)? else {
+        return Ok(true);
+    };
+    let Case { name, heading, .. } = case;
+    writeln!(out, "{name}: {heading}: {asked} => {found}")?;
+    Ok(false)
+}
+
+/// What is found, where it is not as it is wanted.
+fn found_otherwise<S: Subject>(
+    alloc: Global,
+    subject: &S,
+    given: &str,
+    asked: &str,
+    wanted: &str,
+) -> Result<Option<String>, AllocError> {
+    let found = found(alloc, subject, given, asked)?;
+    let wanted = repeated(alloc, wanted, " ")?;
+    if found.as_str() == wanted.as_str() {
+        return Ok(None);
     }
-    Ok(is_wanted)
+    Ok(Some(found))
 }
 
 /// The lines that give something, of those before all cases and of those of a case.
