@@ -1,5 +1,5 @@
 -- A linked program (JVMS 5.4): the given classes by number, and of each what the machine uses of it.
-use Rattle.std.specs.Prelude.{◌≡◌, ◌<◌, ℕ, Bool, true, false, not, ◌&&◌, ◌||◌, List, length, map, pos, Option, Some, None, slice_get, codes, is_some, nat_eq, if◌then◌else◌}
+use Rattle.std.specs.Prelude.{◌≡◌, ◌<◌, ℕ, Bool, true, false, not, ◌&&◌, ◌||◌, List, length, map, pos, Option, Some, None, slice_get, codes, is_some, ◌==◌, nat_eq, if◌then◌else◌}
 use Rattle.std.specs.List.{AllZip, position_from, ends_with}
 use Rattle.std.specs.Str.{bytes_eq}
 use Rattle.classfile.specs.Flags.{has_flag}
@@ -23,7 +23,7 @@ use Rattle.hierarchy.specs.declared.entry.FieldKind.TheVariants as kinds
 use Rattle.loading.specs.declared.given.GivenClass.{GivenClass}
 use Rattle.loading.specs.Families.{Family}
 use Rattle.resolution.specs.Initialization.{IsInitializationOrder}
-use Rattle.hierarchy.specs.Entries.{statics_of, kind_of, int_of_bits, AreEntries}
+use Rattle.hierarchy.specs.Entries.{statics_of, kind_of, int_of_bits, long_of_halves, AreEntries}
 use Rattle.resolution.specs.Texts.{AreDistinct}
 use Rattle.hierarchy.specs.Tables.{Tables, order_in}
 
@@ -53,18 +53,24 @@ zero_of kinds.Long = values.Long (pos 0)
 zero_of kinds.Reference = values.Null
 zero_of _ = values.Int (pos 0)
 
-abbrev pub int_constant : Option Constant → Option Value
-int_constant (Some (constants.Integer bits)) = Some (values.Int (int_of_bits bits))
-int_constant _ = None
+abbrev pub number_of : Option Constant → Option Value
+number_of (Some (constants.Integer bits)) = Some (values.Int (int_of_bits bits))
+number_of (Some (constants.Long high low)) = Some (values.Long (long_of_halves high low))
+number_of _ = None
 
 abbrev pub constant_at : Structure → Option ℕ → Option Value
 constant_at f None = None
-constant_at f (Some index) = int_constant (slice_get f.constants index)
+constant_at f (Some index) = number_of (slice_get f.constants index)
 
--- The ConstantValue of a final field (JVMS 4.7.2). Those of other types than int come with their instructions.
+-- Those of other types than int and long come with their instructions.
+abbrev pub has_constant : FieldKind → Bool
+has_constant kinds.Int = true
+has_constant kinds.Long = true
+has_constant _ = false
+
+-- the ConstantValue of a final field (JVMS 4.7.2)
 abbrev pub constant_of : Structure → FieldKind → Member → Option Value
-constant_of f kinds.Int m = if has_flag m.access_flags 16 then constant_at f (value_among m.attributes) else None
-constant_of f _ m = None
+constant_of f kind m = if has_constant kind && has_flag m.access_flags 16 then constant_at f (value_among m.attributes) else None
 
 abbrev pub static_field : Structure → Member → StaticField
 static_field f m = record {
@@ -91,6 +97,7 @@ pub record IsCode (f : Structure) (m : Member) (attribute : CodeAttribute) (code
   pub max_stack : code.max_stack ≡ attribute.max_stack
   pub max_locals : code.max_locals ≡ attribute.max_locals
   pub returns_nothing : code.returns_nothing ≡ returns_nothing (text_at f m.descriptor)
+  pub has_handlers : code.has_handlers ≡ not (length attribute.exceptions == 0)
   pub body : IsBody attribute.code code.body
 
 -- How a method is implemented.

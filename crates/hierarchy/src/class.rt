@@ -14,6 +14,8 @@ pub struct Code {
     pub max_locals: u16,
     /// Whether its descriptor ends with `)V` (JVMS 4.3.3).
     pub returns_nothing: bool,
+    /// Whether its exception table has an entry.
+    pub has_handlers: bool,
     pub body: Body,
 }
 

@@ -35,14 +35,14 @@ pub(crate) struct Resolver<'a> {
 }
 
 /// The int of these bits (JVMS 4.4.4).
-fn int_of_bits(bits: u32) -> i32
+pub(crate) fn int_of_bits(bits: u32) -> i32
     ensures { result ≡ int_of_bits bits }
 {
     i32::from_be_bytes(bits.to_be_bytes())
 }
 
 /// The long of these halves (JVMS 4.4.5).
-fn long_of_halves(high: u32, low: u32) -> i64
+pub(crate) fn long_of_halves(high: u32, low: u32) -> i64
     ensures { result ≡ long_of_halves high low }
 {
     let bits = u64::from(high) * 4_294_967_296 + u64::from(low);

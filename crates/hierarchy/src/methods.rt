@@ -95,6 +95,7 @@ fn code_of(
         max_stack: attribute.max_stack,
         max_locals: attribute.max_locals,
         returns_nothing: returns_nothing(text_at(file, method.descriptor)),
+        has_handlers: !attribute.exceptions.as_slice().is_empty(),
         body,
     })
 }

@@ -4,9 +4,10 @@ ghost use Rattle.std.specs.Prelude.{◌≡◌, [], ◌∷◌, ◌++◌, map, IfO
 ghost use Rattle.std.specs.List.{filter};
 ghost use Rattle.hierarchy.specs.Entries.{kind_of, has_value, is_static_field, statics_of};
 ghost use Rattle.loading.specs.Names.{text_at};
-ghost use Rattle.hierarchy.specs.Programs.{zero_of, int_constant, constant_at, constant_of, static_field};
+ghost use Rattle.hierarchy.specs.Programs.{zero_of, constant_at, has_constant, constant_of, static_field};
 
 use crate::class::StaticFields;
+use crate::entries::{int_of_bits, long_of_halves};
 use crate::entry::FieldKind;
 use classfile::flags::{FINAL, STATIC, has_flag};
 use classfile::{ClassFile, Constant, Member};
@@ -58,27 +59,32 @@ fn zero_of(kind: FieldKind) -> Value
     }
 }
 
-fn int_constant(file: &ClassFile, index: u16) -> Option<Value>
+/// The value of a numeric constant.
+fn constant_at(file: &ClassFile, index: u16) -> Option<Value>
     ensures { result ≡ constant_at file.now (Some index) }
 {
     match file.constant(index) {
-        Some(Constant::Integer { bits }) => {
-            Some(Value::Int(i32::from_be_bytes(bits.to_be_bytes())))
-        }
+        Some(Constant::Integer { bits }) => Some(Value::Int(int_of_bits(*bits))),
+        Some(Constant::Long { high, low }) => Some(Value::Long(long_of_halves(*high, *low))),
         _ => None,
     }
 }
 
-/// The ConstantValue of a final int field (JVMS 4.7.2).
+/// Whether the ConstantValue of a field of a kind is set before its class's initializer runs.
+fn has_constant(kind: FieldKind) -> bool
+    ensures { result ≡ has_constant kind }
+{
+    matches!(kind, FieldKind::Int | FieldKind::Long)
+}
+
+/// The ConstantValue of a final int or long field (JVMS 4.7.2).
 fn constant_of(file: &ClassFile, kind: FieldKind, field: &Member) -> Option<Value>
     ensures { result ≡ constant_of file.now kind field.now }
 {
-    match kind {
-        FieldKind::Int if has_flag(field.access_flags, FINAL) => {
-            int_constant(file, field.constant_value()?)
-        }
-        _ => None,
+    if !has_constant(kind) || !has_flag(field.access_flags, FINAL) {
+        return None;
     }
+    constant_at(file, field.constant_value()?)
 }
 
 fn static_field(file: &ClassFile, field: &Member) -> StaticField

@@ -1,6 +1,7 @@
-pub mod LocalRuns
+pub mod FrameSteps
 pub mod RoundLemmas
 pub mod Rows
 pub mod StartLemmas
 pub mod Stints
+pub mod StretchRuns
 pub mod WorldSteps

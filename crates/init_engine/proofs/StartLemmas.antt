@@ -1,11 +1,12 @@
 -- The tables of the lazy start are its shared state.
-use Rattle.std.proofs.Common.{◌≡◌, ℕ, zero, suc, false, List, [], ◌∷◌, ◌++◌, Option, Some, None, map, slice_get, refl, ap, ◌∙◌, arith, nat_lt, if◌then◌else◌, ◌==◌}
+use Rattle.std.proofs.Common.{◌≡◌, ℕ, zero, suc, false, List, [], ◌∷◌, ◌++◌, map, slice_get, refl, ap, ◌∙◌, arith, nat_lt, if◌then◌else◌}
 use Rattle.std.proofs.Math.Path.{fun_ext}
 use Rattle.std.proofs.lemmas.Result.{IfOk-weaker}
 use Rattle.std.specs.Prelude.{IfOk, Result}
 use Rattle.vm_state.specs.declared.classes.ClassArea.{ClassArea as Area}
 use Rattle.vm_state.specs.declared.frame.Frame.{Frame}
-use Rattle.vm_state.specs.Objects.{Objects}
+use Rattle.vm_state.specs.declared.heap.Heap.{Heap}
+use Rattle.vm_state.specs.Objects.{row_of}
 use Rattle.semantics.specs.Steps.{Going}
 use Rattle.vm_state.specs.declared.value.Value.{Value}
 use Rattle.vm_state.specs.declared.object.Object.{Object}
@@ -14,7 +15,8 @@ use Rattle.vm_state.specs.declared.classes.ClassState.TheVariants.{Not}
 use Rattle.vm_state.specs.declared.classes.StaticField.{StaticField}
 use Rattle.vm_state.specs.Statics.{area_at, field_in, states_of, fields_of, zeros_of}
 use Rattle.vm_state.specs.SharedState.{Pool, Region, SharedState}
-use Rattle.vm_state.specs.Shares.{shared_of, pool_in}
+use Rattle.vm_state.specs.Shares.{shared_of}
+use Rattle.vm_state.specs.Pools.{pool_in}
 use Rattle.semantics.specs.Worlds.{World, argument, argument_pool, empty_pool, blank_region, lazy_start}
 use Rattle.hierarchy.specs.declared.class.Class.{Class}
 use Rattle.hierarchy.specs.Tables.{Tables, statics_if}
@@ -37,21 +39,11 @@ blank_field [] c f = refl
 blank_field (k ∷ ks) zero f = zero_at k.statics f
 blank_field (k ∷ ks) (suc c) f = blank_field ks c f
 
-abbrev pool_by : ℕ → (ℕ → Option Object) → Pool
-pool_by count at = record { count = count; at = at }
-
-above_zero : (n : ℕ) → (suc n == 0) ≡ false
-above_zero n = grind arith
-
 not_first : (t : ℕ) → nat_lt (suc t) 1 ≡ false
 not_first t = grind arith
 
-only_argument : (n : ℕ) → slice_get (argument ∷ []) n ≡ (if n == 0 then Some argument else None)
-only_argument zero = refl
-only_argument (suc n) = rw (above_zero n) refl
-
-pool_at : (t : ℕ) → pool_in ((argument ∷ []) ∷ []) t ≡ (if nat_lt t 1 then argument_pool else empty_pool)
-pool_at zero = ap (pool_by 1) (fun_ext only_argument)
+pool_at : (t : ℕ) → pool_in (row_of argument ∷ []) t ≡ (if nat_lt t 1 then argument_pool else empty_pool)
+pool_at zero = refl
 pool_at (suc t) = rw (not_first t) refl
 
 abbrev region : (ℕ → Value) → Pool → Region
@@ -68,29 +60,29 @@ states-blank : (ks : List Class) → let nowhere : ℕ → ClassState = λ c. No
 unfolding states_of
 states-blank ks = fun_ext (blank_state ks)
 
-pub start_shared : (P : Tables) (c : ℕ) → shared_of (record { classes = blank_areas P.classes; heap = record { classes = []; threads = (argument ∷ []) ∷ [] } }) [] ≡ (lazy_start (program_of P) (c ∷ [])).shared
+pub start_shared : (P : Tables) (c : ℕ) → shared_of (record { classes = blank_areas P.classes; heap = record { classes = []; threads = row_of argument ∷ [] } }) [] ≡ (lazy_start (program_of P) (c ∷ [])).shared
 unfolding shared_of
 start_shared P c =
-    ap (λ states. shared_by states (λ d. region (fields_of (blank_areas P.classes) d) (pool_in [] d)) (pool_in ((argument ∷ []) ∷ []))) (states-blank P.classes)
-    ∙ (ap (λ (regions : ℕ → Region). shared_by (λ d. Not) regions (pool_in ((argument ∷ []) ∷ []))) (fun_ext (blank_region-is P))
+    ap (λ states. shared_by states (λ d. region (fields_of (blank_areas P.classes) d) (pool_in [] d)) (pool_in (row_of argument ∷ []))) (states-blank P.classes)
+    ∙ (ap (λ (regions : ℕ → Region). shared_by (λ d. Not) regions (pool_in (row_of argument ∷ []))) (fun_ext (blank_region-is P))
     ∙ ap (λ (pools : ℕ → Pool). shared_by (λ d. Not) (blank_region (program_of P)) pools) (fun_ext pool_at))
 
-pub one_thread : (none some : Objects) (first : Object) → none ≡ record { classes = []; threads = [] } → first ≡ argument → some ≡ record none { threads = none.threads ++ (first ∷ []) ∷ [] } →
-    some ≡ record { classes = []; threads = (argument ∷ []) ∷ [] }
+pub one_thread : (none some : Heap) (first : Object) → none ≡ record { classes = []; threads = [] } → first ≡ argument → some ≡ record none { threads = none.threads ++ row_of first ∷ [] } →
+    some ≡ record { classes = []; threads = row_of argument ∷ [] }
 one_thread none some first empty is more =
-    more ∙ (ap (λ (h : Objects). record h { threads = h.threads ++ (first ∷ []) ∷ [] }) empty
-    ∙ ap (λ (o : Object). record { classes = []; threads = (o ∷ []) ∷ [] }) is)
+    more ∙ (ap (λ (h : Heap). record h { threads = h.threads ++ row_of first ∷ [] }) empty
+    ∙ ap (λ (o : Object). record { classes = []; threads = row_of o ∷ [] }) is)
 
 abbrev world_by : SharedState → Frame → World
 world_by shared frame = record { shared = shared; threads = Going (frame ∷ []) [] ∷ [] }
 
-pub started : {E : Type 0} (P : Tables) (c : ℕ) (frame : Frame) (classes : List Area) (heap : Objects) (r : Result Standing E) → frame ≡ start_frame c 0 → classes ≡ blank_areas P.classes →
-    heap ≡ record { classes = []; threads = (argument ∷ []) ∷ [] } →
+pub started : {E : Type 0} (P : Tables) (c : ℕ) (frame : Frame) (classes : List Area) (heap : Heap) (r : Result Standing E) → frame ≡ start_frame c 0 → classes ≡ blank_areas P.classes →
+    heap ≡ record { classes = []; threads = row_of argument ∷ [] } →
     IfOk r (λ w. world_of w ≡ world_by (shared_of (record { classes = classes; heap = heap }) []) frame) → IfOk r (λ w. world_of w ≡ lazy_start (program_of P) (c ∷ []))
 started P c frame classes heap r is-frame are-classes is-heap =
     let threads = ap (world_by (shared_of (record { classes = classes; heap = heap }) [])) is-frame in
     let blank = ap (λ (cs : List Area). world_by (shared_of (record { classes = cs; heap = heap }) []) (start_frame c 0)) are-classes in
-    let objects = ap (λ (h : Objects). world_by (shared_of (record { classes = blank_areas P.classes; heap = h }) []) (start_frame c 0)) is-heap in
+    let objects = ap (λ (h : Heap). world_by (shared_of (record { classes = blank_areas P.classes; heap = h }) []) (start_frame c 0)) is-heap in
     let tables = ap (λ (sh : SharedState). world_by sh (start_frame c 0)) (start_shared P c) in
     IfOk-weaker r (λ w. world_of w ≡ world_by (shared_of (record { classes = classes; heap = heap }) []) frame) (λ w. world_of w ≡ lazy_start (program_of P) (c ∷ []))
     (λ w same. same ∙ (threads ∙ (blank ∙ (objects ∙ tables))))

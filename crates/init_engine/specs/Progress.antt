@@ -6,23 +6,15 @@ use Rattle.vm_state.specs.declared.shared.Shared.{Shared}
 use Rattle.vm_state.specs.declared.text.Line.{Line}
 use Rattle.vm_state.specs.SharedState.{SharedState, with_line}
 use Rattle.vm_state.specs.Shares.{shared_of}
-use Rattle.vm_state.specs.Stacks.{segment_of, levels_of}
 use Rattle.semantics.specs.Programs.{Program}
-use Rattle.semantics.specs.Steps.{Thread, Going, Ended as HasEnded, After, step_thread}
+use Rattle.machine.specs.Effects.{going}
+use Rattle.semantics.specs.Steps.{Thread, Ended as HasEnded, After, step_thread}
 use Rattle.init_engine.specs.declared.procedure.Progress.{Progress}
 use Rattle.init_engine.specs.declared.procedure.Progress.TheVariants.{Moved, Printed, Ended, Waits}
-
--- a thread's stack, as the definition has it
-abbrev pub going : Frames → Thread
-going s = Going (segment_of s) (levels_of s)
 
 abbrev pub Stands : Option End → Thread → Frames → Type 0
 Stands None thread s = thread ≡ going s
 Stands (Some end) thread s = thread ≡ HasEnded end
-
--- the same thread and stack
-abbrev pub IsSame : Frames → Frames → Type 0
-IsSame old new = (new.thread ≡ old.thread) × (segment_of new ≡ segment_of old) × (levels_of new ≡ levels_of old)
 
 -- what a step of thread t leaves, by what the code says of it
 abbrev pub left_by_step : Progress → ℕ → Frames → SharedState → Option After
@@ -41,4 +33,4 @@ abbrev pub StaysPut : Progress → Frames → Frames → Shared → Shared → T
 StaysPut Moved old new before after = Unit {0}
 StaysPut (Printed text) old new before after = Unit {0}
 StaysPut (Ended end) old new before after = Unit {0}
-StaysPut Waits old new before after = IsSame old new × ((p : List Line) → shared_of after p ≡ shared_of before p)
+StaysPut Waits old new before after = (new ≡ old) × ((p : List Line) → shared_of after p ≡ shared_of before p)

@@ -7,15 +7,15 @@ use Rattle.vm_state.specs.Shares.{shared_of}
 use Rattle.semantics.specs.Steps.{Thread as DefinedThread, Ended as HasEnded, After}
 use Rattle.vm_state.specs.declared.ends.Ending.{Ending}
 use Rattle.semantics.specs.Worlds.{ending}
-use Rattle.vm_state.specs.declared.frame.Frame.{Frame}
+use Rattle.vm_state.specs.declared.frame.Segment.{Segment}
 use Rattle.vm_state.specs.declared.initialization.Frames.{Frames}
 use Rattle.hierarchy.specs.Tables.{Tables}
-use Rattle.machine.specs.Strides.{local_run}
+use Rattle.machine.specs.Stretches.{here, stretch}
 use Rattle.init_engine.specs.declared.world.Thread.{Thread}
 use Rattle.init_engine.specs.declared.world.Thread.TheVariants.{Going, Ended}
 use Rattle.init_engine.specs.declared.world.Done.{Done}
 use Rattle.init_engine.specs.declared.world.Done.TheVariants.{Went, Said, Waits, Over}
-use Rattle.init_engine.specs.Progress.{going}
+use Rattle.machine.specs.Effects.{going}
 
 abbrev pub thread_of : Thread → DefinedThread
 thread_of (Going s) = going s
@@ -55,17 +55,19 @@ StaysAsItWas (Said text) old new before after = Unit {0}
 StaysAsItWas Waits old new before after = IsGoing old × IsUnchanged old new before after
 StaysAsItWas Over old new before after = HasEndedNow old × IsUnchanged old new before after
 
--- the innermost frame, after so many steps of it alone
-abbrev pub AfterLocals : Tables → ℕ → Option Frame → Option Frame → Type 0
-AfterLocals P n None new = (n ≡ 0) × (new ≡ None)
-AfterLocals P n (Some f) None = ⊥
-AfterLocals P n (Some f) (Some g) = local_run P n f ≡ Some g
+-- the frames above the highest entry, and what threads share, after so many steps of the innermost
+abbrev pub AfterStretch : Tables → ℕ → ℕ → Option Segment → Shared → Option Segment → Shared → Type 0
+AfterStretch P t n None before new after = (n ≡ 0) × (new ≡ None) × (after ≡ before)
+AfterStretch P t n (Some s) before None after = ⊥
+AfterStretch P t n (Some s) before (Some r) after =
+    ((p : List Line) → stretch P t n (here s.innermost before p) ≡ Some (here r.innermost after p)) × (r.callers ≡ s.callers)
 
-abbrev pub TopRuns : Tables → ℕ → Frames → Frames → Type 0
-TopRuns P n old new = AfterLocals P n old.top new.top × (new ≡ record old { top = new.top })
+abbrev pub TopRuns : Tables → ℕ → Frames → Shared → Frames → Shared → Type 0
+TopRuns P n old before new after =
+    AfterStretch P old.thread n old.segment before new.segment after × (new ≡ record old { segment = new.segment })
 
--- so many steps of the innermost frame alone
-abbrev pub RunsLocally : Tables → ℕ → Thread → Thread → Type 0
-RunsLocally P n (Ended end) new = (n ≡ 0) × (new ≡ Ended end)
-RunsLocally P n (Going old) (Ended end) = ⊥
-RunsLocally P n (Going old) (Going new) = TopRuns P n old new
+-- so many steps of the innermost frame
+abbrev pub RunsHere : Tables → ℕ → Thread → Shared → Thread → Shared → Type 0
+RunsHere P n (Ended end) before new after = (n ≡ 0) × (new ≡ Ended end) × (after ≡ before)
+RunsHere P n (Going old) before (Ended end) after = ⊥
+RunsHere P n (Going old) before (Going new) after = TopRuns P n old before new after

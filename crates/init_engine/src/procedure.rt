@@ -9,12 +9,11 @@ ghost use Rattle.vm_state.specs.Stacks.{segment_of, levels_of};
 ghost use Rattle.semantics.specs.Steps.{Going, standing, entry_of, finishes, initializes, step_thread};
 ghost use Rattle.machine.specs.Linked.{program_of, initializer_frame};
 ghost use Rattle.hierarchy.specs.Tables.{statics_in};
-ghost use Rattle.init_engine.specs.Progress.{Stands, Steps, StaysPut, IsSame, left_by_step};
+ghost use Rattle.init_engine.specs.Progress.{Stands, Steps, StaysPut, left_by_step};
 
 use hierarchy::program::Program;
 use machine::entering::initializer_frame;
-use machine::execute::effect;
-use machine::kinds::Effect;
+use machine::{Effect, effect};
 use std::alloc::{AllocError, Global};
 use vm_state::classes::{ClassState, Usability};
 use vm_state::ends::{End, FaultKind};
@@ -35,11 +34,9 @@ pub enum Progress {
 
 /// How a thread that stands so has ended, if it has.
 fn end_of(frames: &Frames) -> Option<End>
-    requires top { frames.now.top ≡ None → segment_of frames.now ≡ [] }
-    requires highest { frames.now.highest ≡ None → levels_of frames.now ≡ [] }
     ensures { Stands result (standing (segment_of frames.now) (levels_of frames.now)) frames.now }
 {
-    if frames.top.is_none() && frames.highest.is_none() {
+    if frames.segment.is_none() && frames.levels.is_none() {
         return Some(End::Returned);
     }
     None
@@ -57,7 +54,7 @@ fn begin(
     ensures shared { OnOk result ((p : List Line) → shared_of shared.new p ≡ begun (shared_of shared.old p) class frames.old.thread (statics_in program.now class)) }
     ensures segment { OnOk result (segment_of frames.new ≡ []) }
     ensures levels { OnOk result (levels_of frames.new ≡ record { entry = entry_of (program_of program.now) class; under = segment_of frames.old } ∷ levels_of frames.old) }
-    ensures err { OnErr result (IsSame frames.old frames.new × ((p : List Line) → shared_of shared.new p ≡ shared_of shared.old p)) }
+    ensures err { OnErr result ((frames.new ≡ frames.old) × ((p : List Line) → shared_of shared.new p ≡ shared_of shared.old p)) }
 {
     let left = Parents::of(alloc, program.init_order(class))?;
     let thread = frames.thread;
@@ -92,38 +89,35 @@ fn step_begin(
     ensures shared { OnOk result ((p : List Line) → shared_of shared.new p ≡ begun (shared_of shared.old p) class frames.old.thread (statics_in program.now class)) }
     ensures segment { OnOk result (segment_of frames.new ≡ []) }
     ensures levels { OnOk result (levels_of frames.new ≡ record { entry = entry_of (program_of program.now) class; under = segment_of frames.old } ∷ levels_of frames.old) }
-    ensures err { OnErr result (IsSame frames.old frames.new × ((p : List Line) → shared_of shared.new p ≡ shared_of shared.old p)) }
+    ensures err { OnErr result ((frames.new ≡ frames.old) × ((p : List Line) → shared_of shared.new p ≡ shared_of shared.old p)) }
 {
     begin(alloc, program, frames, shared, class)?;
     Ok(Progress::Moved)
 }
 
 /// An instruction, or the begin that it needs, of a thread on top of whose stack a frame stands.
-#[tactic(auto, unfolding(semantics::specs::Steps::step_thread))]
+#[tactic(auto, using(crate::proofs::FrameSteps::frame_steps))]
 fn step_frame(
     alloc: Global,
     program: &Program,
     frames: &mut Frames,
     shared: &mut Shared,
 ) -> Result<Progress, AllocError>
-    requires { IsSome frames.old.top }
+    requires { IsSome frames.old.segment }
     ensures thread { frames.new.thread ≡ frames.old.thread }
     ensures steps { IfOk result (λ r. Steps (program_of program.now) frames.old shared.old r frames.new shared.new) }
     ensures stays { IfOk result (λ r. StaysPut r frames.old frames.new shared.old shared.new) }
-    ensures err { OnErr result (IsSame frames.old frames.new × ((p : List Line) → shared_of shared.new p ≡ shared_of shared.old p)) }
+    ensures err { OnErr result ((frames.new ≡ frames.old) × ((p : List Line) → shared_of shared.new p ≡ shared_of shared.old p)) }
 {
     match effect(alloc, program, frames, shared)? {
-        Effect::Next => {
-            frames.settle();
-            match end_of(frames) {
-                Some(end) => Ok(Progress::Ended(end)),
-                None => Ok(Progress::Moved),
-            }
+        Effect::Next | Effect::Raise => Ok(Progress::Moved),
+        Effect::Needs(class) => {
+            begin(alloc, program, frames, shared, class)?;
+            Ok(Progress::Moved)
         }
-        Effect::Needs(class) => step_begin(alloc, program, frames, shared, class),
         Effect::Wait => Ok(Progress::Waits),
         Effect::Print(text) => Ok(Progress::Printed(text)),
-        Effect::Halt(kind) => Ok(Progress::Ended(End::Faulted(kind))),
+        Effect::Halt(end) => Ok(Progress::Ended(end)),
     }
 }
 
@@ -142,7 +136,6 @@ fn finish(
 {
     shared.set_state(alloc, class, ClassState::Done)?;
     frames.leave();
-    frames.settle();
     match end_of(frames) {
         Some(end) => Ok(Progress::Ended(end)),
         None => Ok(Progress::Moved),
@@ -168,8 +161,8 @@ fn initialize(
     shared: &mut Shared,
     class: u32,
 ) -> Result<Progress, AllocError>
-    requires highest { IsSome frames.old.highest }
-    requires segment { segment_of frames.old ≡ [] }
+    requires levels { IsSome frames.old.levels }
+    requires segment { frames.old.segment ≡ None }
     ensures thread { frames.new.thread ≡ frames.old.thread }
     ensures initializes { IfOk result (λ r. (l : Level) (ls : List Level) (p : List Line) → levels_of frames.old ≡ l ∷ ls → l.entry.class ≡ class → left_by_step r frames.old.thread frames.new (shared_of shared.new p) ≡ Some (initializes (shared_of shared.old p) l.entry l.under ls (initializer_frame program.now class))) }
     ensures stays { IfOk result (λ r. StaysPut r frames.old frames.new shared.old shared.new) }
@@ -177,7 +170,7 @@ fn initialize(
 {
     match initializer_frame(alloc, program, class)? {
         Some(frame) => {
-            frames.begin_initializer(frame);
+            frames.begin_initializer(alloc, frame);
             Ok(Progress::Moved)
         }
         None => finish(alloc, frames, shared, class),
@@ -192,16 +185,17 @@ fn step_entry(
     frames: &mut Frames,
     shared: &mut Shared,
 ) -> Result<Progress, AllocError>
-    requires highest { IsSome frames.old.highest }
-    requires segment { segment_of frames.old ≡ [] }
+    requires levels { IsSome frames.old.levels }
+    requires segment { frames.old.segment ≡ None }
     ensures thread { frames.new.thread ≡ frames.old.thread }
     ensures steps { IfOk result (λ r. Steps (program_of program.now) frames.old shared.old r frames.new shared.new) }
     ensures stays { IfOk result (λ r. StaysPut r frames.old frames.new shared.old shared.new) }
-    ensures err { OnErr result (IsSame frames.old frames.new × ((p : List Line) → shared_of shared.new p ≡ shared_of shared.old p)) }
+    ensures err { OnErr result ((frames.new ≡ frames.old) × ((p : List Line) → shared_of shared.new p ≡ shared_of shared.old p)) }
 {
-    let Some(level) = &frames.highest else {
+    let Some(levels) = &frames.levels else {
         unreachable!()
     };
+    let level = &levels.highest;
     let class = level.entry.class;
     if level.entry.pending.is_some() {
         return fail(alloc, shared, class);
@@ -237,13 +231,12 @@ pub fn step_thread(
     ensures thread { frames.new.thread ≡ frames.old.thread }
     ensures steps { IfOk result (λ r. Steps (program_of program.now) frames.old shared.old r frames.new shared.new) }
     ensures stays { IfOk result (λ r. StaysPut r frames.old frames.new shared.old shared.new) }
-    ensures err { OnErr result (IsSame frames.old frames.new × ((p : List Line) → shared_of shared.new p ≡ shared_of shared.old p)) }
+    ensures err { OnErr result ((frames.new ≡ frames.old) × ((p : List Line) → shared_of shared.new p ≡ shared_of shared.old p)) }
 {
-    frames.settle();
-    if frames.top.is_some() {
+    if frames.segment.is_some() {
         return step_frame(alloc, program, frames, shared);
     }
-    if frames.highest.is_some() {
+    if frames.levels.is_some() {
         return step_entry(alloc, program, frames, shared);
     }
     Ok(Progress::Waits)

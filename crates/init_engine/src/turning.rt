@@ -3,6 +3,7 @@
 ghost use Rattle.std.specs.Prelude.{◌≡◌, ◌+◌, ◌<◌, ◌≤◌, ◌^◌, [], length, IfOk, OnOk};
 ghost use Rattle.semantics.specs.Worlds.{Run};
 ghost use Rattle.machine.specs.Linked.{program_of};
+ghost use Rattle.machine.specs.StepTables.{KeepsSteps};
 ghost use Rattle.init_engine.specs.Turns.{world_of};
 ghost use Rattle.init_engine.specs.Schedules.{schedule_of, AreStints};
 ghost use Rattle.init_engine.specs.Rounds.{IsAsking, IsRound, IsStride, Turns};
@@ -10,6 +11,7 @@ ghost use Rattle.init_engine.specs.Rounds.{IsAsking, IsRound, IsStride, Turns};
 use crate::schedule::Schedule;
 use crate::world::{Turn, World};
 use hierarchy::program::Program;
+use machine::step_table::StepTable;
 use std::alloc::{AllocError, Global};
 
 /// Asks a thread for a step, and answers whether it had one.
@@ -60,22 +62,43 @@ fn round(
     Ok(done)
 }
 
-/// Where there is one thread: instructions of its innermost frame alone, each of which is a round of one step.
+/// Makes the steps of the method of the only thread's innermost frame, where they are not kept yet.
+fn fetch(
+    alloc: Global,
+    program: &Program,
+    world: &World,
+    table: &mut StepTable,
+) -> Result<(), AllocError>
+    requires { KeepsSteps program.now table.old }
+    ensures { OnOk result (KeepsSteps program.now table.new) }
+{
+    match world.method(0) {
+        Some((class, method)) => table.fetch(alloc, program, class, method),
+        None => Ok(()),
+    }
+}
+
+/// Where there is one thread: instructions after each of which its innermost frame goes on, each a round of one step.
 /// It answers how many there were.
 fn stride(
+    alloc: Global,
     program: &Program,
     world: &mut World,
+    table: &mut StepTable,
     schedule: &mut Schedule,
     most: u64,
 ) -> Result<u64, AllocError>
-    requires { length (schedule_of schedule.old) + most < 2 ^ 64 }
+    requires room { length (schedule_of schedule.old) + most < 2 ^ 64 }
+    requires steps { KeepsSteps program.now table.old }
+    ensures steps { OnOk result (KeepsSteps program.now table.new) }
     ensures stride { IfOk result (λ done. IsStride (program_of program.now) (length world.old.threads) (world_of world.old) most done (world_of world.new) (schedule_of schedule.old) (schedule_of schedule.new)) }
     ensures threads { length world.new.threads ≡ length world.old.threads }
 {
     if world.thread_count() != 1 {
         return Ok(0);
     }
-    let done = world.run_locals(program, 0, most);
+    fetch(alloc, program, world, table)?;
+    let done = world.run_stretch(program, table, 0, most);
     if done > 0 {
         schedule.add(0, done)?;
     }
@@ -94,9 +117,10 @@ fn run_rounds(
     ensures turns { OnOk result (Turns (program_of program.now) (length world.old.threads) limit (world_of world.old) (schedule_of schedule.new) (world_of world.new)) }
     ensures threads { OnOk result (length world.new.threads ≡ length world.old.threads) }
 {
+    let mut table = StepTable::new(alloc);
     let mut left = limit;
     'rounds: loop {
-        let ahead = stride(program, world, schedule, left)?;
+        let ahead = stride(alloc, program, world, &mut table, schedule, left)?;
         left -= ahead;
         let done = round(alloc, program, world, schedule, left)?;
         if done == 0 || done == left {
@@ -119,7 +143,7 @@ fn stints_of(
 {
     let mut schedule = Schedule::new(alloc);
     run_rounds(alloc, program, world, &mut schedule, limit)?;
-    schedule.into_stints()
+    Ok(schedule.into_stints()?)
 }
 
 /// Runs a world by turns, up to a round without a step or to so many steps. It answers the last world, and the

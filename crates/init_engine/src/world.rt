@@ -7,19 +7,21 @@ ghost use Rattle.vm_state.specs.Shares.{shared_of};
 ghost use Rattle.semantics.specs.Steps.{Going, step_thread};
 ghost use Rattle.semantics.specs.Worlds.{Run, seen};
 ghost use Rattle.init_engine.specs.Sights.{IsSight};
-ghost use Rattle.init_engine.specs.Threads.{RunsLocally, TopRuns};
+ghost use Rattle.init_engine.specs.Threads.{RunsHere, TopRuns};
 ghost use Rattle.machine.specs.Linked.{program_of};
+ghost use Rattle.machine.specs.StepTables.{KeepsSteps};
 ghost use Rattle.init_engine.specs.Threads.{thread_of, seen_of, HasNumber, left_by_going, StaysAsItWas};
 ghost use Rattle.init_engine.specs.Turns.{IsTurn, lines_of, turn_of, world_of};
 
 use crate::procedure::{Progress, step_thread};
 use hierarchy::program::Program;
-use machine::local::run_locals;
+use machine::step_table::StepTable;
+use machine::stretch::run_frame;
 use std::alloc::{AllocError, Global};
 use std::marker::Model;
 use vm_state::ends::{End, Ending};
-use vm_state::frame::{Frame, FrameList};
-use vm_state::initialization::{Frames, LevelList};
+use vm_state::frame::{Activity, Frame, FrameList, Segment};
+use vm_state::initialization::Frames;
 use vm_state::shared::Shared;
 use vm_state::text::{Line, Text};
 
@@ -168,10 +170,11 @@ fn first_thread(alloc: Global, top: Frame) -> Thread
 {
     Thread::Going(Frames {
         thread: 0,
-        top: Some(top),
-        callers: FrameList::none(alloc),
-        highest: None,
-        outer: LevelList::none(alloc),
+        segment: Some(Segment {
+            innermost: top,
+            callers: FrameList::none(alloc),
+        }),
+        levels: None,
     })
 }
 
@@ -238,41 +241,73 @@ impl World {
         }
     }
 
-    /// Runs instructions of a thread that touch its innermost frame alone, as long as the next is one and there were
-    /// fewer than so many, and answers how many steps that were.
-    pub fn run_locals(&mut self, program: &Program, thread: u32, most: u64) -> u64
-        requires { thread < length self.old.threads }
+    /// The method of a thread's innermost frame, where that is one of a method: its class and its place there.
+    pub fn method(&self, thread: u32) -> Option<(u32, u16)> {
+        let Some(Thread::Going(frames)) = self.threads.get(thread as usize) else {
+            return None;
+        };
+        match frames.innermost()?.activity {
+            Activity::Method { class, index } => Some((class, index)),
+            Activity::Start(_) => None,
+        }
+    }
+
+    /// Runs instructions of a thread after each of which it goes on in its innermost frame, by the steps that are kept, as
+    /// long as the next is such a one and there were fewer than so many. It answers how many steps that were.
+    pub fn run_stretch(
+        &mut self,
+        program: &Program,
+        table: &StepTable,
+        thread: u32,
+        most: u64,
+    ) -> u64
+        requires thread { thread < length self.old.threads }
+        requires steps { KeepsSteps program.now table.now }
         ensures run { Run (program_of program.now) (world_of self.old) (replicate result thread) (world_of self.new) }
         ensures most { result ≤ most }
         ensures threads { length self.new.threads ≡ length self.old.threads }
     {
         let running = &mut self.threads[thread as usize];
-        run_thread(program, running, most)
+        run_thread(program, table, running, &mut self.shared, most)
     }
 }
 
-/// Runs instructions that touch the innermost frame alone.
-fn run_top(program: &Program, frames: &mut Frames, most: u64) -> u64
-    ensures run { TopRuns program.now result frames.old frames.new }
+/// Runs instructions after each of which a thread goes on in its innermost frame.
+fn run_top(
+    program: &Program,
+    table: &StepTable,
+    frames: &mut Frames,
+    shared: &mut Shared,
+    most: u64,
+) -> u64
+    requires { KeepsSteps program.now table.now }
+    ensures run { TopRuns program.now result frames.old shared.old frames.new shared.new }
     ensures most { result ≤ most }
 {
-    let Some(frame) = frames.top.take() else {
+    let Some(segment) = frames.segment.take() else {
         return 0;
     };
-    let mut frame = frame;
-    let count = run_locals(program, &mut frame, most);
-    frames.top = Some(frame);
+    let Segment { innermost, callers } = segment;
+    let (innermost, count) = run_frame(program, table, frames.thread, innermost, shared, most);
+    frames.segment = Some(Segment { innermost, callers });
     count
 }
 
-/// Runs instructions of a thread that touch its innermost frame alone.
-fn run_thread(program: &Program, thread: &mut Thread, most: u64) -> u64
-    ensures run { RunsLocally program.now result thread.old thread.new }
+/// Runs instructions after each of which a thread goes on in its innermost frame.
+fn run_thread(
+    program: &Program,
+    table: &StepTable,
+    thread: &mut Thread,
+    shared: &mut Shared,
+    most: u64,
+) -> u64
+    requires { KeepsSteps program.now table.now }
+    ensures run { RunsHere program.now result thread.old shared.old thread.new shared.new }
     ensures most { result ≤ most }
     ensures number { (t : ℕ) → HasNumber thread.old t → HasNumber thread.new t }
 {
     match thread {
-        Thread::Going(frames) => run_top(program, frames, most),
+        Thread::Going(frames) => run_top(program, table, frames, shared, most),
         Thread::Ended(_) => 0,
     }
 }

@@ -8,9 +8,7 @@ use Rattle.machine.specs.Laws.{AreSound, LinkedTablesAreSound, TableIsLawful}
 use Rattle.machine.proofs.LinkedStatics.{plain_statics, mains_apart}
 use Rattle.machine.proofs.LinkedFinals.{finals_written}
 use Rattle.machine.proofs.Initializers.{found_class_has, initializer_frame_is}
-use Rattle.machine.proofs.TableNames.{blank_known, row_known}
-use Rattle.machine.proofs.TableFinals.{row_owned}
-use Rattle.machine.proofs.TableCalls.{row_calls}
+use Rattle.machine.proofs.TableRows.{blank_known, row_suits}
 
 -- the frame of a class initialization method holds nothing,
 initializer_known : (P : Tables) (known : Names) (c : ℕ) (f : Frame) → initializer_frame P c ≡ Some f → KnowsFrame known f
@@ -27,17 +25,11 @@ initializer_owned P c d f h of =
 
 lawful_over : (P : Tables) → AreSound P → IsLawful (program_of P)
 lawful_over P sound = record {
-  names = λ known fs h. row_known known P fs h;
-  names_failing = λ known c x h. tt;
-  names_orphaned = λ known c. tt;
-  names_unwinding = λ known x class fs h hs. tt;
-  finals = row_owned sound;
-  finals_failing = λ own c x. tt;
-  finals_orphaned = λ own c. tt;
-  finals_unwinding = λ own x class fs h. tt;
+  row = row_suits sound;
+  failing = λ known own c x h. (tt, tt);
+  orphaned = λ known own c. (tt, tt);
   plain_failing = λ c x. tt;
   plain_orphaned = λ c. tt;
-  calls_once = λ f fs. row_calls f fs P;
   initializer_names = initializer_known P;
   initializer_owner = initializer_owned P;
   start_names = λ known entry t h. ((h, tt), tt);

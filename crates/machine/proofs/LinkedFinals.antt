@@ -40,16 +40,17 @@ use Rattle.resolution.specs.MemberLookup.{is_named, field_of, field_in}
 use Rattle.resolution.specs.Search.{Search}
 use Rattle.resolution.specs.Resolution.{ResolvesField}
 use Rattle.hierarchy.specs.References.{key_at, FindsField}
-use Rattle.hierarchy.specs.Entries.{kind_of, is_static_field, statics_of, slot_of, final_of, static_of, target_in}
+use Rattle.hierarchy.specs.Entries.{kind_of, has_value, is_static_field, statics_of, slot_of, final_of, static_of, target_in}
 use Rattle.hierarchy.specs.Entries.{targeted, IsEntry}
 use Rattle.hierarchy.specs.Programs.{static_field, IsProgram}
 use Rattle.hierarchy.specs.Tables.{Tables, instruction_at, implementation_at, entries_of, entry_at, statics_if, statics_in, initializer_in}
-use Rattle.machine.specs.declared.operation.Local.{Local as LocalOperation}
-use Rattle.machine.specs.declared.operation.Operation.{Operation}
-use Rattle.machine.specs.declared.operation.Operation.TheVariants.{PutInt, Return, Refused}
-use Rattle.machine.specs.Operations.{local_of, local_or, get_static, put_static, is_method, may_write, if_valued, get_target}
+use Rattle.frame_instructions.specs.declared.operand_kind.OperandKind.{OperandKind}
+use Rattle.frame_instructions.specs.Families.{Local as LocalOperation}
+use Rattle.frame_instructions.specs.Instructions.{local_of}
+use Rattle.machine.specs.Operations.{Operation, PutStatic, Return, Refused, int_constant, long_constant}
+use Rattle.machine.specs.Operations.{local_or, get_static, put_static, is_method, may_write, if_valued, get_target}
 use Rattle.machine.specs.Operations.{getstatic_of, put_target, putstatic_of, call_of, invokevirtual_of, return_of}
-use Rattle.machine.specs.Operations.{shared_operation, operation_of, operation_at}
+use Rattle.machine.specs.Operations.{resolved_operation, operation_of, operation_at}
 use Rattle.machine.specs.Linked.{program_of}
 use Rattle.machine.proofs.ListPlaces.{beside, facing, first_passes, kept_place, both}
 use Rattle.loading.proofs.Places.{mapped_at}
@@ -58,8 +59,8 @@ use Rattle.machine.proofs.LinkedStatics.{IsClassIn}
 
 -- ---- which instructions put
 
-module _ (c k : ℕ) where
-  valued : (kind : FieldKind) (o : Operation) → if_valued kind o ≡ PutInt c k → o ≡ PutInt c k
+module _ (w : OperandKind) (c k : ℕ) where
+  valued : (kind : FieldKind) (o : Operation) → if_valued kind o ≡ PutStatic w c k → o ≡ PutStatic w c k
   valued kinds.Boolean o e = e
   valued kinds.Byte o e = e
   valued kinds.Char o e = e
@@ -70,14 +71,15 @@ module _ (c k : ℕ) where
   valued kinds.Double o e = absurd cc
   valued kinds.Reference o e = e
 
-  no_get : (d j : ℕ) (kind : FieldKind) → get_static d j kind ≡ PutInt c k → ⊥
+  no_get : (d j : ℕ) (kind : FieldKind) → get_static d j kind ≡ PutStatic w c k → ⊥
   no_get d j kinds.Int e = cc
+  no_get d j kinds.Long e = cc
   no_get d j other e = cc
 
-  no_getstatic : (e : Option Entry) → getstatic_of e ≡ PutInt c k → ⊥
+  no_getstatic : (e : Option Entry) → getstatic_of e ≡ PutStatic w c k → ⊥
   no_getstatic (Some (entries.Field kind target)) e = by target (valued kind (get_target kind target) e)
     where
-      by : (t : Result FieldTarget Unresolved) → get_target kind t ≡ PutInt c k → ⊥
+      by : (t : Result FieldTarget Unresolved) → get_target kind t ≡ PutStatic w c k → ⊥
       by (Ok (targets.Static d j final)) h = no_get d j kind h
       by (Ok (targets.Instance d j)) h = cc
       by (Ok targets.Out) h = cc
@@ -86,48 +88,66 @@ module _ (c k : ℕ) where
       by (Err unresolved.Incompatible) h = cc
   no_getstatic other e = cc
 
-  no_call : (r : Result Method Unresolved) → call_of r ≡ PutInt c k → ⊥
+  no_int : (e : Option Entry) → int_constant e ≡ PutStatic w c k → ⊥
+  no_int (Some (entries.Int n)) e = cc
+  no_int (Some (entries.Text n)) e = cc
+  no_int (Some entries.Float) e = cc
+  no_int (Some (entries.Class x)) e = cc
+  no_int (Some entries.Other) e = cc
+  no_int other e = cc
+
+  no_long : (e : Option Entry) → long_constant e ≡ PutStatic w c k → ⊥
+  no_long (Some (entries.Long n)) e = cc
+  no_long (Some entries.Double) e = cc
+  no_long other e = cc
+
+  no_call : (r : Result Method Unresolved) → call_of r ≡ PutStatic w c k → ⊥
   no_call (Ok (methods.BuiltIn (members.PrintLine printed.Int))) e = cc
   no_call other e = cc
 
-  no_invoke : (e : Option Entry) → invokevirtual_of e ≡ PutInt c k → ⊥
+  no_invoke : (e : Option Entry) → invokevirtual_of e ≡ PutStatic w c k → ⊥
   no_invoke (Some (entries.Method method)) e = no_call method e
   no_invoke other e = cc
 
-  no_return : (o : Option Implementation) → return_of o ≡ PutInt c k → ⊥
+  no_return : (o : Option Implementation) → return_of o ≡ PutStatic w c k → ⊥
   no_return (Some (implementations.Code code)) e = by code.returns_nothing e
     where
-      by : (b : Bool) → cond b Return (Refused Fault) ≡ PutInt c k → ⊥
+      by : (b : Bool) → cond b Return (Refused Fault) ≡ PutStatic w c k → ⊥
       by true h = cc
       by false h = cc
   no_return other e = cc
 
-  put_is : (d j : ℕ) (kind : FieldKind) → put_static d j kind ≡ PutInt c k → (kind ≡ kinds.Int) × (d ≡ c) × (j ≡ k)
+  put_is : (d j : ℕ) (kind : FieldKind) → put_static d j kind ≡ PutStatic w c k → (has_value kind ≡ true) × (d ≡ c) × (j ≡ k)
   put_is d j kinds.Int e = (refl, cc, cc)
+  put_is d j kinds.Long e = (refl, cc, cc)
   put_is d j other e = absurd cc
 
   module _ (P : Tables) (d m : ℕ) where
     -- what an entry is that is written to
     record IsPut (e : Option Entry) : Type 0 where
+      kind : FieldKind
       final : Bool
-      entry : e ≡ Some (entries.Field kinds.Int (Ok (targets.Static c k final)))
+      valued : has_value kind ≡ true
+      entry : e ≡ Some (entries.Field kind (Ok (targets.Static c k final)))
       may : may_write P d m c final ≡ true
 
-    put_entry : (e : Option Entry) → putstatic_of P d m e ≡ PutInt c k → IsPut e
+    put_entry : (e : Option Entry) → putstatic_of P d m e ≡ PutStatic w c k → IsPut e
     put_entry (Some (entries.Field kind target)) e = by target (valued kind (put_target P d m kind target) e)
       where
-        written : (x j : ℕ) (final b : Bool) → may_write P d m x final ≡ b → cond b (put_static x j kind) (Refused Fault) ≡ PutInt c k
+        written : (x j : ℕ) (final b : Bool) → may_write P d m x final ≡ b → cond b (put_static x j kind) (Refused Fault) ≡ PutStatic w c k
             → IsPut (Some (entries.Field kind (Ok (targets.Static x j final))))
         written x j final true may h =
             let put = put_is x j kind h in
             record {
+              kind = kind;
               final = final;
-              entry = rw (put.0, put.1, put.2) refl;
+              valued = put.0;
+              entry = rw (put.1, put.2) refl;
               may = subst (λ (n : ℕ). may_write P d m n final ≡ true) put.1 may;
             }
         written x j final false may h = absurd cc
 
-        by : (t : Result FieldTarget Unresolved) → put_target P d m kind t ≡ PutInt c k → IsPut (Some (entries.Field kind t))
+        by : (t : Result FieldTarget Unresolved) → put_target P d m kind t ≡ PutStatic w c k → IsPut (Some (entries.Field kind t))
         by (Ok (targets.Static x j final)) h = written x j final (may_write P d m x final) refl h
         by (Ok (targets.Instance x j)) h = absurd cc
         by (Ok targets.Out) h = absurd cc
@@ -136,22 +156,24 @@ module _ (c k : ℕ) where
         by (Err unresolved.Incompatible) h = absurd cc
     put_entry other e = absurd cc
 
-    put_shared : (i : Instruction) → shared_operation P d m i ≡ PutInt c k → (index : ℕ) × IsPut (entry_at P d index)
-    put_shared (instructions.GetStatic index) e = absurd (no_getstatic (entry_at P d index) e)
-    put_shared (instructions.PutStatic index) e = (index, put_entry (entry_at P d index) e)
-    put_shared (instructions.InvokeVirtual index) e = absurd (no_invoke (entry_at P d index) e)
-    put_shared instructions.Return e = absurd (no_return (implementation_at P d m) e)
-    put_shared other e = absurd cc
+    put_resolved : (i : Instruction) → resolved_operation P d m i ≡ PutStatic w c k → (index : ℕ) × IsPut (entry_at P d index)
+    put_resolved (instructions.LoadConstant index) e = absurd (no_int (entry_at P d index) e)
+    put_resolved (instructions.LoadWideConstant index) e = absurd (no_long (entry_at P d index) e)
+    put_resolved (instructions.GetStatic index) e = absurd (no_getstatic (entry_at P d index) e)
+    put_resolved (instructions.PutStatic index) e = (index, put_entry (entry_at P d index) e)
+    put_resolved (instructions.InvokeVirtual index) e = absurd (no_invoke (entry_at P d index) e)
+    put_resolved instructions.Return e = absurd (no_return (implementation_at P d m) e)
+    put_resolved other e = absurd cc
 
-    put_local : (l : Option LocalOperation) (o : Operation) → local_or l o ≡ PutInt c k → o ≡ PutInt c k
+    put_local : (l : Option LocalOperation) (o : Operation) → local_or l o ≡ PutStatic w c k → o ≡ PutStatic w c k
     put_local None o e = e
     put_local (Some l) o e = absurd cc
 
-    put_instruction : (o : Option Instruction) → operation_of P d m o ≡ Some (PutInt c k) → (index : ℕ) × IsPut (entry_at P d index)
+    put_instruction : (o : Option Instruction) → operation_of P d m o ≡ Some (PutStatic w c k) → (index : ℕ) × IsPut (entry_at P d index)
     put_instruction None e = absurd cc
-    put_instruction (Some i) e = put_shared i (put_local (local_of i) (shared_operation P d m i) (same_Some _ _ e))
+    put_instruction (Some i) e = put_resolved i (put_local (local_of i) (resolved_operation P d m i) (same_Some _ _ e))
 
-    put_at : (place : ℕ) → operation_at P d m place ≡ Some (PutInt c k) → (index : ℕ) × IsPut (entry_at P d index)
+    put_at : (place : ℕ) → operation_at P d m place ≡ Some (PutStatic w c k) → (index : ℕ) × IsPut (entry_at P d index)
     unfolding operation_at
     put_at place e = put_instruction (instruction_at P d m place) e
 
@@ -317,17 +339,17 @@ module _ (P : Tables) (is : IsProgram P) where
           let at : slice_get f.constants index ≡ Some constant = slice_get-get_or f.constants index constants.Unusable within in
           (f, constant, field_entry kind target at refl (pool.each index constant (entries.Field kind target) at h))
 
-  pub finals_written : (d m place c k : ℕ) → operation_at P d m place ≡ Some (PutInt c k) → is_final (program_of P) c k ≡ true
+  pub finals_written : (w : OperandKind) (d m place c k : ℕ) → operation_at P d m place ≡ Some (PutStatic w c k) → is_final (program_of P) c k ≡ true
       → (d ≡ c) × (initializer_in P c ≡ Some m)
-  finals_written d m place c k e final =
-      let put = put_at c k P d m place e in
-      let behind = (entry_behind d put.0 kinds.Int (Ok (targets.Static c k put.1.final)) put.1.entry).2 in
+  finals_written w d m place c k e final =
+      let put = put_at w c k P d m place e in
+      let behind = (entry_behind d put.0 put.1.kind (Ok (targets.Static c k put.1.final)) put.1.entry).2 in
       let static = static_target P.family c k put.1.final behind.result behind.target_is in
       let declared = finds_field c static.place static.result behind.finds in
       let named : field_of behind.key (Some static.file) ≡ Some static.place = ap (field_of behind.key) (sym static.stands) ∙ declared in
-      let kind : kind_of (text_at static.file static.member.descriptor) ≡ kinds.Int =
+      let kind : kind_of (text_at static.file static.member.descriptor) ≡ put.1.kind =
       ap kind_of (descriptor_is static.file behind.key static.place static.member named static.is) ∙ behind.kind_is in
-      let has : is_static_field static.file static.member ≡ true = rw (static.static, kind) refl in
+      let has : is_static_field static.file static.member ≡ true = rw (static.static, kind, put.1.valued) refl in
       let declares : is_final (program_of P) c k ≡ has_flag static.member.access_flags 16 =
       static_at c k static.place static.file static.member static.stands static.is has static.slot in
       let flagged : put.1.final ≡ true = static.flag ∙ sym declares ∙ final in

@@ -1,5 +1,5 @@
 -- The static fields of a linked program hold no objects at first, and its mains are no class initialization methods.
-use Rattle.std.proofs.Common.{◌≡◌, ℕ, Bool, true, false, List, [], ◌∷◌, length, map, Option, Some, None, slice_get, codes, refl, sym, ap}
+use Rattle.std.proofs.Common.{◌&&◌, ◌≡◌, ℕ, Bool, true, false, List, [], ◌∷◌, length, map, Option, Some, None, slice_get, codes, refl, sym, ap}
 use Rattle.std.proofs.Common.{◌∙◌, subst, arith}
 use Rattle.std.specs.List.{AllByRecursion}
 use Rattle.std.specs.Str.{bytes_eq}
@@ -20,7 +20,7 @@ use Rattle.hierarchy.specs.declared.entry.FieldKind.TheVariants as kinds
 use Rattle.loading.specs.declared.given.GivenClass.{GivenClass}
 use Rattle.loading.specs.Names.{text_at}
 use Rattle.hierarchy.specs.Entries.{kind_of, statics_of}
-use Rattle.hierarchy.specs.Programs.{zero_of, int_constant, constant_at, constant_of, static_field, is_main, main_of, is_initializer}
+use Rattle.hierarchy.specs.Programs.{zero_of, number_of, has_constant, constant_at, constant_of, static_field, is_main, main_of, is_initializer}
 use Rattle.hierarchy.specs.Programs.{initializer_of, IsClass, IsProgram}
 use Rattle.hierarchy.specs.Tables.{Tables, statics_if, statics_in, main_if, main_in, initializer_if, initializer_in}
 use Rattle.std.specs.Option.{is_some}
@@ -39,22 +39,22 @@ plain_zero kinds.Float = refl
 plain_zero kinds.Double = refl
 plain_zero kinds.Reference = refl
 
-plain_int : (o : Option Constant) (v : Value) → int_constant o ≡ Some v → name_of v ≡ None
-plain_int (Some (constants.Integer bits)) v e = ap name_of (sym (same_Some _ v e))
-plain_int (Some other) v e = absurd cc
-plain_int None v e = absurd cc
+plain_number : (o : Option Constant) (v : Value) → number_of o ≡ Some v → name_of v ≡ None
+plain_number (Some (constants.Integer bits)) v e = ap name_of (sym (same_Some _ v e))
+plain_number (Some (constants.Long high low)) v e = ap name_of (sym (same_Some _ v e))
+plain_number (Some other) v e = absurd cc
+plain_number None v e = absurd cc
 
 plain_at : (f : Structure) (o : Option ℕ) (v : Value) → constant_at f o ≡ Some v → name_of v ≡ None
 plain_at f None v e = absurd cc
-plain_at f (Some index) v e = plain_int (slice_get f.constants index) v e
+plain_at f (Some index) v e = plain_number (slice_get f.constants index) v e
 
 plain_constant : (f : Structure) (kind : FieldKind) (m : Member) (v : Value) → constant_of f kind m ≡ Some v → name_of v ≡ None
-plain_constant f kinds.Int m v e = by (has_flag m.access_flags 16) refl
+plain_constant f kind m v e = by (has_constant kind && has_flag m.access_flags 16) refl
   where
-    by : (b : Bool) → has_flag m.access_flags 16 ≡ b → name_of v ≡ None
+    by : (b : Bool) → (has_constant kind && has_flag m.access_flags 16) ≡ b → name_of v ≡ None
     by true final = plain_at f (value_among m.attributes) v (rw final at e)
     by false other = let none : None ≡ Some v = rw other at e in absurd cc
-plain_constant f other m v e = absurd cc
 
 all_plain : (f : Structure) (ms : List Member) → AllByRecursion HoldsNoName (map (static_field f) ms)
 all_plain f [] = tt

@@ -1,5 +1,5 @@
 -- The linked program, as the initialization procedure and its threads ask of it.
-use Rattle.std.specs.Prelude.{ℕ, List, [], ◌∷◌, Option, Some, None, if◌then◌else◌, replicate, map}
+use Rattle.std.specs.Prelude.{ℕ, List, [], ◌∷◌, Option, Some, None, if◌then◌else◌, replicate, map, length}
 use Rattle.vm_state.specs.declared.value.Value.TheVariants.{OfThread}
 use Rattle.vm_state.specs.declared.ends.FaultKind.TheVariants.{Unsupported}
 use Rattle.vm_state.specs.declared.frame.Frame.{Frame}
@@ -7,7 +7,7 @@ use Rattle.vm_state.specs.declared.frame.Activity.{Activity}
 use Rattle.vm_state.specs.declared.frame.Activity.TheVariants.{Start, Method}
 use Rattle.vm_state.specs.declared.classes.ClassArea.{ClassArea}
 use Rattle.vm_state.specs.Statics.{blank_area}
-use Rattle.semantics.specs.Programs.{Escapes, Program}
+use Rattle.semantics.specs.Programs.{Program}
 use Rattle.hierarchy.specs.declared.class.Class.{Class}
 use Rattle.hierarchy.specs.declared.class.Implementation.{Implementation}
 use Rattle.hierarchy.specs.declared.class.Implementation.TheVariants as implementations
@@ -49,13 +49,14 @@ blank_areas classes = map (λ (k : Class). blank_area k.statics) classes
 -- Exceptions come later: no instruction raises one, no handler is executed, and a class whose initialization fails ends its thread.
 abbrev pub program_of : Tables → Program
 program_of P = record {
+  count = length P.classes;
   row = row P;
-  unwinding = λ x class fs. Escapes;
+  handler = λ activity place class. None;
   failing = λ c x. halts Unsupported;
   orphaned = λ c. halts Unsupported;
   initializer = initializer_frame P;
   parents = order_in P;
   statics = statics_in P;
-  initializes = λ f. initialized_by P f.activity;
+  initializes = initialized_by P;
   start = start_frame;
 }

@@ -1,19 +1,79 @@
-//! What an instruction did.
+//! Who executes an instruction, how it ends, and what stops one.
 
-use vm_state::ends::FaultKind;
+ghost use Rattle.std.specs.Prelude.{◌≡◌};
+
+use std::alloc::AllocError;
+use vm_state::class_id::ClassId;
+use vm_state::ends::{End, FaultKind};
+use vm_state::frame::Frame;
 use vm_state::text::Text;
+use vm_state::value::{Maker, Name, Value};
+
+/// Who executes an instruction.
+#[derive(Clone, Copy, PartialEq, Eq, Debug)]
+pub struct Actor {
+    /// The thread's number.
+    pub thread: u32,
+    /// Who counts the objects that it makes.
+    pub maker: Maker,
+}
+
+/// How an instruction ended in its own frame.
+#[derive(Drop)]
+pub enum Conclusion {
+    /// The frame goes on, as it is now.
+    Stays,
+    /// This one takes its place.
+    Becomes(Frame),
+    /// The frame goes, with a value for its caller or with none.
+    Returns(Option<Value>),
+    /// It printed this text, and the frame goes on.
+    Prints(Text),
+    /// This exception, of this class, is raised in it (JVMS 2.10).
+    Raises(Name, ClassId),
+    /// The thread can't go on.
+    Halts(FaultKind),
+}
+
+/// Why an instruction was not done. Nothing has changed.
+#[derive(Clone, Copy, PartialEq, Eq, Debug)]
+pub enum Stop {
+    /// The class of this number has to be initialized first.
+    Needs(u32),
+    /// Another thread is in the way.
+    Waits,
+    /// At build time: an object of another maker is looked into or changed.
+    ForeignObject,
+    /// At build time: what no class does that may be initialized then.
+    Barred,
+    /// Memory is refused.
+    Memory,
+}
+
+impl From<AllocError> for Stop {
+    ghost use Rattle.machine.specs.declared.kinds.Stop.TheVariants as stops;
+
+    ghost from_gives = { λ error stop. stop ≡ stops.Memory };
+
+    fn from(_error: AllocError) -> Stop {
+        Stop::Memory
+    }
+}
 
 /// What an instruction of a thread did.
 #[derive(Drop)]
 pub enum Effect {
-    /// It was done.
+    /// It was done, and the thread goes on.
     Next,
+    /// It raised an exception, for which the thread stands in a handler, or at an initialization entry where it is
+    /// pending.
+    Raise,
     /// Nothing: the class of this number has to be initialized first.
     Needs(u32),
     /// Nothing: another thread is in the way.
     Wait,
     /// It was done, and printed a text.
     Print(Text),
-    /// The thread can't go on.
-    Halt(FaultKind),
+    /// The thread ended so.
+    Halt(End),
 }

@@ -1,13 +1,25 @@
 //! One instruction of a thread of a linked program.
 #![tactic(auto)]
 
-mod arithmetic;
+pub mod effects;
 pub mod entering;
 pub mod execute;
+mod fused;
+pub mod fusing;
 pub mod kinds;
 pub mod laws;
-pub mod local;
-pub mod operation;
+mod printing;
+pub mod resolved;
+mod sharing;
+mod single;
+mod sources;
+mod starting;
+mod statics;
+pub mod step;
+pub mod step_table;
+pub mod store;
+pub mod stretch;
+pub mod waiting;
 
-pub use execute::effect;
+pub use effects::effect;
 pub use kinds::Effect;

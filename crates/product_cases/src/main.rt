@@ -1,7 +1,7 @@
 //! The program `product_cases`: asks the questions of the files of cases that its command line names, and compares
 //! the answers with those that stand behind them. The folder of a file says what its cases are about ([`About`]).
 //!
-//! What the files expect follows from the rules of the JVM specification (JVMS SE 8) and was worked out by hand.
+//! What the files expect follows from the rules of the JVM specification (JVMS SE 8).
 //!
 //! A word that ends with `.class` names a class file, which is read and written back, and one that ends with `/` has
 //! the class files since the last such word linked.

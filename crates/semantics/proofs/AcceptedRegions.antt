@@ -16,8 +16,8 @@ module _ (P : Program) (A : Analysis) where
   -- both initializers run with both environments at hand, which agree
   pub accepted_once : {c : ℕ} {first : Region} → Accepted P A c first → (second : Region) → Accepted P A c second → first ≡ second
   accepted_once
-      (Accepts c first env n allowed some lower known settles within) second
-      (Accepts d region other k free all below seen runs fits) =
+      (Accepts c first env n one allowed some lower known settles within) second
+      (Accepts d region other k given free all below seen runs fits) =
       let both : Environment = λ e. first_of_two (env e) (other e) in
       let left : Extends env both = λ e r at. rw at refl in
       let right : Extends other both = λ e r at. elim (none_or_some (env e)) [

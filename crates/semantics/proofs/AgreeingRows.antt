@@ -1,6 +1,7 @@
--- One row of a frame above no accepted class's entry, in the lazy world and in the image's: both move alike, or the lazy one has an
--- accepted class to initialize first.
-use Rattle.std.proofs.Common.{◌≡◌, ◌≢◌, ℕ, Bool, true, false, ◌⊎◌, inl, inr, List, [], ◌∷◌, ◌++◌, ◌==◌, refl, sym, ap, ◌∙◌, subst, eqb-true}
+-- One row of a frame above no accepted class's entry, in the lazy world and in the image's: both move alike, or the
+-- lazy one has an accepted class to initialize first.
+use Rattle.std.proofs.Common.{◌≡◌, ◌≢◌, ℕ, Bool, true, false, ◌⊎◌, inl, inr, List, [], ◌∷◌, ◌++◌, ◌==◌, refl, sym, ap}
+use Rattle.std.proofs.Common.{◌∙◌, subst, eqb-true}
 use Rattle.vm_state.specs.declared.value.Value.{Value}
 use Rattle.vm_state.specs.declared.value.Maker.{Maker}
 use Rattle.vm_state.specs.declared.value.Maker.TheVariants.{Class, Thread}
@@ -9,18 +10,22 @@ use Rattle.vm_state.specs.declared.classes.ClassState.TheVariants.{Not, By, Done
 use Rattle.vm_state.specs.declared.classes.Usability.TheVariants.{Ready, Fresh, Busy, Broken}
 use Rattle.vm_state.specs.declared.text.Line.{Line}
 use Rattle.vm_state.specs.Statics.{usable}
-use Rattle.vm_state.specs.SharedState.{Pool, Region, SharedState, pool_of, set_pool, set_region, with_field, with_slot, with_new}
-use Rattle.vm_state.specs.SharedState.{with_line, class_at, slots_at}
-use Rattle.semantics.specs.Rows.{Outcome, Halt, Row, Ends, UseClass, ReadStatic, WriteStatic, AskClass, LookInto, Change, Make}
-use Rattle.semantics.specs.Rows.{UseMonitor, Print}
+use Rattle.vm_state.specs.SharedState.{Pool, Region, SharedState, pool_of, set_pool, set_region, with_field, with_slot}
+use Rattle.vm_state.specs.SharedState.{with_new}
+use Rattle.vm_state.specs.SharedState.{with_line, class_at}
+use Rattle.semantics.specs.Rows.{Outcome, Halt, Row, Ends, UseClass, ReadStatic, WriteStatic, AskClass, LookInto}
+use Rattle.semantics.specs.Rows.{Change, Make}
+use Rattle.semantics.specs.Rows.{UseMonitor, Print, part_at}
 use Rattle.semantics.specs.Rows.{Result, Moved, Needs, Waits, lock_monitor, monitor_of, with_monitor, run_row}
 use Rattle.semantics.specs.Quiet.{is_final}
 use Rattle.semantics.specs.Erasure.{is_hidden, IsErasedState}
-use Rattle.semantics.specs.Lawful.{Knows, KnowsOutcome, KeepsTo, Respects}
+use Rattle.semantics.specs.Lawful.{Knows, KnowsOutcome, Fits}
 use Rattle.semantics.proofs.Tests.{tested}
 use Rattle.semantics.proofs.KnownNames.{Knows-mono, KnowsAll-mono, KnowsSlots-mono}
-use Rattle.semantics.proofs.Pools.{Holds, with_slot-holds, with_monitor-holds, with_new-holds, with_slot-class, with_monitor-class}
-use Rattle.semantics.proofs.Visibility.{States, hidden_maker, shown, known, known_shown, known_narrow, visible, hidden_done, hidden_other}
+use Rattle.semantics.proofs.Pools.{Holds, with_slot-holds, with_monitor-holds, with_new-holds, with_slot-shape}
+use Rattle.semantics.proofs.Pools.{with_monitor-shape, part_at-holds}
+use Rattle.semantics.proofs.Visibility.{States, hidden_maker, shown, known, known_shown, known_narrow, visible}
+use Rattle.semantics.proofs.Visibility.{hidden_done, hidden_other}
 use Rattle.semantics.proofs.Usabilities.{used, usable_fresh, usable_busy, usable_broken, usable_ready}
 use Rattle.semantics.proofs.Locks.{locked}
 use Rattle.semantics.proofs.Setting.{Setting}
@@ -86,7 +91,8 @@ module _ (S : Setting) where
   Agrees first sh (Needs c) r = (sh.states c ≡ Not) × ((S.I.holds c ≡ true) ⊎ ((S.I.holds c ≡ false) × (r ≡ Needs c)))
   Agrees first sh Waits r = HalfDone sh ⊎ (r ≡ Waits)
 
-  -- for thread t, whose new objects are counted by a maker that is no accepted class, in frames of initializers that `own` has
+  -- for thread t, whose new objects are counted by a maker that is no accepted class, in frames of initializers that
+  -- `own` has
   module _ (t : ℕ) (maker : Maker) (maker_other : (c : ℕ) → S.I.holds c ≡ true → maker ≢ Class c)
       (own : ℕ → Bool) (own_other : (c : ℕ) → S.I.holds c ≡ true → own c ≡ false) (first : ℕ → Region) where
     maker_shown : (st : States) → hidden_maker S.I st maker ≡ false
@@ -125,77 +131,77 @@ module _ (S : Setting) where
         (λ k a s. sane.classes c k a s)
 
     pub agree : (row : Row) (sh sv : SharedState) → SharedStates.IsSane S sh → IsErasedState S.I sh sv → NoneFailed sh → NoneBy t sh →
-        SharedStates.KeepsHidden S first sh → KeepsTo (shown S.I sh.states) row → Respects S.P own row →
+        SharedStates.KeepsHidden S first sh → Fits S.P (shown S.I sh.states) own row →
         Agrees first sh (run_row t maker sh row) (run_row t maker sv row)
-    agree (Ends outcome) sh sv sane like sound outside hidden keeps resp = record {
+    agree (Ends outcome) sh sv sane like sound outside hidden fit = record {
       other = sv;
       same = refl;
       like = like;
       sane = sane;
       hidden = hidden;
       states = refl;
-      outcome_known = keeps;
+      outcome_known = fit.0;
     }
-    agree (UseClass c next) sh sv sane like sound outside hidden keeps resp = elim (reach t sh sv like sound outside c) [
-      | BothReady a b v ↦ rw (a, b) (agree (next true) sh sv sane like sound outside hidden (keeps true) (resp true))
+    agree (UseClass c next) sh sv sane like sound outside hidden fit = elim (reach t sh sv like sound outside c) [
+      | BothReady a b v ↦ rw (a, b) (agree (next true) sh sv sane like sound outside hidden (fit true))
       | BothFresh a b n ↦ rw (a, b) (usable_fresh t (sh.states c) a, inr (n, refl))
       | BothBusy a b ↦ rw (a, b) (inr refl)
-      | BothBroken a b ↦ rw (a, b) (agree (next false) sh sv sane like sound outside hidden (keeps false) (resp false))
+      | BothBroken a b ↦ rw (a, b) (agree (next false) sh sv sane like sound outside hidden (fit false))
       | MustBegin a y ↦ rw a (usable_fresh t (sh.states c) a, inl y)
       | MustWait a y ↦ rw a (inl (c, (usable_busy t (sh.states c) a).0, y, (usable_busy t (sh.states c) a).1))
     ]
-    agree (ReadStatic c f next) sh sv sane like sound outside hidden keeps resp = elim (reach t sh sv like sound outside c) [
+    agree (ReadStatic c f next) sh sv sane like sound outside hidden fit = elim (reach t sh sv like sound outside c) [
       | BothReady a b v ↦
           let narrow : Knows (shown S.I sh.states) ((sh.regions c).fields f) =
           Knows-mono (known S.I sh.states (Class c)) (shown S.I sh.states) (known_narrow S.I sh.states (Class c) v) _ (sane.statics c f) in
           rw (a, b, like.regions c v)
-          (agree (next ((sh.regions c).fields f)) sh sv sane like sound outside hidden (keeps ((sh.regions c).fields f) narrow) (resp _))
+          (agree (next ((sh.regions c).fields f)) sh sv sane like sound outside hidden (fit ((sh.regions c).fields f) narrow))
       | BothFresh a b n ↦ rw (a, b) (usable_fresh t (sh.states c) a, inr (n, refl))
       | BothBusy a b ↦ rw (a, b) (inr refl)
       | BothBroken a b ↦ rw (a, b) (halted sh sv sane like hidden)
       | MustBegin a y ↦ rw a (usable_fresh t (sh.states c) a, inl y)
       | MustWait a y ↦ rw a (inl (c, (usable_busy t (sh.states c) a).0, y, (usable_busy t (sh.states c) a).1))
     ]
-    agree (WriteStatic c f v next) sh sv sane like sound outside hidden keeps resp = elim (reach t sh sv like sound outside c) [
+    agree (WriteStatic c f v next) sh sv sane like sound outside hidden fit = elim (reach t sh sv like sound outside c) [
       | BothReady a b w ↦
           let wide : Knows (known S.I sh.states (Class c)) v =
-          Knows-mono (shown S.I sh.states) (known S.I sh.states (Class c)) (known_shown S.I sh.states (Class c)) v keeps.0 in
+          Knows-mono (shown S.I sh.states) (known S.I sh.states (Class c)) (known_shown S.I sh.states (Class c)) v fit.0 in
           rw (a, b)
           (agree next (set_region sh c (with_field (sh.regions c) f v)) (set_region sv c (with_field (sv.regions c) f v))
-          (wrote sh sane c f v wide resp.0)
+          (wrote sh sane c f v wide fit.1)
           (SharedStates.set_region-erased S sh sv like c w _ _ (ap (λ (r : Region). with_field r f v) (like.regions c w)))
-          sound outside (SharedStates.set_region-hidden S first sh hidden c w _) keeps.1 resp.1)
+          sound outside (SharedStates.set_region-hidden S first sh hidden c w _) fit.2)
       | BothFresh a b n ↦ rw (a, b) (usable_fresh t (sh.states c) a, inr (n, refl))
       | BothBusy a b ↦ rw (a, b) (inr refl)
       | BothBroken a b ↦ rw (a, b) (halted sh sv sane like hidden)
       | MustBegin a y ↦ rw a (usable_fresh t (sh.states c) a, inl y)
       | MustWait a y ↦ rw a (inl (c, (usable_busy t (sh.states c) a).0, y, (usable_busy t (sh.states c) a).1))
     ]
-    agree (AskClass x next) sh sv sane like sound outside hidden keeps resp =
+    agree (AskClass x next) sh sv sane like sound outside hidden fit =
         subst (λ (p : Pool). Agrees first sh (run_row t maker sh (next (class_at (pool_of sh x.maker) x.number)))
         (run_row t maker sv (next (class_at p x.number))))
-        (sym (SharedStates.same_pool S sh sv like x.maker (visible S.I sh.states x keeps.0)))
-        (agree (next (class_at (pool_of sh x.maker) x.number)) sh sv sane like sound outside hidden (keeps.1 _) (resp _))
-    agree (LookInto x next) sh sv sane like sound outside hidden keeps resp =
-        let v : hidden_maker S.I sh.states x.maker ≡ false = visible S.I sh.states x keeps.0 in
-        subst (λ (p : Pool). Agrees first sh (run_row t maker sh (next (slots_at (pool_of sh x.maker) x.number)))
-        (run_row t maker sv (next (slots_at p x.number))))
+        (sym (SharedStates.same_pool S sh sv like x.maker (visible S.I sh.states x fit.0)))
+        (agree (next (class_at (pool_of sh x.maker) x.number)) sh sv sane like sound outside hidden (fit.1 _))
+    agree (LookInto x part next) sh sv sane like sound outside hidden fit =
+        let v : hidden_maker S.I sh.states x.maker ≡ false = visible S.I sh.states x fit.0 in
+        subst (λ (p : Pool). Agrees first sh (run_row t maker sh (next (part_at part (pool_of sh x.maker) x.number)))
+        (run_row t maker sv (next (part_at part p x.number))))
         (sym (SharedStates.same_pool S sh sv like x.maker v))
-        (agree (next (slots_at (pool_of sh x.maker) x.number)) sh sv sane like sound outside hidden
-        (keeps.1 _ (KnowsSlots-mono (known S.I sh.states x.maker) (shown S.I sh.states) (known_narrow S.I sh.states x.maker v) _
-        (sane.objects x.maker x.number))) (resp _))
-    agree (Change x i v next) sh sv sane like sound outside hidden keeps resp =
-        let w : hidden_maker S.I sh.states x.maker ≡ false = visible S.I sh.states x keeps.0 in
+        (agree (next (part_at part (pool_of sh x.maker) x.number)) sh sv sane like sound outside hidden
+        (fit.1 _ (KnowsSlots-mono (known S.I sh.states x.maker) (shown S.I sh.states) (known_narrow S.I sh.states x.maker v) _
+        (part_at-holds (known S.I sh.states x.maker) part (pool_of sh x.maker) x.number (sane.objects x.maker)))))
+    agree (Change x i v next) sh sv sane like sound outside hidden fit =
+        let w : hidden_maker S.I sh.states x.maker ≡ false = visible S.I sh.states x fit.0 in
         agree next (set_pool sh x.maker (with_slot (pool_of sh x.maker) x.number i v))
         (set_pool sv x.maker (with_slot (pool_of sv x.maker) x.number i v))
         (SharedStates.set_pool-sane S sh sane x.maker _
         (with_slot-holds (known S.I sh.states x.maker) (pool_of sh x.maker) x.number i v (sane.objects x.maker)
-        (Knows-mono (shown S.I sh.states) (known S.I sh.states x.maker) (known_shown S.I sh.states x.maker) v keeps.1))
-        (λ c e a s k. with_slot-class (pool_of sh x.maker) x.number i v k))
+        (Knows-mono (shown S.I sh.states) (known S.I sh.states x.maker) (known_shown S.I sh.states x.maker) v fit.1))
+        (λ c e a s k. with_slot-shape (pool_of sh x.maker) x.number i v k))
         (SharedStates.set_pool-erased S sh sv like x.maker w _ _
         (ap (λ (p : Pool). with_slot p x.number i v) (SharedStates.same_pool S sh sv like x.maker w)))
-        sound outside (SharedStates.set_pool-hidden S first sh hidden x.maker w _) keeps.2 resp
-    agree (Make class slots next) sh sv sane like sound outside hidden keeps resp =
+        sound outside (SharedStates.set_pool-hidden S first sh hidden x.maker w _) fit.2
+    agree (Make class slots next) sh sv sane like sound outside hidden fit =
         let w : hidden_maker S.I sh.states maker ≡ false = maker_shown sh.states in
         let e : pool_of sv maker ≡ pool_of sh maker = SharedStates.same_pool S sh sv like maker w in
         subst (λ (n : ℕ). Agrees first sh
@@ -207,12 +213,12 @@ module _ (S : Setting) where
         (set_pool sh maker (with_new (pool_of sh maker) class slots)) (set_pool sv maker (with_new (pool_of sv maker) class slots))
         (SharedStates.set_pool-sane S sh sane maker _
         (with_new-holds (known S.I sh.states maker) (pool_of sh maker) class slots (sane.objects maker)
-        (KnowsAll-mono (shown S.I sh.states) (known S.I sh.states maker) (known_shown S.I sh.states maker) slots keeps.0))
+        (KnowsAll-mono (shown S.I sh.states) (known S.I sh.states maker) (known_shown S.I sh.states maker) slots fit.0))
         (λ c same a s k. absurd (maker_other c a same)))
         (SharedStates.set_pool-erased S sh sv like maker w _ _ (ap (λ (p : Pool). with_new p class slots) e))
-        sound outside (SharedStates.set_pool-hidden S first sh hidden maker w _) (keeps.1 _ (rw w refl)) (resp _))
-    agree (UseMonitor x enter next) sh sv sane like sound outside hidden keeps resp =
-        let w : hidden_maker S.I sh.states x.maker ≡ false = visible S.I sh.states x keeps.0 in
+        sound outside (SharedStates.set_pool-hidden S first sh hidden maker w _) (fit.1 _ (rw w refl)))
+    agree (UseMonitor x enter next) sh sv sane like sound outside hidden fit =
+        let w : hidden_maker S.I sh.states x.maker ≡ false = visible S.I sh.states x fit.0 in
         let e : pool_of sv x.maker ≡ pool_of sh x.maker = SharedStates.same_pool S sh sv like x.maker w in
         let same : lock_monitor t enter (monitor_of ((pool_of sv x.maker).at x.number)) ≡ lock_monitor t enter
         (monitor_of ((pool_of sh x.maker).at x.number)) =
@@ -225,11 +231,11 @@ module _ (S : Setting) where
               (set_pool sv x.maker (with_monitor (pool_of sv x.maker) x.number p.1))
               (SharedStates.set_pool-sane S sh sane x.maker _
               (with_monitor-holds (known S.I sh.states x.maker) (pool_of sh x.maker) x.number p.1 (sane.objects x.maker))
-              (λ c f a s k. with_monitor-class (pool_of sh x.maker) x.number p.1 k))
+              (λ c f a s k. with_monitor-shape (pool_of sh x.maker) x.number p.1 k))
               (SharedStates.set_pool-erased S sh sv like x.maker w _ _ (ap (λ (q : Pool). with_monitor q x.number p.1) e))
-              sound outside (SharedStates.set_pool-hidden S first sh hidden x.maker w _) (keeps.1 p.0) (resp p.0))
+              sound outside (SharedStates.set_pool-hidden S first sh hidden x.maker w _) (fit.1 p.0))
         ]
-    agree (Print text next) sh sv sane like sound outside hidden keeps resp =
+    agree (Print text next) sh sv sane like sound outside hidden fit =
         agree next (with_line sh (record { thread = t; text = text })) (with_line sv (record { thread = t; text = text }))
         (record { statics = sane.statics; objects = the_objects; finals = sane.finals; classes = sane.classes })
         (record {
@@ -240,7 +246,7 @@ module _ (S : Setting) where
           pools = like.pools;
           printed = ap (λ (ls : List Line). ls ++ record { thread = t; text = text } ∷ []) like.printed;
         })
-        sound outside hidden keeps resp
+        sound outside hidden fit
       where
         the_objects : (m : Maker) → Holds (known S.I sh.states m) (pool_of (with_line sh (record { thread = t; text = text })) m)
         the_objects (Class c) k = sane.objects (Class c) k

@@ -9,8 +9,10 @@ use Rattle.vm_state.specs.declared.ends.FaultKind.TheVariants.{Fault}
 use Rattle.vm_state.specs.Statics.{usable}
 use Rattle.vm_state.specs.SharedState.{SharedState, pool_of}
 use Rattle.semantics.specs.Rows as rows
-use Rattle.semantics.specs.Rows.{Row, Halt, Result, Lock, Blocked, Answered, lock_monitor, monitor_of, on_usable, on_lock, run_row}
-use Rattle.semantics.specs.Answers.{Deed, Writes, Changes, Makes, Sets, Prints, Tale, Ends, Needs, Waits, Astray, after, by_state, by_lock}
+use Rattle.semantics.specs.Rows.{Row, Halt, Result, Lock, Blocked, Answered, lock_monitor, monitor_of, on_usable}
+use Rattle.semantics.specs.Rows.{on_lock, run_row}
+use Rattle.semantics.specs.Answers.{Deed, Writes, Changes, Makes, Sets, Prints, Tale, Ends, Needs, Waits, Astray, after}
+use Rattle.semantics.specs.Answers.{by_state, by_lock}
 use Rattle.semantics.specs.Answers.{told, deed_done, enacted, on_state, on_answer, answers, AnswersDecide}
 
 module _ (t : ℕ) (maker : Maker) where
@@ -72,7 +74,7 @@ module _ (t : ℕ) (maker : Maker) where
   decided (rows.WriteStatic c f v next) sh =
       decided_static sh c (usable t (sh.states c)) _ _ (decided_after sh (Writes c f v) next (decided next _))
   decided (rows.AskClass x next) sh = decided (next _) sh
-  decided (rows.LookInto x next) sh = decided (next _) sh
+  decided (rows.LookInto x part next) sh = decided (next _) sh
   decided (rows.Change x i v next) sh = decided_after sh (Changes x i v) next (decided next _)
   decided (rows.Make class slots next) sh = decided_after sh (Makes class slots) (next _) (decided (next _) _)
   decided (rows.UseMonitor x enter next) sh =

@@ -1,5 +1,6 @@
 -- The initialization of a class begins.
-use Rattle.std.proofs.Common.{◌≡◌, ℕ, ◌+◌, ◌<◌, ◌≤◌, true, false, inl, inr, List, [], ◌∷◌, length, ◌==◌, refl, sym, ap, ◌∙◌, subst}
+use Rattle.std.proofs.Common.{◌≡◌, ℕ, ◌+◌, ◌<◌, ◌≤◌, true, false, inl, inr, List, [], ◌∷◌, length, ◌==◌, refl, sym, ap}
+use Rattle.std.proofs.Common.{◌∙◌, subst}
 use Rattle.std.proofs.Common.{eqb-true, eq-eqb, arith}
 use Rattle.vm_state.specs.declared.value.Maker.TheVariants.{Class}
 use Rattle.vm_state.specs.declared.classes.ClassState.TheVariants.{Not, By, Done, Erroneous}

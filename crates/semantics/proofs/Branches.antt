@@ -1,5 +1,7 @@
 -- Which branch gave the result of a test, and which value that of an option.
-use Rattle.std.proofs.Common.{◌≡◌, ◌⊎◌, inl, inr, Bool, true, false, cond, Option, Some, None, IsSome, option_and_then, refl}
+use Rattle.std.proofs.Common.{◌≡◌, ◌⊎◌, inl, inr, Bool, true, false, cond, Option, Some, None, IsSome, List, refl}
+use Rattle.vm_state.specs.declared.value.Value.{Value}
+use Rattle.semantics.specs.Quiet.{QuietMove, Conduct, Leaves, at_hand, if_fixed}
 
 -- ---- tests
 
@@ -27,8 +29,18 @@ pub value_in : {X : Type 0} (o : Option X) → IsSome o → (x : X) × (o ≡ So
 value_in None is = cc
 value_in (Some x) is = (x, refl)
 
--- two results of one value, which the second option has where the first has it
-pub on_value : {A B C : Type 0} (o p : Option A) {f : A → Option B} {g : A → Option C} {z : B} {w : Option C} →
-    ((a : A) → o ≡ Some a → p ≡ Some a) → ((a : A) → f a ≡ Some z → g a ≡ w) → option_and_then f o ≡ Some z → option_and_then g p ≡ w
+-- two instructions that go on with one value, which the second has at hand where the first has it
+pub on_value : {A : Type 0} (o p : Option A) {f g : A → Conduct} {m : QuietMove} → ((a : A) → o ≡ Some a → p ≡ Some a) →
+    ((a : A) → f a ≡ Leaves m → g a ≡ Leaves m) → at_hand o f ≡ Leaves m → at_hand p g ≡ Leaves m
 on_value None p kept same is = cc
 on_value (Some a) p kept same is = rw (kept a refl) (same a is)
+
+-- two instructions that go on with what is fixed of an object
+pub on_fixed : (o : Option (List Value)) (f g : Option (List Value) → Conduct) {m : QuietMove} → (f o ≡ Leaves m → g o ≡ Leaves m) →
+    if_fixed o f ≡ Leaves m → if_fixed o g ≡ Leaves m
+on_fixed None f g same is = cc
+on_fixed (Some vs) f g same is = same is
+
+pub from_fixed : (o : Option (List Value)) (f : Option (List Value) → Conduct) {m : QuietMove} → if_fixed o f ≡ Leaves m → f o ≡ Leaves m
+from_fixed None f is = cc
+from_fixed (Some vs) f is = is

@@ -1,5 +1,6 @@
 -- Statics begin with no names.
-use Rattle.std.proofs.Common.{◌≡◌, ℕ, zero, suc, List, [], ◌∷◌, Option, Some, None, refl, sym, subst, slice_get, unwrap_or}
+use Rattle.std.proofs.Common.{◌≡◌, ℕ, zero, suc, List, [], ◌∷◌, Option, Some, None, refl, sym, subst, slice_get}
+use Rattle.std.proofs.Common.{unwrap_or}
 use Rattle.std.specs.List.{AllByRecursion}
 use Rattle.vm_state.specs.declared.value.Value.{Value}
 use Rattle.vm_state.specs.declared.classes.StaticField.{StaticField}

@@ -1,6 +1,7 @@
--- A turn of a thread with the entry of a class on top that is not accepted: both worlds step alike, or the lazy one has an accepted parent
--- to initialize first.
-use Rattle.std.proofs.Common.{◌≡◌, ◌≢◌, ℕ, Bool, true, false, ◌⊎◌, inl, inr, List, [], ◌∷◌, Option, Some, None, ◌==◌, refl, sym, ap, ◌∙◌}
+-- A turn of a thread with the entry of a class on top that is not accepted: both worlds step alike, or the lazy one has
+-- an accepted parent to initialize first.
+use Rattle.std.proofs.Common.{◌≡◌, ◌≢◌, ℕ, Bool, true, false, ◌⊎◌, inl, inr, List, [], ◌∷◌, Option, Some, None, ◌==◌}
+use Rattle.std.proofs.Common.{refl, sym, ap, ◌∙◌}
 use Rattle.std.proofs.Common.{subst, eqb-true}
 use Rattle.vm_state.specs.declared.value.Name.{Name}
 use Rattle.vm_state.specs.declared.value.Maker.{Maker}
@@ -8,21 +9,26 @@ use Rattle.vm_state.specs.declared.value.Maker.TheVariants.{Class}
 use Rattle.vm_state.specs.declared.classes.ClassState.{ClassState}
 use Rattle.vm_state.specs.declared.classes.ClassState.TheVariants.{By, Done, Erroneous}
 use Rattle.vm_state.specs.declared.classes.Usability.{Usability}
+use Rattle.vm_state.specs.declared.ends.FaultKind.TheVariants.{Fault}
 use Rattle.vm_state.specs.declared.frame.Frame.{Frame}
 use Rattle.vm_state.specs.declared.initialization.Level.{Level}
 use Rattle.vm_state.specs.Statics.{usable}
 use Rattle.vm_state.specs.SharedState.{SharedState, set_state}
-use Rattle.semantics.specs.Rows.{Outcome, Next, Raise, Halt, Row, Ends, UseClass, ReadStatic, WriteStatic, AskClass, LookInto, Change}
+use Rattle.semantics.specs.Rows.{Outcome, Halt, Row, Ends, UseClass, ReadStatic, WriteStatic, AskClass, LookInto}
+use Rattle.semantics.specs.Rows.{Change}
 use Rattle.semantics.specs.Rows.{Make, UseMonitor, Print}
 use Rattle.semantics.specs.Rows.{Result, Moved, run_row}
-use Rattle.semantics.specs.Steps.{Going, left_by, fails, finishes, initializes, passes, step_parents, step_entry, step_thread, maker_of}
+use Rattle.semantics.specs.Moves.{Left, Stand, Throw, Stop, left_in}
+use Rattle.semantics.specs.Steps.{Going, going_on, fails, finishes, initializes, passes, step_parents, step_entry}
+use Rattle.semantics.specs.Steps.{step_thread, maker_of}
 use Rattle.semantics.specs.Worlds.{World, put_thread, step}
 use Rattle.semantics.specs.Erasure.{IsErasedState}
-use Rattle.semantics.specs.Lawful.{KnowsName, KnowsFrames, KnowsOutcome, KeepsTo, Respects, IsPlain}
+use Rattle.semantics.specs.Lawful.{KnowsName, KnowsFrames, Fits, IsPlain}
 use Rattle.semantics.proofs.Tests.{tested}
 use Rattle.semantics.proofs.KnownNames.{Fewer, KnowsFrames-mono}
 use Rattle.semantics.proofs.Visibility.{States, shown}
 use Rattle.semantics.proofs.Usabilities.{usable_fresh, usable_busy}
+use Rattle.semantics.proofs.FrameMoves.{KnowsLeft, left_known}
 use Rattle.semantics.proofs.Setting.{Setting}
 use Rattle.semantics.proofs.AgreeingRows
 use Rattle.semantics.proofs.Owners.{own_of}
@@ -45,7 +51,7 @@ plain_moves t maker (UseClass c next) sh h = absurd h
 plain_moves t maker (ReadStatic c f next) sh h = absurd h
 plain_moves t maker (WriteStatic c f v next) sh h = absurd h
 plain_moves t maker (AskClass x next) sh h = plain_moves t maker (next _) sh (h _)
-plain_moves t maker (LookInto x next) sh h = plain_moves t maker (next _) sh (h _)
+plain_moves t maker (LookInto x part next) sh h = plain_moves t maker (next _) sh (h _)
 plain_moves t maker (Change x i v next) sh h = plain_moves t maker next _ h
 plain_moves t maker (Make class slots next) sh h = plain_moves t maker (next _) _ (h _)
 plain_moves t maker (UseMonitor x enter next) sh h = absurd h
@@ -84,33 +90,34 @@ module _ (S : Setting) where
     under_known : KnowsFrames (shown S.I w.shared.states) l.under
     under_known = tower_frames w.shared fuel t l.under ls on.rest on.none
 
-    outcome_mono : (sh sh' : SharedState) → Fewer (shown S.I sh.states) (shown S.I sh'.states) → (o : Outcome) →
-        KnowsOutcome (shown S.I sh.states) o → KnowsOutcome (shown S.I sh'.states) o
-    outcome_mono sh sh' h (Next fs) k = KnowsFrames-mono _ _ h fs k
-    outcome_mono sh sh' h (Raise x class) k = h x k
-    outcome_mono sh sh' h (Halt kind) k = tt
+    left_mono : (sh sh' : SharedState) → Fewer (shown S.I sh.states) (shown S.I sh'.states) → (left : Left) →
+        KnowsLeft (shown S.I sh.states) left → KnowsLeft (shown S.I sh'.states) left
+    left_mono sh sh' h (Stand fs) k = KnowsFrames-mono _ _ h fs k
+    left_mono sh sh' h (Throw x class) k = h x k
+    left_mono sh sh' h (Stop kind) k = tt
 
     -- ---- the class ends, in both worlds, in this state, and the stack goes on below
 
-    ends_turn : (s : ClassState) (outcome : Outcome) (sh' sv' : SharedState) (r : Result) →
-        AgreeingRows.MovedAlike S w.shared.regions w.shared.states outcome sh' r → IsErasedState S.I sh' sv' →
-        step S.P w t ≡ Some (put w t (set_state sh' c s) (left_by S.P outcome l.under ls)) →
-        step S.P v t ≡ Some (put v t (set_state sv' c s) (left_by S.P outcome l.under ls)) → TurnKinds.Turn S fuel w v t
-    ends_turn s outcome sh' sv' r m like stepped stepped' =
+    ends_turn : (s : ClassState) (left : Left) (outcome : Outcome) (sh' sv' : SharedState) (r : Result) →
+        AgreeingRows.MovedAlike S w.shared.regions w.shared.states outcome sh' r → KnowsLeft (shown S.I w.shared.states) left →
+        IsErasedState S.I sh' sv' →
+        step S.P w t ≡ Some (put w t (set_state sh' c s) (going_on S.P left l.under ls)) →
+        step S.P v t ≡ Some (put v t (set_state sv' c s) (going_on S.P left l.under ls)) → TurnKinds.Turn S fuel w v t
+    ends_turn s left outcome sh' sv' r m kl like stepped stepped' =
         let names : Fewer (shown S.I w.shared.states) (shown S.I (set_state sh' c s).states) =
         VisibleSteps.end_names S w.shared.states sh' c s m.states on.other in
         let low : VisibleSteps.Foot S (set_state sh' c s) fuel t ls =
         VisibleSteps.foot_visible S w.shared (set_state sh' c s) fuel fuel t ls
         (VisibleSteps.foot S w.shared fuel t l.under ls on.rest on.none) names in
-        let stands : Invariant.StandsAt S (set_state sh' c s) fuel t (left_by S.P outcome l.under ls) =
-        VisibleSteps.left_foot S (set_state sh' c s) fuel t outcome l.under ls low (KnowsFrames-mono _ _ names l.under under_known)
-        (outcome_mono w.shared (set_state sh' c s) names outcome m.outcome_known) in
+        let stands : Invariant.StandsAt S (set_state sh' c s) fuel t (going_on S.P left l.under ls) =
+        VisibleSteps.left_foot S (set_state sh' c s) fuel t left l.under ls low (KnowsFrames-mono _ _ names l.under under_known)
+        (left_mono w.shared (set_state sh' c s) names left kl) in
         TurnKinds.Alike fuel _ _ stepped stepped'
         (record {
           inv = Invariant.invariant_put S fuel fuel w t (set_state sh' c s) _ (going_within w t [] (l ∷ ls) on.at) b.inv
               (VisibleSteps.end_changes S fuel w t c s outcome sh' r _ b.inv away on.other m stands);
           erased = erased-both S.I w v t _ _ _ _ b.erased (set_state-erased S.I sh' sv' c s like on.other)
-              (sym (VisibleSteps.cut_left S outcome l.under ls on.none));
+              (sym (VisibleSteps.cut_left S left l.under ls on.none));
         })
         (λ d a. elim (tested (d == c)) [
           | inl e ↦ (let clash : true ≡ false = sym a ∙ (ap S.I.holds (eqb-true d _ e) ∙ on.other) in cc)
@@ -119,10 +126,10 @@ module _ (S : Setting) where
         away
 
     -- by a row that needs no class
-    fails_turn : (row : Row) → IsPlain row → KeepsTo (shown S.I w.shared.states) row → Respects S.P (own_of (maker_of t ls)) row →
+    fails_turn : (row : Row) → IsPlain row → Fits S.P (shown S.I w.shared.states) (own_of (maker_of t ls)) row →
         step S.P w t ≡ put_thread w t (fails S.P c l.under ls (run_row t (Class c) w.shared row)) →
         step S.P v t ≡ put_thread v t (fails S.P c l.under ls (run_row t (Class c) v.shared row)) → TurnKinds.Turn S fuel w v t
-    fails_turn row is_plain keeps resp stepped stepped' = go (plain_moves t (Class c) row w.shared is_plain)
+    fails_turn row is_plain fit stepped stepped' = go (plain_moves t (Class c) row w.shared is_plain)
       where
         maker_other : (d : ℕ) → S.I.holds d ≡ true → Class c ≢ Class d
         maker_other d a e =
@@ -132,21 +139,22 @@ module _ (S : Setting) where
 
         both_ways : AgreeingRows.Agrees S w.shared.regions w.shared (run_row t (Class c) w.shared row) (run_row t (Class c) v.shared row)
         both_ways = AgreeingRows.agree S t (Class c) maker_other (own_of (maker_of t ls)) (own_other S t ls on.none) w.shared.regions
-            row w.shared v.shared b.inv.sane b.erased.shared b.inv.sound away (λ d h. refl) keeps resp
+            row w.shared v.shared b.inv.sane b.erased.shared b.inv.sound away (λ d h. refl) fit
 
         go : ((outcome : Outcome) × (new : SharedState) × (run_row t (Class c) w.shared row ≡ Moved outcome new)) →
             TurnKinds.Turn S fuel w v t
         go (outcome, new, e) =
             let m : AgreeingRows.MovedAlike S w.shared.regions w.shared.states outcome new (run_row t (Class c) v.shared row) =
             subst (λ (r : Result). AgreeingRows.Agrees S w.shared.regions w.shared r (run_row t (Class c) v.shared row)) e both_ways in
-            ends_turn Erroneous outcome new m.other (run_row t (Class c) v.shared row) m m.like
+            ends_turn Erroneous (left_in outcome l.under) outcome new m.other (run_row t (Class c) v.shared row) m
+            (left_known (shown S.I w.shared.states) outcome l.under m.outcome_known under_known) m.like
             (stepped ∙ ap (λ (r : Result). put_thread w t (fails S.P c l.under ls r)) e)
             (stepped' ∙ ap (λ (r : Result). put_thread v t (fails S.P c l.under ls r)) m.same)
 
     finish_turn : step S.P w t ≡ put_thread w t (Some (finishes w.shared c l.under ls)) →
         step S.P v t ≡ put_thread v t (Some (finishes v.shared c l.under ls)) → TurnKinds.Turn S fuel w v t
     finish_turn stepped stepped' =
-        ends_turn Done (Next l.under) w.shared v.shared (Moved (Next l.under) v.shared)
+        ends_turn Done (Stand l.under) (Halt Fault) w.shared v.shared (Moved (Halt Fault) v.shared)
         (record {
           other = v.shared;
           same = refl;
@@ -154,9 +162,9 @@ module _ (S : Setting) where
           sane = b.inv.sane;
           hidden = λ d h. refl;
           states = refl;
-          outcome_known = under_known;
+          outcome_known = tt;
         })
-        b.erased.shared stepped stepped'
+        under_known b.erased.shared stepped stepped'
 
     -- ---- the stack alone changes
 
@@ -210,8 +218,7 @@ module _ (S : Setting) where
           TurnKinds.begin_plain_turn S fuel w v t d [] (l ∷ ls) b on.at tower x (usable_fresh t _ f) all_none (stepped _ f) (stepped' _ f')
       | AgreeingRows.BothBusy x x' ↦ TurnKinds.Neither (stepped _ x) (inr (stepped' _ x'))
       | AgreeingRows.BothBroken x x' ↦
-          fails_turn (S.P.orphaned c) (S.lawful.plain_orphaned c) (S.lawful.names_orphaned (shown S.I w.shared.states) c)
-          (S.lawful.finals_orphaned (own_of (maker_of t ls)) c) (stepped _ x) (stepped' _ x')
+          fails_turn (S.P.orphaned c) (S.lawful.plain_orphaned c) (S.lawful.orphaned (shown S.I w.shared.states) (own_of (maker_of t ls)) c) (stepped _ x) (stepped' _ x')
       | AgreeingRows.MustBegin f a ↦
           TurnKinds.begin_turn S fuel w v t d [] (l ∷ ls) b on.at tower a (usable_fresh t _ f) (none_higher S (S.wave d) (l ∷ ls) all_none)
           (stepped _ f)
@@ -232,8 +239,7 @@ module _ (S : Setting) where
 
     by_pending : (o : Option Name) → l.entry.pending ≡ o → KnowsName (shown S.I w.shared.states) o → TurnKinds.Turn S fuel w v t
     by_pending (Some x) e k =
-        fails_turn (S.P.failing c x) (S.lawful.plain_failing c x) (S.lawful.names_failing (shown S.I w.shared.states) c x k)
-        (S.lawful.finals_failing (own_of (maker_of t ls)) c x)
+        fails_turn (S.P.failing c x) (S.lawful.plain_failing c x) (S.lawful.failing (shown S.I w.shared.states) (own_of (maker_of t ls)) c x k)
         (here ∙ ap (λ (o : Option Name). put_thread w t (step_entry S.P w.shared t l.entry l.under ls o)) e)
         (here' ∙ ap (λ (o : Option Name). put_thread v t (step_entry S.P v.shared t l.entry l.under ls o)) e)
     by_pending None e k =

@@ -1,15 +1,18 @@
--- With more classes at hand an initializer does the same: what is quiet stays quiet, and leaves the same at the same cost.
-use Rattle.std.proofs.Common.{◌≡◌, ℕ, true, List, ◌∷◌, Option, Some, None, ◌==◌, option_map, refl}
+-- With more classes at hand an initializer does the same: what is quiet stays quiet, and leaves the same at the same
+-- cost.
+use Rattle.std.proofs.Common.{◌≡◌, ℕ, true, Option, Some, None, ◌==◌, option_map, refl}
+use Rattle.vm_state.specs.declared.value.Value.{Value}
 use Rattle.vm_state.specs.declared.value.Maker.{Maker}
 use Rattle.vm_state.specs.declared.value.Maker.TheVariants.{Class, Thread}
 use Rattle.vm_state.specs.declared.frame.Frame.{Frame}
 use Rattle.vm_state.specs.SharedState.{Pool, Region, same_maker}
-use Rattle.semantics.specs.Rows.{Row, Ends, UseClass, ReadStatic, WriteStatic, AskClass, LookInto, Change, Make, UseMonitor, Print}
+use Rattle.semantics.specs.Rows.{Row, Ends, UseClass, ReadStatic, WriteStatic, AskClass, LookInto, Change, Make}
+use Rattle.semantics.specs.Rows.{UseMonitor, Print, part_at}
 use Rattle.semantics.specs.Rows.{Next, Raise, Halt}
 use Rattle.semantics.specs.Programs.{Program}
-use Rattle.semantics.specs.Quiet.{Environment, is_final, pool_seen, QuietMove, quiet}
-use Rattle.semantics.specs.Settling.{RunsBody, Returns, GoesOn, Calls, SettlesBy, Settles}
-use Rattle.semantics.proofs.Branches.{on_same, on_value}
+use Rattle.semantics.specs.Quiet.{Environment, is_final, pool_seen, QuietMove, Leaves, is_open, quiet}
+use Rattle.semantics.specs.Settling.{RunsBody, ByReturn, ByStep, ByCall, SettlesBy, Settles}
+use Rattle.semantics.proofs.Branches.{on_same, on_value, on_fixed}
 
 -- each class at hand in the first is at hand in the second, with the same region
 abbrev pub Extends : Environment → Environment → Type 0
@@ -27,8 +30,8 @@ module _ (P : Program) (env wider : Environment) (more : Extends env wider) (c :
   pool_seen-wider own (Thread t) p = λ is. is
 
   pub quiet-wider : (row : Row) (own : Region) (n : ℕ) (m : QuietMove) →
-      quiet P env c own n row ≡ Some m → quiet P wider c own n row ≡ Some m
-  quiet-wider (Ends (Next frames)) own n m = λ is. is
+      quiet P env c own n row ≡ Leaves m → quiet P wider c own n row ≡ Leaves m
+  quiet-wider (Ends (Next move)) own n m = λ is. is
   quiet-wider (Ends (Raise x class)) own n m = λ is. is
   quiet-wider (Ends (Halt kind)) own n m = λ is. is
   quiet-wider (UseClass d next) own n m =
@@ -40,22 +43,27 @@ module _ (P : Program) (env wider : Environment) (more : Extends env wider) (c :
   quiet-wider (AskClass x next) own n m =
       on_value (pool_seen env c own x.maker) (pool_seen wider c own x.maker) (pool_seen-wider own x.maker)
       (λ p. quiet-wider (next _) own n m)
-  quiet-wider (LookInto x next) own n m = on_same (same_maker (Class c) x.maker) (quiet-wider (next _) own n m) (λ is. is)
+  quiet-wider (LookInto x part next) own n m =
+      on_same (same_maker (Class c) x.maker) (quiet-wider (next _) own n m)
+      (on_same (is_open part)
+      (on_value (pool_seen env c own x.maker) (pool_seen wider c own x.maker) (pool_seen-wider own x.maker)
+      (λ p. on_fixed (part_at part p x.number) _ _ (quiet-wider (next _) own n m)))
+      (λ is. is))
   quiet-wider (Change x i v next) own n m = on_same (same_maker (Class c) x.maker) (quiet-wider next _ n m) (λ is. is)
   quiet-wider (Make class slots next) own n m = quiet-wider (next _) _ _ m
   quiet-wider (UseMonitor x enter next) own n m = λ is. is
   quiet-wider (Print text next) own n m = λ is. is
 
-  pub runs-wider : {fs gs : List Frame} {own last : Region} {n : ℕ} →
-      RunsBody P env c fs own n gs last → RunsBody P wider c fs own n gs last
-  runs-wider (Returns {f = f} {fs = fs} {m = m} moves is) = Returns (quiet-wider (P.row (f ∷ fs)) _ 0 m moves) is
-  runs-wider (GoesOn {f = f} {fs = fs} {m = m} moves is on) = GoesOn (quiet-wider (P.row (f ∷ fs)) _ 0 m moves) is (runs-wider on)
-  runs-wider (Calls {f = f} {fs = fs} {m = m} moves is called on) =
-      Calls (quiet-wider (P.row (f ∷ fs)) _ 0 m moves) is (runs-wider called) (runs-wider on)
+  pub runs-wider : {f : Frame} {own last : Region} {n : ℕ} {v : Option Value} →
+      RunsBody P env c f own n v last → RunsBody P wider c f own n v last
+  runs-wider (ByReturn {f = f} {m = m} moves is) = ByReturn (quiet-wider (P.row f) _ 0 m moves) is
+  runs-wider (ByStep {f = f} {m = m} moves is on) = ByStep (quiet-wider (P.row f) _ 0 m moves) is (runs-wider on)
+  runs-wider (ByCall {f = f} {m = m} moves is called back on) =
+      ByCall (quiet-wider (P.row f) _ 0 m moves) is (runs-wider called) back (runs-wider on)
 
   pub settles-wider : (n : ℕ) (region : Region) → Settles P env c n region → Settles P wider c n region
   settles-wider n region = by_body (P.initializer c)
     where
       by_body : (o : Option Frame) → SettlesBy P env c o n region → SettlesBy P wider c o n region
       by_body None settled = settled
-      by_body (Some f) whole = runs-wider whole
+      by_body (Some f) (v, whole) = (v, runs-wider whole)

@@ -1,5 +1,6 @@
 -- An image that holds exactly the accepted classes gives all that the proof of the headline works in.
-use Rattle.std.proofs.Common.{◌≡◌, ◌<◌, ℕ, Bool, true, false, suc, List, [], ◌∷◌, Some, refl, sym, ap, arith, lt-ltb, Contains}
+use Rattle.std.proofs.Common.{◌≡◌, ◌<◌, ℕ, Bool, true, false, suc, List, [], ◌∷◌, Some, refl, sym, ap, arith, lt-ltb}
+use Rattle.std.proofs.Common.{Contains}
 use Rattle.std.specs.List.{AllByRecursion}
 use Rattle.vm_state.specs.SharedState.{Region}
 use Rattle.semantics.specs.Programs.{Program}
@@ -52,7 +53,7 @@ module _ (P : Program) (A : Analysis) (I : Image) (lawful : IsLawful P) (parents
       is_below_from c d ad (omega arith)
 
   at_hand : (c : ℕ) (r : Region) → I.holds c ≡ true → Accepted P A c r → (n : ℕ) × SettlesAlone P (below I wave c) c n r
-  at_hand c r ac (Accepts d region env n allowed some lower known settles within) =
+  at_hand c r ac (Accepts d region env n one allowed some lower known settles within) =
       (n, small_from_big P (below I wave c) c n r (settles-wider P env (below I wave c) wider c n r settles))
     where
       wider : Extends env (below I wave c)
@@ -60,9 +61,12 @@ module _ (P : Program) (A : Analysis) (I : Image) (lawful : IsLawful P) (parents
           let ad : I.holds d ≡ true = exact.complete d s (known d s at) in
           rw (lower_below c d ac ad (lower d s at)) (ap Some (sym (accepted_once P A (known d s at) (I.region d) (exact.sound d ad))))
 
+  accepted_within : {c : ℕ} {r : Region} → Accepted P A c r → c < P.count
+  accepted_within (Accepts d region env n one allowed some lower known settles within) = one
+
   -- a use of an accepted class is accepted
   use_accepted : (c d : ℕ) (r : Region) → Accepted P A c r → Contains (A.uses c) d → I.holds d ≡ true
-  use_accepted c d r (Accepts e region env n allowed some lower known settles within) is =
+  use_accepted c d r (Accepts e region env n one allowed some lower known settles within) is =
       let found : (s : Region) × (env d ≡ Some s) = value_in (env d) (some d is) in
       exact.complete d found.0 (known d found.0 found.1)
 
@@ -79,8 +83,8 @@ module _ (P : Program) (A : Analysis) (I : Image) (lawful : IsLawful P) (parents
     wave = wave;
     settled = λ c a. at_hand c (I.region c) a (exact.sound c a);
     parents = λ c a. all_from_contains (λ p. is_below I wave c p ≡ true) (P.parents c) (λ p is. use_below c p a (parents c p is));
-    bound = exact.bounded.0;
-    bounded = exact.bounded.1;
+    bound = P.count;
+    bounded = λ c a. accepted_within (exact.sound c a);
   }
 
 -- ---- the two claims

@@ -1,6 +1,8 @@
--- Two classes: the initializer of class 0 fails with a NullPointerException. The main of class 1 catches the ExceptionInInitializerError
--- that this becomes, prints 5 and throws it again; the main of class 2, on a second thread, gets a NoClassDefFoundError.
-use Rattle.std.proofs.Common.{◌≡◌, ℕ, zero, suc, pos, false, List, [], ◌∷◌, ◌++◌, replicate, Option, Some, None, refl, arith}
+-- Two classes: the initializer of class 0 fails with a NullPointerException. The main of class 1 catches the
+-- ExceptionInInitializerError that this becomes, prints 5 and throws it again; the main of class 2, on a second thread,
+-- gets a NoClassDefFoundError.
+use Rattle.std.proofs.Common.{◌≡◌, ℕ, zero, suc, pos, false, List, [], ◌∷◌, ◌++◌, replicate, Option, Some, None, refl}
+use Rattle.std.proofs.Common.{arith}
 use Rattle.std.specs.Fmt.{digits}
 use Rattle.vm_state.specs.declared.value.Value.TheVariants.{Null}
 use Rattle.vm_state.specs.declared.class_id.ClassId.{ClassId}
@@ -10,8 +12,8 @@ use Rattle.vm_state.specs.declared.classes.StaticField.{StaticField}
 use Rattle.vm_state.specs.declared.ends.Ending.TheVariants.{Uncaught}
 use Rattle.vm_state.specs.Operands.{pushed, top, rest}
 use Rattle.semantics.specs.Programs.{Program}
-use Rattle.semantics.specs.Quiet.{Environment}
-use Rattle.semantics.specs.Settling.{RefusedBy, Raised, At, Inside}
+use Rattle.semantics.specs.Quiet.{Environment, Raised}
+use Rattle.semantics.specs.Settling.{RefusedBy, At, Inside}
 use Rattle.semantics.specs.Steps.{step_thread}
 use Rattle.semantics.specs.Worlds.{Sight, Shows, lazy_start}
 use Rattle.semantics.specs.Lawful.{IsLawful}
@@ -44,6 +46,7 @@ initializer (suc n) = None
 
 abbrev code : Code
 code = record {
+  count = 3;
   body = body;
   room = λ m. 2;
   handler = handler;
@@ -78,7 +81,7 @@ alone d = None
 
 pub refused : RefusedBy program alone 0 2 Raised
 unfolding pushed top rest
-refused = Inside refl (omega arith) (omega arith) (At refl)
+refused = Inside refl refl (omega arith) (At refl)
 
 -- ---- what is seen
 

@@ -1,16 +1,19 @@
 -- A turn of a thread with a frame on top and no accepted class on its stack.
-use Rattle.std.proofs.Common.{◌≡◌, ◌≢◌, ℕ, true, false, inl, inr, List, [], ◌∷◌, ◌==◌, refl, sym, ap, ◌∙◌, subst, eqb-true}
+use Rattle.std.proofs.Common.{◌≡◌, ◌≢◌, ℕ, true, false, inl, inr, List, [], ◌∷◌, ◌==◌, refl, sym, ap, ◌∙◌, subst}
+use Rattle.std.proofs.Common.{eqb-true}
 use Rattle.vm_state.specs.declared.value.Maker.TheVariants.{Class}
 use Rattle.vm_state.specs.declared.classes.ClassState.TheVariants.{By}
 use Rattle.vm_state.specs.declared.frame.Frame.{Frame}
 use Rattle.vm_state.specs.declared.initialization.Level.{Level}
 use Rattle.semantics.specs.Rows.{Result, Moved, Needs, Waits, run_row}
+use Rattle.semantics.specs.Moves.{left_in}
 use Rattle.semantics.specs.Steps.{Going, maker_of, left_by, instructed, step_thread}
 use Rattle.semantics.specs.Worlds.{World, put_thread, step}
 use Rattle.semantics.specs.Lawful.{KnowsFrames, KnowsOutcome, Owns}
 use Rattle.semantics.proofs.Tests.{tested}
 use Rattle.semantics.proofs.KnownNames.{Fewer, KnowsFrames-mono}
 use Rattle.semantics.proofs.Visibility.{States, shown}
+use Rattle.semantics.proofs.FrameMoves.{left_known}
 use Rattle.semantics.proofs.Setting.{Setting}
 use Rattle.semantics.proofs.AgreeingRows
 use Rattle.semantics.proofs.Owners.{own_of}
@@ -44,21 +47,21 @@ module _ (S : Setting) where
     away : AgreeingRows.NoneBy S t w.shared
     away = VisibleSteps.none_by S fuel w t (f ∷ fs) ls b.inv at none
 
-    here_steps : (r : Result) → run_row t (maker_of t ls) w.shared (S.P.row (f ∷ fs)) ≡ r →
+    here_steps : (r : Result) → run_row t (maker_of t ls) w.shared (S.P.row f) ≡ r →
         step S.P w t ≡ put_thread w t (instructed S.P w.shared t (f ∷ fs) ls r)
     unfolding step_thread
     here_steps r e = stepping S.P w t (Going (f ∷ fs) ls) at
         ∙ ap (λ (x : Result). put_thread w t (instructed S.P w.shared t (f ∷ fs) ls x)) e
 
-    there_steps : (r : Result) → run_row t (maker_of t ls) v.shared (S.P.row (f ∷ fs)) ≡ r →
+    there_steps : (r : Result) → run_row t (maker_of t ls) v.shared (S.P.row f) ≡ r →
         step S.P v t ≡ put_thread v t (instructed S.P v.shared t (f ∷ fs) ls r)
     unfolding step_thread
     there_steps r e =
         stepping S.P v t (Going (f ∷ fs) ls) (TurnKinds.there S fuel w v t (f ∷ fs) ls b at none)
         ∙ ap (λ (x : Result). put_thread v t (instructed S.P v.shared t (f ∷ fs) ls x)) e
 
-    go : (r rv : Result) → run_row t (maker_of t ls) w.shared (S.P.row (f ∷ fs)) ≡ r →
-        run_row t (maker_of t ls) v.shared (S.P.row (f ∷ fs)) ≡ rv → AgreeingRows.Agrees S w.shared.regions w.shared r rv →
+    go : (r rv : Result) → run_row t (maker_of t ls) w.shared (S.P.row f) ≡ r →
+        run_row t (maker_of t ls) v.shared (S.P.row f) ≡ rv → AgreeingRows.Agrees S w.shared.regions w.shared r rv →
         TurnKinds.Turn S fuel w v t
     go (Moved outcome sh') rv e ev m =
         let names : Fewer (shown S.I w.shared.states) (shown S.I sh'.states) =
@@ -66,14 +69,16 @@ module _ (S : Setting) where
         let low : VisibleSteps.Foot S sh' fuel t ls =
         VisibleSteps.foot_visible S w.shared sh' fuel fuel t ls (VisibleSteps.foot S w.shared fuel t (f ∷ fs) ls tower none) names in
         let stands : Invariant.StandsAt S sh' fuel t (left_by S.P outcome (f ∷ fs) ls) =
-        VisibleSteps.left_foot S sh' fuel t outcome (f ∷ fs) ls low (KnowsFrames-mono _ _ names (f ∷ fs) k)
-        (subst (λ (st : States). KnowsOutcome (shown S.I st) outcome) (sym m.states) m.outcome_known) in
+        VisibleSteps.left_foot S sh' fuel t (left_in outcome (f ∷ fs)) (f ∷ fs) ls low (KnowsFrames-mono _ _ names (f ∷ fs) k)
+        (left_known (shown S.I sh'.states) outcome (f ∷ fs)
+        (subst (λ (st : States). KnowsOutcome (shown S.I st) outcome) (sym m.states) m.outcome_known)
+        (KnowsFrames-mono _ _ names (f ∷ fs) k)) in
         TurnKinds.Alike fuel (put w t sh' (left_by S.P outcome (f ∷ fs) ls)) (put v t m.other (left_by S.P outcome (f ∷ fs) ls))
         (here_steps _ e) (there_steps _ (ev ∙ m.same))
         (record {
           inv = Invariant.invariant_put S fuel fuel w t sh' _ (going_within w t (f ∷ fs) ls at) b.inv
               (VisibleSteps.row_changes S fuel w t outcome sh' rv _ b.inv away m stands);
-          erased = erased-both S.I w v t sh' m.other _ _ b.erased m.like (sym (VisibleSteps.cut_left S outcome (f ∷ fs) ls none));
+          erased = erased-both S.I w v t sh' m.other _ _ b.erased m.like (sym (VisibleSteps.cut_left S (left_in outcome (f ∷ fs)) (f ∷ fs) ls none));
         })
         (λ d a. ap (λ (st : States). st d) m.states)
         away
@@ -95,7 +100,6 @@ module _ (S : Setting) where
 
     pub frame_turn : TurnKinds.Turn S fuel w v t
     frame_turn =
-        go (run_row t (maker_of t ls) w.shared (S.P.row (f ∷ fs))) (run_row t (maker_of t ls) v.shared (S.P.row (f ∷ fs))) refl refl
+        go (run_row t (maker_of t ls) w.shared (S.P.row f)) (run_row t (maker_of t ls) v.shared (S.P.row f)) refl refl
         (AgreeingRows.agree S t (maker_of t ls) (maker_other t ls none) (own_of (maker_of t ls)) (own_other t ls none) w.shared.regions
-        (S.P.row (f ∷ fs)) w.shared v.shared b.inv.sane b.erased.shared b.inv.sound away (λ c h. refl) (S.lawful.names _ _ k)
-        (S.lawful.finals (own_of (maker_of t ls)) (f ∷ fs) owns))
+        (S.P.row f) w.shared v.shared b.inv.sane b.erased.shared b.inv.sound away (λ c h. refl) (S.lawful.row _ (own_of (maker_of t ls)) f k.0 owns.0))

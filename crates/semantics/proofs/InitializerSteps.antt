@@ -1,5 +1,6 @@
 -- A step of an accepted class's initialization: what it changes.
-use Rattle.std.proofs.Common.{◌≡◌, ◌≢◌, ℕ, ◌<◌, true, false, ◌⊎◌, inl, inr, List, ◌∷◌, ◌==◌, refl, sym, ap, ◌∙◌, subst, eqb-true, eq-eqb}
+use Rattle.std.proofs.Common.{◌≡◌, ◌≢◌, ℕ, ◌<◌, true, false, ◌⊎◌, inl, inr, List, ◌∷◌, ◌==◌, refl, sym, ap, ◌∙◌, subst}
+use Rattle.std.proofs.Common.{eqb-true, eq-eqb}
 use Rattle.std.proofs.Common.{arith, ltb-true}
 use Rattle.vm_state.specs.declared.classes.ClassState.TheVariants.{Not, By, Done, Erroneous}
 use Rattle.vm_state.specs.declared.frame.Frame.{Frame}
@@ -76,12 +77,12 @@ module _ (S : Setting) where
 
   -- ---- one instruction of the initializer
 
-  pub quiet_changes : (fuel : Fuel) (w : World) (t c x : ℕ) (fs : List Frame) (ls : List Level) (m : QuietMove) (outcome : Outcome)
+  pub quiet_changes : (fuel : Fuel) (w : World) (t c x : ℕ) (fs gs : List Frame) (ls : List Level) (m : QuietMove) (outcome : Outcome)
       (sh' : SharedState) → Invariant.Invariant S fuel w → thread_at w t ≡ Going fs ls → w.shared.states c ≡ By t →
       QuietRows.MovedQuietly S c w.shared.regions w.shared.pools w.shared.printed w.shared.states m outcome sh' →
-      Invariant.Tower S sh' (shared_out fuel c x) t m.frames ls →
-      Invariant.Changes S fuel (shared_out fuel c x) w.shared sh' t (Going m.frames ls)
-  quiet_changes fuel w t c x fs ls m outcome sh' inv at by moved tower =
+      Invariant.Tower S sh' (shared_out fuel c x) t gs ls →
+      Invariant.Changes S fuel (shared_out fuel c x) w.shared sh' t (Going gs ls)
+  quiet_changes fuel w t c x fs gs ls m outcome sh' inv at by moved tower =
       let same : (d : ℕ) → sh'.states d ≡ w.shared.states d = λ d. ap (λ (st : States). st d) moved.states in
       record {
         sane = moved.sane;

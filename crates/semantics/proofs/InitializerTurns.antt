@@ -1,5 +1,7 @@
--- A turn of a thread with an accepted class's initialization on top: the lazy world alone steps, or it waits for another thread's.
-use Rattle.std.proofs.Common.{◌≡◌, ◌≢◌, ℕ, ◌+◌, ◌<◌, ◌≤◌, Bool, true, false, ◌⊎◌, inl, inr, List, [], ◌∷◌, length, Option, Some, None}
+-- A turn of a thread with an accepted class's initialization on top: the lazy world alone steps, or it waits for
+-- another thread's.
+use Rattle.std.proofs.Common.{◌≡◌, ◌≢◌, ℕ, ◌+◌, ◌<◌, ◌≤◌, Bool, true, false, ◌⊎◌, inl, inr, List, [], ◌∷◌, length}
+use Rattle.std.proofs.Common.{Option, Some, None}
 use Rattle.std.proofs.Common.{◌==◌, refl, sym, ap, ◌∙◌, subst, eqb-true, eq-eqb, arith, nat_lt, lt-ltb, ltb-true}
 use Rattle.std.specs.List.{AllByRecursion}
 use Rattle.vm_state.specs.declared.value.Maker.TheVariants.{Class}
@@ -11,15 +13,18 @@ use Rattle.vm_state.specs.Statics.{usable}
 use Rattle.vm_state.specs.SharedState.{Region, SharedState, set_state}
 use Rattle.semantics.specs.Programs.{Program}
 use Rattle.semantics.specs.Rows.{Outcome, Result, Moved, Needs, Waits, run_row}
-use Rattle.semantics.specs.Steps.{Thread, Going, standing, left_by, instructed, finishes, initializes, passes, step_parents, step_entry}
+use Rattle.semantics.specs.Moves.{moved, stand}
+use Rattle.semantics.specs.Steps.{Thread, Going, standing, going_on, left_by, instructed, finishes, initializes, passes}
+use Rattle.semantics.specs.Steps.{step_parents, step_entry}
 use Rattle.semantics.specs.Steps.{step_thread}
 use Rattle.semantics.specs.Worlds.{World, put_thread, step}
-use Rattle.semantics.specs.Quiet.{Environment, QuietMove, quiet_step}
+use Rattle.semantics.specs.Quiet.{Environment, QuietMove, Leaves, quiet_step}
 use Rattle.semantics.specs.Alone.{RunsAlone, Over, Step, body}
 use Rattle.semantics.specs.Lawful.{KnowsFrames}
 use Rattle.semantics.proofs.Tests.{tested, both}
 use Rattle.semantics.proofs.Visibility.{States, known, hidden_by}
 use Rattle.semantics.proofs.Setting.{Setting, is_below, below}
+use Rattle.semantics.proofs.FrameMoves.{moved_known}
 use Rattle.semantics.proofs.QuietRows
 use Rattle.semantics.proofs.Stacks.{On, OnThread, Higher}
 use Rattle.semantics.proofs.Fuel.{shared_out, total_less}
@@ -34,9 +39,9 @@ use Rattle.semantics.proofs.TurnKinds.{stepping}
 -- what is left after one instruction of an initializer alone
 peel : (P : Program) (env : Environment) (c n : ℕ) (f : Frame) (fs : List Frame) (own last : Region) →
     RunsAlone P env c (f ∷ fs) own n last →
-    (m : QuietMove) × (k : ℕ) × (quiet_step P env c (f ∷ fs) own ≡ Some m) × RunsAlone P env c m.frames m.region k last
-    × (n ≡ 1 + m.elements + k)
-peel P env c n f fs own last (Step {m = m} {n = k} q rest) = (m, k, q, rest, refl)
+    (m : QuietMove) × (k : ℕ) × (quiet_step P env c f own ≡ Leaves m) × (gs : List Frame) × (moved m.move f fs ≡ Some gs)
+    × RunsAlone P env c gs m.region k last × (n ≡ 1 + m.elements + k)
+peel P env c n f fs own last (Step {gs = gs} {m = m} {n = k} q leads rest) = (m, k, q, gs, leads, rest, refl)
 
 run_over : (P : Program) (env : Environment) (c n : ℕ) (own last : Region) → RunsAlone P env c [] own n last → own ≡ last
 run_over P env c n own last Over = refl
@@ -144,48 +149,51 @@ module _ (S : Setting) where
           × RunsAlone S.P (below S.I S.wave c) c (f ∷ fs) (w.shared.regions c) n (S.I.region c) × (n + 1 ≤ fuel c)
       facts = begun_facts c l.entry.begun l.entry.left f fs _ _ on.progress
 
-      next : (m : QuietMove) × (n : ℕ) × (quiet_step S.P (below S.I S.wave c) c (f ∷ fs) (w.shared.regions c) ≡ Some m)
-          × RunsAlone S.P (below S.I S.wave c) c m.frames m.region n (S.I.region c) × (facts.0 ≡ 1 + m.elements + n)
+      next : (m : QuietMove) × (n : ℕ) × (quiet_step S.P (below S.I S.wave c) c f (w.shared.regions c) ≡ Leaves m)
+          × (gs : List Frame) × (moved m.move f fs ≡ Some gs)
+          × RunsAlone S.P (below S.I S.wave c) c gs m.region n (S.I.region c) × (facts.0 ≡ 1 + m.elements + n)
       next = peel S.P (below S.I S.wave c) c facts.0 f fs (w.shared.regions c) (S.I.region c) facts.3
 
-      here_steps : (r : Result) → run_row t (Class c) w.shared (S.P.row (f ∷ fs)) ≡ r →
+      here_steps : (r : Result) → run_row t (Class c) w.shared (S.P.row f) ≡ r →
           step S.P w t ≡ put_thread w t (instructed S.P w.shared t (f ∷ fs) (l ∷ ls) r)
       unfolding step_thread
       here_steps r e =
           stepping S.P w t (Going (f ∷ fs) (l ∷ ls)) on.at
           ∙ ap (λ (x : Result). put_thread w t (instructed S.P w.shared t (f ∷ fs) (l ∷ ls) x)) e
 
-      moves : (outcome : Outcome) (sh' : SharedState) → run_row t (Class c) w.shared (S.P.row (f ∷ fs)) ≡ Moved outcome sh' →
+      moves : (outcome : Outcome) (sh' : SharedState) → run_row t (Class c) w.shared (S.P.row f) ≡ Moved outcome sh' →
           QuietRows.MovedQuietly S c w.shared.regions w.shared.pools w.shared.printed w.shared.states next.0 outcome sh' →
           TurnKinds.Turn S fuel w v t
       moves outcome sh' e m =
-          let gs : List Frame = next.0.frames in
+          let gs : List Frame = next.3 in
           let same : left_by S.P outcome (f ∷ fs) (l ∷ ls) ≡ Going gs (l ∷ ls) =
-          ap (λ (o : Outcome). left_by S.P o (f ∷ fs) (l ∷ ls)) m.outcome_is ∙ standing_over gs l ls in
+          ap (λ (o : Outcome). left_by S.P o (f ∷ fs) (l ∷ ls)) m.outcome_is
+          ∙ (ap (λ (o : Option (List Frame)). going_on S.P (stand o) (f ∷ fs) (l ∷ ls)) next.4 ∙ standing_over gs l ls) in
           let x : ℕ = next.1 + 1 in
           let amount : shared_out fuel c x c ≡ x = rw own_is refl in
-          let going : Invariant.Progress S c true l.entry.left gs next.0.region x = (next.1, facts.2, next.3, omega arith) in
+          let going : Invariant.Progress S c true l.entry.left gs next.0.region x = (next.1, facts.2, next.5, omega arith) in
           let going' : Invariant.Progress S c l.entry.begun l.entry.left gs (sh'.regions c) (shared_out fuel c x c) =
           progress_as c true l.entry.begun l.entry.left gs next.0.region (sh'.regions c) x
           (shared_out fuel c x c) facts.1 m.own amount going in
           let tower : Invariant.Tower S sh' (shared_out fuel c x) t gs (l ∷ ls) =
           Invariant.Inside on.holds (ap (λ (st : States). st c) m.states ∙ on.by) on.pending
-          (subst (λ (st : States). KnowsFrames (known S.I st (Class c)) gs) (sym m.states) m.frames) going' on.higher
+          (subst (λ (st : States). KnowsFrames (known S.I st (Class c)) gs) (sym m.states)
+          (moved_known (known S.I w.shared.states (Class c)) next.0.move f fs gs m.move k next.4)) going' on.higher
           (rest_keep fuel w.shared sh' t c x l.under ls on.rest on.higher m.states m.only.others) in
           TurnKinds.Slower (shared_out fuel c x) (put w t sh' (Going gs (l ∷ ls)))
           (here_steps _ e ∙ ap (λ (th : Thread). Some (put w t sh' th)) same)
           (record {
             inv = Invariant.invariant_put S fuel (shared_out fuel c x) w t sh' _ (going_within w t (f ∷ fs) (l ∷ ls) on.at) b.inv
-                (InitializerSteps.quiet_changes S fuel w t c x (f ∷ fs) (l ∷ ls) next.0 outcome sh' b.inv on.at on.by m tower);
+                (InitializerSteps.quiet_changes S fuel w t c x (f ∷ fs) gs (l ∷ ls) next.0 outcome sh' b.inv on.at on.by m tower);
             erased = erased-stays S.I w v t sh' _ b.erased
                 (InitializerSteps.quiet_erased S w.shared sh' v.shared t c b.erased.shared on.holds on.by m.states m.only)
                 (rw (on.holds, on.at, on.holds) refl);
           })
           (total_less fuel c x S.bound (S.bounded _ on.holds)
-          (let h : facts.0 + 1 ≤ fuel c = facts.4 in let q : facts.0 ≡ 1 + next.0.elements + next.1 = next.4 in omega arith))
+          (let h : facts.0 + 1 ≤ fuel c = facts.4 in let q : facts.0 ≡ 1 + next.0.elements + next.1 = next.6 in omega arith))
           (λ d u ad s. inl (sym (ap (λ (st : States). st d) m.states) ∙ s))
 
-      go : (r : Result) → run_row t (Class c) w.shared (S.P.row (f ∷ fs)) ≡ r →
+      go : (r : Result) → run_row t (Class c) w.shared (S.P.row f) ≡ r →
           QuietRows.Calm S t c on.holds w.shared.regions w.shared.pools w.shared.printed w.shared.states next.0 r →
           TurnKinds.Turn S fuel w v t
       go (Moved outcome sh') e m = moves outcome sh' e m
@@ -197,11 +205,11 @@ module _ (S : Setting) where
 
       pub quiet_turn : TurnKinds.Turn S fuel w v t
       quiet_turn =
-          go (run_row t (Class c) w.shared (S.P.row (f ∷ fs))) refl
-          (QuietRows.alone S t c on.holds w.shared.regions w.shared.pools w.shared.printed (S.P.row (f ∷ fs)) w.shared
+          go (run_row t (Class c) w.shared (S.P.row f)) refl
+          (QuietRows.alone S t c on.holds w.shared.regions w.shared.pools w.shared.printed (S.P.row f) w.shared
           (w.shared.regions c) 0 refl
           (record { others = λ d e. refl; same_pools = λ u. refl; same_printed = refl })
-          b.inv.sane b.inv.sound on.by (free fuel w t (f ∷ fs) l ls b.inv on.at on.higher) (S.lawful.names _ _ k) next.0 next.2)
+          b.inv.sane b.inv.sound on.by (free fuel w t (f ∷ fs) l ls b.inv on.at on.higher) (S.lawful.row _ (λ d. true) f k.0 (λ d is. refl)) next.0 next.2)
 
     -- ---- the entry on top
 

@@ -1,5 +1,6 @@
 -- What holds of every lazy world that a run leads to, and what a step of one thread has to show for it.
-use Rattle.std.proofs.Common.{◌≡◌, ℕ, ◌+◌, ◌<◌, ◌≤◌, Bool, true, false, ◌⊎◌, inl, inr, List, [], ◌∷◌, length, None, ◌==◌, refl, sym, ◌∙◌}
+use Rattle.std.proofs.Common.{◌≡◌, ℕ, ◌+◌, ◌<◌, ◌≤◌, Bool, true, false, ◌⊎◌, inl, inr, List, [], ◌∷◌, length, None}
+use Rattle.std.proofs.Common.{◌==◌, refl, sym, ◌∙◌}
 use Rattle.std.proofs.Common.{eqb-true, eq-eqb}
 use Rattle.std.specs.List.{AllByRecursion}
 use Rattle.vm_state.specs.declared.value.Maker.TheVariants.{Class}

@@ -1,5 +1,5 @@
 -- What is known where fewer names are known is known where more are.
-use Rattle.std.proofs.Common.{◌≡◌, true, List, [], ◌∷◌, Option, Some, None}
+use Rattle.std.proofs.Common.{◌≡◌, true, List, [], ◌∷◌, Option, Some, None, refl}
 use Rattle.std.specs.List.{AllByRecursion}
 use Rattle.vm_state.specs.declared.value.Value.{Value}
 use Rattle.vm_state.specs.declared.value.Name.{Name}
@@ -39,3 +39,28 @@ KnowsFrame-mono p q h f k =
 
 pub KnowsFrames-mono : (p q : Names) → Fewer p q → (fs : List Frame) → KnowsFrames p fs → KnowsFrames q fs
 KnowsFrames-mono p q h fs k = all-mono (KnowsFrame p) (KnowsFrame q) (KnowsFrame-mono p q h) fs k
+
+-- ---- where each name is known
+
+abbrev pub any : Names
+any x = true
+
+pub any-name : (o : Option Name) → KnowsName any o
+any-name None = tt
+any-name (Some x) = refl
+
+pub any-all : (vs : List Value) → KnowsAll any vs
+any-all [] = tt
+any-all (v ∷ vs) = (any-name (name_of v), any-all vs)
+
+pub any-slots : (o : Option (List Value)) → KnowsSlots any o
+any-slots None = tt
+any-slots (Some vs) = any-all vs
+
+any-locals : (os : List (Option Value)) → AllByRecursion (KnowsSome any) os
+any-locals [] = tt
+any-locals (None ∷ os) = (tt, any-locals os)
+any-locals (Some v ∷ os) = (any-name (name_of v), any-locals os)
+
+pub any-frame : (f : Frame) → KnowsFrame any f
+any-frame f = (any-all f.operands.values, any-locals f.locals)

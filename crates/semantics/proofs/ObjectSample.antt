@@ -1,7 +1,8 @@
--- Three classes: the initializer of class 0 sets its static final to 6; that of class 1, after its parent's, calls a method that makes an
--- array of so many elements and changes one of them; the main of class 2 locks an object, and prints that element. Classes 0 and 1 are
--- accepted.
-use Rattle.std.proofs.Common.{◌≡◌, ◌↔◌, ◌∙◌, ◌<◌, ℕ, zero, suc, pos, Bool, true, false, List, [], ◌∷◌, replicate, Option, Some, None}
+-- Three classes: the initializer of class 0 sets its static final to 6; that of class 1, after its parent's, calls a
+-- method that makes an array of so many elements and changes one of them; the main of class 2 locks an object, and
+-- prints that element. Classes 0 and 1 are accepted.
+use Rattle.std.proofs.Common.{◌≡◌, ◌↔◌, ◌∙◌, ℕ, zero, suc, pos, Bool, true, false, List, [], ◌∷◌, replicate, Option}
+use Rattle.std.proofs.Common.{Some, None}
 use Rattle.std.proofs.Common.{refl, subst, arith}
 use Rattle.std.specs.Fmt.{digits}
 use Rattle.std.specs.List.{AllByRecursion, Contains}
@@ -13,14 +14,16 @@ use Rattle.vm_state.specs.SharedState.{Region, with_field, with_new, with_slot}
 use Rattle.vm_state.specs.Operands.{pushed, top, rest}
 use Rattle.semantics.specs.Programs.{Program}
 use Rattle.semantics.specs.Quiet.{Environment}
-use Rattle.semantics.specs.Settling.{constant_region, Settles, Returns, GoesOn, Calls}
+use Rattle.semantics.specs.Settling.{constant_region, Settles, ByReturn, ByStep, ByCall}
 use Rattle.semantics.specs.Steps.{step_thread}
 use Rattle.semantics.specs.Worlds.{Sight, Shows, lazy_start}
 use Rattle.semantics.specs.Acceptance.{Analysis, IsWave, Over, IsLower, Accepted, Accepts}
 use Rattle.semantics.specs.Images.{Image, image_start, IsExact, UsesParents}
 use Rattle.semantics.specs.Lawful.{HoldsNoName, IsLawful}
-use Rattle.semantics.proofs.ToyMachine.{Instruction, PushInt, Load, GetStatic, PutStatic, New, NewArray, GetField, PutField}
+use Rattle.semantics.proofs.ToyMachine.{Instruction, PushInt, Load, GetStatic, PutStatic, New, NewArray, GetField}
+use Rattle.semantics.proofs.ToyMachine.{PutField}
 use Rattle.semantics.proofs.ToyMachine.{InvokeStatic, InvokeVirtual, MonitorEnter, MonitorExit, PrintInt, Return}
+use Rattle.semantics.proofs.ToyMachine.{ReturnTop}
 use Rattle.semantics.proofs.ToyMachine.{Code, int_array, toy}
 use Rattle.semantics.proofs.ToyLaws.{IsSound, toy_is_lawful}
 use Rattle.semantics.proofs.Schedules.{shows_after}
@@ -28,12 +31,12 @@ use Rattle.semantics.proofs.ExactImages.{lazy_to_image_lem, image_to_lazy_lem}
 
 -- ---- the program
 
--- Methods 0 and 1 are the initializers of classes 0 and 1; method 1 calls method 2. Method 3 is the main of class 2, and calls method 4,
--- which enters and leaves the monitor of its receiver.
+-- Methods 0 and 1 are the initializers of classes 0 and 1; method 1 calls method 2. Method 3 is the main of class 2,
+-- and calls method 4, which enters and leaves the monitor of its receiver.
 abbrev body : ℕ → List Instruction
 body zero = PushInt (pos 6) ∷ PutStatic 0 0 ∷ Return ∷ []
-body (suc zero) = InvokeStatic 1 2 ∷ Return ∷ []
-body (suc (suc zero)) = GetStatic 0 0 ∷ NewArray ∷ PutStatic 1 0 ∷ GetStatic 1 0 ∷ PushInt (pos 7) ∷ PutField 5 ∷ Return ∷ []
+body (suc zero) = InvokeStatic 1 2 ∷ PutStatic 1 0 ∷ Return ∷ []
+body (suc (suc zero)) = GetStatic 0 0 ∷ NewArray ∷ PutStatic 1 0 ∷ GetStatic 1 0 ∷ PushInt (pos 7) ∷ PutField 5 ∷ GetStatic 1 0 ∷ ReturnTop ∷ []
 body (suc (suc (suc zero))) = New 2 ∷ InvokeVirtual 4 ∷ GetStatic 1 0 ∷ GetField 5 ∷ PrintInt ∷ Return ∷ []
 body (suc (suc (suc (suc m)))) = Load 0 ∷ MonitorEnter ∷ Load 0 ∷ MonitorExit ∷ Return ∷ []
 
@@ -55,6 +58,7 @@ initializer (suc (suc n)) = None
 
 abbrev code : Code
 code = record {
+  count = 3;
   body = body;
   room = λ m. 2;
   handler = λ m place class. None;
@@ -97,7 +101,7 @@ is_built (suc zero) = true
 is_built (suc (suc c)) = false
 
 abbrev pub analysis : Analysis
-analysis = record { uses = parents; allowed = is_built; budget = 15 }
+analysis = record { uses = parents; allowed = is_built; budget = 17 }
 
 pub uses_parents : UsesParents program analysis
 uses_parents c p u = u
@@ -106,14 +110,14 @@ uses_parents c p u = u
 abbrev first_region : Region
 first_region = with_field (constant_region program 0) 0 (Int (pos 6))
 
--- class 1 with its array, first as it was made, and then changed
+-- class 1 with its array, first as it was made, and then changed, returned and stored again
 abbrev made_region : Region
 made_region =
     let blank : Region = constant_region program 1 in
     with_field (record blank { pool = with_new blank.pool int_array (replicate 6 (Int (pos 0))) }) 0 (OfClass 1 0)
 
 abbrev second_region : Region
-second_region = record made_region { pool = with_slot made_region.pool 0 5 (Int (pos 7)) }
+second_region = with_field (record made_region { pool = with_slot made_region.pool 0 5 (Int (pos 7)) }) 0 (OfClass 1 0)
 
 abbrev regions : ℕ → Region
 regions zero = first_region
@@ -131,15 +135,19 @@ with_first (suc d) = None
 
 pub first_settles : Settles program alone 0 3 first_region
 unfolding pushed top rest
-first_settles = GoesOn refl refl (GoesOn refl refl (Returns refl refl))
+first_settles = (None, ByStep refl refl (ByStep refl refl (ByReturn refl refl)))
 
--- 2 instructions of its own, 7 of the method that it calls, and 6 elements
-pub second_settles : Settles program with_first 1 15 second_region
+-- 3 instructions of its own, 8 of the method that it calls, and 6 elements
+pub second_settles : Settles program with_first 1 17 second_region
 unfolding pushed top rest
-second_settles =
-    Calls refl refl
-    (GoesOn refl refl (GoesOn refl refl (GoesOn refl refl (GoesOn refl refl (GoesOn refl refl (GoesOn refl refl (Returns refl refl)))))))
-    (Returns refl refl)
+second_settles = (
+  None,
+  ByCall refl refl
+      (ByStep refl refl (ByStep refl refl (ByStep refl refl (ByStep refl refl (ByStep refl refl (ByStep refl refl (ByStep refl refl
+      (ByReturn refl refl))))))))
+      refl
+      (ByStep refl refl (ByReturn refl refl)),
+)
 
 -- ---- the image is exact
 
@@ -157,7 +165,7 @@ second_wave : IsWave parents 1 1
 second_wave = Over 1 (λ d. 0) (λ d u. rw (only_use d u) first_wave)
 
 first_accepted : Accepted program analysis 0 first_region
-first_accepted = Accepts 0 first_region alone 3 refl (λ d u. absurd (no_uses d u)) (λ d r e. cc) (λ d r e. cc) first_settles (omega arith)
+first_accepted = Accepts 0 first_region alone 3 (omega arith) refl (λ d u. absurd (no_uses d u)) (λ d r e. cc) (λ d r e. cc) first_settles (omega arith)
 
 has_uses : (d : ℕ) → Contains (0 ∷ []) d → IsSome (with_first d)
 has_uses d u = rw (only_use d u) refl
@@ -171,7 +179,7 @@ members_accepted zero r e = let same : first_region ≡ r = cc in subst (λ (s :
 members_accepted (suc d) r e = cc
 
 second_accepted : Accepted program analysis 1 second_region
-second_accepted = Accepts 1 second_region with_first 15 refl has_uses lower members_accepted second_settles (omega arith)
+second_accepted = Accepts 1 second_region with_first 17 (omega arith) refl has_uses lower members_accepted second_settles (omega arith)
 
 all_accepted : (c : ℕ) → is_built c ≡ true → Accepted program analysis c (regions c)
 all_accepted zero h = first_accepted
@@ -179,15 +187,10 @@ all_accepted (suc zero) h = second_accepted
 all_accepted (suc (suc c)) h = cc
 
 allowed : {c : ℕ} {r : Region} → Accepted program analysis c r → is_built c ≡ true
-allowed (Accepts c r env n may near lower all settled cheap) = may
-
-built_below : (c : ℕ) → is_built c ≡ true → c < 2
-built_below zero h = omega arith
-built_below (suc zero) h = omega arith
-built_below (suc (suc c)) h = cc
+allowed (Accepts c r env n one may near lower all settled cheap) = may
 
 pub image_is_exact : IsExact program analysis image
-image_is_exact = record { sound = all_accepted; complete = λ c r a. allowed a; bounded = (2, built_below) }
+image_is_exact = record { sound = all_accepted; complete = λ c r a. allowed a }
 
 -- ---- what is seen
 
@@ -197,7 +200,7 @@ sight = record { printed = record { thread = 0; text = 55 ∷ 10 ∷ [] } ∷ []
 
 pub lazy_shows : Shows program (lazy_start program (2 ∷ [])) sight
 unfolding step_thread pushed top rest digits
-lazy_shows = shows_after program (replicate 33 0) (lazy_start program (2 ∷ [])) sight refl
+lazy_shows = shows_after program (replicate 35 0) (lazy_start program (2 ∷ [])) sight refl
 
 pub image_shows : Shows program (image_start program image (2 ∷ [])) sight
 unfolding step_thread pushed top rest digits

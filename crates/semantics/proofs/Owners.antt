@@ -1,10 +1,10 @@
 -- The frame of a class's initializer stands above that class's entry, and nowhere else.
-use Rattle.std.proofs.Common.{◌≡◌, ◌<◌, ℕ, Bool, true, false, inl, inr, List, [], ◌∷◌, length, Option, Some, None, ◌==◌, refl, sym, ◌∙◌}
+use Rattle.std.proofs.Common.{◌≡◌, ◌<◌, ℕ, Bool, true, false, inl, inr, List, [], ◌∷◌, length, Option, Some, None, ◌==◌}
+use Rattle.std.proofs.Common.{refl, sym, ◌∙◌}
 use Rattle.std.proofs.Common.{subst, eqb-true, eq-eqb}
 use Rattle.vm_state.specs.declared.value.Name.{Name}
 use Rattle.vm_state.specs.declared.value.Maker.{Maker}
 use Rattle.vm_state.specs.declared.value.Maker.TheVariants as makers
-use Rattle.vm_state.specs.declared.class_id.ClassId.{ClassId}
 use Rattle.vm_state.specs.declared.ends.FaultKind.TheVariants.{Fault}
 use Rattle.vm_state.specs.declared.frame.Frame.{Frame}
 use Rattle.vm_state.specs.declared.initialization.Entry.{Entry}
@@ -13,16 +13,23 @@ use Rattle.vm_state.specs.declared.classes.Usability.{Usability}
 use Rattle.vm_state.specs.declared.classes.Usability.TheVariants.{Ready, Fresh, Busy, Broken}
 use Rattle.vm_state.specs.Statics.{usable}
 use Rattle.vm_state.specs.SharedState.{SharedState, same_maker, pool_of, set_pool, set_region, with_field}
-use Rattle.semantics.specs.Rows.{Outcome, Next, Raise, Halt, Row, Ends, UseClass, ReadStatic, WriteStatic, AskClass, LookInto, Change}
+use Rattle.semantics.specs.Rows.{Outcome, Halt, Row, Ends, UseClass, ReadStatic, WriteStatic, AskClass, LookInto}
+use Rattle.semantics.specs.Rows.{Change}
 use Rattle.semantics.specs.Rows.{Make, UseMonitor, Print}
 use Rattle.semantics.specs.Rows.{Result, Moved, Needs, Waits, lock_monitor, monitor_of, with_monitor, run_row}
-use Rattle.semantics.specs.Programs.{Unwinding, Caught, Escapes, Stopped, Program}
-use Rattle.semantics.specs.Steps.{Thread, Going, Ended, After, maker_of, standing, unwound, left_by, instructed, fails, initializes}
+use Rattle.semantics.specs.Programs.{Program}
+use Rattle.semantics.specs.Moves.{Left, Stand, Throw, Stop, left_in, unwound}
+use Rattle.semantics.specs.Steps.{Thread, Going, Ended, After, maker_of, standing, settled, going_on, left_by}
+use Rattle.semantics.specs.Steps.{instructed, fails, initializes}
 use Rattle.semantics.specs.Steps.{passes, step_parents, step_entry, step_thread}
 use Rattle.semantics.specs.Worlds.{World, put_thread, step}
-use Rattle.semantics.specs.Lawful.{Owns, OwnsOutcome, OwnsUnwinding, Respects, IsLawful}
+use Rattle.semantics.specs.Lawful.{Owns, OwnsOutcome, Fits, IsLawful}
 use Rattle.semantics.proofs.Tests.{tested, from_some}
 use Rattle.semantics.proofs.Usabilities.{used}
+use Rattle.semantics.proofs.KnownNames.{any, any-name, any-slots, any-frame}
+use Rattle.vm_state.specs.Values.{name_of}
+use Rattle.semantics.proofs.FrameMoves
+use Rattle.semantics.proofs.FrameMoves.{OwnsLeft}
 use Rattle.semantics.proofs.Locks.{locked}
 use Rattle.semantics.proofs.Threads.{thread_at, put, step_at, going_within, thread_at-put}
 
@@ -48,9 +55,9 @@ owned_top P t fs (l ∷ ls) h = h.0
 -- ---- a row leaves such frames
 
 module _ (P : Program) (own : ℕ → Bool) (t : ℕ) (maker : Maker) where
-  pub row_owns : (row : Row) (sh : SharedState) → Respects P own row → (outcome : Outcome) (new : SharedState) →
+  pub row_owns : (row : Row) (sh : SharedState) → Fits P any own row → (outcome : Outcome) (new : SharedState) →
       run_row t maker sh row ≡ Moved outcome new → OwnsOutcome P own outcome
-  row_owns (Ends o) sh resp outcome new e = (let same : o ≡ outcome = cc in subst (OwnsOutcome P own) same resp)
+  row_owns (Ends o) sh resp outcome new e = (let same : o ≡ outcome = cc in subst (OwnsOutcome P own) same resp.1)
   row_owns (UseClass c next) sh resp outcome new e = elim (used (usable t (sh.states c))) [
     | inl r ↦ row_owns (next true) sh (resp true) outcome new (rw r at e)
     | inr (inl r) ↦ (let clash : Needs c ≡ Moved outcome new = rw r at e in cc)
@@ -58,7 +65,7 @@ module _ (P : Program) (own : ℕ → Bool) (t : ℕ) (maker : Maker) where
     | inr (inr (inr r)) ↦ row_owns (next false) sh (resp false) outcome new (rw r at e)
   ]
   row_owns (ReadStatic c f next) sh resp outcome new e = elim (used (usable t (sh.states c))) [
-    | inl r ↦ row_owns (next ((sh.regions c).fields f)) sh (resp _) outcome new (rw r at e)
+    | inl r ↦ row_owns (next ((sh.regions c).fields f)) sh (resp _ (any-name (name_of ((sh.regions c).fields f)))) outcome new (rw r at e)
     | inr (inl r) ↦ (let clash : Needs c ≡ Moved outcome new = rw r at e in cc)
     | inr (inr (inl r)) ↦ (let clash : Waits ≡ Moved outcome new = rw r at e in cc)
     | inr (inr (inr r)) ↦
@@ -67,7 +74,7 @@ module _ (P : Program) (own : ℕ → Bool) (t : ℕ) (maker : Maker) where
         subst (OwnsOutcome P own) same tt
   ]
   row_owns (WriteStatic c f v next) sh resp outcome new e = elim (used (usable t (sh.states c))) [
-    | inl r ↦ row_owns next (set_region sh c (with_field (sh.regions c) f v)) resp.1 outcome new (rw r at e)
+    | inl r ↦ row_owns next (set_region sh c (with_field (sh.regions c) f v)) resp.2 outcome new (rw r at e)
     | inr (inl r) ↦ (let clash : Needs c ≡ Moved outcome new = rw r at e in cc)
     | inr (inr (inl r)) ↦ (let clash : Waits ≡ Moved outcome new = rw r at e in cc)
     | inr (inr (inr r)) ↦
@@ -75,15 +82,15 @@ module _ (P : Program) (own : ℕ → Bool) (t : ℕ) (maker : Maker) where
         let same : Halt Fault ≡ outcome = cc in
         subst (OwnsOutcome P own) same tt
   ]
-  row_owns (AskClass x next) sh resp outcome new e = row_owns (next _) sh (resp _) outcome new e
-  row_owns (LookInto x next) sh resp outcome new e = row_owns (next _) sh (resp _) outcome new e
-  row_owns (Change x i v next) sh resp outcome new e = row_owns next _ resp outcome new e
-  row_owns (Make class slots next) sh resp outcome new e = row_owns (next _) _ (resp _) outcome new e
+  row_owns (AskClass x next) sh resp outcome new e = row_owns (next _) sh (resp.1 _) outcome new e
+  row_owns (LookInto x part next) sh resp outcome new e = row_owns (next _) sh (resp.1 _ (any-slots _)) outcome new e
+  row_owns (Change x i v next) sh resp outcome new e = row_owns next _ resp.2 outcome new e
+  row_owns (Make class slots next) sh resp outcome new e = row_owns (next _) _ (resp.1 _ refl) outcome new e
   row_owns (UseMonitor x enter next) sh resp outcome new e =
       elim (locked (lock_monitor t enter (monitor_of ((pool_of sh x.maker).at x.number)))) [
         | inl b ↦ (let clash : Waits ≡ Moved outcome new = rw b at e in cc)
         | inr p ↦
-            row_owns (next p.0) (set_pool sh x.maker (with_monitor (pool_of sh x.maker) x.number p.1)) (resp p.0) outcome new (rw p.2 at e)
+            row_owns (next p.0) (set_pool sh x.maker (with_monitor (pool_of sh x.maker) x.number p.1)) (resp.1 p.0) outcome new (rw p.2 at e)
       ]
   row_owns (Print text next) sh resp outcome new e = row_owns next _ resp outcome new e
 
@@ -110,21 +117,25 @@ module _ (P : Program) (lawful : IsLawful P) (t : ℕ) where
   owned_over fs [] b h = owned_standing P t fs [] h
   owned_over fs (l ∷ ls) b h = owned_standing P t fs (l ∷ ls) (h, b)
 
-  unwound_owned : (x : Name) (class : ClassId) (ls : List Level) → OwnedUnder P t ls → (u : Unwinding) →
-      OwnsUnwinding P (own_of (maker_of t ls)) u → OwnedThread P t (unwound u x class ls)
-  unwound_owned x class ls b (Caught fs) h = owned_over fs ls b h
-  unwound_owned x class [] b Escapes h = tt
-  unwound_owned x class (l ∷ ls) b Escapes h = (tt, b)
-  unwound_owned x class ls b (Stopped kind) h = tt
+  settled_owned : (left : Left) (ls : List Level) → OwnedUnder P t ls → OwnsLeft P (own_of (maker_of t ls)) left →
+      OwnedThread P t (settled left ls)
+  settled_owned (Stand fs) ls b h = owned_over fs ls b h
+  settled_owned (Throw x class) [] b h = tt
+  settled_owned (Throw x class) (l ∷ ls) b h = (tt, b)
+  settled_owned (Stop kind) ls b h = tt
 
   left_owned : (outcome : Outcome) (fs : List Frame) (ls : List Level) → OwnedAt P t fs ls →
       OwnsOutcome P (own_of (maker_of t ls)) outcome →
       OwnedThread P t (left_by P outcome fs ls)
-  left_owned (Next new) fs ls at h = owned_over new ls (owned_under P t fs ls at) h
-  left_owned (Raise x class) fs ls at h =
-      unwound_owned x class ls (owned_under P t fs ls at) (P.unwinding x class fs)
-      (lawful.finals_unwinding (own_of (maker_of t ls)) x class fs (owned_top P t fs ls at))
-  left_owned (Halt kind) fs ls at h = tt
+  left_owned outcome fs ls at h =
+      go (left_in outcome fs) (FrameMoves.left_owned P (own_of (maker_of t ls)) outcome fs h (owned_top P t fs ls at))
+    where
+      go : (left : Left) → OwnsLeft P (own_of (maker_of t ls)) left → OwnedThread P t (going_on P left fs ls)
+      go (Stand new) k = owned_over new ls (owned_under P t fs ls at) k
+      go (Throw x class) k =
+          settled_owned (unwound P x class fs) ls (owned_under P t fs ls at)
+          (FrameMoves.unwound_owned P (own_of (maker_of t ls)) x class fs (owned_top P t fs ls at))
+      go (Stop kind) k = tt
 
   abbrev Leaves : List Level → Result → Type 0
   Leaves ls r = (outcome : Outcome) (new : SharedState) → r ≡ Moved outcome new → OwnsOutcome P (own_of (maker_of t ls)) outcome
@@ -148,7 +159,7 @@ module _ (P : Program) (lawful : IsLawful P) (t : ℕ) where
   entry_owned sh e under ls h (Some x) a s =
       fails_owned e.class under ls (run_row t (makers.Class e.class) sh (P.failing e.class x)) h
       (row_owns P (own_of (maker_of t ls)) t (makers.Class e.class) (P.failing e.class x) sh
-      (lawful.finals_failing (own_of (maker_of t ls)) e.class x)) a s
+      (lawful.failing any (own_of (maker_of t ls)) e.class x refl)) a s
   entry_owned sh e under ls h None a s = by_left e.left e.begun s
     where
       as_after : (b : After) → OwnedThread P t b.thread → b ≡ a → OwnedThread P t a.thread
@@ -158,7 +169,7 @@ module _ (P : Program) (lawful : IsLawful P) (t : ℕ) where
       by_start None ec b q = subst (λ (y : After). OwnedThread P t y.thread) q (owned_standing P t under ls h)
       by_start (Some g) ec b q = subst (λ (y : After). OwnedThread P t y.thread) q ((own_frame, tt), h)
         where
-          own_frame : (d : ℕ) → P.initializes g ≡ Some d → own_of (makers.Class e.class) d ≡ true
+          own_frame : (d : ℕ) → P.initializes g.activity ≡ Some d → own_of (makers.Class e.class) d ≡ true
           own_frame d of_d = eq-eqb e.class d (sym (lawful.initializer_owner e.class d g ec of_d))
 
       by_use : (p : ℕ) (ps : List ℕ) (u : Usability) → passes P sh t e under ls p ps u ≡ Some a → OwnedThread P t a.thread
@@ -168,7 +179,7 @@ module _ (P : Program) (lawful : IsLawful P) (t : ℕ) where
       by_use p ps Broken q =
           fails_owned e.class under ls (run_row t (makers.Class e.class) sh (P.orphaned e.class)) h
           (row_owns P (own_of (maker_of t ls)) t (makers.Class e.class) (P.orphaned e.class) sh
-          (lawful.finals_orphaned (own_of (maker_of t ls)) e.class)) a q
+          (lawful.orphaned any (own_of (maker_of t ls)) e.class)) a q
 
       by_left : (left : List ℕ) (b : Bool) → step_parents P sh t e under ls left b ≡ Some a → OwnedThread P t a.thread
       by_left (p ∷ ps) b q = by_use p ps (usable t (sh.states p)) q
@@ -182,9 +193,9 @@ module _ (P : Program) (lawful : IsLawful P) (t : ℕ) where
   thread_owned sh (Going [] []) a h s = cc
   thread_owned sh (Going [] (l ∷ ls)) a h s = entry_owned sh l.entry l.under ls h.1 l.entry.pending a s
   thread_owned sh (Going (f ∷ fs) ls) a h s =
-      instructed_owned sh (f ∷ fs) ls (run_row t (maker_of t ls) sh (P.row (f ∷ fs))) h
-      (row_owns P (own_of (maker_of t ls)) t (maker_of t ls) (P.row (f ∷ fs)) sh
-      (lawful.finals (own_of (maker_of t ls)) (f ∷ fs) (owned_top P t (f ∷ fs) ls h))) a s
+      instructed_owned sh (f ∷ fs) ls (run_row t (maker_of t ls) sh (P.row f)) h
+      (row_owns P (own_of (maker_of t ls)) t (maker_of t ls) (P.row f) sh
+      (lawful.row any (own_of (maker_of t ls)) f (any-frame f) (owned_top P t (f ∷ fs) ls h).0)) a s
 
   -- ---- and so it stays
 

@@ -1,5 +1,7 @@
--- Two classes: the initializer of class 0 sets its static final to 6, and the main of class 1 prints it. Class 0 is accepted.
-use Rattle.std.proofs.Common.{◌≡◌, ◌↔◌, ℕ, zero, suc, pos, ◌==◌, true, false, List, [], ◌∷◌, replicate, Option, Some, None}
+-- Two classes: the initializer of class 0 sets its static final to 6, and the main of class 1 prints it. Class 0 is
+-- accepted.
+use Rattle.std.proofs.Common.{◌≡◌, ◌↔◌, ℕ, zero, suc, pos, ◌==◌, true, false, List, [], ◌∷◌, replicate, Option, Some}
+use Rattle.std.proofs.Common.{None}
 use Rattle.std.proofs.Common.{refl, sym, subst, eqb-true, arith}
 use Rattle.std.specs.Fmt.{digits}
 use Rattle.std.specs.List.{AllByRecursion, Contains}
@@ -10,7 +12,7 @@ use Rattle.vm_state.specs.SharedState.{Region, with_field}
 use Rattle.vm_state.specs.Operands.{pushed, top, rest}
 use Rattle.semantics.specs.Programs.{Program}
 use Rattle.semantics.specs.Quiet.{Environment}
-use Rattle.semantics.specs.Settling.{constant_region, Settles, Returns, GoesOn}
+use Rattle.semantics.specs.Settling.{constant_region, Settles, ByReturn, ByStep}
 use Rattle.semantics.specs.Steps.{step_thread}
 use Rattle.semantics.specs.Worlds.{Sight, Shows, lazy_start}
 use Rattle.semantics.specs.Acceptance.{Analysis, Accepted, Accepts}
@@ -39,6 +41,7 @@ initializer (suc n) = None
 
 abbrev code : Code
 code = record {
+  count = 2;
   body = body;
   room = λ m. 1;
   handler = λ m place class. None;
@@ -92,22 +95,21 @@ alone d = None
 
 pub region_settles : Settles program alone 0 3 region
 unfolding pushed top rest
-region_settles = GoesOn refl refl (GoesOn refl refl (Returns refl refl))
+region_settles = (None, ByStep refl refl (ByStep refl refl (ByReturn refl refl)))
 
 no_uses : (c : ℕ) → Contains [] c → ⊥
 no_uses c u = omega (arith, u.1)
 
 accepted : Accepted program analysis 0 region
-accepted = Accepts 0 region alone 3 refl (λ d u. absurd (no_uses d u)) (λ d r e. cc) (λ d r e. cc) region_settles (omega arith)
+accepted = Accepts 0 region alone 3 (omega arith) refl (λ d u. absurd (no_uses d u)) (λ d r e. cc) (λ d r e. cc) region_settles (omega arith)
 
 allowed : {c : ℕ} {r : Region} → Accepted program analysis c r → (c == 0) ≡ true
-allowed (Accepts c r env n may near lower all settled cheap) = may
+allowed (Accepts c r env n one may near lower all settled cheap) = may
 
 pub image_is_exact : IsExact program analysis image
 image_is_exact = record {
   sound = λ c h. (let same : c ≡ 0 = eqb-true c 0 h in subst (λ (d : ℕ). Accepted program analysis d region) (sym same) accepted);
   complete = λ c r a. allowed a;
-  bounded = (1, λ c h. (let same : c ≡ 0 = eqb-true c 0 h in omega arith));
 }
 
 -- ---- what is seen
@@ -116,8 +118,8 @@ image_is_exact = record {
 abbrev pub sight : Sight
 sight = record { printed = record { thread = 0; text = 54 ∷ 10 ∷ [] } ∷ []; threads = Returned ∷ [] }
 
--- Class 1 begins and is done, main is called, class 0 begins, its initializer begins and runs by 3 instructions, class 0 is done, and main
--- runs by 3 instructions.
+-- Class 1 begins and is done, main is called, class 0 begins, its initializer begins and runs by 3 instructions, class
+-- 0 is done, and main runs by 3 instructions.
 pub lazy_shows : Shows program (lazy_start program (1 ∷ [])) sight
 unfolding step_thread pushed top rest digits
 lazy_shows = shows_after program (replicate 12 0) (lazy_start program (1 ∷ [])) sight refl

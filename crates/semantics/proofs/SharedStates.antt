@@ -3,30 +3,31 @@ use Rattle.std.proofs.Common.{◌≡◌, ℕ, Bool, true, false, cond, inl, inr,
 use Rattle.vm_state.specs.declared.value.Maker.{Maker}
 use Rattle.vm_state.specs.declared.value.Maker.TheVariants.{Class, Thread}
 use Rattle.vm_state.specs.declared.classes.ClassState.TheVariants.{Done}
-use Rattle.vm_state.specs.SharedState.{Pool, Region, SharedState, pool_of, set_pool, set_region, class_at, slots_at}
+use Rattle.vm_state.specs.SharedState.{Pool, Region, SharedState, pool_of, set_pool, set_region, slots_at}
 use Rattle.semantics.specs.Quiet.{is_final}
 use Rattle.semantics.specs.Erasure.{is_hidden, IsErasedState}
 use Rattle.semantics.specs.Lawful.{Knows, KnowsSlots}
 use Rattle.semantics.proofs.Tests.{tested}
-use Rattle.semantics.proofs.Pools.{Holds}
+use Rattle.semantics.proofs.Pools.{Holds, shape_at}
 use Rattle.semantics.proofs.Visibility.{hidden_maker, known}
 use Rattle.semantics.proofs.Setting.{Setting}
 
 module _ (S : Setting) where
-  -- statics and objects hold known names; finals and the classes of objects of an accepted class that is done are its region's
+  -- statics and objects hold known names; finals, and the classes and lengths of objects, of an accepted class that is
+  -- done are its region's
   pub record IsSane (sh : SharedState) : Type 0 where
     pub statics : (c f : ℕ) → Knows (known S.I sh.states (Class c)) ((sh.regions c).fields f)
     pub objects : (m : Maker) → Holds (known S.I sh.states m) (pool_of sh m)
     pub finals : (c f : ℕ) → S.I.holds c ≡ true → sh.states c ≡ Done → is_final S.P c f ≡ true →
         (sh.regions c).fields f ≡ (S.I.region c).fields f
-    pub classes : (c k : ℕ) → S.I.holds c ≡ true → sh.states c ≡ Done → class_at (sh.regions c).pool k ≡ class_at (S.I.region c).pool k
+    pub classes : (c k : ℕ) → S.I.holds c ≡ true → sh.states c ≡ Done → shape_at (sh.regions c).pool k ≡ shape_at (S.I.region c).pool k
 
   -- ---- a region changes
 
   pub set_region-sane : (sh : SharedState) → IsSane sh → (c : ℕ) (r : Region) →
       ((f : ℕ) → Knows (known S.I sh.states (Class c)) (r.fields f)) → Holds (known S.I sh.states (Class c)) r.pool →
       ((f : ℕ) → S.I.holds c ≡ true → sh.states c ≡ Done → is_final S.P c f ≡ true → r.fields f ≡ (S.I.region c).fields f) →
-      ((k : ℕ) → S.I.holds c ≡ true → sh.states c ≡ Done → class_at r.pool k ≡ class_at (S.I.region c).pool k) →
+      ((k : ℕ) → S.I.holds c ≡ true → sh.states c ≡ Done → shape_at r.pool k ≡ shape_at (S.I.region c).pool k) →
       IsSane (set_region sh c r)
   set_region-sane sh sane c r kf kp ff fc = record {
     statics = λ d f. elim (tested (d == c)) [
@@ -61,10 +62,10 @@ module _ (S : Setting) where
 
   -- ---- some objects change
 
-  -- if they are those of an accepted class that is done, they keep their classes
+  -- if they are those of an accepted class that is done, they keep their shapes
   abbrev pub KeepsClasses : SharedState → Maker → Pool → Type 0
   KeepsClasses sh m p =
-      (c : ℕ) → m ≡ Class c → S.I.holds c ≡ true → sh.states c ≡ Done → (k : ℕ) → class_at p k ≡ class_at (pool_of sh m) k
+      (c : ℕ) → m ≡ Class c → S.I.holds c ≡ true → sh.states c ≡ Done → (k : ℕ) → shape_at p k ≡ shape_at (pool_of sh m) k
 
   pub set_pool-sane : (sh : SharedState) → IsSane sh → (m : Maker) (p : Pool) →
       Holds (known S.I sh.states m) p → KeepsClasses sh m p → IsSane (set_pool sh m p)

@@ -1,5 +1,6 @@
 -- The two starts: the invariant holds of the lazy one, and the image's is its erasure.
-use Rattle.std.proofs.Common.{◌≡◌, ℕ, zero, suc, ◌+◌, Bool, true, false, inl, inr, List, [], ◌∷◌, length, map, ◌==◌, if◌then◌else◌, refl}
+use Rattle.std.proofs.Common.{◌≡◌, ℕ, zero, suc, ◌+◌, Bool, true, false, inl, inr, List, [], ◌∷◌, length, map, ◌==◌}
+use Rattle.std.proofs.Common.{if◌then◌else◌, refl}
 use Rattle.std.proofs.Common.{ap, arith, get_or, nat_lt}
 use Rattle.vm_state.specs.declared.value.Maker.{Maker}
 use Rattle.vm_state.specs.declared.value.Maker.TheVariants as makers

@@ -4,13 +4,14 @@ use Rattle.vm_state.specs.declared.value.Maker.{Maker}
 use Rattle.vm_state.specs.declared.value.Maker.TheVariants.{Class, Thread}
 use Rattle.vm_state.specs.declared.classes.ClassState.{ClassState}
 use Rattle.vm_state.specs.declared.classes.ClassState.TheVariants.{Done}
-use Rattle.vm_state.specs.SharedState.{Region, SharedState, pool_of, set_state, class_at}
+use Rattle.vm_state.specs.SharedState.{Region, SharedState, pool_of, set_state}
 use Rattle.semantics.specs.Images.{Image}
 use Rattle.semantics.specs.Erasure.{is_done, is_hidden, IsErasedState}
 use Rattle.semantics.proofs.Tests.{tested}
 use Rattle.semantics.proofs.KnownNames.{Fewer, Knows-mono, KnowsSlots-mono}
 use Rattle.semantics.proofs.Pools.{Holds}
 use Rattle.semantics.proofs.Visibility.{shown, known, known-mono, hidden_other}
+use Rattle.semantics.proofs.Pools.{shape_at}
 use Rattle.semantics.proofs.Setting.{Setting}
 use Rattle.semantics.proofs.SharedStates
 
@@ -32,7 +33,7 @@ module _ (S : Setting) where
       | inl e ↦
           let same : d ≡ c = eqb-true d c e in
           let now : s ≡ Done = rw e at is_now in
-          rw same (ap (λ (r : Region). class_at r.pool k) (done (rw same at a) now))
+          rw same (ap (λ (r : Region). shape_at r.pool k) (done (rw same at a) now))
       | inr e ↦ sane.classes d k a (rw e at is_now)
     ];
   }

@@ -10,9 +10,7 @@ use Rattle.vm_state.specs.Values.{name_of}
 use Rattle.semantics.specs.Lawful.{Names, KnowsName, KnowsAll, KnowsFrame, HoldsNoName, IsPlain, IsLawful}
 use Rattle.semantics.proofs.ToyMachine.{Code, method_frame, initialized_by, needing, fails_by, toy}
 use Rattle.semantics.proofs.ToyParts.{Admits, needing_holds, choice_holds}
-use Rattle.semantics.proofs.ToyNames.{toy_row_keeps, unwinds_knows, fails_by_keeps}
-use Rattle.semantics.proofs.ToyFinals.{toy_row_respects, unwinds_owns, fails_by_respects}
-use Rattle.semantics.proofs.ToyCalls.{toy_row_once}
+use Rattle.semantics.proofs.ToyRows.{toy_row_keeps, fails_by_keeps}
 
 -- ---- what the code owes
 
@@ -56,17 +54,11 @@ module _ (p : Code) where
 
 pub toy_is_lawful : (p : Code) → IsSound p → IsLawful (toy p)
 toy_is_lawful p sound = record {
-  names = λ known fs h. toy_row_keeps known p (λ c. no_names known (p.slots c) (sound.slots c)) fs h;
-  names_failing = λ known c x hx. (hx, λ o. fails_by_keeps known p x o hx);
-  names_orphaned = λ known c. (tt, λ x hx. hx);
-  names_unwinding = λ known x class fs hx h. unwinds_knows known p x class fs hx h;
-  finals = λ own fs h. toy_row_respects p own fs h;
-  finals_failing = λ own c x o. fails_by_respects p own x o;
-  finals_orphaned = λ own c x. tt;
-  finals_unwinding = λ own x class fs h. unwinds_owns p own x class fs h;
+  row = λ known own f h ho. toy_row_keeps p known own (λ c. no_names known (p.slots c) (sound.slots c)) f h ho;
+  failing = λ known own c x hx. (hx, λ o. fails_by_keeps p known own x o hx);
+  orphaned = λ known own c. (tt, λ x hx. (hx, tt));
   plain_failing = λ c x o. failing_plain p x o;
   plain_orphaned = λ c x. tt;
-  calls_once = λ f fs. toy_row_once p f fs;
   initializer_names = λ known c f e. frame_knows p known (p.initializer c) f e;
   initializer_owner = λ c d f e h. frame_owner p sound c d f (p.initializer c) refl e h;
   start_names = λ known entry t h. ((h, tt), tt);

@@ -1,5 +1,7 @@
--- A small machine with an instruction for each kind of access. It is there to test that what is asked of a program can be met.
-use Rattle.std.specs.Prelude.{ℕ, ℤ, pos, negsuc, ◌+◌, ◌==◌, Bool, true, false, not, ◌||◌, if◌then◌else◌, List, [], ◌∷◌, ◌++◌, replicate}
+-- A small machine with an instruction for each kind of access. It is there to test that what is asked of a program can
+-- be met.
+use Rattle.std.specs.Prelude.{ℕ, ℤ, pos, negsuc, ◌+◌, ◌==◌, Bool, true, false, not, ◌||◌, if◌then◌else◌, List, [], ◌∷◌}
+use Rattle.std.specs.Prelude.{◌++◌, replicate}
 use Rattle.std.specs.Prelude.{Option, Some, None, option_map, slice_get}
 use Rattle.std.specs.Fmt.{signed_decimal}
 use Rattle.vm_state.specs.declared.value.Value.{Value}
@@ -18,11 +20,12 @@ use Rattle.vm_state.specs.declared.frame.Frame.{Frame}
 use Rattle.vm_state.specs.declared.frame.Activity.{Activity}
 use Rattle.vm_state.specs.declared.frame.Activity.TheVariants.{Start, Method}
 use Rattle.vm_state.specs.Values.{value_of}
-use Rattle.vm_state.specs.Operands.{OperandStack, all_places, pushed, top, top_int, rest}
+use Rattle.vm_state.specs.Operands.{OperandStack, pushed, top, top_int, rest}
 use Rattle.vm_state.specs.Locals.{held}
-use Rattle.semantics.specs.Rows.{Next, Raise, Halt, Row, Ends, UseClass, ReadStatic, WriteStatic}
-use Rattle.semantics.specs.Rows.{AskClass, LookInto, Change, Make, UseMonitor, Print}
-use Rattle.semantics.specs.Programs.{Unwinding, Caught, Escapes, Stopped, Program}
+use Rattle.semantics.specs.Rows.{Move, Stays, Becomes, Calls, Returns, Next, Raise, Halt}
+use Rattle.semantics.specs.Rows.{Row, Ends, UseClass, ReadStatic, WriteStatic}
+use Rattle.semantics.specs.Rows.{AskClass, Part, Slots, Length, LookInto, Change, Make, UseMonitor, Print}
+use Rattle.semantics.specs.Programs.{Program}
 use Rattle.semantics.specs.Quiet.{declared_final}
 
 -- ---- programs of the machine
@@ -37,6 +40,7 @@ pub data Instruction : Type 0 where
   NewArray : Instruction
   GetField : (slot : ℕ) → Instruction
   PutField : (slot : ℕ) → Instruction
+  ArrayLength : Instruction
   InvokeStatic : (class method : ℕ) → Instruction
   InvokeVirtual : (method : ℕ) → Instruction
   MonitorEnter : Instruction
@@ -44,8 +48,10 @@ pub data Instruction : Type 0 where
   Throw : Instruction
   PrintInt : Instruction
   Return : Instruction
+  ReturnTop : Instruction
 
 pub record Code : Type 0 where
+  pub count : ℕ
   -- the instructions of a method
   pub body : ℕ → List Instruction
   -- how many places the operand stacks of a method's frames have
@@ -86,9 +92,9 @@ abbrev pub with_class : ℕ → Row → Row
 with_class c row = UseClass c (λ usable. if usable then row else raises classes.NoClassDefFoundError)
 
 -- goes on behind the instruction with these operands, or is a fault where there was no room for one
-abbrev pub goes_on : Frame → List Frame → Option OperandStack → Row
-goes_on f fs None = halts Fault
-goes_on f fs (Some s) = Ends (Next (record f { place = f.place + 1; operands = s } ∷ fs))
+abbrev pub goes_on : Frame → Option OperandStack → Row
+goes_on f None = halts Fault
+goes_on f (Some s) = Ends (Next (Stays (f.place + 1) f.locals s))
 
 -- the object that an operand refers to
 abbrev pub on_object : Option Value → (Name → Row) → Row
@@ -101,9 +107,9 @@ on_object (Some (Long n)) go = halts Fault
 on_object (Some (Text s)) go = halts Unsupported
 on_object (Some Out) go = halts Unsupported
 
--- the value in a slot of an object
-abbrev pub in_slot : Name → ℕ → (Value → Row) → Row
-in_slot x i go = LookInto x (λ o. needing Fault o (λ slots. needing Fault (slice_get slots i) go))
+-- the value at a place of a part of an object
+abbrev pub in_slot : Name → Part → ℕ → (Value → Row) → Row
+in_slot x part i go = LookInto x part (λ o. needing Fault o (λ slots. needing Fault (slice_get slots i) go))
 
 -- a length that is not negative
 abbrev pub with_length : ℤ → (ℕ → Row) → Row
@@ -124,19 +130,13 @@ abbrev pub unless_initializer : Option ℕ → Row → Row
 unless_initializer None row = row
 unless_initializer (Some c) row = halts Fault
 
--- a call, on top of these frames
-abbrev pub enters : Code → ℕ → List (Option Value) → List Frame → Row
-enters p m locals fs = unless_initializer (p.initialized m) (Ends (Next (method_frame p locals m ∷ fs)))
+-- a method's frame takes its place, or stands on its caller's
+abbrev pub enters : Code → ℕ → List (Option Value) → (Frame → Move) → Row
+enters p m locals how = unless_initializer (p.initialized m) (Ends (Next (how (method_frame p locals m))))
 
 -- a call of the method that the class of an object selects, with the object in its first local variable
-abbrev pub calls : Code → ℕ → Frame → List Frame → Name → ClassId → Row
-calls p m f fs x class =
-    needing Missing (p.selected class m) (λ n. enters p n (Some (value_of x) ∷ []) (record f { operands = rest f.operands } ∷ fs))
-
--- the caller goes on behind its call
-abbrev pub returned_to : List Frame → List Frame
-returned_to [] = []
-returned_to (f ∷ fs) = record f { place = f.place + 1 } ∷ fs
+abbrev pub calls : Code → ℕ → Frame → Name → ClassId → Row
+calls p m f x class = needing Missing (p.selected class m) (λ n. enters p n (Some (value_of x) ∷ []) (Calls (rest f.operands)))
 
 -- ---- finals
 
@@ -153,74 +153,58 @@ may_write p activity c k = not (declared_final (slice_get (p.statics c) k)) || i
 abbrev pub int_array : ClassId
 int_array = ids.Array (record { dimensions = 1; element = elements.Int })
 
-abbrev pub instruction_row : Code → Instruction → Frame → List Frame → Row
-instruction_row p (PushInt n) f fs = goes_on f fs (pushed (Int n) f.operands)
-instruction_row p (Load i) f fs = needing Fault (held (slice_get f.locals i)) (λ v. goes_on f fs (pushed v f.operands))
-instruction_row p (GetStatic c k) f fs = with_class c (ReadStatic c k (λ v. goes_on f fs (pushed v f.operands)))
-instruction_row p (PutStatic c k) f fs =
+abbrev pub instruction_row : Code → Instruction → Frame → Row
+instruction_row p (PushInt n) f = goes_on f (pushed (Int n) f.operands)
+instruction_row p (Load i) f = needing Fault (held (slice_get f.locals i)) (λ v. goes_on f (pushed v f.operands))
+instruction_row p (GetStatic c k) f = with_class c (ReadStatic c k (λ v. goes_on f (pushed v f.operands)))
+instruction_row p (PutStatic c k) f =
     if may_write p f.activity c k
-    then with_class c (needing Fault (top f.operands) (λ v. WriteStatic c k v (goes_on f fs (Some (rest f.operands)))))
+    then with_class c (needing Fault (top f.operands) (λ v. WriteStatic c k v (goes_on f (Some (rest f.operands)))))
     else halts Fault
-instruction_row p (New c) f fs = with_class c (Make (ids.Given c) (p.slots c) (λ x. goes_on f fs (pushed (value_of x) f.operands)))
-instruction_row p NewArray f fs =
+instruction_row p (New c) f = with_class c (Make (ids.Given c) (p.slots c) (λ x. goes_on f (pushed (value_of x) f.operands)))
+instruction_row p NewArray f =
     needing Fault (top_int f.operands) (λ n. with_length n (λ count.
-    Make int_array (replicate count (Int (pos 0))) (λ x. goes_on f fs (pushed (value_of x) (rest f.operands)))))
-instruction_row p (GetField i) f fs = on_object (top f.operands) (λ x. in_slot x i (λ v. goes_on f fs (pushed v (rest f.operands))))
-instruction_row p (PutField i) f fs =
-    needing Fault (top f.operands) (λ v. on_object (top (rest f.operands)) (λ x. in_slot x i (λ old.
-    Change x i v (goes_on f fs (Some (rest (rest f.operands)))))))
-instruction_row p (InvokeStatic c m) f fs = with_class c (enters p m [] (f ∷ fs))
-instruction_row p (InvokeVirtual m) f fs = on_object (top f.operands) (λ x. AskClass x (λ o. needing Fault o (calls p m f fs x)))
-instruction_row p MonitorEnter f fs =
-    on_object (top f.operands) (λ x. UseMonitor x true (λ done. if done then goes_on f fs (Some (rest f.operands)) else halts Unsupported))
-instruction_row p MonitorExit f fs =
+    Make int_array (replicate count (Int (pos 0))) (λ x. goes_on f (pushed (value_of x) (rest f.operands)))))
+instruction_row p (GetField i) f = on_object (top f.operands) (λ x. in_slot x Slots i (λ v. goes_on f (pushed v (rest f.operands))))
+instruction_row p (PutField i) f =
+    needing Fault (top f.operands) (λ v. on_object (top (rest f.operands)) (λ x. in_slot x Slots i (λ old.
+    Change x i v (goes_on f (Some (rest (rest f.operands)))))))
+instruction_row p ArrayLength f = on_object (top f.operands) (λ x. in_slot x Length 0 (λ v. goes_on f (pushed v (rest f.operands))))
+instruction_row p (InvokeStatic c m) f = with_class c (enters p m [] (Calls f.operands))
+instruction_row p (InvokeVirtual m) f = on_object (top f.operands) (λ x. AskClass x (λ o. needing Fault o (calls p m f x)))
+instruction_row p MonitorEnter f =
+    on_object (top f.operands) (λ x. UseMonitor x true (λ done. if done then goes_on f (Some (rest f.operands)) else halts Unsupported))
+instruction_row p MonitorExit f =
     on_object (top f.operands) (λ x. UseMonitor x false (λ done.
-    if done then goes_on f fs (Some (rest f.operands)) else raises classes.IllegalMonitorStateException))
-instruction_row p Throw f fs = on_object (top f.operands) (λ x. AskClass x (λ o. needing Fault o (λ class. Ends (Raise x class))))
-instruction_row p PrintInt f fs =
-    needing Fault (top_int f.operands) (λ n. Print (signed_decimal n ++ 10 ∷ []) (goes_on f fs (Some (rest f.operands))))
-instruction_row p Return f fs = Ends (Next (returned_to fs))
+    if done then goes_on f (Some (rest f.operands)) else raises classes.IllegalMonitorStateException))
+instruction_row p Throw f = on_object (top f.operands) (λ x. AskClass x (λ o. needing Fault o (λ class. Ends (Raise x class))))
+instruction_row p PrintInt f =
+    needing Fault (top_int f.operands) (λ n. Print (signed_decimal n ++ 10 ∷ []) (goes_on f (Some (rest f.operands))))
+instruction_row p Return f = Ends (Next (Returns None))
+instruction_row p ReturnTop f = needing Fault (top f.operands) (λ v. Ends (Next (Returns (Some v))))
 
 -- ---- a thread's first frame, which `main` takes the place of
 
 abbrev pub start_frame : ℕ → ℕ → Frame
 start_frame c t = record { activity = Start c; place = 0; locals = []; operands = record { free = 0; values = OfThread t 0 ∷ [] } }
 
-abbrev pub start_row : Code → ℕ → Frame → List Frame → Row
-start_row p c f fs = with_class c (needing Missing (p.main c) (λ m. needing Fault (top f.operands) (λ v. enters p m (Some v ∷ []) fs)))
+abbrev pub start_row : Code → ℕ → Frame → Row
+start_row p c f = with_class c (needing Missing (p.main c) (λ m. needing Fault (top f.operands) (λ v. enters p m (Some v ∷ []) Becomes)))
 
--- ---- the row of a thread's frames
+-- ---- the row of a frame
 
-abbrev pub active_row : Code → Activity → Frame → List Frame → Row
-active_row p (Start c) f fs = start_row p c f fs
-active_row p (Method c m) f fs = needing Fault (slice_get (p.body m) f.place) (λ i. instruction_row p i f fs)
+abbrev pub active_row : Code → Activity → Frame → Row
+active_row p (Start c) f = start_row p c f
+active_row p (Method c m) f = needing Fault (slice_get (p.body m) f.place) (λ i. instruction_row p i f)
 
-abbrev pub toy_row : Code → List Frame → Row
-toy_row p [] = halts Fault
-toy_row p (f ∷ fs) = active_row p f.activity f fs
+abbrev pub toy_row : Code → Frame → Row
+toy_row p f = active_row p f.activity f
 
 -- ---- exceptions
 
 abbrev pub handler_in : Code → Activity → ℕ → ClassId → Option ℕ
 handler_in p (Start c) place class = None
 handler_in p (Method c m) place class = p.handler m place class
-
--- no operands, in all the room that there is
-abbrev pub emptied : OperandStack → OperandStack
-emptied s = record { free = s.free + all_places s.values; values = [] }
-
-abbrev pub handled : ℕ → Frame → List Frame → Option OperandStack → Unwinding
-handled place f fs None = Stopped Fault
-handled place f fs (Some s) = Caught (record f { place = place; operands = s } ∷ fs)
-
-abbrev pub taken : Option ℕ → Name → Frame → List Frame → Unwinding → Unwinding
-taken None x f fs outer = outer
-taken (Some place) x f fs outer = handled place f fs (pushed (value_of x) (emptied f.operands))
-
--- to the first frame that has a handler, where the exception is the only operand
-abbrev pub unwinds : Code → Name → ClassId → List Frame → Unwinding
-unwinds p x class [] = Escapes
-unwinds p x class (f ∷ fs) = taken (handler_in p f.activity f.place class) x f fs (unwinds p x class fs)
 
 -- an exception that is no Error gets wrapped
 abbrev pub fails_by : Code → Name → ClassId → Row
@@ -234,13 +218,14 @@ fails_by p x class =
 
 abbrev pub toy : Code → Program
 toy p = record {
+  count = p.count;
   row = toy_row p;
-  unwinding = unwinds p;
+  handler = handler_in p;
   failing = λ c x. AskClass x (λ o. needing Fault o (fails_by p x));
   orphaned = λ c. raises classes.NoClassDefFoundError;
   initializer = λ c. option_map (method_frame p []) (p.initializer c);
   parents = p.parents;
   statics = p.statics;
-  initializes = λ f. initialized_by p f.activity;
+  initializes = initialized_by p;
   start = start_frame;
 }

@@ -1,5 +1,7 @@
--- A turn of a thread in a lazy world and in its erasure: both step alike, or the lazy world alone steps, with less fuel left, or it waits.
-use Rattle.std.proofs.Common.{◌≡◌, ℕ, ◌<◌, true, false, ◌⊎◌, inl, inr, List, Some, None, ◌==◌, refl, sym, ap, ◌∙◌, eqb-true, eq-eqb}
+-- A turn of a thread in a lazy world and in its erasure: both step alike, or the lazy world alone steps, with less fuel
+-- left, or it waits.
+use Rattle.std.proofs.Common.{◌≡◌, ℕ, ◌<◌, true, false, ◌⊎◌, inl, inr, List, Some, None, ◌==◌, refl, sym, ap, ◌∙◌}
+use Rattle.std.proofs.Common.{eqb-true, eq-eqb}
 use Rattle.vm_state.specs.declared.classes.ClassState.TheVariants.{Not, By}
 use Rattle.vm_state.specs.declared.frame.Frame.{Frame}
 use Rattle.vm_state.specs.declared.initialization.Level.{Level}

@@ -1,4 +1,5 @@
--- Which names are known where, in a lazy world: those of hidden classes' objects are known to the classes themselves alone.
+-- Which names are known where, in a lazy world: those of hidden classes' objects are known to the classes themselves
+-- alone.
 use Rattle.std.proofs.Common.{◌≡◌, ℕ, Bool, true, false, not, ◌||◌, inl, inr, refl}
 use Rattle.vm_state.specs.declared.value.Name.{Name}
 use Rattle.vm_state.specs.declared.value.Maker.{Maker}

@@ -1,21 +1,20 @@
 -- A step on a stack without accepted classes: what it leaves, and what it changes.
 use Rattle.std.proofs.Common.{◌≡◌, ℕ, true, false, inl, inr, List, [], ◌∷◌, ◌==◌, refl, sym, ap, ◌∙◌, subst, eqb-true}
-use Rattle.vm_state.specs.declared.value.Name.{Name}
-use Rattle.vm_state.specs.declared.class_id.ClassId.{ClassId}
 use Rattle.vm_state.specs.declared.classes.ClassState.{ClassState}
 use Rattle.vm_state.specs.declared.classes.ClassState.TheVariants.{Not, By}
 use Rattle.vm_state.specs.declared.frame.Frame.{Frame}
 use Rattle.vm_state.specs.declared.initialization.Level.{Level}
 use Rattle.vm_state.specs.SharedState.{SharedState, set_state}
-use Rattle.semantics.specs.Rows.{Outcome, Next, Raise, Halt, Result}
-use Rattle.semantics.specs.Programs.{Unwinding, Caught, Escapes, Stopped}
-use Rattle.semantics.specs.Steps.{Thread, Going, standing, unwound, left_by}
+use Rattle.semantics.specs.Rows.{Outcome, Result}
+use Rattle.semantics.specs.Moves.{Left, Stand, Throw, Stop, unwound}
+use Rattle.semantics.specs.Steps.{Thread, Going, standing, settled, going_on}
 use Rattle.semantics.specs.Worlds.{World}
 use Rattle.semantics.specs.Erasure.{cut_thread}
-use Rattle.semantics.specs.Lawful.{KnowsName, KnowsFrames, KnowsOutcome, KnowsUnwinding}
+use Rattle.semantics.specs.Lawful.{KnowsName, KnowsFrames}
 use Rattle.semantics.proofs.Tests.{tested}
 use Rattle.semantics.proofs.KnownNames.{Fewer, KnowsName-mono}
 use Rattle.semantics.proofs.Visibility.{States, shown, hidden_by, hidden_not, shown_from}
+use Rattle.semantics.proofs.FrameMoves.{KnowsLeft, unwound_known}
 use Rattle.semantics.proofs.Setting.{Setting}
 use Rattle.semantics.proofs.AgreeingRows
 use Rattle.semantics.proofs.StateChanges
@@ -66,21 +65,20 @@ module _ (S : Setting) where
   standing_foot sh fuel t [] (l ∷ ls) h k = Invariant.Plain h.0 k h.1 h.2 h.3
   standing_foot sh fuel t (f ∷ fs) (l ∷ ls) h k = Invariant.Plain h.0 k h.1 h.2 h.3
 
-  unwound_foot : (sh : SharedState) (fuel : Fuel) (t : ℕ) (x : Name) (class : ClassId) (ls : List Level) → Foot sh fuel t ls →
-      shown S.I sh.states x ≡ true → (u : Unwinding) → KnowsUnwinding (shown S.I sh.states) u →
-      Invariant.StandsAt S sh fuel t (unwound u x class ls)
-  unwound_foot sh fuel t x class ls h kx (Caught fs) k = standing_foot sh fuel t fs ls h k
-  unwound_foot sh fuel t x class [] h kx Escapes k = tt
-  unwound_foot sh fuel t x class (l ∷ ls) h kx Escapes k = Invariant.Plain h.0 tt kx h.2 h.3
-  unwound_foot sh fuel t x class ls h kx (Stopped kind) k = tt
+  settled_foot : (sh : SharedState) (fuel : Fuel) (t : ℕ) (left : Left) (ls : List Level) → Foot sh fuel t ls →
+      KnowsLeft (shown S.I sh.states) left → Invariant.StandsAt S sh fuel t (settled left ls)
+  settled_foot sh fuel t (Stand fs) ls h k = standing_foot sh fuel t fs ls h k
+  settled_foot sh fuel t (Throw x class) [] h k = tt
+  settled_foot sh fuel t (Throw x class) (l ∷ ls) h k = Invariant.Plain h.0 tt k h.2 h.3
+  settled_foot sh fuel t (Stop kind) ls h k = tt
 
-  pub left_foot : (sh : SharedState) (fuel : Fuel) (t : ℕ) (outcome : Outcome) (fs : List Frame) (ls : List Level) → Foot sh fuel t ls →
-      KnowsFrames (shown S.I sh.states) fs → KnowsOutcome (shown S.I sh.states) outcome →
-      Invariant.StandsAt S sh fuel t (left_by S.P outcome fs ls)
-  left_foot sh fuel t (Next new) fs ls h kf k = standing_foot sh fuel t new ls h k
-  left_foot sh fuel t (Raise x class) fs ls h kf k =
-      unwound_foot sh fuel t x class ls h k (S.P.unwinding x class fs) (S.lawful.names_unwinding (shown S.I sh.states) x class fs k kf)
-  left_foot sh fuel t (Halt kind) fs ls h kf k = tt
+  pub left_foot : (sh : SharedState) (fuel : Fuel) (t : ℕ) (left : Left) (fs : List Frame) (ls : List Level) → Foot sh fuel t ls →
+      KnowsFrames (shown S.I sh.states) fs → KnowsLeft (shown S.I sh.states) left →
+      Invariant.StandsAt S sh fuel t (going_on S.P left fs ls)
+  left_foot sh fuel t (Stand new) fs ls h kf k = standing_foot sh fuel t new ls h k
+  left_foot sh fuel t (Throw x class) fs ls h kf k =
+      settled_foot sh fuel t (unwound S.P x class fs) ls h (unwound_known (shown S.I sh.states) S.P x class fs k kf)
+  left_foot sh fuel t (Stop kind) fs ls h kf k = tt
 
   cut_standing : (fs : List Frame) (ls : List Level) → NoneAccepted S.I ls → cut_thread S.I (standing fs ls) ≡ standing fs ls
   cut_standing [] [] none = refl
@@ -88,19 +86,18 @@ module _ (S : Setting) where
   cut_standing [] (l ∷ ls) none = cut_none S.I [] (l ∷ ls) none
   cut_standing (f ∷ fs) (l ∷ ls) none = cut_none S.I (f ∷ fs) (l ∷ ls) none
 
-  cut_unwound : (x : Name) (class : ClassId) (ls : List Level) → NoneAccepted S.I ls → (u : Unwinding) →
-      cut_thread S.I (unwound u x class ls) ≡ unwound u x class ls
-  cut_unwound x class ls none (Caught fs) = cut_standing fs ls none
-  cut_unwound x class [] none Escapes = refl
-  cut_unwound x class (l ∷ ls) none Escapes = cut_none S.I [] _ (λ c on. none c on)
-  cut_unwound x class ls none (Stopped kind) = refl
+  cut_settled : (left : Left) (ls : List Level) → NoneAccepted S.I ls → cut_thread S.I (settled left ls) ≡ settled left ls
+  cut_settled (Stand fs) ls none = cut_standing fs ls none
+  cut_settled (Throw x class) [] none = refl
+  cut_settled (Throw x class) (l ∷ ls) none = cut_none S.I [] _ (λ c on. none c on)
+  cut_settled (Stop kind) ls none = refl
 
   -- nothing of it is erased
-  pub cut_left : (outcome : Outcome) (fs : List Frame) (ls : List Level) → NoneAccepted S.I ls →
-      cut_thread S.I (left_by S.P outcome fs ls) ≡ left_by S.P outcome fs ls
-  cut_left (Next new) fs ls none = cut_standing new ls none
-  cut_left (Raise x class) fs ls none = cut_unwound x class ls none (S.P.unwinding x class fs)
-  cut_left (Halt kind) fs ls none = refl
+  pub cut_left : (left : Left) (fs : List Frame) (ls : List Level) → NoneAccepted S.I ls →
+      cut_thread S.I (going_on S.P left fs ls) ≡ going_on S.P left fs ls
+  cut_left (Stand new) fs ls none = cut_standing new ls none
+  cut_left (Throw x class) fs ls none = cut_settled (unwound S.P x class fs) ls none
+  cut_left (Stop kind) fs ls none = refl
 
   -- ---- what a row changes
 

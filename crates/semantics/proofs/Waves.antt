@@ -39,7 +39,7 @@ use_lower {uses = uses} {d = d} is lower (Over c wave below) = rw (wave_once low
 
 -- an accepted class has a wave: it uses nothing, or its uses are of lower waves
 pub accepted_wave : (P : Program) (A : Analysis) (c : ℕ) (r : Region) → Accepted P A c r → (n : ℕ) × IsWave A.uses c n
-accepted_wave P A c r (Accepts d region env n allowed some lower known settles within) = by_uses (A.uses c) refl
+accepted_wave P A c r (Accepts d region env n one allowed some lower known settles within) = by_uses (A.uses c) refl
   where
     by_uses : (cs : List ℕ) → A.uses c ≡ cs → (n : ℕ) × IsWave A.uses c n
     by_uses [] none = (_, Over c (λ d. 0) (λ d is. absurd (Contains-nil d (rw none at is))))

@@ -1,5 +1,6 @@
 -- Whole runs: a lazy one leads where one from the image leads, and conversely.
-use Rattle.std.proofs.Common.{◌≡◌, ◌≢◌, ℕ, zero, suc, ◌<◌, true, false, inl, inr, List, [], ◌∷◌, ◌++◌, map, Some, None, refl, sym, ap}
+use Rattle.std.proofs.Common.{◌≡◌, ◌≢◌, ℕ, zero, suc, ◌<◌, true, false, inl, inr, List, [], ◌∷◌, ◌++◌, map, Some, None}
+use Rattle.std.proofs.Common.{refl, sym, ap}
 use Rattle.std.proofs.Common.{◌∙◌, subst, eq-eqb, arith}
 use Rattle.vm_state.specs.declared.classes.ClassState.TheVariants.{Not, By}
 use Rattle.vm_state.specs.declared.ends.Ending.{Ending}

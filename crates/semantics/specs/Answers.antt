@@ -1,4 +1,5 @@
--- An instruction's outcome, and what it changes, depend on its frames, which make its row, and on the answers of its accesses alone.
+-- An instruction's outcome, and what it changes, depend on its frame, which makes its row, and on the answers of its
+-- accesses alone.
 use Rattle.std.specs.Prelude.{◌≡◌, ℕ, Bool, true, false, List, [], ◌∷◌, Option}
 use Rattle.vm_state.specs.declared.value.Value.{Value}
 use Rattle.vm_state.specs.declared.value.Maker.{Maker}
@@ -9,10 +10,11 @@ use Rattle.vm_state.specs.declared.object.Monitor.{Monitor}
 use Rattle.vm_state.specs.declared.classes.Usability.{Usability}
 use Rattle.vm_state.specs.declared.classes.Usability.TheVariants.{Ready, Fresh, Busy, Broken}
 use Rattle.vm_state.specs.Statics.{usable}
-use Rattle.vm_state.specs.SharedState.{SharedState, pool_of, set_pool, set_region, with_field, with_slot, with_new, with_line, class_at}
-use Rattle.vm_state.specs.SharedState.{slots_at}
+use Rattle.vm_state.specs.SharedState.{SharedState, pool_of, set_pool, set_region, with_field, with_slot, with_new}
+use Rattle.vm_state.specs.SharedState.{with_line, class_at}
 use Rattle.semantics.specs.Rows as rows
-use Rattle.semantics.specs.Rows.{Row, Outcome, Halt, Result, Lock, Blocked, Answered, lock_monitor, monitor_of, with_monitor, run_row}
+use Rattle.semantics.specs.Rows.{Row, Outcome, Halt, Result, Lock, Blocked, Answered, lock_monitor, monitor_of}
+use Rattle.semantics.specs.Rows.{with_monitor, part_at, run_row}
 
 -- ---- what a row is told, and what it does
 
@@ -65,9 +67,10 @@ abbrev pub told : Row → List Answer → Tale
 told (rows.Ends outcome) more = Ends outcome []
 told (rows.UseClass c next) (Finds u ∷ more) = by_state u c (told (next true) more) (told (next false) more)
 told (rows.ReadStatic c f next) (Finds u ∷ Reads v ∷ more) = by_state u c (told (next v) more) (Ends (Halt Fault) [])
-told (rows.WriteStatic c f v next) (Finds u ∷ more) = by_state u c (after (Writes c f v) (told next more)) (Ends (Halt Fault) [])
+told (rows.WriteStatic c f v next) (Finds u ∷ more) =
+    by_state u c (after (Writes c f v) (told next more)) (Ends (Halt Fault) [])
 told (rows.AskClass x next) (IsOf o ∷ more) = told (next o) more
-told (rows.LookInto x next) (Sees o ∷ more) = told (next o) more
+told (rows.LookInto x part next) (Sees o ∷ more) = told (next o) more
 told (rows.Change x i v next) more = after (Changes x i v) (told next more)
 told (rows.Make class slots next) (Names x ∷ more) = after (Makes class slots) (told (next x) more)
 told (rows.UseMonitor x enter next) (Locks l ∷ more) = by_lock l (λ done m. after (Sets x m) (told (next done) more))
@@ -108,19 +111,23 @@ on_answer (Answered done monitor) go = go done monitor
 abbrev pub answers : ℕ → Maker → SharedState → Row → List Answer
 answers t maker sh (rows.Ends outcome) = []
 answers t maker sh (rows.UseClass c next) =
-    Finds (usable t (sh.states c)) ∷ on_state (usable t (sh.states c)) (answers t maker sh (next true)) (answers t maker sh (next false))
+    Finds (usable t (sh.states c))
+    ∷ on_state (usable t (sh.states c)) (answers t maker sh (next true)) (answers t maker sh (next false))
 answers t maker sh (rows.ReadStatic c f next) =
-    Finds (usable t (sh.states c)) ∷ Reads ((sh.regions c).fields f) ∷ answers t maker sh (next ((sh.regions c).fields f))
+    Finds (usable t (sh.states c)) ∷ Reads ((sh.regions c).fields f)
+    ∷ answers t maker sh (next ((sh.regions c).fields f))
 answers t maker sh (rows.WriteStatic c f v next) =
     Finds (usable t (sh.states c)) ∷ answers t maker (deed_done t maker sh (Writes c f v)) next
 answers t maker sh (rows.AskClass x next) =
     IsOf (class_at (pool_of sh x.maker) x.number) ∷ answers t maker sh (next (class_at (pool_of sh x.maker) x.number))
-answers t maker sh (rows.LookInto x next) =
-    Sees (slots_at (pool_of sh x.maker) x.number) ∷ answers t maker sh (next (slots_at (pool_of sh x.maker) x.number))
+answers t maker sh (rows.LookInto x part next) =
+    Sees (part_at part (pool_of sh x.maker) x.number)
+    ∷ answers t maker sh (next (part_at part (pool_of sh x.maker) x.number))
 answers t maker sh (rows.Change x i v next) = answers t maker (deed_done t maker sh (Changes x i v)) next
 answers t maker sh (rows.Make class slots next) =
     Names (record { maker = maker; number = (pool_of sh maker).count })
-    ∷ answers t maker (deed_done t maker sh (Makes class slots)) (next (record { maker = maker; number = (pool_of sh maker).count }))
+    ∷ answers t maker (deed_done t maker sh (Makes class slots))
+    (next (record { maker = maker; number = (pool_of sh maker).count }))
 answers t maker sh (rows.UseMonitor x enter next) =
     Locks (lock_monitor t enter (monitor_of ((pool_of sh x.maker).at x.number)))
     ∷ on_answer (lock_monitor t enter (monitor_of ((pool_of sh x.maker).at x.number)))

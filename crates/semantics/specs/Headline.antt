@@ -1,4 +1,5 @@
--- The two claims: what a run from an image shows under some schedule, the lazy procedure shows under some schedule, and conversely.
+-- The two claims: what a run from an image shows under some schedule, the lazy procedure shows under some schedule,
+-- and conversely.
 use Rattle.std.specs.Prelude.{ℕ, List}
 use Rattle.semantics.specs.Programs.{Program}
 use Rattle.semantics.specs.Worlds.{Sight, Shows, lazy_start}

@@ -1,5 +1,6 @@
--- What the machine owes: no instruction makes up a name, writes a final that it may not write, or makes a frame that it may not make.
-use Rattle.std.specs.Prelude.{◌≡◌, ◌≢◌, ◌⊎◌, ℕ, suc, Bool, true, List, ◌∷◌, length, Option, Some, None}
+-- What the machine owes: no instruction makes up a name, writes a final that it may not write, or makes a frame that
+-- it may not make.
+use Rattle.std.specs.Prelude.{◌≡◌, ◌≢◌, ℕ, Bool, true, List, Option, Some, None}
 use Rattle.std.specs.List.{AllByRecursion}
 use Rattle.vm_state.specs.declared.value.Value.{Value}
 use Rattle.vm_state.specs.declared.value.Name.{Name}
@@ -8,9 +9,10 @@ use Rattle.vm_state.specs.declared.class_id.ClassId.{ClassId}
 use Rattle.vm_state.specs.declared.classes.StaticField.{StaticField}
 use Rattle.vm_state.specs.declared.frame.Frame.{Frame}
 use Rattle.vm_state.specs.Values.{name_of}
-use Rattle.semantics.specs.Rows.{Outcome, Next, Raise, Halt, Row, Ends, UseClass, ReadStatic, WriteStatic, AskClass, LookInto, Change}
+use Rattle.semantics.specs.Rows.{Move, Stays, Becomes, Calls, Returns, Outcome, Next, Raise, Halt, Row, Ends}
+use Rattle.semantics.specs.Rows.{UseClass, ReadStatic, WriteStatic, AskClass, LookInto, Change}
 use Rattle.semantics.specs.Rows.{Make, UseMonitor, Print}
-use Rattle.semantics.specs.Programs.{Unwinding, Caught, Escapes, Stopped, Program}
+use Rattle.semantics.specs.Programs.{Program}
 use Rattle.semantics.specs.Quiet.{is_final}
 
 -- A test of names: those that are known somewhere.
@@ -43,60 +45,52 @@ KnowsFrame known f = KnowsAll known f.operands.values × AllByRecursion (KnowsSo
 abbrev pub KnowsFrames : Names → List Frame → Type 0
 KnowsFrames known fs = AllByRecursion (KnowsFrame known) fs
 
+abbrev pub KnowsMove : Names → Move → Type 0
+KnowsMove known (Stays place locals operands) = KnowsAll known operands.values × AllByRecursion (KnowsSome known) locals
+KnowsMove known (Becomes frame) = KnowsFrame known frame
+KnowsMove known (Calls operands callee) = KnowsAll known operands.values × KnowsFrame known callee
+KnowsMove known (Returns value) = KnowsSome known value
+
 abbrev pub KnowsOutcome : Names → Outcome → Type 0
-KnowsOutcome known (Next frames) = KnowsFrames known frames
+KnowsOutcome known (Next move) = KnowsMove known move
 KnowsOutcome known (Raise x class) = known x ≡ true
 KnowsOutcome known (Halt kind) = Unit {0}
 
-abbrev pub KnowsUnwinding : Names → Unwinding → Type 0
-KnowsUnwinding known (Caught frames) = KnowsFrames known frames
-KnowsUnwinding known Escapes = Unit {0}
-KnowsUnwinding known (Stopped kind) = Unit {0}
-
--- A row asks for names alone that it was given, and writes and leaves only such.
-abbrev pub KeepsTo : Names → Row → Type 0
-KeepsTo known (Ends outcome) = KnowsOutcome known outcome
-KeepsTo known (UseClass c next) = (b : Bool) → KeepsTo known (next b)
-KeepsTo known (ReadStatic c f next) = (v : Value) → Knows known v → KeepsTo known (next v)
-KeepsTo known (WriteStatic c f v next) = Knows known v × KeepsTo known next
-KeepsTo known (AskClass x next) = (known x ≡ true) × ((o : Option ClassId) → KeepsTo known (next o))
-KeepsTo known (LookInto x next) = (known x ≡ true) × ((o : Option (List Value)) → KnowsSlots known o → KeepsTo known (next o))
-KeepsTo known (Change x i v next) = (known x ≡ true) × Knows known v × KeepsTo known next
-KeepsTo known (Make class slots next) = KnowsAll known slots × ((x : Name) → known x ≡ true → KeepsTo known (next x))
-KeepsTo known (UseMonitor x enter next) = (known x ≡ true) × ((b : Bool) → KeepsTo known (next b))
-KeepsTo known (Print text next) = KeepsTo known next
-
 -- ---- finals, and the frames of initializers
 
--- the initializers whose frames stand here are those of classes that `own` has
+-- a frame that is no initializer's, or that of a class that `own` has
 abbrev pub OwnsFrame : Program → (ℕ → Bool) → Frame → Type 0
-OwnsFrame P own f = (c : ℕ) → P.initializes f ≡ Some c → own c ≡ true
+OwnsFrame P own f = (c : ℕ) → P.initializes f.activity ≡ Some c → own c ≡ true
 
 abbrev pub Owns : Program → (ℕ → Bool) → List Frame → Type 0
 Owns P own fs = AllByRecursion (OwnsFrame P own) fs
 
 abbrev pub OwnsOutcome : Program → (ℕ → Bool) → Outcome → Type 0
-OwnsOutcome P own (Next frames) = Owns P own frames
+OwnsOutcome P own (Next (Stays place locals operands)) = Unit {0}
+OwnsOutcome P own (Next (Becomes frame)) = OwnsFrame P own frame
+OwnsOutcome P own (Next (Calls operands callee)) = OwnsFrame P own callee
+OwnsOutcome P own (Next (Returns value)) = Unit {0}
 OwnsOutcome P own (Raise x class) = Unit {0}
 OwnsOutcome P own (Halt kind) = Unit {0}
 
-abbrev pub OwnsUnwinding : Program → (ℕ → Bool) → Unwinding → Type 0
-OwnsUnwinding P own (Caught frames) = Owns P own frames
-OwnsUnwinding P own Escapes = Unit {0}
-OwnsUnwinding P own (Stopped kind) = Unit {0}
+-- ---- what a row may do
 
--- A row writes a static final of such a class alone (JVMS 6.5, putstatic), and makes no frame of another's initializer (JVMS 2.9).
-abbrev pub Respects : Program → (ℕ → Bool) → Row → Type 0
-Respects P own (Ends outcome) = OwnsOutcome P own outcome
-Respects P own (UseClass c next) = (b : Bool) → Respects P own (next b)
-Respects P own (ReadStatic c f next) = (v : Value) → Respects P own (next v)
-Respects P own (WriteStatic c f v next) = (is_final P c f ≡ true → own c ≡ true) × Respects P own next
-Respects P own (AskClass x next) = (o : Option ClassId) → Respects P own (next o)
-Respects P own (LookInto x next) = (o : Option (List Value)) → Respects P own (next o)
-Respects P own (Change x i v next) = Respects P own next
-Respects P own (Make class slots next) = (x : Name) → Respects P own (next x)
-Respects P own (UseMonitor x enter next) = (b : Bool) → Respects P own (next b)
-Respects P own (Print text next) = Respects P own next
+-- A row asks for names alone that it was given, and writes and leaves only such. It writes a static final of a class
+-- alone that `own` has (JVMS 6.5, putstatic), and makes no frame of another's initializer (JVMS 2.9).
+abbrev pub Fits : Program → Names → (ℕ → Bool) → Row → Type 0
+Fits P known own (Ends outcome) = KnowsOutcome known outcome × OwnsOutcome P own outcome
+Fits P known own (UseClass c next) = (b : Bool) → Fits P known own (next b)
+Fits P known own (ReadStatic c f next) = (v : Value) → Knows known v → Fits P known own (next v)
+Fits P known own (WriteStatic c f v next) =
+    Knows known v × (is_final P c f ≡ true → own c ≡ true) × Fits P known own next
+Fits P known own (AskClass x next) = (known x ≡ true) × ((o : Option ClassId) → Fits P known own (next o))
+Fits P known own (LookInto x part next) =
+    (known x ≡ true) × ((o : Option (List Value)) → KnowsSlots known o → Fits P known own (next o))
+Fits P known own (Change x i v next) = (known x ≡ true) × Knows known v × Fits P known own next
+Fits P known own (Make class slots next) =
+    KnowsAll known slots × ((x : Name) → known x ≡ true → Fits P known own (next x))
+Fits P known own (UseMonitor x enter next) = (known x ≡ true) × ((b : Bool) → Fits P known own (next b))
+Fits P known own (Print text next) = Fits P known own next
 
 -- ---- other forms of rows
 
@@ -107,31 +101,11 @@ IsPlain (UseClass c next) = ⊥
 IsPlain (ReadStatic c f next) = ⊥
 IsPlain (WriteStatic c f v next) = ⊥
 IsPlain (AskClass x next) = (o : Option ClassId) → IsPlain (next o)
-IsPlain (LookInto x next) = (o : Option (List Value)) → IsPlain (next o)
+IsPlain (LookInto x part next) = (o : Option (List Value)) → IsPlain (next o)
 IsPlain (Change x i v next) = IsPlain next
 IsPlain (Make class slots next) = (x : Name) → IsPlain (next x)
 IsPlain (UseMonitor x enter next) = ⊥
 IsPlain (Print text next) = IsPlain next
-
--- as many frames as callers: it returned. One more: it went on. Two more: it called
-abbrev pub ReturnsOrCalls : ℕ → Outcome → Type 0
-ReturnsOrCalls callers (Next frames) =
-    (length frames ≡ callers) ⊎ ((length frames ≡ suc callers) ⊎ (length frames ≡ suc (suc callers)))
-ReturnsOrCalls callers (Raise x class) = Unit {0}
-ReturnsOrCalls callers (Halt kind) = Unit {0}
-
--- A row of a frame with so many callers below it takes that frame off, keeps it, or puts one more on it.
-abbrev pub CallsOnce : ℕ → Row → Type 0
-CallsOnce callers (Ends outcome) = ReturnsOrCalls callers outcome
-CallsOnce callers (UseClass c next) = (b : Bool) → CallsOnce callers (next b)
-CallsOnce callers (ReadStatic c f next) = (v : Value) → CallsOnce callers (next v)
-CallsOnce callers (WriteStatic c f v next) = CallsOnce callers next
-CallsOnce callers (AskClass x next) = (o : Option ClassId) → CallsOnce callers (next o)
-CallsOnce callers (LookInto x next) = (o : Option (List Value)) → CallsOnce callers (next o)
-CallsOnce callers (Change x i v next) = CallsOnce callers next
-CallsOnce callers (Make class slots next) = (x : Name) → CallsOnce callers (next x)
-CallsOnce callers (UseMonitor x enter next) = (b : Bool) → CallsOnce callers (next b)
-CallsOnce callers (Print text next) = CallsOnce callers next
 
 -- A static field whose zero and constant are no objects.
 abbrev pub HoldsNoName : StaticField → Type 0
@@ -141,32 +115,21 @@ HoldsNoName field = (name_of field.zero ≡ None) × ((v : Value) → field.cons
 
 -- What the machine owes. Its own table of instructions is shown to be so in `machine`.
 pub record IsLawful (P : Program) : Type 0 where
-  -- an instruction makes up no name
-  pub names : (known : Names) (fs : List Frame) → KnowsFrames known fs → KeepsTo known (P.row fs)
-  -- nor does a class's failing,
-  pub names_failing : (known : Names) (c : ℕ) (x : Name) → known x ≡ true → KeepsTo known (P.failing c x)
-  -- its failing by a parent,
-  pub names_orphaned : (known : Names) (c : ℕ) → KeepsTo known (P.orphaned c)
-  -- or the way to a handler
-  pub names_unwinding : (known : Names) (x : Name) (class : ClassId) (fs : List Frame) →
-      known x ≡ true → KnowsFrames known fs → KnowsUnwinding known (P.unwinding x class fs)
-  -- a final is written by its own class's initializer alone, whose frame no instruction makes
-  pub finals : (own : ℕ → Bool) (fs : List Frame) → Owns P own fs → Respects P own (P.row fs)
-  pub finals_failing : (own : ℕ → Bool) (c : ℕ) (x : Name) → Respects P own (P.failing c x)
-  pub finals_orphaned : (own : ℕ → Bool) (c : ℕ) → Respects P own (P.orphaned c)
-  pub finals_unwinding : (own : ℕ → Bool) (x : Name) (class : ClassId) (fs : List Frame) →
-      Owns P own fs → OwnsUnwinding P own (P.unwinding x class fs)
+  -- an instruction makes up no name, and writes no final that it may not write; nor does a class's failing, or its
+  -- failing by a parent
+  pub row : (known : Names) (own : ℕ → Bool) (f : Frame) → KnowsFrame known f → OwnsFrame P own f →
+      Fits P known own (P.row f)
+  pub failing : (known : Names) (own : ℕ → Bool) (c : ℕ) (x : Name) → known x ≡ true → Fits P known own (P.failing c x)
+  pub orphaned : (known : Names) (own : ℕ → Bool) (c : ℕ) → Fits P known own (P.orphaned c)
   -- a class's failing needs no class and no monitor
   pub plain_failing : (c : ℕ) (x : Name) → IsPlain (P.failing c x)
   pub plain_orphaned : (c : ℕ) → IsPlain (P.orphaned c)
-  -- an instruction returns from one frame, goes on in it, or calls one
-  pub calls_once : (f : Frame) (fs : List Frame) → CallsOnce (length fs) (P.row (f ∷ fs))
   -- the frame of a class's initializer holds no object, and is of that class alone
   pub initializer_names : (known : Names) (c : ℕ) (f : Frame) → P.initializer c ≡ Some f → KnowsFrame known f
-  pub initializer_owner : (c d : ℕ) (f : Frame) → P.initializer c ≡ Some f → P.initializes f ≡ Some d → d ≡ c
+  pub initializer_owner : (c d : ℕ) (f : Frame) → P.initializer c ≡ Some f → P.initializes f.activity ≡ Some d → d ≡ c
   -- a thread's first frame holds its argument, which is its own first object, alone, and is no initializer's
   pub start_names : (known : Names) (entry t : ℕ) → known (record { maker = makers.Thread t; number = 0 }) ≡ true →
       KnowsFrame known (P.start entry t)
-  pub start_owner : (entry t c : ℕ) → P.initializes (P.start entry t) ≢ Some c
+  pub start_owner : (entry t c : ℕ) → P.initializes (P.start entry t).activity ≢ Some c
   -- statics begin as zero, null or a constant (link, hierarchy)
   pub statics : (c : ℕ) → AllByRecursion HoldsNoName (P.statics c)

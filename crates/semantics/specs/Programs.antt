@@ -2,28 +2,22 @@
 use Rattle.std.specs.Prelude.{ℕ, List, Option}
 use Rattle.vm_state.specs.declared.value.Name.{Name}
 use Rattle.vm_state.specs.declared.class_id.ClassId.{ClassId}
-use Rattle.vm_state.specs.declared.ends.FaultKind.{FaultKind}
 use Rattle.vm_state.specs.declared.frame.Frame.{Frame}
+use Rattle.vm_state.specs.declared.frame.Activity.{Activity}
 use Rattle.vm_state.specs.declared.classes.StaticField.{StaticField}
 use Rattle.semantics.specs.Rows.{Row}
 
--- Where an exception goes that is raised in some frames (JVMS 2.10).
-pub data Unwinding : Type 0 where
-  -- to a handler, with which these frames go on
-  Caught : (frames : List Frame) → Unwinding
-  -- out of them all
-  Escapes : Unwinding
-  -- to a handler whose frame has no room for it
-  Stopped : (kind : FaultKind) → Unwinding
-
 -- Classes are the given ones, by their numbers.
 pub record Program : Type 0 where
-  -- one instruction of the innermost frame of these, or a thread's start (JVMS chapter 6, 5.2)
-  pub row : List Frame → Row
-  -- where an exception of a class goes that is raised in some frames
-  pub unwinding : Name → ClassId → List Frame → Unwinding
-  -- the end of a class's initialization by an exception: the exception, or a new ExceptionInInitializerError in its place, is
-  -- raised in the frames below (JVMS 5.5, steps 10 and 11)
+  -- how many classes there are: their numbers are those below
+  pub count : ℕ
+  -- the next instruction of a frame, or a thread's start (JVMS chapter 6, 5.2)
+  pub row : Frame → Row
+  -- where a frame of this activity goes on after an exception of a class that is raised at a place, if it has a
+  -- handler (JVMS 2.10)
+  pub handler : Activity → (place : ℕ) → ClassId → Option ℕ
+  -- the end of a class's initialization by an exception: the exception, or a new ExceptionInInitializerError in its
+  -- place, is raised in the frames below (JVMS 5.5, steps 10 and 11)
   pub failing : (class : ℕ) → Name → Row
   -- the same with a new NoClassDefFoundError, for a parent whose initialization failed (JVMS 5.5, step 7)
   pub orphaned : (class : ℕ) → Row
@@ -33,7 +27,7 @@ pub record Program : Type 0 where
   pub parents : ℕ → List ℕ
   -- the static fields of a class, in order (JVMS 4.5)
   pub statics : ℕ → List StaticField
-  -- the class whose class initialization method a frame runs
-  pub initializes : Frame → Option ℕ
+  -- the class whose class initialization method a frame of this activity runs
+  pub initializes : Activity → Option ℕ
   -- the frame that a thread begins with, to call the `main` of its entry class (JVMS 5.2)
   pub start : (entry thread : ℕ) → Frame

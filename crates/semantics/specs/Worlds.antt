@@ -1,5 +1,6 @@
 -- Worlds, runs over schedules, what is seen of them, and the start of the lazy procedure.
-use Rattle.std.specs.Prelude.{◌≡◌, ℕ, ◌+◌, List, [], ◌∷◌, Option, Some, None, ◌==◌, nat_lt, if◌then◌else◌, slice_get, slice_set, length}
+use Rattle.std.specs.Prelude.{◌≡◌, ℕ, ◌+◌, List, [], ◌∷◌, Option, Some, None, ◌==◌, nat_lt, if◌then◌else◌, slice_get}
+use Rattle.std.specs.Prelude.{slice_set, length}
 use Rattle.std.specs.Prelude.{map}
 use Rattle.vm_state.specs.declared.class_id.ClassId.TheVariants.{Array}
 use Rattle.vm_state.specs.declared.class_id.BuiltIn.TheVariants.{String}
@@ -64,7 +65,11 @@ empty_pool = record { count = 0; at = λ n. None }
 
 -- the array of no strings that `main` is called with
 abbrev pub argument : Object
-argument = record { class = Array (record { dimensions = 1; element = elements.BuiltIn String }); slots = []; monitor = Free }
+argument = record {
+  class = Array (record { dimensions = 1; element = elements.BuiltIn String });
+  slots = [];
+  monitor = Free;
+}
 
 abbrev pub argument_pool : Pool
 argument_pool = record { count = 1; at = λ n. if n == 0 then Some argument else None }

@@ -7,7 +7,7 @@
 ghost use Rattle.semantics.specs.Laws.{RunsJoin};
 ghost use Rattle.semantics.specs.Answers.{AnswersDecide};
 ghost use Rattle.semantics.specs.Alone.{StepsAgree};
-ghost use Rattle.semantics.specs.Settling.{RefusalExcludes, OneRefusal};
+ghost use Rattle.semantics.specs.Settling.{StopExcludes, OneStop, SettlesOrStops};
 ghost use Rattle.semantics.specs.Acceptance.{OneRegion, WiderEnvironment};
 ghost use Rattle.semantics.specs.Erasure.{ErasedUnseen};
 ghost use Rattle.semantics.specs.Headline.{LazyToImage, ImageToLazy};
@@ -17,7 +17,7 @@ pub fn runs_join()
     ensures { RunsJoin }
 {}
 
-/// How an instruction ends, and what it does before, depend on its frames and on the answers of its accesses alone.
+/// How an instruction ends, and what it does before, depend on its frame and on the answers of its accesses alone.
 pub fn answers_decide()
     ensures { AnswersDecide }
 {}
@@ -28,11 +28,16 @@ pub fn steps_agree()
     ensures { StepsAgree }
 {}
 
-/// An initializer that settles within a budget is not refused within it, and one that is refused is refused for one
-/// reason.
+/// An initializer that settles within a budget is not refused or barred within it, and one that is refused or barred
+/// is so for one reason.
 pub fn refused_once()
-    ensures excludes { RefusalExcludes }
-    ensures one { OneRefusal }
+    ensures excludes { StopExcludes }
+    ensures one { OneStop }
+{}
+
+/// Within any budget each initializer settles, is refused, or is barred by what is seen in its code.
+pub fn settles_or_stops()
+    ensures { SettlesOrStops }
 {}
 
 /// An accepted class has one region.

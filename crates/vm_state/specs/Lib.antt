@@ -1,11 +1,13 @@
 pub mod Values
 pub mod Operands
 pub mod Locals
+pub mod Variables
 pub mod Statics
 pub mod Segments
 pub mod Stacks
 pub mod Objects
 pub mod SharedState
+pub mod Pools
 pub mod Shares
 pub mod Endings
 pub mod ClassNames

@@ -1,12 +1,20 @@
 -- The frames above the highest initialization entry.
 use Rattle.std.specs.Prelude.{List, [], ◌∷◌, Option, Some, None}
 use Rattle.vm_state.specs.declared.frame.Frame.{Frame}
+use Rattle.vm_state.specs.declared.frame.Segment.{Segment}
 
--- the innermost first
-abbrev pub frames_with : Option Frame → List Frame → List Frame
-frames_with None callers = callers
-frames_with (Some f) callers = f ∷ callers
+-- all of them, the innermost first
+abbrev pub frames_of : Segment → List Frame
+frames_of s = s.innermost ∷ s.callers
+
+abbrev pub frames_in : Option Segment → List Frame
+frames_in None = []
+frames_in (Some s) = frames_of s
 
 abbrev pub first_frame : List Frame → Option Frame
 first_frame [] = None
 first_frame (f ∷ fs) = Some f
+
+abbrev pub callers_of : List Frame → List Frame
+callers_of [] = []
+callers_of (f ∷ fs) = fs

@@ -2,6 +2,7 @@
 -- of the classes (JVMS 5.5), and what was printed.
 use Rattle.std.specs.Prelude.{ℕ, ◌+◌, Bool, false, List, [], ◌∷◌, ◌++◌, Option, Some, ◌==◌, if◌then◌else◌, option_map, slice_set}
 use Rattle.vm_state.specs.declared.value.Value.{Value}
+use Rattle.vm_state.specs.declared.value.Name.{Name}
 use Rattle.vm_state.specs.declared.value.Maker.{Maker}
 use Rattle.vm_state.specs.declared.value.Maker.TheVariants.{Class, Thread}
 use Rattle.vm_state.specs.declared.class_id.ClassId.{ClassId}
@@ -79,6 +80,22 @@ set_state sh c s = record sh { states = λ d. if d == c then s else sh.states d 
 
 abbrev pub with_field : Region → ℕ → Value → Region
 with_field r f v = record r { fields = λ g. if g == f then v else r.fields g }
+
+-- with another value of a static field
+abbrev pub with_static : SharedState → ℕ → ℕ → Value → SharedState
+with_static sh c f v = set_region sh c (with_field (sh.regions c) f v)
+
+-- the name of a maker's next object
+abbrev pub next_name : SharedState → Maker → Name
+next_name sh m = record { maker = m; number = (pool_of sh m).count }
+
+-- with a maker's next object
+abbrev pub made : SharedState → Maker → ClassId → List Value → SharedState
+made sh m class slots = set_pool sh m (with_new (pool_of sh m) class slots)
+
+-- the object of a name
+abbrev pub object_of : SharedState → Name → Option Object
+object_of sh name = (pool_of sh name.maker).at name.number
 
 abbrev pub with_line : SharedState → Line → SharedState
 with_line sh line = record sh { printed = sh.printed ++ line ∷ [] }

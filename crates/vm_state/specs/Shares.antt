@@ -1,15 +1,12 @@
 -- The shared state that the machine's own tables stand for.
-use Rattle.std.specs.Prelude.{ℕ, List, [], length, slice_get, slice_index_or}
-use Rattle.vm_state.specs.declared.object.Object.{Object}
+use Rattle.std.specs.Prelude.{ℕ, List}
 use Rattle.vm_state.specs.declared.classes.StaticField.{StaticField}
 use Rattle.vm_state.specs.declared.classes.ClassState.TheVariants.{By}
 use Rattle.vm_state.specs.declared.shared.Shared.{Shared}
 use Rattle.vm_state.specs.declared.text.Line.{Line}
 use Rattle.vm_state.specs.Statics.{states_of, fields_of, with_constants}
-use Rattle.vm_state.specs.SharedState.{Pool, SharedState, set_region, set_state}
-
-abbrev pub pool_in : List (List Object) → ℕ → Pool
-pool_in rows m = record { count = length (slice_index_or rows m []); at = slice_get (slice_index_or rows m []) }
+use Rattle.vm_state.specs.SharedState.{SharedState, set_region, set_state}
+use Rattle.vm_state.specs.Pools.{pool_in}
 
 -- the tables and what was printed, as one state
 unfoldable pub shared_of : Shared → List Line → SharedState

@@ -1,21 +1,24 @@
--- A thread's stack: the frames above the highest initialization entry, and below them the entries with the frames under each.
+-- A thread's stack: the frames above the highest initialization entry, and below them the entries with the frames
+-- under each.
 use Rattle.std.specs.Prelude.{◌≡◌, ℕ, true, List, [], ◌∷◌, Option, Some, None}
 use Rattle.vm_state.specs.declared.frame.Frame.{Frame}
+use Rattle.vm_state.specs.declared.value.Name.{Name}
 use Rattle.vm_state.specs.declared.initialization.Level.{Level}
+use Rattle.vm_state.specs.declared.initialization.Levels.{Levels}
 use Rattle.vm_state.specs.declared.initialization.Frames.{Frames}
-use Rattle.vm_state.specs.Segments.{frames_with}
+use Rattle.vm_state.specs.Segments.{frames_in}
 
 -- the frames above the highest initialization entry, the innermost first
 abbrev pub segment_of : Frames → List Frame
-segment_of s = frames_with s.top s.callers
+segment_of s = frames_in s.segment
 
-abbrev pub levels_with : Option Level → List Level → List Level
-levels_with None outer = outer
-levels_with (Some l) outer = l ∷ outer
+abbrev pub levels_in : Option Levels → List Level
+levels_in None = []
+levels_in (Some s) = s.highest ∷ s.outer
 
 -- the entries with the frames under each, the innermost first
 abbrev pub levels_of : Frames → List Level
-levels_of s = levels_with s.highest s.outer
+levels_of s = levels_in s.levels
 
 -- after the first of these entries is taken away
 abbrev pub IsLeft : List Level → Frames → Type 0
@@ -41,6 +44,11 @@ parent_taken (l ∷ ls) = record l { entry = record l.entry { left = others_of l
 abbrev pub initializer_begun : List Level → List Level
 initializer_begun [] = []
 initializer_begun (l ∷ ls) = record l { entry = record l.entry { begun = true } } ∷ ls
+
+-- the entries, at the highest one of which an exception is pending
+abbrev pub exception_pending : Name → List Level → List Level
+exception_pending x [] = []
+exception_pending x (l ∷ ls) = record l { entry = record l.entry { pending = Some x } } ∷ ls
 
 abbrev pub first_level : List Level → Option Level
 first_level [] = None

@@ -44,3 +44,14 @@ int_of (Some (Text s)) = None
 int_of (Some (OfClass c n)) = None
 int_of (Some (OfThread t n)) = None
 int_of (Some Out) = None
+
+-- the number of a long
+abbrev pub long_of : Option Value → Option ℤ
+long_of None = None
+long_of (Some (Long n)) = Some n
+long_of (Some (Int n)) = None
+long_of (Some Null) = None
+long_of (Some (Text s)) = None
+long_of (Some (OfClass c n)) = None
+long_of (Some (OfThread t n)) = None
+long_of (Some Out) = None

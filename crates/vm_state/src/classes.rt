@@ -62,6 +62,10 @@ pub struct StaticField {
     pub constant: Option<Value>,
 }
 
+/// No place was kept yet for a class or a static field.
+#[derive(Clone, Copy, PartialEq, Eq, Debug)]
+pub struct NoPlace;
+
 /// The static fields of a class, by their numbers. A field that was never set is null.
 #[derive(Drop)]
 pub struct Fields {
@@ -99,6 +103,7 @@ impl Fields {
     }
 
     /// The value of a field.
+    #[inline(always)]
     pub fn get(&self, field: u32) -> Value
         ensures { result ≡ field_in self.now field }
     {
@@ -118,6 +123,20 @@ impl Fields {
         if self.values.len() <= field {
             self.values.resize(field + 1, Value::Null)?;
         }
+        Ok(())
+    }
+
+    /// Sets a field that has a place, without memory. Where it has none nothing changes.
+    #[inline(always)]
+    pub fn replace(&mut self, field: u32, value: Value) -> Result<(), NoPlace>
+        ensures ok { OnOk result (field_in self.new ≡ with_value (field_in self.old) field value) }
+        ensures err { OnErr result (self.new ≡ self.old) }
+    {
+        let at = field as usize;
+        if at >= self.values.len() {
+            return Err(NoPlace);
+        }
+        self.values[at] = value;
         Ok(())
     }
 
@@ -216,6 +235,7 @@ impl Classes {
 
     /// The state of a class.
     #[tactic(auto, unfolding(crate::specs::Statics::states_of))]
+    #[inline(always)]
     pub fn state(&self, class: u32) -> ClassState
         ensures { result ≡ states_of self.now class }
     {
@@ -227,6 +247,7 @@ impl Classes {
 
     /// The value of a static field.
     #[tactic(auto, unfolding(crate::specs::Statics::fields_of))]
+    #[inline(always)]
     pub fn field(&self, class: u32, field: u32) -> Value
         ensures { result ≡ fields_of self.now class field }
     {
@@ -269,7 +290,24 @@ impl Classes {
         Ok(())
     }
 
+    /// Sets a static field that has a place, without memory. Where it has none nothing changes.
+    #[inline(always)]
+    pub fn replace_field(&mut self, class: u32, field: u32, value: Value) -> Result<(), NoPlace>
+        ensures fields { OnOk result (fields_of self.new ≡ with_fields (fields_of self.old) class (with_value (fields_of self.old class) field value)) }
+        ensures states { OnOk result (states_of self.new ≡ states_of self.old) }
+        ensures err { OnErr result (self.new ≡ self.old) }
+    {
+        let at = class as usize;
+        if at >= self.areas.len() {
+            return Err(NoPlace);
+        }
+        let area = &mut self.areas[at];
+        area.fields.replace(field, value)?;
+        Ok(())
+    }
+
     /// Sets a static field. Where memory is refused nothing changes.
+    #[inline(never)]
     pub fn set_field(
         &mut self,
         alloc: Global,

@@ -1,7 +1,7 @@
 //! Frames (JVMS 2.6), and lists of them.
 
-ghost use Rattle.std.specs.Prelude.{◌≡◌, ◌∷◌, [], IfOk, OnErr, MatchOption, None, option_copied};
-ghost use Rattle.vm_state.specs.Segments.{frames_with, first_frame};
+ghost use Rattle.std.specs.Prelude.{◌≡◌, ◌∷◌, [], IfOk, IfErr, OnOk, OnErr, None};
+ghost use Rattle.vm_state.specs.Segments.{frames_in};
 
 use crate::locals::Locals;
 use crate::operands::Operands;
@@ -53,35 +53,71 @@ impl FrameList {
         }
     }
 
-    /// The innermost frame, which stays.
-    pub fn first(&self) -> Option<&Frame>
-        ensures { option_copied result ≡ first_frame self.now }
+    /// These frames as a segment, where there is one.
+    pub fn into_segment(self) -> Option<Segment>
+        ensures { frames_in result ≡ self }
     {
-        self.frames.last()
-    }
-
-    /// Takes the innermost frame.
-    pub fn pop(&mut self) -> Option<Frame>
-        ensures { MatchOption result ((self.old ≡ []) × (self.new ≡ [])) (λ f. self.old ≡ f ∷ self.new) }
-    {
-        self.frames.pop()
-    }
-
-    /// Puts a frame on top of these frames, where there is one, and takes all of them away.
-    /// Where memory is refused nothing changes.
-    pub fn take_with(
-        &mut self,
-        alloc: Global,
-        top: &mut Option<Frame>,
-    ) -> Result<FrameList, AllocError>
-        ensures ok { IfOk result (λ r. (r ≡ frames_with top.old self.old) × (top.new ≡ None) × (self.new ≡ [])) }
-        ensures err { OnErr result ((self.new ≡ self.old) × (top.new ≡ top.old)) }
-    {
-        self.frames.reserve(1)?;
-        if let Some(frame) = top.take() {
-            self.frames.push_reserved(frame);
+        let mut frames = self.frames;
+        match frames.pop() {
+            Some(innermost) => Some(Segment {
+                innermost,
+                callers: FrameList { frames },
+            }),
+            None => None,
         }
-        let frames = mem::replace(&mut self.frames, Vec::new(alloc));
-        Ok(FrameList { frames })
+    }
+
+    /// Takes all frames of a segment away. Where memory is refused nothing changes.
+    pub fn take_all(alloc: Global, segment: &mut Option<Segment>) -> Result<FrameList, AllocError>
+        ensures ok { IfOk result (λ r. (r ≡ frames_in segment.old) × (segment.new ≡ None)) }
+        ensures err { OnErr result (segment.new ≡ segment.old) }
+    {
+        let Some(taken) = segment.take() else {
+            return Ok(FrameList::none(alloc));
+        };
+        match taken.into_frames() {
+            Ok(frames) => Ok(frames),
+            Err(kept) => {
+                *segment = Some(kept);
+                Err(AllocError)
+            }
+        }
+    }
+}
+
+/// Frames of one thread, at least one.
+#[derive(Drop)]
+pub struct Segment {
+    pub innermost: Frame,
+    /// The others, the innermost first.
+    pub callers: FrameList,
+}
+
+impl Segment {
+    /// All of them; where memory is refused, they as they are.
+    fn into_frames(self) -> Result<FrameList, Segment>
+        ensures ok { IfOk result (λ r. r ≡ self.innermost ∷ self.callers) }
+        ensures err { IfErr result (λ kept. kept ≡ self) }
+    {
+        let Segment { innermost, callers } = self;
+        let mut frames = callers.frames;
+        match frames.push(innermost) {
+            Ok(()) => Ok(FrameList { frames }),
+            Err(refused) => Err(Segment {
+                innermost: refused.value,
+                callers: FrameList { frames },
+            }),
+        }
+    }
+
+    /// Puts the frame of a call on top. Where memory is refused nothing changes.
+    pub fn call(&mut self, callee: Frame) -> Result<(), AllocError>
+        ensures ok { OnOk result (self.new ≡ record { innermost = callee; callers = self.old.innermost ∷ self.old.callers }) }
+        ensures err { OnErr result (self.new ≡ self.old) }
+    {
+        self.callers.frames.reserve(1)?;
+        let caller = mem::replace(&mut self.innermost, callee);
+        self.callers.frames.push_reserved(caller);
+        Ok(())
     }
 }

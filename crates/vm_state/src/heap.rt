@@ -1,40 +1,181 @@
 //! The objects, by their names.
 
-ghost use Rattle.std.specs.Prelude.{◌≡◌, ◌∷◌, [], ◌++◌, OnOk, OnErr};
-ghost use Rattle.vm_state.specs.Objects.{Objects};
+ghost use Rattle.std.specs.Prelude.{◌≡◌, ℕ, ◌∷◌, [], ◌++◌, ◌<◌, ◌≤◌, ◌^◌, length, slice_index_or, option_copied, IfOk, OnOk, OnErr};
+ghost use Rattle.std.specs.List.Sorted.{IsNonDecreasingBy};
+ghost use Rattle.vm_state.specs.declared.object.Object.{Object};
+ghost use Rattle.vm_state.specs.Objects.{empty_row, row_of, with_next, object_in, object_at_place};
+ghost use Rattle.vm_state.specs.SharedState.{with_new};
+ghost use Rattle.vm_state.specs.Pools.{pool_in, with_pool};
 
-use crate::object::Object;
+use crate::class_id::ClassId;
+use crate::object::{Monitor, Object, Slots};
 use std::alloc::{AllocError, Global};
 use std::marker::Model;
 
-/// The objects of one maker, in the order of their numbers, none left out.
+/// The objects of one maker, each with its number, in the order of the numbers; and how many objects it made.
+/// Numbers may be left out.
 #[derive(Drop)]
 pub struct Row {
-    objects: Vec<Object>,
+    count: u64,
+    objects: Vec<(u64, Object)>,
 }
 
 impl Model for Row {
-    ghost use Rattle.std.specs.Prelude.{List};
-    ghost use Rattle.vm_state.specs.declared.object.Object.{Object as Held};
+    ghost use Rattle.vm_state.specs.Objects.{ObjectRow, AscendsFrom};
 
-    ghost Value = { List Held };
+    ghost Value = { ObjectRow };
 
-    ghost view = { λ s. s.objects.items };
+    ghost view = { λ s. record { count = s.count; objects = s.objects.items } };
+
+    ghost invariant = { λ s. AscendsFrom 0 s.objects.items s.count };
 }
 
-/// The objects of all makers: of classes and of threads, by their numbers.
+/// The object at a place, where it has this number.
+#[inline(always)]
+fn object_at_place(objects: &[(u64, Object)], place: usize, number: u64) -> Option<&Object>
+    ensures { option_copied result ≡ object_at_place objects.now place number }
+{
+    match objects.get(place) {
+        Some((found, object)) => { if number == *found { Some(object) } else { None } }
+        None => None,
+    }
+}
+
+/// The first place of a number that is not below this one.
+fn place_of(objects: &[(u64, Object)], number: u64) -> usize
+    requires { IsNonDecreasingBy (λ (o : ℕ × Object). o.0) objects.now }
+    ensures before { (i : ℕ) (d : ℕ × Object) → i < result → (slice_index_or objects.now i d).0 < number }
+    ensures after { (d : ℕ × Object) → result < length objects.now → number ≤ (slice_index_or objects.now result d).0 }
+{
+    objects.partition_point(|held| held.0 < number)
+}
+
+impl Row {
+    /// The row of a maker that made nothing.
+    fn new(alloc: Global) -> Row
+        ensures { result ≡ empty_row }
+    {
+        Row {
+            count: 0,
+            objects: Vec::new(alloc),
+        }
+    }
+
+    /// The object of a number, if it is held. Where no number was left out it stands at its number.
+    #[inline(always)]
+    pub fn object(&self, number: u64) -> Option<&Object>
+        ensures { option_copied result ≡ object_in self.now.objects number }
+    {
+        let objects = self.objects.as_slice();
+        match object_at_place(objects, number as usize, number) {
+            Some(object) => Some(object),
+            None => object_at_place(objects, place_of(objects, number), number),
+        }
+    }
+
+    /// One more object, of the next number, which it answers. Where memory is refused nothing changes.
+    fn add(&mut self, object: Object) -> Result<u64, AllocError>
+        ensures number { IfOk result (λ n. n ≡ self.old.count) }
+        ensures ok { OnOk result (self.new ≡ with_next self.old object) }
+        ensures err { OnErr result (self.new ≡ self.old) }
+    {
+        let number = self.count;
+        let Some(count) = number.checked_add(1) else {
+            return Err(AllocError);
+        };
+        self.objects.push((number, object))?;
+        self.count = count;
+        Ok(number)
+    }
+}
+
+/// The rows of some makers, by their numbers. A maker without a row made nothing.
+#[derive(Drop)]
+pub struct Rows {
+    rows: Vec<Row>,
+}
+
+impl Model for Rows {
+    ghost use Rattle.std.specs.Prelude.{List};
+    ghost use Rattle.vm_state.specs.Objects.{ObjectRow};
+
+    ghost Value = { List ObjectRow };
+
+    ghost view = { λ s. s.rows.items };
+}
+
+impl Rows {
+    /// No row.
+    pub fn none(alloc: Global) -> Rows
+        ensures { result ≡ [] }
+    {
+        Rows {
+            rows: Vec::new(alloc),
+        }
+    }
+
+    /// One more maker, with its first object. Where memory is refused nothing changes.
+    fn add_maker(&mut self, alloc: Global, first: Object) -> Result<(), AllocError>
+        ensures ok { OnOk result (self.new ≡ self.old ++ row_of first ∷ []) }
+        ensures err { OnErr result (self.new ≡ self.old) }
+    {
+        let mut objects = Vec::new(alloc);
+        objects.push((0, first))?;
+        self.rows.push(Row { count: 1, objects })?;
+        Ok(())
+    }
+
+    /// Keeps a place for a maker's row; no maker's objects change.
+    fn reach(&mut self, alloc: Global, maker: usize) -> Result<(), AllocError>
+        requires { maker < 2 ^ 32 }
+        ensures pools { pool_in self.new ≡ pool_in self.old }
+        ensures ok { OnOk result (maker < length self.new) }
+    {
+        while self.rows.len() <= maker {
+            self.rows.push(Row::new(alloc))?;
+        }
+        Ok(())
+    }
+
+    /// The object of a maker and a number, if it is held.
+    #[inline(always)]
+    pub fn object(&self, maker: u32, number: u64) -> Option<&Object>
+        ensures { option_copied result ≡ (pool_in self.now maker).at number }
+    {
+        match self.rows.get(maker as usize) {
+            Some(row) => row.object(number),
+            None => None,
+        }
+    }
+
+    /// One more object of a maker, and its number. Where memory is refused nothing changes.
+    pub fn make(
+        &mut self,
+        alloc: Global,
+        maker: u32,
+        class: ClassId,
+        slots: Slots,
+    ) -> Result<u64, AllocError>
+        ensures number { IfOk result (λ n. n ≡ (pool_in self.old maker).count) }
+        ensures ok { OnOk result (pool_in self.new ≡ with_pool (pool_in self.old) maker (with_new (pool_in self.old maker) class slots)) }
+        ensures err { OnErr result (pool_in self.new ≡ pool_in self.old) }
+    {
+        self.reach(alloc, maker as usize)?;
+        let row = &mut self.rows[maker as usize];
+        let number = row.add(Object {
+            class,
+            slots,
+            monitor: Monitor::Free,
+        })?;
+        Ok(number)
+    }
+}
+
+/// The objects of all makers: of classes and of threads.
 #[derive(Drop)]
 pub struct Heap {
-    classes: Vec<Row>,
-    threads: Vec<Row>,
-}
-
-impl Model for Heap {
-    ghost use Rattle.vm_state.specs.Objects.{Objects};
-
-    ghost Value = { Objects };
-
-    ghost view = { λ s. record { classes = s.classes.items; threads = s.threads.items } };
+    pub classes: Rows,
+    pub threads: Rows,
 }
 
 impl Heap {
@@ -43,19 +184,16 @@ impl Heap {
         ensures { result ≡ record { classes = []; threads = [] } }
     {
         Heap {
-            classes: Vec::new(alloc),
-            threads: Vec::new(alloc),
+            classes: Rows::none(alloc),
+            threads: Rows::none(alloc),
         }
     }
 
     /// The first object of one more thread. Where memory is refused nothing changes.
     pub fn add_thread(&mut self, alloc: Global, first: Object) -> Result<(), AllocError>
-        ensures ok { OnOk result (self.new ≡ record self.old { threads = self.old.threads ++ (first ∷ []) ∷ [] }) }
+        ensures ok { OnOk result (self.new ≡ record self.old { threads = self.old.threads ++ row_of first ∷ [] }) }
         ensures err { OnErr result (self.new ≡ self.old) }
     {
-        let mut objects = Vec::new(alloc);
-        objects.push(first)?;
-        self.threads.push(Row { objects })?;
-        Ok(())
+        self.threads.add_maker(alloc, first)
     }
 }

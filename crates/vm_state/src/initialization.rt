@@ -1,10 +1,11 @@
 //! Initialization entries (JVMS 5.5), and the whole stack of a thread.
 
-ghost use Rattle.std.specs.Prelude.{◌≡◌, ◌∷◌, [], IfOk, OnOk, OnErr, MatchOption, Some, None, IsSome, option_copied};
-ghost use Rattle.vm_state.specs.Segments.{frames_with, first_frame};
-ghost use Rattle.vm_state.specs.Stacks.{first_of, others_of, first_level, levels_with, segment_of, levels_of, parent_taken, initializer_begun, IsLeft};
+ghost use Rattle.std.specs.Prelude.{◌≡◌, ◌∷◌, [], IfOk, OnOk, OnErr, None, IsSome, option_copied};
+ghost use Rattle.vm_state.specs.Segments.{frames_in, first_frame, callers_of};
+ghost use Rattle.vm_state.specs.Stacks.{first_of, others_of, first_level, levels_in, segment_of, levels_of, parent_taken};
+ghost use Rattle.vm_state.specs.Stacks.{initializer_begun, exception_pending, IsLeft};
 
-use crate::frame::{Frame, FrameList};
+use crate::frame::{Frame, FrameList, Segment};
 use crate::value::Name;
 use std::alloc::{AllocError, Global};
 use std::marker::Model;
@@ -92,40 +93,46 @@ impl LevelList {
         }
     }
 
-    /// The innermost entry, which stays.
-    pub fn first(&self) -> Option<&Level>
-        ensures { option_copied result ≡ first_level self.now }
+    /// These entries, where there is one.
+    fn into_levels(self) -> Option<Levels>
+        ensures { levels_in result ≡ self }
     {
-        self.levels.last()
+        let mut levels = self.levels;
+        match levels.pop() {
+            Some(highest) => Some(Levels {
+                highest,
+                outer: LevelList { levels },
+            }),
+            None => None,
+        }
     }
+}
 
-    /// Takes the innermost entry.
-    pub fn pop(&mut self) -> Option<Level>
-        ensures { MatchOption result ((self.old ≡ []) × (self.new ≡ [])) (λ l. self.old ≡ l ∷ self.new) }
-    {
-        self.levels.pop()
-    }
+/// Initialization entries of one thread, at least one.
+#[derive(Drop)]
+pub struct Levels {
+    pub highest: Level,
+    /// The others, the innermost first.
+    pub outer: LevelList,
+}
 
-    /// Puts a new highest entry on all frames above the highest one so far, which joins this list.
-    /// Where memory is refused nothing changes.
+impl Levels {
+    /// Puts an entry on all frames above the highest one. Where memory is refused nothing changes.
     fn cover(
         &mut self,
         alloc: Global,
         entry: Entry,
-        highest: &mut Option<Level>,
-        top: &mut Option<Frame>,
-        callers: &mut FrameList,
+        segment: &mut Option<Segment>,
     ) -> Result<(), AllocError>
-        ensures highest { OnOk result (highest.new ≡ Some (record { entry = entry; under = frames_with top.old callers.old })) }
-        ensures list { OnOk result (self.new ≡ levels_with highest.old self.old) }
-        ensures frames { OnOk result ((top.new ≡ None) × (callers.new ≡ [])) }
-        ensures err { OnErr result ((self.new ≡ self.old) × (highest.new ≡ highest.old) × (top.new ≡ top.old) × (callers.new ≡ callers.old)) }
+        ensures highest { OnOk result (self.new.highest ≡ record { entry = entry; under = frames_in segment.old }) }
+        ensures outer { OnOk result (self.new.outer ≡ self.old.highest ∷ self.old.outer) }
+        ensures segment { OnOk result (segment.new ≡ None) }
+        ensures err { OnErr result ((self.new ≡ self.old) × (segment.new ≡ segment.old)) }
     {
-        self.levels.reserve(1)?;
-        let under = callers.take_with(alloc, top)?;
-        if let Some(covered) = mem::replace(highest, Some(Level { entry, under })) {
-            self.levels.push_reserved(covered);
-        }
+        self.outer.levels.reserve(1)?;
+        let under = FrameList::take_all(alloc, segment)?;
+        let covered = mem::replace(&mut self.highest, Level { entry, under });
+        self.outer.levels.push_reserved(covered);
         Ok(())
     }
 }
@@ -134,40 +141,20 @@ impl LevelList {
 #[derive(Drop)]
 pub struct Frames {
     pub thread: u32,
-    /// The innermost frame above the highest initialization entry, if there is one.
-    pub top: Option<Frame>,
-    /// The other frames above the highest entry.
-    pub callers: FrameList,
-    /// The highest entry, if there is one.
-    pub highest: Option<Level>,
-    /// The other entries.
-    pub outer: LevelList,
+    /// The frames above the highest initialization entry, if there is one.
+    pub segment: Option<Segment>,
+    /// The initialization entries, if there is one.
+    pub levels: Option<Levels>,
 }
 
 impl Frames {
-    /// Puts an initialization entry on top of the stack. Where memory is refused nothing changes.
-    pub fn enter(&mut self, alloc: Global, entry: Entry) -> Result<(), AllocError>
-        ensures thread { self.new.thread ≡ self.old.thread }
-        ensures segment { OnOk result (segment_of self.new ≡ []) }
-        ensures levels { OnOk result (levels_of self.new ≡ record { entry = entry; under = segment_of self.old } ∷ levels_of self.old) }
-        ensures err { OnErr result (self.new ≡ self.old) }
-    {
-        self.outer.cover(
-            alloc,
-            entry,
-            &mut self.highest,
-            &mut self.top,
-            &mut self.callers,
-        )
-    }
-
     /// The innermost frame above the highest entry.
     pub fn innermost(&self) -> Option<&Frame>
         ensures { option_copied result ≡ first_frame (segment_of self.now) }
     {
-        match &self.top {
-            Some(frame) => Some(frame),
-            None => self.callers.first(),
+        match &self.segment {
+            Some(segment) => Some(&segment.innermost),
+            None => None,
         }
     }
 
@@ -175,10 +162,40 @@ impl Frames {
     pub fn entry(&self) -> Option<&Level>
         ensures { option_copied result ≡ first_level (levels_of self.now) }
     {
-        match &self.highest {
-            Some(level) => Some(level),
-            None => self.outer.first(),
+        match &self.levels {
+            Some(levels) => Some(&levels.highest),
+            None => None,
         }
+    }
+
+    /// Takes the innermost frame above the highest entry; its caller is the innermost one then.
+    pub fn pop(&mut self) -> Option<Frame>
+        ensures thread { self.new.thread ≡ self.old.thread }
+        ensures frame { result ≡ first_frame (segment_of self.old) }
+        ensures segment { segment_of self.new ≡ callers_of (segment_of self.old) }
+        ensures levels { self.new.levels ≡ self.old.levels }
+    {
+        let Segment { innermost, callers } = self.segment.take()?;
+        self.segment = callers.into_segment();
+        Some(innermost)
+    }
+
+    /// Puts an initialization entry on top of the stack. Where memory is refused nothing changes.
+    pub fn enter(&mut self, alloc: Global, entry: Entry) -> Result<(), AllocError>
+        ensures thread { self.new.thread ≡ self.old.thread }
+        ensures segment { OnOk result (segment_of self.new ≡ []) }
+        ensures levels { OnOk result (levels_of self.new ≡ record { entry = entry; under = segment_of self.old } ∷ levels_of self.old) }
+        ensures err { OnErr result (self.new ≡ self.old) }
+    {
+        if let Some(levels) = &mut self.levels {
+            return levels.cover(alloc, entry, &mut self.segment);
+        }
+        let under = FrameList::take_all(alloc, &mut self.segment)?;
+        self.levels = Some(Levels {
+            highest: Level { entry, under },
+            outer: LevelList::none(alloc),
+        });
+        Ok(())
     }
 
     /// Takes the highest entry away, with all frames above it; those under it are the topmost ones then.
@@ -186,64 +203,59 @@ impl Frames {
     pub fn leave(&mut self)
         ensures thread { self.new.thread ≡ self.old.thread }
         ensures left { IsLeft (levels_of self.old) self.new }
-        ensures none { levels_of self.old ≡ [] → segment_of self.new ≡ segment_of self.old }
+        ensures none { levels_of self.old ≡ [] → self.new ≡ self.old }
     {
-        let left = match self.highest.take() {
-            Some(level) => Some(level),
-            None => self.outer.pop(),
+        let Some(levels) = self.levels.take() else {
+            return;
         };
-        self.highest = self.outer.pop();
-        if let Some(level) = left {
-            let mut under = level.under;
-            self.top = under.pop();
-            self.callers = under;
-        }
+        let Levels { highest, outer } = levels;
+        self.segment = highest.under.into_segment();
+        self.levels = outer.into_levels();
     }
 
     /// Takes the next parent off the highest entry.
     pub fn take_parent(&mut self)
-        requires { IsSome self.old.highest }
+        requires { IsSome self.old.levels }
         ensures thread { self.new.thread ≡ self.old.thread }
-        ensures segment { segment_of self.new ≡ segment_of self.old }
+        ensures segment { self.new.segment ≡ self.old.segment }
         ensures levels { levels_of self.new ≡ parent_taken (levels_of self.old) }
     {
-        let Some(mut level) = self.highest.take() else {
+        let Some(mut levels) = self.levels.take() else {
             unreachable!()
         };
-        level.entry.left.drop_first();
-        self.highest = Some(level);
+        levels.highest.entry.left.drop_first();
+        self.levels = Some(levels);
     }
 
     /// Puts the frame of its class initialization method on the highest entry.
-    pub fn begin_initializer(&mut self, frame: Frame)
-        requires highest { IsSome self.old.highest }
-        requires segment { segment_of self.old ≡ [] }
+    pub fn begin_initializer(&mut self, alloc: Global, frame: Frame)
+        requires levels { IsSome self.old.levels }
+        requires none { self.old.segment ≡ None }
         ensures thread { self.new.thread ≡ self.old.thread }
         ensures segment { segment_of self.new ≡ frame ∷ [] }
         ensures levels { levels_of self.new ≡ initializer_begun (levels_of self.old) }
     {
-        let Some(level) = &mut self.highest else {
+        let Some(levels) = &mut self.levels else {
             unreachable!()
         };
-        level.entry.begun = true;
-        self.top = Some(frame);
+        levels.highest.entry.begun = true;
+        self.segment = Some(Segment {
+            innermost: frame,
+            callers: FrameList::none(alloc),
+        });
     }
 
-    /// Brings the innermost frame and the highest entry to their places, where they are not there already.
-    /// The stack stays the same.
-    #[inline(always)]
-    pub fn settle(&mut self)
+    /// Takes all frames above the highest entry away; the exception that came out of them becomes pending there.
+    pub fn set_pending(&mut self, exception: Name)
+        requires { IsSome self.old.levels }
         ensures thread { self.new.thread ≡ self.old.thread }
-        ensures segment { segment_of self.new ≡ segment_of self.old }
-        ensures levels { levels_of self.new ≡ levels_of self.old }
-        ensures top { self.new.top ≡ None → segment_of self.new ≡ [] }
-        ensures highest { self.new.highest ≡ None → levels_of self.new ≡ [] }
+        ensures segment { self.new.segment ≡ None }
+        ensures levels { levels_of self.new ≡ exception_pending exception (levels_of self.old) }
     {
-        if self.top.is_none() {
-            self.top = self.callers.pop();
-        }
-        if self.highest.is_none() {
-            self.highest = self.outer.pop();
-        }
+        let Some(levels) = &mut self.levels else {
+            unreachable!()
+        };
+        levels.highest.entry.pending = Some(exception);
+        self.segment = None;
     }
 }

@@ -1,25 +1,76 @@
 //! The local variables of a frame (JVMS 2.6.1).
 
-ghost use Rattle.std.specs.Prelude.{◌≡◌, IfOk, OnErr, OnOk, Some, None, replicate};
-ghost use Rattle.vm_state.specs.Locals.{int_at, stored};
+ghost use Rattle.std.specs.Prelude.{◌≡◌, ◌<◌, IfOk, OnErr, OnOk, Some, None, length, option_map, replicate, slice_get, slice_set};
+ghost use Rattle.vm_state.specs.declared.value.Value.{Value};
+ghost use Rattle.vm_state.specs.Locals.{int_at, long_at, stored, value_at};
+ghost use Rattle.vm_state.specs.Variables.{value_in};
 
 use crate::value::{Fault, Value};
 use std::alloc::{AllocError, Global};
 use std::marker::Model;
 
+/// What a local variable holds: a value or nothing, in the 16 bytes that a value takes.
+#[derive(Clone, Copy)]
+enum Variable {
+    Nothing,
+    Int(i32),
+    Long(i64),
+    Null,
+    Text(usize),
+    OfClass(u32, u64),
+    OfThread(u32, u64),
+    Out,
+}
+
+impl Variable {
+    /// One that holds this value.
+    #[inline(always)]
+    fn holding(value: Value) -> Variable
+        ensures { value_in result ≡ Some value }
+    {
+        match value {
+            Value::Int(number) => Variable::Int(number),
+            Value::Long(number) => Variable::Long(number),
+            Value::Null => Variable::Null,
+            Value::Text(text) => Variable::Text(text),
+            Value::OfClass(class, number) => Variable::OfClass(class, number),
+            Value::OfThread(thread, number) => Variable::OfThread(thread, number),
+            Value::Out => Variable::Out,
+        }
+    }
+
+    /// The value that it holds.
+    #[inline(always)]
+    fn value(self) -> Option<Value>
+        ensures { result ≡ value_in self }
+    {
+        match self {
+            Variable::Nothing => None,
+            Variable::Int(number) => Some(Value::Int(number)),
+            Variable::Long(number) => Some(Value::Long(number)),
+            Variable::Null => Some(Value::Null),
+            Variable::Text(text) => Some(Value::Text(text)),
+            Variable::OfClass(class, number) => Some(Value::OfClass(class, number)),
+            Variable::OfThread(thread, number) => Some(Value::OfThread(thread, number)),
+            Variable::Out => Some(Value::Out),
+        }
+    }
+}
+
 /// The local variables of a frame. The second place of a long holds nothing.
 #[derive(Drop)]
 pub struct Locals {
-    variables: Vec<Option<Value>>,
+    variables: Vec<Variable>,
 }
 
 impl Model for Locals {
-    ghost use Rattle.std.specs.Prelude.{List, Option};
+    ghost use Rattle.std.specs.Prelude.{List, Option, map};
     ghost use Rattle.vm_state.specs.declared.value.Value.{Value as Held};
+    ghost use Rattle.vm_state.specs.Variables.{value_in};
 
     ghost Value = { List (Option Held) };
 
-    ghost view = { λ s. s.variables.items };
+    ghost view = { λ s. map value_in s.variables.items };
 }
 
 impl Locals {
@@ -27,36 +78,160 @@ impl Locals {
     pub fn new(alloc: Global, count: u16) -> Result<Locals, AllocError>
         ensures { IfOk result (λ s. s ≡ replicate count None) }
     {
-        let variables = vec![in alloc; None; count as usize]?;
+        let variables = vec![in alloc; Variable::Nothing; count as usize]?;
         Ok(Locals { variables })
     }
 
+    /// How many places there are.
+    #[inline(always)]
+    fn count(&self) -> usize
+        ensures { result ≡ length self.now }
+    {
+        self.variables.len()
+    }
+
+    /// What a place holds, where there is one.
+    #[inline(always)]
+    fn variable(&self, at: usize) -> Option<Variable>
+        ensures { slice_get self.now at ≡ option_map value_in result }
+    {
+        self.variables.get(at).copied()
+    }
+
+    /// Changes what a place holds.
+    #[inline(always)]
+    fn put(&mut self, at: usize, variable: Variable)
+        requires { at < length self.old }
+        ensures { self.new ≡ slice_set self.old at (value_in variable) }
+    {
+        self.variables[at] = variable;
+    }
+
+    /// Puts an int into a place. Where an int is there already its number alone is written.
+    #[inline(always)]
+    fn put_int(&mut self, at: usize, number: i32)
+        requires { at < length self.old }
+        ensures { self.new ≡ slice_set self.old at (Some (Value.Int number)) }
+    {
+        let variable = &mut self.variables[at];
+        match variable {
+            Variable::Int(held) => *held = number,
+            _ => *variable = Variable::Int(number),
+        }
+    }
+
+    /// Puts a long into a place. Where a long is there already its number alone is written.
+    #[inline(always)]
+    fn put_long(&mut self, at: usize, number: i64)
+        requires { at < length self.old }
+        ensures { self.new ≡ slice_set self.old at (Some (Value.Long number)) }
+    {
+        let variable = &mut self.variables[at];
+        match variable {
+            Variable::Long(held) => *held = number,
+            _ => *variable = Variable::Long(number),
+        }
+    }
+
     /// The int in a local variable; a fault where no int is there.
-    #[tactic(auto, unfolding(crate::specs::Locals::int_at))]
+    #[tactic(auto, unfolding(crate::specs::Locals::value_at))]
     #[inline(always)]
     pub fn int_at(&self, at: u16) -> Result<i32, Fault>
         ensures ok { IfOk result (λ n. int_at self.now at ≡ Some n) }
         ensures err { OnErr result (int_at self.now at ≡ None) }
     {
-        match self.variables.get(at as usize) {
-            Some(Some(Value::Int(number))) => Ok(*number),
+        match self.variable(at as usize) {
+            Some(Variable::Int(number)) => Ok(number),
             _ => Err(Fault),
         }
     }
 
-    /// Stores a value of one place; a fault, and nothing changed, where there is no such variable.
+    /// The long in a local variable; a fault where no long is there, or one that was ended.
+    #[tactic(auto, unfolding(crate::specs::Locals::value_at))]
+    #[inline(always)]
+    pub fn long_at(&self, at: u16) -> Result<i64, Fault>
+        ensures ok { IfOk result (λ n. long_at self.now at ≡ Some n) }
+        ensures err { OnErr result (long_at self.now at ≡ None) }
+    {
+        let at = at as usize;
+        match (self.variable(at), self.variable(at + 1)) {
+            (Some(Variable::Long(number)), Some(Variable::Nothing)) => Ok(number),
+            _ => Err(Fault),
+        }
+    }
+
+    /// The value in a local variable; a fault where there is none, or a long that was ended.
+    #[tactic(auto, unfolding(crate::specs::Locals::value_at))]
+    #[inline(always)]
+    pub fn value_at(&self, at: u16) -> Result<Value, Fault>
+        ensures ok { IfOk result (λ v. value_at self.now at ≡ Some v) }
+        ensures err { OnErr result (value_at self.now at ≡ None) }
+    {
+        let at = at as usize;
+        let Some(variable) = self.variable(at) else {
+            return Err(Fault);
+        };
+        match variable.value() {
+            Some(Value::Long(number)) => match self.variable(at + 1) {
+                Some(Variable::Nothing) => Ok(Value::Long(number)),
+                _ => Err(Fault),
+            },
+            Some(value) => Ok(value),
+            None => Err(Fault),
+        }
+    }
+
+    /// Stores a value; a fault, and nothing changed, where its places are not all there.
     #[tactic(auto, unfolding(crate::specs::Locals::stored))]
     #[inline(always)]
-    pub fn store(&mut self, at: u16, value: Value) -> Result<(), Fault>
+    pub fn store_value(&mut self, at: u16, value: Value) -> Result<(), Fault>
         ensures ok { OnOk result (stored self.old at value ≡ Some self.new) }
         ensures err { OnErr result (stored self.old at value ≡ None) }
         ensures same { OnErr result (self.new ≡ self.old) }
     {
         let at = at as usize;
-        if at >= self.variables.len() {
+        if at + value.places() as usize > self.count() {
             return Err(Fault);
         }
-        self.variables[at] = Some(value);
+        self.put(at, Variable::holding(value));
+        if let Value::Long(_) = value {
+            self.put(at + 1, Variable::Nothing);
+        }
+        Ok(())
+    }
+
+    /// Stores an int; a fault, and nothing changed, where there is no such variable. Where an int is there already its
+    /// number alone is written.
+    #[tactic(auto, unfolding(crate::specs::Locals::stored))]
+    #[inline(always)]
+    pub fn store_int(&mut self, at: u16, number: i32) -> Result<(), Fault>
+        ensures ok { OnOk result (stored self.old at (Value.Int number) ≡ Some self.new) }
+        ensures err { OnErr result (stored self.old at (Value.Int number) ≡ None) }
+        ensures same { OnErr result (self.new ≡ self.old) }
+    {
+        let at = at as usize;
+        if at >= self.count() {
+            return Err(Fault);
+        }
+        self.put_int(at, number);
+        Ok(())
+    }
+
+    /// Stores a long; a fault, and nothing changed, where its two places are not there. Where a long
+    /// is there already its number alone is written.
+    #[tactic(auto, unfolding(crate::specs::Locals::stored))]
+    #[inline(always)]
+    pub fn store_long(&mut self, at: u16, number: i64) -> Result<(), Fault>
+        ensures ok { OnOk result (stored self.old at (Value.Long number) ≡ Some self.new) }
+        ensures err { OnErr result (stored self.old at (Value.Long number) ≡ None) }
+        ensures same { OnErr result (self.new ≡ self.old) }
+    {
+        let at = at as usize;
+        if at + 1 >= self.count() {
+            return Err(Fault);
+        }
+        self.put_long(at, number);
+        self.put(at + 1, Variable::Nothing);
         Ok(())
     }
 }

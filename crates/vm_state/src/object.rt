@@ -1,10 +1,10 @@
 //! Objects: instances and arrays (JVMS 2.7).
 
-ghost use Rattle.std.specs.Prelude.{◌≡◌, []};
+ghost use Rattle.std.specs.Prelude.{◌≡◌, [], IfOk};
 
 use crate::class_id::ClassId;
 use crate::value::Value;
-use std::alloc::Global;
+use std::alloc::{AllocError, Global};
 use std::marker::Model;
 
 /// The instance fields of an instance, or the elements of an array, in order.
@@ -30,6 +30,22 @@ impl Slots {
         Slots {
             values: Vec::new(alloc),
         }
+    }
+
+    /// These values.
+    pub fn of(alloc: Global, values: &[Value]) -> Result<Slots, AllocError>
+        ensures { IfOk result (λ s. s ≡ values.now) }
+    {
+        let values = Vec::from_slice(alloc, values)?;
+        Ok(Slots { values })
+    }
+
+    /// Their values.
+    #[inline(always)]
+    pub fn as_slice(&self) -> &[Value]
+        ensures { result.now ≡ self.now }
+    {
+        self.values.as_slice()
     }
 }
 

@@ -1,8 +1,9 @@
 //! The operand stack of a frame (JVMS 2.6.2).
 
-ghost use Rattle.std.specs.Prelude.{◌≡◌, ◌∷◌, [], IfOk, OnErr, OnOk, Some, None};
+ghost use Rattle.std.specs.Prelude.{◌≡◌, ◌≤◌, ◌<◌, ◌∷◌, [], IfOk, OnErr, OnOk, Some, None, nat_le};
 ghost use Rattle.vm_state.specs.Values.{places};
-ghost use Rattle.vm_state.specs.Operands.{OperandStack, pushed, top, top_int, rest};
+ghost use Rattle.vm_state.specs.Operands.{OperandStack, all_places, pushed, top, top_int, top_long};
+ghost use Rattle.vm_state.specs.Operands.{rest, dropped, all_pushed};
 
 use crate::value::{Fault, Value};
 use std::alloc::{AllocError, Global};
@@ -24,7 +25,8 @@ impl Model for Operands {
 
     ghost view = { λ s. record { free = s.free; values = reverse s.values.items } };
 
-    ghost invariant = { λ s. (s.free + all_places (reverse s.values.items) ≤ vec_capacity s.values) × (vec_capacity s.values ≤ 65535) };
+    ghost invariant = { λ s.
+        (s.free + all_places (reverse s.values.items) ≤ vec_capacity s.values) × (vec_capacity s.values ≤ 65535) };
 }
 
 impl Operands {
@@ -66,6 +68,14 @@ impl Operands {
         Ok(())
     }
 
+    /// Whether there is room for so many places.
+    #[inline(always)]
+    pub fn has_room(&self, places: u32) -> bool
+        ensures { result ≡ nat_le places self.now.free }
+    {
+        places <= self.free
+    }
+
     /// The value on top, which stays.
     #[tactic(auto, unfolding(crate::specs::Operands::top))]
     #[inline(always)]
@@ -85,17 +95,26 @@ impl Operands {
         self.top()?.int()
     }
 
+    /// The value below so many others, which stays.
+    #[inline(always)]
+    pub fn below(&self, others: usize) -> Result<Value, Fault>
+        ensures ok { IfOk result (λ v. top (dropped others self.now) ≡ Some v) }
+        ensures err { OnErr result (top (dropped others self.now) ≡ None) }
+    {
+        let count = self.values.len();
+        if count <= others {
+            return Err(Fault);
+        }
+        Ok(self.values[count - 1 - others])
+    }
+
     /// The value below the top, which stays.
     #[inline(always)]
     pub fn second(&self) -> Result<Value, Fault>
         ensures ok { IfOk result (λ v. top (rest self.now) ≡ Some v) }
         ensures err { OnErr result (top (rest self.now) ≡ None) }
     {
-        let count = self.values.len();
-        if count < 2 {
-            return Err(Fault);
-        }
-        Ok(self.values[count - 2])
+        self.below(1)
     }
 
     /// The int below the top, which stays.
@@ -105,6 +124,107 @@ impl Operands {
         ensures err { OnErr result (top_int (rest self.now) ≡ None) }
     {
         self.second()?.int()
+    }
+
+    /// The long on top, which stays.
+    #[inline(always)]
+    pub fn top_long(&self) -> Result<i64, Fault>
+        ensures ok { IfOk result (λ n. top_long self.now ≡ Some n) }
+        ensures err { OnErr result (top_long self.now ≡ None) }
+    {
+        self.top()?.long()
+    }
+
+    /// The long below the top, which stays.
+    #[inline(always)]
+    pub fn second_long(&self) -> Result<i64, Fault>
+        ensures ok { IfOk result (λ n. top_long (rest self.now) ≡ Some n) }
+        ensures err { OnErr result (top_long (rest self.now) ≡ None) }
+    {
+        self.second()?.long()
+    }
+
+    /// How many places are free without the value on top.
+    #[tactic(auto, unfolding(crate::specs::Operands::rest))]
+    #[inline(always)]
+    fn free_under_one(&self) -> u32
+        ensures { result ≡ (rest self.now).free }
+    {
+        match self.values.last() {
+            Some(value) => self.free + value.places(),
+            None => self.free,
+        }
+    }
+
+    /// How many places are free without so many values on top.
+    #[tactic(auto, using(crate::proofs::OperandLemmas::free_more, crate::proofs::OperandLemmas::free_same))]
+    #[inline(always)]
+    fn free_under(&self, others: usize) -> u32
+        ensures { result ≡ (dropped others self.now).free }
+    {
+        let mut free = self.free;
+        for depth in 0..others {
+            if let Ok(value) = self.below(depth) {
+                free += value.places();
+            }
+        }
+        free
+    }
+
+    /// Puts a value in the place of the one on top; a fault, and nothing changed, where there is no room for it.
+    #[tactic(auto, unfolding(crate::specs::Operands::pushed))]
+    #[inline(always)]
+    pub fn replace_one(&mut self, value: Value) -> Result<(), Fault>
+        ensures fits { OnOk result (pushed value (rest self.old) ≡ Some self.new) }
+        ensures full { OnErr result (pushed value (rest self.old) ≡ None) }
+        ensures same { OnErr result (self.new ≡ self.old) }
+    {
+        if self.free_under_one() < value.places() {
+            return Err(Fault);
+        }
+        self.drop_top();
+        self.push(value)
+    }
+
+    /// Puts a value in the place of the two on top; a fault, and nothing changed, where there is no room for it.
+    #[tactic(auto, unfolding(crate::specs::Operands::pushed))]
+    #[inline(always)]
+    pub fn replace_two(&mut self, value: Value) -> Result<(), Fault>
+        ensures fits { OnOk result (pushed value (rest (rest self.old)) ≡ Some self.new) }
+        ensures full { OnErr result (pushed value (rest (rest self.old)) ≡ None) }
+        ensures same { OnErr result (self.new ≡ self.old) }
+    {
+        if self.free_under(2) < value.places() {
+            return Err(Fault);
+        }
+        self.drop_top();
+        self.drop_top();
+        self.push(value)
+    }
+
+    /// Puts values on top, the first one first, as far as there is room.
+    #[tactic(auto, unfolding(crate::specs::Operands::all_pushed))]
+    fn push_all(&mut self, values: &[Value]) -> Result<(), Fault>
+        ensures fits { OnOk result (all_pushed values.now self.old ≡ Some self.new) }
+        ensures full { OnErr result (all_pushed values.now self.old ≡ None) }
+    {
+        for value in values {
+            self.push(*value)?;
+        }
+        Ok(())
+    }
+
+    /// Puts values in the place of so many on top, the first one first; a fault, and nothing changed, where there is no
+    /// room for all of them.
+    #[tactic(auto, using(crate::proofs::OperandLemmas::pushed_none))]
+    pub fn replace(&mut self, others: usize, values: &[Value]) -> Result<(), Fault>
+        ensures fits { OnOk result (all_pushed values.now (dropped others self.old) ≡ Some self.new) }
+        ensures full { OnErr result (all_pushed values.now (dropped others self.old) ≡ None) }
+        ensures same { OnErr result (self.new ≡ self.old) }
+    {
+        fit(values, self.free_under(others))?;
+        self.drop_all(others);
+        self.push_all(values)
     }
 
     /// Takes the top off, where there is one.
@@ -117,4 +237,30 @@ impl Operands {
             self.free += value.places();
         }
     }
+
+    /// Takes so many values off, as far as there are any.
+    #[tactic(auto, using(crate::proofs::OperandLemmas::dropped_more))]
+    fn drop_all(&mut self, count: usize)
+        ensures { self.new ≡ dropped count self.old }
+    {
+        for _ in 0..count {
+            self.drop_top();
+        }
+    }
+}
+
+/// A fault where some values do not fit into so many places.
+fn fit(values: &[Value], places: u32) -> Result<(), Fault>
+    ensures ok { OnOk result (all_places values.now ≤ places) }
+    ensures err { OnErr result (places < all_places values.now) }
+{
+    let mut free = places;
+    for value in values {
+        let needed = value.places();
+        if free < needed {
+            return Err(Fault);
+        }
+        free -= needed;
+    }
+    Ok(())
 }

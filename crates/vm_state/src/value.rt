@@ -1,7 +1,7 @@
 //! Values of local variables, operands, fields and elements (JVMS 2.2 to 2.4).
 
 ghost use Rattle.std.specs.Prelude.{◌≡◌, Some, None, IfOk, OnErr};
-ghost use Rattle.vm_state.specs.Values.{places, int_of, value_of};
+ghost use Rattle.vm_state.specs.Values.{places, int_of, long_of, value_of};
 
 /// Who counts an object: the class during whose initialization it was made, or else the thread.
 #[derive(Clone, Copy, PartialEq, Eq, Debug)]
@@ -65,6 +65,18 @@ impl Value {
     {
         match self {
             Value::Int(number) => Ok(number),
+            _ => Err(Fault),
+        }
+    }
+
+    /// The number of a long.
+    #[inline(always)]
+    pub fn long(self) -> Result<i64, Fault>
+        ensures ok { IfOk result (λ n. long_of (Some self) ≡ Some n) }
+        ensures err { OnErr result (long_of (Some self) ≡ None) }
+    {
+        match self {
+            Value::Long(number) => Ok(number),
             _ => Err(Fault),
         }
     }

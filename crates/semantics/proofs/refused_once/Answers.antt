@@ -1,5 +1,5 @@
-use Rattle.semantics.proofs.Refusals.{refusal_excludes_lem, one_refusal_lem}
+use Rattle.semantics.proofs.Refusals.{stop_excludes_lem, one_stop_lem}
 use Rattle.semantics.proofs.refused_once.Goals as goal
 
 pub returns : goal.returns
-returns c = record { excludes = refusal_excludes_lem; one = one_refusal_lem }
+returns c = record { excludes = stop_excludes_lem; one = one_stop_lem }

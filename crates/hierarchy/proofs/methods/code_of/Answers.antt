@@ -1,4 +1,4 @@
-use Rattle.std.proofs.Common.{refl, ap, ◌∙◌}
+use Rattle.std.proofs.Common.{refl, ap, not, length, ◌==◌, ◌∙◌}
 use Rattle.hierarchy.specs.Programs.{returns_nothing}
 use Rattle.hierarchy.proofs.methods.code_of.Goals as goal
 
@@ -7,5 +7,6 @@ returns c = record {
   max_stack = refl;
   max_locals = refl;
   returns_nothing = c.returns_nothing.ensures ∙ ap returns_nothing c.text_at.ensures;
+  has_handlers = ap not (c.is_empty.ensures ∙ ap (λ handlers. length handlers == 0) c.as_slice.ensures);
   body = c.in_ok-body.ensures;
 }

@@ -7,7 +7,7 @@ use Rattle.init_engine.proofs.RoundLemmas.{go_on_from_start, stride_goes_on, str
 use Rattle.init_engine.proofs.turning.run_rounds.Goals as goal
 
 pub rounds-init : goal.rounds-init
-rounds-init c = (rw c.requires (go_on_from_start _ _ _ _), omega (arith, ap length c.requires), refl)
+rounds-init c = (rw c.requires (go_on_from_start _ _ _ _), omega (arith, ap length c.requires), refl, c.new-table.ensures c.args.program.now)
 
 pub returns-then-done-eq0-clause-turns : goal.returns-then-done-eq0-clause-turns
 returns-then-done-eq0-clause-turns c =
@@ -28,4 +28,5 @@ rounds-preserved c =
       turns_go_on _ _ _ _ _ _ _ _ _ _ on round c.if-done-eq0.false c.if-done-left.false,
       omega (arith, round_counts _ _ _ _ _ _ _ _ round, stride_counts _ _ _ _ _ _ _ _ stride, bounded, ahead, c.rounds.invariant.1),
       c.round.ensures.threads ∙ same,
+      c.in_ok-ahead.ensures.steps,
     )

@@ -1,0 +1,4 @@
+pub mod FrameNames
+pub mod RearrangingNames
+pub mod FamilyNames
+pub mod FamilyPlaces

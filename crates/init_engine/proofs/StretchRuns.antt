@@ -1,0 +1,145 @@
+-- Instructions in a row after each of which a thread goes on in one frame are a run.
+use Rattle.std.proofs.Common.{◌≡◌, ℕ, zero, suc, ◌<◌, List, [], ◌∷◌, Option, Some, None, length, get_or, slice_get, slice_set}
+use Rattle.std.proofs.Common.{replicate, refl, sym, ap, subst, ◌∙◌}
+use Rattle.std.proofs.lemmas.List.{map-set}
+use Rattle.std.proofs.lemmas.Option.{slice_get-get_or}
+use Rattle.vm_state.specs.declared.frame.Frame.{Frame}
+use Rattle.vm_state.specs.declared.frame.Activity.{Activity}
+use Rattle.vm_state.specs.declared.frame.Segment.{Segment}
+use Rattle.vm_state.specs.declared.initialization.Level.{Level}
+use Rattle.vm_state.specs.declared.initialization.Frames.{Frames}
+use Rattle.vm_state.specs.declared.shared.Shared.{Shared}
+use Rattle.vm_state.specs.declared.text.Line.{Line}
+use Rattle.vm_state.specs.SharedState.{SharedState}
+use Rattle.vm_state.specs.Shares.{shared_of}
+use Rattle.vm_state.specs.Stacks.{levels_of}
+use Rattle.semantics.specs.Moves.{kept}
+use Rattle.semantics.specs.Steps.{Thread as DefinedThread, Going as IsGoingOn, After, step_thread, instructed, maker_of}
+use Rattle.semantics.specs.Worlds.{World, Run, step_of, put_thread}
+use Rattle.hierarchy.specs.Tables.{Tables}
+use Rattle.machine.specs.Linked.{program_of}
+use Rattle.machine.specs.Stretches.{Here, at, here, goes, stretch}
+use Rattle.machine.proofs.StretchRows.{row_goes}
+use Rattle.machine.proofs.Stretches.{some_of, goes_kept}
+use Rattle.init_engine.specs.declared.world.Thread.{Thread}
+use Rattle.init_engine.specs.declared.world.Thread.TheVariants.{Going, Ended}
+use Rattle.init_engine.specs.Numbering.{AreNumbered}
+use Rattle.init_engine.specs.Threads.{thread_of, AfterStretch, RunsHere}
+use Rattle.init_engine.proofs.WorldSteps.{world_with, thread_at}
+
+-- the frame at its new place is the new frame, since the method is the same
+moved_frame : (f g : Frame) → g.activity ≡ f.activity → kept f g ≡ g
+moved_frame f g same = ap (λ (a : Activity). record g { activity = a }) (sym same)
+
+thread_goes : (P : Tables) (t : ℕ) (sh : SharedState) (f : Frame) (m : Here) (fs : List Frame) (ls : List Level) →
+    goes P t (at f sh) ≡ Some m →
+    step_thread (program_of P) t sh (IsGoingOn (f ∷ fs) ls)
+    ≡ Some (record { shared = m.shared; thread = IsGoingOn (m.frame ∷ fs) ls })
+unfolding step_thread
+thread_goes P t sh f m fs ls h =
+    ap (instructed (program_of P) sh t (f ∷ fs) ls) (row_goes t (maker_of t ls) P f sh m h)
+    ∙ ap (λ (g : Frame). Some (left g)) (moved_frame f m.frame (goes_kept P t (at f sh) m h))
+  where
+    left : Frame → After
+    left g = record { shared = m.shared; thread = IsGoingOn (g ∷ fs) ls }
+
+-- ---- in the whole world
+
+abbrev world_by : SharedState → List DefinedThread → World
+world_by sh threads = record { shared = sh; threads = threads }
+
+set_twice : {X : Type 0} (xs : List X) (i : ℕ) (a b : X) → slice_set (slice_set xs i a) i b ≡ slice_set xs i b
+set_twice [] i a b = refl
+set_twice (x ∷ xs) zero a b = refl
+set_twice (x ∷ xs) (suc i) a b = ap (λ r. x ∷ r) (set_twice xs i a b)
+
+get_set : {X : Type 0} (xs : List X) (i : ℕ) (a b : X) → slice_get xs i ≡ Some a → slice_get (slice_set xs i b) i ≡ Some b
+get_set [] i a b h = cc
+get_set (x ∷ xs) zero a b h = refl
+get_set (x ∷ xs) (suc i) a b h = get_set xs i a b h
+
+set_same : {X : Type 0} (xs : List X) (i : ℕ) (a : X) → slice_get xs i ≡ Some a → xs ≡ slice_set xs i a
+set_same [] i a h = cc
+set_same (x ∷ xs) zero a h = let e : x ≡ a = cc in ap (λ y. y ∷ xs) e
+set_same (x ∷ xs) (suc i) a h = ap (λ r. x ∷ r) (set_same xs i a h)
+
+module _ (P : Tables) (t : ℕ) (fs : List Frame) (ls : List Level) where
+  runs_here : (n : ℕ) (sh : SharedState) (threads : List DefinedThread) (f : Frame) (r : Here) →
+      slice_get threads t ≡ Some (IsGoingOn (f ∷ fs) ls) → stretch P t n (at f sh) ≡ Some r →
+      Run (program_of P) (world_by sh threads) (replicate n t)
+      (world_by r.shared (slice_set threads t (IsGoingOn (r.frame ∷ fs) ls)))
+  runs_here zero sh threads f r stands run =
+      let same : at f sh ≡ r = cc in
+      ap (world_by sh) (set_same threads t (IsGoingOn (f ∷ fs) ls) stands)
+      ∙ ap (λ (h : Here). world_by h.shared (slice_set threads t (IsGoingOn (h.frame ∷ fs) ls))) same
+  runs_here (suc n) sh threads f r stands run =
+      let first = some_of (goes P t (at f sh)) (stretch P t n) r run in
+      let m = first.0 in
+      let middle = IsGoingOn (m.frame ∷ fs) ls in
+      let there = slice_set threads t middle in
+      let stepped = ap (step_of (program_of P) (world_by sh threads) t) stands
+      ∙ ap (put_thread (world_by sh threads) t) (thread_goes P t sh f m fs ls first.1) in
+      let rest = runs_here n m.shared there m.frame r (get_set threads t (IsGoingOn (f ∷ fs) ls) middle stands) first.2 in (
+        world_by m.shared there,
+        stepped,
+        subst (λ (ts : List DefinedThread). Run (program_of P) (world_by m.shared there) (replicate n t) (world_by r.shared ts))
+            (set_twice threads t middle (IsGoingOn (r.frame ∷ fs) ls)) rest,
+      )
+
+-- ---- what the code's run of one thread is
+
+abbrev stack_with : Frames → Frame → List Frame → Frames
+stack_with s f fs = record s { segment = Some (record { innermost = f; callers = fs }) }
+
+module _ (P : Tables) (n : ℕ) (threads : List Thread) (before after : Shared) (printed : List Line) (t : ℕ) where
+  -- a run that leaves this thread so
+  abbrev RunsTo : Thread → Type 0
+  RunsTo new = Run (program_of P) (world_with threads before printed) (replicate n t)
+      (world_with (slice_set threads t new) after printed)
+
+  nothing_run : (old : Thread) → slice_get threads t ≡ Some old → n ≡ 0 → after ≡ before → RunsTo old
+  nothing_run old stands none same =
+      subst (λ k. Run (program_of P) (world_with threads before printed) (replicate k t)
+      (world_with (slice_set threads t old) after printed)) (sym none)
+      (ap (λ ts. world_with ts before printed) (set_same threads t old stands)
+      ∙ ap (λ (s : Shared). world_with (slice_set threads t old) s printed) (sym same))
+
+  frame_runs : (s : Frames) (f g : Frame) (fs : List Frame) → slice_get threads t ≡ Some (Going (stack_with s f fs)) →
+      stretch P t n (here f before printed) ≡ Some (here g after printed) → RunsTo (Going (stack_with s g fs))
+  frame_runs s f g fs stands run =
+      let left : Thread = Going (stack_with s g fs) in
+      let stood = thread_at threads t (Going (stack_with s f fs)) stands in
+      let whole = runs_here P t fs (levels_of s) n (shared_of before printed) _ f (here g after printed) stood run in
+      subst (λ (ts : List DefinedThread). Run (program_of P) (world_with threads before printed) (replicate n t)
+      (world_by (shared_of after printed) ts))
+      (sym (map-set thread_of threads t left)) whole
+
+  top_runs : (s r : Frames) (old new : Option Segment) → s.segment ≡ old → r.segment ≡ new →
+      AfterStretch P t n old before new after → r ≡ record s { segment = r.segment } →
+      slice_get threads t ≡ Some (Going s) → RunsTo (Going r)
+  top_runs s r None new was is (none, left, kept) rest stands =
+      let same : s ≡ r = ap (λ (x : Option Segment). record s { segment = x }) (was ∙ (sym left ∙ sym is)) ∙ sym rest in
+      subst (λ (x : Frames). RunsTo (Going x)) same (nothing_run (Going s) stands none kept)
+  top_runs s r (Some b) None was is run rest stands = absurd run
+  top_runs s r (Some b) (Some a) was is (run, callers) rest stands =
+      let began : s ≡ stack_with s b.innermost b.callers = ap (λ (x : Option Segment). record s { segment = x }) was in
+      let left : stack_with s a.innermost b.callers ≡ r =
+      ap (stack_with s a.innermost) (sym callers)
+      ∙ (ap (λ (x : Option Segment). record s { segment = x }) (sym is) ∙ sym rest) in
+      subst (λ (x : Frames). RunsTo (Going x)) left
+      (frame_runs s b.innermost a.innermost b.callers (stands ∙ ap (λ (x : Frames). Some (Going x)) began) (run printed))
+
+  thread_runs : (old new : Thread) → slice_get threads t ≡ Some old → AreNumbered threads → RunsHere P n old before new after →
+      RunsTo new
+  thread_runs (Ended end) new stands numbered (none, same, kept) =
+      subst RunsTo (sym same) (nothing_run (Ended end) stands none kept)
+  thread_runs (Going s) (Ended end) stands numbered h = absurd h
+  thread_runs (Going s) (Going r) stands numbered (run, rest) =
+      let number : s.thread ≡ t = numbered t (Going s) stands in
+      top_runs s r s.segment r.segment refl refl
+      (subst (λ k. AfterStretch P k n s.segment before r.segment after) number run) rest stands
+
+  pub world_runs : (old new : Thread) → t < length threads → old ≡ get_or threads t old → AreNumbered threads →
+      RunsHere P n old before new after → RunsTo new
+  world_runs old new inside is numbered run =
+      thread_runs old new (slice_get-get_or threads t old inside ∙ ap Some (sym is)) numbered run

@@ -1,0 +1,171 @@
+//! One instruction of a thread.
+
+ghost use Rattle.std.specs.Prelude.{◌≡◌, ◌∷◌, ℕ, List, IfOk, OnOk, OnErr, IsSome, Some, None};
+ghost use Rattle.vm_state.specs.declared.frame.Frame.{Frame};
+ghost use Rattle.vm_state.specs.declared.text.Line.{Line};
+ghost use Rattle.vm_state.specs.Shares.{shared_of};
+ghost use Rattle.vm_state.specs.Stacks.{levels_of};
+ghost use Rattle.hierarchy.specs.Tables.{Tables};
+ghost use Rattle.semantics.specs.Moves.{received};
+ghost use Rattle.semantics.specs.Rows.{Moved, Next, Raise, Returns, Result as Led, run_row};
+ghost use Rattle.semantics.specs.Steps.{maker_of};
+ghost use Rattle.vm_state.specs.SharedState.{SharedState};
+ghost use Rattle.vm_state.specs.declared.value.Maker.{Maker};
+ghost use Rattle.machine.specs.declared.kinds.Stop.{Stop};
+ghost use Rattle.machine.specs.Accesses.{concluded, unless_refused};
+ghost use Rattle.vm_state.specs.declared.initialization.Frames.{Frames};
+ghost use Rattle.vm_state.specs.declared.initialization.Level.{Level};
+ghost use Rattle.machine.specs.Sharing.{stopped_shared};
+ghost use Rattle.machine.specs.Effects.{IsStep, IsStopped, IsEffect, Stays};
+
+use crate::execute::execute;
+use crate::kinds::{Actor, Conclusion, Effect, Stop};
+use frame_instructions::numeric::advance;
+use hierarchy::program::Program;
+use std::alloc::{AllocError, Global};
+use vm_state::class_id::ClassId;
+use vm_state::ends::{End, FaultKind};
+use vm_state::frame::{Frame, FrameList, Segment};
+use vm_state::initialization::Frames;
+use vm_state::shared::Shared;
+use vm_state::value::{Fault, Maker, Name, Value};
+
+/// Who counts the objects that a thread makes: the class of its highest initialization entry, or the thread.
+fn maker_of(frames: &Frames) -> Maker
+    ensures { result ≡ maker_of frames.now.thread (levels_of frames.now) }
+{
+    match &frames.levels {
+        Some(levels) => Maker::Class(levels.highest.entry.class),
+        None => Maker::Thread(frames.thread),
+    }
+}
+
+/// Behind a call, with the value returned on the operand stack. A fault, and nothing changed, where that has no room.
+fn receive(frame: &mut Frame, value: Option<Value>) -> Result<(), Fault>
+    ensures ok { OnOk result (received value frame.old ≡ Some frame.new) }
+    ensures err { OnErr result (received value frame.old ≡ None) }
+{
+    if let Some(value) = value {
+        frame.operands.push(value)?;
+    }
+    advance(frame);
+    Ok(())
+}
+
+/// Returns to the caller, where there is one above the highest initialization entry.
+fn return_to(frames: &mut Frames, callers: FrameList, value: Option<Value>) -> Effect
+    ensures step { (P : Tables) (f : Frame) (before after : SharedState) → IsStep P frames.old.thread (f ∷ callers) (levels_of frames.old) before (Moved (Next (Returns value)) after) result frames.new after }
+    ensures moves { ((old new : Frames) → Stays result old new) × ((before after : SharedState) → Stays result before after) }
+    ensures kept { (frames.new.thread ≡ frames.old.thread) × (frames.new.levels ≡ frames.old.levels) }
+{
+    frames.segment = callers.into_segment();
+    match &mut frames.segment {
+        Some(segment) => match receive(&mut segment.innermost, value) {
+            Ok(()) => Effect::Next,
+            Err(Fault) => Effect::Halt(End::Faulted(FaultKind::Fault)),
+        },
+        None => match &frames.levels {
+            Some(_) => Effect::Next,
+            None => Effect::Halt(End::Returned),
+        },
+    }
+}
+
+/// Goes on in a frame, with its callers.
+fn stand(frames: &mut Frames, innermost: Frame, callers: FrameList)
+    ensures { frames.new ≡ record frames.old { segment = Some (record { innermost = innermost; callers = callers }) } }
+{
+    frames.segment = Some(Segment { innermost, callers });
+}
+
+/// An exception that no frame above the highest initialization entry catches: it becomes pending there, and where there is
+/// no entry its thread ends (JVMS 2.10, 5.5).
+fn throw(frames: &mut Frames, exception: Name, class: ClassId) -> Effect
+    ensures step { (P : Tables) (fs : List Frame) (f : Frame) (before after : SharedState) → IsStep P frames.old.thread (f ∷ fs) (levels_of frames.old) before (Moved (Raise exception class) after) result frames.new after }
+    ensures moves { ((old new : Frames) → Stays result old new) × ((before after : SharedState) → Stays result before after) }
+    ensures thread { frames.new.thread ≡ frames.old.thread }
+{
+    if frames.levels.is_none() {
+        return Effect::Halt(End::Uncaught(class));
+    }
+    frames.set_pending(exception);
+    Effect::Raise
+}
+
+/// What the conclusion of an instruction makes of its thread, of whose stack its frame and the callers were taken.
+fn conclude(frames: &mut Frames, frame: Frame, callers: FrameList, conclusion: Conclusion) -> Effect
+    ensures step { (P : Tables) (maker : Maker) (f : Frame) (before after : SharedState) → f.activity ≡ frame.activity →
+        IsStep P frames.old.thread (f ∷ callers) (levels_of frames.old) before (run_row frames.old.thread maker after (concluded conclusion frame)) result frames.new after }
+    ensures moves { ((old new : Frames) → Stays result old new) × ((before after : SharedState) → Stays result before after) }
+    ensures thread { frames.new.thread ≡ frames.old.thread }
+{
+    match conclusion {
+        Conclusion::Stays => {
+            stand(frames, frame, callers);
+            Effect::Next
+        }
+        Conclusion::Becomes(other) => {
+            stand(frames, other, callers);
+            Effect::Next
+        }
+        Conclusion::Prints(text) => {
+            stand(frames, frame, callers);
+            Effect::Print(text)
+        }
+        Conclusion::Returns(value) => return_to(frames, callers, value),
+        Conclusion::Raises(exception, class) => throw(frames, exception, class),
+        Conclusion::Halts(kind) => Effect::Halt(End::Faulted(kind)),
+    }
+}
+
+/// What stopped an instruction, as an effect.
+#[tactic(auto, unfolding(crate::specs::Accesses::unless_refused))]
+fn stopped(stop: Stop) -> Result<Effect, AllocError>
+    ensures step { IfOk result (λ e. (P : Tables) (t : ℕ) (fs : List Frame) (ls : List Level) (before after : SharedState) (r : Led) (new : Frames) → unless_refused stop r ≡ unless_refused stop (stopped_shared stop) → IsStep P t fs ls before r e new after) }
+    ensures stays { IfOk result IsStopped }
+    ensures err { OnErr result (stop ≡ Stop.Memory) }
+{
+    match stop {
+        Stop::Needs(class) => Ok(Effect::Needs(class)),
+        Stop::Waits | Stop::ForeignObject | Stop::Barred => Ok(Effect::Wait),
+        Stop::Memory => Err(AllocError),
+    }
+}
+
+/// One instruction of a thread, on top of whose stack a frame stands. Where memory is refused nothing changes.
+pub fn effect(
+    alloc: Global,
+    program: &Program,
+    frames: &mut Frames,
+    shared: &mut Shared,
+) -> Result<Effect, AllocError>
+    requires { IsSome frames.old.segment }
+
+    // What it answers and leaves is what the row of the table gives.
+    ensures gives { IfOk result (λ e. (p : List Line) → IsEffect program.now frames.old (shared_of shared.old p) e frames.new (shared_of shared.new p)) }
+
+    ensures thread { frames.new.thread ≡ frames.old.thread }
+
+    // A thread that needs a class or waits stays as it was, and so does all after a refusal of memory.
+    ensures stays { IfOk result (λ e. (Stays e frames.old frames.new) × ((p : List Line) → Stays e (shared_of shared.old p) (shared_of shared.new p))) }
+    ensures err { OnErr result ((frames.new ≡ frames.old) × ((p : List Line) → shared_of shared.new p ≡ shared_of shared.old p)) }
+{
+    let by = Actor {
+        thread: frames.thread,
+        maker: maker_of(frames),
+    };
+    let Some(segment) = frames.segment.take() else {
+        unreachable!()
+    };
+    let Segment {
+        innermost: mut frame,
+        callers,
+    } = segment;
+    match execute(alloc, program, by, &mut frame, shared) {
+        Ok(conclusion) => Ok(conclude(frames, frame, callers, conclusion)),
+        Err(stop) => {
+            stand(frames, frame, callers);
+            stopped(stop)
+        }
+    }
+}

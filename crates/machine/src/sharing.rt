@@ -1,0 +1,76 @@
+//! The store of all threads: what they share.
+
+ghost use Rattle.std.specs.Prelude.{◌≡◌, ℕ, List};
+ghost use Rattle.vm_state.specs.declared.text.Line.{Line};
+ghost use Rattle.vm_state.specs.Shares.{shared_of};
+ghost use Rattle.vm_state.specs.SharedState.{SharedState};
+ghost use Rattle.semantics.specs.Rows.{Result as Led};
+ghost use Rattle.machine.specs.Sharing.{run_shared, stopped_shared, CanUseShared};
+
+use crate::kinds::{Actor, Stop};
+use crate::store::Store;
+use std::alloc::{AllocError, Global};
+use vm_state::class_id::ClassId;
+use vm_state::classes::Usability;
+use vm_state::object::Slots;
+use vm_state::shared::Shared;
+use vm_state::value::{Name, Value};
+
+impl Store for Shared {
+    ghost Answer = { Led };
+
+    ghost State = { SharedState };
+
+    ghost state = { shared_of };
+
+    ghost run = { run_shared };
+
+    ghost stopped = { stopped_shared };
+
+    ghost CanUse = { CanUseShared };
+
+    #[tactic(auto, unfolding(crate::specs::Accesses::unless_refused))]
+    #[inline(always)]
+    fn use_class(&self, by: Actor, class: u32) -> Result<bool, Stop> {
+        match self.state(class).usability(by.thread) {
+            Usability::Ready => Ok(true),
+            Usability::Broken => Ok(false),
+            Usability::Fresh => Err(Stop::Needs(class)),
+            Usability::Busy => Err(Stop::Waits),
+        }
+    }
+
+    #[inline(always)]
+    fn read_static(&self, _by: Actor, class: u32, field: u32) -> Result<Value, Stop> {
+        Ok(self.field(class, field))
+    }
+
+    #[tactic(auto, unfolding(crate::specs::Accesses::unless_refused))]
+    fn write_static(
+        &mut self,
+        alloc: Global,
+        _by: Actor,
+        class: u32,
+        field: u32,
+        value: Value,
+    ) -> Result<(), Stop> {
+        match self.set_field(alloc, class, field, value) {
+            Ok(()) => Ok(()),
+            Err(AllocError) => Err(Stop::Memory),
+        }
+    }
+
+    #[tactic(auto, unfolding(crate::specs::Accesses::unless_refused))]
+    fn make(
+        &mut self,
+        alloc: Global,
+        by: Actor,
+        class: ClassId,
+        slots: Slots,
+    ) -> Result<Name, Stop> {
+        match Shared::make(self, alloc, by.maker, class, slots) {
+            Ok(name) => Ok(name),
+            Err(AllocError) => Err(Stop::Memory),
+        }
+    }
+}

@@ -1,0 +1,96 @@
+//! A thread's start (JVMS 5.2), over any store.
+
+ghost use Rattle.std.specs.Prelude.{◌≡◌, List, Option, Some, None, IfOk, IfSome, IfNone, IfErr, OnErr, replicate};
+ghost use Rattle.vm_state.specs.declared.value.Value.{Value};
+ghost use Rattle.vm_state.specs.declared.text.Line.{Line};
+ghost use Rattle.vm_state.specs.Locals.{stored};
+ghost use Rattle.hierarchy.specs.Tables.{main_in};
+ghost use Rattle.machine.specs.declared.kinds.Stop.{Stop};
+ghost use Rattle.machine.specs.Table.{call_main, called, start_row};
+ghost use Rattle.machine.specs.Accesses.{Gives, concluded};
+
+use crate::kinds::{Actor, Conclusion, Stop};
+use crate::store::Store;
+use hierarchy::class::{Code, Implementation};
+use hierarchy::program::Program;
+use std::alloc::{AllocError, Global};
+use vm_state::ends::FaultKind;
+use vm_state::frame::{Activity, Frame};
+use vm_state::locals::Locals;
+use vm_state::operands::Operands;
+use vm_state::value::{Fault, Value};
+
+/// The frame of a method that has just been called with one argument; none where the method has no local variable
+/// for it.
+fn called(
+    alloc: Global,
+    class: u32,
+    method: u16,
+    code: &Code,
+    argument: Value,
+) -> Result<Option<Frame>, AllocError>
+    ensures none { IfOk result (λ r. IfNone r (stored (replicate code.now.max_locals None) 0 argument ≡ None)) }
+    ensures some { IfOk result (λ r. IfSome r (λ f. (locals : List (Option Value)) × (stored (replicate code.now.max_locals None) 0 argument ≡ Some locals) × (f ≡ called class method code.now locals))) }
+{
+    let mut locals = Locals::new(alloc, code.max_locals)?;
+    let operands = Operands::new(alloc, code.max_stack)?;
+    match locals.store_value(0, argument) {
+        Ok(()) => Ok(Some(Frame {
+            activity: Activity::Method {
+                class,
+                index: method,
+            },
+            place: 0,
+            locals,
+            operands,
+        })),
+        Err(Fault) => Ok(None),
+    }
+}
+
+/// The call of `main` by a thread's start, whose entry class may be used.
+fn call_main(
+    alloc: Global,
+    program: &Program,
+    frame: &Frame,
+    class: u32,
+) -> Result<Conclusion, Stop>
+    ensures gives { IfOk result (λ conclusion. call_main program.now class frame.now (main_in program.now class) ≡ concluded conclusion frame.now) }
+    ensures memory { IfErr result (λ stop. stop ≡ Stop.Memory) }
+{
+    let Some(method) = program.main(class) else {
+        return Ok(Conclusion::Halts(FaultKind::Missing));
+    };
+    match program.implementation(class, method) {
+        None => Ok(Conclusion::Halts(FaultKind::Missing)),
+        Some(Implementation::Abstract) => Ok(Conclusion::Halts(FaultKind::Missing)),
+        Some(Implementation::Unsupported) => Ok(Conclusion::Halts(FaultKind::Unsupported)),
+        Some(Implementation::Code(code)) => {
+            let Ok(argument) = frame.operands.top() else {
+                return Ok(Conclusion::Halts(FaultKind::Fault));
+            };
+            match called(alloc, class, method, code, argument)? {
+                Some(callee) => Ok(Conclusion::Becomes(callee)),
+                None => Ok(Conclusion::Halts(FaultKind::Fault)),
+            }
+        }
+    }
+}
+
+/// The start of a thread, which needs its entry class and calls the class's `main`.
+#[tactic(auto, unfolding(crate::specs::Accesses::unless_refused))]
+pub fn start<S: Store>(
+    alloc: Global,
+    program: &Program,
+    by: Actor,
+    frame: &Frame,
+    store: &S,
+    class: u32,
+) -> Result<Conclusion, Stop>
+    ensures gives { (p : List Line) → Gives S.stopped (S.run by (S.state store.now p)) (S.run by (S.state store.now p)) (start_row program.now class frame.now) frame.now result }
+{
+    if !store.use_class(by, class)? {
+        return Ok(Conclusion::Halts(FaultKind::Unsupported));
+    }
+    call_main(alloc, program, frame, class)
+}

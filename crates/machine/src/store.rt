@@ -1,0 +1,63 @@
+//! What an instruction touches beyond its own frame.
+
+ghost use Rattle.std.specs.Prelude.{◌≡◌, ℕ, true, List, OnErr, IfOk};
+ghost use Rattle.vm_state.specs.declared.text.Line.{Line};
+ghost use Rattle.semantics.specs.Rows.{Row, UseClass, ReadStatic, WriteStatic, Make};
+ghost use Rattle.machine.specs.Accesses.{Leads, LeadsOn};
+ghost use Rattle.machine.specs.declared.kinds.Actor.{Actor as By};
+ghost use Rattle.machine.specs.declared.kinds.Stop.{Stop as Reason};
+
+use crate::kinds::{Actor, Stop};
+use std::alloc::Global;
+use vm_state::class_id::ClassId;
+use vm_state::object::Slots;
+use vm_state::value::{Name, Value};
+
+/// Where instructions make their accesses. A row has a meaning in it, and each access is one step of that meaning.
+pub trait Store {
+    // What a row leads to.
+    ghost Answer: { Type 0 };
+
+    // What definitions see of a store.
+    ghost State: { Type 0 };
+
+    // The state of a store, where this was printed so far.
+    ghost state: { Self → List Line → Self.State };
+
+    // What a row leads to from a state.
+    ghost run: { By → Self.State → Row → Self.Answer };
+
+    // What a row leads to that is stopped for a reason other than memory.
+    ghost stopped: { Reason → Self.Answer };
+
+    // A class was asked for, and may be used.
+    ghost CanUse: { By → Self → ℕ → Type 0 };
+
+    /// Asks for an initialized class (JVMS 5.5): true where it may be used, false where its initialization failed.
+    fn use_class(&self, by: Actor, class: u32) -> Result<bool, Stop>
+        ensures leads { (p : List Line) → Leads stopped (run by (state self.now p)) (run by (state self.now p)) (UseClass class) result }
+        ensures may { IfOk result (λ usable. usable ≡ true → CanUse by self.now class) };
+
+    /// The value of a static field of a class that was asked for.
+    fn read_static(&self, by: Actor, class: u32, field: u32) -> Result<Value, Stop>
+        requires { CanUse by self.now class }
+        ensures { (p : List Line) → Leads stopped (run by (state self.now p)) (run by (state self.now p)) (ReadStatic class field) result };
+
+    /// Sets a static field of a class that was asked for. Where it is stopped nothing changes.
+    fn write_static(
+        &mut self,
+        alloc: Global,
+        by: Actor,
+        class: u32,
+        field: u32,
+        value: Value,
+    ) -> Result<(), Stop>
+        requires { CanUse by self.old class }
+        ensures leads { (p : List Line) → LeadsOn stopped (run by (state self.old p)) (run by (state self.new p)) (WriteStatic class field value) result }
+        ensures same { OnErr result ((p : List Line) → state self.new p ≡ state self.old p) };
+
+    /// Makes an object, whose monitor is free, and answers its name. Where it is stopped nothing changes.
+    fn make(&mut self, alloc: Global, by: Actor, class: ClassId, slots: Slots) -> Result<Name, Stop>
+        ensures leads { (p : List Line) → Leads stopped (run by (state self.old p)) (run by (state self.new p)) (Make class slots) result }
+        ensures same { OnErr result ((p : List Line) → state self.new p ≡ state self.old p) };
+}
