@@ -24,22 +24,23 @@ pub other_entry : (family : Family) (strings : List (List ℕ)) (f : Structure) 
     → ((high low : ℕ) → constant ≢ constants.Long high low) → ((high low : ℕ) → constant ≢ constants.Double high low)
     → ((name : ℕ) → constant ≢ constants.Class name) → ((c n : ℕ) → constant ≢ constants.Fieldref c n)
     → ((c n : ℕ) → constant ≢ constants.Methodref c n) → ((c n : ℕ) → constant ≢ constants.InterfaceMethodref c n)
+    → ((kind reference : ℕ) → constant ≢ constants.MethodHandle kind reference) → ((descriptor : ℕ) → constant ≢ constants.MethodType descriptor)
     → ((utf8 : ℕ) → constant ≢ constants.String utf8) → IsEntry family strings f index constant entries.Other
-other_entry family strings f index constants.Unusable i l m d k r s t u = IsEntry.unusable
-other_entry family strings f index (constants.Utf8 text) i l m d k r s t u = IsEntry.utf8
-other_entry family strings f index (constants.Integer bits) i l m d k r s t u = absurd (i bits refl)
-other_entry family strings f index (constants.Float bits) i l m d k r s t u = absurd (l bits refl)
-other_entry family strings f index (constants.Long high low) i l m d k r s t u = absurd (m high low refl)
-other_entry family strings f index (constants.Double high low) i l m d k r s t u = absurd (d high low refl)
-other_entry family strings f index (constants.Class name) i l m d k r s t u = absurd (k name refl)
-other_entry family strings f index (constants.String utf8) i l m d k r s t u = absurd (u utf8 refl)
-other_entry family strings f index (constants.Fieldref c n) i l m d k r s t u = absurd (r c n refl)
-other_entry family strings f index (constants.Methodref c n) i l m d k r s t u = absurd (s c n refl)
-other_entry family strings f index (constants.InterfaceMethodref c n) i l m d k r s t u = absurd (t c n refl)
-other_entry family strings f index (constants.NameAndType name descriptor) i l m d k r s t u = IsEntry.name_and_type
-other_entry family strings f index (constants.MethodHandle kind reference) i l m d k r s t u = IsEntry.method_handle
-other_entry family strings f index (constants.MethodType descriptor) i l m d k r s t u = IsEntry.method_type
-other_entry family strings f index (constants.InvokeDynamic bootstrap n) i l m d k r s t u = IsEntry.invoke_dynamic
+other_entry family strings f index constants.Unusable i l m d k r s t h y u = IsEntry.unusable
+other_entry family strings f index (constants.Utf8 text) i l m d k r s t h y u = IsEntry.utf8
+other_entry family strings f index (constants.Integer bits) i l m d k r s t h y u = absurd (i bits refl)
+other_entry family strings f index (constants.Float bits) i l m d k r s t h y u = absurd (l bits refl)
+other_entry family strings f index (constants.Long high low) i l m d k r s t h y u = absurd (m high low refl)
+other_entry family strings f index (constants.Double high low) i l m d k r s t h y u = absurd (d high low refl)
+other_entry family strings f index (constants.Class name) i l m d k r s t h y u = absurd (k name refl)
+other_entry family strings f index (constants.String utf8) i l m d k r s t h y u = absurd (u utf8 refl)
+other_entry family strings f index (constants.Fieldref c n) i l m d k r s t h y u = absurd (r c n refl)
+other_entry family strings f index (constants.Methodref c n) i l m d k r s t h y u = absurd (s c n refl)
+other_entry family strings f index (constants.InterfaceMethodref c n) i l m d k r s t h y u = absurd (t c n refl)
+other_entry family strings f index (constants.NameAndType name descriptor) i l m d k r s t h y u = IsEntry.name_and_type
+other_entry family strings f index (constants.MethodHandle kind reference) i l m d k r s t h y u = absurd (h kind reference refl)
+other_entry family strings f index (constants.MethodType descriptor) i l m d k r s t h y u = absurd (y descriptor refl)
+other_entry family strings f index (constants.InvokeDynamic bootstrap n) i l m d k r s t h y u = IsEntry.invoke_dynamic
 
 -- each of these constants has its entry
 abbrev pub HaveEntries : Family → List (List ℕ) → Structure → List Entry → Type 0

@@ -121,8 +121,8 @@ pub data IsEntry (family : Family) (strings : List (List ℕ)) (f : Structure) (
   utf8 : {text : List ℕ} → IsEntry family strings f index (constants.Utf8 text) entries.Other
   unusable : IsEntry family strings f index constants.Unusable entries.Other
   name_and_type : {name descriptor : ℕ} → IsEntry family strings f index (constants.NameAndType name descriptor) entries.Other
-  method_handle : {kind reference : ℕ} → IsEntry family strings f index (constants.MethodHandle kind reference) entries.Other
-  method_type : {descriptor : ℕ} → IsEntry family strings f index (constants.MethodType descriptor) entries.Other
+  method_handle : {kind reference : ℕ} → IsEntry family strings f index (constants.MethodHandle kind reference) entries.MethodHandle
+  method_type : {descriptor : ℕ} → IsEntry family strings f index (constants.MethodType descriptor) entries.MethodType
   invoke_dynamic : {bootstrap n : ℕ} → IsEntry family strings f index (constants.InvokeDynamic bootstrap n) entries.Other
 
 -- an entry that is no string is the same whatever strings there are

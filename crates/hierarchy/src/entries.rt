@@ -137,6 +137,8 @@ impl<'a> Resolver<'a> {
             Constant::InterfaceMethodref { .. } => {
                 Entry::InterfaceMethod(resolve_method_at(self.hierarchy, file, index))
             }
+            Constant::MethodHandle { .. } => Entry::MethodHandle,
+            Constant::MethodType { .. } => Entry::MethodType,
             _ => Entry::Other,
         }
     }

@@ -40,7 +40,7 @@ pub enum FieldTarget {
 /// What an entry of a constant pool stands for.
 #[derive(Clone, Copy, PartialEq, Eq, Debug)]
 pub enum Entry {
-    /// No instruction names it, or what it stands for is left out.
+    /// No instruction that is executed names it.
     Other,
     Int(i32),
     Long(i64),
@@ -50,6 +50,10 @@ pub enum Entry {
     Text(usize),
     /// A class, if it is given or built in, or an array class of such.
     Class(Option<ClassId>),
+    /// Left out: method handles are not executed.
+    MethodHandle,
+    /// Left out: method types are not executed.
+    MethodType,
     /// A field reference: the kind of its descriptor, and what it resolves to.
     Field(FieldKind, Result<FieldTarget, Unresolved>),
     /// A method reference, and what it resolves to.

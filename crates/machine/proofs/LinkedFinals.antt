@@ -93,7 +93,8 @@ module _ (w : OperandKind) (c k : ℕ) where
   no_int (Some (entries.Text n)) e = cc
   no_int (Some entries.Float) e = cc
   no_int (Some (entries.Class x)) e = cc
-  no_int (Some entries.Other) e = cc
+  no_int (Some entries.MethodHandle) e = cc
+  no_int (Some entries.MethodType) e = cc
   no_int other e = cc
 
   no_long : (e : Option Entry) → long_constant e ≡ PutStatic w c k → ⊥

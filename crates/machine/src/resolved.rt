@@ -48,7 +48,8 @@ fn int_constant(entry: Option<Entry>) -> Resolved
     match entry {
         Some(Entry::Int(number)) => Resolved::PushInt(number),
         Some(Entry::Text(_)) | Some(Entry::Float) => UNSUPPORTED,
-        Some(Entry::Class(_)) | Some(Entry::Other) => UNSUPPORTED,
+        Some(Entry::Class(_)) => UNSUPPORTED,
+        Some(Entry::MethodHandle) | Some(Entry::MethodType) => UNSUPPORTED,
         _ => FAULT,
     }
 }

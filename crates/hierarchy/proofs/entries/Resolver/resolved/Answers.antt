@@ -41,8 +41,14 @@ pub returns-in-InterfaceMethodref : goal.returns-in-InterfaceMethodref
 returns-in-InterfaceMethodref c = λ strings plain.
     rw c.in-InterfaceMethodref.is (IsEntry.interface_method c.resolve_method_at-in-InterfaceMethodref.ensures)
 
+pub returns-in-MethodHandle : goal.returns-in-MethodHandle
+returns-in-MethodHandle c = λ strings plain. rw c.in-MethodHandle.is IsEntry.method_handle
+
+pub returns-in-MethodType : goal.returns-in-MethodType
+returns-in-MethodType c = λ strings plain. rw c.in-MethodType.is IsEntry.method_type
+
 pub returns-in_default : goal.returns-in_default
 returns-in_default c = λ strings plain.
     let d = c.in_default in
     other_entry _ strings _ _ _ d.not-Integer d.not-Float d.not-Long d.not-Double d.not-Class
-    d.not-Fieldref d.not-Methodref d.not-InterfaceMethodref plain
+    d.not-Fieldref d.not-Methodref d.not-InterfaceMethodref d.not-MethodHandle d.not-MethodType plain
