@@ -13,7 +13,6 @@ use crate::stack_management::rearrange;
 use crate::trap::Trap;
 use bytecode::StackOperation;
 use vm_state::frame::Frame;
-use vm_state::value::Value;
 
 /// `iload`, `lload` and `aload`.
 #[inline(always)]
@@ -55,10 +54,8 @@ pub fn increment(frame: &mut Frame, at: u16, by: i32) -> Result<(), Trap>
     ensures gives { updates at (λ a. computed.Int (int_wrapping_add w32 a by)) frame.old ≡ completed result frame.new }
     ensures same { OnErr result (frame.new ≡ frame.old) }
 {
-    let number = frame.locals.value_at(at)?.int()?;
-    frame
-        .locals
-        .store_value(at, Value::Int(number.wrapping_add(by)))?;
+    let number = frame.locals.int_at(at)?;
+    frame.locals.store_int(at, number.wrapping_add(by))?;
     advance(frame);
     Ok(())
 }

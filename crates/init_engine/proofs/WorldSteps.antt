@@ -50,11 +50,16 @@ pub has_no_step : (P : Program) (threads : List Thread) (shared : Shared) (print
     step_thread P i (shared_of shared printed) (thread_of old) ≡ None → step P (world_with threads shared printed) i ≡ None
 has_no_step P threads shared printed i old at none = stepping P threads shared printed i old at ∙ ap (put_thread (world_with threads shared printed) i) none
 
-pub stays_same : (threads : List Thread) (before after : Shared) (printed : List Line) (i : ℕ) (old new : Thread) → slice_get threads i ≡ Some old → IsUnchanged old new before after →
-    world_with (slice_set threads i new) after printed ≡ world_with threads before printed
-stays_same threads before after printed i old new at (same, shared) =
-    ap (λ (s : SharedState). record { shared = s; threads = map thread_of (slice_set threads i new) }) (shared printed)
+pub stays_same : (threads : List Thread) (before after : Shared) (printed : List Line) (i : ℕ) (old new : Thread) → slice_get threads i ≡ Some old → thread_of new ≡ thread_of old →
+    shared_of after printed ≡ shared_of before printed → world_with (slice_set threads i new) after printed ≡ world_with threads before printed
+stays_same threads before after printed i old new at same shared =
+    ap (λ (s : SharedState). record { shared = s; threads = map thread_of (slice_set threads i new) }) shared
     ∙ ap (λ ts. record { shared = shared_of before printed; threads = ts }) (map-set_same thread_of threads i new old (same ∙ ap thread_of (sym (get_or_from_slice_get threads i old old at))))
+
+unchanged_same : (threads : List Thread) (before after : Shared) (printed : List Line) (i : ℕ) (old new : Thread) → slice_get threads i ≡ Some old → IsUnchanged old new before after →
+    world_with (slice_set threads i new) after printed ≡ world_with threads before printed
+unchanged_same threads before after printed i old new at (same, shared) =
+    stays_same threads before after printed i old new at same (ap (λ (s : Shared). shared_of s printed) shared)
 
 -- ---- going or ended
 
@@ -102,14 +107,14 @@ module _ {P : Program} {threads : List Thread} {before after : Shared} {i : ℕ}
   waits printed h = (
     goes_at threads i old h.at h.stays.0,
     has_no_step P threads before printed i old h.at (h.steps i (h.numbered i old h.at) printed),
-    stays_same threads before after printed i old new h.at h.stays.1,
+    unchanged_same threads before after printed i old new h.at h.stays.1,
   )
 
   pub over : (printed : List Line) → Turned P threads before after i old new Over → IsTurn P (world_with threads before printed) i EndedTurn (world_with (slice_set threads i new) after printed)
   over printed h = (
     over_at threads i old h.at h.stays.0,
     has_no_step P threads before printed i old h.at (h.steps i (h.numbered i old h.at) printed),
-    stays_same threads before after printed i old new h.at h.stays.1,
+    unchanged_same threads before after printed i old new h.at h.stays.1,
   )
 
 -- all four at once
@@ -121,10 +126,11 @@ noted P threads before after i old new (Said text) printed more answer is same h
 noted P threads before after i old new Waits printed more answer is same h = rw (same, is, append-nil printed) (waits printed h)
 noted P threads before after i old new Over printed more answer is same h = rw (same, is, append-nil printed) (over printed h)
 
-pub refused : (threads : List Thread) (before after : Shared) (printed : List Line) (i : ℕ) (old new : Thread) → i < length threads → old ≡ get_or threads i old → IsUnchanged old new before after →
+pub refused : (threads : List Thread) (before after : Shared) (printed : List Line) (i : ℕ) (old new : Thread) → i < length threads → old ≡ get_or threads i old →
+    (thread_of new ≡ thread_of old) × ((p : List Line) → shared_of after p ≡ shared_of before p) →
     world_with (slice_set threads i new) after printed ≡ world_with threads before printed
-refused threads before after printed i old new inside is same =
-    stays_same threads before after printed i old new (slice_get-get_or threads i old inside ∙ ap Some (sym is)) same
+refused threads before after printed i old new inside is (same, shared) =
+    stays_same threads before after printed i old new (slice_get-get_or threads i old inside ∙ ap Some (sym is)) same (shared printed)
 
 -- what holds at each place still does after one is written
 set_keeps : {X : Type 0} (P : ℕ → X → Type 0) (xs : List X) (i : ℕ) (new : X) → ((t : ℕ) (x : X) → slice_get xs t ≡ Some x → P t x) → P i new →

@@ -28,9 +28,9 @@ abbrev pub Steps : Program → Frames → Shared → Progress → Frames → Sha
 Steps P old before progress new after =
     (p : List Line) → step_thread P old.thread (shared_of before p) (going old) ≡ left_by_step progress old.thread new (shared_of after p)
 
--- where there is no step the thread stays as it was
+-- where there is no step the thread and what threads share stay as they were
 abbrev pub StaysPut : Progress → Frames → Frames → Shared → Shared → Type 0
 StaysPut Moved old new before after = Unit {0}
 StaysPut (Printed text) old new before after = Unit {0}
 StaysPut (Ended end) old new before after = Unit {0}
-StaysPut Waits old new before after = (new ≡ old) × ((p : List Line) → shared_of after p ≡ shared_of before p)
+StaysPut Waits old new before after = (new ≡ old) × (after ≡ before)

@@ -3,7 +3,6 @@ use Rattle.std.specs.Prelude.{◌≡◌, ℕ, List, Option, Some, None}
 use Rattle.vm_state.specs.declared.shared.Shared.{Shared}
 use Rattle.vm_state.specs.declared.text.Line.{Line}
 use Rattle.vm_state.specs.SharedState.{SharedState, with_line}
-use Rattle.vm_state.specs.Shares.{shared_of}
 use Rattle.semantics.specs.Steps.{Thread as DefinedThread, Ended as HasEnded, After}
 use Rattle.vm_state.specs.declared.ends.Ending.{Ending}
 use Rattle.semantics.specs.Worlds.{ending}
@@ -47,7 +46,7 @@ HasEndedNow (Ended end) = Unit {0}
 
 -- where there is no step all stays as it was
 abbrev pub IsUnchanged : Thread → Thread → Shared → Shared → Type 0
-IsUnchanged old new before after = (thread_of new ≡ thread_of old) × ((p : List Line) → shared_of after p ≡ shared_of before p)
+IsUnchanged old new before after = (thread_of new ≡ thread_of old) × (after ≡ before)
 
 abbrev pub StaysAsItWas : Done → Thread → Thread → Shared → Shared → Type 0
 StaysAsItWas Went old new before after = Unit {0}

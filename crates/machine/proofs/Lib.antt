@@ -1,4 +1,5 @@
 pub mod LocalRows
+pub mod Keeping
 pub mod Stretches
 pub mod StretchRows
 pub mod GoingOn

@@ -9,10 +9,11 @@ ghost use Rattle.hierarchy.specs.Tables.{Tables};
 ghost use Rattle.semantics.specs.Moves.{received};
 ghost use Rattle.semantics.specs.Rows.{Moved, Next, Raise, Returns, Result as Led, run_row};
 ghost use Rattle.semantics.specs.Steps.{maker_of};
+ghost use Rattle.vm_state.specs.declared.shared.Shared.{Shared};
 ghost use Rattle.vm_state.specs.SharedState.{SharedState};
 ghost use Rattle.vm_state.specs.declared.value.Maker.{Maker};
 ghost use Rattle.machine.specs.declared.kinds.Stop.{Stop};
-ghost use Rattle.machine.specs.Accesses.{concluded, unless_refused};
+ghost use Rattle.machine.specs.Accesses.{Kept, concluded, unless_refused};
 ghost use Rattle.vm_state.specs.declared.initialization.Frames.{Frames};
 ghost use Rattle.vm_state.specs.declared.initialization.Level.{Level};
 ghost use Rattle.machine.specs.Sharing.{stopped_shared};
@@ -55,7 +56,7 @@ fn receive(frame: &mut Frame, value: Option<Value>) -> Result<(), Fault>
 /// Returns to the caller, where there is one above the highest initialization entry.
 fn return_to(frames: &mut Frames, callers: FrameList, value: Option<Value>) -> Effect
     ensures step { (P : Tables) (f : Frame) (before after : SharedState) → IsStep P frames.old.thread (f ∷ callers) (levels_of frames.old) before (Moved (Next (Returns value)) after) result frames.new after }
-    ensures moves { ((old new : Frames) → Stays result old new) × ((before after : SharedState) → Stays result before after) }
+    ensures moves { ((old new : Frames) → Stays result old new) × ((before after : Shared) → Stays result before after) }
     ensures kept { (frames.new.thread ≡ frames.old.thread) × (frames.new.levels ≡ frames.old.levels) }
 {
     frames.segment = callers.into_segment();
@@ -82,7 +83,7 @@ fn stand(frames: &mut Frames, innermost: Frame, callers: FrameList)
 /// no entry its thread ends (JVMS 2.10, 5.5).
 fn throw(frames: &mut Frames, exception: Name, class: ClassId) -> Effect
     ensures step { (P : Tables) (fs : List Frame) (f : Frame) (before after : SharedState) → IsStep P frames.old.thread (f ∷ fs) (levels_of frames.old) before (Moved (Raise exception class) after) result frames.new after }
-    ensures moves { ((old new : Frames) → Stays result old new) × ((before after : SharedState) → Stays result before after) }
+    ensures moves { ((old new : Frames) → Stays result old new) × ((before after : Shared) → Stays result before after) }
     ensures thread { frames.new.thread ≡ frames.old.thread }
 {
     if frames.levels.is_none() {
@@ -96,7 +97,7 @@ fn throw(frames: &mut Frames, exception: Name, class: ClassId) -> Effect
 fn conclude(frames: &mut Frames, frame: Frame, callers: FrameList, conclusion: Conclusion) -> Effect
     ensures step { (P : Tables) (maker : Maker) (f : Frame) (before after : SharedState) → f.activity ≡ frame.activity →
         IsStep P frames.old.thread (f ∷ callers) (levels_of frames.old) before (run_row frames.old.thread maker after (concluded conclusion frame)) result frames.new after }
-    ensures moves { ((old new : Frames) → Stays result old new) × ((before after : SharedState) → Stays result before after) }
+    ensures moves { ((old new : Frames) → Stays result old new) × ((before after : Shared) → Stays result before after) }
     ensures thread { frames.new.thread ≡ frames.old.thread }
 {
     match conclusion {
@@ -123,6 +124,7 @@ fn conclude(frames: &mut Frames, frame: Frame, callers: FrameList, conclusion: C
 fn stopped(stop: Stop) -> Result<Effect, AllocError>
     ensures step { IfOk result (λ e. (P : Tables) (t : ℕ) (fs : List Frame) (ls : List Level) (before after : SharedState) (r : Led) (new : Frames) → unless_refused stop r ≡ unless_refused stop (stopped_shared stop) → IsStep P t fs ls before r e new after) }
     ensures stays { IfOk result IsStopped }
+    ensures kept { IfOk result (λ e. (old new : Shared) → Kept shared_of stop old new → Stays e old new) }
     ensures err { OnErr result (stop ≡ Stop.Memory) }
 {
     match stop {
@@ -146,8 +148,9 @@ pub fn effect(
 
     ensures thread { frames.new.thread ≡ frames.old.thread }
 
-    // A thread that needs a class or waits stays as it was, and so does all after a refusal of memory.
-    ensures stays { IfOk result (λ e. (Stays e frames.old frames.new) × ((p : List Line) → Stays e (shared_of shared.old p) (shared_of shared.new p))) }
+    // Where a thread needs a class or waits, its stack and what is shared stay as they were. Where memory is refused its
+    // stack does, and so does what definitions see of what is shared.
+    ensures stays { IfOk result (λ e. (Stays e frames.old frames.new) × (Stays e shared.old shared.new)) }
     ensures err { OnErr result ((frames.new ≡ frames.old) × ((p : List Line) → shared_of shared.new p ≡ shared_of shared.old p)) }
 {
     let by = Actor {

@@ -1,13 +1,14 @@
-//! One instruction of a frame, over any store. Where it is stopped the frame and the store are as they were.
+//! One instruction of a frame, over any store. Where it is stopped the frame and the store are as they were; where
+//! memory stops it, the store's state is.
 
-ghost use Rattle.std.specs.Prelude.{◌≡◌, Bool, List, Err, OnErr, IsErr};
+ghost use Rattle.std.specs.Prelude.{◌≡◌, Bool, List, Err, IfErr, IsErr};
 ghost use Rattle.vm_state.specs.declared.frame.Frame.{Frame};
 ghost use Rattle.vm_state.specs.declared.text.Line.{Line};
 ghost use Rattle.hierarchy.specs.Tables.{implementation_at};
 ghost use Rattle.frame_instructions.specs.Completion.{pushes, completed};
 ghost use Rattle.machine.specs.Operations.{meaning, operation_at};
 ghost use Rattle.machine.specs.Table.{local_row, raises, operation_row, catches_in, fetched, row};
-ghost use Rattle.machine.specs.Accesses.{Gives, concluded};
+ghost use Rattle.machine.specs.Accesses.{Gives, Kept, concluded};
 
 use crate::kinds::{Actor, Conclusion, Stop};
 use crate::printing::print_int;
@@ -36,7 +37,7 @@ fn raise<S: Store>(
     class: BuiltIn,
 ) -> Result<Conclusion, Stop>
     ensures gives { (p : List Line) (f : Frame) → Gives S.stopped (S.run by (S.state store.old p)) (S.run by (S.state store.new p)) (raises catches class) f result }
-    ensures same { OnErr result ((p : List Line) → S.state store.new p ≡ S.state store.old p) }
+    ensures same { IfErr result (λ stop. Kept S.state stop store.old store.new) }
 {
     if catches {
         return Ok(Conclusion::Halts(FaultKind::Unsupported));
@@ -55,7 +56,7 @@ fn trap<S: Store>(
     trap: Trap,
 ) -> Result<Conclusion, Stop>
     ensures gives { (p : List Line) (f : Frame) → Gives S.stopped (S.run by (S.state store.old p)) (S.run by (S.state store.new p)) (local_row catches (Err trap)) f result }
-    ensures same { OnErr result ((p : List Line) → S.state store.new p ≡ S.state store.old p) }
+    ensures same { IfErr result (λ stop. Kept S.state stop store.old store.new) }
 {
     match trap {
         Trap::Fault => Ok(Conclusion::Halts(FaultKind::Fault)),
@@ -87,7 +88,7 @@ fn end<S: Store>(
 ) -> Result<Conclusion, Stop>
     ensures gives { (p : List Line) → Gives S.stopped (S.run by (S.state store.old p)) (S.run by (S.state store.new p))
         (local_row (catches_in (implementation_at program.now class method)) (completed went frame.now)) frame.now result }
-    ensures same { OnErr result (((p : List Line) → S.state store.new p ≡ S.state store.old p) × IsErr went) }
+    ensures same { IfErr result (λ stop. Kept S.state stop store.old store.new × IsErr went) }
 {
     match went {
         Ok(()) => Ok(Conclusion::Stays),
@@ -107,6 +108,7 @@ fn push_constant(frame: &mut Frame, number: Value) -> Conclusion
 }
 
 /// An instruction that touches more than its frame, or names an entry of the run-time constant pool.
+#[tactic(auto, using(crate::proofs::Keeping::kept_same))]
 #[inline(always)]
 fn execute_resolved<S: Store>(
     alloc: Global,
@@ -116,7 +118,7 @@ fn execute_resolved<S: Store>(
     resolved: Resolved,
 ) -> Result<Conclusion, Stop>
     ensures gives { (p : List Line) (b : Bool) → Gives S.stopped (S.run by (S.state store.old p)) (S.run by (S.state store.new p)) (operation_row b (meaning resolved) frame.old) frame.new result }
-    ensures same { OnErr result ((frame.new ≡ frame.old) × ((p : List Line) → S.state store.new p ≡ S.state store.old p)) }
+    ensures same { IfErr result (λ stop. (frame.new ≡ frame.old) × Kept S.state stop store.old store.new) }
     ensures activity { frame.new.activity ≡ frame.old.activity }
 {
     match resolved {
@@ -146,7 +148,7 @@ fn execute_next<S: Store>(
 ) -> Result<Conclusion, Stop>
     ensures gives { (p : List Line) → Gives S.stopped (S.run by (S.state store.old p)) (S.run by (S.state store.new p))
         (fetched (catches_in (implementation_at program.now class method)) (operation_at program.now class method frame.old.place) frame.old) frame.new result }
-    ensures same { OnErr result ((frame.new ≡ frame.old) × ((p : List Line) → S.state store.new p ≡ S.state store.old p)) }
+    ensures same { IfErr result (λ stop. (frame.new ≡ frame.old) × Kept S.state stop store.old store.new) }
     ensures activity { frame.new.activity ≡ frame.old.activity }
 {
     let Some(instruction) = program.instruction(class, method, frame.place) else {
@@ -162,7 +164,7 @@ fn execute_next<S: Store>(
 }
 
 /// The next instruction of a frame.
-#[tactic(auto, unfolding(crate::specs::Table::row))]
+#[tactic(auto, unfolding(crate::specs::Table::row), using(crate::proofs::Keeping::kept_same))]
 pub fn execute<S: Store>(
     alloc: Global,
     program: &Program,
@@ -171,7 +173,7 @@ pub fn execute<S: Store>(
     store: &mut S,
 ) -> Result<Conclusion, Stop>
     ensures gives { (p : List Line) → Gives S.stopped (S.run by (S.state store.old p)) (S.run by (S.state store.new p)) (row program.now frame.old) frame.new result }
-    ensures same { OnErr result ((frame.new ≡ frame.old) × ((p : List Line) → S.state store.new p ≡ S.state store.old p)) }
+    ensures same { IfErr result (λ stop. (frame.new ≡ frame.old) × Kept S.state stop store.old store.new) }
     ensures activity { frame.new.activity ≡ frame.old.activity }
 {
     match frame.activity {

@@ -1,6 +1,7 @@
 //! One instruction of a thread of a linked program.
 #![tactic(auto)]
 
+mod choosing;
 pub mod effects;
 pub mod entering;
 pub mod execute;

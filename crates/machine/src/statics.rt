@@ -1,9 +1,9 @@
 //! Static fields (JVMS 6.5, getstatic and putstatic), over any store.
 
-ghost use Rattle.std.specs.Prelude.{◌≡◌, List, OnErr};
+ghost use Rattle.std.specs.Prelude.{◌≡◌, List, OnErr, IfErr};
 ghost use Rattle.vm_state.specs.declared.text.Line.{Line};
 ghost use Rattle.machine.specs.Table.{get_static, put_static, get_out};
-ghost use Rattle.machine.specs.Accesses.{Gives, concluded};
+ghost use Rattle.machine.specs.Accesses.{Gives, Kept, concluded};
 
 use crate::kinds::{Actor, Conclusion, Stop};
 use crate::store::Store;
@@ -43,6 +43,7 @@ pub fn get_static<S: Store>(
 }
 
 /// `putstatic` (JVMS 6.5).
+#[tactic(auto, using(crate::proofs::Keeping::kept_same))]
 pub fn put_static<S: Store>(
     alloc: Global,
     by: Actor,
@@ -53,7 +54,7 @@ pub fn put_static<S: Store>(
     field: u32,
 ) -> Result<Conclusion, Stop>
     ensures gives { (p : List Line) → Gives S.stopped (S.run by (S.state store.old p)) (S.run by (S.state store.new p)) (put_static kind class field frame.old) frame.new result }
-    ensures same { OnErr result ((frame.new ≡ frame.old) × ((p : List Line) → S.state store.new p ≡ S.state store.old p)) }
+    ensures same { IfErr result (λ stop. (frame.new ≡ frame.old) × Kept S.state stop store.old store.new) }
     ensures activity { frame.new.activity ≡ frame.old.activity }
 {
     if !store.use_class(by, class)? {

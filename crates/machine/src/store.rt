@@ -1,9 +1,9 @@
 //! What an instruction touches beyond its own frame.
 
-ghost use Rattle.std.specs.Prelude.{◌≡◌, ℕ, true, List, OnErr, IfOk};
+ghost use Rattle.std.specs.Prelude.{◌≡◌, ℕ, true, List, IfOk, IfErr};
 ghost use Rattle.vm_state.specs.declared.text.Line.{Line};
 ghost use Rattle.semantics.specs.Rows.{Row, UseClass, ReadStatic, WriteStatic, Make};
-ghost use Rattle.machine.specs.Accesses.{Leads, LeadsOn};
+ghost use Rattle.machine.specs.Accesses.{Kept, Leads, LeadsOn};
 ghost use Rattle.machine.specs.declared.kinds.Actor.{Actor as By};
 ghost use Rattle.machine.specs.declared.kinds.Stop.{Stop as Reason};
 
@@ -43,7 +43,8 @@ pub trait Store {
         requires { CanUse by self.now class }
         ensures { (p : List Line) → Leads stopped (run by (state self.now p)) (run by (state self.now p)) (ReadStatic class field) result };
 
-    /// Sets a static field of a class that was asked for. Where it is stopped nothing changes.
+    /// Sets a static field of a class that was asked for. Where it is stopped nothing changes; where memory stops it,
+    /// nothing that definitions see.
     fn write_static(
         &mut self,
         alloc: Global,
@@ -54,10 +55,11 @@ pub trait Store {
     ) -> Result<(), Stop>
         requires { CanUse by self.old class }
         ensures leads { (p : List Line) → LeadsOn stopped (run by (state self.old p)) (run by (state self.new p)) (WriteStatic class field value) result }
-        ensures same { OnErr result ((p : List Line) → state self.new p ≡ state self.old p) };
+        ensures same { IfErr result (λ stop. Kept state stop self.old self.new) };
 
-    /// Makes an object, whose monitor is free, and answers its name. Where it is stopped nothing changes.
+    /// Makes an object, whose monitor is free, and answers its name. Where it is stopped nothing changes; where memory
+    /// stops it, nothing that definitions see.
     fn make(&mut self, alloc: Global, by: Actor, class: ClassId, slots: Slots) -> Result<Name, Stop>
         ensures leads { (p : List Line) → Leads stopped (run by (state self.old p)) (run by (state self.new p)) (Make class slots) result }
-        ensures same { OnErr result ((p : List Line) → state self.new p ≡ state self.old p) };
+        ensures same { IfErr result (λ stop. Kept state stop self.old self.new) };
 }
