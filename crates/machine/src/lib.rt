@@ -24,3 +24,8 @@ pub mod waiting;
 
 pub use effects::effect;
 pub use kinds::Effect;
+pub use vm_state::heap::Heap;
+pub use vm_state::initialization::Frames;
+pub use vm_state::object::Object;
+pub use vm_state::shared::Shared;
+pub use vm_state::value::Value;
