@@ -1,8 +1,8 @@
-pub mod Rows
-pub mod Bytes
-pub mod Offsets
-pub mod Operands
-pub mod Placing
-pub mod Starts
-pub mod Sweeping
-pub mod Switches
+pub mod RowsLemmas
+pub mod NumbersLemmas
+pub mod OffsetsLemmas
+pub mod OperandsLemmas
+pub mod PlacesLemmas
+pub mod AscendingLemmas
+pub mod BodyLemmas
+pub mod SwitchesLemmas

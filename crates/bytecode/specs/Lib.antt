@@ -1,10 +1,8 @@
 pub mod Bad
 pub mod Body
-pub mod Decoded
-pub mod Forms
 pub mod Numbers
 pub mod Opcodes
-pub mod Places
 pub mod Spelling
 pub mod Switches
 pub mod Targets
+pub mod reading

@@ -4,7 +4,7 @@ ghost use Rattle.std.specs.Prelude.{◌≡◌, [], ◌∷◌, FitsSigned, ◌+�
 ghost use Rattle.std.specs.Int.{w8, w16, w32};
 ghost use Rattle.bytecode.specs.Numbers.{s1, u2, s2, s4};
 
-#[tactic(auto, unfolding(crate::specs::Numbers::s1), using(crate::proofs::Bytes::s1_back))]
+#[tactic(auto, unfolding(crate::specs::Numbers::s1), using(crate::proofs::NumbersLemmas::s1_back))]
 pub(crate) fn s1(byte: u8) -> i32
     ensures text { s1 result ≡ byte ∷ [] }
     ensures fits { FitsSigned w8 result }
@@ -12,14 +12,14 @@ pub(crate) fn s1(byte: u8) -> i32
     i32::from(i8::from_be_bytes([byte]))
 }
 
-#[tactic(auto, unfolding(crate::specs::Numbers::u2), using(crate::proofs::Bytes::u2_back))]
+#[tactic(auto, unfolding(crate::specs::Numbers::u2), using(crate::proofs::NumbersLemmas::u2_back))]
 pub(crate) fn u2(high: u8, low: u8) -> u16
     ensures { u2 result ≡ high ∷ low ∷ [] }
 {
     u16::from_be_bytes([high, low])
 }
 
-#[tactic(auto, unfolding(crate::specs::Numbers::s2), using(crate::proofs::Bytes::s2_back))]
+#[tactic(auto, unfolding(crate::specs::Numbers::s2), using(crate::proofs::NumbersLemmas::s2_back))]
 pub(crate) fn s2(high: u8, low: u8) -> i32
     ensures text { s2 result ≡ high ∷ low ∷ [] }
     ensures fits { FitsSigned w16 result }
@@ -27,7 +27,7 @@ pub(crate) fn s2(high: u8, low: u8) -> i32
     i32::from(i16::from_be_bytes([high, low]))
 }
 
-#[tactic(auto, unfolding(crate::specs::Numbers::s4), using(crate::proofs::Bytes::s4_back))]
+#[tactic(auto, unfolding(crate::specs::Numbers::s4), using(crate::proofs::NumbersLemmas::s4_back))]
 pub(crate) fn s4(a: u8, b: u8, c: u8, d: u8) -> i32
     ensures text { s4 result ≡ a ∷ b ∷ c ∷ d ∷ [] }
     ensures fits { FitsSigned w32 result }
@@ -36,7 +36,7 @@ pub(crate) fn s4(a: u8, b: u8, c: u8, d: u8) -> i32
 }
 
 /// The number at the front of bytes, and what follows it.
-#[tactic(auto, using(crate::proofs::Bytes::four_then))]
+#[tactic(auto, using(crate::proofs::NumbersLemmas::four_then))]
 pub(crate) fn s4_at(bytes: &[u8]) -> (i32, &[u8])
     requires { 4 ≤ length bytes.now }
     ensures text { bytes.now ≡ s4 result.0 ++ result.1.now }

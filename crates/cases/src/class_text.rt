@@ -1,9 +1,9 @@
 //! Class files from a text.
 //!
-//! A class is a line, which goes on in the lines that begin with two spaces, or stands behind ` | ` and another. It
+//! A class is a line, which goes on in the lines that begin with two spaces, or stands after ` | ` and another. It
 //! begins with `class` or `interface`, and its name; then in this order, each only where it is there: `below` and a
 //! superclass, which is `java/lang/Object` otherwise and none at all where it is `nothing`; `implements` and
-//! superinterfaces; and behind a colon the members, apart by commas. Access flags as four hexadecimal digits may
+//! superinterfaces; and after a colon the members, apart by commas. Access flags as four hexadecimal digits may
 //! stand before the name.
 //!
 //! A member begins with its flags, as words or as four hexadecimal digits:

@@ -179,7 +179,7 @@ impl<'a> CodeText<'a> {
         }
     }
 
-    /// A number of two bytes, or of four behind one more `#`.
+    /// A number of two bytes, or of four after one more `#`.
     fn number(&mut self, class: &mut ClassBuilder, digits: &str) -> Result<(), AllocError> {
         if let Some(digits) = digits.strip_prefix('#') {
             return match digits.parse::<i32>() {
@@ -207,7 +207,7 @@ impl<'a> CodeText<'a> {
         Ok(())
     }
 
-    /// The offset of a label, behind one more `>` in four bytes.
+    /// The offset of a label, after one more `>` in four bytes.
     fn jump(&mut self, label: &'a str) -> Result<(), AllocError> {
         match label.strip_prefix('>') {
             Some(label) => self.offset(label, Width::Four, 4),

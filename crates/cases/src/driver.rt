@@ -1,6 +1,6 @@
 //! Files of cases: what is asked, and what the answer has to be.
 //!
-//! A case begins with a heading behind `# `. Lines with ` => ` ask: before it stands what is asked, behind it the
+//! A case begins with a heading after `# `. Lines with ` => ` ask: before it stands what is asked, after it the
 //! answer that is wanted. A line that begins with `## ` is a remark. All other lines give what the questions of the
 //! case are about, and those before the first heading what all questions of the file are about. A file begins with
 //! one of these two.

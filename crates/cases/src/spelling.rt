@@ -10,7 +10,7 @@ pub struct SpelledBytes {
     pub misspelled: String,
 }
 
-/// Bytes behind an opening bracket.
+/// Bytes after an opening bracket.
 #[derive(Drop)]
 struct Bracket {
     /// Whether their length has four bytes, and not two.
@@ -19,7 +19,7 @@ struct Bracket {
 }
 
 /// The bytes of words: `0A1B` is two bytes, `'Code'` is the letters, and `255*5B` is a byte so many times; `0*00` is
-/// nothing. The words between `[` and `]` come behind the number of their bytes, which has two bytes, and between
+/// nothing. The words between `[` and `]` come after the number of their bytes, which has two bytes, and between
 /// `[[` and `]]` four.
 pub fn spelled(alloc: Global, spelling: &str) -> Result<SpelledBytes, AllocError> {
     let mut reading = Reading {
@@ -87,7 +87,7 @@ impl Reading {
         }
     }
 
-    /// Adds a length and the bytes behind it.
+    /// Adds a length and the bytes after it.
     fn add_bracket(&mut self, bracket: &Bracket) -> Result<(), AllocError> {
         let length = u32::try_from(bracket.bytes.len()).unwrap_or(u32::MAX);
         let short = u16::try_from(length).unwrap_or(u16::MAX);
@@ -101,7 +101,7 @@ impl Reading {
         Ok(())
     }
 
-    /// The bytes behind the last open bracket, or all.
+    /// The bytes after the last open bracket, or all.
     fn innermost(&mut self) -> &mut Vec<u8> {
         match self.brackets.last_mut() {
             Some(bracket) => &mut bracket.bytes,
@@ -129,7 +129,7 @@ impl Reading {
     }
 }
 
-/// Adds the letters up to a closing quote. Answers whether it is there, and nothing behind it.
+/// Adds the letters up to a closing quote. Answers whether it is there, and nothing after it.
 fn add_letters(bytes: &mut Vec<u8>, letters: &str) -> Result<bool, AllocError> {
     match letters.split_once('\'') {
         Some((letters, "")) => {

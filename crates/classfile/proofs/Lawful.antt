@@ -1,13 +1,16 @@
 -- Readers whose answers and faults are what a part spells and how it fails.
-use Rattle.std.proofs.Common.{◌≡◌, ℕ, suc, ◌+◌, ◌%◌, ◌<◌, ◌≤◌, ◌⊎◌, Bool, true, false, cond, ltb, List, [], ◌∷◌, ◌++◌, length, get_or, take}
+use Rattle.std.proofs.Common.{◌≡◌, ℕ, suc, ◌+◌, ◌%◌, ◌<◌, ◌≤◌, ◌⊎◌, Bool, true, false, cond, ltb, List, [], ◌∷◌, ◌++◌}
+use Rattle.std.proofs.Common.{length, get_or, take}
 use Rattle.std.proofs.Common.{drop, Result, Ok, Err, refl, sym, ap, subst, ◌∙◌, append_assoc, arith, inl, inr}
 use Rattle.std.specs.Int.{Width, w8, w16, w32, byte_len, from_be_bytes, to_be_bytes}
 use Rattle.std.proofs.lemmas.Bool.{cases_lt, ltb-false, ltb-true, le-ltb, lt-ltb}
-use Rattle.std.proofs.lemmas.List.{take_at, drop_at, take-append-drop, length-append, length-take, get_or-drop, get_or-take, get_or_past}
+use Rattle.std.proofs.lemmas.List.{take_at, drop_at, take-append-drop, length-append, length-take, get_or-drop}
+use Rattle.std.proofs.lemmas.List.{get_or-take, get_or_past}
 use Rattle.std.proofs.lemmas.Nat.{be_bytes_2, be_bytes_4, from_be_bytes-to_be_bytes_2, from_be_bytes-to_be_bytes_4}
 use Rattle.classfile.specs.declared.fault.ClassFault.{ClassFault}
 use Rattle.classfile.specs.declared.fault.ClassFault.TheVariants as faults
-use Rattle.classfile.specs.Numbers.{◌>>=◌, number_at, run_at, offset}
+use Rattle.classfile.specs.reading.Numbers.{◌>>=◌, number_at, run_at}
+use Rattle.classfile.specs.Gives.{offset}
 use Rattle.classfile.specs.Faults.{FailsAfter, Either, Number, Run, Cut, CutNumber, limit_of, IsBytes}
 
 IsBytes-drop : (n : ℕ) (bytes : List ℕ) → IsBytes bytes → IsBytes (drop n bytes)
@@ -24,16 +27,18 @@ pub IsBytes-back : (front rest : List ℕ) → IsBytes (front ++ rest) → IsByt
 IsBytes-back [] rest h = h
 IsBytes-back (x ∷ front) rest h = IsBytes-back front rest (λ i. h (suc i))
 
--- x is spelled at the front, and the rest stands behind it
+-- x is spelled at the front, and the rest stands after it
 pub record Takes {X : Type 0} (Spells : X → List ℕ → Type 0) (bytes : List ℕ) (x : X) (rest : List ℕ) : Type 0 where
   pub text : List ℕ
   pub spelled : Spells x text
   pub parts : bytes ≡ text ++ rest
   pub rest_fits : IsBytes rest
 
-pub record Lawful {X : Type 0} (read : List ℕ → Result (X × List ℕ) ClassFault) (Spells : X → List ℕ → Type 0) (FailsAt : List ℕ
+pub record Lawful {X : Type 0} (read : List ℕ → Result (X × List ℕ) ClassFault) (Spells : X → List ℕ → Type 0)
+    (FailsAt : List ℕ
     → ClassFault → Type 0) : Type 0 where
-  pub takes : (bytes : List ℕ) (x : X) (rest : List ℕ) → IsBytes bytes → read bytes ≡ Ok (x, rest) → Takes Spells bytes x rest
+  pub takes : (bytes : List ℕ) (x : X) (rest : List ℕ) → IsBytes bytes → read bytes ≡ Ok (x, rest)
+      → Takes Spells bytes x rest
   pub again : (x : X) (text : List ℕ) (rest : List ℕ) → Spells x text → read (text ++ rest) ≡ Ok (x, rest)
   pub blames : (bytes : List ℕ) (f : ClassFault) → IsBytes bytes → read bytes ≡ Err f → FailsAt bytes f
   pub blamed : (bytes : List ℕ) (f : ClassFault) → IsBytes bytes → FailsAt bytes f → read bytes ≡ Err f
@@ -43,7 +48,8 @@ pub bind_ok : {A B : Type 0} (r : Result A ClassFault) (f : A → Result B Class
 bind_ok (Ok x) f y e = (x, refl, e)
 bind_ok (Err d) f y e = absurd cc
 
-pub bind_err : {A B : Type 0} (r : Result A ClassFault) (f : A → Result B ClassFault) (d : ClassFault) → (r >>= f) ≡ Err d → (r ≡ Err d)
+pub bind_err : {A B : Type 0} (r : Result A ClassFault) (f : A → Result B ClassFault) (d : ClassFault)
+    → (r >>= f) ≡ Err d → (r ≡ Err d)
     ⊎ ((x : A) × (r ≡ Ok x) × (f x ≡ Err d))
 bind_err (Ok x) f d e = inr (x, refl, e)
 bind_err (Err c) f d e = inl (let q : c ≡ d = cc in rw q refl)
@@ -57,7 +63,8 @@ ok_is x y e = cc
 -- ---- one part and then the other
 
 -- what both spell
-pub record Both {X Y : Type 0} (First : X → List ℕ → Type 0) (Second : X → Y → List ℕ → Type 0) (y : Y) (text : List ℕ) : Type 0 where
+pub record Both {X Y : Type 0} (First : X → List ℕ → Type 0) (Second : X → Y → List ℕ → Type 0) (y : Y)
+    (text : List ℕ) : Type 0 where
   pub value : X
   pub front : List ℕ
   pub back : List ℕ
@@ -65,51 +72,67 @@ pub record Both {X Y : Type 0} (First : X → List ℕ → Type 0) (Second : X �
   pub second : Second value y back
   pub parts : text ≡ front ++ back
 
-pub bind_lawful : {X Y : Type 0} (r : List ℕ → Result (X × List ℕ) ClassFault) (next : X → List ℕ → Result (Y × List ℕ) ClassFault)
-    (S : X → List ℕ → Type 0) (F : List ℕ → ClassFault → Type 0) (T : X → Y → List ℕ → Type 0) (G : X → List ℕ → ClassFault → Type 0)
-    → Lawful r S F → ((x : X) → Lawful (next x) (T x) (G x)) → Lawful (λ bytes. r bytes >>= λ p. next p.0 p.1) (Both S T) (Either S F G)
-bind_lawful {X} {Y} r next S F T G one two =
-    let go : X × List ℕ → Result (Y × List ℕ) ClassFault = λ p. next p.0 p.1 in
-    record {
-      takes = λ bytes y rest fits e.
-          let b = bind_ok (r bytes) go (y, rest) e in
-          let t = one.takes bytes b.0.0 b.0.1 fits b.1 in
-          let u = (two b.0.0).takes b.0.1 y rest t.rest_fits b.2 in
-          record {
-            text = t.text ++ u.text;
-            spelled = record { value = b.0.0; front = t.text; back = u.text; first = t.spelled; second = u.spelled; parts = refl };
-            parts = t.parts ∙ ap (λ (z : List ℕ). t.text ++ z) u.parts ∙ sym (append_assoc t.text u.text rest);
-            rest_fits = u.rest_fits;
-          };
-      again = λ y text rest s.
-          let same : text ++ rest ≡ s.front ++ (s.back ++ rest) = ap (λ (z : List ℕ). z ++ rest) s.parts
-          ∙ append_assoc s.front s.back rest in
-          ap (λ (z : List ℕ). r z >>= go) same ∙ ap (λ (z : Result (X × List ℕ) ClassFault). z >>= go)
-          (one.again s.value s.front (s.back ++ rest) s.first) ∙ (two s.value).again y s.back rest s.second;
-      blames = λ bytes f fits e.
-          elim (bind_err (r bytes) go f e) [
-            | inl here ↦ inl (one.blames bytes f fits here)
-            | inr (x, is, there) ↦
-                let t = one.takes bytes x.0 x.1 fits is in
-                inr (record {
-                  value = x.0;
-                  text = t.text;
-                  rest = x.1;
-                  spelled = t.spelled;
-                  parts = t.parts;
-                  next =
-                      (two x.0).blames x.1 f t.rest_fits there;
-                })
-          ];
-      blamed = λ bytes f fits h.
-          elim h [
-            | inl here ↦ ap (λ (z : Result (X × List ℕ) ClassFault). z >>= go) (one.blamed bytes f fits here)
-            | inr w ↦
-                let back : IsBytes w.rest = IsBytes-back w.text w.rest (let P : List ℕ → Type 0 = λ z. IsBytes z in subst P w.parts fits) in
-                ap (λ (z : List ℕ). r z >>= go) w.parts ∙ ap (λ (z : Result (X × List ℕ) ClassFault). z >>= go)
-                (one.again w.value w.text w.rest w.spelled) ∙ (two w.value).blamed w.rest f back w.next
-          ];
-    }
+abbrev pub fits_as : (bytes other : List ℕ) → bytes ≡ other → IsBytes bytes → IsBytes other
+fits_as bytes other e fits = let P : List ℕ → Type 0 = λ z. IsBytes z in subst P e fits
+
+pub then_lawful : {X Y : Type 0} {S : X → List ℕ → Type 0} {F : List ℕ → ClassFault → Type 0} {T : X → Y → List ℕ
+    → Type 0} {G : List ℕ → X
+    → List ℕ → ClassFault → Type 0}
+    (r : List ℕ → Result (X × List ℕ) ClassFault) (go : List ℕ → X × List ℕ → Result (Y × List ℕ) ClassFault)
+    → Lawful r S F
+    → ((bytes : List ℕ) (x : X) (text : List ℕ) → S x text → Lawful (λ rest. go bytes (x, rest)) (T x) (G bytes x))
+    → Lawful (λ bytes. r bytes >>= go bytes) (Both S T) (λ bytes. Either S F (G bytes) bytes)
+then_lawful {X} {Y} r go one two = record {
+  takes = λ bytes y rest fits e.
+      let b = bind_ok (r bytes) (go bytes) (y, rest) e in
+      let t = one.takes bytes b.0.0 b.0.1 fits b.1 in
+      let u = (two bytes b.0.0 t.text t.spelled).takes b.0.1 y rest t.rest_fits b.2 in
+      record {
+        text = t.text ++ u.text;
+        spelled = record {
+          value = b.0.0;
+          front = t.text;
+          back = u.text;
+          first = t.spelled;
+          second = u.spelled;
+          parts =
+              refl;
+        };
+        parts = t.parts ∙ ap (λ (z : List ℕ). t.text ++ z) u.parts ∙ sym (append_assoc t.text u.text rest);
+        rest_fits = u.rest_fits;
+      };
+  again = λ y text rest s.
+      let same : text ++ rest ≡ s.front ++ (s.back ++ rest) = ap (λ (z : List ℕ). z ++ rest) s.parts
+      ∙ append_assoc s.front s.back rest in
+      let read : r (text ++ rest) ≡ Ok (s.value, s.back ++ rest) = ap r same
+      ∙ one.again s.value s.front (s.back ++ rest) s.first in
+      ap (λ (z : Result (X × List ℕ) ClassFault). z >>= go (text ++ rest)) read
+      ∙ (two (text ++ rest) s.value s.front s.first).again y s.back rest s.second;
+  blames = λ bytes f fits e.
+      elim (bind_err (r bytes) (go bytes) f e) [
+        | inl here ↦ inl (one.blames bytes f fits here)
+        | inr (x, is, there) ↦
+            let t = one.takes bytes x.0 x.1 fits is in
+            inr (record {
+              value = x.0;
+              text = t.text;
+              rest = x.1;
+              spelled = t.spelled;
+              parts = t.parts;
+              next =
+                  (two bytes x.0 t.text t.spelled).blames x.1 f t.rest_fits there;
+            })
+      ];
+  blamed = λ bytes f fits h.
+      elim h [
+        | inl here ↦ ap (λ (z : Result (X × List ℕ) ClassFault). z >>= go bytes) (one.blamed bytes f fits here)
+        | inr w ↦
+            let back : IsBytes w.rest = IsBytes-back w.text w.rest (fits_as bytes (w.text ++ w.rest) w.parts fits) in
+            let read : r bytes ≡ Ok (w.value, w.rest) = ap r w.parts ∙ one.again w.value w.text w.rest w.spelled in
+            ap (λ (z : Result (X × List ℕ) ClassFault). z >>= go bytes) read
+            ∙ (two bytes w.value w.text w.spelled).blamed w.rest f back w.next
+      ];
+}
 
 -- ---- nothing more
 
@@ -136,7 +159,8 @@ pure_lawful {X} made = record {
 
 pub record IsWide (w : Width) : Type 0 where
   pub len : (n : ℕ) → length (to_be_bytes w n) ≡ byte_len w
-  pub back : (bytes : List ℕ) → length bytes ≡ byte_len w → IsBytes bytes → to_be_bytes w (from_be_bytes w bytes) ≡ bytes
+  pub back : (bytes : List ℕ) → length bytes ≡ byte_len w → IsBytes bytes
+      → to_be_bytes w (from_be_bytes w bytes) ≡ bytes
   pub again : (n : ℕ) → n < limit_of w → from_be_bytes w (to_be_bytes w n) ≡ n
   pub below : (bytes : List ℕ) → IsBytes bytes → from_be_bytes w bytes < limit_of w
 
@@ -173,14 +197,16 @@ pub guard_ok : {A : Type 0} (b : Bool) (d : ClassFault) (x y : A) → cond b (Er
 guard_ok true d x y e = absurd cc
 guard_ok false d x y e = (refl, cc)
 
-pub guard_err : {A : Type 0} (b : Bool) (d f : ClassFault) (x : A) → cond b (Err d) (Ok x) ≡ Err f → (b ≡ true) × (f ≡ d)
+pub guard_err : {A : Type 0} (b : Bool) (d f : ClassFault) (x : A) → cond b (Err d) (Ok x) ≡ Err f → (b ≡ true)
+    × (f ≡ d)
 guard_err true d f x e = (refl, cc)
 guard_err false d f x e = absurd cc
 
 pub run_lawful : (count total : ℕ) → Lawful (run_at count total) (Run count) (Cut count total)
 run_lawful count total = record {
   takes = λ bytes x rest fits e.
-      let g = guard_ok (ltb (length bytes) count) (faults.Truncated (offset total bytes)) (take count bytes, drop count bytes)
+      let g = guard_ok (ltb (length bytes) count) (faults.Truncated (offset total bytes))
+      (take count bytes, drop count bytes)
       (x, rest) e in
       let long : count ≤ length bytes = ltb-false _ _ g.0 in
       let x-is : take count bytes ≡ x = ap (λ (p : List ℕ × List ℕ). p.0) g.1 in
@@ -196,12 +222,14 @@ run_lawful count total = record {
       let long : ltb (length (x ++ rest)) count ≡ false = le-ltb _ _ (omega (arith, length-append x rest, s.0)) in
       rw (s.1, long, take_at x rest count s.0, drop_at x rest count s.0) refl;
   blames = λ bytes f fits e.
-      let g = guard_err (ltb (length bytes) count) (faults.Truncated (offset total bytes)) f (take count bytes, drop count bytes) e in
+      let g = guard_err (ltb (length bytes) count) (faults.Truncated (offset total bytes)) f
+      (take count bytes, drop count bytes) e in
       (ltb-true _ _ g.0, g.1);
   blamed = λ bytes f fits h. rw (lt-ltb (length bytes) count h.0, h.1) refl;
 }
 
-pub number_lawful : (w : Width) (wide : IsWide w) (total : ℕ) → Lawful (number_at w total) (Number w) (CutNumber w total)
+pub number_lawful : (w : Width) (wide : IsWide w) (total : ℕ)
+    → Lawful (number_at w total) (Number w) (CutNumber w total)
 number_lawful w wide total = record {
   takes = λ bytes n rest fits e.
       let g = guard_ok (ltb (length bytes) (byte_len w)) (faults.Truncated (offset total bytes))
@@ -225,7 +253,13 @@ number_lawful w wide total = record {
       let len = wide.len n in
       let long : ltb (length (to_be_bytes w n ++ rest)) (byte_len w) ≡ false =
       le-ltb _ _ (omega (arith, length-append (to_be_bytes w n) rest)) in
-      rw (s.1, long, take_at (to_be_bytes w n) rest (byte_len w) len, drop_at (to_be_bytes w n) rest (byte_len w) len, wide.again n s.0)
+      rw (
+        s.1,
+        long,
+        take_at (to_be_bytes w n) rest (byte_len w) len,
+        drop_at (to_be_bytes w n) rest (byte_len w) len,
+        wide.again n s.0,
+      )
       refl;
   blames = λ bytes f fits e.
       let g = guard_err (ltb (length bytes) (byte_len w)) (faults.Truncated (offset total bytes)) f
@@ -241,7 +275,8 @@ pub record Mapped {X Y : Type 0} (make : X → Y) (S : X → List ℕ → Type 0
   pub spelled : S value text
   pub is : y ≡ make value
 
-pub map_lawful : {X Y : Type 0} (make : X → Y) (r : List ℕ → Result (X × List ℕ) ClassFault) (S : X → List ℕ → Type 0) (F : List ℕ
+pub map_lawful : {X Y : Type 0} (make : X → Y) (r : List ℕ → Result (X × List ℕ) ClassFault) (S : X → List ℕ → Type 0)
+    (F : List ℕ
     → ClassFault → Type 0)
     → Lawful r S F → Lawful (λ bytes. r bytes >>= λ p. Ok (make p.0, p.1)) (Mapped make S) F
 map_lawful {X} {Y} make r S F one =
@@ -259,7 +294,8 @@ map_lawful {X} {Y} make r S F one =
             rest_fits =
                 (let P : List ℕ → Type 0 = λ z. IsBytes z in subst P rest-is t.rest_fits);
           };
-      again = λ y text rest s. ap (λ (z : Result (X × List ℕ) ClassFault). z >>= go) (one.again s.value text rest s.spelled) ∙ rw s.is refl;
+      again = λ y text rest s. ap (λ (z : Result (X × List ℕ) ClassFault). z >>= go)
+          (one.again s.value text rest s.spelled) ∙ rw s.is refl;
       blames = λ bytes f fits e.
           elim (bind_err (r bytes) go f e) [
             | inl here ↦ one.blames bytes f fits here
@@ -270,9 +306,11 @@ map_lawful {X} {Y} make r S F one =
 
 -- ---- the same in other words
 
-pub reworded : {X : Type 0} (r : List ℕ → Result (X × List ℕ) ClassFault) (S T : X → List ℕ → Type 0) (F : List ℕ → ClassFault → Type 0)
-    → Lawful r S F → ((x : X) (text : List ℕ) → S x text → T x text) → ((x : X) (text : List ℕ) → T x text → S x text) → Lawful r T F
-reworded r S T F one there back = record {
+pub restated : {X : Type 0} {r : List ℕ → Result (X × List ℕ) ClassFault} {S T : X → List ℕ → Type 0}
+    {F : List ℕ → ClassFault → Type 0}
+    → Lawful r S F → ((x : X) (text : List ℕ) → S x text → T x text) → ((x : X) (text : List ℕ) → T x text → S x text)
+    → Lawful r T F
+restated one there back = record {
   takes = λ bytes x rest fits e. let t = one.takes bytes x rest fits e in record {
     text = t.text;
     spelled = there x t.text t.spelled;
@@ -286,17 +324,20 @@ reworded r S T F one there back = record {
 
 -- ---- a test of what was read
 
-pub record Tested {X : Type 0} (test : X → Bool) (wanted : Bool) (S : X → List ℕ → Type 0) (x : X) (text : List ℕ) : Type 0 where
+pub record Tested {X : Type 0} (test : X → Bool) (wanted : Bool) (S : X → List ℕ → Type 0) (x : X)
+    (text : List ℕ) : Type 0 where
   pub spelled : S x text
   pub passes : test x ≡ wanted
 
 -- bad at some fault that the bytes before decide
-pub tested_lawful : {X : Type 0} (r : List ℕ → Result (X × List ℕ) ClassFault) (S : X → List ℕ → Type 0) (F : List ℕ → ClassFault
+pub tested_lawful : {X : Type 0} (r : List ℕ → Result (X × List ℕ) ClassFault) (S : X → List ℕ → Type 0)
+    (F : List ℕ → ClassFault
     → Type 0) (bad : X → Bool) (why : List ℕ → ClassFault)
     → Lawful r S F → Lawful (λ bytes. r bytes >>= λ p. cond (bad p.0) (Err (why bytes)) (Ok p)) (Tested bad false S)
     (λ bytes f. F bytes f ⊎ FailsAfter S (λ x rest g. (bad x ≡ true) × (g ≡ why bytes)) bytes f)
 tested_lawful {X} r S F bad why one =
-    let go : List ℕ → X × List ℕ → Result (X × List ℕ) ClassFault = λ bytes p. cond (bad p.0) (Err (why bytes)) (Ok p) in
+    let go : List ℕ → X × List ℕ → Result (X × List ℕ) ClassFault =
+    λ bytes p. cond (bad p.0) (Err (why bytes)) (Ok p) in
     record {
       takes = λ bytes x rest fits e.
           let b = bind_ok (r bytes) (go bytes) (x, rest) e in
@@ -311,7 +352,8 @@ tested_lawful {X} r S F bad why one =
             rest_fits =
                 t.rest_fits;
           };
-      again = λ x text rest s. ap (λ (z : Result (X × List ℕ) ClassFault). z >>= go (text ++ rest)) (one.again x text rest s.spelled)
+      again = λ x text rest s. ap (λ (z : Result (X × List ℕ) ClassFault). z >>= go (text ++ rest))
+          (one.again x text rest s.spelled)
           ∙ rw s.passes refl;
       blames = λ bytes f fits e.
           elim (bind_err (r bytes) (go bytes) f e) [

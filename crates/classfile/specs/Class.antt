@@ -1,7 +1,7 @@
 -- What a class file has to be (JVMS 4.1), and the bytes that are one.
 use Rattle.std.specs.Prelude.{◌≡◌, ◌≢◌, ℕ, ◌<◌, ◌^◌, ◌⊎◌, List, ◌∷◌, length}
 use Rattle.std.specs.List.{All, AllPairs}
-use Rattle.classfile.specs.Structure.{Structure}
+use Rattle.classfile.specs.ClassFile.{ClassFile}
 use Rattle.classfile.specs.Pool.{IsIndexOf, IsClass, IsClassNamed, IsPool}
 use Rattle.classfile.specs.Members.{IsField, IsMethod, IsClassAttribute, Differ}
 use Rattle.classfile.specs.Text.{class_text}
@@ -11,7 +11,7 @@ abbrev pub IsNoArray : List ℕ → Type 0
 IsNoArray name = (rest : List ℕ) → name ≢ 91 ∷ rest
 
 -- JVMS 4.1
-pub record IsStructure (class : Structure) : Type 0 where
+pub record IsClassFile (class : ClassFile) : Type 0 where
   pub constants : IsPool class.constants
   pub access_flags : class.access_flags < 2 ^ 16
   pub this_class : IsIndexOf (IsClassNamed IsNoArray class.constants) class.constants class.this_class
@@ -28,6 +28,6 @@ pub record IsStructure (class : Structure) : Type 0 where
   pub attributes : All (IsClassAttribute class.constants) class.attributes
 
 -- The bytes are the text of a class file.
-pub record IsClassText (bytes : List ℕ) (class : Structure) : Type 0 where
+pub record IsClassText (bytes : List ℕ) (class : ClassFile) : Type 0 where
   pub spelled : bytes ≡ class_text class
-  pub fits : IsStructure class
+  pub fits : IsClassFile class

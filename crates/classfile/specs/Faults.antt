@@ -8,10 +8,10 @@ use Rattle.classfile.specs.declared.constant.Constant.{Constant}
 use Rattle.classfile.specs.declared.constant.Constant.TheVariants as constants
 use Rattle.classfile.specs.declared.constant.Kind.{Kind}
 use Rattle.classfile.specs.declared.constant.Kind.TheVariants as kinds
-use Rattle.classfile.specs.Numbers.{offset}
+use Rattle.classfile.specs.Gives.{offset}
 use Rattle.classfile.specs.Units.{IsModifiedUtf8}
-use Rattle.classfile.specs.Entries.{is_wide, kind_of}
-use Rattle.classfile.specs.Spelling.{constant_text, Fits, AreSlots, slots_text}
+use Rattle.classfile.specs.Constants.{is_wide, kind_of_tag}
+use Rattle.classfile.specs.Spelling.{constant_text, Fits, AreConstants, constants_text}
 
 -- the bytes begin with the text of x, and what follows fails
 pub record FailsAfter {X : Type 0} (Spells : X → List ℕ → Type 0) (Next : X → List ℕ → ClassFault →
@@ -24,7 +24,8 @@ pub record FailsAfter {X : Type 0} (Spells : X → List ℕ → Type 0) (Next : 
   pub next : Next value rest fault
 
 -- one part and then, depending on it, the other: the first of them that fails
-abbrev pub Either : {X : Type 0} → (X → List ℕ → Type 0) → (List ℕ → ClassFault → Type 0) → (X → List ℕ → ClassFault → Type 0) → List ℕ →
+abbrev pub Either : {X : Type 0} → (X → List ℕ → Type 0) → (List ℕ → ClassFault → Type 0)
+    → (X → List ℕ → ClassFault → Type 0) → List ℕ →
     ClassFault → Type 0
 Either Spells First Next bytes fault = First bytes fault ⊎ FailsAfter Spells Next bytes fault
 
@@ -72,40 +73,41 @@ BodyFails (Some kinds.MethodType) total index bytes fault = CutNumber w16 total 
 BodyFails (Some kinds.InvokeDynamic) total index bytes fault = TwoFail w16 w16 total bytes fault
 
 -- a constant: its tag, then what the tag wants
-abbrev pub ConstantFails : ℕ → ℕ → List ℕ → ClassFault → Type 0
-ConstantFails total index = Either (Number w8) (CutNumber w8 total) (λ tag. BodyFails (kind_of tag) total index)
+abbrev pub TaggedFails : ℕ → ℕ → List ℕ → ClassFault → Type 0
+TaggedFails total index = Either (Number w8) (CutNumber w8 total) (λ tag. BodyFails (kind_of_tag tag) total index)
 
 -- what stands at a number
-abbrev pub IsConstant : Constant → List ℕ → Type 0
-IsConstant c text = Fits c × (text ≡ constant_text c)
+abbrev pub IsTagged : Constant → List ℕ → Type 0
+IsTagged c text = Fits c × (text ≡ constant_text c)
 
-abbrev pub IsSlot : Bool → Bool → Constant → List ℕ → Type 0
-IsSlot true is_last c text = (c ≡ constants.Unusable) × (text ≡ [])
-IsSlot false is_last c text = IsConstant c text × ((is_wide c && is_last) ≡ false)
+abbrev pub IsConstant : Bool → Bool → Constant → List ℕ → Type 0
+IsConstant true is_last c text = (c ≡ constants.Unusable) × (text ≡ [])
+IsConstant false is_last c text = IsTagged c text × ((is_wide c && is_last) ≡ false)
 
 -- the constant fails, or it is wide and its second number isn't below the count: then where its tag stands
-abbrev pub SlotFails : Bool → Bool → ℕ → ℕ → List ℕ → ClassFault → Type 0
-SlotFails true is_last total index bytes fault = ⊥
-SlotFails false is_last total index bytes fault = Either IsConstant (ConstantFails total index) (λ c rest f. ((is_wide c
+abbrev pub ConstantFails : Bool → Bool → ℕ → ℕ → List ℕ → ClassFault → Type 0
+ConstantFails true is_last total index bytes fault = ⊥
+ConstantFails false is_last total index bytes fault = Either IsTagged (TaggedFails total index) (λ c rest f. ((is_wide c
     && is_last) ≡ true) × (f ≡ faults.Index (offset total bytes))) bytes fault
 
--- the first of so many slots that fails
-abbrev pub SlotsFail : ℕ → Bool → ℕ → ℕ → ℕ → List ℕ → ClassFault → Type 0
-SlotsFail zero behind_wide total count index bytes fault = ⊥
-SlotsFail (suc n) behind_wide total count index bytes fault =
-    Either (IsSlot behind_wide (nat_eq (index + 1) count)) (SlotFails behind_wide (nat_eq (index + 1) count) total index)
-    (λ c. SlotsFail n (is_wide c) total count (index + 1)) bytes fault
+-- the first of so many others that fails
+abbrev pub ConstantsFailFrom : ℕ → Bool → ℕ → ℕ → ℕ → List ℕ → ClassFault → Type 0
+ConstantsFailFrom zero after_wide total count index bytes fault = ⊥
+ConstantsFailFrom (suc n) after_wide total count index bytes fault =
+    Either (IsConstant after_wide (nat_eq (index + 1) count))
+    (ConstantFails after_wide (nat_eq (index + 1) count) total index)
+    (λ c. ConstantsFailFrom n (is_wide c) total count (index + 1)) bytes fault
 
--- The text of the entries 1 to count - 1, of which number 0 is unusable.
-pub record IsEntries (count : ℕ) (entries : List Constant) (text : List ℕ) : Type 0 where
-  pub slots : List Constant
-  pub is : entries ≡ constants.Unusable ∷ slots
-  pub number : length slots ≡ count - 1
-  pub fit : AreSlots false slots
-  pub spelled : text ≡ slots_text slots
+-- The text of the constants 1 to count - 1, of which number 0 is unusable.
+pub record IsConstantsText (count : ℕ) (pool : List Constant) (text : List ℕ) : Type 0 where
+  pub others : List Constant
+  pub is : pool ≡ constants.Unusable ∷ others
+  pub number : length others ≡ count - 1
+  pub fit : AreConstants false others
+  pub spelled : text ≡ constants_text others
 
-abbrev pub EntriesFail : ℕ → ℕ → List ℕ → ClassFault → Type 0
-EntriesFail count total bytes fault = SlotsFail (count - 1) false total count 1 bytes fault
+abbrev pub ConstantsFail : ℕ → ℕ → List ℕ → ClassFault → Type 0
+ConstantsFail count total bytes fault = ConstantsFailFrom (count - 1) false total count 1 bytes fault
 
 abbrev pub IsBytes : List ℕ → Type 0
 IsBytes bytes = (i : ℕ) → get_or bytes i 0 < 256

@@ -13,18 +13,19 @@ use Rattle.classfile.specs.declared.attribute.Owner.TheVariants as owners
 use Rattle.classfile.specs.declared.member.Member.{Member}
 use Rattle.classfile.specs.declared.member.MemberKind.{MemberKind}
 use Rattle.classfile.specs.declared.member.MemberKind.TheVariants as kinds
-use Rattle.classfile.specs.Numbers.{offset}
-use Rattle.classfile.specs.Faults.{Either, Number, Cut, CutNumber, TwoFail, IsEntries, EntriesFail}
-use Rattle.classfile.specs.Spelling.{u2, constant_text, slots_text}
+use Rattle.classfile.specs.Gives.{offset}
+use Rattle.classfile.specs.Faults.{Either, Number, Cut, CutNumber, TwoFail, IsConstantsText, ConstantsFail}
+use Rattle.classfile.specs.Spelling.{u2, constant_text, constants_text}
 use Rattle.classfile.specs.Text.{table_text, framed_text, attribute_text, member_text}
-use Rattle.classfile.specs.Lookup.{text_of}
+use Rattle.classfile.specs.Lookup.{utf8_of}
 use Rattle.classfile.specs.Flags.{has_no_body}
 use Rattle.classfile.specs.Grammar.{IsFieldDescriptor, IsMethodDescriptor, IsClassName}
-use Rattle.classfile.specs.Pool.{IsIndexOf, IsUtf8, IsText, IsClass, IsClassNamed, IsNameAndType, IsTyped, IsMemberref}
+use Rattle.classfile.specs.Pool.{IsIndexOf, IsUtf8, IsUtf8Where, IsClass, IsClassNamed, IsNameAndType, IsTyped}
+use Rattle.classfile.specs.Pool.{IsMemberref}
 use Rattle.classfile.specs.Pool.{IsDescriptor, HasReferences, IsPool}
 use Rattle.classfile.specs.Members.{is_constant_value, is_code, IsFieldAttribute, IsMethodAttribute, IsClassAttribute}
 use Rattle.classfile.specs.Members.{owner_of, IsField, IsMethod, Differ}
-use Rattle.classfile.specs.Structure.{Structure}
+use Rattle.classfile.specs.ClassFile.{ClassFile}
 use Rattle.classfile.specs.Class.{IsNoArray, IsClassText}
 
 -- ---- rules
@@ -42,36 +43,41 @@ abbrev pub Ruled : {X : Type 0} → (X → List ℕ → Type 0) → (X → Type 
 Ruled Spells Rule x text = Spells x text × Rule x
 
 -- a part fails, or what it spells breaks a rule
-abbrev pub RuleFails : {X : Type 0} → (X → List ℕ → Type 0) → (List ℕ → ClassFault → Type 0) → (X → Type 0) → (X → ClassFault)
+abbrev pub RuleFails : {X : Type 0} → (X → List ℕ → Type 0) → (List ℕ → ClassFault → Type 0) → (X → Type 0)
+    → (X → ClassFault)
     → List ℕ → ClassFault → Type 0
 RuleFails Spells Fails Rule why = Either Spells Fails (λ x rest. Breaks (Rule x) (why x))
 
 -- ---- tables
 
--- an item that may stand behind earlier ones
-pub record IsItem {X : Type 0} (spell : X → List ℕ) (Fits : X → Type 0) (Behind : X → X → Type 0) (earlier : List X) (x : X)
+-- an item that may stand after earlier ones
+pub record IsItem {X : Type 0} (spell : X → List ℕ) (Fits : X → Type 0) (MayFollow : X → X → Type 0) (earlier : List X)
+    (x : X)
     (text : List ℕ) : Type 0 where
   pub fits : Fits x
-  pub pairs : All (λ e. Behind e x) earlier
+  pub pairs : All (λ e. MayFollow e x) earlier
   pub spelled : text ≡ spell x
 
 -- A count of 16 bits, and so many items.
-pub record IsTable {X : Type 0} (spell : X → List ℕ) (Fits : X → Type 0) (Behind : X → X → Type 0) (items : List X)
+pub record IsTableText {X : Type 0} (spell : X → List ℕ) (Fits : X → Type 0) (MayFollow : X → X → Type 0)
+    (items : List X)
     (text : List ℕ) : Type 0 where
   pub count : length items < 2 ^ 16
   pub each : All Fits items
-  pub pairs : AllPairs Behind items
+  pub pairs : AllPairs MayFollow items
   pub spelled : text ≡ table_text spell items
 
 -- the first of so many items that fails
-abbrev pub ItemsFail : {X : Type 0} → (List X → X → List ℕ → Type 0) → (List X → List ℕ → ClassFault → Type 0) → ℕ → List X → List ℕ
+abbrev pub ItemsFail : {X : Type 0} → (List X → X → List ℕ → Type 0) → (List X → List ℕ → ClassFault → Type 0) → ℕ
+    → List X → List ℕ
     → ClassFault → Type 0
 ItemsFail Spells Fails zero earlier bytes fault = ⊥
 ItemsFail Spells Fails (suc n) earlier bytes fault =
     Either (Spells earlier) (Fails earlier) (λ x. ItemsFail Spells Fails n (earlier ++ x ∷ [])) bytes fault
 
 -- the count of a table fails, or the first of its items that does
-abbrev pub TableFails : {X : Type 0} → (List X → X → List ℕ → Type 0) → (List X → List ℕ → ClassFault → Type 0) → ℕ → List ℕ
+abbrev pub TableFails : {X : Type 0} → (List X → X → List ℕ → Type 0) → (List X → List ℕ → ClassFault → Type 0) → ℕ
+    → List ℕ
     → ClassFault → Type 0
 TableFails Spells Fails total = Either (Number w16) (CutNumber w16 total) (λ count. ItemsFail Spells Fails count [])
 
@@ -111,43 +117,49 @@ MemberrefFails Form pool at index class name_and_type =
     (BreaksOr (IsIndexOf IsNameAndType pool name_and_type) (faults.Index (at + 3))
     (Breaks (IsIndexOf (IsTyped Form pool) pool name_and_type) (faults.Descriptor index)))
 
--- The first rule on references that the entry at an index breaks. Its tag stands at an offset.
-abbrev pub EntryFails : List Constant → ℕ → ℕ → Constant → ClassFault → Type 0
-EntryFails pool at index (constants.Class name) =
+-- The first rule on references that the constant at an index breaks. Its tag stands at an offset.
+abbrev pub ReferenceFails : List Constant → ℕ → ℕ → Constant → ClassFault → Type 0
+ReferenceFails pool at index (constants.Class name) =
     BreaksOr (IsIndexOf IsUtf8 pool name) (faults.Index (at + 1))
-    (Breaks (IsIndexOf (IsText IsClassName) pool name) (faults.Descriptor index))
-EntryFails pool at index (constants.String text) = Breaks (IsIndexOf IsUtf8 pool text) (faults.Index (at + 1))
-EntryFails pool at index (constants.MethodType text) = Breaks (IsIndexOf IsUtf8 pool text) (faults.Index (at + 1))
-EntryFails pool at index (constants.Fieldref class name_and_type) = MemberrefFails IsFieldDescriptor pool at index class name_and_type
-EntryFails pool at index (constants.Methodref class name_and_type) = MemberrefFails IsMethodDescriptor pool at index class name_and_type
-EntryFails pool at index (constants.InterfaceMethodref class name_and_type) =
+    (Breaks (IsIndexOf (IsUtf8Where IsClassName) pool name) (faults.Descriptor index))
+ReferenceFails pool at index (constants.String text) = Breaks (IsIndexOf IsUtf8 pool text) (faults.Index (at + 1))
+ReferenceFails pool at index (constants.MethodType text) = Breaks (IsIndexOf IsUtf8 pool text) (faults.Index (at + 1))
+ReferenceFails pool at index (constants.Fieldref class name_and_type) =
+    MemberrefFails IsFieldDescriptor pool at index class name_and_type
+ReferenceFails pool at index (constants.Methodref class name_and_type) =
     MemberrefFails IsMethodDescriptor pool at index class name_and_type
-EntryFails pool at index (constants.NameAndType name descriptor) =
+ReferenceFails pool at index (constants.InterfaceMethodref class name_and_type) =
+    MemberrefFails IsMethodDescriptor pool at index class name_and_type
+ReferenceFails pool at index (constants.NameAndType name descriptor) =
     BreaksOr (IsIndexOf IsUtf8 pool name) (faults.Index (at + 1))
     (BreaksOr (IsIndexOf IsUtf8 pool descriptor) (faults.Index (at + 3))
-    (Breaks (IsIndexOf (IsText IsDescriptor) pool descriptor) (faults.Descriptor index)))
-EntryFails pool at index (constants.MethodHandle kind reference) =
-    BreaksOr ((0 < kind) × (kind < 10)) (faults.Index (at + 1)) (Breaks (IsIndexOf IsMemberref pool reference) (faults.Index (at + 2)))
-EntryFails pool at index (constants.InvokeDynamic bootstrap name_and_type) =
+    (Breaks (IsIndexOf (IsUtf8Where IsDescriptor) pool descriptor) (faults.Descriptor index)))
+ReferenceFails pool at index (constants.MethodHandle kind reference) =
+    BreaksOr ((0 < kind) × (kind < 10)) (faults.Index (at + 1))
+    (Breaks (IsIndexOf IsMemberref pool reference) (faults.Index (at + 2)))
+ReferenceFails pool at index (constants.InvokeDynamic bootstrap name_and_type) =
     Breaks (IsIndexOf IsNameAndType pool name_and_type) (faults.Index (at + 3))
-EntryFails pool at index _ = λ fault. ⊥
+ReferenceFails pool at index _ = λ fault. ⊥
 
--- The first of these entries that breaks a rule on references: they stand from an index on, and so much stands behind them.
+-- The first of these constants that breaks a rule on references: they stand from an index on, and so much stands after
+-- them.
 abbrev pub ReferencesFail : List Constant → ℕ → List ℕ → ℕ → List Constant → ClassFault → Type 0
 ReferencesFail pool total rest index [] fault = ⊥
-ReferencesFail pool total rest index (c ∷ cs) fault = EntryFails pool (offset total (slots_text (c ∷ cs) ++ rest)) index c fault
+ReferencesFail pool total rest index (c ∷ cs) fault =
+    ReferenceFails pool (offset total (constants_text (c ∷ cs) ++ rest)) index c fault
     ⊎ (HasReferences pool c × ReferencesFail pool total rest (index + 1) cs fault)
 
--- the entries of a count fail, and then their references
+-- the constants of a count fail, and then their references
 abbrev pub CountedFail : ℕ → ℕ → List ℕ → ClassFault → Type 0
-CountedFail count total = Either (IsEntries count) (EntriesFail count total) (λ pool rest. ReferencesFail pool total rest 0 pool)
+CountedFail count total =
+    Either (IsConstantsText count) (ConstantsFail count total) (λ pool rest. ReferencesFail pool total rest 0 pool)
 
 -- the text of a constant pool
 pub record IsPoolText (pool : List Constant) (text : List ℕ) : Type 0 where
   pub fits : IsPool pool
   pub spelled : text ≡ table_text constant_text pool
 
--- its count, which isn't 0, and its entries
+-- its count, which isn't 0, and its constants
 abbrev pub PoolFails : ℕ → List ℕ → ClassFault → Type 0
 PoolFails total bytes = Either (Number w16) (CutNumber w16 total)
     (λ count rest. BreaksOr (0 < count) (faults.Index (offset total bytes)) (CountedFail count total rest)) bytes
@@ -160,7 +172,8 @@ IndexOf Rule = Ruled (Number w16) Rule
 
 -- another number is no index, where it stands
 abbrev pub IndexFails : (ℕ → Type 0) → ℕ → List ℕ → ClassFault → Type 0
-IndexFails Rule total bytes = RuleFails (Number w16) (CutNumber w16 total) Rule (λ index. faults.Index (offset total bytes)) bytes
+IndexFails Rule total bytes =
+    RuleFails (Number w16) (CutNumber w16 total) Rule (λ index. faults.Index (offset total bytes)) bytes
 
 -- ---- flags, name and parents (JVMS 4.1)
 
@@ -185,7 +198,8 @@ pub record IsDeclaration (pool : List Constant) (d : Declaration) (text : List �
   pub spelled : text ≡ declaration_text d
 
 abbrev pub InterfacesFail : List Constant → ℕ → List ℕ → ClassFault → Type 0
-InterfacesFail pool total = TableFails (IsItem u2 (IsIndexOf IsClass pool) Anything) (λ earlier. IndexFails (IsIndexOf IsClass pool) total)
+InterfacesFail pool total =
+    TableFails (IsItem u2 (IsIndexOf IsClass pool) Anything) (λ earlier. IndexFails (IsIndexOf IsClass pool) total)
     total
 
 abbrev pub DeclarationFails : List Constant → ℕ → List ℕ → ClassFault → Type 0
@@ -212,7 +226,7 @@ is_single (owners.Method flags) attribute = is_code attribute
 abbrev pub NotBoth : Owner → Attribute → Attribute → Type 0
 NotBoth owner a b = is_single owner a ≡ true → is_single owner b ≡ false
 
--- an attribute behind earlier ones of its owner
+-- an attribute after earlier ones of its owner
 abbrev pub IsAttributeText : List Constant → Owner → List Attribute → Attribute → List ℕ → Type 0
 IsAttributeText pool owner = IsItem attribute_text (IsAttributeOf pool owner) (NotBoth owner)
 
@@ -231,15 +245,17 @@ FrameFails pool total =
 
 -- the frame is the text of an attribute that may stand there
 abbrev pub IsContent : List Constant → Owner → List Attribute → ℕ × List ℕ → Type 0
-IsContent pool owner earlier frame = (attribute : Attribute) × IsAttributeText pool owner earlier attribute (framed_text frame.0 frame.1)
+IsContent pool owner earlier frame = (attribute : Attribute)
+    × IsAttributeText pool owner earlier attribute (framed_text frame.0 frame.1)
 
 -- Its frame fails, or its content is none. Every fault of a content, of Code too, is the attribute's.
 abbrev pub AttributeFails : List Constant → Owner → ℕ → List Attribute → List ℕ → ClassFault → Type 0
 AttributeFails pool owner total earlier bytes =
-    RuleFails (IsFrame pool) (FrameFails pool total) (IsContent pool owner earlier) (λ frame. faults.Attribute (offset total bytes)) bytes
+    RuleFails (IsFrame pool) (FrameFails pool total) (IsContent pool owner earlier)
+    (λ frame. faults.Attribute (offset total bytes)) bytes
 
 abbrev pub IsAttributes : List Constant → Owner → List Attribute → List ℕ → Type 0
-IsAttributes pool owner = IsTable attribute_text (IsAttributeOf pool owner) (NotBoth owner)
+IsAttributes pool owner = IsTableText attribute_text (IsAttributeOf pool owner) (NotBoth owner)
 
 abbrev pub AttributesFail : List Constant → Owner → ℕ → List ℕ → ClassFault → Type 0
 AttributesFail pool owner total = TableFails (IsAttributeText pool owner) (AttributeFails pool owner total) total
@@ -247,8 +263,8 @@ AttributesFail pool owner total = TableFails (IsAttributeText pool owner) (Attri
 -- ---- fields and methods (JVMS 4.5, 4.6)
 
 abbrev pub IsDescriptorOf : MemberKind → List Constant → ℕ → Type 0
-IsDescriptorOf kinds.Field pool index = IsIndexOf (IsText IsFieldDescriptor) pool index
-IsDescriptorOf kinds.Method pool index = IsIndexOf (IsText IsMethodDescriptor) pool index
+IsDescriptorOf kinds.Field pool index = IsIndexOf (IsUtf8Where IsFieldDescriptor) pool index
+IsDescriptorOf kinds.Method pool index = IsIndexOf (IsUtf8Where IsMethodDescriptor) pool index
 
 abbrev pub IsMemberOf : MemberKind → List Constant → Member → Type 0
 IsMemberOf kinds.Field pool member = IsField pool member
@@ -257,7 +273,8 @@ IsMemberOf kinds.Method pool member = IsMethod pool member
 -- none of these members has this name and descriptor
 abbrev pub IsNew : List Constant → ℕ → ℕ → List Member → Type 0
 IsNew pool name descriptor earlier =
-    All (λ m. ¬ ((text_of pool m.name ≡ text_of pool name) × (text_of pool m.descriptor ≡ text_of pool descriptor))) earlier
+    All (λ m. ¬ ((utf8_of pool m.name ≡ utf8_of pool name) × (utf8_of pool m.descriptor ≡ utf8_of pool descriptor)))
+    earlier
 
 -- a method that isn't NATIVE or ABSTRACT has code
 abbrev pub HasItsCode : MemberKind → ℕ → List Attribute → Type 0
@@ -273,7 +290,8 @@ DescriptorFails kind pool total =
 -- the attributes of a member that begins at an offset
 abbrev pub MemberAttributesFail : MemberKind → List Constant → ℕ → ℕ → ℕ → ℕ → List ℕ → ClassFault → Type 0
 MemberAttributesFail kind pool total at flags descriptor =
-    RuleFails (IsAttributes pool (owner_of kind flags descriptor)) (AttributesFail pool (owner_of kind flags descriptor) total)
+    RuleFails (IsAttributes pool (owner_of kind flags descriptor))
+    (AttributesFail pool (owner_of kind flags descriptor) total)
     (HasItsCode kind flags) (λ found. faults.Attribute at)
 
 -- flags, a name, a descriptor, both not those of an earlier member, and attributes
@@ -281,15 +299,17 @@ abbrev pub MemberFails : MemberKind → List Constant → ℕ → List Member �
 MemberFails kind pool total earlier bytes =
     Either (Number w16) (CutNumber w16 total) (λ flags.
     Either (IndexOf (IsIndexOf IsUtf8 pool)) (IndexFails (IsIndexOf IsUtf8 pool) total) (λ name.
-    Either (Ruled (IndexOf (IsIndexOf IsUtf8 pool)) (IsDescriptorOf kind pool)) (DescriptorFails kind pool total) (λ descriptor rest.
+    Either (Ruled (IndexOf (IsIndexOf IsUtf8 pool)) (IsDescriptorOf kind pool)) (DescriptorFails kind pool total)
+    (λ descriptor rest.
     BreaksOr (IsNew pool name descriptor earlier) (faults.Index (offset total bytes))
     (MemberAttributesFail kind pool total (offset total bytes) flags descriptor rest)))) bytes
 
 abbrev pub IsMembers : MemberKind → List Constant → List Member → List ℕ → Type 0
-IsMembers kind pool = IsTable member_text (IsMemberOf kind pool) (Differ pool)
+IsMembers kind pool = IsTableText member_text (IsMemberOf kind pool) (Differ pool)
 
 abbrev pub MembersFail : MemberKind → List Constant → ℕ → List ℕ → ClassFault → Type 0
-MembersFail kind pool total = TableFails (IsItem member_text (IsMemberOf kind pool) (Differ pool)) (MemberFails kind pool total) total
+MembersFail kind pool total = TableFails (IsItem member_text (IsMemberOf kind pool) (Differ pool))
+    (MemberFails kind pool total) total
 
 -- ---- the file (JVMS 4.1)
 
@@ -304,20 +324,20 @@ PartsFail total =
     Either (IsMembers kinds.Method pool) (MembersFail kinds.Method pool total) (λ methods.
     AttributesFail pool owners.Class total))))))
 
--- The first rule that is broken, from the file's front to its back, has this fault. Nothing stands behind a class file.
+-- The first rule that is broken, from the file's front to its back, has this fault. Nothing stands after a class file.
 abbrev pub FirstFault : List ℕ → ClassFault → Type 0
 FirstFault bytes =
     Either (λ class text. IsClassText text class) (PartsFail (length bytes))
     (λ class rest. Breaks (rest ≡ []) (faults.Extra (offset (length bytes) rest))) bytes
 
--- want of memory, or the first fault
+-- memory ran out, or this is the first fault
 abbrev pub IsFirstFault : List ℕ → ClassFault → Type 0
 IsFirstFault bytes faults.Memory = Unit {0}
 IsFirstFault bytes fault = FirstFault bytes fault
 
 -- Bytes are the text of one class, or have one first fault, and never both.
 pub record ExactlyOne (bytes : List ℕ) : Type 0 where
-  pub some : ((class : Structure) × IsClassText bytes class) ⊎ ((fault : ClassFault) × FirstFault bytes fault)
-  pub not_both : (class : Structure) (fault : ClassFault) → IsClassText bytes class → FirstFault bytes fault → ⊥
-  pub one_class : (a b : Structure) → IsClassText bytes a → IsClassText bytes b → a ≡ b
+  pub some : ((class : ClassFile) × IsClassText bytes class) ⊎ ((fault : ClassFault) × FirstFault bytes fault)
+  pub not_both : (class : ClassFile) (fault : ClassFault) → IsClassText bytes class → FirstFault bytes fault → ⊥
+  pub one_class : (a b : ClassFile) → IsClassText bytes a → IsClassText bytes b → a ≡ b
   pub one_fault : (f g : ClassFault) → FirstFault bytes f → FirstFault bytes g → f ≡ g

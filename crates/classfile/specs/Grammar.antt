@@ -16,7 +16,7 @@ abbrev pub IsElementType : List ℕ → Type 0
 IsElementType text = ((letter : ℕ) × (IsBaseType letter × (text ≡ letter ∷ [])))
     ⊎ ((name : List ℕ) × (IsObjectName name × (text ≡ 76 ∷ (name ++ 59 ∷ []))))
 
--- an element type behind at most 255 `[` (JVMS 4.3.2, 4.4.1)
+-- an element type after at most 255 `[` (JVMS 4.3.2, 4.4.1)
 pub record IsFieldDescriptor (text : List ℕ) : Type 0 where
   pub dimensions : ℕ
   pub element : List ℕ
@@ -38,5 +38,6 @@ pub record IsMethodDescriptor (text : List ℕ) : Type 0 where
 
 -- the descriptor of an array, or a name that doesn't begin as one does
 abbrev pub IsClassName : List ℕ → Type 0
-IsClassName text = (IsFieldDescriptor text × ((rest : List ℕ) × (text ≡ 91 ∷ rest))) ⊎ (IsObjectName text × ((rest : List ℕ) →
+IsClassName text = (IsFieldDescriptor text × ((rest : List ℕ) × (text ≡ 91 ∷ rest)))
+    ⊎ (IsObjectName text × ((rest : List ℕ) →
     text ≢ 91 ∷ rest))

@@ -1,5 +1,6 @@
 -- What attributes, code and members have to be (JVMS 4.5, 4.6, 4.7).
-use Rattle.std.specs.Prelude.{◌≡◌, ◌≢◌, ℕ, ◌≤◌, ◌<◌, ◌^◌, ◌⊎◌, Bool, true, false, List, [], ◌∷◌, length, Option, Some, None}
+use Rattle.std.specs.Prelude.{◌≡◌, ◌≢◌, ℕ, ◌≤◌, ◌<◌, ◌^◌, ◌⊎◌, Bool, true, false, List, [], ◌∷◌, length, Option, Some}
+use Rattle.std.specs.Prelude.{None}
 use Rattle.std.specs.List.{All, AllPairs, Any, Contains}
 use Rattle.classfile.specs.declared.constant.Constant.{Constant}
 use Rattle.classfile.specs.declared.constant.Constant.TheVariants as constants
@@ -15,9 +16,9 @@ use Rattle.classfile.specs.declared.member.MemberKind.{MemberKind}
 use Rattle.classfile.specs.declared.member.MemberKind.TheVariants as kinds
 use Rattle.classfile.specs.Flags.{has_flag, has_no_body}
 use Rattle.classfile.specs.Names.{constant_value_name, code_name, string_descriptor}
-use Rattle.classfile.specs.Lookup.{text_of}
+use Rattle.classfile.specs.Lookup.{utf8_of}
 use Rattle.classfile.specs.Grammar.{IsFieldDescriptor, IsMethodDescriptor}
-use Rattle.classfile.specs.Pool.{IsIndexOf, IsUtf8, IsText, IsClass}
+use Rattle.classfile.specs.Pool.{IsIndexOf, IsUtf8, IsUtf8Where, IsClass}
 use Rattle.classfile.specs.Text.{code_text}
 
 abbrev pub is_constant_value : Attribute → Bool
@@ -52,7 +53,7 @@ pub record IsUnread (pool : List Constant) (attribute : UnreadAttribute) : Type 
 
 -- an attribute of another name
 pub record IsUnreadBut (other : List ℕ) (pool : List Constant) (attribute : UnreadAttribute) : Type 0 where
-  pub name : IsIndexOf (IsText (λ text. text ≢ other)) pool attribute.name
+  pub name : IsIndexOf (IsUtf8Where (λ text. text ≢ other)) pool attribute.name
   pub size : length attribute.bytes < 2 ^ 32
 
 -- an entry of the exception table of code of so many bytes (JVMS 4.7.3)
@@ -76,7 +77,8 @@ pub record IsCode (pool : List Constant) (code : Code) : Type 0 where
 
 -- a constant that a field of a descriptor may have as its value (JVMS 4.7.2, table 4.7.2-A)
 abbrev pub IsValueOf : List ℕ → Constant → Type 0
-IsValueOf descriptor (constants.Integer bits) = (letter : ℕ) × (Contains (73 ∷ 83 ∷ 67 ∷ 66 ∷ 90 ∷ []) letter × (descriptor ≡ letter ∷ []))
+IsValueOf descriptor (constants.Integer bits) = (letter : ℕ)
+    × (Contains (73 ∷ 83 ∷ 67 ∷ 66 ∷ 90 ∷ []) letter × (descriptor ≡ letter ∷ []))
 IsValueOf descriptor (constants.Float bits) = descriptor ≡ 70 ∷ []
 IsValueOf descriptor (constants.Long high low) = descriptor ≡ 74 ∷ []
 IsValueOf descriptor (constants.Double high low) = descriptor ≡ 68 ∷ []
@@ -86,8 +88,8 @@ IsValueOf descriptor _ = ⊥
 -- an attribute of a field: ConstantValue is looked into where the field is STATIC (JVMS 4.5, 4.7.2)
 abbrev pub IsFieldAttribute : List Constant → ℕ → ℕ → Attribute → Type 0
 IsFieldAttribute pool flags descriptor (attributes.ConstantValue name value) =
-    (has_flag flags 8 ≡ true) × IsIndexOf (IsText (λ text. text ≡ constant_value_name)) pool name
-    × IsIndexOf (IsText (λ text. IsIndexOf (IsValueOf text) pool value)) pool descriptor
+    (has_flag flags 8 ≡ true) × IsIndexOf (IsUtf8Where (λ text. text ≡ constant_value_name)) pool name
+    × IsIndexOf (IsUtf8Where (λ text. IsIndexOf (IsValueOf text) pool value)) pool descriptor
 IsFieldAttribute pool flags descriptor (attributes.Code name code) = ⊥
 IsFieldAttribute pool flags descriptor (attributes.Unread attribute) =
     IsUnread pool attribute × (has_flag flags 8 ≡ true → IsUnreadBut constant_value_name pool attribute)
@@ -96,7 +98,7 @@ IsFieldAttribute pool flags descriptor (attributes.Unread attribute) =
 abbrev pub IsMethodAttribute : List Constant → ℕ → Attribute → Type 0
 IsMethodAttribute pool flags (attributes.ConstantValue name value) = ⊥
 IsMethodAttribute pool flags (attributes.Code name code) =
-    (has_no_body flags ≡ false) × IsIndexOf (IsText (λ text. text ≡ code_name)) pool name × IsCode pool code
+    (has_no_body flags ≡ false) × IsIndexOf (IsUtf8Where (λ text. text ≡ code_name)) pool name × IsCode pool code
 IsMethodAttribute pool flags (attributes.Unread attribute) = IsUnreadBut code_name pool attribute
 
 -- an attribute of a class: none is looked into (JVMS 4.1)
@@ -112,7 +114,7 @@ AtMostOne test attributes = AllPairs (λ a b. test a ≡ true → test b ≡ fal
 pub record IsField (pool : List Constant) (field : Member) : Type 0 where
   pub access_flags : field.access_flags < 2 ^ 16
   pub name : IsIndexOf IsUtf8 pool field.name
-  pub descriptor : IsIndexOf (IsText IsFieldDescriptor) pool field.descriptor
+  pub descriptor : IsIndexOf (IsUtf8Where IsFieldDescriptor) pool field.descriptor
   pub attribute_count : length field.attributes < 2 ^ 16
   pub attributes : All (IsFieldAttribute pool field.access_flags field.descriptor) field.attributes
   pub one_value : AtMostOne is_constant_value field.attributes
@@ -121,7 +123,7 @@ pub record IsField (pool : List Constant) (field : Member) : Type 0 where
 pub record IsMethod (pool : List Constant) (method : Member) : Type 0 where
   pub access_flags : method.access_flags < 2 ^ 16
   pub name : IsIndexOf IsUtf8 pool method.name
-  pub descriptor : IsIndexOf (IsText IsMethodDescriptor) pool method.descriptor
+  pub descriptor : IsIndexOf (IsUtf8Where IsMethodDescriptor) pool method.descriptor
   pub attribute_count : length method.attributes < 2 ^ 16
   pub attributes : All (IsMethodAttribute pool method.access_flags) method.attributes
   pub one_code : AtMostOne is_code method.attributes
@@ -130,4 +132,5 @@ pub record IsMethod (pool : List Constant) (method : Member) : Type 0 where
 
 -- two members that differ in the text of their name or of their descriptor
 abbrev pub Differ : List Constant → Member → Member → Type 0
-Differ pool a b = ¬ ((text_of pool a.name ≡ text_of pool b.name) × (text_of pool a.descriptor ≡ text_of pool b.descriptor))
+Differ pool a b =
+    ¬ ((utf8_of pool a.name ≡ utf8_of pool b.name) × (utf8_of pool a.descriptor ≡ utf8_of pool b.descriptor))

@@ -3,10 +3,10 @@ use Rattle.std.specs.Prelude.{ℕ, ◌<◌, ◌^◌, ◌⊎◌, true, List, leng
 use Rattle.std.specs.List.{All}
 use Rattle.classfile.specs.declared.constant.Constant.{Constant}
 use Rattle.classfile.specs.declared.constant.Constant.TheVariants as constants
-use Rattle.classfile.specs.Spelling.{AreSlots}
+use Rattle.classfile.specs.Spelling.{AreConstants}
 use Rattle.classfile.specs.Grammar.{IsFieldDescriptor, IsMethodDescriptor, IsClassName}
 
--- an index of an entry of which P holds
+-- an index of a constant of which P holds
 abbrev pub IsIndexOf : (Constant → Type 0) → List Constant → ℕ → Type 0
 IsIndexOf P pool index = IsSomeAnd (slice_get pool index) P
 
@@ -15,9 +15,9 @@ IsUtf8 (constants.Utf8 text) = Unit {0}
 IsUtf8 _ = ⊥
 
 -- a Utf8 of whose text P holds
-abbrev pub IsText : (List ℕ → Type 0) → Constant → Type 0
-IsText P (constants.Utf8 text) = P text
-IsText P _ = ⊥
+abbrev pub IsUtf8Where : (List ℕ → Type 0) → Constant → Type 0
+IsUtf8Where P (constants.Utf8 text) = P text
+IsUtf8Where P _ = ⊥
 
 abbrev pub IsClass : Constant → Type 0
 IsClass (constants.Class name) = Unit {0}
@@ -25,7 +25,7 @@ IsClass _ = ⊥
 
 -- a Class of whose name P holds
 abbrev pub IsClassNamed : (List ℕ → Type 0) → List Constant → Constant → Type 0
-IsClassNamed P pool (constants.Class name) = IsIndexOf (IsText P) pool name
+IsClassNamed P pool (constants.Class name) = IsIndexOf (IsUtf8Where P) pool name
 IsClassNamed P pool _ = ⊥
 
 abbrev pub IsNameAndType : Constant → Type 0
@@ -34,7 +34,7 @@ IsNameAndType _ = ⊥
 
 -- a NameAndType of whose descriptor P holds
 abbrev pub IsTyped : (List ℕ → Type 0) → List Constant → Constant → Type 0
-IsTyped P pool (constants.NameAndType name descriptor) = IsIndexOf (IsText P) pool descriptor
+IsTyped P pool (constants.NameAndType name descriptor) = IsIndexOf (IsUtf8Where P) pool descriptor
 IsTyped P pool _ = ⊥
 
 -- a Fieldref, a Methodref or an InterfaceMethodref
@@ -47,10 +47,10 @@ IsMemberref _ = ⊥
 abbrev pub IsDescriptor : List ℕ → Type 0
 IsDescriptor text = IsFieldDescriptor text ⊎ IsMethodDescriptor text
 
--- The references of an entry to others, earlier or later.
+-- The references of a constant to others, earlier or later.
 abbrev pub HasReferences : List Constant → Constant → Type 0
 -- JVMS 4.4.1
-HasReferences pool (constants.Class name) = IsIndexOf (IsText IsClassName) pool name
+HasReferences pool (constants.Class name) = IsIndexOf (IsUtf8Where IsClassName) pool name
 -- JVMS 4.4.2
 HasReferences pool (constants.Fieldref class name_and_type) = IsIndexOf IsClass pool class
     × IsIndexOf (IsTyped IsFieldDescriptor pool) pool name_and_type
@@ -61,9 +61,11 @@ HasReferences pool (constants.InterfaceMethodref class name_and_type) = IsIndexO
 -- JVMS 4.4.3
 HasReferences pool (constants.String text) = IsIndexOf IsUtf8 pool text
 -- JVMS 4.4.6
-HasReferences pool (constants.NameAndType name descriptor) = IsIndexOf IsUtf8 pool name × IsIndexOf (IsText IsDescriptor) pool descriptor
+HasReferences pool (constants.NameAndType name descriptor) = IsIndexOf IsUtf8 pool name
+    × IsIndexOf (IsUtf8Where IsDescriptor) pool descriptor
 -- JVMS 4.4.8
-HasReferences pool (constants.MethodHandle kind reference) = (0 < kind) × (kind < 10) × IsIndexOf IsMemberref pool reference
+HasReferences pool (constants.MethodHandle kind reference) = (0 < kind) × (kind < 10)
+    × IsIndexOf IsMemberref pool reference
 -- JVMS 4.4.9
 HasReferences pool (constants.MethodType descriptor) = IsIndexOf IsUtf8 pool descriptor
 -- JVMS 4.4.10
@@ -75,6 +77,6 @@ HasReferences pool _ = Unit {0}
 pub record IsPool (pool : List Constant) : Type 0 where
   -- an index fits 16 bits
   pub count : length pool < 2 ^ 16
-  -- index 0 is unusable, and the index behind a Long or a Double; the constants' numbers and texts fit
-  pub slots : AreSlots true pool
+  -- index 0 is unusable, and the index after a Long or a Double; the constants' numbers and texts fit
+  pub each : AreConstants true pool
   pub references : All (HasReferences pool) pool

@@ -1,11 +1,11 @@
--- The one spelling of each constant and of the entries of a pool.
+-- The one spelling of each constant and of the constants of a pool.
 use Rattle.std.specs.Prelude.{◌≡◌, ℕ, ◌<◌, ◌^◌, Bool, true, false, List, [], ◌∷◌, ◌++◌, length}
 use Rattle.std.specs.List.{flat_map}
 use Rattle.std.specs.Int.{w8, w16, w32, to_be_bytes}
 use Rattle.classfile.specs.declared.constant.Constant.{Constant}
 use Rattle.classfile.specs.declared.constant.Constant.TheVariants as constants
 use Rattle.classfile.specs.Units.{IsModifiedUtf8}
-use Rattle.classfile.specs.Entries.{is_wide}
+use Rattle.classfile.specs.Constants.{is_wide}
 
 abbrev pub u1 : ℕ → List ℕ
 u1 n = to_be_bytes w8 n
@@ -51,11 +51,11 @@ Fits (constants.MethodHandle kind reference) = (kind < 2 ^ 8) × (reference < 2 
 Fits (constants.MethodType descriptor) = descriptor < 2 ^ 16
 Fits (constants.InvokeDynamic bootstrap name_and_type) = (bootstrap < 2 ^ 16) × (name_and_type < 2 ^ 16)
 
--- Behind a wide constant, and nowhere else, stands an unusable number.
-abbrev pub AreSlots : Bool → List Constant → Type 0
-AreSlots behind_wide [] = behind_wide ≡ false
-AreSlots true (c ∷ cs) = (c ≡ constants.Unusable) × AreSlots false cs
-AreSlots false (c ∷ cs) = Fits c × AreSlots (is_wide c) cs
+-- After a wide constant, and nowhere else, stands an unusable number.
+abbrev pub AreConstants : Bool → List Constant → Type 0
+AreConstants after_wide [] = after_wide ≡ false
+AreConstants true (c ∷ cs) = (c ≡ constants.Unusable) × AreConstants false cs
+AreConstants false (c ∷ cs) = Fits c × AreConstants (is_wide c) cs
 
-abbrev pub slots_text : List Constant → List ℕ
-slots_text constants = flat_map constant_text constants
+abbrev pub constants_text : List Constant → List ℕ
+constants_text constants = flat_map constant_text constants

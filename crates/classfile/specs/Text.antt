@@ -8,7 +8,7 @@ use Rattle.classfile.specs.declared.attribute.Attribute.{Attribute}
 use Rattle.classfile.specs.declared.attribute.Attribute.TheVariants as attributes
 use Rattle.classfile.specs.declared.member.Member.{Member}
 use Rattle.classfile.specs.Spelling.{u2, u4, constant_text}
-use Rattle.classfile.specs.Structure.{Structure}
+use Rattle.classfile.specs.ClassFile.{ClassFile}
 
 -- a count of 16 bits, and the items
 abbrev pub table_text : {X : Type 0} → (X → List ℕ) → List X → List ℕ
@@ -36,10 +36,12 @@ attribute_text (attributes.Unread attribute) = unread_text attribute
 
 -- JVMS 4.5, 4.6
 abbrev pub member_text : Member → List ℕ
-member_text member = u2 member.access_flags ++ (u2 member.name ++ (u2 member.descriptor ++ table_text attribute_text member.attributes))
+member_text member =
+    u2 member.access_flags ++ (u2 member.name ++ (u2 member.descriptor ++ table_text attribute_text member.attributes))
 
 -- The whole file: CAFEBABE, version 52.0, and its tables in order.
-abbrev pub class_text : Structure → List ℕ
+abbrev pub class_text : ClassFile → List ℕ
 class_text class = u4 3405691582 ++ ((u2 0 ++ u2 52) ++ (table_text constant_text class.constants
     ++ ((u2 class.access_flags ++ (u2 class.this_class ++ (u2 class.super_class ++ table_text u2 class.interfaces)))
-    ++ (table_text member_text class.fields ++ (table_text member_text class.methods ++ table_text attribute_text class.attributes)))))
+    ++ (table_text member_text class.fields
+    ++ (table_text member_text class.methods ++ table_text attribute_text class.attributes)))))

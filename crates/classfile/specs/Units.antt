@@ -1,10 +1,9 @@
 -- Modified UTF-8, unit by unit (JVMS 4.4.7).
-use Rattle.std.specs.Prelude.{◌≡◌, ℕ, ◌+◌, ◌<◌, ◌^◌, ◌/◌, ◌%◌, ◌&&◌, true, List, [], ◌∷◌, ◌++◌, nat_lt, if◌then◌else◌}
+use Rattle.std.specs.Prelude.{◌≡◌, ℕ, ◌+◌, ◌<◌, ◌^◌, ◌/◌, ◌%◌, ◌&&◌, List, [], ◌∷◌, nat_lt, if◌then◌else◌}
 use Rattle.std.specs.List.{flat_map, All}
-use Rattle.classfile.specs.Modified.{is_modified}
 
--- The one spelling of a 16-bit unit: U+0001 to U+007F in one byte, U+0000 and U+0080 to U+07FF in two, the others in three. A
--- surrogate is spelled by itself.
+-- The one spelling of a 16-bit unit: U+0001 to U+007F in one byte, U+0000 and U+0080 to U+07FF in two, the others in
+-- three. A surrogate is spelled by itself.
 abbrev pub unit_text : ℕ → List ℕ
 unit_text unit =
     if nat_lt 0 unit && nat_lt unit 128 then unit ∷ [] else
@@ -20,8 +19,3 @@ pub record IsModifiedUtf8 (text : List ℕ) : Type 0 where
   pub units : List ℕ
   pub each : All (λ unit. unit < 2 ^ 16) units
   pub spelled : text ≡ units_text units
-
--- the text is the spelling of a unit and then modified UTF-8
-pub record IsSpelledFirst (unit : ℕ) (rest text : List ℕ) : Type 0 where
-  pub spelled : text ≡ unit_text unit ++ rest
-  pub modified : is_modified rest ≡ true

@@ -2,20 +2,20 @@
 
 ghost use Rattle.std.specs.Prelude.{◌≡◌, List, option_map};
 ghost use Rattle.std.specs.List.{list_any};
-ghost use Rattle.classfile.specs.Lookup.{text_of};
-ghost use Rattle.classfile.specs.Numbers.{Gives};
+ghost use Rattle.classfile.specs.Lookup.{utf8_of};
+ghost use Rattle.classfile.specs.Gives.{Gives};
 ghost use Rattle.classfile.specs.Members.{is_constant_value, is_code};
-ghost use Rattle.classfile.specs.Repeat.{repeat_at};
-ghost use Rattle.classfile.specs.ReadMembers.{meaning_of, meaning_at, is_int_descriptor, suits, suits_at, value_of};
-ghost use Rattle.classfile.specs.ReadMembers.{constant_value_of, code_attribute_of, content_of};
-ghost use Rattle.classfile.specs.ReadMembers.{attribute_at, attributes_at};
+ghost use Rattle.classfile.specs.reading.Repeat.{repeat_at};
+ghost use Rattle.classfile.specs.reading.Members.{meaning_of, meaning_at, is_int_descriptor, suits, suits_at, value_of};
+ghost use Rattle.classfile.specs.reading.Members.{constant_value_of, code_attribute_of, content_of};
+ghost use Rattle.classfile.specs.reading.Members.{attribute_at, attributes_at};
 
 use crate::bytes::Bytes;
 use crate::code::{Code, whole_code};
 use crate::constant::Constant;
 use crate::fault::ClassFault;
 use crate::flags::{STATIC, has_flag, has_no_body};
-use crate::lookup::text_of;
+use crate::lookup::utf8_of;
 use crate::numbers::{room_for, u16_at};
 use crate::unread::{UnreadAttribute, framed_at};
 use std::alloc::Global;
@@ -69,7 +69,8 @@ pub(crate) enum Owner {
 enum Meaning {
     /// The value of a field with the descriptor at this index.
     ConstantValue { descriptor: u16 },
-    Code { has_no_body: bool },
+    /// The code of a method of these flags.
+    Code { access_flags: u16 },
     Unread,
 }
 
@@ -96,9 +97,7 @@ fn meaning_of(owner: Owner, name: &[u8]) -> Meaning
         }
         Owner::Method { access_flags } => {
             if name == CODE {
-                Meaning::Code {
-                    has_no_body: has_no_body(access_flags),
-                }
+                Meaning::Code { access_flags }
             } else {
                 Meaning::Unread
             }
@@ -126,11 +125,11 @@ fn suits(descriptor: &[u8], constant: Option<&Constant>) -> bool
     }
 }
 
-#[tactic(auto, unfolding(crate::specs::ReadMembers::suits_at))]
+#[tactic(auto, unfolding(crate::specs::reading::Members::suits_at))]
 fn suits_at(pool: &[Constant], descriptor: u16, value: u16) -> bool
     ensures { result ≡ suits_at pool.now descriptor value }
 {
-    match text_of(pool, descriptor) {
+    match utf8_of(pool, descriptor) {
         None => false,
         Some(text) => suits(text, pool.get(usize::from(value))),
     }
@@ -145,7 +144,7 @@ fn value_of(content: &[u8]) -> Option<u16>
     }
 }
 
-#[tactic(auto, unfolding(crate::specs::ReadMembers::constant_value_of))]
+#[tactic(auto, unfolding(crate::specs::reading::Members::constant_value_of))]
 fn constant_value_of(
     pool: &[Constant],
     at: usize,
@@ -183,20 +182,20 @@ pub(crate) fn has_code(attributes: &[Attribute]) -> bool
         .any(|attribute| matches!(attribute, Attribute::Code { .. }))
 }
 
-#[tactic(auto, unfolding(crate::specs::ReadMembers::code_attribute_of))]
+#[tactic(auto, unfolding(crate::specs::reading::Members::code_attribute_of))]
 fn code_attribute_of(
     alloc: Global,
     pool: &[Constant],
     at: usize,
-    has_no_body: bool,
+    access_flags: u16,
     earlier: &[Attribute],
     name: u16,
     content: &[u8],
 ) -> Result<Attribute, ClassFault>
     ensures { Gives (λ a. a) result
-        (code_attribute_of pool.now at has_no_body earlier.now name content.now) }
+        (code_attribute_of pool.now at access_flags earlier.now name content.now) }
 {
-    if has_no_body || has_code(earlier) {
+    if has_no_body(access_flags) || has_code(earlier) {
         return Err(ClassFault::Attribute { at });
     }
     match whole_code(alloc, pool, content) {
@@ -205,7 +204,7 @@ fn code_attribute_of(
     }
 }
 
-#[tactic(auto, unfolding(crate::specs::ReadMembers::content_of))]
+#[tactic(auto, unfolding(crate::specs::reading::Members::content_of))]
 fn content_of(
     alloc: Global,
     pool: &[Constant],
@@ -225,23 +224,23 @@ fn content_of(
         Meaning::ConstantValue { descriptor } => {
             constant_value_of(pool, at, descriptor, earlier, name, content)
         }
-        Meaning::Code { has_no_body } => {
-            code_attribute_of(alloc, pool, at, has_no_body, earlier, name, content)
+        Meaning::Code { access_flags } => {
+            code_attribute_of(alloc, pool, at, access_flags, earlier, name, content)
         }
     }
 }
 
 /// What the name at an index means to an attribute's owner.
 fn meaning_at(pool: &[Constant], owner: Owner, name: u16) -> Meaning
-    ensures { result ≡ meaning_at owner (text_of pool.now name) }
+    ensures { result ≡ meaning_at owner (utf8_of pool.now name) }
 {
-    match text_of(pool, name) {
+    match utf8_of(pool, name) {
         None => Meaning::Unread,
         Some(text) => meaning_of(owner, text),
     }
 }
 
-#[tactic(auto, unfolding(crate::specs::ReadMembers::attribute_at))]
+#[tactic(auto, unfolding(crate::specs::reading::Members::attribute_at))]
 fn attribute_at<'a>(
     alloc: Global,
     pool: &[Constant],
@@ -261,7 +260,7 @@ fn attribute_at<'a>(
 }
 
 /// A table of attributes.
-#[tactic(auto, unfolding(crate::specs::ReadMembers::attributes_at))]
+#[tactic(auto, unfolding(crate::specs::reading::Members::attributes_at))]
 pub(crate) fn attributes_at<'a>(
     alloc: Global,
     pool: &[Constant],
@@ -277,7 +276,7 @@ pub(crate) fn attributes_at<'a>(
     Ok((Attributes { items }, rest))
 }
 
-/// Reads so many attributes behind those that stand before.
+/// Reads so many attributes after those that stand before.
 fn push_attributes_at<'a>(
     alloc: Global,
     pool: &[Constant],

@@ -1,18 +1,18 @@
-//! Checks the entries of a constant pool against one another.
+//! Checks the constants of a constant pool against one another.
 
 ghost use Rattle.std.specs.Prelude.{◌≡◌, ◌+◌, ◌-◌, ◌<◌, ◌^◌};
-ghost use Rattle.classfile.specs.Numbers.{Gives};
-ghost use Rattle.classfile.specs.Checks.{member_check, class_check, first_text, type_check, check, checks};
-ghost use Rattle.classfile.specs.Descriptors.{is_field, is_method};
-ghost use Rattle.classfile.specs.Lookup.{text_of};
+ghost use Rattle.classfile.specs.Gives.{Gives};
+ghost use Rattle.classfile.specs.reading.Checks.{member_check, class_check, utf8_check, type_check, check, checks};
+ghost use Rattle.classfile.specs.reading.Descriptors.{is_field, is_method};
+ghost use Rattle.classfile.specs.Lookup.{utf8_of};
 
 use crate::constant::Constant;
 use crate::fault::ClassFault;
-use crate::lookup::{descriptor_of, has_text, is_class, is_member};
+use crate::lookup::{descriptor_of, has_utf8, is_class, is_member};
 use crate::pool::ConstantPool;
 
 /// The check of a Fieldref: a Class, and a NameAndType with a field's descriptor (JVMS 4.4.2).
-#[tactic(auto, unfolding(crate::specs::Checks::member_check))]
+#[tactic(auto, unfolding(crate::specs::reading::Checks::member_check))]
 fn field_check(
     pool: &ConstantPool,
     at: usize,
@@ -33,8 +33,9 @@ fn field_check(
     }
 }
 
-/// The check of a Methodref or an InterfaceMethodref: a Class, and a NameAndType with a method's descriptor (JVMS 4.4.2).
-#[tactic(auto, unfolding(crate::specs::Checks::member_check))]
+/// The check of a Methodref or an InterfaceMethodref: a Class, and a NameAndType with a method's descriptor (JVMS
+/// 4.4.2).
+#[tactic(auto, unfolding(crate::specs::reading::Checks::member_check))]
 fn method_check(
     pool: &ConstantPool,
     at: usize,
@@ -56,12 +57,12 @@ fn method_check(
 }
 
 /// The check of a Class: a Utf8 that is the name of a class or an array's descriptor (JVMS 4.4.1).
-#[tactic(auto, unfolding(crate::specs::Lookup::has_text))]
+#[tactic(auto, unfolding(crate::specs::reading::LookupTests::has_utf8))]
 fn class_check(pool: &ConstantPool, at: usize, index: u16, name: u16) -> Result<(), ClassFault>
     requires { at < 2 ^ 63 }
-    ensures { Gives (λ x. x) result (class_check at index (text_of pool.now name)) }
+    ensures { Gives (λ x. x) result (class_check at index (utf8_of pool.now name)) }
 {
-    if !has_text(pool.as_slice(), name) {
+    if !has_utf8(pool.as_slice(), name) {
         return Err(ClassFault::Index { at: at + 1 });
     }
     if !pool.is_class_name(name) {
@@ -71,23 +72,23 @@ fn class_check(pool: &ConstantPool, at: usize, index: u16, name: u16) -> Result<
 }
 
 /// The check of a String or a MethodType, and the first one of a NameAndType: a Utf8 (JVMS 4.4.3, 4.4.6, 4.4.9).
-fn text_check(pool: &ConstantPool, at: usize, text: u16) -> Result<(), ClassFault>
+fn utf8_check(pool: &ConstantPool, at: usize, text: u16) -> Result<(), ClassFault>
     requires { at < 2 ^ 63 }
-    ensures { Gives (λ x. x) result (first_text pool.now at text) }
+    ensures { Gives (λ x. x) result (utf8_check pool.now at text) }
 {
-    if !has_text(pool.as_slice(), text) {
+    if !has_utf8(pool.as_slice(), text) {
         return Err(ClassFault::Index { at: at + 1 });
     }
     Ok(())
 }
 
 /// The check of a NameAndType's descriptor: a Utf8 that is a field's descriptor or a method's (JVMS 4.4.6).
-#[tactic(auto, unfolding(crate::specs::Lookup::has_text))]
+#[tactic(auto, unfolding(crate::specs::reading::LookupTests::has_utf8))]
 fn type_check(pool: &ConstantPool, at: usize, index: u16, descriptor: u16) -> Result<(), ClassFault>
     requires { at < 2 ^ 63 }
-    ensures { Gives (λ x. x) result (type_check at index (text_of pool.now descriptor)) }
+    ensures { Gives (λ x. x) result (type_check at index (utf8_of pool.now descriptor)) }
 {
-    if !has_text(pool.as_slice(), descriptor) {
+    if !has_utf8(pool.as_slice(), descriptor) {
         return Err(ClassFault::Index { at: at + 3 });
     }
     if !pool.is_field(descriptor) && !pool.is_method(descriptor) {
@@ -97,7 +98,7 @@ fn type_check(pool: &ConstantPool, at: usize, index: u16, descriptor: u16) -> Re
 }
 
 /// The check of a MethodHandle: a kind from 1 to 9, and a reference to a member (JVMS 4.4.8).
-#[tactic(auto, unfolding(crate::specs::Checks::check))]
+#[tactic(auto, unfolding(crate::specs::reading::Checks::check))]
 fn handle_check(
     pool: &ConstantPool,
     at: usize,
@@ -117,8 +118,8 @@ fn handle_check(
     Ok(())
 }
 
-/// The check of the entry at an index, which begins at `at`, against those that it names (JVMS 4.4).
-#[tactic(auto, unfolding(crate::specs::Checks::check))]
+/// The check of the constant at an index, which begins at `at`, against those that it names (JVMS 4.4).
+#[tactic(auto, unfolding(crate::specs::reading::Checks::check))]
 pub(crate) fn check(
     pool: &ConstantPool,
     at: usize,
@@ -131,7 +132,7 @@ pub(crate) fn check(
     match constant {
         Constant::Class { name } => class_check(pool, at, index, *name),
         Constant::String { text } | Constant::MethodType { descriptor: text } => {
-            text_check(pool, at, *text)
+            utf8_check(pool, at, *text)
         }
         Constant::Fieldref {
             class,
@@ -146,7 +147,7 @@ pub(crate) fn check(
             name_and_type,
         } => method_check(pool, at, index, *class, *name_and_type),
         Constant::NameAndType { name, descriptor } => {
-            text_check(pool, at, *name)?;
+            utf8_check(pool, at, *name)?;
             type_check(pool, at, index, *descriptor)
         }
         Constant::MethodHandle { kind, reference } => {
@@ -162,9 +163,9 @@ pub(crate) fn check(
     }
 }
 
-/// The first check that fails, over all entries in order. `left` bytes stand from the first entry on
+/// The first check that fails, over all constants in order. `left` bytes stand from the first constant on
 /// in a file of `total` bytes.
-#[tactic(auto, unfolding(crate::specs::Checks::checks))]
+#[tactic(auto, unfolding(crate::specs::reading::Checks::checks))]
 pub(crate) fn check_all(pool: &ConstantPool, total: usize, left: usize) -> Result<(), ClassFault>
     requires { total < 2 ^ 63 }
     ensures { Gives {Y = Unit {0}} (λ x. x) result (checks pool.now total left 0 pool.now) }

@@ -1,9 +1,9 @@
 //! The attribute Code.
 
 ghost use Rattle.std.specs.Prelude.{◌≡◌, ◌<◌, ◌^◌, IfOk};
-ghost use Rattle.classfile.specs.Numbers.{Gives};
-ghost use Rattle.classfile.specs.ReadCode.{code_length_at, code_bytes_at, code_tables_at, limited_code_at};
-ghost use Rattle.classfile.specs.ReadCode.{code_at, whole_code};
+ghost use Rattle.classfile.specs.Gives.{Gives};
+ghost use Rattle.classfile.specs.reading.Code.{code_length_at, code_bytes_at, code_tables_at, limited_code_at};
+ghost use Rattle.classfile.specs.reading.Code.{code_at, whole_code};
 
 use crate::code_bytes::CodeBytes;
 use crate::constant::Constant;
@@ -24,7 +24,7 @@ pub struct Code {
     pub attributes: UnreadAttributes,
 }
 
-#[tactic(auto, unfolding(crate::specs::ReadCode::code_length_at))]
+#[tactic(auto, unfolding(crate::specs::reading::Code::code_length_at))]
 fn code_length_at(total: usize, bytes: &[u8]) -> Result<(u32, &[u8]), ClassFault>
     ensures read { Gives (λ x. (x.0, x.1.now)) result (code_length_at total bytes.now) }
     ensures short { IfOk result (λ x. x.0 < 2 ^ 16) }
@@ -38,7 +38,7 @@ fn code_length_at(total: usize, bytes: &[u8]) -> Result<(u32, &[u8]), ClassFault
     Ok((length, rest))
 }
 
-#[tactic(auto, unfolding(crate::specs::ReadCode::code_bytes_at))]
+#[tactic(auto, unfolding(crate::specs::reading::Code::code_bytes_at))]
 fn code_bytes_at(
     alloc: Global,
     total: usize,
@@ -52,8 +52,8 @@ fn code_bytes_at(
     Ok((code, rest))
 }
 
-/// The tables behind code of so many bytes.
-#[tactic(auto, unfolding(crate::specs::ReadCode::code_tables_at))]
+/// The tables after code of so many bytes.
+#[tactic(auto, unfolding(crate::specs::reading::Code::code_tables_at))]
 fn code_tables_at<'a>(
     alloc: Global,
     pool: &[Constant],
@@ -68,7 +68,7 @@ fn code_tables_at<'a>(
     Ok(((exceptions, attributes), rest))
 }
 
-#[tactic(auto, unfolding(crate::specs::ReadCode::code_at, crate::specs::ReadCode::limited_code_at))]
+#[tactic(auto, unfolding(crate::specs::reading::Code::code_at, crate::specs::reading::Code::limited_code_at))]
 fn code_at<'a>(
     alloc: Global,
     pool: &[Constant],
@@ -81,7 +81,7 @@ fn code_at<'a>(
     limited_code_at(alloc, pool, max_stack, max_locals, total, rest)
 }
 
-/// What is behind the limits of code.
+/// What is after the limits of code.
 fn limited_code_at<'a>(
     alloc: Global,
     pool: &[Constant],
@@ -106,7 +106,7 @@ fn limited_code_at<'a>(
 }
 
 /// The Code that fills these bytes.
-#[tactic(auto, unfolding(crate::specs::ReadCode::whole_code))]
+#[tactic(auto, unfolding(crate::specs::reading::Code::whole_code))]
 pub(crate) fn whole_code(alloc: Global, pool: &[Constant], bytes: &[u8]) -> Result<Code, ClassFault>
     ensures { Gives (λ c. c) result (whole_code pool.now bytes.now) }
 {

@@ -1,12 +1,12 @@
-//! The entries of a constant pool.
+//! The constants of a constant pool.
 
 ghost use Rattle.std.specs.Prelude.{◌≡◌, length};
-ghost use Rattle.classfile.specs.Entries.{is_wide, kind_of};
+ghost use Rattle.classfile.specs.Constants.{is_wide, kind_of_tag};
 ghost use Rattle.classfile.specs.Spelling.{constant_text};
 
 use crate::modified::ModifiedUtf8;
 
-/// An entry of a constant pool (JVMS 4.4). A number that names another entry is its index.
+/// A constant of a constant pool (JVMS 4.4). A number that names another constant is its index.
 #[derive(Drop)]
 pub enum Constant {
     /// Index 0, and the second index of a Long or a Double.
@@ -83,9 +83,9 @@ pub(crate) enum Kind {
     InvokeDynamic,
 }
 
-#[tactic(auto, unfolding(crate::specs::Entries::kind_of))]
-pub(crate) fn kind_of(tag: u8) -> Option<Kind>
-    ensures { result ≡ kind_of tag }
+#[tactic(auto, unfolding(crate::specs::Constants::kind_of_tag))]
+pub(crate) fn kind_of_tag(tag: u8) -> Option<Kind>
+    ensures { result ≡ kind_of_tag tag }
 {
     match tag {
         1 => Some(Kind::Utf8),

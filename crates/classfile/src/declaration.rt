@@ -1,10 +1,10 @@
 //! A class's flags, its name, and its parents.
 
 ghost use Rattle.std.specs.Prelude.{◌≡◌};
-ghost use Rattle.classfile.specs.Numbers.{Gives};
-ghost use Rattle.classfile.specs.Repeat.{repeat_at};
-ghost use Rattle.classfile.specs.ReadClass.{this_class_at, super_class_at, class_indices_at};
-ghost use Rattle.classfile.specs.ReadClass.{interface_at, interfaces_at, declaration_at};
+ghost use Rattle.classfile.specs.Gives.{Gives};
+ghost use Rattle.classfile.specs.reading.Repeat.{repeat_at};
+ghost use Rattle.classfile.specs.reading.Class.{this_class_at, super_class_at, class_indices_at};
+ghost use Rattle.classfile.specs.reading.Class.{interface_at, interfaces_at, declaration_at};
 
 use crate::constant::Constant;
 use crate::fault::ClassFault;
@@ -45,7 +45,7 @@ pub(crate) struct Declaration {
 }
 
 /// The index of a Class that is no array.
-#[tactic(auto, unfolding(crate::specs::ReadClass::this_class_at))]
+#[tactic(auto, unfolding(crate::specs::reading::Class::this_class_at))]
 fn this_class_at<'a>(
     pool: &[Constant],
     total: usize,
@@ -63,7 +63,7 @@ fn this_class_at<'a>(
 }
 
 /// 0, or the index of a Class.
-#[tactic(auto, unfolding(crate::specs::ReadClass::super_class_at))]
+#[tactic(auto, unfolding(crate::specs::reading::Class::super_class_at))]
 fn super_class_at<'a>(
     pool: &[Constant],
     total: usize,
@@ -81,21 +81,33 @@ fn super_class_at<'a>(
 }
 
 /// The indices of the class itself and of its superclass.
-#[tactic(auto, unfolding(crate::specs::ReadClass::class_indices_at))]
+#[derive(Clone, Copy)]
+struct ClassIndices {
+    this_class: u16,
+    super_class: u16,
+}
+
+/// The class itself and its superclass.
+#[tactic(auto, unfolding(crate::specs::reading::Class::class_indices_at))]
 fn class_indices_at<'a>(
     pool: &[Constant],
     total: usize,
     bytes: &'a [u8],
-) -> Result<((u16, u16), &'a [u8]), ClassFault>
-    ensures { Gives (λ x. (x.0, x.1.now)) result (class_indices_at pool.now total bytes.now) }
+) -> Result<(ClassIndices, &'a [u8]), ClassFault>
+    ensures { Gives (λ x. ((x.0.this_class, x.0.super_class), x.1.now)) result
+        (class_indices_at pool.now total bytes.now) }
 {
     let (this_class, rest) = this_class_at(pool, total, bytes)?;
     let (super_class, rest) = super_class_at(pool, total, rest)?;
-    Ok(((this_class, super_class), rest))
+    let indices = ClassIndices {
+        this_class,
+        super_class,
+    };
+    Ok((indices, rest))
 }
 
 /// The index of a Class.
-#[tactic(auto, unfolding(crate::specs::ReadClass::interface_at))]
+#[tactic(auto, unfolding(crate::specs::reading::Class::interface_at))]
 fn interface_at<'a>(
     pool: &[Constant],
     total: usize,
@@ -112,7 +124,7 @@ fn interface_at<'a>(
     Ok((index, rest))
 }
 
-#[tactic(auto, unfolding(crate::specs::ReadClass::interfaces_at))]
+#[tactic(auto, unfolding(crate::specs::reading::Class::interfaces_at))]
 fn interfaces_at<'a>(
     alloc: Global,
     pool: &[Constant],
@@ -127,7 +139,7 @@ fn interfaces_at<'a>(
     Ok((Interfaces { items }, rest))
 }
 
-/// Reads so many indices behind those that stand before.
+/// Reads so many indices after those that stand before.
 fn push_interfaces_at<'a>(
     pool: &[Constant],
     total: usize,
@@ -147,7 +159,7 @@ fn push_interfaces_at<'a>(
     Ok(rest)
 }
 
-#[tactic(auto, unfolding(crate::specs::ReadClass::declaration_at, crate::specs::ReadClass::class_indices_at))]
+#[tactic(auto, unfolding(crate::specs::reading::Class::declaration_at, crate::specs::reading::Class::class_indices_at))]
 pub(crate) fn declaration_at<'a>(
     alloc: Global,
     pool: &[Constant],
@@ -157,12 +169,12 @@ pub(crate) fn declaration_at<'a>(
     ensures { Gives (λ x. (x.0, x.1.now)) result (declaration_at pool.now total bytes.now) }
 {
     let (access_flags, rest) = u16_at(total, bytes)?;
-    let ((this_class, super_class), rest) = class_indices_at(pool, total, rest)?;
+    let (indices, rest) = class_indices_at(pool, total, rest)?;
     let (interfaces, rest) = interfaces_at(alloc, pool, total, rest)?;
     let declaration = Declaration {
         access_flags,
-        this_class,
-        super_class,
+        this_class: indices.this_class,
+        super_class: indices.super_class,
         interfaces,
     };
     Ok((declaration, rest))

@@ -1,18 +1,19 @@
 //! Descriptors of fields and methods, read byte by byte.
 
 ghost use Rattle.std.specs.Prelude.{◌≡◌, ◌==◌, if◌then◌else◌};
-ghost use Rattle.classfile.specs.Descriptors.{is_base, step, scan, is_field, is_method, is_class_name, lacks_semicolon};
+ghost use Rattle.classfile.specs.reading.Descriptors.{is_base, step, scan, is_field, is_method, is_class_name};
+ghost use Rattle.classfile.specs.reading.Descriptors.{lacks_semicolon};
 
 /// What may stand next in a descriptor.
 #[derive(Clone, Copy, Drop)]
 pub(crate) enum Place {
     /// The bracket before the parameters.
     Open,
-    /// A type behind so many `[`, or the end of the parameters.
+    /// A type after so many `[`, or the end of the parameters.
     Parameter { depth: u8 },
     /// A parameter's class name.
     ParameterName { is_empty: bool },
-    /// The last type, behind so many `[`.
+    /// The last type, after so many `[`.
     Last { depth: u8, may_be_void: bool },
     LastName { is_empty: bool },
     End,
@@ -26,7 +27,7 @@ fn is_base(byte: u8) -> bool
     matches!(byte, b'B' | b'C' | b'D' | b'F' | b'I' | b'J' | b'S' | b'Z')
 }
 
-#[tactic(auto, unfolding(crate::specs::Descriptors::step))]
+#[tactic(auto, unfolding(crate::specs::reading::Descriptors::step))]
 fn parameter_step(depth: u8, byte: u8) -> Place
     ensures { result ≡ step (Place.Parameter depth) byte }
 {
@@ -42,7 +43,7 @@ fn parameter_step(depth: u8, byte: u8) -> Place
     }
 }
 
-#[tactic(auto, unfolding(crate::specs::Descriptors::step))]
+#[tactic(auto, unfolding(crate::specs::reading::Descriptors::step))]
 fn last_step(depth: u8, may_be_void: bool, byte: u8) -> Place
     ensures { result ≡ step (Place.Last depth may_be_void) byte }
 {
@@ -69,7 +70,7 @@ fn name_step(is_empty: bool, inside: Place, after: Place, byte: u8) -> Place
     }
 }
 
-#[tactic(auto, unfolding(crate::specs::Descriptors::step))]
+#[tactic(auto, unfolding(crate::specs::reading::Descriptors::step))]
 fn step(place: Place, byte: u8) -> Place
     ensures { result ≡ step place byte }
 {
@@ -90,7 +91,7 @@ fn step(place: Place, byte: u8) -> Place
 }
 
 /// Whether the bytes lead from a place to the end. Nothing does from a bad place.
-#[tactic(auto, using(crate::proofs::BadDescriptors::bad_stays_bad))]
+#[tactic(auto, using(crate::proofs::DescriptorsLemmas::bad_stays_bad))]
 fn scan(place: Place, bytes: &[u8]) -> bool
     ensures { result ≡ scan place bytes.now }
 {
@@ -133,7 +134,7 @@ fn lacks_semicolon(bytes: &[u8]) -> bool
 }
 
 /// An array's descriptor, or a name that is not empty and has no `;`.
-#[tactic(auto, unfolding(crate::specs::Descriptors::is_class_name))]
+#[tactic(auto, unfolding(crate::specs::reading::Descriptors::is_class_name))]
 pub(crate) fn is_class_name(bytes: &[u8]) -> bool
     ensures { result ≡ is_class_name bytes.now }
 {

@@ -1,13 +1,13 @@
 //! The members of a table that stand before, found by name and descriptor.
 
 ghost use Rattle.std.specs.Prelude.{◌≡◌, ◌++◌, ℕ, List, [], ◌∷◌, Some, None, true, unwrap_or, IfOk, OnOk};
-ghost use Rattle.classfile.specs.Earlier.{text_hash, find_text, find_after, first_of, AreFirsts, Grows, Finds};
-ghost use Rattle.classfile.specs.Lookup.{has_text};
-ghost use Rattle.classfile.specs.ReadMembers.{is_declared};
+ghost use Rattle.classfile.specs.reading.Earlier.{utf8_hash, find_utf8, find_after, first_of, AreFirsts, Grows, Finds};
+ghost use Rattle.classfile.specs.reading.LookupTests.{has_utf8};
+ghost use Rattle.classfile.specs.reading.Members.{is_declared};
 ghost use Rattle.classfile.specs.declared.member.Member.{Member};
 
 use crate::constant::Constant;
-use crate::lookup::text_of;
+use crate::lookup::utf8_of;
 use crate::member::Member;
 use std::alloc::{AllocError, Global};
 use std::collections::{BTreeMap, BTreeSet};
@@ -19,14 +19,14 @@ pub(crate) struct Earlier<'a> {
     /// By index of the pool: the first index of the same text, once it was asked for.
     firsts: Vec<Option<u16>>,
     /// The same by text. A number of the text stands before it, since numbers are compared faster.
-    by_text: BTreeMap<(u64, &'a [u8]), u16>,
+    by_utf8: BTreeMap<(u64, &'a [u8]), u16>,
     /// The first indices of each member's name and descriptor.
     pairs: BTreeSet<(u16, u16)>,
 }
 
 /// A number that most often tells a text from others.
 fn hash_of(text: &[u8]) -> u64
-    ensures { result ≡ text_hash text.now }
+    ensures { result ≡ utf8_hash text.now }
 {
     let mut hash = 0u64;
     for byte in text {
@@ -37,59 +37,59 @@ fn hash_of(text: &[u8]) -> u64
 
 /// The first index of a text that stands at an index.
 fn first_with<'a>(
-    by_text: &mut BTreeMap<(u64, &'a [u8]), u16>,
+    by_utf8: &mut BTreeMap<(u64, &'a [u8]), u16>,
     text: &'a [u8],
     index: u16,
 ) -> Result<u16, AllocError>
-    ensures first { IfOk result (λ first. first ≡ unwrap_or (find_text by_text.old text.now) index) }
-    ensures after { OnOk result ((other : List ℕ) → find_text by_text.new other
-        ≡ find_after (find_text by_text.old) text.now index other) }
+    ensures first { IfOk result (λ first. first ≡ unwrap_or (find_utf8 by_utf8.old text.now) index) }
+    ensures after { OnOk result ((other : List ℕ) → find_utf8 by_utf8.new other
+        ≡ find_after (find_utf8 by_utf8.old) text.now index other) }
 {
     let hash = hash_of(text);
-    match by_text.get(&(hash, text)) {
+    match by_utf8.get(&(hash, text)) {
         Some(first) => Ok(*first),
-        None => note_first(by_text, hash, text, index),
+        None => note_first(by_utf8, hash, text, index),
     }
 }
 
 /// Notes the first index of a text, by its number, and answers it.
 fn note_first<'a>(
-    by_text: &mut BTreeMap<(u64, &'a [u8]), u16>,
+    by_utf8: &mut BTreeMap<(u64, &'a [u8]), u16>,
     hash: u64,
     text: &'a [u8],
     index: u16,
 ) -> Result<u16, AllocError>
-    requires hash { hash ≡ text_hash text.now }
-    requires none { find_text by_text.old text.now ≡ None }
+    requires hash { hash ≡ utf8_hash text.now }
+    requires none { find_utf8 by_utf8.old text.now ≡ None }
     ensures first { IfOk result (λ first. first ≡ index) }
-    ensures after { OnOk result ((other : List ℕ) → find_text by_text.new other
-        ≡ find_after (find_text by_text.old) text.now index other) }
+    ensures after { OnOk result ((other : List ℕ) → find_utf8 by_utf8.new other
+        ≡ find_after (find_utf8 by_utf8.old) text.now index other) }
 {
-    by_text.insert((hash, text), index)?;
+    by_utf8.insert((hash, text), index)?;
     Ok(index)
 }
 
 /// The first index that was asked for of those with the text at an index.
-#[tactic(auto, unfolding(crate::specs::Lookup::has_text))]
+#[tactic(auto, unfolding(crate::specs::reading::LookupTests::has_utf8))]
 fn first_at<'a>(
     pool: &'a [Constant],
     firsts: &mut Vec<Option<u16>>,
-    by_text: &mut BTreeMap<(u64, &'a [u8]), u16>,
+    by_utf8: &mut BTreeMap<(u64, &'a [u8]), u16>,
     index: u16,
 ) -> Result<u16, AllocError>
-    requires text { has_text pool.now index ≡ true }
-    requires firsts { AreFirsts pool.now firsts.old.items (find_text by_text.old) }
+    requires text { has_utf8 pool.now index ≡ true }
+    requires firsts { AreFirsts pool.now firsts.old.items (find_utf8 by_utf8.old) }
     ensures first { IfOk result (λ first. first_of firsts.new.items index ≡ Some first) }
-    ensures firsts { OnOk result (AreFirsts pool.now firsts.new.items (find_text by_text.new)) }
+    ensures firsts { OnOk result (AreFirsts pool.now firsts.new.items (find_utf8 by_utf8.new)) }
     ensures grows { OnOk result (Grows firsts.old.items firsts.new.items) }
 {
     if let Some(first) = firsts[usize::from(index)] {
         return Ok(first);
     }
-    let Some(text) = text_of(pool, index) else {
+    let Some(text) = utf8_of(pool, index) else {
         unreachable!();
     };
-    let first = first_with(by_text, text, index)?;
+    let first = first_with(by_utf8, text, index)?;
     firsts[usize::from(index)] = Some(first);
     Ok(first)
 }
@@ -105,7 +105,7 @@ impl<'a> Earlier<'a> {
         Ok(Earlier {
             members: Vec::new(alloc),
             firsts,
-            by_text: BTreeMap::new(alloc),
+            by_utf8: BTreeMap::new(alloc),
             pairs: BTreeSet::new(alloc),
         })
     }
@@ -125,15 +125,15 @@ pub(crate) fn is_declared<'a>(
     name: u16,
     descriptor: u16,
 ) -> Result<bool, AllocError>
-    requires name { has_text pool.now name ≡ true }
-    requires descriptor { has_text pool.now descriptor ≡ true }
+    requires name { has_utf8 pool.now name ≡ true }
+    requires descriptor { has_utf8 pool.now descriptor ≡ true }
     requires finds { Finds pool.now earlier.old earlier.old.members.items }
     ensures value { IfOk result (λ found. found ≡ is_declared pool.now name descriptor earlier.old.members.items) }
     ensures members { earlier.new.members ≡ earlier.old.members }
     ensures finds { OnOk result ((m : Member) → m.name ≡ name → m.descriptor ≡ descriptor
         → Finds pool.now earlier.new (earlier.old.members.items ++ m ∷ [])) }
 {
-    let name = first_at(pool, &mut earlier.firsts, &mut earlier.by_text, name)?;
-    let descriptor = first_at(pool, &mut earlier.firsts, &mut earlier.by_text, descriptor)?;
+    let name = first_at(pool, &mut earlier.firsts, &mut earlier.by_utf8, name)?;
+    let descriptor = first_at(pool, &mut earlier.firsts, &mut earlier.by_utf8, descriptor)?;
     Ok(!earlier.pairs.insert((name, descriptor))?)
 }

@@ -1,9 +1,9 @@
 //! Exception tables.
 
 ghost use Rattle.std.specs.Prelude.{◌≡◌, List};
-ghost use Rattle.classfile.specs.Numbers.{Gives};
-ghost use Rattle.classfile.specs.Repeat.{repeat_at};
-ghost use Rattle.classfile.specs.ReadCode.{is_handler, handler_numbers_at, handler_at, exceptions_at};
+ghost use Rattle.classfile.specs.Gives.{Gives};
+ghost use Rattle.classfile.specs.reading.Repeat.{repeat_at};
+ghost use Rattle.classfile.specs.reading.Code.{is_handler, handler_numbers_at, handler_at, exceptions_at};
 
 use crate::constant::Constant;
 use crate::fault::ClassFault;
@@ -56,7 +56,7 @@ fn is_handler(pool: &[Constant], code_length: usize, handler: &ExceptionHandler)
         && is_class_or_none(pool, handler.catch_type)
 }
 
-#[tactic(auto, unfolding(crate::specs::ReadCode::handler_numbers_at))]
+#[tactic(auto, unfolding(crate::specs::reading::Code::handler_numbers_at))]
 fn handler_numbers_at(total: usize, bytes: &[u8]) -> Result<(ExceptionHandler, &[u8]), ClassFault>
     ensures { Gives (λ x. (x.0, x.1.now)) result (handler_numbers_at total bytes.now) }
 {
@@ -71,7 +71,7 @@ fn handler_numbers_at(total: usize, bytes: &[u8]) -> Result<(ExceptionHandler, &
     Ok((handler, rest))
 }
 
-#[tactic(auto, unfolding(crate::specs::ReadCode::handler_at))]
+#[tactic(auto, unfolding(crate::specs::reading::Code::handler_at))]
 fn handler_at<'a>(
     pool: &[Constant],
     code_length: usize,
@@ -90,7 +90,7 @@ fn handler_at<'a>(
 }
 
 /// The exception table of code of so many bytes.
-#[tactic(auto, unfolding(crate::specs::ReadCode::exceptions_at))]
+#[tactic(auto, unfolding(crate::specs::reading::Code::exceptions_at))]
 pub(crate) fn exceptions_at<'a>(
     alloc: Global,
     pool: &[Constant],
@@ -106,7 +106,7 @@ pub(crate) fn exceptions_at<'a>(
     Ok((ExceptionTable { items }, rest))
 }
 
-/// Reads so many entries behind those that stand before.
+/// Reads so many exception table entries after those that stand before.
 fn push_handlers_at<'a>(
     pool: &[Constant],
     code_length: usize,

@@ -2,12 +2,12 @@
 
 ghost use Rattle.std.specs.Prelude.{◌≡◌};
 ghost use Rattle.classfile.specs.declared.fault.ClassFault.TheVariants.{Memory};
-ghost use Rattle.classfile.specs.Numbers.{inside_attribute};
+ghost use Rattle.classfile.specs.reading.Numbers.{inside_attribute};
 
 use std::alloc::{AllocError, AllocFailed};
 use thiserror::Error;
 
-/// The first rule that the bytes break, or want of memory.
+/// The first rule that the bytes break, or that memory ran out.
 /// `at` is an offset in the file, in bytes; `index` is an index of the constant pool.
 #[derive(Debug, Drop, Error)]
 pub enum ClassFault {
@@ -26,16 +26,16 @@ pub enum ClassFault {
     /// The version isn't 52.0.
     #[error("Version {major} {minor}")]
     Version { major: u16, minor: u16 },
-    /// The entry at `index` has an unknown tag (JVMS 4.4).
+    /// The constant at `index` has an unknown tag (JVMS 4.4).
     #[error("Tag {index}")]
     Tag { index: u16 },
-    /// The number at `at` is no index of an entry of the kind that is wanted there.
+    /// The number at `at` is no index of a constant of the kind that is wanted there.
     #[error("Index {at}")]
     Index { at: usize },
-    /// The text of the entry at `index` is no modified UTF-8 (JVMS 4.4.7).
+    /// The text of the constant at `index` is no modified UTF-8 (JVMS 4.4.7).
     #[error("Utf8 {index}")]
     Utf8 { index: u16 },
-    /// The entry at `index` has a descriptor or a class name of the wrong form (JVMS 4.3, 4.4.1).
+    /// The constant at `index` has a descriptor or a class name of the wrong form (JVMS 4.3, 4.4.1).
     #[error("Descriptor {index}")]
     Descriptor { index: u16 },
     /// The attribute at `at` isn't well formed, or the method at `at` has no code (JVMS 4.7).
@@ -44,7 +44,7 @@ pub enum ClassFault {
 }
 
 impl ClassFault {
-    /// The same for a fault inside the attribute at `at`: want of memory stays what it is.
+    /// The same for a fault inside the attribute at `at`; that memory ran out stays what it is.
     pub(crate) fn inside_attribute(self, at: usize) -> ClassFault
         ensures { result ≡ inside_attribute self at }
     {

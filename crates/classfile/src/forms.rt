@@ -1,7 +1,7 @@
 //! What the texts of a constant pool are, found out once for each.
 
 ghost use Rattle.std.specs.Prelude.{◌≡◌, IfOk};
-ghost use Rattle.classfile.specs.Forms.{form_of, forms_of};
+ghost use Rattle.classfile.specs.reading.Forms.{form_of, forms_of};
 
 use crate::constant::Constant;
 use crate::descriptor::{is_class_name, is_field, is_method};

@@ -1,16 +1,18 @@
 //! What stands at an index of a constant pool.
 
 ghost use Rattle.std.specs.Prelude.{◌≡◌, Some, IfSome, option_map};
-ghost use Rattle.classfile.specs.Lookup.{text_of, has_text, class_name_of, is_class};
-ghost use Rattle.classfile.specs.Lookup.{is_class_or_none, is_plain_class, descriptor_of, member_in, is_member};
+ghost use Rattle.classfile.specs.Lookup.{utf8_of, class_name_of};
+ghost use Rattle.classfile.specs.reading.LookupTests.{has_utf8, is_class};
+ghost use Rattle.classfile.specs.reading.LookupTests.{is_class_or_none, is_plain_class, descriptor_of, member_in};
+ghost use Rattle.classfile.specs.reading.LookupTests.{is_member};
 ghost use Rattle.classfile.specs.Units.{IsModifiedUtf8};
 
 use crate::constant::Constant;
 
 /// The bytes of the Utf8 at an index.
-#[tactic(auto, unfolding(crate::specs::Lookup::text_of))]
-pub(crate) fn text_of(pool: &[Constant], index: u16) -> Option<&[u8]>
-    ensures value { text_of pool.now index ≡ option_map (λ t. t.now) result }
+#[tactic(auto, unfolding(crate::specs::Lookup::utf8_of))]
+pub(crate) fn utf8_of(pool: &[Constant], index: u16) -> Option<&[u8]>
+    ensures value { utf8_of pool.now index ≡ option_map (λ t. t.now) result }
     ensures modified { IfSome result (λ t. IsModifiedUtf8 t.now) }
 {
     match pool.get(usize::from(index)) {
@@ -20,11 +22,11 @@ pub(crate) fn text_of(pool: &[Constant], index: u16) -> Option<&[u8]>
 }
 
 /// Whether a Utf8 stands at an index.
-#[tactic(auto, unfolding(crate::specs::Lookup::has_text))]
-pub(crate) fn has_text(pool: &[Constant], index: u16) -> bool
-    ensures { result ≡ has_text pool.now index }
+#[tactic(auto, unfolding(crate::specs::reading::LookupTests::has_utf8))]
+pub(crate) fn has_utf8(pool: &[Constant], index: u16) -> bool
+    ensures { result ≡ has_utf8 pool.now index }
 {
-    text_of(pool, index).is_some()
+    utf8_of(pool, index).is_some()
 }
 
 /// The bytes of the name of the Class at an index.
@@ -34,13 +36,13 @@ pub(crate) fn class_name_of(pool: &[Constant], index: u16) -> Option<&[u8]>
     ensures modified { IfSome result (λ t. IsModifiedUtf8 t.now) }
 {
     match pool.get(usize::from(index)) {
-        Some(Constant::Class { name }) => text_of(pool, *name),
+        Some(Constant::Class { name }) => utf8_of(pool, *name),
         _ => None,
     }
 }
 
 /// Whether a Class stands at an index.
-#[tactic(auto, unfolding(crate::specs::Lookup::is_class))]
+#[tactic(auto, unfolding(crate::specs::reading::LookupTests::is_class))]
 pub(crate) fn is_class(pool: &[Constant], index: u16) -> bool
     ensures { result ≡ is_class pool.now index }
 {
@@ -48,7 +50,7 @@ pub(crate) fn is_class(pool: &[Constant], index: u16) -> bool
 }
 
 /// Whether an index is 0 or that of a Class.
-#[tactic(auto, unfolding(crate::specs::Lookup::is_class_or_none))]
+#[tactic(auto, unfolding(crate::specs::reading::LookupTests::is_class_or_none))]
 pub(crate) fn is_class_or_none(pool: &[Constant], index: u16) -> bool
     ensures { result ≡ is_class_or_none pool.now index }
 {
@@ -56,7 +58,7 @@ pub(crate) fn is_class_or_none(pool: &[Constant], index: u16) -> bool
 }
 
 /// Whether a Class that is no array stands at an index.
-#[tactic(auto, unfolding(crate::specs::Lookup::is_plain_class))]
+#[tactic(auto, unfolding(crate::specs::reading::LookupTests::is_plain_class))]
 pub(crate) fn is_plain_class(pool: &[Constant], index: u16) -> bool
     ensures { result ≡ is_plain_class pool.now index }
 {
@@ -67,7 +69,7 @@ pub(crate) fn is_plain_class(pool: &[Constant], index: u16) -> bool
 }
 
 /// The index of the descriptor of the NameAndType at an index.
-#[tactic(auto, unfolding(crate::specs::Lookup::descriptor_of))]
+#[tactic(auto, unfolding(crate::specs::reading::LookupTests::descriptor_of))]
 pub(crate) fn descriptor_of(pool: &[Constant], index: u16) -> Option<u16>
     ensures { result ≡ descriptor_of pool.now index }
 {
@@ -78,7 +80,7 @@ pub(crate) fn descriptor_of(pool: &[Constant], index: u16) -> Option<u16>
 }
 
 /// Whether a Fieldref, Methodref or InterfaceMethodref stands at an index.
-#[tactic(auto, unfolding(crate::specs::Lookup::is_member))]
+#[tactic(auto, unfolding(crate::specs::reading::LookupTests::is_member))]
 pub(crate) fn is_member(pool: &[Constant], index: u16) -> bool
     ensures { result ≡ is_member pool.now index }
 {
@@ -88,7 +90,7 @@ pub(crate) fn is_member(pool: &[Constant], index: u16) -> bool
     }
 }
 
-/// Whether an entry is a Fieldref, Methodref or InterfaceMethodref.
+/// Whether a constant is a Fieldref, Methodref or InterfaceMethodref.
 fn is_reference(constant: &Constant) -> bool
     ensures { result ≡ member_in (Some constant.now) }
 {

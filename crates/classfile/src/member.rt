@@ -1,13 +1,15 @@
 //! Fields and methods.
 
 ghost use Rattle.std.specs.Prelude.{◌≡◌, ◌++◌, [], ◌∷◌, true, option_map, IfOk};
-ghost use Rattle.classfile.specs.Earlier.{Finds};
+ghost use Rattle.classfile.specs.reading.Earlier.{Finds};
 ghost use Rattle.classfile.specs.Members.{code_among, value_among};
-ghost use Rattle.classfile.specs.Numbers.{Gives};
-ghost use Rattle.classfile.specs.Repeat.{repeat_at};
-ghost use Rattle.classfile.specs.Lookup.{has_text};
-ghost use Rattle.classfile.specs.ReadMembers.{has_descriptor, descriptor_at, signature_at};
-ghost use Rattle.classfile.specs.ReadMembers.{owner_of, lacks_code, body_at, member_at, counted_members_at, members_at};
+ghost use Rattle.classfile.specs.Gives.{Gives};
+ghost use Rattle.classfile.specs.reading.Repeat.{repeat_at};
+ghost use Rattle.classfile.specs.reading.LookupTests.{has_utf8};
+ghost use Rattle.classfile.specs.reading.Members.{has_descriptor, descriptor_at, signature_at};
+ghost use Rattle.classfile.specs.Members.{owner_of};
+ghost use Rattle.classfile.specs.reading.Members.{lacks_code, member_body_at, member_at, counted_members_at};
+ghost use Rattle.classfile.specs.reading.Members.{members_at};
 
 use crate::attribute::{Attribute, Attributes, Owner, attributes_at, has_code};
 use crate::code::Code;
@@ -17,7 +19,7 @@ use crate::fault::ClassFault;
 use crate::flags::has_no_body;
 use crate::numbers::u16_at;
 use crate::pool::ConstantPool;
-use crate::unread::text_index_at;
+use crate::unread::utf8_index_at;
 use std::alloc::Global;
 use std::marker::Model;
 
@@ -87,7 +89,7 @@ pub(crate) enum MemberKind {
     Method,
 }
 
-#[tactic(auto, unfolding(crate::specs::ReadMembers::has_descriptor))]
+#[tactic(auto, unfolding(crate::specs::reading::Members::has_descriptor))]
 fn has_descriptor(kind: MemberKind, pool: &ConstantPool, index: u16) -> bool
     ensures { result ≡ has_descriptor kind pool.now index }
 {
@@ -98,7 +100,7 @@ fn has_descriptor(kind: MemberKind, pool: &ConstantPool, index: u16) -> bool
 }
 
 /// The index of a descriptor.
-#[tactic(auto, unfolding(crate::specs::ReadMembers::descriptor_at))]
+#[tactic(auto, unfolding(crate::specs::reading::Members::descriptor_at))]
 fn descriptor_at<'a>(
     kind: MemberKind,
     pool: &ConstantPool,
@@ -107,7 +109,7 @@ fn descriptor_at<'a>(
 ) -> Result<(u16, &'a [u8]), ClassFault>
     ensures { Gives (λ x. (x.0, x.1.now)) result (descriptor_at kind pool.now total bytes.now) }
 {
-    let (index, rest) = text_index_at(pool.as_slice(), total, bytes)?;
+    let (index, rest) = utf8_index_at(pool.as_slice(), total, bytes)?;
     if !has_descriptor(kind, pool, index) {
         return Err(ClassFault::Descriptor { index });
     }
@@ -115,19 +117,28 @@ fn descriptor_at<'a>(
 }
 
 /// The indices of a member's name and descriptor.
-#[tactic(auto, unfolding(crate::specs::ReadMembers::signature_at))]
+#[derive(Clone, Copy)]
+struct Signature {
+    name: u16,
+    descriptor: u16,
+}
+
+/// A member's name and descriptor.
+#[tactic(auto, unfolding(crate::specs::reading::Members::signature_at))]
 fn signature_at<'a>(
     kind: MemberKind,
     pool: &ConstantPool,
     total: usize,
     bytes: &'a [u8],
-) -> Result<((u16, u16), &'a [u8]), ClassFault>
-    ensures read { Gives (λ x. (x.0, x.1.now)) result (signature_at kind pool.now total bytes.now) }
-    ensures texts { IfOk result (λ x. (has_text pool.now x.0.0 ≡ true) × (has_text pool.now x.0.1 ≡ true)) }
+) -> Result<(Signature, &'a [u8]), ClassFault>
+    ensures read { Gives (λ x. ((x.0.name, x.0.descriptor), x.1.now)) result
+        (signature_at kind pool.now total bytes.now) }
+    ensures texts { IfOk result (λ x.
+        (has_utf8 pool.now x.0.name ≡ true) × (has_utf8 pool.now x.0.descriptor ≡ true)) }
 {
-    let (name, rest) = text_index_at(pool.as_slice(), total, bytes)?;
+    let (name, rest) = utf8_index_at(pool.as_slice(), total, bytes)?;
     let (descriptor, rest) = descriptor_at(kind, pool, total, rest)?;
-    Ok(((name, descriptor), rest))
+    Ok((Signature { name, descriptor }, rest))
 }
 
 fn owner_of(kind: MemberKind, access_flags: u16, descriptor: u16) -> Owner
@@ -153,8 +164,8 @@ fn lacks_code(kind: MemberKind, access_flags: u16, attributes: &Attributes) -> b
 }
 
 /// The attributes of the member that begins at `at`.
-#[tactic(auto, unfolding(crate::specs::ReadMembers::body_at))]
-fn body_at<'a>(
+#[tactic(auto, unfolding(crate::specs::reading::Members::member_body_at))]
+fn member_body_at<'a>(
     alloc: Global,
     kind: MemberKind,
     pool: &[Constant],
@@ -166,7 +177,7 @@ fn body_at<'a>(
     bytes: &'a [u8],
 ) -> Result<(Member, &'a [u8]), ClassFault>
     ensures { Gives (λ x. (x.0, x.1.now)) result
-        (body_at kind pool.now total at access_flags name descriptor bytes.now) }
+        (member_body_at kind pool.now total at access_flags name descriptor bytes.now) }
 {
     let owner = owner_of(kind, access_flags, descriptor);
     let (attributes, rest) = attributes_at(alloc, pool, owner, total, bytes)?;
@@ -199,11 +210,11 @@ fn member_at<'p, 'a>(
 {
     let at = total.saturating_sub(bytes.len());
     let (access_flags, rest) = u16_at(total, bytes)?;
-    let ((name, descriptor), rest) = signature_at(kind, pool, total, rest)?;
+    let (Signature { name, descriptor }, rest) = signature_at(kind, pool, total, rest)?;
     if is_declared(pool.as_slice(), earlier, name, descriptor)? {
         return Err(ClassFault::Index { at });
     }
-    body_at(
+    member_body_at(
         alloc,
         kind,
         pool.as_slice(),
@@ -217,7 +228,7 @@ fn member_at<'p, 'a>(
 }
 
 /// A table of fields or methods.
-#[tactic(auto, unfolding(crate::specs::ReadMembers::members_at))]
+#[tactic(auto, unfolding(crate::specs::reading::Members::members_at))]
 pub(crate) fn members_at<'a>(
     alloc: Global,
     kind: MemberKind,
@@ -248,7 +259,7 @@ fn counted_members_at<'a>(
     Ok((Members { items }, rest))
 }
 
-/// Reads so many members behind those that stand before.
+/// Reads so many members after those that stand before.
 fn push_members_at<'p, 'a>(
     alloc: Global,
     kind: MemberKind,

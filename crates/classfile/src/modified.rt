@@ -2,8 +2,9 @@
 
 ghost use Rattle.std.specs.Prelude.{◌≡◌, ◌++◌, ◌+◌, ◌*◌, ◌%◌, ◌<◌, ◌≤◌, ◌∷◌, length, true, []};
 ghost use Rattle.std.specs.Prelude.{IfOk, OnOk, IfSome, MatchOption};
-ghost use Rattle.classfile.specs.Modified.{is_one, is_two, is_three, all_one, is_modified};
-ghost use Rattle.classfile.specs.Units.{unit_text, units_text, IsModifiedUtf8, IsSpelledFirst};
+ghost use Rattle.classfile.specs.reading.Modified.{is_one, is_two, is_three, all_one, is_modified};
+ghost use Rattle.classfile.specs.Units.{unit_text, units_text, IsModifiedUtf8};
+ghost use Rattle.classfile.specs.reading.Modified.{IsSpelledFirst};
 
 use std::alloc::{AllocError, Global};
 use std::marker::Model;
@@ -16,7 +17,7 @@ pub struct ModifiedUtf8 {
 
 impl Model for ModifiedUtf8 {
     ghost use Rattle.std.specs.Prelude.{◌≡◌, List, ℕ, true};
-    ghost use Rattle.classfile.specs.Modified.{is_modified};
+    ghost use Rattle.classfile.specs.reading.Modified.{is_modified};
 
     ghost Value = { List ℕ };
 
@@ -37,6 +38,10 @@ impl ModifiedUtf8 {
     }
 
     /// The spelling of 16-bit units, one by one.
+    ///
+    /// # Errors
+    ///
+    /// `AllocError` where memory runs out.
     pub fn from_units(alloc: Global, units: &[u16]) -> Result<Self, AllocError>
         ensures { IfOk result (λ s. s ≡ units_text units.now) }
     {
@@ -56,7 +61,7 @@ impl ModifiedUtf8 {
     }
 }
 
-/// Writes the spelling of a unit behind the bytes.
+/// Writes the spelling of a unit after the bytes.
 fn push_unit(bytes: &mut Vec<u8>, unit: u16) -> Result<(), AllocError>
     ensures { OnOk result (bytes.new.items ≡ bytes.old.items ++ unit_text unit) }
 {
@@ -77,7 +82,8 @@ fn push_unit(bytes: &mut Vec<u8>, unit: u16) -> Result<(), AllocError>
 /// The first unit of bytes that are modified UTF-8, and what follows it.
 pub(crate) fn first_unit(bytes: &[u8]) -> Option<(u16, &[u8])>
     ensures shorter { IfSome result (λ x. length x.1.now < length bytes.now) }
-    ensures spelled { is_modified bytes.now ≡ true → MatchOption result (bytes.now ≡ []) (λ x. IsSpelledFirst x.0 x.1.now bytes.now) }
+    ensures spelled { is_modified bytes.now ≡ true
+        → MatchOption result (bytes.now ≡ []) (λ x. IsSpelledFirst x.0 x.1.now bytes.now) }
 {
     let (first, rest) = bytes.split_first()?;
     if *first < 192 {
@@ -115,21 +121,21 @@ fn unit_of_three(first: u8, second: u8, third: u8) -> u16
     u16::from(first % 16) * 4096 + u16::from(second % 64) * 64 + u16::from(third % 64)
 }
 
-#[tactic(auto, unfolding(crate::specs::Modified::is_one))]
+#[tactic(auto, unfolding(crate::specs::reading::Modified::is_one))]
 fn is_one(first: u8) -> bool
     ensures { result ≡ is_one first }
 {
     1 <= first && first < 128
 }
 
-#[tactic(auto, unfolding(crate::specs::Modified::is_two))]
+#[tactic(auto, unfolding(crate::specs::reading::Modified::is_two))]
 fn is_two(first: u8, second: u8) -> bool
     ensures { result ≡ is_two first second }
 {
     128 <= second && second < 192 && (194 <= first && first < 224 || first == 192 && second == 128)
 }
 
-#[tactic(auto, unfolding(crate::specs::Modified::is_three))]
+#[tactic(auto, unfolding(crate::specs::reading::Modified::is_three))]
 fn is_three(first: u8, second: u8, third: u8) -> bool
     ensures { result ≡ is_three first second third }
 {
@@ -154,7 +160,7 @@ fn is_plain(bytes: &[u8]) -> bool
 }
 
 /// Whether the bytes are modified UTF-8, in the one spelling of each unit.
-#[tactic(auto, using(crate::proofs::Plain::plain_is_modified), unfolding(crate::specs::Modified::is_modified))]
+#[tactic(auto, using(crate::proofs::ModifiedLemmas::of_plain), unfolding(crate::specs::reading::Modified::is_modified))]
 pub(crate) fn is_modified(bytes: &[u8]) -> bool
     ensures { result ≡ is_modified bytes.now }
 {

@@ -27,6 +27,10 @@ impl Model for ClassName {
 
 impl ClassName {
     /// The name that has the units of a text in UTF-16.
+    ///
+    /// # Errors
+    ///
+    /// `AllocError` where memory runs out.
     pub fn from_text(alloc: Global, text: &str) -> Result<ClassName, AllocError>
         ensures { IfOk result (λ name. name ≡ flat_map encode_utf16 (chars text.now)) }
     {
@@ -39,6 +43,10 @@ impl ClassName {
     }
 
     /// The name that a class file spells, if the bytes are modified UTF-8 (JVMS 4.4.7).
+    ///
+    /// # Errors
+    ///
+    /// `AllocError` where memory runs out. Other bytes are no error: of them nothing is said.
     pub fn from_modified_utf8(alloc: Global, bytes: &[u8]) -> Result<ClassName, AllocError>
         ensures { IsModifiedUtf8 bytes.now → IfOk result (λ name. units_text name ≡ bytes.now) }
     {
@@ -59,6 +67,10 @@ impl ClassName {
     }
 
     /// The name as a class file spells it, unit by unit (JVMS 4.4.7).
+    ///
+    /// # Errors
+    ///
+    /// `AllocError` where memory runs out; the name stays as it was.
     pub fn modified_utf8(&self, alloc: Global) -> Result<ModifiedUtf8, AllocError>
         ensures { IfOk result (λ text. text ≡ units_text self.now) }
     {
@@ -77,6 +89,10 @@ impl Display for ClassName {
 }
 
 /// The text of modified UTF-8 for a reader: surrogate pairs are joined, and a lone surrogate is `?`.
+///
+/// # Errors
+///
+/// `AllocError` where memory runs out.
 pub fn printed(alloc: Global, bytes: &[u8]) -> Result<String, AllocError> {
     ClassName::from_modified_utf8(alloc, bytes)?.to_string(alloc)
 }

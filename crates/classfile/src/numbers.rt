@@ -2,8 +2,9 @@
 
 ghost use Rattle.std.specs.Prelude.{◌≡◌, ◌≤◌};
 ghost use Rattle.std.specs.Int.{w8, w16, w32};
-ghost use Rattle.classfile.specs.Numbers.{Gives, number_at, run_at};
-ghost use Rattle.classfile.specs.ReadClass.{two_at};
+ghost use Rattle.classfile.specs.Gives.{Gives};
+ghost use Rattle.classfile.specs.reading.Numbers.{number_at, run_at};
+ghost use Rattle.classfile.specs.reading.Class.{two_at};
 
 use crate::fault::ClassFault;
 

@@ -1,15 +1,16 @@
 //! Constant pools.
 
 ghost use Rattle.std.specs.Prelude.{◌≡◌, ◌<◌, ◌^◌, IfOk, option_map, slice_get};
-ghost use Rattle.classfile.specs.Descriptors.{is_field, is_method, is_class_name};
-ghost use Rattle.classfile.specs.Forms.{form_of};
-ghost use Rattle.classfile.specs.Lookup.{text_of, passes};
-ghost use Rattle.classfile.specs.Numbers.{Gives};
-ghost use Rattle.classfile.specs.ReadPool.{checked_at, pool_at};
+ghost use Rattle.classfile.specs.reading.Descriptors.{is_field, is_method, is_class_name};
+ghost use Rattle.classfile.specs.reading.Forms.{form_of};
+ghost use Rattle.classfile.specs.Lookup.{utf8_of};
+ghost use Rattle.classfile.specs.reading.LookupTests.{passes};
+ghost use Rattle.classfile.specs.Gives.{Gives};
+ghost use Rattle.classfile.specs.reading.Pool.{checked_at, pool_at};
 
 use crate::checks::check_all;
 use crate::constant::Constant;
-use crate::entries::entries_at;
+use crate::constants_reading::constants_at;
 use crate::fault::ClassFault;
 use crate::forms::{Form, forms_of};
 use crate::numbers::u16_at;
@@ -17,7 +18,7 @@ use std::alloc::{AllocError, Global};
 use std::marker::Model;
 
 /// A constant pool (JVMS 4.4). Its indices are those of the file: index 0 is unusable, and so is
-/// the one behind a Long or a Double.
+/// the one after a Long or a Double.
 #[derive(Drop)]
 pub struct ConstantPool {
     constants: Vec<Constant>,
@@ -28,7 +29,7 @@ pub struct ConstantPool {
 impl Model for ConstantPool {
     ghost use Rattle.std.specs.Prelude.{◌≡◌, List};
     ghost use Rattle.classfile.specs.declared.constant.Constant.{Constant};
-    ghost use Rattle.classfile.specs.Forms.{forms_of};
+    ghost use Rattle.classfile.specs.reading.Forms.{forms_of};
 
     ghost Value = { List Constant };
 
@@ -38,14 +39,14 @@ impl Model for ConstantPool {
 }
 
 impl ConstantPool {
-    /// The entries by index.
+    /// The constants by index.
     pub fn as_slice(&self) -> &[Constant]
         ensures { result.now ≡ self.now }
     {
         &self.constants
     }
 
-    fn from_entries(alloc: Global, constants: Vec<Constant>) -> Result<Self, AllocError>
+    fn from_constants(alloc: Global, constants: Vec<Constant>) -> Result<Self, AllocError>
         ensures { IfOk result (λ p. p ≡ constants.items) }
     {
         let forms = forms_of(alloc, &constants)?;
@@ -59,17 +60,17 @@ impl ConstantPool {
     }
 
     /// Whether the descriptor of a field stands at an index (JVMS 4.3.2).
-    #[tactic(auto, using(crate::proofs::TextForms::field_form), unfolding(crate::specs::Lookup::text_of))]
+    #[tactic(auto, using(crate::proofs::FormsLemmas::field_form), unfolding(crate::specs::Lookup::utf8_of))]
     pub(crate) fn is_field(&self, index: u16) -> bool
-        ensures { result ≡ passes is_field (text_of self.now index) }
+        ensures { result ≡ passes is_field (utf8_of self.now index) }
     {
         matches!(self.form(index), Some(Form { is_field: true, .. }))
     }
 
     /// Whether the descriptor of a method stands at an index (JVMS 4.3.3).
-    #[tactic(auto, using(crate::proofs::TextForms::method_form), unfolding(crate::specs::Lookup::text_of))]
+    #[tactic(auto, using(crate::proofs::FormsLemmas::method_form), unfolding(crate::specs::Lookup::utf8_of))]
     pub(crate) fn is_method(&self, index: u16) -> bool
-        ensures { result ≡ passes is_method (text_of self.now index) }
+        ensures { result ≡ passes is_method (utf8_of self.now index) }
     {
         matches!(
             self.form(index),
@@ -81,9 +82,9 @@ impl ConstantPool {
     }
 
     /// Whether the name of a class or the descriptor of an array stands at an index (JVMS 4.4.1).
-    #[tactic(auto, using(crate::proofs::TextForms::class_name_form), unfolding(crate::specs::Lookup::text_of))]
+    #[tactic(auto, using(crate::proofs::FormsLemmas::class_name_form), unfolding(crate::specs::Lookup::utf8_of))]
     pub(crate) fn is_class_name(&self, index: u16) -> bool
-        ensures { result ≡ passes is_class_name (text_of self.now index) }
+        ensures { result ≡ passes is_class_name (utf8_of self.now index) }
     {
         matches!(
             self.form(index),
@@ -95,8 +96,8 @@ impl ConstantPool {
     }
 }
 
-/// The count of a pool, its entries, and the checks of its entries against one another.
-#[tactic(auto, unfolding(crate::specs::ReadPool::pool_at))]
+/// The count of a pool, its constants, and the checks of its constants against one another.
+#[tactic(auto, unfolding(crate::specs::reading::Pool::pool_at))]
 pub(crate) fn pool_at(
     alloc: Global,
     total: usize,
@@ -114,7 +115,7 @@ pub(crate) fn pool_at(
     checked_at(alloc, total, count, rest)
 }
 
-/// So many entries, checked against one another.
+/// So many constants, checked against one another.
 fn checked_at(
     alloc: Global,
     total: usize,
@@ -124,8 +125,8 @@ fn checked_at(
     requires { total < 2 ^ 63 }
     ensures { Gives (λ x. (x.0, x.1.now)) result (checked_at count total bytes.now) }
 {
-    let (constants, rest) = entries_at(alloc, total, count, bytes)?;
-    let pool = ConstantPool::from_entries(alloc, constants)?;
+    let (constants, rest) = constants_at(alloc, total, count, bytes)?;
+    let pool = ConstantPool::from_constants(alloc, constants)?;
     check_all(&pool, total, bytes.len())?;
     Ok((pool, rest))
 }

@@ -1,14 +1,14 @@
 //! Attributes that are kept unread.
 
 ghost use Rattle.std.specs.Prelude.{◌≡◌, List};
-ghost use Rattle.classfile.specs.Numbers.{Gives};
-ghost use Rattle.classfile.specs.Repeat.{repeat_at};
-ghost use Rattle.classfile.specs.ReadCode.{text_index_at, content_at, framed_at, unread_at, unread_attributes_at};
+ghost use Rattle.classfile.specs.Gives.{Gives};
+ghost use Rattle.classfile.specs.reading.Repeat.{repeat_at};
+ghost use Rattle.classfile.specs.reading.Code.{utf8_index_at, content_at, framed_at, unread_at, unread_attributes_at};
 
 use crate::bytes::Bytes;
 use crate::constant::Constant;
 use crate::fault::ClassFault;
-use crate::lookup::has_text;
+use crate::lookup::has_utf8;
 use crate::numbers::{room_for, run_at, u16_at, u32_at};
 use std::alloc::Global;
 use std::marker::Model;
@@ -45,16 +45,16 @@ impl UnreadAttributes {
 }
 
 /// The index of a Utf8.
-#[tactic(auto, unfolding(crate::specs::ReadCode::text_index_at))]
-pub(crate) fn text_index_at<'a>(
+#[tactic(auto, unfolding(crate::specs::reading::Code::utf8_index_at))]
+pub(crate) fn utf8_index_at<'a>(
     pool: &[Constant],
     total: usize,
     bytes: &'a [u8],
 ) -> Result<(u16, &'a [u8]), ClassFault>
-    ensures { Gives (λ x. (x.0, x.1.now)) result (text_index_at pool.now total bytes.now) }
+    ensures { Gives (λ x. (x.0, x.1.now)) result (utf8_index_at pool.now total bytes.now) }
 {
     let (index, rest) = u16_at(total, bytes)?;
-    if !has_text(pool, index) {
+    if !has_utf8(pool, index) {
         return Err(ClassFault::Index {
             at: total.saturating_sub(bytes.len()),
         });
@@ -63,7 +63,7 @@ pub(crate) fn text_index_at<'a>(
 }
 
 /// A length, and so many bytes.
-#[tactic(auto, unfolding(crate::specs::ReadCode::content_at))]
+#[tactic(auto, unfolding(crate::specs::reading::Code::content_at))]
 fn content_at(total: usize, bytes: &[u8]) -> Result<(&[u8], &[u8]), ClassFault>
     ensures { Gives (λ x. (x.0.now, x.1.now)) result (content_at total bytes.now) }
 {
@@ -72,7 +72,7 @@ fn content_at(total: usize, bytes: &[u8]) -> Result<(&[u8], &[u8]), ClassFault>
 }
 
 /// The name and the content of an attribute.
-#[tactic(auto, unfolding(crate::specs::ReadCode::framed_at, crate::specs::ReadCode::content_at))]
+#[tactic(auto, unfolding(crate::specs::reading::Code::framed_at, crate::specs::reading::Code::content_at))]
 pub(crate) fn framed_at<'a>(
     pool: &[Constant],
     total: usize,
@@ -80,12 +80,12 @@ pub(crate) fn framed_at<'a>(
 ) -> Result<((u16, &'a [u8]), &'a [u8]), ClassFault>
     ensures { Gives (λ x. ((x.0.0, x.0.1.now), x.1.now)) result (framed_at pool.now total bytes.now) }
 {
-    let (name, rest) = text_index_at(pool, total, bytes)?;
+    let (name, rest) = utf8_index_at(pool, total, bytes)?;
     let (content, rest) = content_at(total, rest)?;
     Ok(((name, content), rest))
 }
 
-#[tactic(auto, unfolding(crate::specs::ReadCode::unread_at))]
+#[tactic(auto, unfolding(crate::specs::reading::Code::unread_at))]
 fn unread_at<'a>(
     alloc: Global,
     pool: &[Constant],
@@ -100,7 +100,7 @@ fn unread_at<'a>(
 }
 
 /// A table of attributes that are not looked into.
-#[tactic(auto, unfolding(crate::specs::ReadCode::unread_attributes_at))]
+#[tactic(auto, unfolding(crate::specs::reading::Code::unread_attributes_at))]
 pub(crate) fn unread_attributes_at<'a>(
     alloc: Global,
     pool: &[Constant],
@@ -115,7 +115,7 @@ pub(crate) fn unread_attributes_at<'a>(
     Ok((UnreadAttributes { items }, rest))
 }
 
-/// Reads so many attributes behind those that stand before.
+/// Reads so many attributes after those that stand before.
 fn push_unread_at<'a>(
     alloc: Global,
     pool: &[Constant],

@@ -1,9 +1,9 @@
 //! Writes class files: a function for each part, which appends the part's text.
 
 ghost use Rattle.std.specs.Prelude.{◌≡◌, ◌++◌, ◌<◌, ◌^◌, length, IfOk, OnOk};
-ghost use Rattle.classfile.specs.Class.{IsStructure};
-ghost use Rattle.classfile.specs.Sizes.{IsTable, IsSizedConstant, IsSizedUnread};
-ghost use Rattle.classfile.specs.Sizes.{IsSizedCode, IsSizedAttribute, IsSizedMember};
+ghost use Rattle.classfile.specs.Class.{IsClassFile};
+ghost use Rattle.classfile.specs.reading.Sizes.{IsSizedTable, IsSizedConstant, IsSizedUnread};
+ghost use Rattle.classfile.specs.reading.Sizes.{IsSizedCode, IsSizedAttribute, IsSizedMember};
 ghost use Rattle.classfile.specs.Spelling.{u1, u2, u4, constant_text};
 ghost use Rattle.classfile.specs.Text.{table_text, framed_text, unread_text, handler_text, code_text};
 ghost use Rattle.classfile.specs.Text.{attribute_text, member_text, class_text};
@@ -19,6 +19,10 @@ use std::alloc::{AllocError, Global};
 
 /// The text of a class file (JVMS 4.1). [`read`](crate::read) accepts nothing but the text of what it
 /// answers, so these are the very bytes that the class file was read from.
+///
+/// # Errors
+///
+/// `AllocError` where memory runs out; the class file stays as it was.
 pub fn write(alloc: Global, class: &ClassFile) -> Result<Vec<u8>, AllocError>
     ensures { IfOk result (λ bytes. bytes.items ≡ class_text class.now) }
 {
@@ -42,7 +46,7 @@ fn push_header(out: &mut Vec<u8>) -> Result<(), AllocError>
 
 /// The flags, the class and its parents.
 fn push_declaration(out: &mut Vec<u8>, class: &ClassFile) -> Result<(), AllocError>
-    requires { IsStructure class.now }
+    requires { IsClassFile class.now }
     ensures { OnOk result (out.new.items ≡ out.old.items ++ (u2 class.now.access_flags ++ (u2 class.now.this_class
         ++ (u2 class.now.super_class ++ table_text u2 class.now.interfaces)))) }
 {
@@ -54,7 +58,7 @@ fn push_declaration(out: &mut Vec<u8>, class: &ClassFile) -> Result<(), AllocErr
 
 /// The fields, the methods and the class's own attributes.
 fn push_tables(alloc: Global, out: &mut Vec<u8>, class: &ClassFile) -> Result<(), AllocError>
-    requires { IsStructure class.now }
+    requires { IsClassFile class.now }
     ensures { OnOk result (out.new.items ≡ out.old.items ++ (table_text member_text class.now.fields
         ++ (table_text member_text class.now.methods ++ table_text attribute_text class.now.attributes))) }
 {
@@ -134,7 +138,7 @@ fn push_utf8(out: &mut Vec<u8>, text: &[u8]) -> Result<(), AllocError>
     out.extend_from_slice(text)
 }
 
-/// An entry of the constant pool (JVMS 4.4).
+/// A constant of the constant pool (JVMS 4.4).
 fn push_constant(out: &mut Vec<u8>, constant: &Constant) -> Result<(), AllocError>
     requires { IsSizedConstant constant.now }
     ensures { OnOk result (out.new.items ≡ out.old.items ++ constant_text constant.now) }
@@ -170,9 +174,9 @@ fn push_constant(out: &mut Vec<u8>, constant: &Constant) -> Result<(), AllocErro
     }
 }
 
-/// The count of a constant pool, and its entries.
+/// The count of a constant pool, and its constants.
 fn push_constants(out: &mut Vec<u8>, constants: &[Constant]) -> Result<(), AllocError>
-    requires { IsTable IsSizedConstant constants.now }
+    requires { IsSizedTable IsSizedConstant constants.now }
     ensures { OnOk result (out.new.items ≡ out.old.items ++ table_text constant_text constants.now) }
 {
     push_u16(out, constants.len() as u16)?;
@@ -216,7 +220,7 @@ fn push_unread_attributes(
     out: &mut Vec<u8>,
     attributes: &[UnreadAttribute],
 ) -> Result<(), AllocError>
-    requires { IsTable IsSizedUnread attributes.now }
+    requires { IsSizedTable IsSizedUnread attributes.now }
     ensures { OnOk result (out.new.items ≡ out.old.items ++ table_text unread_text attributes.now) }
 {
     push_u16(out, attributes.len() as u16)?;
@@ -293,7 +297,7 @@ fn push_attributes(
     out: &mut Vec<u8>,
     attributes: &[Attribute],
 ) -> Result<(), AllocError>
-    requires { IsTable IsSizedAttribute attributes.now }
+    requires { IsSizedTable IsSizedAttribute attributes.now }
     ensures { OnOk result (out.new.items ≡ out.old.items ++ table_text attribute_text attributes.now) }
 {
     push_u16(out, attributes.len() as u16)?;
@@ -315,7 +319,7 @@ fn push_member(alloc: Global, out: &mut Vec<u8>, member: &Member) -> Result<(), 
 }
 
 fn push_members(alloc: Global, out: &mut Vec<u8>, members: &[Member]) -> Result<(), AllocError>
-    requires { IsTable IsSizedMember members.now }
+    requires { IsSizedTable IsSizedMember members.now }
     ensures { OnOk result (out.new.items ≡ out.old.items ++ table_text member_text members.now) }
 {
     push_u16(out, members.len() as u16)?;

@@ -5,8 +5,8 @@ ghost use Rattle.cli.specs.declared.fault.Refusal.TheVariants.{Memory};
 
 use crate::{FileFault, Status};
 use classfile::ClassFault;
-use hierarchy::LinkFault;
 use init_engine::EntryFault;
+use program::LinkFault;
 use std::alloc::{AllocError, Global};
 use thiserror::Error;
 
@@ -45,7 +45,7 @@ impl Refusal {
         }
     }
 
-    /// The refusal of the class file at this place. Want of memory is no fault of the file.
+    /// The refusal of the class file at this place. To be out of memory is no fault of the file.
     pub(crate) fn of_class(place: usize, fault: ClassFault) -> Refusal
         ensures memory { fault ≡ ClassFault.Memory → result ≡ Refusal.Memory }
         ensures other { fault ≢ ClassFault.Memory → result ≡ Refusal.Class place fault }
@@ -56,7 +56,7 @@ impl Refusal {
         }
     }
 
-    /// The refusal of the classes together. Want of memory is no fault of theirs.
+    /// The refusal of the classes together. To be out of memory is no fault of theirs.
     pub(crate) fn of_link(fault: LinkFault) -> Refusal
         ensures memory { fault ≡ LinkFault.Memory → result ≡ Refusal.Memory }
         ensures other { fault ≢ LinkFault.Memory → result ≡ Refusal.Link fault }
@@ -67,7 +67,7 @@ impl Refusal {
         }
     }
 
-    /// The refusal of an entry. Want of memory is no fault of its.
+    /// The refusal of an entry. To be out of memory is no fault of its.
     pub(crate) fn of_entry(fault: EntryFault) -> Refusal
         ensures memory { fault ≡ EntryFault.Memory → result ≡ Refusal.Memory }
         ensures other { fault ≢ EntryFault.Memory → result ≡ Refusal.Entry fault }
@@ -78,7 +78,7 @@ impl Refusal {
         }
     }
 
-    /// The refusal of the file of this name. Want of memory is no fault of the file.
+    /// The refusal of the file of this name. To be out of memory is no fault of the file.
     pub(crate) fn of_file(alloc: Global, name: &str, fault: FileFault) -> Refusal
         ensures memory { fault ≡ FileFault.Memory → result ≡ Refusal.Memory }
         ensures device { fault ≡ FileFault.Device → IsOfFile result name.now }

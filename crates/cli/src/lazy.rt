@@ -2,13 +2,13 @@
 ghost use Rattle.std.specs.Prelude.{IfOk};
 ghost use Rattle.cli.specs.Status.{IsTold};
 
-use crate::status::status_of;
+use crate::status::{Stop, status_of};
 use crate::{Files, Lazy, Refusal, Status};
+use built_in::class_id::ClassId;
 use classfile::{ClassFile, ClassName};
-use hierarchy::program::Program;
 use init_engine::{Ending, Line, Seen, World};
+use program::program::Program;
 use std::alloc::{AllocError, Global};
-use vm_state::class_id::ClassId;
 
 /// What a run has to tell.
 #[derive(Drop)]
@@ -21,6 +21,9 @@ pub struct Outcome {
 }
 
 /// Reads the class file and runs it.
+///
+/// # Errors
+/// The first refusal: a file, its class file, linking, an entry, or memory.
 pub fn run<F: Files>(alloc: Global, words: Lazy<'_>, files: &mut F) -> Result<Outcome, Refusal>
     ensures { IfOk result (λ outcome. IsTold outcome.status) }
 {
@@ -41,7 +44,7 @@ fn run_words(alloc: Global, program: &Program, words: Lazy<'_>) -> Result<Outcom
 /// The program of the class file of a name.
 fn program_in<F: Files>(alloc: Global, file: &str, files: &mut F) -> Result<Program, Refusal> {
     match files.get(file) {
-        Ok(bytes) => program_of(alloc, &[bytes.as_slice()]),
+        Ok(bytes) => linked_program(alloc, &[bytes.as_slice()]),
         Err(fault) => Err(Refusal::of_file(alloc, file, fault)),
     }
 }
@@ -79,7 +82,7 @@ fn outcome_of(alloc: Global, program: &Program, world: &World) -> Result<Outcome
     ensures { IfOk result (λ outcome. IsTold outcome.status) }
 {
     let seen = world.seen(alloc)?;
-    outcome_of_seen(alloc, program, &seen, world.stuck(program))
+    outcome_of_seen(alloc, program, &seen, Stop::of_world(world, program))
 }
 
 /// What is to be told of what a world has shown.
@@ -87,7 +90,7 @@ fn outcome_of_seen(
     alloc: Global,
     program: &Program,
     seen: &Seen,
-    stuck: bool,
+    stop: Stop,
 ) -> Result<Outcome, AllocError>
     ensures { IfOk result (λ outcome. IsTold outcome.status) }
 {
@@ -96,11 +99,11 @@ fn outcome_of_seen(
     Ok(Outcome {
         printed,
         threads,
-        status: status_of(seen.threads.as_slice(), stuck),
+        status: status_of(seen.threads.as_slice(), stop),
     })
 }
 
-/// What was printed, line behind line.
+/// What was printed, line after line.
 fn printed_bytes(alloc: Global, lines: &[Line]) -> Result<Vec<u8>, AllocError> {
     let mut bytes = Vec::new(alloc);
     for line in lines {
@@ -110,7 +113,10 @@ fn printed_bytes(alloc: Global, lines: &[Line]) -> Result<Vec<u8>, AllocError> {
 }
 
 /// The program that class files make. The first file at fault is named by its place, from 0.
-pub fn program_of(alloc: Global, files: &[&[u8]]) -> Result<Program, Refusal> {
+///
+/// # Errors
+/// `Refusal::Class` of the first class file at fault, else what linking refuses; `Refusal::Memory`.
+pub fn linked_program(alloc: Global, files: &[&[u8]]) -> Result<Program, Refusal> {
     let mut classes = Vec::new(alloc);
     for (place, bytes) in files.iter().enumerate() {
         match classfile::read(alloc, bytes) {
@@ -118,7 +124,7 @@ pub fn program_of(alloc: Global, files: &[&[u8]]) -> Result<Program, Refusal> {
             Err(fault) => return Err(Refusal::of_class(place, fault)),
         }
     }
-    hierarchy::link(alloc, classes).map_err(Refusal::of_link)
+    program::link(alloc, classes).map_err(Refusal::of_link)
 }
 
 fn add_class(classes: &mut Vec<ClassFile>, class: ClassFile) -> Result<(), AllocError> {
@@ -126,6 +132,9 @@ fn add_class(classes: &mut Vec<ClassFile>, class: ClassFile) -> Result<(), Alloc
 }
 
 /// The class names of a list: cut at commas, with slashes for dots.
+///
+/// # Errors
+/// `AllocError` where memory is refused.
 pub fn entries_of(alloc: Global, list: &str) -> Result<Vec<ClassName>, AllocError> {
     let mut entries = Vec::new(alloc);
     for name in list.split(',') {
@@ -141,6 +150,9 @@ fn entry_of(alloc: Global, name: &str) -> Result<ClassName, AllocError> {
 }
 
 /// A line for each thread, how it ended.
+///
+/// # Errors
+/// `AllocError` where memory is refused.
 pub fn thread_lines(
     alloc: Global,
     program: &Program,

@@ -4,7 +4,7 @@ ghost use Rattle.cli.specs.Refusal.{refusal_status};
 ghost use Rattle.cli.specs.Status.{IsTold};
 
 use crate::lazy::{self, Outcome};
-use crate::{Files, Lazy, Line, Refusal, Status, WordsFault, line};
+use crate::{Files, Lazy, Refusal, Request, Status, WordsFault, request_of};
 use std::alloc::Global;
 use std::io;
 use std::io::Write;
@@ -33,8 +33,8 @@ pub fn command<F: Files, W: Write + Send, E: Write>(
     ensures refused { result.0 ≡ 1 → result.1 ≡ out }
     ensures words { result.0 ≡ 2 → result.1 ≡ out }
 {
-    let status = match line(alloc, words) {
-        Ok(Line::Lazy(words)) => run_lazily(alloc, words, files, &mut out, errors),
+    let status = match request_of(alloc, words) {
+        Ok(Request::Lazy(words)) => run_lazily(alloc, words, files, &mut out, errors),
         Err(fault) => tell_words(&fault, &mut out, errors),
     };
     (status.code(), out)

@@ -3,7 +3,8 @@ ghost use Rattle.std.specs.Prelude.{◌≡◌, ◌≤◌};
 ghost use Rattle.cli.specs.Status.{IsTold, code_of, is_end, is_return, run_status};
 ghost use Rattle.std.specs.List.{list_all};
 
-use init_engine::Ending;
+use init_engine::{Ending, World};
+use program::program::Program;
 
 /// How a command ended.
 #[derive(Clone, Copy, Debug, PartialEq, Eq)]
@@ -44,22 +45,43 @@ impl Status {
     }
 }
 
-/// The status of a run by turns, from how its threads ended and whether it is stuck.
+/// Where a run by turns came to its end.
+#[derive(Clone, Copy, Debug, PartialEq, Eq)]
+pub enum Stop {
+    /// A thread has not ended, and none has a step.
+    Stuck,
+    /// All threads ended, or a thread still has a step: the run came to its limit.
+    EndOrLimit,
+}
+
+impl Stop {
+    /// The stop of a run whose last world is stuck, or is not.
+    pub fn of_world(world: &World, program: &Program) -> Stop {
+        if world.stuck(program) {
+            Stop::Stuck
+        } else {
+            Stop::EndOrLimit
+        }
+    }
+}
+
+/// The status of a run by turns, from how its threads ended and where it stopped.
 ///
 /// Turns end where no thread has a step, or at the limit. So a run that is not stuck, with a thread
 /// that goes on, has a thread with a step and was ended by the limit.
-pub fn status_of(threads: &[Ending], stuck: bool) -> Status
-    ensures status { result ≡ run_status threads.now stuck }
+pub fn status_of(threads: &[Ending], stop: Stop) -> Status
+    ensures status { result ≡ run_status threads.now stop }
     ensures told { IsTold result }
 {
     if all_returned(threads) {
         Status::Done
     } else if all_ended(threads) {
         Status::Ended
-    } else if stuck {
-        Status::Stuck
     } else {
-        Status::Limit
+        match stop {
+            Stop::Stuck => Status::Stuck,
+            Stop::EndOrLimit => Status::Limit,
+        }
     }
 }
 

@@ -1,5 +1,5 @@
 //! The program `command_cases`: asks the questions of the files of cases that its command line names about commands
-//! of `preinit`, over files and streams in memory, and compares the answers with those that stand behind them.
+//! of `preinit`, over files and streams in memory, and compares the answers with those that stand after them.
 //!
 //! It prints a line for each file, and one for each answer that is not as it is wanted. Its status is 0 where all
 //! are.

@@ -2,9 +2,12 @@
 
 use crate::commands::{self, words_of};
 use crate::shelf::Shelf;
-use cli::{Lazy, Line, Refusal, Status, entries_of, line, program_of, status_of, thread_lines};
-use hierarchy::program::Program;
+use cli::{
+    Lazy, Refusal, Request, Status, Stop, entries_of, linked_program, request_of, status_of,
+    thread_lines,
+};
 use init_engine::Ending;
+use program::program::Program;
 use std::alloc::{AllocError, Global};
 use std::str::SplitWhitespace;
 use vm_state::ends::FaultKind;
@@ -12,9 +15,9 @@ use vm_state::ends::FaultKind;
 /// Given are files, each as its name, ` = ` and a class in its text form.
 ///
 /// Asked are the words of a command, for the status, and between brackets what standard output and standard error
-/// got. Behind the words may stand ` | ` and `begins LENGTH`, for that many bytes of the answer; `has TEXT`, for the
+/// got. After the words may stand ` | ` and `begins LENGTH`, for that many bytes of the answer; `has TEXT`, for the
 /// status and which of the two has the text where the other has nothing; `output ROOM` or `errors ROOM`, for what is
-/// answered when that stream fails behind so many bytes.
+/// answered when that stream fails after so many bytes.
 ///
 /// `line WORDS` asks what the words ask for, and `entries LIST` for the names of a list. `program FILE ..` asks why
 /// files make no program, `lines ENDING ..` for the lines of threads, `status ENDING ..` for the status of a run, and
@@ -70,8 +73,8 @@ fn of_part(alloc: Global, shelf: &Shelf, asked: &str) -> Result<String, AllocErr
         "entries" => names_in(alloc, about),
         "program" => of_program(alloc, shelf, about),
         "lines" => lines_of(alloc, shelf, about),
-        "status" => status_text(alloc, about, false),
-        "stuck" => status_text(alloc, about, true),
+        "status" => status_text(alloc, about, Stop::EndOrLimit),
+        "stuck" => status_text(alloc, about, Stop::Stuck),
         _ => String::from_str(alloc, "no question"),
     }
 }
@@ -79,8 +82,8 @@ fn of_part(alloc: Global, shelf: &Shelf, asked: &str) -> Result<String, AllocErr
 /// What the words of a text ask for.
 fn request(alloc: Global, text: &str) -> Result<String, AllocError> {
     let words = words_of(alloc, text)?;
-    match line(alloc, &words) {
-        Ok(Line::Lazy(lazy)) => lazy_text(alloc, lazy),
+    match request_of(alloc, &words) {
+        Ok(Request::Lazy(lazy)) => lazy_text(alloc, lazy),
         Err(_) => String::from_str(alloc, "no command"),
     }
 }
@@ -114,7 +117,7 @@ fn files_of<'a>(alloc: Global, shelf: &'a Shelf, names: &str) -> Result<Vec<&'a 
 /// Why files make no program, and the status then.
 fn of_program(alloc: Global, shelf: &Shelf, names: &str) -> Result<String, AllocError> {
     let files = files_of(alloc, shelf, names)?;
-    match program_of(alloc, &files) {
+    match linked_program(alloc, &files) {
         Ok(_) => String::from_str(alloc, "a program"),
         Err(refusal) => refusal_text(alloc, &refusal),
     }
@@ -128,7 +131,7 @@ fn refusal_text(alloc: Global, refusal: &Refusal) -> Result<String, AllocError> 
 /// The lines of threads that ended so, over a program without classes.
 fn lines_of(alloc: Global, shelf: &Shelf, endings: &str) -> Result<String, AllocError> {
     let files = files_of(alloc, shelf, "")?;
-    match program_of(alloc, &files) {
+    match linked_program(alloc, &files) {
         Ok(program) => lines_over(alloc, &program, endings),
         Err(refusal) => refusal_text(alloc, &refusal),
     }
@@ -158,9 +161,9 @@ fn ending_of(word: &str) -> Ending {
 }
 
 /// The status of a run whose threads ended so.
-fn status_text(alloc: Global, endings: &str, is_stuck: bool) -> Result<String, AllocError> {
+fn status_text(alloc: Global, endings: &str, stop: Stop) -> Result<String, AllocError> {
     let endings = endings_of(alloc, endings.split_whitespace())?;
-    let status: Status = status_of(&endings, is_stuck);
+    let status: Status = status_of(&endings, stop);
     let code = status.code();
     format!(in alloc; "{code} {status:?}")
 }

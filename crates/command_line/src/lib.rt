@@ -1,6 +1,6 @@
 //! The words of the command line.
 //!
-//! [`line`] reads the words after the program's name: a command and what they ask for, or a [`WordsFault`].
+//! [`request_of`] reads the words after the program's name: a command and what they ask for, or a [`WordsFault`].
 #![tactic(auto)]
 
 mod fault;
@@ -9,5 +9,5 @@ mod request;
 mod words;
 
 pub use fault::WordsFault;
-pub use request::{Lazy, Line};
-pub use words::line;
+pub use request::{Lazy, Request};
+pub use words::request_of;

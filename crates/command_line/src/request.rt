@@ -2,7 +2,7 @@
 
 /// A command and what its words ask for. Texts are as given.
 #[derive(Clone, Copy, Debug, PartialEq, Eq)]
-pub enum Line<'a> {
+pub enum Request<'a> {
     /// `lazy`: run a class file by turns.
     Lazy(Lazy<'a>),
 }

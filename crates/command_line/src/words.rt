@@ -1,7 +1,7 @@
 //! The words of the command line.
 
 use crate::parsed::fault_of;
-use crate::{Lazy, Line, WordsFault};
+use crate::{Lazy, Request, WordsFault};
 use clap::error::ErrorKind;
 use clap::{Arg, ArgMatches, Command, value_parser};
 use std::alloc::{AllocError, Global};
@@ -17,7 +17,7 @@ Runs Java class files of version 52 (Java 8), by single steps of their threads."
 const STATUSES: &str = "\
 Exit status:
   0  done: all threads returned
-  1  refused: a class file, the classes together, an entry, or want of memory
+  1  refused: a class file, the classes together, an entry, or memory
   2  the command line is wrong
   3  a file or standard output failed
   4  stuck: no thread has a step, and one has not ended
@@ -46,21 +46,21 @@ For example: preinit lazy --entries app.Main Main.class";
 ///
 /// # Errors
 /// `Help` where help was asked for, `Wrong` where the words are no command, and `Memory`.
-pub fn line<'a>(alloc: Global, words: &'a [&'a str]) -> Result<Line<'a>, WordsFault> {
+pub fn request_of<'a>(alloc: Global, words: &'a [&'a str]) -> Result<Request<'a>, WordsFault> {
     match program(alloc) {
-        Ok(mut program) => line_of(alloc, &mut program, words),
+        Ok(mut program) => request_in(alloc, &mut program, words),
         Err(_) => Err(WordsFault::Memory),
     }
 }
 
-fn line_of<'a>(
+fn request_in<'a>(
     alloc: Global,
     program: &mut Command<'a>,
     words: &'a [&'a str],
-) -> Result<Line<'a>, WordsFault> {
+) -> Result<Request<'a>, WordsFault> {
     match program.try_get_matches_from_mut(words) {
         Ok(matches) => match command_of(&matches) {
-            Some(line) => Ok(line),
+            Some(request) => Ok(request),
             None => Err(missing(alloc, program)),
         },
         Err(error) => Err(fault_of(alloc, &error)),
@@ -68,9 +68,9 @@ fn line_of<'a>(
 }
 
 /// The command that was matched.
-fn command_of<'a>(matches: &ArgMatches<'a>) -> Option<Line<'a>> {
+fn command_of<'a>(matches: &ArgMatches<'a>) -> Option<Request<'a>> {
     match matches.subcommand() {
-        Some(("lazy", matches)) => Some(Line::Lazy(lazy_of(matches)?)),
+        Some(("lazy", matches)) => Some(Request::Lazy(lazy_of(matches)?)),
         _ => None,
     }
 }

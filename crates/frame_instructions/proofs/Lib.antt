@@ -1,4 +1,4 @@
-pub mod FrameNames
-pub mod RearrangingNames
-pub mod FamilyNames
-pub mod FamilyPlaces
+pub mod LawsFrameLemmas
+pub mod RearrangingLemmas
+pub mod FamiliesNameLemmas
+pub mod FamiliesPlaceLemmas

@@ -20,6 +20,10 @@ use vm_state::frame::Frame;
 use vm_state::value::Value;
 
 /// Executes an instruction, where it is one that touches its own frame alone.
+///
+/// # Errors
+/// `Trap::Fault` where an operand or a local variable is missing or of another kind, or there is no room; `Trap::Raise`
+/// of ArithmeticException for a division by zero. Then the frame is as it was.
 #[inline(always)]
 pub fn execute_local(frame: &mut Frame, instruction: &Instruction) -> Option<Result<(), Trap>>
     ensures gives { after instruction.now frame.old ≡ option_map (λ r. completed r frame.new) result }

@@ -15,6 +15,9 @@ use bytecode::StackOperation;
 use vm_state::frame::Frame;
 
 /// `iload`, `lload` and `aload`.
+///
+/// # Errors
+/// `Trap::Fault` where the variable holds no value of this kind, or the stack has no room. Then the frame is as it was.
 #[inline(always)]
 pub fn load(frame: &mut Frame, kind: OperandKind, at: u16) -> Result<(), Trap>
     ensures gives { loads kind at frame.old ≡ completed result frame.new }
@@ -25,6 +28,9 @@ pub fn load(frame: &mut Frame, kind: OperandKind, at: u16) -> Result<(), Trap>
 }
 
 /// `istore`, `lstore` and `astore`.
+///
+/// # Errors
+/// `Trap::Fault` where the value on top is of another kind, or there is no such variable. Then the frame is as it was.
 #[inline(always)]
 pub fn store(frame: &mut Frame, kind: OperandKind, at: u16) -> Result<(), Trap>
     ensures gives { stores_top kind at frame.old ≡ completed result frame.new }
@@ -38,6 +44,9 @@ pub fn store(frame: &mut Frame, kind: OperandKind, at: u16) -> Result<(), Trap>
 }
 
 /// `pop` to `swap`.
+///
+/// # Errors
+/// `Trap::Fault` where the stack has too few values, the wrong categories, or no room. Then the frame is as it was.
 #[inline(always)]
 pub fn rearrange_stack(frame: &mut Frame, operation: StackOperation) -> Result<(), Trap>
     ensures gives { rearranges operation frame.old ≡ completed result frame.new }
@@ -49,6 +58,9 @@ pub fn rearrange_stack(frame: &mut Frame, operation: StackOperation) -> Result<(
 }
 
 /// `iinc`.
+///
+/// # Errors
+/// `Trap::Fault` where the variable holds no int. Then the frame is as it was.
 #[inline(always)]
 pub fn increment(frame: &mut Frame, at: u16, by: i32) -> Result<(), Trap>
     ensures gives { updates at (λ a. computed.Int (int_wrapping_add w32 a by)) frame.old ≡ completed result frame.new }

@@ -28,6 +28,9 @@ pub fn advance(frame: &mut Frame)
 }
 
 /// Pushes a value, and goes on at the next instruction: `aconst_null`.
+///
+/// # Errors
+/// `Trap::Fault` where the stack has no room. Then the frame is as it was.
 #[inline(always)]
 pub fn push(frame: &mut Frame, value: Value) -> Result<(), Trap>
     ensures gives { pushes frame.old frame.old.operands value ≡ completed result frame.new }
@@ -39,6 +42,9 @@ pub fn push(frame: &mut Frame, value: Value) -> Result<(), Trap>
 }
 
 /// Pushes a number: `iconst_<i>`, `bipush`, `sipush` and `lconst_<l>`.
+///
+/// # Errors
+/// `Trap::Fault` where the stack has no room. Then the frame is as it was.
 #[inline(always)]
 pub fn push_number(frame: &mut Frame, number: Computed) -> Result<(), Trap>
     ensures gives { giving number (pushes frame.old frame.old.operands) ≡ completed result frame.new }
@@ -70,6 +76,9 @@ fn put_two(frame: &mut Frame, number: Computed) -> Result<(), Trap>
 }
 
 /// `ineg`.
+///
+/// # Errors
+/// `Trap::Fault` where the operand is no int. Then the frame is as it was.
 #[inline(always)]
 pub fn negate_int(frame: &mut Frame) -> Result<(), Trap>
     ensures gives { on_int (λ a. computed.Int (int_wrapping_neg w32 a)) frame.old ≡ completed result frame.new }
@@ -80,6 +89,9 @@ pub fn negate_int(frame: &mut Frame) -> Result<(), Trap>
 }
 
 /// `lneg`.
+///
+/// # Errors
+/// `Trap::Fault` where the operand is no long. Then the frame is as it was.
 #[inline(always)]
 pub fn negate_long(frame: &mut Frame) -> Result<(), Trap>
     ensures gives { on_long (λ a. computed.Long (int_wrapping_neg w64 a)) frame.old ≡ completed result frame.new }
@@ -90,6 +102,9 @@ pub fn negate_long(frame: &mut Frame) -> Result<(), Trap>
 }
 
 /// `i2l`, `i2b`, `i2c` and `i2s`.
+///
+/// # Errors
+/// `Trap::Fault` where the operand is no int, or the stack has no room. Then the frame is as it was.
 #[inline(always)]
 pub fn convert(frame: &mut Frame, to: Conversion) -> Result<(), Trap>
     ensures gives { on_int (int_converted to) frame.old ≡ completed result frame.new }
@@ -100,6 +115,9 @@ pub fn convert(frame: &mut Frame, to: Conversion) -> Result<(), Trap>
 }
 
 /// `l2i`.
+///
+/// # Errors
+/// `Trap::Fault` where the operand is no long. Then the frame is as it was.
 #[inline(always)]
 pub fn convert_long(frame: &mut Frame) -> Result<(), Trap>
     ensures gives { on_long long_to_int frame.old ≡ completed result frame.new }
@@ -110,6 +128,10 @@ pub fn convert_long(frame: &mut Frame) -> Result<(), Trap>
 }
 
 /// `iadd` to `ixor`.
+///
+/// # Errors
+/// `Trap::Fault` where the operands are not two ints; `Trap::Raise` for a division by zero. Then the frame is as it
+/// was.
 #[inline(always)]
 pub fn on_ints(frame: &mut Frame, operator: IntOperator) -> Result<(), Trap>
     ensures gives { on_ints (ints_combined operator) frame.old ≡ completed result frame.new }
@@ -121,6 +143,10 @@ pub fn on_ints(frame: &mut Frame, operator: IntOperator) -> Result<(), Trap>
 }
 
 /// `ladd` to `lrem`, and `land` to `lxor`.
+///
+/// # Errors
+/// `Trap::Fault` where the operands are not two longs; `Trap::Raise` for a division by zero. Then the frame is as it
+/// was.
 #[inline(always)]
 pub fn on_longs(frame: &mut Frame, operator: LongOperator) -> Result<(), Trap>
     ensures gives { on_longs (longs_combined operator) frame.old ≡ completed result frame.new }
@@ -132,6 +158,9 @@ pub fn on_longs(frame: &mut Frame, operator: LongOperator) -> Result<(), Trap>
 }
 
 /// `lshl`, `lshr` and `lushr`.
+///
+/// # Errors
+/// `Trap::Fault` where the operands are not a long and an int. Then the frame is as it was.
 #[inline(always)]
 pub fn shift(frame: &mut Frame, operator: LongOperator) -> Result<(), Trap>
     ensures gives { on_long_int (long_shifted operator) frame.old ≡ completed result frame.new }
@@ -143,6 +172,9 @@ pub fn shift(frame: &mut Frame, operator: LongOperator) -> Result<(), Trap>
 }
 
 /// `lcmp`.
+///
+/// # Errors
+/// `Trap::Fault` where the operands are not two longs. Then the frame is as it was.
 #[inline(always)]
 pub fn compare(frame: &mut Frame) -> Result<(), Trap>
     ensures gives { on_longs longs_compared frame.old ≡ completed result frame.new }

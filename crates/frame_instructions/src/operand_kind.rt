@@ -16,6 +16,9 @@ pub enum OperandKind {
 
 impl OperandKind {
     /// The value, where it is of this kind.
+    ///
+    /// # Errors
+    /// `Fault` where it is of another kind.
     #[tactic(auto, unfolding(crate::specs::OperandKinds::of_kind))]
     #[inline(always)]
     pub fn of(self, value: Value) -> Result<Value, Fault>
@@ -35,6 +38,9 @@ impl OperandKind {
 }
 
 /// The value on top, where it is of this kind.
+///
+/// # Errors
+/// `Fault` where the stack is empty, or the value of another kind.
 #[inline(always)]
 pub fn top_as(operands: &Operands, kind: OperandKind) -> Result<Value, Fault>
     ensures ok { IfOk result (λ v. top_as kind operands.now ≡ Some v) }

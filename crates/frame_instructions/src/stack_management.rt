@@ -164,6 +164,9 @@ fn swap(stack: &mut Operands) -> Result<(), Fault>
 }
 
 /// Rearranges an operand stack.
+///
+/// # Errors
+/// `Fault` where the stack has too few values, the wrong categories, or no room. Then it is as it was.
 #[inline(always)]
 pub fn rearrange(stack: &mut Operands, operation: StackOperation) -> Result<(), Fault>
     ensures ok { OnOk result (rearranged operation stack.old ≡ Some stack.new) }

@@ -2,7 +2,7 @@
 
 ghost use Rattle.std.specs.Prelude.{◌≡◌};
 
-use vm_state::class_id::BuiltIn;
+use built_in::class_id::BuiltIn;
 use vm_state::value::Fault;
 
 /// What ends an instruction early. Its frame is as it was.

@@ -1,8 +1,8 @@
-pub mod Counts
-pub mod Marks
-pub mod Edges
-pub mod Paths
-pub mod Searches
-pub mod Walks
-pub mod Topology
-pub mod Numbers
+pub mod SeenLemmas
+pub mod MarksLemmas
+pub mod RowsLemmas
+pub mod ReachesLemmas
+pub mod AddsLemmas
+pub mod WalkingLemmas
+pub mod OrderLemmas
+pub mod ComponentsLemmas

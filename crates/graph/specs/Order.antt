@@ -16,15 +16,15 @@ ComesAfter graph order =
     (i b : ℕ) → i < length order → Contains (successors_of graph (slice_index order i)) b → Contains (take i order) b
 
 -- the vertex at each place comes after its successors, but for those that reach it
-abbrev pub ComesAfterOrCircles : Rows → List ℕ → Type 0
-ComesAfterOrCircles graph order =
+abbrev pub ComesAfterOrCycles : Rows → List ℕ → Type 0
+ComesAfterOrCycles graph order =
     (i b : ℕ) → i < length order → Contains (successors_of graph (slice_index order i)) b
     → Contains (take i order) b ⊎ Reaches graph b (slice_index order i)
 
 -- each vertex once, after its successors, but for those that reach it
 pub record IsPostorder (graph : Rows) (order : List ℕ) : Type 0 where
   pub each : HasEachOnce graph order
-  pub after : ComesAfterOrCircles graph order
+  pub after : ComesAfterOrCycles graph order
 
 -- each vertex once, after all of its successors
 pub record IsTopological (graph : Rows) (order : List ℕ) : Type 0 where

@@ -1,5 +1,5 @@
 -- Sets of numbers in the order in which they came.
-use Rattle.std.specs.Prelude.{◌≡◌, ℕ, ◌≤◌, ◌==◌, Bool, false, List, [], ◌∷◌, ◌++◌, length, slice_index_or, count_by, if◌then◌else◌}
+use Rattle.std.specs.Prelude.{◌≡◌, ℕ, ◌≤◌, ◌==◌, Bool, List, [], ◌∷◌, ◌++◌, count_by}
 use Rattle.std.specs.Bool.{MatchBool}
 use Rattle.std.specs.List.{Contains}
 
@@ -20,8 +20,3 @@ AreDistinct items = (x : ℕ) → count_of items x ≤ 1
 abbrev pub Joins : Bool → List ℕ → ℕ → List ℕ → Type 0
 Joins fresh old member new =
     MatchBool fresh ((¬ Contains old member) × (new ≡ old ++ member ∷ [])) (Contains old member × (new ≡ old))
-
--- the marks are those of the members, each of which stands at one place
-pub record IsVisited (marks : List Bool) (order : List ℕ) : Type 0 where
-  pub total : count_by (λ b. b) marks ≡ length order
-  pub counted : (x : ℕ) → count_of order x ≡ (if slice_index_or marks x false then 1 else 0)

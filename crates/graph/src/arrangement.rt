@@ -3,10 +3,10 @@
 ghost use Rattle.std.specs.Prelude.{◌<◌, length, IfOk, MatchOption};
 ghost use Rattle.std.specs.List.{All, Contains};
 ghost use Rattle.graph.specs.Answer.{Arranges};
-ghost use Rattle.graph.specs.Order.{ComesAfter, ComesAfterOrCircles};
+ghost use Rattle.graph.specs.Order.{ComesAfter, ComesAfterOrCycles};
 ghost use Rattle.graph.specs.Reaches.{OnCycle};
 
-use crate::circle::least_on_cycle;
+use crate::cycle::least_on_cycle;
 use crate::graph::Graph;
 use crate::visited::Visited;
 use crate::walk::order;
@@ -18,7 +18,7 @@ pub enum Arrangement {
     /// Each vertex once, after all of its successors.
     Order(Vec<usize>),
     /// The least vertex that is on a cycle.
-    Circle(usize),
+    Cycle(usize),
 }
 
 /// The first of a row that is not finished.
@@ -42,7 +42,7 @@ fn first_on_cycle(
     order: &[usize],
 ) -> Result<Option<usize>, AllocError>
     requires within { All (λ v. v < length graph.now) order.now }
-    requires after { ComesAfterOrCircles graph.now order.now }
+    requires after { ComesAfterOrCycles graph.now order.now }
     ensures { IfOk result (λ found. MatchOption found (ComesAfter graph.now order.now) (OnCycle graph.now)) }
 {
     let mut finished = Visited::new(alloc, graph.len())?;
@@ -58,6 +58,9 @@ fn first_on_cycle(
 }
 
 /// All vertices, each after its successors, or the least vertex on a cycle.
+///
+/// # Errors
+/// Where memory runs out.
 pub fn arrange(alloc: Global, graph: &Graph) -> Result<Arrangement, AllocError>
     ensures { IfOk result (Arranges graph.now) }
 {
@@ -66,7 +69,7 @@ pub fn arrange(alloc: Global, graph: &Graph) -> Result<Arrangement, AllocError>
         None => Ok(Arrangement::Order(order)),
         Some(known) => {
             let vertex = least_on_cycle(alloc, graph, order.as_slice(), known)?;
-            Ok(Arrangement::Circle(vertex))
+            Ok(Arrangement::Cycle(vertex))
         }
     }
 }

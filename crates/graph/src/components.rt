@@ -2,7 +2,7 @@
 
 ghost use Rattle.std.specs.Prelude.{◌≡◌, ℕ, ◌<◌, ◌≤◌, ◌↔◌, length, slice_index, IsTrue, IfOk};
 ghost use Rattle.std.specs.List.{All};
-ghost use Rattle.graph.specs.Components.{NeverFalls};
+ghost use Rattle.graph.specs.steps.Components.{NeverFalls};
 ghost use Rattle.graph.specs.Reaches.{OnCycle};
 
 use crate::graph::Graph;
@@ -129,7 +129,8 @@ fn never_falls(graph: &Graph, numbers: &[usize]) -> bool
 
 /// A number for each vertex, such that no edge leads to a lower one. So vertices on a common cycle have one number.
 ///
-/// From an order in which successors come first but on cycles, no other vertices share a number. Only time rests on that.
+/// From an order in which successors come first but on cycles, no other vertices share a number. Only time rests on
+/// that.
 pub(crate) fn component_numbers(
     alloc: Global,
     graph: &Graph,

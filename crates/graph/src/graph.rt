@@ -26,6 +26,9 @@ impl Model for Graph {
 
 impl Graph {
     /// So many vertices, and no edge.
+    ///
+    /// # Errors
+    /// Where memory runs out.
     pub fn new(alloc: Global, count: usize) -> Result<Graph, AllocError>
         ensures rows { IfOk result (λ graph. graph ≡ replicate count []) }
         ensures len { IfOk result (λ graph. length graph ≡ count) }
@@ -36,6 +39,9 @@ impl Graph {
     }
 
     /// Adds an edge, after those that the vertex has.
+    ///
+    /// # Errors
+    /// Where memory runs out; the graph is as it was.
     pub fn add(&mut self, from: usize, to: usize) -> Result<(), AllocError>
         requires from { from < length self.old }
         requires to { to < length self.old }

@@ -2,15 +2,15 @@
 #![tactic(auto)]
 
 mod arrangement;
-mod circle;
 mod components;
+mod cycle;
 mod graph;
 mod search;
 mod visited;
 mod walk;
 
 pub use arrangement::{Arrangement, arrange};
-pub use circle::is_on_cycle;
+pub use cycle::is_on_cycle;
 pub use graph::Graph;
 pub use search::{reach, reach_all};
 pub use visited::Visited;

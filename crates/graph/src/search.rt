@@ -2,7 +2,7 @@
 
 ghost use Rattle.std.specs.Prelude.{◌≡◌, ℕ, ◌<◌, ◌↔◌, length, IfOk, OnOk};
 ghost use Rattle.std.specs.List.{All, Contains};
-ghost use Rattle.graph.specs.Adds.{Adds};
+ghost use Rattle.graph.specs.steps.Adds.{Adds};
 ghost use Rattle.graph.specs.Reaches.{Reaches, IsReached};
 ghost use Rattle.graph.specs.Seen.{AreDistinct};
 
@@ -23,6 +23,9 @@ pub(crate) fn visit(row: &[usize], seen: &mut Visited) -> Result<(), AllocError>
 }
 
 /// The vertices that some of these reach, along no edge or more.
+///
+/// # Errors
+/// Where memory runs out.
 pub fn reach_all(alloc: Global, graph: &Graph, from: &[usize]) -> Result<Visited, AllocError>
     requires { All (λ v. v < length graph.now) from.now }
     ensures limit { IfOk result (λ seen. seen.limit ≡ length graph.now) }
@@ -41,6 +44,9 @@ pub fn reach_all(alloc: Global, graph: &Graph, from: &[usize]) -> Result<Visited
 }
 
 /// The vertices that a vertex reaches, along no edge or more.
+///
+/// # Errors
+/// Where memory runs out.
 pub fn reach(alloc: Global, graph: &Graph, from: usize) -> Result<Visited, AllocError>
     requires { from < length graph.now }
     ensures limit { IfOk result (λ seen. seen.limit ≡ length graph.now) }

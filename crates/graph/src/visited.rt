@@ -17,7 +17,8 @@ pub struct Visited {
 
 impl Model for Visited {
     ghost use Rattle.std.specs.Prelude.{length};
-    ghost use Rattle.graph.specs.Seen.{Seen, IsVisited};
+    ghost use Rattle.graph.specs.Seen.{Seen};
+    ghost use Rattle.graph.specs.steps.Marks.{IsVisited};
 
     ghost Value = { Seen };
 
@@ -28,6 +29,9 @@ impl Model for Visited {
 
 impl Visited {
     /// No members, of the numbers below a limit.
+    ///
+    /// # Errors
+    /// Where memory runs out.
     pub fn new(alloc: Global, limit: usize) -> Result<Visited, AllocError>
         ensures items { IfOk result (λ v. v.items ≡ []) }
         ensures limit { IfOk result (λ v. v.limit ≡ limit) }
@@ -65,6 +69,9 @@ impl Visited {
     }
 
     /// Adds a member, and says whether it is new.
+    ///
+    /// # Errors
+    /// Where memory runs out; the members are as they were.
     pub fn add(&mut self, member: usize) -> Result<bool, AllocError>
         requires { member < self.old.limit }
         ensures limit { self.new.limit ≡ self.old.limit }

@@ -1,9 +1,10 @@
 //! An order of the vertices, by a walk in depth.
 
-ghost use Rattle.std.specs.Prelude.{◌≡◌, ℕ, ◌+◌, ◌-◌, ◌*◌, ◌<◌, ◌≤◌, [], ◌∷◌, ◌++◌, length, replicate, slice_index, IfOk, OnOk, vec_len};
+ghost use Rattle.std.specs.Prelude.{◌≡◌, ℕ, ◌+◌, ◌-◌, ◌*◌, ◌<◌, ◌≤◌, [], ◌∷◌, ◌++◌, length, replicate, slice_index};
+ghost use Rattle.std.specs.Prelude.{IfOk, OnOk, vec_len};
 ghost use Rattle.std.specs.List.{Contains};
 ghost use Rattle.graph.specs.Order.{IsPostorder};
-ghost use Rattle.graph.specs.Walking.{Walking};
+ghost use Rattle.graph.specs.steps.Walking.{Walking};
 
 use crate::graph::Graph;
 use crate::visited::Visited;
@@ -43,7 +44,8 @@ fn step(walk: &mut Walk, graph: &Graph) -> Result<(), AllocError>
     requires limit { walk.old.seen.limit ≡ length graph.now }
     requires passed { length walk.old.passed.items ≡ length graph.now }
     requires open { 0 < vec_len walk.old.path }
-    requires walking { Walking graph.now walk.old.seen.items walk.old.path.items walk.old.passed.items walk.old.finished.items }
+    requires walking { Walking graph.now walk.old.seen.items walk.old.path.items walk.old.passed.items
+        walk.old.finished.items }
     ensures limit { walk.new.seen.limit ≡ length graph.now }
     ensures passed { length walk.new.passed.items ≡ length graph.now }
     ensures keeps { OnOk result ((x : ℕ) → Contains walk.old.seen.items x → Contains walk.new.seen.items x) }
@@ -127,7 +129,8 @@ fn walk_from(walk: &mut Walk, graph: &Graph, root: usize) -> Result<(), AllocErr
     ensures empty { OnOk result (walk.new.path.items ≡ []) }
     ensures has { OnOk result (Contains walk.new.seen.items root) }
     ensures keeps { OnOk result ((x : ℕ) → Contains walk.old.seen.items x → Contains walk.new.seen.items x) }
-    ensures walking { OnOk result (Walking graph.now walk.new.seen.items [] walk.new.passed.items walk.new.finished.items) }
+    ensures walking { OnOk result
+        (Walking graph.now walk.new.seen.items [] walk.new.passed.items walk.new.finished.items) }
 {
     enter(walk, graph, root)?;
     while !walk.path.is_empty() {
@@ -171,6 +174,9 @@ impl Walk {
 }
 
 /// Each vertex once, after its successors, but for those that reach it.
+///
+/// # Errors
+/// Where memory runs out.
 pub fn order(alloc: Global, graph: &Graph) -> Result<Vec<usize>, AllocError>
     ensures { IfOk result (λ order. IsPostorder graph.now order.items) }
 {

@@ -1,4 +1,7 @@
-pub mod References
-pub mod Entries
-pub mod Tables
-pub mod Programs
+pub mod Search
+pub mod MemberLookup
+pub mod Resolution
+pub mod Initialization
+pub mod Texts
+pub mod Hierarchies
+pub mod steps

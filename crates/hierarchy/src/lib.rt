@@ -1,20 +1,21 @@
-//! Links class files into one program: numbers, parents, resolution, selection and the order of initialization
-//! (JVMS SE 8, chapter 5).
+//! Members of classes: resolution of references, selection of methods, and the order of initialization (JVMS SE 8,
+//! 5.4.3, 5.5; 6.5, invokevirtual).
 #![tactic(auto)]
 
-mod assembly;
-pub mod class;
-mod entries;
-pub mod entry;
-mod lookup;
-mod methods;
-pub mod program;
-mod references;
-mod slots;
-mod statics;
-
-pub use assembly::link;
-pub use loading::fault::{BadParent, LinkFault};
-pub use loading::links_or_fails;
-pub use resolution::built_in::{BuiltInMethod, Printed};
-pub use resolution::member::{Field, Method, Unresolved};
+pub mod class_lists;
+mod defaults;
+pub mod hierarchy;
+pub mod initialization;
+mod joined;
+pub mod member;
+mod member_index;
+mod member_table;
+mod resolve_field;
+mod resolve_method;
+mod search;
+mod select;
+pub mod superclasses;
+pub mod superinterfaces;
+pub mod texts;
+pub mod uniqueness;
+mod wanted;

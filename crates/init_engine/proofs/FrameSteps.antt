@@ -7,13 +7,14 @@ use Rattle.vm_state.specs.Segments.{frames_in}
 use Rattle.vm_state.specs.Stacks.{segment_of, levels_of}
 use Rattle.semantics.specs.Rows.{Needs, Waits}
 use Rattle.semantics.specs.Steps.{Going, begins, instructed, step_thread}
-use Rattle.hierarchy.specs.Tables.{Tables}
+use Rattle.program.specs.Tables.{Tables}
 use Rattle.machine.specs.Effects.{going, run_innermost}
 use Rattle.machine.specs.Linked.{program_of}
 
 pub frame_steps : (P : Tables) (s : Frames) (sh : SharedState) → IsSome s.segment →
     step_thread (program_of P) s.thread sh (going s)
-    ≡ instructed (program_of P) sh s.thread (segment_of s) (levels_of s) (run_innermost P s.thread sh (segment_of s) (levels_of s))
+    ≡ instructed (program_of P) sh s.thread (segment_of s) (levels_of s)
+    (run_innermost P s.thread sh (segment_of s) (levels_of s))
 unfolding step_thread
 frame_steps P s sh is = by_segment s.segment is
   where
@@ -26,7 +27,8 @@ frame_steps P s sh is = by_segment s.segment is
 
 pub needs_steps : (P : Tables) (s : Frames) (sh : SharedState) (c : ℕ) → IsSome s.segment →
     run_innermost P s.thread sh (segment_of s) (levels_of s) ≡ Needs c →
-    step_thread (program_of P) s.thread sh (going s) ≡ Some (begins (program_of P) sh s.thread c (segment_of s) (levels_of s))
+    step_thread (program_of P) s.thread sh (going s)
+    ≡ Some (begins (program_of P) sh s.thread c (segment_of s) (levels_of s))
 needs_steps P s sh c is led =
     frame_steps P s sh is ∙ ap (instructed (program_of P) sh s.thread (segment_of s) (levels_of s)) led
 

@@ -1,7 +1,8 @@
 pub mod FrameSteps
 pub mod RoundLemmas
-pub mod Rows
+pub mod MapLemmas
 pub mod StartLemmas
-pub mod Stints
+pub mod ScheduleLemmas
 pub mod StretchRuns
+pub mod ThreadLemmas
 pub mod WorldSteps

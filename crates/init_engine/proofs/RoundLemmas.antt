@@ -1,18 +1,24 @@
 -- Rounds one after the other are turns, and turns are runs.
-use Rattle.std.proofs.Common.{◌≡◌, ◌≢◌, ℕ, zero, suc, Some, replicate, ◌+◌, ◌-◌, ◌<◌, ◌≤◌, ◌⊎◌, inl, inr, true, false, List, [], ◌∷◌, ◌++◌, length, refl, sym, ap, subst, ◌∙◌, arith, append_assoc, append-nil, length-append}
+use Rattle.std.proofs.Common.{◌≡◌, ◌≢◌, ℕ, zero, suc, Some, None, replicate, ◌+◌, ◌-◌, ◌<◌, ◌≤◌, ◌⊎◌, inl, inr, List}
+use Rattle.std.proofs.Common.{[], ◌∷◌, ◌++◌, length, refl, sym, ap, subst, ◌∙◌, arith, append_assoc, append-nil}
+use Rattle.std.proofs.Common.{length-append}
 use Rattle.std.proofs.lemmas.List.{length-replicate}
 use Rattle.semantics.specs.Programs.{Program}
 use Rattle.semantics.specs.Worlds.{World, Run, step}
-use Rattle.semantics.proofs.Runs.{runs_join_lem, run_more}
-use Rattle.init_engine.specs.Rounds.{Asked, nobody, steps, passes, Turns, idle, limited, goes_on, IsAsking, IsAskedSo, IsRound, IsStride}
+use Rattle.semantics.proofs.RunsLemmas.{runs_join_lem, run_more}
+use Rattle.init_engine.specs.Rounds.{Asked, nobody, steps, passes, Turns, idle, limited, goes_on}
+use Rattle.init_engine.specs.declared.world.Turn.TheVariants.{Moved, Waiting, Ended}
+use Rattle.init_engine.specs.steps.Rounds.{IsAsking, IsAskedSo, IsRound, IsStretch}
 
 -- ---- one round
 
 pub asked_nobody : (P : Program) (w : World) (most : ℕ) (before : List ℕ) → IsAskedSo P w most 0 0 w before before
-asked_nobody P w most before = record { round = []; are_asked = nobody; counted = refl; recorded = sym (append-nil before) }
+asked_nobody P w most before =
+    record { round = []; are_asked = nobody; counted = refl; recorded = sym (append-nil before) }
 
-pub asked_moved : (P : Program) (first w new : World) (most t done : ℕ) (before now after : List ℕ) → IsAskedSo P first most t done w before now → done < most →
-    IsAsking P w t true new now after → IsAskedSo P first most (t + 1) (done + 1) new before after
+pub asked_moved : (P : Program) (first w new : World) (most t done : ℕ) (before now after : List ℕ)
+    → IsAskedSo P first most t done w before now → done < most →
+    IsAsking P w t Moved new now after → IsAskedSo P first most (t + 1) (done + 1) new before after
 asked_moved P first w new most t done before now after so room (stepped, recorded) =
     let fewer : length so.round < most = omega (arith, so.counted) in
     record {
@@ -22,16 +28,28 @@ asked_moved P first w new most t done before now after so room (stepped, recorde
       recorded = recorded ∙ (ap (λ r. r ++ t ∷ []) so.recorded ∙ append_assoc before so.round (t ∷ []));
     }
 
-pub asked_passed : (P : Program) (first w new : World) (most t done : ℕ) (before now after : List ℕ) → IsAskedSo P first most t done w before now → done < most →
-    IsAsking P w t false new now after → IsAskedSo P first most (t + 1) done new before after
+asked_passed : (P : Program) (first w new : World) (most t done : ℕ) (before now after : List ℕ) →
+    IsAskedSo P first most t done w before now → done < most →
+    (step P w t ≡ None) × (new ≡ w) × (after ≡ now) → IsAskedSo P first most (t + 1) done new before after
 asked_passed P first w new most t done before now after so room (stands, same, recorded) =
     let fewer : length so.round < most = omega (arith, so.counted) in
     record {
       round = so.round;
-      are_asked = subst (λ (v : World). Asked P first most (t + 1) so.round v) (sym same) (passes so.are_asked fewer stands);
+      are_asked =
+          subst (λ (v : World). Asked P first most (t + 1) so.round v) (sym same) (passes so.are_asked fewer stands);
       counted = so.counted;
       recorded = recorded ∙ so.recorded;
     }
+
+pub asked_waiting : (P : Program) (first w new : World) (most t done : ℕ) (before now after : List ℕ) →
+    IsAskedSo P first most t done w before now → done < most → IsAsking P w t Waiting new now after →
+    IsAskedSo P first most (t + 1) done new before after
+asked_waiting = asked_passed
+
+pub asked_ended : (P : Program) (first w new : World) (most t done : ℕ) (before now after : List ℕ) →
+    IsAskedSo P first most t done w before now → done < most → IsAsking P w t Ended new now after →
+    IsAskedSo P first most (t + 1) done new before after
+asked_ended = asked_passed
 
 -- ---- rounds one after the other
 
@@ -44,114 +62,153 @@ pub go_on_from_start : (P : Program) (count limit : ℕ) (w : World) → GoOn P 
 go_on_from_start P count limit w rest last turns = turns
 
 -- a round without a step
-idle_as : (P : Program) (count left : ℕ) (w last : World) (round : List ℕ) → length round ≡ 0 → Asked P w left count round last → Turns P count left w round last
+idle_as : (P : Program) (count left : ℕ) (w last : World) (round : List ℕ) → length round ≡ 0
+    → Asked P w left count round last → Turns P count left w round last
 idle_as P count left w last [] is asked = idle asked
 idle_as P count left w last (t ∷ ts) is asked = absurd (omega (arith, is))
 
 -- a last round
-ended : (P : Program) (count left done : ℕ) (w last : World) (before after : List ℕ) (r : IsRound P w left count done last before after) → (done ≡ 0) ⊎ (done ≡ left) →
+last_round_ends : (P : Program) (count left done : ℕ) (w last : World) (before after : List ℕ)
+    (r : IsRound P w left count done last before after) → (done ≡ 0) ⊎ (done ≡ left) →
     Turns P count left w r.is.round last
-ended P count left done w last before after r (inr is) = limited r.is.are_asked r.within (r.is.counted ∙ is)
-ended P count left done w last before after r (inl is) = elim r.complete [
+last_round_ends P count left done w last before after r (inr is) = limited r.is.are_asked r.within (r.is.counted ∙ is)
+last_round_ends P count left done w last before after r (inl is) = elim r.complete [
   | inl full ↦ limited r.is.are_asked r.within (r.is.counted ∙ full)
-  | inr all ↦ idle_as P count left w last r.is.round (r.is.counted ∙ is) (subst (λ k. Asked P w left k r.is.round last) all r.is.are_asked)
+  | inr all ↦ idle_as P count left w last r.is.round (r.is.counted ∙ is)
+      (subst (λ k. Asked P w left k r.is.round last) all r.is.are_asked)
 ]
 
-pub turns_end : (P : Program) (count limit left done : ℕ) (first w last : World) (before after : List ℕ) → GoOn P count limit first left w before → IsRound P w left count done last before after →
+pub turns_end : (P : Program) (count limit left done : ℕ) (first w last : World) (before after : List ℕ)
+    → GoOn P count limit first left w before → IsRound P w left count done last before after →
     (done ≡ 0) ⊎ (done ≡ left) → Turns P count limit first after last
 turns_end P count limit left done first w last before after on r stop =
-    subst (λ (s : List ℕ). Turns P count limit first s last) (sym r.is.recorded) (on r.is.round last (ended P count left done w last before after r stop))
+    subst (λ (s : List ℕ). Turns P count limit first s last) (sym r.is.recorded)
+    (on r.is.round last (last_round_ends P count left done w last before after r stop))
 
 all_asked : (asked count done left : ℕ) → (done ≡ left) ⊎ (asked ≡ count) → done ≢ left → asked ≡ count
 all_asked asked count done left (inl full) more = absurd (more full)
 all_asked asked count done left (inr all) more = all
 
 -- a round before others
-pub turns_go_on : (P : Program) (count limit left done : ℕ) (first w next : World) (before after : List ℕ) → GoOn P count limit first left w before → IsRound P w left count done next before after →
+pub turns_go_on : (P : Program) (count limit left done : ℕ) (first w next : World) (before after : List ℕ)
+    → GoOn P count limit first left w before → IsRound P w left count done next before after →
     done ≢ 0 → done ≢ left → GoOn P count limit first (left - done) next after
 turns_go_on P count limit left done first w next before after on r some more rest last turns =
     let round = r.is.round in
-    let asked = subst (λ k. Asked P w left k round next) (all_asked r.asked count done left r.complete more) r.is.are_asked in
+    let asked = subst (λ k. Asked P w left k round next) (all_asked r.asked count done left r.complete more)
+    r.is.are_asked in
     let steps_done : 0 < length round = omega (arith, r.is.counted, some) in
     let later = subst (λ k. Turns P count (left - k) next rest last) (sym r.is.counted) turns in
-    let joined : before ++ (round ++ rest) ≡ after ++ rest = sym (append_assoc before round rest) ∙ ap (λ s. s ++ rest) (sym r.is.recorded) in
-    subst (λ (s : List ℕ). Turns P count limit first s last) joined (on (round ++ rest) last (goes_on asked steps_done later))
+    let joined : before ++ (round ++ rest) ≡ after ++ rest = sym (append_assoc before round rest)
+    ∙ ap (λ s. s ++ rest) (sym r.is.recorded) in
+    subst (λ (s : List ℕ). Turns P count limit first s last) joined
+    (on (round ++ rest) last (goes_on asked steps_done later))
 
 -- ---- turns are runs
 
-run_of_asked : {P : Program} {first : World} {most t : ℕ} {schedule : List ℕ} {now : World} → Asked P first most t schedule now → Run P first schedule now
+run_of_asked : {P : Program} {first : World} {most t : ℕ} {schedule : List ℕ} {now : World}
+    → Asked P first most t schedule now → Run P first schedule now
 run_of_asked nobody = refl
-run_of_asked {P} {first} (steps {t} {schedule} {w} {new} asked room stepped) = run_more P first w new schedule t (run_of_asked asked) stepped
+run_of_asked {P} {first} (steps {t} {schedule} {w} {new} asked room stepped) =
+    run_more P first w new schedule t (run_of_asked asked) stepped
 run_of_asked (passes asked room stands) = run_of_asked asked
 
-pub run_of_turns : {P : Program} {count most : ℕ} {first : World} {schedule : List ℕ} {last : World} → Turns P count most first schedule last → Run P first schedule last
+pub run_of_turns : {P : Program} {count most : ℕ} {first : World} {schedule : List ℕ} {last : World}
+    → Turns P count most first schedule last → Run P first schedule last
 run_of_turns (idle asked) = run_of_asked asked
 run_of_turns (limited asked within reached) = run_of_asked asked
-run_of_turns {P} (goes_on {most} {w} {next} {last} {round} {rest} asked some turns) = runs_join_lem P w next last round rest (run_of_asked asked) (run_of_turns turns)
+run_of_turns {P} (goes_on {most} {w} {next} {last} {round} {rest} asked some turns) =
+    runs_join_lem P w next last round rest (run_of_asked asked) (run_of_turns turns)
 
 -- ---- for the loops
 
 pub room_left : (done most : ℕ) → done ≤ most → done ≢ most → done < most
 room_left done most h apart = omega arith
 
-pub round_counts : (P : Program) (w last : World) (left count done : ℕ) (before after : List ℕ) → IsRound P w left count done last before after → length after ≡ length before + done
-round_counts P w last left count done before after r = omega (arith, ap length r.is.recorded, length-append before r.is.round, r.is.counted)
+pub round_counts : (P : Program) (w last : World) (left count done : ℕ) (before after : List ℕ)
+    → IsRound P w left count done last before after → length after ≡ length before + done
+round_counts P w last left count done before after r =
+    omega (arith, ap length r.is.recorded, length-append before r.is.round, r.is.counted)
 
-either : (done left : ℕ) → (done ≡ 0) ⊎ ((done ≢ 0) × (done ≡ left)) → (done ≡ 0) ⊎ (done ≡ left)
-either done left (inl none) = inl none
-either done left (inr (some, all)) = inr all
+none_or_all : (done left : ℕ) → (done ≡ 0) ⊎ ((done ≢ 0) × (done ≡ left)) → (done ≡ 0) ⊎ (done ≡ left)
+none_or_all done left (inl none) = inl none
+none_or_all done left (inr (some, all)) = inr all
 
-pub last_round : (P : Program) (count threads limit left done : ℕ) (first w last : World) (before after : List ℕ) → threads ≡ count → GoOn P count limit first left w before →
-    IsRound P w left threads done last before after → (done ≡ 0) ⊎ ((done ≢ 0) × (done ≡ left)) → Turns P count limit first after last
+pub last_round : (P : Program) (count threads limit left done : ℕ) (first w last : World) (before after : List ℕ)
+    → threads ≡ count → GoOn P count limit first left w before →
+    IsRound P w left threads done last before after → (done ≡ 0) ⊎ ((done ≢ 0) × (done ≡ left))
+    → Turns P count limit first after last
 last_round P count threads limit left done first w last before after is on r stop =
-    turns_end P count limit left done first w last before after on (subst (λ k. IsRound P w left k done last before after) is r) (either done left stop)
+    turns_end P count limit left done first w last before after on
+    (subst (λ k. IsRound P w left k done last before after) is r) (none_or_all done left stop)
 
--- ---- strides of the only thread
+-- ---- stretches of the only thread
 
 none_less : (n : ℕ) → n - 0 ≡ n
 none_less n = omega arith
 
-one_round : (P : Program) (left : ℕ) (w next : World) → 0 < left → step P w 0 ≡ Some next → Asked P w left 1 (0 ∷ []) next
+one_round : (P : Program) (left : ℕ) (w next : World) → 0 < left → step P w 0 ≡ Some next
+    → Asked P w left 1 (0 ∷ []) next
 one_round P left w next room stepped = steps nobody room stepped
 
-stride_turns : (P : Program) (n left : ℕ) (w now last : World) (rest : List ℕ) → Run P w (replicate n 0) now → n ≤ left → Turns P 1 (left - n) now rest last →
+stretch_turns : (P : Program) (n left : ℕ) (w now last : World) (rest : List ℕ) → Run P w (replicate n 0) now → n ≤ left
+    → Turns P 1 (left - n) now rest last →
     Turns P 1 left w (replicate n 0 ++ rest) last
-stride_turns P zero left w now last rest run fits turns = subst (λ (v : World). Turns P 1 left v rest last) (sym run) (subst (λ k. Turns P 1 k now rest last) (none_less left) turns)
-stride_turns P (suc n) left w now last rest run fits turns =
+stretch_turns P zero left w now last rest run fits turns = subst (λ (v : World). Turns P 1 left v rest last) (sym run)
+    (subst (λ k. Turns P 1 k now rest last) (none_less left) turns)
+stretch_turns P (suc n) left w now last rest run fits turns =
     let next = run.0 in
     let room : 0 < left = omega (arith, fits) in
     let less : n ≤ left - 1 = omega (arith, fits) in
     let further : left - suc n ≡ left - 1 - n = omega (arith, fits) in
-    let later = stride_turns P n (left - 1) next now last rest run.2 less (subst (λ k. Turns P 1 k now rest last) further turns) in
+    let later =
+    stretch_turns P n (left - 1) next now last rest run.2 less
+    (subst (λ k. Turns P 1 k now rest last) further turns) in
     let some : 0 < 1 = omega arith in
     goes_on (one_round P left w next room run.1) some later
 
--- a stride before rounds
-alone_goes_on : (P : Program) (count limit left n : ℕ) (first w now : World) (before after : List ℕ) → GoOn P count limit first left w before → Run P w (replicate n 0) now → after ≡ before ++ replicate n 0 →
+-- a stretch before rounds
+alone_goes_on : (P : Program) (count limit left n : ℕ) (first w now : World) (before after : List ℕ)
+    → GoOn P count limit first left w before → Run P w (replicate n 0) now → after ≡ before ++ replicate n 0 →
     n ≤ left → (n ≡ 0) ⊎ (count ≡ 1) → GoOn P count limit first (left - n) now after
 alone_goes_on P count limit left zero first w now before after on run recorded fits alone rest last turns =
     let whole : after ≡ before = recorded ∙ append-nil before in
-    rw whole (on rest last (subst (λ (v : World). Turns P count left v rest last) (sym run) (subst (λ k. Turns P count k now rest last) (none_less left) turns)))
-alone_goes_on P count limit left (suc n) first w now before after on run recorded fits (inl none) rest last turns = absurd (omega (arith, none))
+    rw whole
+    (on rest last
+    (subst (λ (v : World). Turns P count left v rest last) (sym run)
+    (subst (λ k. Turns P count k now rest last) (none_less left) turns)))
+alone_goes_on P count limit left (suc n) first w now before after on run recorded fits (inl none) rest last turns =
+    absurd (omega (arith, none))
 alone_goes_on P count limit left (suc n) first w now before after on run recorded fits (inr one) rest last turns =
-    let strides = stride_turns P (suc n) left w now last rest run fits (subst (λ k. Turns P k (left - suc n) now rest last) one turns) in
-    let joined : before ++ (replicate (suc n) 0 ++ rest) ≡ after ++ rest = sym (append_assoc before (replicate (suc n) 0) rest) ∙ ap (λ s. s ++ rest) (sym recorded) in
+    let stretches =
+    stretch_turns P (suc n) left w now last rest run fits
+    (subst (λ k. Turns P k (left - suc n) now rest last) one turns) in
+    let joined : before ++ (replicate (suc n) 0 ++ rest) ≡ after ++ rest =
+    sym (append_assoc before (replicate (suc n) 0) rest) ∙ ap (λ s. s ++ rest) (sym recorded) in
     subst (λ (s : List ℕ). Turns P count limit first s last) joined
-    (on (replicate (suc n) 0 ++ rest) last (subst (λ k. Turns P k left w (replicate (suc n) 0 ++ rest) last) (sym one) strides))
+    (on (replicate (suc n) 0 ++ rest) last
+    (subst (λ k. Turns P k left w (replicate (suc n) 0 ++ rest) last) (sym one) stretches))
 
-pub stride_goes_on : (P : Program) (count threads limit left n : ℕ) (first w now : World) (before after : List ℕ) → threads ≡ count → GoOn P count limit first left w before →
-    IsStride P threads w left n now before after → GoOn P count limit first (left - n) now after
-stride_goes_on P count threads limit left n first w now before after is on s =
-    alone_goes_on P count limit left n first w now before after on s.run s.recorded s.bounded (subst (λ k. (n ≡ 0) ⊎ (k ≡ 1)) is s.alone)
+pub stretch_goes_on : (P : Program) (count threads limit left n : ℕ) (first w now : World) (before after : List ℕ)
+    → threads ≡ count → GoOn P count limit first left w before →
+    IsStretch P threads w left n now before after → GoOn P count limit first (left - n) now after
+stretch_goes_on P count threads limit left n first w now before after is on s =
+    alone_goes_on P count limit left n first w now before after on s.run s.recorded s.bounded
+    (subst (λ k. (n ≡ 0) ⊎ (k ≡ 1)) is s.alone)
 
-pub stride_counts : (P : Program) (count left n : ℕ) (first now : World) (before after : List ℕ) → IsStride P count first left n now before after → length after ≡ length before + n
-stride_counts P count left n first now before after s = omega (arith, ap length s.recorded, length-append before (replicate n 0), length-replicate {A = ℕ} n 0)
+pub stretch_counts : (P : Program) (count left n : ℕ) (first now : World) (before after : List ℕ)
+    → IsStretch P count first left n now before after → length after ≡ length before + n
+stretch_counts P count left n first now before after s =
+    omega (arith, ap length s.recorded, length-append before (replicate n 0), length-replicate {A = ℕ} n 0)
 
-pub no_stride : (P : Program) (count most : ℕ) (w : World) (before : List ℕ) → IsStride P count w most 0 w before before
-no_stride P count most w before =
+pub no_stretch : (P : Program) (count most : ℕ) (w : World) (before : List ℕ)
+    → IsStretch P count w most 0 w before before
+no_stretch P count most w before =
     let bounded : 0 ≤ most = omega arith in
     record { run = refl; recorded = sym (append-nil before); bounded = bounded; alone = inl refl }
 
-pub a_stride : (P : Program) (count most done : ℕ) (w now : World) (before after : List ℕ) → count ≡ 1 → Run P w (replicate done 0) now → after ≡ before ++ replicate done 0 → done ≤ most →
-    IsStride P count w most done now before after
-a_stride P count most done w now before after one run recorded bounded = record { run = run; recorded = recorded; bounded = bounded; alone = inr one }
+pub one_stretch : (P : Program) (count most done : ℕ) (w now : World) (before after : List ℕ) → count ≡ 1
+    → Run P w (replicate done 0) now → after ≡ before ++ replicate done 0 → done ≤ most →
+    IsStretch P count w most done now before after
+one_stretch P count most done w now before after one run recorded bounded =
+    record { run = run; recorded = recorded; bounded = bounded; alone = inr one }

@@ -1,5 +1,6 @@
 -- Instructions in a row after each of which a thread goes on in one frame are a run.
-use Rattle.std.proofs.Common.{◌≡◌, ℕ, zero, suc, ◌<◌, List, [], ◌∷◌, Option, Some, None, length, get_or, slice_get, slice_set}
+use Rattle.std.proofs.Common.{◌≡◌, ℕ, zero, suc, ◌<◌, List, [], ◌∷◌, Option, Some, None, length, get_or, slice_get}
+use Rattle.std.proofs.Common.{slice_set}
 use Rattle.std.proofs.Common.{replicate, refl, sym, ap, subst, ◌∙◌}
 use Rattle.std.proofs.lemmas.List.{map-set}
 use Rattle.std.proofs.lemmas.Option.{slice_get-get_or}
@@ -8,26 +9,30 @@ use Rattle.vm_state.specs.declared.frame.Activity.{Activity}
 use Rattle.vm_state.specs.declared.frame.Segment.{Segment}
 use Rattle.vm_state.specs.declared.initialization.Level.{Level}
 use Rattle.vm_state.specs.declared.initialization.Frames.{Frames}
-use Rattle.vm_state.specs.declared.shared.Shared.{Shared}
+use Rattle.vm_state.specs.SharedTables.{SharedTables}
 use Rattle.vm_state.specs.declared.text.Line.{Line}
 use Rattle.vm_state.specs.SharedState.{SharedState}
 use Rattle.vm_state.specs.Shares.{shared_of}
 use Rattle.vm_state.specs.Stacks.{levels_of}
-use Rattle.semantics.specs.Moves.{kept}
 use Rattle.semantics.specs.Steps.{Thread as DefinedThread, Going as IsGoingOn, After, step_thread, instructed, maker_of}
 use Rattle.semantics.specs.Worlds.{World, Run, step_of, put_thread}
-use Rattle.hierarchy.specs.Tables.{Tables}
+use Rattle.program.specs.Tables.{Tables}
 use Rattle.machine.specs.Linked.{program_of}
 use Rattle.machine.specs.Stretches.{Here, at, here, goes, stretch}
-use Rattle.machine.proofs.StretchRows.{row_goes}
-use Rattle.machine.proofs.Stretches.{some_of, goes_kept}
+use Rattle.machine.proofs.StretchRowLemmas.{row_goes}
+use Rattle.machine.proofs.StretchesLemmas.{some_of, goes_kept}
 use Rattle.init_engine.specs.declared.world.Thread.{Thread}
 use Rattle.init_engine.specs.declared.world.Thread.TheVariants.{Going, Ended}
 use Rattle.init_engine.specs.Numbering.{AreNumbered}
-use Rattle.init_engine.specs.Threads.{thread_of, AfterStretch, RunsHere}
+use Rattle.init_engine.specs.Threads.{thread_of}
+use Rattle.init_engine.specs.steps.Threads.{AfterStretch, RunsHere}
 use Rattle.init_engine.proofs.WorldSteps.{world_with, thread_at}
 
 -- the frame at its new place is the new frame, since the method is the same
+-- at another's place, with its local variables and operands
+abbrev kept : Frame → Frame → Frame
+kept f g = record f { place = g.place; locals = g.locals; operands = g.operands }
+
 moved_frame : (f g : Frame) → g.activity ≡ f.activity → kept f g ≡ g
 moved_frame f g same = ap (λ (a : Activity). record g { activity = a }) (sym same)
 
@@ -53,7 +58,8 @@ set_twice [] i a b = refl
 set_twice (x ∷ xs) zero a b = refl
 set_twice (x ∷ xs) (suc i) a b = ap (λ r. x ∷ r) (set_twice xs i a b)
 
-get_set : {X : Type 0} (xs : List X) (i : ℕ) (a b : X) → slice_get xs i ≡ Some a → slice_get (slice_set xs i b) i ≡ Some b
+get_set : {X : Type 0} (xs : List X) (i : ℕ) (a b : X) → slice_get xs i ≡ Some a
+    → slice_get (slice_set xs i b) i ≡ Some b
 get_set [] i a b h = cc
 get_set (x ∷ xs) zero a b h = refl
 get_set (x ∷ xs) (suc i) a b h = get_set xs i a b h
@@ -79,10 +85,12 @@ module _ (P : Tables) (t : ℕ) (fs : List Frame) (ls : List Level) where
       let there = slice_set threads t middle in
       let stepped = ap (step_of (program_of P) (world_by sh threads) t) stands
       ∙ ap (put_thread (world_by sh threads) t) (thread_goes P t sh f m fs ls first.1) in
-      let rest = runs_here n m.shared there m.frame r (get_set threads t (IsGoingOn (f ∷ fs) ls) middle stands) first.2 in (
+      let rest = runs_here n m.shared there m.frame r (get_set threads t (IsGoingOn (f ∷ fs) ls) middle stands)
+      first.2 in (
         world_by m.shared there,
         stepped,
-        subst (λ (ts : List DefinedThread). Run (program_of P) (world_by m.shared there) (replicate n t) (world_by r.shared ts))
+        subst (λ (ts : List DefinedThread). Run (program_of P) (world_by m.shared there) (replicate n t)
+            (world_by r.shared ts))
             (set_twice threads t middle (IsGoingOn (r.frame ∷ fs) ls)) rest,
       )
 
@@ -91,7 +99,7 @@ module _ (P : Tables) (t : ℕ) (fs : List Frame) (ls : List Level) where
 abbrev stack_with : Frames → Frame → List Frame → Frames
 stack_with s f fs = record s { segment = Some (record { innermost = f; callers = fs }) }
 
-module _ (P : Tables) (n : ℕ) (threads : List Thread) (before after : Shared) (printed : List Line) (t : ℕ) where
+module _ (P : Tables) (n : ℕ) (threads : List Thread) (before after : SharedTables) (printed : List Line) (t : ℕ) where
   -- a run that leaves this thread so
   abbrev RunsTo : Thread → Type 0
   RunsTo new = Run (program_of P) (world_with threads before printed) (replicate n t)
@@ -102,7 +110,7 @@ module _ (P : Tables) (n : ℕ) (threads : List Thread) (before after : Shared) 
       subst (λ k. Run (program_of P) (world_with threads before printed) (replicate k t)
       (world_with (slice_set threads t old) after printed)) (sym none)
       (ap (λ ts. world_with ts before printed) (set_same threads t old stands)
-      ∙ ap (λ (s : Shared). world_with (slice_set threads t old) s printed) (sym same))
+      ∙ ap (λ (s : SharedTables). world_with (slice_set threads t old) s printed) (sym same))
 
   frame_runs : (s : Frames) (f g : Frame) (fs : List Frame) → slice_get threads t ≡ Some (Going (stack_with s f fs)) →
       stretch P t n (here f before printed) ≡ Some (here g after printed) → RunsTo (Going (stack_with s g fs))
@@ -127,9 +135,11 @@ module _ (P : Tables) (n : ℕ) (threads : List Thread) (before after : Shared) 
       ap (stack_with s a.innermost) (sym callers)
       ∙ (ap (λ (x : Option Segment). record s { segment = x }) (sym is) ∙ sym rest) in
       subst (λ (x : Frames). RunsTo (Going x)) left
-      (frame_runs s b.innermost a.innermost b.callers (stands ∙ ap (λ (x : Frames). Some (Going x)) began) (run printed))
+      (frame_runs s b.innermost a.innermost b.callers (stands ∙ ap (λ (x : Frames). Some (Going x)) began)
+      (run printed))
 
-  thread_runs : (old new : Thread) → slice_get threads t ≡ Some old → AreNumbered threads → RunsHere P n old before new after →
+  thread_runs : (old new : Thread) → slice_get threads t ≡ Some old → AreNumbered threads
+      → RunsHere P n old before new after →
       RunsTo new
   thread_runs (Ended end) new stands numbered (none, same, kept) =
       subst RunsTo (sym same) (nothing_run (Ended end) stands none kept)

@@ -1,7 +1,7 @@
--- Schedules as stints: a thread, and how many steps it made in a row.
+-- Schedules by their runs: a thread, and how many steps it made in a row.
 use Rattle.std.specs.Prelude.{◌≢◌, ℕ, ◌<◌, List, [], ◌∷◌, ◌++◌, replicate}
 
--- the schedule that a list of stints spells
+-- the schedule that a list of runs spells
 abbrev pub schedule_of : List (ℕ × ℕ) → List ℕ
 schedule_of [] = []
 schedule_of (s ∷ ss) = replicate s.1 s.0 ++ schedule_of ss
@@ -11,6 +11,6 @@ BeginsWithOther t [] = Unit {0}
 BeginsWithOther t (s ∷ ss) = t ≢ s.0
 
 -- each has a step at least, and neighbours are of different threads
-abbrev pub AreStints : List (ℕ × ℕ) → Type 0
-AreStints [] = Unit {0}
-AreStints (s ∷ ss) = (0 < s.1) × BeginsWithOther s.0 ss × AreStints ss
+abbrev pub AreRuns : List (ℕ × ℕ) → Type 0
+AreRuns [] = Unit {0}
+AreRuns (s ∷ ss) = (0 < s.1) × BeginsWithOther s.0 ss × AreRuns ss

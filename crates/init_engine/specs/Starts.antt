@@ -1,7 +1,7 @@
 -- The lazy start of one thread.
 use Rattle.std.specs.Prelude.{◌≡◌, ℕ, ◌∷◌, [], IsSome}
 use Rattle.semantics.specs.Worlds.{World, lazy_start}
-use Rattle.hierarchy.specs.Tables.{Tables, main_in}
+use Rattle.program.specs.Tables.{Tables, main_in}
 use Rattle.machine.specs.Linked.{program_of}
 
 -- the start of a thread at some class with a `main` of its own

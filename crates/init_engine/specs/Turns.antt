@@ -1,12 +1,9 @@
 -- Worlds as the definition has them, and what a turn of a thread answers.
-use Rattle.std.specs.Prelude.{◌≡◌, ℕ, List, [], ◌∷◌, map, Option, Some, None, slice_get}
+use Rattle.std.specs.Prelude.{◌≡◌, ℕ, map, Option, Some, None, slice_get}
 use Rattle.vm_state.specs.Shares.{shared_of}
 use Rattle.semantics.specs.Programs.{Program}
 use Rattle.semantics.specs.Steps.{Thread as DefinedThread, Going as IsGoingOn, Ended as HasEnded}
 use Rattle.semantics.specs.Worlds.{World, step}
-use Rattle.vm_state.specs.declared.text.Line.{Line}
-use Rattle.init_engine.specs.declared.world.Done.{Done}
-use Rattle.init_engine.specs.declared.world.Done.TheVariants.{Went, Said, Waits, Over}
 use Rattle.init_engine.specs.declared.world.Turn.{Turn}
 use Rattle.init_engine.specs.declared.world.Turn.TheVariants.{Moved, Waiting, Ended}
 use Rattle.init_engine.specs.Standing.{Standing}
@@ -25,21 +22,9 @@ IsOver None = ⊥
 IsOver (Some (IsGoingOn fs ls)) = ⊥
 IsOver (Some (HasEnded end)) = Unit {0}
 
--- Moved: the thread has a step, and the new world is the one after it. Waiting: it has not ended and has no step. Ended: it has ended.
--- In the latter two the world is as it was.
+-- Moved: the thread has a step, and the new world is the one after it. Waiting: it has not ended and has no step.
+-- Ended: it has ended. In the latter two the world is as it was.
 abbrev pub IsTurn : Program → World → ℕ → Turn → World → Type 0
 IsTurn P w t Moved new = step P w t ≡ Some new
 IsTurn P w t Waiting new = Goes (slice_get w.threads t) × (step P w t ≡ None) × (new ≡ w)
 IsTurn P w t Ended new = IsOver (slice_get w.threads t) × (step P w t ≡ None) × (new ≡ w)
-
--- what a turn answers, by what was done in it
-abbrev pub turn_of : Done → Turn
-turn_of Went = Moved
-turn_of (Said text) = Moved
-turn_of Waits = Waiting
-turn_of Over = Ended
-
--- what was printed in it
-abbrev pub lines_of : ℕ → Done → List Line
-lines_of t (Said text) = record { thread = t; text = text } ∷ []
-lines_of t _ = []

@@ -2,7 +2,7 @@
 #![tactic(auto)]
 
 pub mod fault;
-pub mod procedure;
+mod procedure;
 pub mod schedule;
 pub mod starting;
 mod stuck;

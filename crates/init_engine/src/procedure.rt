@@ -3,21 +3,20 @@
 ghost use Rattle.std.specs.Prelude.{◌≡◌, ◌∷◌, [], List, IfOk, OnOk, OnErr, Some, None, IsSome};
 ghost use Rattle.vm_state.specs.declared.initialization.Level.{Level};
 ghost use Rattle.vm_state.specs.declared.text.Line.{Line};
-ghost use Rattle.vm_state.specs.SharedState.{set_state};
-ghost use Rattle.vm_state.specs.Shares.{shared_of, begun};
+ghost use Rattle.vm_state.specs.Shares.{shared_of, SharesTheSame, SetsState, Begins};
 ghost use Rattle.vm_state.specs.Stacks.{segment_of, levels_of};
-ghost use Rattle.semantics.specs.Steps.{Going, standing, entry_of, finishes, initializes, step_thread};
+ghost use Rattle.semantics.specs.Steps.{Going, standing, initialization_of, finishes, initializes, step_thread};
 ghost use Rattle.machine.specs.Linked.{program_of, initializer_frame};
-ghost use Rattle.hierarchy.specs.Tables.{statics_in};
-ghost use Rattle.init_engine.specs.Progress.{Stands, Steps, StaysPut, left_by_step};
+ghost use Rattle.program.specs.Tables.{statics_in};
+ghost use Rattle.init_engine.specs.steps.Progress.{Stands, Steps, StaysPut, left_by_step};
 
-use hierarchy::program::Program;
 use machine::entering::initializer_frame;
 use machine::{Effect, effect};
+use program::program::Program;
 use std::alloc::{AllocError, Global};
 use vm_state::classes::{ClassState, Usability};
 use vm_state::ends::{End, FaultKind};
-use vm_state::initialization::{Entry, Frames, Parents};
+use vm_state::initialization::{Frames, Initialization, Parents};
 use vm_state::shared::Shared;
 use vm_state::text::Text;
 
@@ -51,16 +50,21 @@ fn begin(
     class: u32,
 ) -> Result<(), AllocError>
     ensures thread { frames.new.thread ≡ frames.old.thread }
-    ensures shared { OnOk result ((p : List Line) → shared_of shared.new p ≡ begun (shared_of shared.old p) class frames.old.thread (statics_in program.now class)) }
+    ensures shared { OnOk result (Begins shared.old shared.new class frames.old.thread (statics_in program.now class)) }
     ensures segment { OnOk result (segment_of frames.new ≡ []) }
-    ensures levels { OnOk result (levels_of frames.new ≡ record { entry = entry_of (program_of program.now) class; under = segment_of frames.old } ∷ levels_of frames.old) }
-    ensures err { OnErr result ((frames.new ≡ frames.old) × ((p : List Line) → shared_of shared.new p ≡ shared_of shared.old p)) }
+    ensures levels { OnOk result
+        (levels_of frames.new ≡ record {
+          initialization = initialization_of (program_of program.now) class;
+          under =
+              segment_of frames.old;
+        } ∷ levels_of frames.old) }
+    ensures err { OnErr result ((frames.new ≡ frames.old) × (SharesTheSame shared.old shared.new)) }
 {
     let left = Parents::of(alloc, program.init_order(class))?;
     let thread = frames.thread;
     frames.enter(
         alloc,
-        Entry {
+        Initialization {
             class,
             left,
             begun: false,
@@ -86,10 +90,15 @@ fn step_begin(
 ) -> Result<Progress, AllocError>
     ensures answer { IfOk result (λ r. r ≡ Progress.Moved) }
     ensures thread { frames.new.thread ≡ frames.old.thread }
-    ensures shared { OnOk result ((p : List Line) → shared_of shared.new p ≡ begun (shared_of shared.old p) class frames.old.thread (statics_in program.now class)) }
+    ensures shared { OnOk result (Begins shared.old shared.new class frames.old.thread (statics_in program.now class)) }
     ensures segment { OnOk result (segment_of frames.new ≡ []) }
-    ensures levels { OnOk result (levels_of frames.new ≡ record { entry = entry_of (program_of program.now) class; under = segment_of frames.old } ∷ levels_of frames.old) }
-    ensures err { OnErr result ((frames.new ≡ frames.old) × ((p : List Line) → shared_of shared.new p ≡ shared_of shared.old p)) }
+    ensures levels { OnOk result
+        (levels_of frames.new ≡ record {
+          initialization = initialization_of (program_of program.now) class;
+          under =
+              segment_of frames.old;
+        } ∷ levels_of frames.old) }
+    ensures err { OnErr result ((frames.new ≡ frames.old) × (SharesTheSame shared.old shared.new)) }
 {
     begin(alloc, program, frames, shared, class)?;
     Ok(Progress::Moved)
@@ -107,7 +116,7 @@ fn step_frame(
     ensures thread { frames.new.thread ≡ frames.old.thread }
     ensures steps { IfOk result (λ r. Steps (program_of program.now) frames.old shared.old r frames.new shared.new) }
     ensures stays { IfOk result (λ r. StaysPut r frames.old frames.new shared.old shared.new) }
-    ensures err { OnErr result ((frames.new ≡ frames.old) × ((p : List Line) → shared_of shared.new p ≡ shared_of shared.old p)) }
+    ensures err { OnErr result ((frames.new ≡ frames.old) × (SharesTheSame shared.old shared.new)) }
 {
     match effect(alloc, program, frames, shared)? {
         Effect::Next | Effect::Raise => Ok(Progress::Moved),
@@ -121,7 +130,8 @@ fn step_frame(
     }
 }
 
-/// Finish (step 10): the class of the highest entry is initialized, and the entry goes.
+/// Finish (step 10): the class of the highest initialization is initialized, and its initialization goes from the
+/// stack.
 #[tactic(auto, unfolding(semantics::specs::Steps::step_thread))]
 fn finish(
     alloc: Global,
@@ -130,11 +140,13 @@ fn finish(
     class: u32,
 ) -> Result<Progress, AllocError>
     ensures thread { frames.new.thread ≡ frames.old.thread }
-    ensures finishes { IfOk result (λ r. (l : Level) (ls : List Level) (p : List Line) → levels_of frames.old ≡ l ∷ ls → left_by_step r frames.old.thread frames.new (shared_of shared.new p) ≡ Some (finishes (shared_of shared.old p) class l.under ls)) }
+    ensures finishes { IfOk result (λ r. (l : Level) (ls : List Level) (p : List Line) → levels_of frames.old ≡ l ∷ ls
+        → left_by_step r frames.old.thread frames.new (shared_of shared.new p)
+        ≡ Some (finishes (shared_of shared.old p) class l.under ls)) }
     ensures stays { IfOk result (λ r. StaysPut r frames.old frames.new shared.old shared.new) }
-    ensures err { OnErr result ((frames.new ≡ frames.old) × ((p : List Line) → shared_of shared.new p ≡ shared_of shared.old p)) }
+    ensures err { OnErr result ((frames.new ≡ frames.old) × (SharesTheSame shared.old shared.new)) }
 {
-    shared.set_state(alloc, class, ClassState::Done)?;
+    shared.set_state(alloc, class, ClassState::Initialized)?;
     frames.leave();
     match end_of(frames) {
         Some(end) => Ok(Progress::Ended(end)),
@@ -142,11 +154,12 @@ fn finish(
     }
 }
 
-/// Fail (steps 7 and 11): the class of the highest entry is erroneous. Until exceptions are there its thread ends with it.
+/// Fail (steps 7 and 11): the class of the highest initialization is erroneous. Until exceptions are there its thread
+/// ends with it.
 fn fail(alloc: Global, shared: &mut Shared, class: u32) -> Result<Progress, AllocError>
     ensures answer { IfOk result (λ r. r ≡ Progress.Ended (End.Faulted FaultKind.Unsupported)) }
-    ensures ok { OnOk result ((p : List Line) → shared_of shared.new p ≡ set_state (shared_of shared.old p) class ClassState.Erroneous) }
-    ensures err { OnErr result ((p : List Line) → shared_of shared.new p ≡ shared_of shared.old p) }
+    ensures ok { OnOk result (SetsState shared.old shared.new class ClassState.Erroneous) }
+    ensures err { OnErr result (SharesTheSame shared.old shared.new) }
 {
     shared.set_state(alloc, class, ClassState::Erroneous)?;
     Ok(Progress::Ended(End::Faulted(FaultKind::Unsupported)))
@@ -164,9 +177,12 @@ fn initialize(
     requires levels { IsSome frames.old.levels }
     requires segment { frames.old.segment ≡ None }
     ensures thread { frames.new.thread ≡ frames.old.thread }
-    ensures initializes { IfOk result (λ r. (l : Level) (ls : List Level) (p : List Line) → levels_of frames.old ≡ l ∷ ls → l.entry.class ≡ class → left_by_step r frames.old.thread frames.new (shared_of shared.new p) ≡ Some (initializes (shared_of shared.old p) l.entry l.under ls (initializer_frame program.now class))) }
+    ensures initializes { IfOk result (λ r. (l : Level) (ls : List Level) (p : List Line) → levels_of frames.old
+        ≡ l ∷ ls → l.initialization.class ≡ class → left_by_step r frames.old.thread frames.new (shared_of shared.new p)
+        ≡ Some (initializes (shared_of shared.old p) l.initialization l.under ls
+        (initializer_frame program.now class))) }
     ensures stays { IfOk result (λ r. StaysPut r frames.old frames.new shared.old shared.new) }
-    ensures err { OnErr result ((frames.new ≡ frames.old) × ((p : List Line) → shared_of shared.new p ≡ shared_of shared.old p)) }
+    ensures err { OnErr result ((frames.new ≡ frames.old) × (SharesTheSame shared.old shared.new)) }
 {
     match initializer_frame(alloc, program, class)? {
         Some(frame) => {
@@ -177,9 +193,9 @@ fn initialize(
     }
 }
 
-/// What the highest initialization entry does next, with no frame above it.
+/// What the highest initialization does next, with no frame above it.
 #[tactic(auto, unfolding(semantics::specs::Steps::step_thread))]
-fn step_entry(
+fn step_initialization(
     alloc: Global,
     program: &Program,
     frames: &mut Frames,
@@ -190,17 +206,17 @@ fn step_entry(
     ensures thread { frames.new.thread ≡ frames.old.thread }
     ensures steps { IfOk result (λ r. Steps (program_of program.now) frames.old shared.old r frames.new shared.new) }
     ensures stays { IfOk result (λ r. StaysPut r frames.old frames.new shared.old shared.new) }
-    ensures err { OnErr result ((frames.new ≡ frames.old) × ((p : List Line) → shared_of shared.new p ≡ shared_of shared.old p)) }
+    ensures err { OnErr result ((frames.new ≡ frames.old) × (SharesTheSame shared.old shared.new)) }
 {
     let Some(levels) = &frames.levels else {
         unreachable!()
     };
     let level = &levels.highest;
-    let class = level.entry.class;
-    if level.entry.pending.is_some() {
+    let class = level.initialization.class;
+    if level.initialization.pending.is_some() {
         return fail(alloc, shared, class);
     }
-    match level.entry.left.first() {
+    match level.initialization.left.first() {
         Some(parent) => match shared.state(parent).usability(frames.thread) {
             Usability::Ready => {
                 frames.take_parent();
@@ -211,7 +227,7 @@ fn step_entry(
             Usability::Broken => fail(alloc, shared, class),
         },
         None => {
-            if level.entry.begun {
+            if level.initialization.begun {
                 finish(alloc, frames, shared, class)
             } else {
                 initialize(alloc, program, frames, shared, class)
@@ -220,7 +236,10 @@ fn step_entry(
     }
 }
 
-/// One step of a thread (JVMS 5.5). Where there is none, and where memory is refused, nothing changes.
+/// One step of a thread (JVMS 5.5). Where there is none nothing changes.
+///
+/// # Errors
+/// `AllocError` where memory is refused; nothing has changed then.
 #[tactic(auto, unfolding(semantics::specs::Steps::step_thread))]
 pub fn step_thread(
     alloc: Global,
@@ -231,13 +250,13 @@ pub fn step_thread(
     ensures thread { frames.new.thread ≡ frames.old.thread }
     ensures steps { IfOk result (λ r. Steps (program_of program.now) frames.old shared.old r frames.new shared.new) }
     ensures stays { IfOk result (λ r. StaysPut r frames.old frames.new shared.old shared.new) }
-    ensures err { OnErr result ((frames.new ≡ frames.old) × ((p : List Line) → shared_of shared.new p ≡ shared_of shared.old p)) }
+    ensures err { OnErr result ((frames.new ≡ frames.old) × (SharesTheSame shared.old shared.new)) }
 {
     if frames.segment.is_some() {
         return step_frame(alloc, program, frames, shared);
     }
     if frames.levels.is_some() {
-        return step_entry(alloc, program, frames, shared);
+        return step_initialization(alloc, program, frames, shared);
     }
     Ok(Progress::Waits)
 }

@@ -1,28 +1,28 @@
 //! Schedules as they are recorded.
 
 ghost use Rattle.std.specs.Prelude.{◌≡◌, ◌+◌, ◌<◌, ◌^◌, ◌∷◌, [], ◌++◌, length, replicate, OnOk, IfOk};
-ghost use Rattle.init_engine.specs.Schedules.{schedule_of, AreStints};
+ghost use Rattle.init_engine.specs.Schedules.{schedule_of, AreRuns};
 
 use std::alloc::{AllocError, Global};
 use std::marker::Model;
 
-/// A schedule as stints: a thread, and how many steps it made in a row. Neighbours are of different threads.
+/// A schedule by its runs: a thread, and how many steps it made in a row. Neighbours are of different threads.
 #[derive(Drop)]
 pub struct Schedule {
-    stints: Vec<(u32, u64)>,
+    runs: Vec<(u32, u64)>,
     last: Option<(u32, u64)>,
 }
 
 impl Model for Schedule {
     ghost use Rattle.std.specs.Prelude.{◌≡◌, List, [], ℕ, ◌++◌, None};
     ghost use Rattle.std.specs.Option.{option_to_list};
-    ghost use Rattle.init_engine.specs.Schedules.{AreStints};
+    ghost use Rattle.init_engine.specs.Schedules.{AreRuns};
 
     ghost Value = { List (ℕ × ℕ) };
 
-    ghost view = { λ s. s.stints.items ++ option_to_list s.last };
+    ghost view = { λ s. s.runs.items ++ option_to_list s.last };
 
-    ghost invariant = { λ s. AreStints (s.stints.items ++ option_to_list s.last) × (s.last ≡ None → s.stints.items ≡ []) };
+    ghost invariant = { λ s. AreRuns (s.runs.items ++ option_to_list s.last) × (s.last ≡ None → s.runs.items ≡ []) };
 }
 
 impl Schedule {
@@ -31,12 +31,15 @@ impl Schedule {
         ensures { result ≡ [] }
     {
         Schedule {
-            stints: Vec::new(alloc),
+            runs: Vec::new(alloc),
             last: None,
         }
     }
 
     /// So many more steps, at least one, of a thread.
+    ///
+    /// # Errors
+    /// `AllocError` where memory is refused; of the schedule nothing is promised then.
     #[inline(always)]
     pub fn add(&mut self, thread: u32, count: u64) -> Result<(), AllocError>
         requires some { 0 < count }
@@ -49,7 +52,7 @@ impl Schedule {
                     self.last = Some((thread, steps + count));
                     return Ok(());
                 }
-                self.stints.push((last, steps))?;
+                self.runs.push((last, steps))?;
                 self.last = Some((thread, count));
                 Ok(())
             }
@@ -60,15 +63,18 @@ impl Schedule {
         }
     }
 
-    /// The stints, in order.
-    pub fn into_stints(self) -> Result<Vec<(u32, u64)>, AllocError>
+    /// The runs, in order.
+    ///
+    /// # Errors
+    /// `AllocError` where memory is refused.
+    pub fn into_runs(self) -> Result<Vec<(u32, u64)>, AllocError>
         ensures same { IfOk result (λ v. v.items ≡ self) }
-        ensures stints { IfOk result (λ v. AreStints v.items) }
+        ensures runs { IfOk result (λ v. AreRuns v.items) }
     {
-        let mut stints = self.stints;
-        if let Some(stint) = self.last {
-            stints.push(stint)?;
+        let mut runs = self.runs;
+        if let Some(run) = self.last {
+            runs.push(run)?;
         }
-        Ok(stints)
+        Ok(runs)
     }
 }

@@ -3,17 +3,17 @@
 ghost use Rattle.std.specs.Prelude.{◌≡◌, ◌≢◌, ◌↔◌, ◌∷◌, [], length, Err, IfOk, IsSome, OnErr};
 ghost use Rattle.semantics.specs.Worlds.{argument, lazy_start};
 ghost use Rattle.machine.specs.Linked.{program_of};
-ghost use Rattle.hierarchy.specs.Tables.{main_in};
+ghost use Rattle.program.specs.Tables.{main_in};
 ghost use Rattle.init_engine.specs.Turns.{world_of};
 ghost use Rattle.init_engine.specs.Starts.{IsStart};
 
 use crate::fault::EntryFault;
 use crate::world::World;
+use built_in::class_id::{ArrayType, BuiltIn, ClassId, ElementType};
 use classfile::ClassName;
-use hierarchy::program::Program;
 use machine::entering::{blank_classes, start_frame};
+use program::program::Program;
 use std::alloc::{AllocError, Global};
-use vm_state::class_id::{ArrayType, BuiltIn, ClassId, ElementType};
 use vm_state::heap::Heap;
 use vm_state::object::{Monitor, Object, Slots};
 use vm_state::shared::Shared;
@@ -28,7 +28,7 @@ fn entry_class(
     ensures main { IfOk result (λ class. IsSome (main_in program.now class)) }
     ensures fault { result ≢ Err EntryFault.Count }
 {
-    let Some(class) = program.class_named(alloc, name)? else {
+    let Some(class) = program.number_of(alloc, name)? else {
         return Err(EntryFault::Unknown { entry });
     };
     if program.main(class).is_none() {
@@ -57,10 +57,7 @@ fn start(alloc: Global, program: &Program, class: u32) -> Result<World, AllocErr
 {
     let mut heap = Heap::new(alloc);
     heap.add_thread(alloc, argument(alloc))?;
-    let shared = Shared {
-        classes: blank_classes(alloc, program)?,
-        heap,
-    };
+    let shared = Shared::new(blank_classes(alloc, program)?, heap);
     World::of_thread(alloc, start_frame(alloc, class, 0)?, shared)
 }
 

@@ -1,18 +1,18 @@
 //! Whether a world is stuck.
 
 use crate::world::{Thread, World};
-use hierarchy::program::Program;
 use machine::waiting::has_to_wait;
+use program::program::Program;
 use vm_state::classes::Usability;
 use vm_state::initialization::{Frames, Level};
 use vm_state::shared::Shared;
 
-/// Whether the highest entry of a thread has a step: it waits for a parent that another thread initializes.
-fn entry_steps(thread: u32, level: &Level, shared: &Shared) -> bool {
-    if level.entry.pending.is_some() {
+/// Whether the highest initialization of a thread has a step: it may wait for a parent that another thread initializes.
+fn initialization_steps(thread: u32, level: &Level, shared: &Shared) -> bool {
+    if level.initialization.pending.is_some() {
         return true;
     }
-    match level.entry.left.first() {
+    match level.initialization.left.first() {
         Some(parent) => shared.state(parent).usability(thread) != Usability::Busy,
         None => true,
     }
@@ -22,8 +22,8 @@ fn entry_steps(thread: u32, level: &Level, shared: &Shared) -> bool {
 fn steps(program: &Program, frames: &Frames, shared: &Shared) -> bool {
     match frames.innermost() {
         Some(frame) => !has_to_wait(program, frames.thread, frame, shared),
-        None => match frames.entry() {
-            Some(level) => entry_steps(frames.thread, level, shared),
+        None => match frames.highest() {
+            Some(level) => initialization_steps(frames.thread, level, shared),
             None => false,
         },
     }

@@ -3,18 +3,20 @@
 ghost use Rattle.std.specs.Prelude.{◌≡◌, ◌+◌, ◌<◌, ◌≤◌, ◌^◌, [], length, IfOk, OnOk};
 ghost use Rattle.semantics.specs.Worlds.{Run};
 ghost use Rattle.machine.specs.Linked.{program_of};
-ghost use Rattle.machine.specs.StepTables.{KeepsSteps};
+ghost use Rattle.machine.specs.steps.StepTables.{KeepsSteps};
 ghost use Rattle.init_engine.specs.Turns.{world_of};
-ghost use Rattle.init_engine.specs.Schedules.{schedule_of, AreStints};
-ghost use Rattle.init_engine.specs.Rounds.{IsAsking, IsRound, IsStride, Turns};
+ghost use Rattle.init_engine.specs.Schedules.{schedule_of, AreRuns};
+ghost use Rattle.init_engine.specs.Rounds.{Turns};
+ghost use Rattle.init_engine.specs.steps.Rounds.{IsAsking, IsRound, IsStretch};
 
 use crate::schedule::Schedule;
 use crate::world::{Turn, World};
-use hierarchy::program::Program;
 use machine::step_table::StepTable;
+use program::program::Program;
 use std::alloc::{AllocError, Global};
+use vm_state::frame::Activity;
 
-/// Asks a thread for a step, and answers whether it had one.
+/// Asks a thread for a step, and records it where it had one.
 #[inline(always)]
 fn ask(
     alloc: Global,
@@ -22,19 +24,20 @@ fn ask(
     world: &mut World,
     schedule: &mut Schedule,
     thread: u32,
-) -> Result<bool, AllocError>
+) -> Result<Turn, AllocError>
     requires thread { thread < length world.old.threads }
     requires room { length (schedule_of schedule.old) + 1 < 2 ^ 64 }
-    ensures asking { IfOk result (λ moved. IsAsking (program_of program.now) (world_of world.old) thread moved (world_of world.new) (schedule_of schedule.old) (schedule_of schedule.new)) }
+    ensures asking { IfOk result (λ turn. IsAsking (program_of program.now) (world_of world.old) thread turn
+        (world_of world.new) (schedule_of schedule.old) (schedule_of schedule.new)) }
     ensures threads { length world.new.threads ≡ length world.old.threads }
 {
     match world.step(alloc, program, thread)? {
         Turn::Moved => {
             schedule.add(thread, 1)?;
-            Ok(true)
+            Ok(Turn::Moved)
         }
-        Turn::Waiting => Ok(false),
-        Turn::Ended => Ok(false),
+        Turn::Waiting => Ok(Turn::Waiting),
+        Turn::Ended => Ok(Turn::Ended),
     }
 }
 
@@ -47,7 +50,8 @@ fn round(
     most: u64,
 ) -> Result<u64, AllocError>
     requires { length (schedule_of schedule.old) + most < 2 ^ 64 }
-    ensures round { IfOk result (λ done. IsRound (program_of program.now) (world_of world.old) most (length world.old.threads) done (world_of world.new) (schedule_of schedule.old) (schedule_of schedule.new)) }
+    ensures round { IfOk result (λ done. IsRound (program_of program.now) (world_of world.old) most
+        (length world.old.threads) done (world_of world.new) (schedule_of schedule.old) (schedule_of schedule.new)) }
     ensures threads { length world.new.threads ≡ length world.old.threads }
 {
     let mut done = 0;
@@ -55,8 +59,10 @@ fn round(
         if done == most {
             break;
         }
-        if ask(alloc, program, world, schedule, thread)? {
-            done += 1;
+        match ask(alloc, program, world, schedule, thread)? {
+            Turn::Moved => done += 1,
+            Turn::Waiting => {}
+            Turn::Ended => {}
         }
     }
     Ok(done)
@@ -72,15 +78,15 @@ fn fetch(
     requires { KeepsSteps program.now table.old }
     ensures { OnOk result (KeepsSteps program.now table.new) }
 {
-    match world.method(0) {
-        Some((class, method)) => table.fetch(alloc, program, class, method),
-        None => Ok(()),
+    match world.activity(0) {
+        Some(Activity::Method { class, index }) => table.fetch(alloc, program, class, index),
+        Some(Activity::Start(_)) | None => Ok(()),
     }
 }
 
 /// Where there is one thread: instructions after each of which its innermost frame goes on, each a round of one step.
 /// It answers how many there were.
-fn stride(
+fn stretch(
     alloc: Global,
     program: &Program,
     world: &mut World,
@@ -91,7 +97,8 @@ fn stride(
     requires room { length (schedule_of schedule.old) + most < 2 ^ 64 }
     requires steps { KeepsSteps program.now table.old }
     ensures steps { OnOk result (KeepsSteps program.now table.new) }
-    ensures stride { IfOk result (λ done. IsStride (program_of program.now) (length world.old.threads) (world_of world.old) most done (world_of world.new) (schedule_of schedule.old) (schedule_of schedule.new)) }
+    ensures stretch { IfOk result (λ done. IsStretch (program_of program.now) (length world.old.threads)
+        (world_of world.old) most done (world_of world.new) (schedule_of schedule.old) (schedule_of schedule.new)) }
     ensures threads { length world.new.threads ≡ length world.old.threads }
 {
     if world.thread_count() != 1 {
@@ -114,13 +121,14 @@ fn run_rounds(
     limit: u64,
 ) -> Result<(), AllocError>
     requires { schedule_of schedule.old ≡ [] }
-    ensures turns { OnOk result (Turns (program_of program.now) (length world.old.threads) limit (world_of world.old) (schedule_of schedule.new) (world_of world.new)) }
+    ensures turns { OnOk result (Turns (program_of program.now) (length world.old.threads) limit (world_of world.old)
+        (schedule_of schedule.new) (world_of world.new)) }
     ensures threads { OnOk result (length world.new.threads ≡ length world.old.threads) }
 {
     let mut table = StepTable::new(alloc);
     let mut left = limit;
     'rounds: loop {
-        let ahead = stride(alloc, program, world, &mut table, schedule, left)?;
+        let ahead = stretch(alloc, program, world, &mut table, schedule, left)?;
         left -= ahead;
         let done = round(alloc, program, world, schedule, left)?;
         if done == 0 || done == left {
@@ -130,24 +138,28 @@ fn run_rounds(
     }
 }
 
-/// Runs a world by turns, and answers the schedule as stints.
-fn stints_of(
+/// Runs a world by turns, and answers the schedule by its runs.
+fn runs_of(
     alloc: Global,
     program: &Program,
     world: &mut World,
     limit: u64,
 ) -> Result<Vec<(u32, u64)>, AllocError>
-    ensures turns { IfOk result (λ r. Turns (program_of program.now) (length world.old.threads) limit (world_of world.old) (schedule_of r.items) (world_of world.new)) }
-    ensures stints { IfOk result (λ r. AreStints r.items) }
+    ensures turns { IfOk result (λ r. Turns (program_of program.now) (length world.old.threads) limit
+        (world_of world.old) (schedule_of r.items) (world_of world.new)) }
+    ensures runs { IfOk result (λ r. AreRuns r.items) }
     ensures threads { OnOk result (length world.new.threads ≡ length world.old.threads) }
 {
     let mut schedule = Schedule::new(alloc);
     run_rounds(alloc, program, world, &mut schedule, limit)?;
-    Ok(schedule.into_stints()?)
+    Ok(schedule.into_runs()?)
 }
 
 /// Runs a world by turns, up to a round without a step or to so many steps. It answers the last world, and the
-/// schedule as stints: a thread, and how many steps it made in a row; neighbours are of different threads.
+/// schedule by its runs: a thread, and how many steps it made in a row; neighbours are of different threads.
+///
+/// # Errors
+/// `AllocError` where memory is refused.
 #[tactic(auto, using(crate::proofs::RoundLemmas::run_of_turns))]
 pub fn turns(
     alloc: Global,
@@ -156,14 +168,16 @@ pub fn turns(
     limit: u64,
 ) -> Result<(World, Vec<(u32, u64)>), AllocError>
     // The last world is that of a run over the schedule, and the schedule is the turns'.
-    ensures run { IfOk result (λ r. Run (program_of program.now) (world_of world) (schedule_of r.1.items) (world_of r.0)) }
-    ensures turns { IfOk result (λ r. Turns (program_of program.now) (length world.threads) limit (world_of world) (schedule_of r.1.items) (world_of r.0)) }
-    ensures stints { IfOk result (λ r. AreStints r.1.items) }
+    ensures run { IfOk result (λ r. Run (program_of program.now) (world_of world) (schedule_of r.1.items)
+        (world_of r.0)) }
+    ensures turns { IfOk result (λ r. Turns (program_of program.now) (length world.threads) limit (world_of world)
+        (schedule_of r.1.items) (world_of r.0)) }
+    ensures runs { IfOk result (λ r. AreRuns r.1.items) }
     ensures threads { IfOk result (λ r. length r.0.threads ≡ length world.threads) }
 {
     let mut world = world;
-    match stints_of(alloc, program, &mut world, limit) {
-        Ok(stints) => Ok((world, stints)),
+    match runs_of(alloc, program, &mut world, limit) {
+        Ok(runs) => Ok((world, runs)),
         Err(error) => Err(error),
     }
 }

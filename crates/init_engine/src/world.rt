@@ -1,22 +1,23 @@
 //! Worlds: threads, what they share, and what they printed.
 
-ghost use Rattle.std.specs.Prelude.{◌≡◌, ◌+◌, ◌<◌, ◌≤◌, ◌++◌, replicate, ◌∷◌, [], ℕ, List, length, map, vec_len, vec_capacity};
+ghost use Rattle.std.specs.Prelude.{◌≡◌, ◌+◌, ◌<◌, ◌≤◌, ◌++◌, replicate, ◌∷◌, [], ℕ, List, length, map, vec_len};
+ghost use Rattle.std.specs.Prelude.{vec_capacity};
 ghost use Rattle.std.specs.Prelude.{IfOk, OnOk, OnErr, Some, None};
 ghost use Rattle.vm_state.specs.declared.text.Line.{Line};
-ghost use Rattle.vm_state.specs.Shares.{shared_of};
+ghost use Rattle.vm_state.specs.Shares.{shared_of, SharesTheSame};
 ghost use Rattle.semantics.specs.Steps.{Going, step_thread};
 ghost use Rattle.semantics.specs.Worlds.{Run, seen};
-ghost use Rattle.init_engine.specs.Sights.{IsSight};
-ghost use Rattle.init_engine.specs.Threads.{RunsHere, TopRuns};
+ghost use Rattle.init_engine.specs.Observations.{IsObservation};
+ghost use Rattle.init_engine.specs.steps.Threads.{RunsHere, TopRuns, IsTurnOf, view_of};
 ghost use Rattle.machine.specs.Linked.{program_of};
-ghost use Rattle.machine.specs.StepTables.{KeepsSteps};
-ghost use Rattle.init_engine.specs.Threads.{thread_of, seen_of, HasNumber, left_by_going, StaysAsItWas};
-ghost use Rattle.init_engine.specs.Turns.{IsTurn, lines_of, turn_of, world_of};
+ghost use Rattle.machine.specs.steps.StepTables.{KeepsSteps};
+ghost use Rattle.init_engine.specs.Threads.{thread_of, seen_of, HasNumber};
+ghost use Rattle.init_engine.specs.Turns.{IsTurn, world_of};
 
 use crate::procedure::{Progress, step_thread};
-use hierarchy::program::Program;
 use machine::step_table::StepTable;
 use machine::stretch::run_frame;
+use program::program::Program;
 use std::alloc::{AllocError, Global};
 use std::marker::Model;
 use vm_state::ends::{End, Ending};
@@ -56,57 +57,45 @@ pub enum Turn {
     Ended,
 }
 
-/// What was done in a turn of a thread.
-#[derive(Drop)]
-enum Done {
-    Went,
-    Said(Text),
-    Waits,
-    Over,
-}
-
-/// One step of a thread, where it has one.
-#[tactic(auto, unfolding(semantics::specs::Steps::step_thread))]
+/// One step of a thread, where it has one, with what it printed kept. Where it has none, and where memory is refused,
+/// all stays as it was.
+#[tactic(auto, unfolding(semantics::specs::Steps::step_thread, vm_state::specs::Shares::shared_of))]
 fn take_turn(
     alloc: Global,
     program: &Program,
+    number: u32,
     thread: &mut Thread,
     shared: &mut Shared,
-) -> Result<Done, AllocError>
-    ensures number { (t : ℕ) → HasNumber thread.old t → HasNumber thread.new t }
-    ensures steps { IfOk result (λ r. (t : ℕ) → HasNumber thread.old t → (p : List Line) → step_thread (program_of program.now) t (shared_of shared.old p) (thread_of thread.old) ≡ left_by_going r t thread.new (shared_of shared.new p)) }
-    ensures stays { IfOk result (λ r. StaysAsItWas r thread.old thread.new shared.old shared.new) }
-    ensures err { OnErr result ((thread_of thread.new ≡ thread_of thread.old) × ((p : List Line) → shared_of shared.new p ≡ shared_of shared.old p)) }
+    printed: &mut Vec<Line>,
+) -> Result<Turn, AllocError>
+    requires number { HasNumber thread.old number }
+    requires room { vec_len printed.old + 1 ≤ vec_capacity printed.old }
+    ensures number { HasNumber thread.new number }
+    ensures turn { IfOk result
+        (λ turn. IsTurnOf (program_of program.now) number turn (view_of thread.old shared.old printed.old.items)
+        (view_of thread.new shared.new printed.new.items)) }
+    ensures thread { OnErr result (thread_of thread.new ≡ thread_of thread.old) }
+    ensures shared { OnErr result (SharesTheSame shared.old shared.new) }
+    ensures printed { OnErr result (printed.new.items ≡ printed.old.items) }
 {
-    let progress = match thread {
-        Thread::Ended(_) => return Ok(Done::Over),
-        Thread::Going(frames) => step_thread(alloc, program, frames, shared)?,
+    let Thread::Going(frames) = thread else {
+        return Ok(Turn::Ended);
     };
-    match progress {
-        Progress::Moved => Ok(Done::Went),
-        Progress::Printed(text) => Ok(Done::Said(text)),
+    match step_thread(alloc, program, frames, shared)? {
+        Progress::Moved => Ok(Turn::Moved),
+        Progress::Printed(text) => {
+            let line = Line {
+                thread: number,
+                text,
+            };
+            printed.push_reserved(line);
+            Ok(Turn::Moved)
+        }
         Progress::Ended(end) => {
             *thread = Thread::Ended(end);
-            Ok(Done::Went)
+            Ok(Turn::Moved)
         }
-        Progress::Waits => Ok(Done::Waits),
-    }
-}
-
-/// Keeps what a thread printed, where there is room, and answers what its turn did.
-fn noted(printed: &mut Vec<Line>, thread: u32, done: Done) -> Turn
-    requires { vec_len printed.old + 1 ≤ vec_capacity printed.old }
-    ensures turn { result ≡ turn_of done }
-    ensures printed { printed.new.items ≡ printed.old.items ++ lines_of thread done }
-{
-    match done {
-        Done::Went => Turn::Moved,
-        Done::Said(text) => {
-            printed.push_reserved(Line { thread, text });
-            Turn::Moved
-        }
-        Done::Waits => Turn::Waiting,
-        Done::Over => Turn::Ended,
+        Progress::Waits => Ok(Turn::Waiting),
     }
 }
 
@@ -180,8 +169,11 @@ fn first_thread(alloc: Global, top: Frame) -> Thread
 
 impl World {
     /// What the world has shown.
+    ///
+    /// # Errors
+    /// `AllocError` where memory is refused.
     pub fn seen(&self, alloc: Global) -> Result<Seen, AllocError>
-        ensures { IfOk result (λ s. IsSight s (seen (world_of self.now))) }
+        ensures { IfOk result (λ s. IsObservation s (seen (world_of self.now))) }
     {
         let printed = copies(alloc, self.printed.as_slice())?;
         let threads = endings(alloc, self.threads.as_slice())?;
@@ -190,7 +182,8 @@ impl World {
 
     /// One thread, number 0, on this frame.
     pub(crate) fn of_thread(alloc: Global, top: Frame, shared: Shared) -> Result<World, AllocError>
-        ensures { IfOk result (λ w. world_of w ≡ record { shared = shared_of shared []; threads = Going (top ∷ []) [] ∷ [] }) }
+        ensures { IfOk result
+            (λ w. world_of w ≡ record { shared = shared_of shared []; threads = Going (top ∷ []) [] ∷ [] }) }
     {
         let mut threads = Vec::new(alloc);
         threads.push(first_thread(alloc, top))?;
@@ -220,8 +213,10 @@ impl World {
         self.threads.len() as u32
     }
 
-    /// One step of a thread (JVMS 5.5), where it has one. Where it has none, and where memory is refused, the world
-    /// stays as it was.
+    /// One step of a thread (JVMS 5.5), where it has one. Where it has none the world stays as it was.
+    ///
+    /// # Errors
+    /// `AllocError` where memory is refused; the world stays as it was.
     pub fn step(
         &mut self,
         alloc: Global,
@@ -229,31 +224,34 @@ impl World {
         thread: u32,
     ) -> Result<Turn, AllocError>
         requires { thread < length self.old.threads }
-        ensures ok { IfOk result (λ turn. IsTurn (program_of program.now) (world_of self.old) thread turn (world_of self.new)) }
+        ensures ok { IfOk result (λ turn. IsTurn (program_of program.now) (world_of self.old) thread turn
+            (world_of self.new)) }
         ensures threads { length self.new.threads ≡ length self.old.threads }
         ensures err { OnErr result (world_of self.new ≡ world_of self.old) }
     {
         self.printed.reserve(1)?;
         let stepping = &mut self.threads[thread as usize];
-        match take_turn(alloc, program, stepping, &mut self.shared) {
-            Ok(done) => Ok(noted(&mut self.printed, thread, done)),
-            Err(error) => Err(error),
+        let turn = take_turn(
+            alloc,
+            program,
+            thread,
+            stepping,
+            &mut self.shared,
+            &mut self.printed,
+        )?;
+        Ok(turn)
+    }
+
+    /// What a thread's innermost frame is for, where it has one.
+    pub(crate) fn activity(&self, thread: u32) -> Option<Activity> {
+        match self.threads.get(thread as usize)? {
+            Thread::Going(frames) => Some(frames.innermost()?.activity),
+            Thread::Ended(_) => None,
         }
     }
 
-    /// The method of a thread's innermost frame, where that is one of a method: its class and its place there.
-    pub fn method(&self, thread: u32) -> Option<(u32, u16)> {
-        let Some(Thread::Going(frames)) = self.threads.get(thread as usize) else {
-            return None;
-        };
-        match frames.innermost()?.activity {
-            Activity::Method { class, index } => Some((class, index)),
-            Activity::Start(_) => None,
-        }
-    }
-
-    /// Runs instructions of a thread after each of which it goes on in its innermost frame, by the steps that are kept, as
-    /// long as the next is such a one and there were fewer than so many. It answers how many steps that were.
+    /// Runs instructions of a thread after each of which it goes on in its innermost frame, by the steps that are kept,
+    /// as long as the next is such a one and there were fewer than so many. It answers how many steps that were.
     pub fn run_stretch(
         &mut self,
         program: &Program,

@@ -1,12 +1,12 @@
 -- The class that a name stands for (JVMS 4.4.1, 5.3).
-use Rattle.std.specs.Prelude.{◌≡◌, ◌≢◌, ℕ, ◌≤◌, List, [], ◌∷◌, ◌++◌, Option, Some, None, codes, replicate, option_map}
-use Rattle.vm_state.specs.declared.class_id.ClassId.{ClassId}
-use Rattle.vm_state.specs.declared.class_id.ClassId.TheVariants as class
-use Rattle.vm_state.specs.declared.class_id.ArrayType.{ArrayType}
-use Rattle.vm_state.specs.declared.class_id.ElementType.{ElementType}
-use Rattle.vm_state.specs.declared.class_id.ElementType.TheVariants as element
-use Rattle.vm_state.specs.declared.class_id.BuiltIn.{BuiltIn}
-use Rattle.vm_state.specs.ClassNames.{name_of_built_in}
+use Rattle.std.specs.Prelude.{◌≡◌, ℕ, ◌≤◌, List, [], ◌∷◌, ◌++◌, Option, Some, None, codes, replicate, option_map}
+use Rattle.built_in.specs.declared.class_id.ClassId.{ClassId}
+use Rattle.built_in.specs.declared.class_id.ClassId.TheVariants as class
+use Rattle.built_in.specs.declared.class_id.ArrayType.{ArrayType}
+use Rattle.built_in.specs.declared.class_id.ElementType.{ElementType}
+use Rattle.built_in.specs.declared.class_id.ElementType.TheVariants as element
+use Rattle.built_in.specs.declared.class_id.BuiltIn.{BuiltIn}
+use Rattle.built_in.specs.ClassNames.{name_of_built_in}
 use Rattle.loading.specs.Families.{Family, name_in}
 
 -- a class in a descriptor
@@ -30,18 +30,11 @@ element_text family (element.BuiltIn b) = Some (object_type (name_of_built_in b)
 pub data IsNamed (family : Family) (name : List ℕ) : ClassId → Type 0 where
   given : {c : ℕ} → name_in family c ≡ Some name → IsNamed family name (class.Given c)
   built_in : {b : BuiltIn} → name_of_built_in b ≡ name → IsNamed family name (class.BuiltIn b)
-  array : {a : ArrayType} {text : List ℕ} → 1 ≤ a.dimensions → a.dimensions ≤ 255 → element_text family a.element ≡ Some text
+  array : {a : ArrayType} {text : List ℕ} → 1 ≤ a.dimensions → a.dimensions ≤ 255
+      → element_text family a.element ≡ Some text
       → name ≡ replicate a.dimensions 91 ++ text → IsNamed family name (class.Array a)
 
 -- A name stands for this class, or for none: then it is neither given nor built in, nor an array of such.
 abbrev pub StandsFor : Family → List ℕ → Option ClassId → Type 0
 StandsFor family name None = (x : ClassId) → IsNamed family name x → ⊥
 StandsFor family name (Some x) = IsNamed family name x
-
--- a letter alone is the descriptor of an element type (JVMS 4.3.2)
-abbrev pub IsBaseType : ℕ → ElementType → Type 0
-IsBaseType letter e = (family : Family) → element_text family e ≡ Some (letter ∷ [])
-
--- a letter alone is no descriptor
-abbrev pub IsNoBaseType : ℕ → Type 0
-IsNoBaseType letter = (family : Family) (e : ElementType) → element_text family e ≢ Some (letter ∷ [])

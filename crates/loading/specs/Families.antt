@@ -1,9 +1,10 @@
 -- Given classes by number, in the order of their names, each with its parents by number (JVMS 5.3.5).
-use Rattle.std.specs.Prelude.{◌≡◌, ℕ, ◌<◌, ◌↔◌, Bool, true, false, List, [], ◌∷◌, ◌++◌, length, map, Option, Some, None, slice_get, take, option_map}
+use Rattle.std.specs.Prelude.{◌≡◌, ℕ, ◌<◌, ◌↔◌, Bool, true, false, List, [], ◌∷◌, ◌++◌, length, map, Option, Some, None}
+use Rattle.std.specs.Prelude.{slice_get, take, option_map}
 use Rattle.std.specs.List.{All, Contains}
-use Rattle.classfile.specs.Structure.{Structure}
-use Rattle.vm_state.specs.ClassNames.{name_of_built_in}
-use Rattle.vm_state.specs.declared.class_id.BuiltIn.TheVariants as builtins
+use Rattle.classfile.specs.ClassFile.{ClassFile}
+use Rattle.built_in.specs.ClassNames.{name_of_built_in}
+use Rattle.built_in.specs.declared.class_id.BuiltIn.TheVariants as builtins
 use Rattle.loading.specs.declared.given.GivenClass.{GivenClass}
 use Rattle.loading.specs.declared.given.Superclass.{Superclass}
 use Rattle.loading.specs.declared.given.Superclass.TheVariants as super
@@ -13,15 +14,15 @@ use Rattle.loading.specs.Names.{name_of, superclass_of, interfaces_of, is_interf
 abbrev pub Family : Type 0
 Family = List GivenClass
 
-abbrev pub file_of : Option GivenClass → Option Structure
+abbrev pub file_of : Option GivenClass → Option ClassFile
 file_of None = None
 file_of (Some c) = Some c.file
 
 -- the class file of the class of a number
-abbrev pub file_in : Family → ℕ → Option Structure
+abbrev pub file_in : Family → ℕ → Option ClassFile
 file_in family c = file_of (slice_get family c)
 
-abbrev pub passes : (Structure → Bool) → Option Structure → Bool
+abbrev pub passes : (ClassFile → Bool) → Option ClassFile → Bool
 passes test None = false
 passes test (Some f) = test f
 
@@ -72,26 +73,29 @@ superclass_name family (super.BuiltIn class) = Some (name_of_built_in class)
 
 -- Numbers are those of classes, and go up with the names; each class's parents are those that its file names.
 pub record IsFamily (family : Family) : Type 0 where
-  pub ascending : (i j : ℕ) (a b : List ℕ) → i < j → name_in family i ≡ Some a → name_in family j ≡ Some b → Precedes a b
+  pub ascending : (i j : ℕ) (a b : List ℕ) → i < j → name_in family i ≡ Some a → name_in family j ≡ Some b
+      → Precedes a b
   pub superclass_names : All (λ (c : GivenClass). superclass_of c.file ≡ superclass_name family c.superclass) family
-  pub interface_names : All (λ (c : GivenClass). map Some (interfaces_of c.file) ≡ map (name_in family) c.interfaces) family
+  pub interface_names : All (λ (c : GivenClass). map Some (interfaces_of c.file) ≡ map (name_in family) c.interfaces)
+      family
   pub acyclic : (c : ℕ) → ¬ IsAncestor family c c
   -- a superclass is a class, a superinterface an interface, and an interface's superclass is Object
   pub classes : (c d : ℕ) → Contains (superclasses_in family c) d → is_interface_in family d ≡ false
   pub interfaces : (c i : ℕ) → Contains (interfaces_in family c) i → is_interface_in family i ≡ true
-  pub below_object : (c : ℕ) → is_interface_in family c ≡ true → superclass_in family c ≡ Some (super.BuiltIn builtins.Object)
+  pub below_object : (c : ℕ) → is_interface_in family c ≡ true
+      → superclass_in family c ≡ Some (super.BuiltIn builtins.Object)
 
 -- The family of some files: the same files, each once.
-pub record IsFamilyOf (files : List Structure) (family : Family) : Type 0 where
+pub record IsFamilyOf (files : List ClassFile) (family : Family) : Type 0 where
   pub fits : IsFamily family
   pub count : length family ≡ length files
-  pub members : (f : Structure) → Contains files f ↔ Contains (map (λ (c : GivenClass). c.file) family) f
+  pub members : (f : ClassFile) → Contains files f ↔ Contains (map (λ (c : GivenClass). c.file) family) f
 
--- An order of all given classes in which each stands behind its parents.
+-- An order of all given classes in which each stands after its parents.
 pub record IsParentsFirst (family : Family) (order : List ℕ) : Type 0 where
   pub within : All (λ c. c < length family) order
   pub whole : (c : ℕ) → c < length family → Contains order c
-  pub behind : (i c d : ℕ) → slice_get order i ≡ Some c → Contains (parents_in family c) d → Contains (take i order) d
+  pub after : (i c d : ℕ) → slice_get order i ≡ Some c → Contains (parents_in family c) d → Contains (take i order) d
 
 -- each parent is one of the classes
 abbrev pub AreParentsWithin : Family → Type 0

@@ -2,5 +2,4 @@ pub mod Names
 pub mod Files
 pub mod Families
 pub mod ClassIds
-pub mod Linking
-pub mod InterfaceFaults
+pub mod steps

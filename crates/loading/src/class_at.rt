@@ -6,8 +6,8 @@ ghost use Rattle.loading.specs.Families.{file_in, superclass_in, interfaces_in, 
 
 use crate::family::Family;
 use crate::given::Superclass;
+use crate::names::is_interface;
 use classfile::ClassFile;
-use classfile::flags::{INTERFACE, has_flag};
 
 impl Family {
     /// The class file of a class, if there is a class of this number.
@@ -43,7 +43,7 @@ impl Family {
         ensures { result ≡ is_interface_in self.now class }
     {
         match self.file(class) {
-            Some(file) => has_flag(file.access_flags(), INTERFACE),
+            Some(file) => is_interface(file),
             None => false,
         }
     }

@@ -7,12 +7,12 @@ use crate::given::{ClassNumbers, GivenClass};
 use crate::names::name_of;
 use std::marker::Model;
 
-/// The given classes in the order of their names' bytes, which is that of their numbers. Their parents are among them or
-/// built in, and no class is its own ancestor.
+/// The given classes in the order of their names' bytes, which is that of their numbers. Their parents are among them
+/// or built in, and no class is its own ancestor.
 #[derive(Drop)]
 pub struct Family {
     pub(crate) classes: Vec<GivenClass>,
-    /// All classes, each behind its parents.
+    /// All classes, each after its parents.
     pub(crate) order: ClassNumbers,
 }
 
@@ -25,7 +25,8 @@ impl Model for Family {
 
     ghost view = { λ s. s.classes.items };
 
-    ghost invariant = { λ s. IsFamily s.classes.items × IsParentsFirst s.classes.items s.order × (length s.classes.items ≤ 65535) };
+    ghost invariant = { λ s. IsFamily s.classes.items × IsParentsFirst s.classes.items s.order
+        × (length s.classes.items ≤ 65535) };
 }
 
 impl Family {
@@ -39,7 +40,7 @@ impl Family {
         self.classes.as_slice()
     }
 
-    /// All classes, each behind its parents.
+    /// All classes, each after its parents.
     pub fn parents_first(&self) -> &[u32]
         ensures { IsParentsFirst self.now result.now }
     {
@@ -48,7 +49,8 @@ impl Family {
 
     /// The number of the class of a name, as its bytes.
     pub fn number_of(&self, name: &[u8]) -> Option<u32>
-        ensures { MatchOption result ((c : ℕ) → name_in self.now c ≢ Some name.now) (λ c. name_in self.now c ≡ Some name.now) }
+        ensures { MatchOption result ((c : ℕ) → name_in self.now c ≢ Some name.now)
+            (λ c. name_in self.now c ≡ Some name.now) }
     {
         let classes = self.classes();
         match classes.binary_search_by(|class| name_of(&class.file).cmp(&name)) {

@@ -2,9 +2,9 @@
 
 ghost use Rattle.std.specs.Prelude.{◌≡◌};
 
+use built_in::class_id::BuiltIn;
 use classfile::ClassFile;
 use std::marker::Model;
-use vm_state::class_id::BuiltIn;
 
 /// The superclass of a given class.
 #[derive(Clone, Copy, PartialEq, Eq, Debug)]

@@ -1,8 +1,8 @@
 //! From class files to classes by number, each with its parents (JVMS SE 8, 5.3.5).
 #![tactic(auto)]
 
-mod circle;
 mod class_at;
+mod cycle;
 pub mod family;
 pub mod fault;
 pub mod given;

@@ -2,14 +2,14 @@
 
 ghost use Rattle.std.specs.Prelude.{◌≡◌, ◌⊎◌, List, Err, length, map, IfOk, IfErr, OnOk, IsOk};
 ghost use Rattle.std.specs.List.{AllZip, zip};
-ghost use Rattle.classfile.specs.Structure.{Structure};
+ghost use Rattle.classfile.specs.ClassFile.{ClassFile};
 ghost use Rattle.loading.specs.declared.fault.LinkFault.{LinkFault as Fault};
 ghost use Rattle.loading.specs.declared.fault.LinkFault.TheVariants.{Memory};
 ghost use Rattle.loading.specs.Families.{IsFamilyOf};
 ghost use Rattle.loading.specs.Files.{WithinLimit, LinkFails, Links};
-ghost use Rattle.loading.specs.Linking.{AreSorted, AreNamed, AreParents, class_of_parts};
+ghost use Rattle.loading.specs.steps.Linking.{AreSorted, AreNamed, AreParents, class_of_parts};
 
-use crate::circle::arranged;
+use crate::cycle::arranged;
 use crate::family::Family;
 use crate::fault::LinkFault;
 use crate::given::GivenClass;
@@ -89,8 +89,11 @@ fn family_of_sorted(alloc: Global, files: Vec<ClassFile>) -> Result<Family, Link
 
 /// The family of some class files: numbers follow the bytes of names.
 ///
-/// The files' order does not matter. Otherwise it answers the first kind of fault that there is, in the order of
-/// [`LinkFault`], and of that kind the one of the least name.
+/// The files' order does not matter.
+///
+/// # Errors
+/// The first kind of fault that there is, in the order of [`LinkFault`], and of that kind the one of the least name;
+/// `Memory` where memory runs out.
 pub fn family_of(alloc: Global, files: Vec<ClassFile>) -> Result<Family, LinkFault>
     ensures ok { IfOk result (IsFamilyOf files.items) }
     // What is linked has no fault, and what has none is linked, unless memory runs out.
@@ -110,6 +113,6 @@ pub fn family_of(alloc: Global, files: Vec<ClassFile>) -> Result<Family, LinkFau
 
 /// Files make one program or have a fault, and never both, and they have no two faults.
 pub fn links_or_fails()
-    ensures not_both { (files : List Structure) (x : Fault) → Links files → LinkFails files x → ⊥ }
-    ensures one_fault { (files : List Structure) (x y : Fault) → LinkFails files x → LinkFails files y → x ≡ y }
+    ensures not_both { (files : List ClassFile) (x : Fault) → Links files → LinkFails files x → ⊥ }
+    ensures one_fault { (files : List ClassFile) (x y : Fault) → LinkFails files x → LinkFails files y → x ≡ y }
 {}

@@ -23,11 +23,11 @@ pub fn class_name_at(file: &ClassFile, index: u16) -> &[u8]
 pub fn text_at(file: &ClassFile, index: u16) -> &[u8]
     ensures { result.now ≡ text_at file.now index }
 {
-    file.text(index).unwrap_or(&[])
+    file.utf8(index).unwrap_or(&[])
 }
 
 /// The bytes of the class's own name.
-pub(crate) fn name_of(file: &ClassFile) -> &[u8]
+pub fn name_of(file: &ClassFile) -> &[u8]
     ensures value { result.now ≡ name_of file.now }
     ensures modified { IsModifiedUtf8 result.now }
 {
@@ -35,14 +35,17 @@ pub(crate) fn name_of(file: &ClassFile) -> &[u8]
 }
 
 /// The class's own name, to be kept.
+///
+/// # Errors
+/// Where memory runs out.
 pub(crate) fn copy_of_name(alloc: Global, file: &ClassFile) -> Result<ClassName, AllocError>
     ensures { IfOk result (λ name. units_text name ≡ name_of file.now) }
 {
     ClassName::from_modified_utf8(alloc, name_of(file))
 }
 
-/// Whether the class is an interface.
-pub(crate) fn is_interface(file: &ClassFile) -> bool
+/// Whether the class is an interface (JVMS 4.1).
+pub fn is_interface(file: &ClassFile) -> bool
     ensures { result ≡ is_interface file.now }
 {
     has_flag(file.access_flags(), INTERFACE)

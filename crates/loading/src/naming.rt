@@ -1,12 +1,18 @@
 //! The classes that names stand for (JVMS 4.3.2, 4.4.1).
 
-ghost use Rattle.std.specs.Prelude.{◌≡◌, ◌≢◌, ◌≤◌, ℕ, List, [], ◌∷◌, ◌++◌, length, drop, replicate, Some, SomeIff, MatchOption};
-ghost use Rattle.vm_state.specs.declared.class_id.ElementType.{ElementType as Element};
-ghost use Rattle.vm_state.specs.declared.class_id.ArrayType.{ArrayType as Array};
-ghost use Rattle.loading.specs.ClassIds.{object_type, element_text, IsBaseType, IsNoBaseType, IsNamed, StandsFor};
+ghost use Rattle.std.specs.Prelude.{◌≡◌, ◌≢◌, ◌≤◌, ℕ, List, [], ◌∷◌, ◌++◌, length, drop, replicate, Some, SomeIff};
+ghost use Rattle.std.specs.Prelude.{MatchOption};
+ghost use Rattle.built_in.specs.ClassNames.{name_of_built_in};
+ghost use Rattle.built_in.specs.declared.class_id.BuiltIn.{BuiltIn as Class};
+ghost use Rattle.built_in.specs.declared.class_id.ElementType.{ElementType as Element};
+ghost use Rattle.built_in.specs.declared.class_id.ArrayType.{ArrayType as Array};
+ghost use Rattle.loading.specs.ClassIds.{object_type, element_text, IsNamed, StandsFor};
+ghost use Rattle.loading.specs.Families.{name_in, superclass_name};
+ghost use Rattle.loading.specs.steps.BaseTypes.{IsBaseType, IsNoBaseType};
 
 use crate::family::Family;
-use vm_state::class_id::{ArrayType, BuiltIn, ClassId, ElementType};
+use crate::given::Superclass;
+use built_in::class_id::{ArrayType, BuiltIn, ClassId, ElementType};
 
 /// The element type that a letter alone stands for.
 fn base_type(letter: u8) -> Option<ElementType>
@@ -27,9 +33,22 @@ fn base_type(letter: u8) -> Option<ElementType>
 
 /// The name between an object type's `L` and `;`.
 fn object_name(text: &[u8]) -> Option<&[u8]>
-    ensures { MatchOption result ((name : List ℕ) → text.now ≢ object_type name) (λ name. text.now ≡ object_type name.now) }
+    ensures { MatchOption result ((name : List ℕ) → text.now ≢ object_type name)
+        (λ name. text.now ≡ object_type name.now) }
 {
     text.strip_prefix(b"L")?.strip_suffix(b";")
+}
+
+/// The given or built-in class of a name.
+fn given_or_built_in(family: &Family, name: &[u8]) -> Option<Superclass>
+    ensures { MatchOption result
+        (((c : ℕ) → name_in family.now c ≢ Some name.now) × ((b : Class) → name_of_built_in b ≢ name.now))
+        (λ class. superclass_name family.now class ≡ Some name.now) }
+{
+    match family.number_of(name) {
+        Some(number) => Some(Superclass::Given(number)),
+        None => BuiltIn::named(name).map(Superclass::BuiltIn),
+    }
 }
 
 /// The given or built-in class of a name, as an element type.
@@ -37,9 +56,9 @@ fn object_named(family: &Family, name: &[u8]) -> Option<ElementType>
     ensures { MatchOption result ((e : Element) → element_text family.now e ≢ Some (object_type name.now))
         (λ e. element_text family.now e ≡ Some (object_type name.now)) }
 {
-    match family.number_of(name) {
-        Some(number) => Some(ElementType::Given(number)),
-        None => BuiltIn::named(name).map(ElementType::BuiltIn),
+    match given_or_built_in(family, name)? {
+        Superclass::Given(number) => Some(ElementType::Given(number)),
+        Superclass::BuiltIn(class) => Some(ElementType::BuiltIn(class)),
     }
 }
 
@@ -96,12 +115,9 @@ fn array_named(family: &Family, name: &[u8]) -> Option<ArrayType>
 pub fn class_named(family: &Family, name: &[u8]) -> Option<ClassId>
     ensures { StandsFor family.now name.now result }
 {
-    if let Some(number) = family.number_of(name) {
-        return Some(ClassId::Given(number));
+    match given_or_built_in(family, name) {
+        Some(Superclass::Given(number)) => Some(ClassId::Given(number)),
+        Some(Superclass::BuiltIn(class)) => Some(ClassId::BuiltIn(class)),
+        None => array_named(family, name).map(ClassId::Array),
     }
-    if let Some(class) = BuiltIn::named(name) {
-        return Some(ClassId::BuiltIn(class));
-    }
-    let array = array_named(family, name)?;
-    Some(ClassId::Array(array))
 }

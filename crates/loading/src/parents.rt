@@ -7,17 +7,18 @@ ghost use Rattle.loading.specs.declared.fault.BadParent.TheVariants as bad;
 ghost use Rattle.loading.specs.declared.parents.InterfaceFault.TheVariants as interface_fault;
 ghost use Rattle.loading.specs.Names.{interfaces_of};
 ghost use Rattle.loading.specs.Files.{WithinLimit, IsGiven, IsUnknown, HasLeastBadParent};
-ghost use Rattle.loading.specs.Linking.{name_at, is_interface_at, name_among, may_be_extended, is_object, Ascend, AreNamed};
-ghost use Rattle.loading.specs.Linking.{IsSuperclass, HasBadSuperclass, AreInterfaces};
-ghost use Rattle.loading.specs.Linking.{IsBadInterface, HasBadInterface, AreParents, IsParentFault};
-ghost use Rattle.loading.specs.InterfaceFaults.{FailsFor, IsLeastFor};
+ghost use Rattle.loading.specs.steps.Linking.{name_at, is_interface_at, name_among, may_be_extended, is_object, Ascend};
+ghost use Rattle.loading.specs.steps.Linking.{AreNamed};
+ghost use Rattle.loading.specs.steps.Linking.{IsSuperclass, HasBadSuperclass, AreInterfaces};
+ghost use Rattle.loading.specs.steps.Linking.{IsBadInterface, HasBadInterface, AreParents, IsParentFault};
+ghost use Rattle.loading.specs.steps.InterfaceFaults.{FailsFor, IsLeastFor};
 
 use crate::fault::{BadParent, LinkFault};
 use crate::given::{ClassNumbers, Superclass};
 use crate::names::{class_name_at, copy_of_name, is_interface, name_of};
+use built_in::class_id::BuiltIn;
 use classfile::ClassFile;
 use std::alloc::{AllocError, AllocFailed, Global};
-use vm_state::class_id::BuiltIn;
 
 /// The parents of a class.
 #[derive(Drop)]
@@ -51,7 +52,7 @@ impl<T: Drop> From<AllocFailed<T>> for InterfaceFault {
 }
 
 /// The number of the file of a name.
-fn number_of(files: &[ClassFile], name: &[u8]) -> Option<u32>
+fn number_among(files: &[ClassFile], name: &[u8]) -> Option<u32>
     requires few { WithinLimit files.now }
     requires ascending { Ascend files.now }
     ensures { MatchOption result (¬ IsGiven files.now name.now) (λ c. name_at files.now c ≡ Some name.now) }
@@ -63,12 +64,12 @@ fn number_of(files: &[ClassFile], name: &[u8]) -> Option<u32>
 }
 
 /// The class of a name: a given one, or one that is built in.
-fn class_named(files: &[ClassFile], name: &[u8]) -> Option<Superclass>
+fn class_among(files: &[ClassFile], name: &[u8]) -> Option<Superclass>
     requires few { WithinLimit files.now }
     requires ascending { Ascend files.now }
     ensures { MatchOption result (IsUnknown files.now name.now) (λ class. name_among files.now class ≡ Some name.now) }
 {
-    match number_of(files, name) {
+    match number_among(files, name) {
         Some(number) => Some(Superclass::Given(number)),
         None => match BuiltIn::named(name) {
             Some(class) => Some(Superclass::BuiltIn(class)),
@@ -115,7 +116,7 @@ fn superclass_of(files: &[ClassFile], file: &ClassFile) -> Result<Superclass, Ba
     if index == 0 {
         return Err(BadParent::NoSuperclass);
     }
-    let Some(class) = class_named(files, class_name_at(file, index)) else {
+    let Some(class) = class_among(files, class_name_at(file, index)) else {
         return Err(BadParent::UnknownSuperclass);
     };
     if !may_be_extended(files, class) {
@@ -135,7 +136,7 @@ fn interface_named(files: &[ClassFile], name: &[u8]) -> Result<u32, BadParent>
         (λ i. (name_at files.now i ≡ Some name.now) × (is_interface_at files.now i ≡ true))
         (IsBadInterface files.now name.now) }
 {
-    match class_named(files, name) {
+    match class_among(files, name) {
         None => Err(BadParent::UnknownInterface),
         Some(Superclass::BuiltIn(_)) => Err(BadParent::NoInterface),
         Some(Superclass::Given(number)) => {
@@ -157,7 +158,7 @@ fn knows_interfaces(files: &[ClassFile], file: &ClassFile) -> bool
 {
     let indices = file.interfaces();
     for index in indices {
-        if class_named(files, class_name_at(file, *index)).is_none() {
+        if class_among(files, class_name_at(file, *index)).is_none() {
             return false;
         }
     }
@@ -195,7 +196,8 @@ fn add_interfaces(
     requires ascending { Ascend files.now }
     requires known { All (λ name. ¬ IsUnknown files.now name) (interfaces_of file.now) }
     requires empty { numbers.old.items ≡ [] }
-    ensures { MatchResult result (λ _. AreInterfaces files.now file.now numbers.new.items) (FailsFor files.now file.now) }
+    ensures { MatchResult result (λ _. AreInterfaces files.now file.now numbers.new.items)
+        (FailsFor files.now file.now) }
 {
     let indices = file.interfaces();
     for index in indices {

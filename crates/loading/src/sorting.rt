@@ -6,12 +6,12 @@ ghost use Rattle.std.specs.Ordering.{nat_cmp};
 ghost use Rattle.std.specs.List.Sorted.{IsPermutation};
 ghost use Rattle.loading.specs.Names.{name_of};
 ghost use Rattle.loading.specs.Files.{IsTwice, IsTaken, IsLeast, No};
-ghost use Rattle.loading.specs.Linking.{AreSorted, Ascend};
+ghost use Rattle.loading.specs.steps.Linking.{AreSorted, Ascend};
 
 use crate::names::name_of;
+use built_in::class_id::BuiltIn;
 use classfile::ClassFile;
 use std::cmp::Ordering;
-use vm_state::class_id::BuiltIn;
 
 /// How the names of two files compare, by their bytes.
 fn by_name(a: &ClassFile, b: &ClassFile) -> Ordering

@@ -4,8 +4,8 @@ use Rattle.std.specs.List.{AllByRecursion}
 use Rattle.semantics.specs.Quiet.{is_final}
 use Rattle.semantics.specs.Lawful.{HoldsNoName, IsLawful}
 use Rattle.frame_instructions.specs.declared.operand_kind.OperandKind.{OperandKind}
-use Rattle.hierarchy.specs.Programs.{IsProgram}
-use Rattle.hierarchy.specs.Tables.{Tables, initializer_in, main_in, statics_in}
+use Rattle.program.specs.Programs.{IsProgram}
+use Rattle.program.specs.Tables.{Tables, initializer_in, main_in, statics_in}
 use Rattle.machine.specs.Operations.{PutStatic, operation_at}
 use Rattle.machine.specs.Linked.{program_of}
 
@@ -14,7 +14,8 @@ pub record AreSound (P : Tables) : Type 0 where
   -- a static field begins as zero, null or a constant, and none of these is an object
   pub statics : (c : ℕ) → AllByRecursion HoldsNoName (statics_in P c)
   -- a static final is written in the class initialization method of its own class alone (JVMS 6.5, putstatic)
-  pub finals : (kind : OperandKind) (d m at c k : ℕ) → operation_at P d m at ≡ Some (PutStatic kind c k) → is_final (program_of P) c k ≡ true
+  pub finals : (kind : OperandKind) (d m at c k : ℕ) → operation_at P d m at ≡ Some (PutStatic kind c k)
+      → is_final (program_of P) c k ≡ true
       → (d ≡ c) × (initializer_in P c ≡ Some m)
   -- a `main`, which a thread's start calls, is no class initialization method
   pub mains : (c m : ℕ) → main_in P c ≡ Some m → initializer_in P c ≢ Some m

@@ -8,10 +8,10 @@ use Rattle.vm_state.specs.declared.frame.Activity.TheVariants.{Start, Method}
 use Rattle.vm_state.specs.declared.classes.ClassArea.{ClassArea}
 use Rattle.vm_state.specs.Statics.{blank_area}
 use Rattle.semantics.specs.Programs.{Program}
-use Rattle.hierarchy.specs.declared.class.Class.{Class}
-use Rattle.hierarchy.specs.declared.class.Implementation.{Implementation}
-use Rattle.hierarchy.specs.declared.class.Implementation.TheVariants as implementations
-use Rattle.hierarchy.specs.Tables.{Tables, implementation_at, initializer_in, order_in, statics_in}
+use Rattle.program.specs.declared.class.Class.{Class}
+use Rattle.program.specs.declared.class.Implementation.{Implementation}
+use Rattle.program.specs.declared.class.Implementation.TheVariants as implementations
+use Rattle.program.specs.Tables.{Tables, implementation_at, initializer_in, order_in, statics_in}
 use Rattle.machine.specs.Operations.{is_method}
 use Rattle.machine.specs.Table.{row, called, halts}
 
@@ -39,14 +39,16 @@ initialized_by P (Method c m) = if is_method m (initializer_in P c) then Some c 
 -- ---- a thread's first frame: its argument is its own first object (JVMS 5.2)
 
 abbrev pub start_frame : ℕ → ℕ → Frame
-start_frame c t = record { activity = Start c; place = 0; locals = []; operands = record { free = 0; values = OfThread t 0 ∷ [] } }
+start_frame c t =
+    record { activity = Start c; place = 0; locals = []; operands = record { free = 0; values = OfThread t 0 ∷ [] } }
 
 -- ---- before any class is initialized
 
 abbrev pub blank_areas : List Class → List ClassArea
 blank_areas classes = map (λ (k : Class). blank_area k.statics) classes
 
--- Exceptions come later: no instruction raises one, no handler is executed, and a class whose initialization fails ends its thread.
+-- Exceptions come later: no instruction raises one, no handler is executed, and a class whose initialization fails ends
+-- its thread.
 abbrev pub program_of : Tables → Program
 program_of P = record {
   count = length P.classes;

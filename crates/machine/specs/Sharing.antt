@@ -1,7 +1,7 @@
 -- What rows lead to in the store of all threads.
 use Rattle.std.specs.Prelude.{◌≡◌, ℕ, List}
 use Rattle.vm_state.specs.declared.text.Line.{Line}
-use Rattle.vm_state.specs.declared.shared.Shared.{Shared}
+use Rattle.vm_state.specs.SharedTables.{SharedTables}
 use Rattle.vm_state.specs.declared.classes.Usability.TheVariants.{Ready}
 use Rattle.vm_state.specs.Statics.{usable}
 use Rattle.vm_state.specs.Shares.{shared_of}
@@ -18,5 +18,5 @@ abbrev pub stopped_shared : Stop → Result
 stopped_shared (Needs c) = NeedsClass c
 stopped_shared stop = WaitsFor
 
-abbrev pub CanUseShared : Actor → Shared → ℕ → Type 0
+abbrev pub CanUseShared : Actor → SharedTables → ℕ → Type 0
 CanUseShared by s c = (p : List Line) → usable by.thread ((shared_of s p).states c) ≡ Ready

@@ -3,13 +3,13 @@
 ghost use Rattle.std.specs.Prelude.{◌≡◌, ◌∷◌, ℕ, List, IfOk, OnOk, OnErr, IsSome, Some, None};
 ghost use Rattle.vm_state.specs.declared.frame.Frame.{Frame};
 ghost use Rattle.vm_state.specs.declared.text.Line.{Line};
-ghost use Rattle.vm_state.specs.Shares.{shared_of};
+ghost use Rattle.vm_state.specs.Shares.{shared_of, SharesTheSame};
 ghost use Rattle.vm_state.specs.Stacks.{levels_of};
-ghost use Rattle.hierarchy.specs.Tables.{Tables};
+ghost use Rattle.program.specs.Tables.{Tables};
 ghost use Rattle.semantics.specs.Moves.{received};
 ghost use Rattle.semantics.specs.Rows.{Moved, Next, Raise, Returns, Result as Led, run_row};
 ghost use Rattle.semantics.specs.Steps.{maker_of};
-ghost use Rattle.vm_state.specs.declared.shared.Shared.{Shared};
+ghost use Rattle.vm_state.specs.SharedTables.{SharedTables};
 ghost use Rattle.vm_state.specs.SharedState.{SharedState};
 ghost use Rattle.vm_state.specs.declared.value.Maker.{Maker};
 ghost use Rattle.machine.specs.declared.kinds.Stop.{Stop};
@@ -21,27 +21,27 @@ ghost use Rattle.machine.specs.Effects.{IsStep, IsStopped, IsEffect, Stays};
 
 use crate::execute::execute;
 use crate::kinds::{Actor, Conclusion, Effect, Stop};
+use built_in::class_id::ClassId;
 use frame_instructions::numeric::advance;
-use hierarchy::program::Program;
+use program::program::Program;
 use std::alloc::{AllocError, Global};
-use vm_state::class_id::ClassId;
 use vm_state::ends::{End, FaultKind};
 use vm_state::frame::{Frame, FrameList, Segment};
 use vm_state::initialization::Frames;
 use vm_state::shared::Shared;
 use vm_state::value::{Fault, Maker, Name, Value};
 
-/// Who counts the objects that a thread makes: the class of its highest initialization entry, or the thread.
+/// Who counts the objects that a thread makes: the class of its highest initialization, or the thread.
 fn maker_of(frames: &Frames) -> Maker
     ensures { result ≡ maker_of frames.now.thread (levels_of frames.now) }
 {
     match &frames.levels {
-        Some(levels) => Maker::Class(levels.highest.entry.class),
+        Some(levels) => Maker::Class(levels.highest.initialization.class),
         None => Maker::Thread(frames.thread),
     }
 }
 
-/// Behind a call, with the value returned on the operand stack. A fault, and nothing changed, where that has no room.
+/// After a call, with the value returned on the operand stack. A fault, and nothing changed, where that has no room.
 fn receive(frame: &mut Frame, value: Option<Value>) -> Result<(), Fault>
     ensures ok { OnOk result (received value frame.old ≡ Some frame.new) }
     ensures err { OnErr result (received value frame.old ≡ None) }
@@ -53,10 +53,13 @@ fn receive(frame: &mut Frame, value: Option<Value>) -> Result<(), Fault>
     Ok(())
 }
 
-/// Returns to the caller, where there is one above the highest initialization entry.
+/// Returns to the caller, where there is one above the highest initialization.
 fn return_to(frames: &mut Frames, callers: FrameList, value: Option<Value>) -> Effect
-    ensures step { (P : Tables) (f : Frame) (before after : SharedState) → IsStep P frames.old.thread (f ∷ callers) (levels_of frames.old) before (Moved (Next (Returns value)) after) result frames.new after }
-    ensures moves { ((old new : Frames) → Stays result old new) × ((before after : Shared) → Stays result before after) }
+    ensures step { (P : Tables) (f : Frame) (before after : SharedState)
+        → IsStep P frames.old.thread (f ∷ callers) (levels_of frames.old) before (Moved (Next (Returns value)) after)
+        result frames.new after }
+    ensures moves { ((old new : Frames) → Stays result old new)
+        × ((before after : SharedTables) → Stays result before after) }
     ensures kept { (frames.new.thread ≡ frames.old.thread) × (frames.new.levels ≡ frames.old.levels) }
 {
     frames.segment = callers.into_segment();
@@ -79,11 +82,14 @@ fn stand(frames: &mut Frames, innermost: Frame, callers: FrameList)
     frames.segment = Some(Segment { innermost, callers });
 }
 
-/// An exception that no frame above the highest initialization entry catches: it becomes pending there, and where there is
+/// An exception that no frame above the highest initialization catches: it becomes pending there, and where there is
 /// no entry its thread ends (JVMS 2.10, 5.5).
 fn throw(frames: &mut Frames, exception: Name, class: ClassId) -> Effect
-    ensures step { (P : Tables) (fs : List Frame) (f : Frame) (before after : SharedState) → IsStep P frames.old.thread (f ∷ fs) (levels_of frames.old) before (Moved (Raise exception class) after) result frames.new after }
-    ensures moves { ((old new : Frames) → Stays result old new) × ((before after : Shared) → Stays result before after) }
+    ensures step { (P : Tables) (fs : List Frame) (f : Frame) (before after : SharedState)
+        → IsStep P frames.old.thread (f ∷ fs) (levels_of frames.old) before (Moved (Raise exception class) after) result
+        frames.new after }
+    ensures moves { ((old new : Frames) → Stays result old new)
+        × ((before after : SharedTables) → Stays result before after) }
     ensures thread { frames.new.thread ≡ frames.old.thread }
 {
     if frames.levels.is_none() {
@@ -96,8 +102,10 @@ fn throw(frames: &mut Frames, exception: Name, class: ClassId) -> Effect
 /// What the conclusion of an instruction makes of its thread, of whose stack its frame and the callers were taken.
 fn conclude(frames: &mut Frames, frame: Frame, callers: FrameList, conclusion: Conclusion) -> Effect
     ensures step { (P : Tables) (maker : Maker) (f : Frame) (before after : SharedState) → f.activity ≡ frame.activity →
-        IsStep P frames.old.thread (f ∷ callers) (levels_of frames.old) before (run_row frames.old.thread maker after (concluded conclusion frame)) result frames.new after }
-    ensures moves { ((old new : Frames) → Stays result old new) × ((before after : Shared) → Stays result before after) }
+        IsStep P frames.old.thread (f ∷ callers) (levels_of frames.old) before
+        (run_row frames.old.thread maker after (concluded conclusion frame)) result frames.new after }
+    ensures moves { ((old new : Frames) → Stays result old new)
+        × ((before after : SharedTables) → Stays result before after) }
     ensures thread { frames.new.thread ≡ frames.old.thread }
 {
     match conclusion {
@@ -122,9 +130,12 @@ fn conclude(frames: &mut Frames, frame: Frame, callers: FrameList, conclusion: C
 /// What stopped an instruction, as an effect.
 #[tactic(auto, unfolding(crate::specs::Accesses::unless_refused))]
 fn stopped(stop: Stop) -> Result<Effect, AllocError>
-    ensures step { IfOk result (λ e. (P : Tables) (t : ℕ) (fs : List Frame) (ls : List Level) (before after : SharedState) (r : Led) (new : Frames) → unless_refused stop r ≡ unless_refused stop (stopped_shared stop) → IsStep P t fs ls before r e new after) }
+    ensures step { IfOk result
+        (λ e. (P : Tables) (t : ℕ) (fs : List Frame) (ls : List Level) (before after : SharedState) (r : Led)
+        (new : Frames) → unless_refused stop r ≡ unless_refused stop (stopped_shared stop)
+        → IsStep P t fs ls before r e new after) }
     ensures stays { IfOk result IsStopped }
-    ensures kept { IfOk result (λ e. (old new : Shared) → Kept shared_of stop old new → Stays e old new) }
+    ensures kept { IfOk result (λ e. (old new : SharedTables) → Kept shared_of stop old new → Stays e old new) }
     ensures err { OnErr result (stop ≡ Stop.Memory) }
 {
     match stop {
@@ -135,6 +146,10 @@ fn stopped(stop: Stop) -> Result<Effect, AllocError>
 }
 
 /// One instruction of a thread, on top of whose stack a frame stands. Where memory is refused nothing changes.
+///
+/// # Errors
+/// `AllocError` where memory is refused: then the thread's stack is as it was, and so is what definitions see of
+/// what threads share.
 pub fn effect(
     alloc: Global,
     program: &Program,
@@ -144,14 +159,16 @@ pub fn effect(
     requires { IsSome frames.old.segment }
 
     // What it answers and leaves is what the row of the table gives.
-    ensures gives { IfOk result (λ e. (p : List Line) → IsEffect program.now frames.old (shared_of shared.old p) e frames.new (shared_of shared.new p)) }
+    ensures gives { IfOk result
+        (λ e. (p : List Line) → IsEffect program.now frames.old (shared_of shared.old p) e frames.new
+        (shared_of shared.new p)) }
 
     ensures thread { frames.new.thread ≡ frames.old.thread }
 
-    // Where a thread needs a class or waits, its stack and what is shared stay as they were. Where memory is refused its
-    // stack does, and so does what definitions see of what is shared.
+    // Where a thread needs a class or waits, its stack and what is shared stay as they were. Where memory is refused
+    // its stack does, and so does what definitions see of what is shared.
     ensures stays { IfOk result (λ e. (Stays e frames.old frames.new) × (Stays e shared.old shared.new)) }
-    ensures err { OnErr result ((frames.new ≡ frames.old) × ((p : List Line) → shared_of shared.new p ≡ shared_of shared.old p)) }
+    ensures err { OnErr result ((frames.new ≡ frames.old) × (SharesTheSame shared.old shared.new)) }
 {
     let by = Actor {
         thread: frames.thread,

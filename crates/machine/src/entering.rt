@@ -3,8 +3,8 @@
 ghost use Rattle.std.specs.Prelude.{◌≡◌, IfOk, Some, OnOk};
 ghost use Rattle.machine.specs.Linked.{blank_areas, initializer_frame, start_frame};
 
-use hierarchy::class::Implementation;
-use hierarchy::program::Program;
+use program::class::Implementation;
+use program::program::Program;
 use std::alloc::{AllocError, Global};
 use vm_state::classes::Classes;
 use vm_state::frame::{Activity, Frame};
@@ -13,6 +13,9 @@ use vm_state::operands::Operands;
 use vm_state::value::Value;
 
 /// The frame of a class's class initialization method (JVMS 2.9), where the class has one.
+///
+/// # Errors
+/// `AllocError` where memory is refused.
 pub fn initializer_frame(
     alloc: Global,
     program: &Program,
@@ -41,6 +44,9 @@ pub fn initializer_frame(
 
 /// The frame that a thread begins with: it needs its entry class and calls that class's `main`, with the thread's
 /// first object as the argument (JVMS 5.2).
+///
+/// # Errors
+/// `AllocError` where memory is refused.
 pub fn start_frame(alloc: Global, class: u32, thread: u32) -> Result<Frame, AllocError>
     ensures { IfOk result (λ f. f ≡ start_frame class thread) }
 {
@@ -54,6 +60,9 @@ pub fn start_frame(alloc: Global, class: u32, thread: u32) -> Result<Frame, Allo
 }
 
 /// The states and static fields of the program's classes before any is initialized.
+///
+/// # Errors
+/// `AllocError` where memory is refused.
 pub fn blank_classes(alloc: Global, program: &Program) -> Result<Classes, AllocError>
     ensures { IfOk result (λ r. r ≡ blank_areas program.now.classes) }
 {

@@ -4,7 +4,7 @@
 ghost use Rattle.std.specs.Prelude.{◌≡◌, Bool, List, Err, IfErr, IsErr};
 ghost use Rattle.vm_state.specs.declared.frame.Frame.{Frame};
 ghost use Rattle.vm_state.specs.declared.text.Line.{Line};
-ghost use Rattle.hierarchy.specs.Tables.{implementation_at};
+ghost use Rattle.program.specs.Tables.{implementation_at};
 ghost use Rattle.frame_instructions.specs.Completion.{pushes, completed};
 ghost use Rattle.machine.specs.Operations.{meaning, operation_at};
 ghost use Rattle.machine.specs.Table.{local_row, raises, operation_row, catches_in, fetched, row};
@@ -16,13 +16,13 @@ use crate::resolved::{Resolved, resolved_operation};
 use crate::starting::start;
 use crate::statics::{get_out, get_static, put_static};
 use crate::store::Store;
+use built_in::class_id::{BuiltIn, ClassId};
 use frame_instructions::execute::execute_local;
 use frame_instructions::numeric::push;
 use frame_instructions::trap::Trap;
-use hierarchy::class::Implementation;
-use hierarchy::program::Program;
+use program::class::Implementation;
+use program::program::Program;
 use std::alloc::Global;
-use vm_state::class_id::{BuiltIn, ClassId};
 use vm_state::ends::FaultKind;
 use vm_state::frame::{Activity, Frame};
 use vm_state::object::Slots;
@@ -36,7 +36,9 @@ fn raise<S: Store>(
     catches: bool,
     class: BuiltIn,
 ) -> Result<Conclusion, Stop>
-    ensures gives { (p : List Line) (f : Frame) → Gives S.stopped (S.run by (S.state store.old p)) (S.run by (S.state store.new p)) (raises catches class) f result }
+    ensures gives { (p : List Line) (f : Frame)
+        → Gives S.stopped (S.run by (S.state store.old p)) (S.run by (S.state store.new p))
+        (raises catches class) f result }
     ensures same { IfErr result (λ stop. Kept S.state stop store.old store.new) }
 {
     if catches {
@@ -55,7 +57,9 @@ fn trap<S: Store>(
     catches: bool,
     trap: Trap,
 ) -> Result<Conclusion, Stop>
-    ensures gives { (p : List Line) (f : Frame) → Gives S.stopped (S.run by (S.state store.old p)) (S.run by (S.state store.new p)) (local_row catches (Err trap)) f result }
+    ensures gives { (p : List Line) (f : Frame)
+        → Gives S.stopped (S.run by (S.state store.old p)) (S.run by (S.state store.new p))
+        (local_row catches (Err trap)) f result }
     ensures same { IfErr result (λ stop. Kept S.state stop store.old store.new) }
 {
     match trap {
@@ -87,7 +91,8 @@ fn end<S: Store>(
     went: Result<(), Trap>,
 ) -> Result<Conclusion, Stop>
     ensures gives { (p : List Line) → Gives S.stopped (S.run by (S.state store.old p)) (S.run by (S.state store.new p))
-        (local_row (catches_in (implementation_at program.now class method)) (completed went frame.now)) frame.now result }
+        (local_row (catches_in (implementation_at program.now class method)) (completed went frame.now)) frame.now
+        result }
     ensures same { IfErr result (λ stop. Kept S.state stop store.old store.new × IsErr went) }
 {
     match went {
@@ -108,7 +113,7 @@ fn push_constant(frame: &mut Frame, number: Value) -> Conclusion
 }
 
 /// An instruction that touches more than its frame, or names an entry of the run-time constant pool.
-#[tactic(auto, using(crate::proofs::Keeping::kept_same))]
+#[tactic(auto, using(crate::proofs::AccessesLemmas::kept_same))]
 #[inline(always)]
 fn execute_resolved<S: Store>(
     alloc: Global,
@@ -117,7 +122,9 @@ fn execute_resolved<S: Store>(
     store: &mut S,
     resolved: Resolved,
 ) -> Result<Conclusion, Stop>
-    ensures gives { (p : List Line) (b : Bool) → Gives S.stopped (S.run by (S.state store.old p)) (S.run by (S.state store.new p)) (operation_row b (meaning resolved) frame.old) frame.new result }
+    ensures gives { (p : List Line) (b : Bool)
+        → Gives S.stopped (S.run by (S.state store.old p)) (S.run by (S.state store.new p))
+        (operation_row b (meaning resolved) frame.old) frame.new result }
     ensures same { IfErr result (λ stop. (frame.new ≡ frame.old) × Kept S.state stop store.old store.new) }
     ensures activity { frame.new.activity ≡ frame.old.activity }
 {
@@ -147,7 +154,8 @@ fn execute_next<S: Store>(
     method: u16,
 ) -> Result<Conclusion, Stop>
     ensures gives { (p : List Line) → Gives S.stopped (S.run by (S.state store.old p)) (S.run by (S.state store.new p))
-        (fetched (catches_in (implementation_at program.now class method)) (operation_at program.now class method frame.old.place) frame.old) frame.new result }
+        (fetched (catches_in (implementation_at program.now class method))
+        (operation_at program.now class method frame.old.place) frame.old) frame.new result }
     ensures same { IfErr result (λ stop. (frame.new ≡ frame.old) × Kept S.state stop store.old store.new) }
     ensures activity { frame.new.activity ≡ frame.old.activity }
 {
@@ -164,7 +172,11 @@ fn execute_next<S: Store>(
 }
 
 /// The next instruction of a frame.
-#[tactic(auto, unfolding(crate::specs::Table::row), using(crate::proofs::Keeping::kept_same))]
+///
+/// # Errors
+/// The reason why it was not done. The frame is as it was, and so is the store; where memory is refused, what
+/// definitions see of it.
+#[tactic(auto, unfolding(crate::specs::Table::row), using(crate::proofs::AccessesLemmas::kept_same))]
 pub fn execute<S: Store>(
     alloc: Global,
     program: &Program,
@@ -172,7 +184,8 @@ pub fn execute<S: Store>(
     frame: &mut Frame,
     store: &mut S,
 ) -> Result<Conclusion, Stop>
-    ensures gives { (p : List Line) → Gives S.stopped (S.run by (S.state store.old p)) (S.run by (S.state store.new p)) (row program.now frame.old) frame.new result }
+    ensures gives { (p : List Line) → Gives S.stopped (S.run by (S.state store.old p)) (S.run by (S.state store.new p))
+        (row program.now frame.old) frame.new result }
     ensures same { IfErr result (λ stop. (frame.new ≡ frame.old) × Kept S.state stop store.old store.new) }
     ensures activity { frame.new.activity ≡ frame.old.activity }
 {

@@ -2,8 +2,8 @@
 
 ghost use Rattle.std.specs.Prelude.{◌≡◌};
 
+use built_in::class_id::ClassId;
 use std::alloc::AllocError;
-use vm_state::class_id::ClassId;
 use vm_state::ends::{End, FaultKind};
 use vm_state::frame::Frame;
 use vm_state::text::Text;
@@ -65,8 +65,7 @@ impl From<AllocError> for Stop {
 pub enum Effect {
     /// It was done, and the thread goes on.
     Next,
-    /// It raised an exception, for which the thread stands in a handler, or at an initialization entry where it is
-    /// pending.
+    /// It raised an exception, for which the thread stands in a handler, or at an initialization where it is pending.
     Raise,
     /// Nothing: the class of this number has to be initialized first.
     Needs(u32),

@@ -2,8 +2,8 @@
 
 ghost use Rattle.machine.specs.Laws.{LinkedTablesAreSound, TableIsLawful};
 
-/// The static fields of a linked program begin as no objects, a static final is written in the class initialization method
-/// of its own class alone, and no `main` is such a method.
+/// The static fields of a linked program begin as no objects, a static final is written in the class initialization
+/// method of its own class alone, and no `main` is such a method.
 pub fn linked_tables_are_sound()
     ensures { LinkedTablesAreSound }
 {}

@@ -18,6 +18,9 @@ const FAULT: Result<Conclusion, Stop> = Ok(Conclusion::Halts(FaultKind::Fault));
 const UNSUPPORTED: Result<Conclusion, Stop> = Ok(Conclusion::Halts(FaultKind::Unsupported));
 
 /// `println(int)`.
+///
+/// # Errors
+/// `Stop::Memory` where memory is refused. Then the frame is as it was.
 pub fn print_int(alloc: Global, frame: &mut Frame) -> Result<Conclusion, Stop>
     ensures gives { IfOk result (λ conclusion. print_int frame.old ≡ concluded conclusion frame.new) }
     ensures memory { IfErr result (λ stop. stop ≡ Stop.Memory) }

@@ -1,19 +1,20 @@
 //! What instructions do that touch more than their frame, once what they name is looked up.
 
 ghost use Rattle.std.specs.Prelude.{◌≡◌, Some};
-ghost use Rattle.hierarchy.specs.Tables.{implementation_at};
+ghost use Rattle.program.specs.Tables.{implementation_at};
 ghost use Rattle.machine.specs.Operations.{meaning, int_constant, long_constant, get_static, put_static, may_write};
-ghost use Rattle.machine.specs.Operations.{get_target, getstatic_of, put_target, putstatic_of, invokevirtual_of, return_of, resolved_operation};
+ghost use Rattle.machine.specs.Operations.{get_target, getstatic_of, put_target, putstatic_of, invokevirtual_of};
+ghost use Rattle.machine.specs.Operations.{return_of, resolved_operation};
 
 use bytecode::Instruction;
 use frame_instructions::operand_kind::OperandKind;
-use hierarchy::class::Implementation;
-use hierarchy::entry::{Entry, FieldKind, FieldTarget};
-use hierarchy::program::Program;
-use hierarchy::{BuiltInMethod, Method, Printed, Unresolved};
+use program::class::Implementation;
+use program::program::Program;
+use program::runtime_constant::{FieldKind, FieldTarget, RuntimeConstant};
+use program::{BuiltInMethod, Method, Printed, Unresolved};
 use vm_state::ends::FaultKind;
 
-/// What an instruction does that touches more than its frame, or names an entry of the run-time constant pool.
+/// What an instruction does that touches more than its frame, or names a constant of the run-time constant pool.
 #[derive(Clone, Copy)]
 pub enum Resolved {
     /// `ldc` and `ldc_w` of an int.
@@ -41,45 +42,45 @@ const MISSING: Resolved = Resolved::Refused(FaultKind::Missing);
 
 const UNSUPPORTED: Resolved = Resolved::Refused(FaultKind::Unsupported);
 
-/// `ldc` and `ldc_w` of an entry of the run-time constant pool.
-fn int_constant(entry: Option<Entry>) -> Resolved
-    ensures { meaning result ≡ int_constant entry }
+/// `ldc` and `ldc_w` of a constant of the run-time constant pool.
+fn int_constant(constant: Option<RuntimeConstant>) -> Resolved
+    ensures { meaning result ≡ int_constant constant }
 {
-    match entry {
-        Some(Entry::Int(number)) => Resolved::PushInt(number),
-        Some(Entry::Text(_)) | Some(Entry::Float) => UNSUPPORTED,
-        Some(Entry::Class(_)) => UNSUPPORTED,
-        Some(Entry::MethodHandle) | Some(Entry::MethodType) => UNSUPPORTED,
+    match constant {
+        Some(RuntimeConstant::Int(number)) => Resolved::PushInt(number),
+        Some(RuntimeConstant::String(_)) | Some(RuntimeConstant::Float) => UNSUPPORTED,
+        Some(RuntimeConstant::Class(_)) => UNSUPPORTED,
+        Some(RuntimeConstant::MethodHandle) | Some(RuntimeConstant::MethodType) => UNSUPPORTED,
         _ => FAULT,
     }
 }
 
-/// `ldc2_w` of an entry of the run-time constant pool.
-fn long_constant(entry: Option<Entry>) -> Resolved
-    ensures { meaning result ≡ long_constant entry }
+/// `ldc2_w` of a constant of the run-time constant pool.
+fn long_constant(constant: Option<RuntimeConstant>) -> Resolved
+    ensures { meaning result ≡ long_constant constant }
 {
-    match entry {
-        Some(Entry::Long(number)) => Resolved::PushLong(number),
-        Some(Entry::Double) => UNSUPPORTED,
+    match constant {
+        Some(RuntimeConstant::Long(number)) => Resolved::PushLong(number),
+        Some(RuntimeConstant::Double) => UNSUPPORTED,
         _ => FAULT,
     }
 }
 
-fn get_static(class: u32, slot: u32, kind: FieldKind) -> Resolved
-    ensures { meaning result ≡ get_static class slot kind }
+fn get_static(class: u32, number: u32, kind: FieldKind) -> Resolved
+    ensures { meaning result ≡ get_static class number kind }
 {
     match kind {
-        FieldKind::Int | FieldKind::Long => Resolved::GetStatic(class, slot),
+        FieldKind::Int | FieldKind::Long => Resolved::GetStatic(class, number),
         _ => UNSUPPORTED,
     }
 }
 
-fn put_static(class: u32, slot: u32, kind: FieldKind) -> Resolved
-    ensures { meaning result ≡ put_static class slot kind }
+fn put_static(class: u32, number: u32, kind: FieldKind) -> Resolved
+    ensures { meaning result ≡ put_static class number kind }
 {
     match kind {
-        FieldKind::Int => Resolved::PutStatic(OperandKind::Int, class, slot),
-        FieldKind::Long => Resolved::PutStatic(OperandKind::Long, class, slot),
+        FieldKind::Int => Resolved::PutStatic(OperandKind::Int, class, number),
+        FieldKind::Long => Resolved::PutStatic(OperandKind::Long, class, number),
         _ => UNSUPPORTED,
     }
 }
@@ -88,7 +89,7 @@ fn get_target(kind: FieldKind, target: Result<FieldTarget, Unresolved>) -> Resol
     ensures { meaning result ≡ get_target kind target }
 {
     match target {
-        Ok(FieldTarget::Static { class, slot, .. }) => get_static(class, slot, kind),
+        Ok(FieldTarget::Static { class, number, .. }) => get_static(class, number, kind),
         Ok(FieldTarget::Instance { .. }) => FAULT,
         Ok(FieldTarget::Out) => Resolved::GetOut,
         Err(Unresolved::Missing) => MISSING,
@@ -96,14 +97,14 @@ fn get_target(kind: FieldKind, target: Result<FieldTarget, Unresolved>) -> Resol
     }
 }
 
-/// `getstatic` of an entry of the run-time constant pool.
-fn getstatic_of(entry: Option<Entry>) -> Resolved
-    ensures { meaning result ≡ getstatic_of entry }
+/// `getstatic` of a constant of the run-time constant pool.
+fn getstatic_of(constant: Option<RuntimeConstant>) -> Resolved
+    ensures { meaning result ≡ getstatic_of constant }
 {
-    match entry {
-        Some(Entry::Field(FieldKind::Float, _)) => UNSUPPORTED,
-        Some(Entry::Field(FieldKind::Double, _)) => UNSUPPORTED,
-        Some(Entry::Field(kind, target)) => get_target(kind, target),
+    match constant {
+        Some(RuntimeConstant::Field(FieldKind::Float, _)) => UNSUPPORTED,
+        Some(RuntimeConstant::Field(FieldKind::Double, _)) => UNSUPPORTED,
+        Some(RuntimeConstant::Field(kind, target)) => get_target(kind, target),
         _ => FAULT,
     }
 }
@@ -134,14 +135,14 @@ fn put_target(
         Ok(
             FieldTarget::Static {
                 class: owner,
-                slot,
+                number,
                 is_final,
             },
         ) => {
             if !may_write(program, class, method, owner, is_final) {
                 return FAULT;
             }
-            put_static(owner, slot, kind)
+            put_static(owner, number, kind)
         }
         Ok(FieldTarget::Instance { .. }) | Ok(FieldTarget::Out) => FAULT,
         Err(Unresolved::Missing) => MISSING,
@@ -149,27 +150,34 @@ fn put_target(
     }
 }
 
-/// `putstatic` of an entry of the run-time constant pool, in a method.
-fn putstatic_of(program: &Program, class: u32, method: u16, entry: Option<Entry>) -> Resolved
-    ensures { meaning result ≡ putstatic_of program.now class method entry }
+/// `putstatic` of a constant of the run-time constant pool, in a method.
+fn putstatic_of(
+    program: &Program,
+    class: u32,
+    method: u16,
+    constant: Option<RuntimeConstant>,
+) -> Resolved
+    ensures { meaning result ≡ putstatic_of program.now class method constant }
 {
-    match entry {
-        Some(Entry::Field(FieldKind::Float, _)) => UNSUPPORTED,
-        Some(Entry::Field(FieldKind::Double, _)) => UNSUPPORTED,
-        Some(Entry::Field(kind, target)) => put_target(program, class, method, kind, target),
+    match constant {
+        Some(RuntimeConstant::Field(FieldKind::Float, _)) => UNSUPPORTED,
+        Some(RuntimeConstant::Field(FieldKind::Double, _)) => UNSUPPORTED,
+        Some(RuntimeConstant::Field(kind, target)) => put_target(
+            program, class, method, kind, target,
+        ),
         _ => FAULT,
     }
 }
 
-/// `invokevirtual` of an entry of the run-time constant pool: `println(int)` alone, so far.
-fn invokevirtual_of(entry: Option<Entry>) -> Resolved
-    ensures { meaning result ≡ invokevirtual_of entry }
+/// `invokevirtual` of a constant of the run-time constant pool: `println(int)` alone, so far.
+fn invokevirtual_of(constant: Option<RuntimeConstant>) -> Resolved
+    ensures { meaning result ≡ invokevirtual_of constant }
 {
-    match entry {
-        Some(Entry::Method(Ok(Method::BuiltIn(BuiltInMethod::PrintLine(Printed::Int))))) => {
-            Resolved::PrintInt
-        }
-        Some(Entry::Method(_)) => UNSUPPORTED,
+    match constant {
+        Some(
+            RuntimeConstant::Method(Ok(Method::BuiltIn(BuiltInMethod::PrintLine(Printed::Int)))),
+        ) => { Resolved::PrintInt }
+        Some(RuntimeConstant::Method(_)) => UNSUPPORTED,
         _ => FAULT,
     }
 }
@@ -194,13 +202,13 @@ pub fn resolved_operation(
     ensures { meaning result ≡ resolved_operation program.now class method instruction.now }
 {
     match instruction {
-        Instruction::LoadConstant(index) => int_constant(program.entry(class, *index)),
-        Instruction::LoadWideConstant(index) => long_constant(program.entry(class, *index)),
-        Instruction::GetStatic(index) => getstatic_of(program.entry(class, *index)),
+        Instruction::LoadConstant(index) => int_constant(program.constant(class, *index)),
+        Instruction::LoadWideConstant(index) => long_constant(program.constant(class, *index)),
+        Instruction::GetStatic(index) => getstatic_of(program.constant(class, *index)),
         Instruction::PutStatic(index) => {
-            putstatic_of(program, class, method, program.entry(class, *index))
+            putstatic_of(program, class, method, program.constant(class, *index))
         }
-        Instruction::InvokeVirtual(index) => invokevirtual_of(program.entry(class, *index)),
+        Instruction::InvokeVirtual(index) => invokevirtual_of(program.constant(class, *index)),
         Instruction::Return => return_of(program, class, method),
         Instruction::Bad => FAULT,
         _ => UNSUPPORTED,

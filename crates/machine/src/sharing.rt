@@ -9,8 +9,8 @@ ghost use Rattle.machine.specs.Sharing.{run_shared, stopped_shared, CanUseShared
 
 use crate::kinds::{Actor, Stop};
 use crate::store::Store;
+use built_in::class_id::ClassId;
 use std::alloc::{AllocError, Global};
-use vm_state::class_id::ClassId;
 use vm_state::classes::Usability;
 use vm_state::object::Slots;
 use vm_state::shared::Shared;

@@ -4,15 +4,15 @@ ghost use Rattle.std.specs.Prelude.{◌≡◌, List, Option, Some, None, IfOk, I
 ghost use Rattle.vm_state.specs.declared.value.Value.{Value};
 ghost use Rattle.vm_state.specs.declared.text.Line.{Line};
 ghost use Rattle.vm_state.specs.Locals.{stored};
-ghost use Rattle.hierarchy.specs.Tables.{main_in};
+ghost use Rattle.program.specs.Tables.{main_in};
 ghost use Rattle.machine.specs.declared.kinds.Stop.{Stop};
 ghost use Rattle.machine.specs.Table.{call_main, called, start_row};
 ghost use Rattle.machine.specs.Accesses.{Gives, concluded};
 
 use crate::kinds::{Actor, Conclusion, Stop};
 use crate::store::Store;
-use hierarchy::class::{Code, Implementation};
-use hierarchy::program::Program;
+use program::class::{Implementation, MethodCode};
+use program::program::Program;
 use std::alloc::{AllocError, Global};
 use vm_state::ends::FaultKind;
 use vm_state::frame::{Activity, Frame};
@@ -26,11 +26,14 @@ fn called(
     alloc: Global,
     class: u32,
     method: u16,
-    code: &Code,
+    code: &MethodCode,
     argument: Value,
 ) -> Result<Option<Frame>, AllocError>
     ensures none { IfOk result (λ r. IfNone r (stored (replicate code.now.max_locals None) 0 argument ≡ None)) }
-    ensures some { IfOk result (λ r. IfSome r (λ f. (locals : List (Option Value)) × (stored (replicate code.now.max_locals None) 0 argument ≡ Some locals) × (f ≡ called class method code.now locals))) }
+    ensures some { IfOk result
+        (λ r. IfSome r
+        (λ f. (locals : List (Option Value)) × (stored (replicate code.now.max_locals None) 0 argument ≡ Some locals)
+        × (f ≡ called class method code.now locals))) }
 {
     let mut locals = Locals::new(alloc, code.max_locals)?;
     let operands = Operands::new(alloc, code.max_stack)?;
@@ -55,7 +58,8 @@ fn call_main(
     frame: &Frame,
     class: u32,
 ) -> Result<Conclusion, Stop>
-    ensures gives { IfOk result (λ conclusion. call_main program.now class frame.now (main_in program.now class) ≡ concluded conclusion frame.now) }
+    ensures gives { IfOk result (λ conclusion. call_main program.now class frame.now (main_in program.now class)
+        ≡ concluded conclusion frame.now) }
     ensures memory { IfErr result (λ stop. stop ≡ Stop.Memory) }
 {
     let Some(method) = program.main(class) else {
@@ -78,6 +82,9 @@ fn call_main(
 }
 
 /// The start of a thread, which needs its entry class and calls the class's `main`.
+///
+/// # Errors
+/// The store's reason why the class can't be used now, or `Stop::Memory`. Nothing has changed.
 #[tactic(auto, unfolding(crate::specs::Accesses::unless_refused))]
 pub fn start<S: Store>(
     alloc: Global,
@@ -87,7 +94,8 @@ pub fn start<S: Store>(
     store: &S,
     class: u32,
 ) -> Result<Conclusion, Stop>
-    ensures gives { (p : List Line) → Gives S.stopped (S.run by (S.state store.now p)) (S.run by (S.state store.now p)) (start_row program.now class frame.now) frame.now result }
+    ensures gives { (p : List Line) → Gives S.stopped (S.run by (S.state store.now p)) (S.run by (S.state store.now p))
+        (start_row program.now class frame.now) frame.now result }
 {
     if !store.use_class(by, class)? {
         return Ok(Conclusion::Halts(FaultKind::Unsupported));

@@ -19,6 +19,9 @@ const FAULT: Result<Conclusion, Stop> = Ok(Conclusion::Halts(FaultKind::Fault));
 const UNSUPPORTED: Result<Conclusion, Stop> = Ok(Conclusion::Halts(FaultKind::Unsupported));
 
 /// `getstatic` (JVMS 6.5).
+///
+/// # Errors
+/// The store's reason. The frame is as it was.
 #[inline(always)]
 pub fn get_static<S: Store>(
     by: Actor,
@@ -27,7 +30,8 @@ pub fn get_static<S: Store>(
     class: u32,
     field: u32,
 ) -> Result<Conclusion, Stop>
-    ensures gives { (p : List Line) → Gives S.stopped (S.run by (S.state store.now p)) (S.run by (S.state store.now p)) (get_static class field frame.old) frame.new result }
+    ensures gives { (p : List Line) → Gives S.stopped (S.run by (S.state store.now p)) (S.run by (S.state store.now p))
+        (get_static class field frame.old) frame.new result }
     ensures same { OnErr result (frame.new ≡ frame.old) }
     ensures activity { frame.new.activity ≡ frame.old.activity }
 {
@@ -43,7 +47,11 @@ pub fn get_static<S: Store>(
 }
 
 /// `putstatic` (JVMS 6.5).
-#[tactic(auto, using(crate::proofs::Keeping::kept_same))]
+///
+/// # Errors
+/// The store's reason. The frame is as it was, and so is the store; where memory is refused, what definitions see of
+/// it.
+#[tactic(auto, using(crate::proofs::AccessesLemmas::kept_same))]
 pub fn put_static<S: Store>(
     alloc: Global,
     by: Actor,
@@ -53,7 +61,8 @@ pub fn put_static<S: Store>(
     class: u32,
     field: u32,
 ) -> Result<Conclusion, Stop>
-    ensures gives { (p : List Line) → Gives S.stopped (S.run by (S.state store.old p)) (S.run by (S.state store.new p)) (put_static kind class field frame.old) frame.new result }
+    ensures gives { (p : List Line) → Gives S.stopped (S.run by (S.state store.old p)) (S.run by (S.state store.new p))
+        (put_static kind class field frame.old) frame.new result }
     ensures same { IfErr result (λ stop. (frame.new ≡ frame.old) × Kept S.state stop store.old store.new) }
     ensures activity { frame.new.activity ≡ frame.old.activity }
 {

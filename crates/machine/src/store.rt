@@ -8,8 +8,8 @@ ghost use Rattle.machine.specs.declared.kinds.Actor.{Actor as By};
 ghost use Rattle.machine.specs.declared.kinds.Stop.{Stop as Reason};
 
 use crate::kinds::{Actor, Stop};
+use built_in::class_id::ClassId;
 use std::alloc::Global;
-use vm_state::class_id::ClassId;
 use vm_state::object::Slots;
 use vm_state::value::{Name, Value};
 
@@ -34,17 +34,28 @@ pub trait Store {
     ghost CanUse: { By → Self → ℕ → Type 0 };
 
     /// Asks for an initialized class (JVMS 5.5): true where it may be used, false where its initialization failed.
+    ///
+    /// # Errors
+    /// `Needs` where its initialization has to begin, `Waits` where another thread is at it, or the store's own reason.
     fn use_class(&self, by: Actor, class: u32) -> Result<bool, Stop>
-        ensures leads { (p : List Line) → Leads stopped (run by (state self.now p)) (run by (state self.now p)) (UseClass class) result }
+        ensures leads { (p : List Line) → Leads stopped (run by (state self.now p)) (run by (state self.now p))
+            (UseClass class) result }
         ensures may { IfOk result (λ usable. usable ≡ true → CanUse by self.now class) };
 
     /// The value of a static field of a class that was asked for.
+    ///
+    /// # Errors
+    /// The store's reason why it may not be read.
     fn read_static(&self, by: Actor, class: u32, field: u32) -> Result<Value, Stop>
         requires { CanUse by self.now class }
-        ensures { (p : List Line) → Leads stopped (run by (state self.now p)) (run by (state self.now p)) (ReadStatic class field) result };
+        ensures { (p : List Line) → Leads stopped (run by (state self.now p)) (run by (state self.now p))
+            (ReadStatic class field) result };
 
     /// Sets a static field of a class that was asked for. Where it is stopped nothing changes; where memory stops it,
     /// nothing that definitions see.
+    ///
+    /// # Errors
+    /// The store's reason; `Memory` where memory is refused.
     fn write_static(
         &mut self,
         alloc: Global,
@@ -54,12 +65,17 @@ pub trait Store {
         value: Value,
     ) -> Result<(), Stop>
         requires { CanUse by self.old class }
-        ensures leads { (p : List Line) → LeadsOn stopped (run by (state self.old p)) (run by (state self.new p)) (WriteStatic class field value) result }
+        ensures leads { (p : List Line) → LeadsOn stopped (run by (state self.old p)) (run by (state self.new p))
+            (WriteStatic class field value) result }
         ensures same { IfErr result (λ stop. Kept state stop self.old self.new) };
 
     /// Makes an object, whose monitor is free, and answers its name. Where it is stopped nothing changes; where memory
     /// stops it, nothing that definitions see.
+    ///
+    /// # Errors
+    /// The store's reason; `Memory` where memory is refused.
     fn make(&mut self, alloc: Global, by: Actor, class: ClassId, slots: Slots) -> Result<Name, Stop>
-        ensures leads { (p : List Line) → Leads stopped (run by (state self.old p)) (run by (state self.new p)) (Make class slots) result }
+        ensures leads { (p : List Line) → Leads stopped (run by (state self.old p)) (run by (state self.new p))
+            (Make class slots) result }
         ensures same { IfErr result (λ stop. Kept state stop self.old self.new) };
 }

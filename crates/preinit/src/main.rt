@@ -64,7 +64,7 @@ fn stop_of(error: io::Error) -> Stop {
     }
 }
 
-/// Does the command that these words name, behind the program's name.
+/// Does the command that these words name, after the program's name.
 fn run_words<R, W, E>(rt: &R, texts: &[String], out: W, errors: &mut E) -> Result<u8, Stop>
 where
     R: rt::Files + AllocGlobal,

@@ -9,7 +9,7 @@ use std::alloc::{AllocError, Global};
 ///
 /// Given is the file, with `{}` for what is asked; before a colon stands only what that is. Of a file without `{}`
 /// asked are `at OFFSET BYTES`, with other bytes there; `first LENGTH`, that many of its bytes; `then BYTES`, more
-/// behind it; `parts`; and `entries`. Without a file `name TEXT` asks for the forms of a class's name, and `units
+/// after it; `parts`; and `entries`. Without a file `name TEXT` asks for the forms of a class's name, and `units
 /// TEXT` for those of one with any units.
 pub fn answer(alloc: Global, given: &str, asked: &str) -> Result<String, AllocError> {
     if given.is_empty() {
@@ -42,7 +42,7 @@ fn cut(alloc: Global, given: &str, length: &str) -> Result<SpelledBytes, AllocEr
     Ok(file)
 }
 
-/// A file with more bytes behind it.
+/// A file with more bytes after it.
 fn longer(alloc: Global, given: &str, more: &str) -> Result<SpelledBytes, AllocError> {
     let both = format!(in alloc; "{given} {more}")?;
     spelled(alloc, &both)
@@ -130,7 +130,7 @@ fn entries_of(alloc: Global, class: &ClassFile) -> Result<String, AllocError> {
         if class.constant(index).is_none() {
             text.push_str("no entry ")?;
         }
-        add_text(alloc, &mut text, class.text(index))?;
+        add_text(alloc, &mut text, class.utf8(index))?;
     }
     Ok(text)
 }

@@ -6,7 +6,7 @@ use classfile::{ClassFile, read};
 use std::alloc::{AllocError, Global};
 use std::mem::size_of;
 
-/// The body of a code, each instruction behind its pc; or why there is none. Given is the class file, with `{}` for
+/// The body of a code, each instruction after its pc; or why there is none. Given is the class file, with `{}` for
 /// the code of its first method. To `size` it is that of an instruction.
 pub fn answer(alloc: Global, given: &str, code: &str) -> Result<String, AllocError> {
     if code == "size" {

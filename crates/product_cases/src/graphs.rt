@@ -8,7 +8,7 @@ use std::str::SplitWhitespace;
 /// `diamonds COUNT`, each of three vertices that lead to the next one's first.
 ///
 /// Asked is `arrange`, for the order or the least vertex on a cycle; `arrange all`, for whether the order has all
-/// vertices, each behind its successors; or `reach VERTEX` and `reach VERTEX cleared`, for what is reached.
+/// vertices, each after its successors; or `reach VERTEX` and `reach VERTEX cleared`, for what is reached.
 pub fn answer(alloc: Global, given: &str, asked: &str) -> Result<String, AllocError> {
     let graph = graph_of(alloc, given)?;
     match asked.split_once(' ') {
@@ -77,7 +77,7 @@ fn arranged(alloc: Global, graph: &Graph, is_large: bool) -> Result<String, Allo
     match arrange(alloc, graph)? {
         Arrangement::Order(order) if is_large => order_checked(alloc, graph, &order),
         Arrangement::Order(order) => order_text(alloc, &order),
-        Arrangement::Circle(vertex) => format!(in alloc; "a circle at {vertex}"),
+        Arrangement::Cycle(vertex) => format!(in alloc; "a circle at {vertex}"),
     }
 }
 
@@ -89,7 +89,7 @@ fn order_text(alloc: Global, order: &[usize]) -> Result<String, AllocError> {
     Ok(text)
 }
 
-/// How many vertices an order has, each once and behind its successors; or what is wrong with it.
+/// How many vertices an order has, each once and after its successors; or what is wrong with it.
 fn order_checked(alloc: Global, graph: &Graph, order: &[usize]) -> Result<String, AllocError> {
     let mut are_before = vec![in alloc; false; graph.len()]?;
     if let Some(vertex) = first_out_of_order(graph, order, &mut are_before) {
@@ -103,10 +103,10 @@ fn order_checked(alloc: Global, graph: &Graph, order: &[usize]) -> Result<String
     format!(in alloc; "{count} of {length} in order")
 }
 
-/// The first vertex that is not behind all its successors. Those before it are marked.
+/// The first vertex that is not after all its successors. Those before it are marked.
 fn first_out_of_order(graph: &Graph, order: &[usize], are_before: &mut [bool]) -> Option<usize> {
     for vertex in order {
-        if !is_behind(graph, *vertex, are_before) {
+        if !is_after_successors(graph, *vertex, are_before) {
             return Some(*vertex);
         }
         if let Some(mark) = are_before.get_mut(*vertex) {
@@ -117,7 +117,7 @@ fn first_out_of_order(graph: &Graph, order: &[usize], are_before: &mut [bool]) -
 }
 
 /// Whether all successors of a vertex are among those before it.
-fn is_behind(graph: &Graph, vertex: usize, are_before: &[bool]) -> bool {
+fn is_after_successors(graph: &Graph, vertex: usize, are_before: &[bool]) -> bool {
     for successor in graph.successors(vertex) {
         if !are_before.get(*successor).copied().unwrap_or(false) {
             return false;

@@ -1,5 +1,5 @@
 //! The program `product_cases`: asks the questions of the files of cases that its command line names, and compares
-//! the answers with those that stand behind them. The folder of a file says what its cases are about ([`About`]).
+//! the answers with those that stand after them. The folder of a file says what its cases are about ([`About`]).
 //!
 //! What the files expect follows from the rules of the JVM specification (JVMS SE 8).
 //!

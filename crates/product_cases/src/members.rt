@@ -1,15 +1,15 @@
 //! What a linked program answers of its classes and their members.
 
+use built_in::class_id::{ArrayType, BuiltIn, ClassId, ElementType};
 use classfile::ClassName;
-use hierarchy::program::Program;
-use hierarchy::{Field, Method, Unresolved};
+use program::program::Program;
+use program::{Field, Method, Unresolved};
 use std::alloc::{AllocError, Global};
-use vm_state::class_id::{ArrayType, BuiltIn, ClassId, ElementType};
 
 /// The number of the given class of a name.
 fn number_of(alloc: Global, program: &Program, class: &str) -> Result<Option<u32>, AllocError> {
     let name = ClassName::from_text(alloc, class)?;
-    program.class_named(alloc, &name)
+    program.number_of(alloc, &name)
 }
 
 /// The names of all classes, by their numbers.
@@ -56,7 +56,7 @@ fn or_nothing(mut names: String) -> Result<String, AllocError> {
     Ok(names)
 }
 
-/// Adds the name of a class behind other names.
+/// Adds the name of a class after other names.
 fn add_name(
     alloc: Global,
     text: &mut String,

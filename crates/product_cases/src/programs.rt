@@ -4,8 +4,8 @@ use crate::questions::{Question, Verb};
 use crate::{members, runs};
 use cases::{add_class_files, filled};
 use classfile::{ClassFault, ClassFile, read};
-use hierarchy::link;
-use hierarchy::program::Program;
+use program::link;
+use program::program::Program;
 use std::alloc::{AllocError, Global};
 
 /// Given are classes. The order of their files makes no difference, so both ends are tried.

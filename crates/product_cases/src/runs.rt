@@ -2,8 +2,8 @@
 
 use cases::modified_utf8;
 use classfile::ClassName;
-use hierarchy::program::Program;
 use init_engine::{Ending, Line, World, turns};
+use program::program::Program;
 use std::alloc::{AllocError, Global};
 use std::str::from_utf8;
 
@@ -117,7 +117,7 @@ fn add_lines(text: &mut String, lines: &[Line]) -> Result<(), AllocError> {
     Ok(())
 }
 
-/// Single steps of thread 0, what the last one gave and what is seen then, and what a run by turns does behind it.
+/// Single steps of thread 0, what the last one gave and what is seen then, and what a run by turns does after it.
 pub fn steps(
     alloc: Global,
     program: &Program,

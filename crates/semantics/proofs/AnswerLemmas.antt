@@ -11,18 +11,19 @@ use Rattle.vm_state.specs.SharedState.{SharedState, pool_of}
 use Rattle.semantics.specs.Rows as rows
 use Rattle.semantics.specs.Rows.{Row, Halt, Result, Lock, Blocked, Answered, lock_monitor, monitor_of, on_usable}
 use Rattle.semantics.specs.Rows.{on_lock, run_row}
-use Rattle.semantics.specs.Answers.{Deed, Writes, Changes, Makes, Sets, Prints, Tale, Ends, Needs, Waits, Astray, after}
+use Rattle.semantics.specs.Answers.{Change, Writes, Changes, Makes, Sets, Prints, Transcript, Ends, Needs, Waits}
+use Rattle.semantics.specs.Answers.{Mismatch, after}
 use Rattle.semantics.specs.Answers.{by_state, by_lock}
-use Rattle.semantics.specs.Answers.{told, deed_done, enacted, on_state, on_answer, answers, AnswersDecide}
+use Rattle.semantics.specs.Answers.{told, change_done, enacted, on_state, on_answer, answers, AnswersDecide}
 
 module _ (t : ℕ) (maker : Maker) where
-  -- a deed before a tale is done before the tale is enacted
-  pub enacted-after : (sh : SharedState) (d : Deed) (tale : Tale) →
-      enacted t maker sh (after d tale) ≡ enacted t maker (deed_done t maker sh d) tale
-  enacted-after sh d (Ends outcome deeds) = refl
+  -- a change before a transcript is done before the transcript is enacted
+  pub enacted-after : (sh : SharedState) (d : Change) (transcript : Transcript) →
+      enacted t maker sh (after d transcript) ≡ enacted t maker (change_done t maker sh d) transcript
+  enacted-after sh d (Ends outcome changes) = refl
   enacted-after sh d (Needs c) = refl
   enacted-after sh d Waits = refl
-  enacted-after sh d Astray = refl
+  enacted-after sh d Mismatch = refl
 
   -- the law of one row in one shared state
   abbrev pub IsDecided : Row → SharedState → Type 0
@@ -30,13 +31,16 @@ module _ (t : ℕ) (maker : Maker) where
 
   -- ---- what stands before the rest of a row
 
-  -- a deed
-  decided_after : (sh : SharedState) (d : Deed) (row : Row) → IsDecided row (deed_done t maker sh d) →
-      run_row t maker (deed_done t maker sh d) row ≡ enacted t maker sh (after d (told row (answers t maker (deed_done t maker sh d) row)))
-  decided_after sh d row decided = decided ∙ sym (enacted-after sh d (told row (answers t maker (deed_done t maker sh d) row)))
+  -- a change
+  decided_after : (sh : SharedState) (d : Change) (row : Row) → IsDecided row (change_done t maker sh d) →
+      run_row t maker (change_done t maker sh d) row ≡ enacted t maker sh
+      (after d (told row (answers t maker (change_done t maker sh d) row)))
+  decided_after sh d row decided = decided
+      ∙ sym (enacted-after sh d (told row (answers t maker (change_done t maker sh d) row)))
 
   -- the question for a class, which may have failed
-  decided_class : (sh : SharedState) (c : ℕ) (u : Usability) (first second : Row) → IsDecided first sh → IsDecided second sh →
+  decided_class : (sh : SharedState) (c : ℕ) (u : Usability) (first second : Row) → IsDecided first sh
+      → IsDecided second sh →
       on_usable u (run_row t maker sh first) (rows.Needs c) rows.Waits (run_row t maker sh second)
       ≡ enacted t maker sh (by_state u c
       (told first (on_state u (answers t maker sh first) (answers t maker sh second)))
@@ -47,20 +51,21 @@ module _ (t : ℕ) (maker : Maker) where
   decided_class sh c Broken first second works fails = fails
 
   -- the question for the class of a static
-  decided_static : (sh : SharedState) (c : ℕ) (u : Usability) (ready : Result) (tale : Tale) → ready ≡ enacted t maker sh tale →
+  decided_static : (sh : SharedState) (c : ℕ) (u : Usability) (ready : Result) (transcript : Transcript)
+      → ready ≡ enacted t maker sh transcript →
       on_usable u ready (rows.Needs c) rows.Waits (rows.Moved (Halt Fault) sh)
-      ≡ enacted t maker sh (by_state u c tale (Ends (Halt Fault) []))
-  decided_static sh c Ready ready tale works = works
-  decided_static sh c Fresh ready tale works = refl
-  decided_static sh c Busy ready tale works = refl
-  decided_static sh c Broken ready tale works = refl
+      ≡ enacted t maker sh (by_state u c transcript (Ends (Halt Fault) []))
+  decided_static sh c Ready ready transcript works = works
+  decided_static sh c Fresh ready transcript works = refl
+  decided_static sh c Busy ready transcript works = refl
+  decided_static sh c Broken ready transcript works = refl
 
   -- a monitor
   decided_lock : (sh : SharedState) (l : Lock) (x : Name) (next : Bool → Row) →
-      ((done : Bool) (m : Monitor) → IsDecided (next done) (deed_done t maker sh (Sets x m))) →
-      on_lock l rows.Waits (λ done m. run_row t maker (deed_done t maker sh (Sets x m)) (next done))
+      ((done : Bool) (m : Monitor) → IsDecided (next done) (change_done t maker sh (Sets x m))) →
+      on_lock l rows.Waits (λ done m. run_row t maker (change_done t maker sh (Sets x m)) (next done))
       ≡ enacted t maker sh (by_lock l (λ done m. after (Sets x m) (told (next done)
-      (on_answer l (λ done m. answers t maker (deed_done t maker sh (Sets x m)) (next done))))))
+      (on_answer l (λ done m. answers t maker (change_done t maker sh (Sets x m)) (next done))))))
   decided_lock sh Blocked x next decided = refl
   decided_lock sh (Answered done m) x next decided = decided_after sh (Sets x m) (next done) (decided done m)
 
@@ -69,7 +74,8 @@ module _ (t : ℕ) (maker : Maker) where
   decided : (row : Row) (sh : SharedState) → IsDecided row sh
   decided (rows.Ends outcome) sh = refl
   decided (rows.UseClass c next) sh =
-      decided_class sh c (usable t (sh.states c)) (next true) (next false) (decided (next true) sh) (decided (next false) sh)
+      decided_class sh c (usable t (sh.states c)) (next true) (next false) (decided (next true) sh)
+      (decided (next false) sh)
   decided (rows.ReadStatic c f next) sh = decided_static sh c (usable t (sh.states c)) _ _ (decided (next _) sh)
   decided (rows.WriteStatic c f v next) sh =
       decided_static sh c (usable t (sh.states c)) _ _ (decided_after sh (Writes c f v) next (decided next _))
@@ -78,7 +84,8 @@ module _ (t : ℕ) (maker : Maker) where
   decided (rows.Change x i v next) sh = decided_after sh (Changes x i v) next (decided next _)
   decided (rows.Make class slots next) sh = decided_after sh (Makes class slots) (next _) (decided (next _) _)
   decided (rows.UseMonitor x enter next) sh =
-      decided_lock sh (lock_monitor t enter (monitor_of ((pool_of sh x.maker).at x.number))) x next (λ done m. decided (next done) _)
+      decided_lock sh (lock_monitor t enter (monitor_of ((pool_of sh x.maker).at x.number))) x next
+      (λ done m. decided (next done) _)
   decided (rows.Print text next) sh = decided_after sh (Prints text) next (decided next _)
 
 pub answers_decide_lem : AnswersDecide

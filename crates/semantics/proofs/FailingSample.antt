@@ -5,21 +5,22 @@ use Rattle.std.proofs.Common.{◌≡◌, ℕ, zero, suc, pos, false, List, [], �
 use Rattle.std.proofs.Common.{arith}
 use Rattle.std.specs.Fmt.{digits}
 use Rattle.vm_state.specs.declared.value.Value.TheVariants.{Null}
-use Rattle.vm_state.specs.declared.class_id.ClassId.{ClassId}
-use Rattle.vm_state.specs.declared.class_id.ClassId.TheVariants.{BuiltIn}
-use Rattle.vm_state.specs.declared.class_id.BuiltIn.TheVariants.{ExceptionInInitializerError, NoClassDefFoundError}
+use Rattle.built_in.specs.declared.class_id.ClassId.{ClassId}
+use Rattle.built_in.specs.declared.class_id.ClassId.TheVariants.{BuiltIn}
+use Rattle.built_in.specs.declared.class_id.BuiltIn.TheVariants.{ExceptionInInitializerError, NoClassDefFoundError}
 use Rattle.vm_state.specs.declared.classes.StaticField.{StaticField}
 use Rattle.vm_state.specs.declared.ends.Ending.TheVariants.{Uncaught}
 use Rattle.vm_state.specs.Operands.{pushed, top, rest}
 use Rattle.semantics.specs.Programs.{Program}
 use Rattle.semantics.specs.Quiet.{Environment, Raised}
-use Rattle.semantics.specs.Settling.{RefusedBy, At, Inside}
+use Rattle.semantics.specs.Settling.{At, Inside}
+use Rattle.semantics.specs.helpers.Settling.{RefusedBy}
 use Rattle.semantics.specs.Steps.{step_thread}
-use Rattle.semantics.specs.Worlds.{Sight, Shows, lazy_start}
+use Rattle.semantics.specs.Worlds.{Observation, Shows, lazy_start}
 use Rattle.semantics.specs.Lawful.{IsLawful}
 use Rattle.semantics.proofs.ToyMachine.{Instruction, PushInt, GetStatic, GetField, Throw, PrintInt, Return, Code, toy}
 use Rattle.semantics.proofs.ToyLaws.{IsSound, toy_is_lawful}
-use Rattle.semantics.proofs.Schedules.{shows_after}
+use Rattle.semantics.proofs.SchedulesLemmas.{shows_after}
 
 -- ---- the program
 
@@ -85,12 +86,12 @@ refused = Inside refl refl (omega arith) (At refl)
 
 -- ---- what is seen
 
-abbrev pub sight : Sight
-sight = record {
+abbrev pub observation : Observation
+observation = record {
   printed = record { thread = 0; text = 53 ∷ 10 ∷ [] } ∷ [];
   threads = Uncaught (BuiltIn ExceptionInInitializerError) ∷ Uncaught (BuiltIn NoClassDefFoundError) ∷ [];
 }
 
-pub lazy_shows : Shows program (lazy_start program (1 ∷ 2 ∷ [])) sight
+pub lazy_shows : Shows program (lazy_start program (1 ∷ 2 ∷ [])) observation
 unfolding step_thread pushed top rest digits
-lazy_shows = shows_after program (replicate 11 0 ++ replicate 4 1) (lazy_start program (1 ∷ 2 ∷ [])) sight refl
+lazy_shows = shows_after program (replicate 11 0 ++ replicate 4 1) (lazy_start program (1 ∷ 2 ∷ [])) observation refl

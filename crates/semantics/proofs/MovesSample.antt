@@ -4,7 +4,7 @@ use Rattle.std.proofs.Common.{◌≡◌, ℕ, zero, suc, pos, false, List, [], �
 use Rattle.vm_state.specs.declared.value.Value.TheVariants.{Int, Long, OfThread}
 use Rattle.vm_state.specs.declared.value.Maker.TheVariants.{Thread}
 use Rattle.vm_state.specs.declared.value.Name.{Name}
-use Rattle.vm_state.specs.declared.class_id.ClassId.{ClassId}
+use Rattle.built_in.specs.declared.class_id.ClassId.{ClassId}
 use Rattle.vm_state.specs.declared.ends.End.TheVariants.{Faulted}
 use Rattle.vm_state.specs.declared.ends.FaultKind.TheVariants.{Fault}
 use Rattle.vm_state.specs.declared.frame.Frame.{Frame}
@@ -14,7 +14,8 @@ use Rattle.vm_state.specs.Operands.{OperandStack, pushed, top, rest}
 use Rattle.semantics.specs.Rows.{Next, Calls, Returns, Raise}
 use Rattle.semantics.specs.Programs.{Program}
 use Rattle.semantics.specs.Quiet.{Environment, Faulted as IsFaulted}
-use Rattle.semantics.specs.Settling.{RefusedBy, ByStep, ByReturn, NoRoom}
+use Rattle.semantics.specs.Settling.{ByStep, ByReturn, NoRoom}
+use Rattle.semantics.specs.helpers.Settling.{RefusedBy}
 use Rattle.semantics.specs.Steps.{Going, Ended, left_by}
 use Rattle.semantics.proofs.ToyMachine.{Instruction, PushInt, InvokeStatic, Return, ReturnTop, Code, toy}
 
@@ -41,7 +42,7 @@ module _ (P : Program) (f : Frame) (fs : List Frame) (ls : List Level) where
       left_by P (Next (Calls narrow f)) (at_place 3 full ∷ fs) ls ≡ Going (f ∷ at_place 3 narrow ∷ fs) ls
   call_leaves = refl
 
-  -- a value returned is on the caller's stack, behind the call
+  -- a value returned is on the caller's stack, after the call
   pub return_leaves :
       left_by P (Next (Returns (Some (Int (pos 7))))) (f ∷ at_place 3 narrow ∷ fs) ls
       ≡ Going (at_place 4 full ∷ fs) ls

@@ -16,7 +16,7 @@ use Rattle.semantics.specs.Programs.{Program}
 use Rattle.semantics.specs.Quiet.{Environment}
 use Rattle.semantics.specs.Settling.{constant_region, Settles, ByReturn, ByStep, ByCall}
 use Rattle.semantics.specs.Steps.{step_thread}
-use Rattle.semantics.specs.Worlds.{Sight, Shows, lazy_start}
+use Rattle.semantics.specs.Worlds.{Observation, Shows, lazy_start}
 use Rattle.semantics.specs.Acceptance.{Analysis, IsWave, Over, IsLower, Accepted, Accepts}
 use Rattle.semantics.specs.Images.{Image, image_start, IsExact, UsesParents}
 use Rattle.semantics.specs.Lawful.{HoldsNoName, IsLawful}
@@ -26,8 +26,8 @@ use Rattle.semantics.proofs.ToyMachine.{InvokeStatic, InvokeVirtual, MonitorEnte
 use Rattle.semantics.proofs.ToyMachine.{ReturnTop}
 use Rattle.semantics.proofs.ToyMachine.{Code, int_array, toy}
 use Rattle.semantics.proofs.ToyLaws.{IsSound, toy_is_lawful}
-use Rattle.semantics.proofs.Schedules.{shows_after}
-use Rattle.semantics.proofs.ExactImages.{lazy_to_image_lem, image_to_lazy_lem}
+use Rattle.semantics.proofs.SchedulesLemmas.{shows_after}
+use Rattle.semantics.proofs.ExactImagesLemmas.{lazy_to_image_lem, image_to_lazy_lem}
 
 -- ---- the program
 
@@ -36,7 +36,8 @@ use Rattle.semantics.proofs.ExactImages.{lazy_to_image_lem, image_to_lazy_lem}
 abbrev body : ℕ → List Instruction
 body zero = PushInt (pos 6) ∷ PutStatic 0 0 ∷ Return ∷ []
 body (suc zero) = InvokeStatic 1 2 ∷ PutStatic 1 0 ∷ Return ∷ []
-body (suc (suc zero)) = GetStatic 0 0 ∷ NewArray ∷ PutStatic 1 0 ∷ GetStatic 1 0 ∷ PushInt (pos 7) ∷ PutField 5 ∷ GetStatic 1 0 ∷ ReturnTop ∷ []
+body (suc (suc zero)) = GetStatic 0 0 ∷ NewArray ∷ PutStatic 1 0 ∷ GetStatic 1 0 ∷ PushInt (pos 7) ∷ PutField 5
+    ∷ GetStatic 1 0 ∷ ReturnTop ∷ []
 body (suc (suc (suc zero))) = New 2 ∷ InvokeVirtual 4 ∷ GetStatic 1 0 ∷ GetField 5 ∷ PrintInt ∷ Return ∷ []
 body (suc (suc (suc (suc m)))) = Load 0 ∷ MonitorEnter ∷ Load 0 ∷ MonitorExit ∷ Return ∷ []
 
@@ -88,7 +89,13 @@ same_number (suc zero) m e = cc
 same_number (suc (suc n)) m e = cc
 
 code_is_sound : IsSound code
-code_is_sound = record { slots = λ c. tt; statics = sound_statics; initializers = λ c d m e h. same_number m d h ∙ same_number c m e }
+code_is_sound =
+    record {
+      slots = λ c. tt;
+      statics = sound_statics;
+      initializers = λ c d m e h. same_number m d h
+          ∙ same_number c m e;
+    }
 
 pub program_is_lawful : IsLawful program
 program_is_lawful = toy_is_lawful code code_is_sound
@@ -143,7 +150,8 @@ unfolding pushed top rest
 second_settles = (
   None,
   ByCall refl refl
-      (ByStep refl refl (ByStep refl refl (ByStep refl refl (ByStep refl refl (ByStep refl refl (ByStep refl refl (ByStep refl refl
+      (ByStep refl refl
+      (ByStep refl refl (ByStep refl refl (ByStep refl refl (ByStep refl refl (ByStep refl refl (ByStep refl refl
       (ByReturn refl refl))))))))
       refl
       (ByStep refl refl (ByReturn refl refl)),
@@ -165,7 +173,8 @@ second_wave : IsWave parents 1 1
 second_wave = Over 1 (λ d. 0) (λ d u. rw (only_use d u) first_wave)
 
 first_accepted : Accepted program analysis 0 first_region
-first_accepted = Accepts 0 first_region alone 3 (omega arith) refl (λ d u. absurd (no_uses d u)) (λ d r e. cc) (λ d r e. cc) first_settles (omega arith)
+first_accepted = Accepts 0 first_region alone 3 (omega arith) refl (λ d u. absurd (no_uses d u)) (λ d r e. cc)
+    (λ d r e. cc) first_settles (omega arith)
 
 has_uses : (d : ℕ) → Contains (0 ∷ []) d → IsSome (with_first d)
 has_uses d u = rw (only_use d u) refl
@@ -175,11 +184,13 @@ lower zero r e = (0, 1, first_wave, second_wave, omega arith)
 lower (suc d) r e = cc
 
 members_accepted : (d : ℕ) (r : Region) → with_first d ≡ Some r → Accepted program analysis d r
-members_accepted zero r e = let same : first_region ≡ r = cc in subst (λ (s : Region). Accepted program analysis 0 s) same first_accepted
+members_accepted zero r e = let same : first_region ≡ r = cc in
+    subst (λ (s : Region). Accepted program analysis 0 s) same first_accepted
 members_accepted (suc d) r e = cc
 
 second_accepted : Accepted program analysis 1 second_region
-second_accepted = Accepts 1 second_region with_first 17 (omega arith) refl has_uses lower members_accepted second_settles (omega arith)
+second_accepted = Accepts 1 second_region with_first 17 (omega arith) refl has_uses lower members_accepted
+    second_settles (omega arith)
 
 all_accepted : (c : ℕ) → is_built c ≡ true → Accepted program analysis c (regions c)
 all_accepted zero h = first_accepted
@@ -195,19 +206,20 @@ image_is_exact = record { sound = all_accepted; complete = λ c r a. allowed a }
 -- ---- what is seen
 
 -- thread 0 printed 7, and returned
-abbrev pub sight : Sight
-sight = record { printed = record { thread = 0; text = 55 ∷ 10 ∷ [] } ∷ []; threads = Returned ∷ [] }
+abbrev pub observation : Observation
+observation = record { printed = record { thread = 0; text = 55 ∷ 10 ∷ [] } ∷ []; threads = Returned ∷ [] }
 
-pub lazy_shows : Shows program (lazy_start program (2 ∷ [])) sight
+pub lazy_shows : Shows program (lazy_start program (2 ∷ [])) observation
 unfolding step_thread pushed top rest digits
-lazy_shows = shows_after program (replicate 35 0) (lazy_start program (2 ∷ [])) sight refl
+lazy_shows = shows_after program (replicate 35 0) (lazy_start program (2 ∷ [])) observation refl
 
-pub image_shows : Shows program (image_start program image (2 ∷ [])) sight
+pub image_shows : Shows program (image_start program image (2 ∷ [])) observation
 unfolding step_thread pushed top rest digits
-image_shows = shows_after program (replicate 14 0) (image_start program image (2 ∷ [])) sight refl
+image_shows = shows_after program (replicate 14 0) (image_start program image (2 ∷ [])) observation refl
 
 -- the two claims, of this program
-pub sample_shows : (s : Sight) → Shows program (image_start program image (2 ∷ [])) s ↔ Shows program (lazy_start program (2 ∷ [])) s
+pub sample_shows : (s : Observation) → Shows program (image_start program image (2 ∷ [])) s
+    ↔ Shows program (lazy_start program (2 ∷ [])) s
 sample_shows s = (
   image_to_lazy_lem program analysis image (2 ∷ []) program_is_lawful uses_parents image_is_exact s,
   lazy_to_image_lem program analysis image (2 ∷ []) program_is_lawful uses_parents image_is_exact s,

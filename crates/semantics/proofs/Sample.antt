@@ -14,14 +14,14 @@ use Rattle.semantics.specs.Programs.{Program}
 use Rattle.semantics.specs.Quiet.{Environment}
 use Rattle.semantics.specs.Settling.{constant_region, Settles, ByReturn, ByStep}
 use Rattle.semantics.specs.Steps.{step_thread}
-use Rattle.semantics.specs.Worlds.{Sight, Shows, lazy_start}
+use Rattle.semantics.specs.Worlds.{Observation, Shows, lazy_start}
 use Rattle.semantics.specs.Acceptance.{Analysis, Accepted, Accepts}
 use Rattle.semantics.specs.Images.{Image, image_start, IsExact, UsesParents}
 use Rattle.semantics.specs.Lawful.{HoldsNoName, IsLawful}
 use Rattle.semantics.proofs.ToyMachine.{Instruction, PushInt, GetStatic, PutStatic, PrintInt, Return, Code, toy}
 use Rattle.semantics.proofs.ToyLaws.{IsSound, toy_is_lawful}
-use Rattle.semantics.proofs.Schedules.{shows_after}
-use Rattle.semantics.proofs.ExactImages.{lazy_to_image_lem, image_to_lazy_lem}
+use Rattle.semantics.proofs.SchedulesLemmas.{shows_after}
+use Rattle.semantics.proofs.ExactImagesLemmas.{lazy_to_image_lem, image_to_lazy_lem}
 
 -- ---- the program
 
@@ -101,36 +101,40 @@ no_uses : (c : ℕ) → Contains [] c → ⊥
 no_uses c u = omega (arith, u.1)
 
 accepted : Accepted program analysis 0 region
-accepted = Accepts 0 region alone 3 (omega arith) refl (λ d u. absurd (no_uses d u)) (λ d r e. cc) (λ d r e. cc) region_settles (omega arith)
+accepted = Accepts 0 region alone 3 (omega arith) refl (λ d u. absurd (no_uses d u)) (λ d r e. cc)
+    (λ d r e. cc) region_settles (omega arith)
 
 allowed : {c : ℕ} {r : Region} → Accepted program analysis c r → (c == 0) ≡ true
 allowed (Accepts c r env n one may near lower all settled cheap) = may
 
 pub image_is_exact : IsExact program analysis image
 image_is_exact = record {
-  sound = λ c h. (let same : c ≡ 0 = eqb-true c 0 h in subst (λ (d : ℕ). Accepted program analysis d region) (sym same) accepted);
+  sound =
+      λ c h. (let same : c ≡ 0 = eqb-true c 0 h in subst (λ (d : ℕ). Accepted program analysis d region)
+      (sym same) accepted);
   complete = λ c r a. allowed a;
 }
 
 -- ---- what is seen
 
 -- thread 0 printed 6, and returned
-abbrev pub sight : Sight
-sight = record { printed = record { thread = 0; text = 54 ∷ 10 ∷ [] } ∷ []; threads = Returned ∷ [] }
+abbrev pub observation : Observation
+observation = record { printed = record { thread = 0; text = 54 ∷ 10 ∷ [] } ∷ []; threads = Returned ∷ [] }
 
 -- Class 1 begins and is done, main is called, class 0 begins, its initializer begins and runs by 3 instructions, class
 -- 0 is done, and main runs by 3 instructions.
-pub lazy_shows : Shows program (lazy_start program (1 ∷ [])) sight
+pub lazy_shows : Shows program (lazy_start program (1 ∷ [])) observation
 unfolding step_thread pushed top rest digits
-lazy_shows = shows_after program (replicate 12 0) (lazy_start program (1 ∷ [])) sight refl
+lazy_shows = shows_after program (replicate 12 0) (lazy_start program (1 ∷ [])) observation refl
 
 -- Class 1 begins and is done, main is called, and runs by 3 instructions.
-pub image_shows : Shows program (image_start program image (1 ∷ [])) sight
+pub image_shows : Shows program (image_start program image (1 ∷ [])) observation
 unfolding step_thread pushed top rest digits
-image_shows = shows_after program (replicate 6 0) (image_start program image (1 ∷ [])) sight refl
+image_shows = shows_after program (replicate 6 0) (image_start program image (1 ∷ [])) observation refl
 
 -- the two claims, of this program
-pub sample_shows : (s : Sight) → Shows program (image_start program image (1 ∷ [])) s ↔ Shows program (lazy_start program (1 ∷ [])) s
+pub sample_shows : (s : Observation) → Shows program (image_start program image (1 ∷ [])) s
+    ↔ Shows program (lazy_start program (1 ∷ [])) s
 sample_shows s = (
   image_to_lazy_lem program analysis image (1 ∷ []) program_is_lawful uses_parents image_is_exact s,
   lazy_to_image_lem program analysis image (1 ∷ []) program_is_lawful uses_parents image_is_exact s,

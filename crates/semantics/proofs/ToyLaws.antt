@@ -3,7 +3,7 @@ use Rattle.std.proofs.Common.{◌≡◌, ℕ, List, [], ◌∷◌, Option, Some,
 use Rattle.std.specs.List.{AllByRecursion}
 use Rattle.vm_state.specs.declared.value.Value.{Value}
 use Rattle.vm_state.specs.declared.value.Name.{Name}
-use Rattle.vm_state.specs.declared.class_id.ClassId.{ClassId}
+use Rattle.built_in.specs.declared.class_id.ClassId.{ClassId}
 use Rattle.vm_state.specs.declared.ends.FaultKind.TheVariants.{Fault}
 use Rattle.vm_state.specs.declared.frame.Frame.{Frame}
 use Rattle.vm_state.specs.Values.{name_of}
@@ -34,12 +34,14 @@ no_names known (v ∷ vs) h = (subst (KnowsName known) (sym h.0) tt, no_names kn
 module _ (p : Code) where
   failing_plain : (x : Name) (o : Option ClassId) → IsPlain (needing Fault o (fails_by p x))
   failing_plain x o =
-      needing_holds admits Fault o (fails_by p x) (λ class e. choice_holds admits (p.is_error class) _ _ (λ e'. tt) (λ y. tt))
+      needing_holds admits Fault o (fails_by p x)
+      (λ class e. choice_holds admits (p.is_error class) _ _ (λ e'. tt) (λ y. tt))
     where
       admits : Admits IsPlain
       admits = record { halting = λ kind. tt; raising = λ class x. tt }
 
-  frame_knows : (known : Names) (o : Option ℕ) (f : Frame) → option_map (method_frame p []) o ≡ Some f → KnowsFrame known f
+  frame_knows : (known : Names) (o : Option ℕ) (f : Frame) → option_map (method_frame p []) o ≡ Some f
+      → KnowsFrame known f
   frame_knows known None f e = cc
   frame_knows known (Some m) f e = let same : method_frame p [] m ≡ f = cc in subst (KnowsFrame known) same (tt, tt)
 

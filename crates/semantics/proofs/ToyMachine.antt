@@ -8,11 +8,11 @@ use Rattle.vm_state.specs.declared.value.Value.{Value}
 use Rattle.vm_state.specs.declared.value.Value.TheVariants.{Int, Long, Null, Text, OfClass, OfThread, Out}
 use Rattle.vm_state.specs.declared.value.Name.{Name}
 use Rattle.vm_state.specs.declared.value.Maker.TheVariants.{Class, Thread}
-use Rattle.vm_state.specs.declared.class_id.ClassId.{ClassId}
-use Rattle.vm_state.specs.declared.class_id.ClassId.TheVariants as ids
-use Rattle.vm_state.specs.declared.class_id.BuiltIn.{BuiltIn}
-use Rattle.vm_state.specs.declared.class_id.BuiltIn.TheVariants as classes
-use Rattle.vm_state.specs.declared.class_id.ElementType.TheVariants as elements
+use Rattle.built_in.specs.declared.class_id.ClassId.{ClassId}
+use Rattle.built_in.specs.declared.class_id.ClassId.TheVariants as ids
+use Rattle.built_in.specs.declared.class_id.BuiltIn.{BuiltIn}
+use Rattle.built_in.specs.declared.class_id.BuiltIn.TheVariants as classes
+use Rattle.built_in.specs.declared.class_id.ElementType.TheVariants as elements
 use Rattle.vm_state.specs.declared.classes.StaticField.{StaticField}
 use Rattle.vm_state.specs.declared.ends.FaultKind.{FaultKind}
 use Rattle.vm_state.specs.declared.ends.FaultKind.TheVariants.{Fault, Unsupported, Missing}
@@ -91,7 +91,7 @@ needing kind (Some x) go = go x
 abbrev pub with_class : ℕ → Row → Row
 with_class c row = UseClass c (λ usable. if usable then row else raises classes.NoClassDefFoundError)
 
--- goes on behind the instruction with these operands, or is a fault where there was no room for one
+-- goes on after the instruction with these operands, or is a fault where there was no room for one
 abbrev pub goes_on : Frame → Option OperandStack → Row
 goes_on f None = halts Fault
 goes_on f (Some s) = Ends (Next (Stays (f.place + 1) f.locals s))
@@ -123,7 +123,8 @@ initialized_by p (Start c) = None
 initialized_by p (Method c m) = p.initialized m
 
 abbrev pub method_frame : Code → List (Option Value) → ℕ → Frame
-method_frame p locals m = record { activity = Method 0 m; place = 0; locals = locals; operands = record { free = p.room m; values = [] } }
+method_frame p locals m =
+    record { activity = Method 0 m; place = 0; locals = locals; operands = record { free = p.room m; values = [] } }
 
 -- a fault where the method is a class initialization method
 abbrev pub unless_initializer : Option ℕ → Row → Row
@@ -136,7 +137,8 @@ enters p m locals how = unless_initializer (p.initialized m) (Ends (Next (how (m
 
 -- a call of the method that the class of an object selects, with the object in its first local variable
 abbrev pub calls : Code → ℕ → Frame → Name → ClassId → Row
-calls p m f x class = needing Missing (p.selected class m) (λ n. enters p n (Some (value_of x) ∷ []) (Calls (rest f.operands)))
+calls p m f x class =
+    needing Missing (p.selected class m) (λ n. enters p n (Some (value_of x) ∷ []) (Calls (rest f.operands)))
 
 -- ---- finals
 
@@ -161,23 +163,29 @@ instruction_row p (PutStatic c k) f =
     if may_write p f.activity c k
     then with_class c (needing Fault (top f.operands) (λ v. WriteStatic c k v (goes_on f (Some (rest f.operands)))))
     else halts Fault
-instruction_row p (New c) f = with_class c (Make (ids.Given c) (p.slots c) (λ x. goes_on f (pushed (value_of x) f.operands)))
+instruction_row p (New c) f =
+    with_class c (Make (ids.Given c) (p.slots c) (λ x. goes_on f (pushed (value_of x) f.operands)))
 instruction_row p NewArray f =
     needing Fault (top_int f.operands) (λ n. with_length n (λ count.
     Make int_array (replicate count (Int (pos 0))) (λ x. goes_on f (pushed (value_of x) (rest f.operands)))))
-instruction_row p (GetField i) f = on_object (top f.operands) (λ x. in_slot x Slots i (λ v. goes_on f (pushed v (rest f.operands))))
+instruction_row p (GetField i) f =
+    on_object (top f.operands) (λ x. in_slot x Slots i (λ v. goes_on f (pushed v (rest f.operands))))
 instruction_row p (PutField i) f =
     needing Fault (top f.operands) (λ v. on_object (top (rest f.operands)) (λ x. in_slot x Slots i (λ old.
     Change x i v (goes_on f (Some (rest (rest f.operands)))))))
-instruction_row p ArrayLength f = on_object (top f.operands) (λ x. in_slot x Length 0 (λ v. goes_on f (pushed v (rest f.operands))))
+instruction_row p ArrayLength f =
+    on_object (top f.operands) (λ x. in_slot x Length 0 (λ v. goes_on f (pushed v (rest f.operands))))
 instruction_row p (InvokeStatic c m) f = with_class c (enters p m [] (Calls f.operands))
-instruction_row p (InvokeVirtual m) f = on_object (top f.operands) (λ x. AskClass x (λ o. needing Fault o (calls p m f x)))
+instruction_row p (InvokeVirtual m) f =
+    on_object (top f.operands) (λ x. AskClass x (λ o. needing Fault o (calls p m f x)))
 instruction_row p MonitorEnter f =
-    on_object (top f.operands) (λ x. UseMonitor x true (λ done. if done then goes_on f (Some (rest f.operands)) else halts Unsupported))
+    on_object (top f.operands)
+    (λ x. UseMonitor x true (λ done. if done then goes_on f (Some (rest f.operands)) else halts Unsupported))
 instruction_row p MonitorExit f =
     on_object (top f.operands) (λ x. UseMonitor x false (λ done.
     if done then goes_on f (Some (rest f.operands)) else raises classes.IllegalMonitorStateException))
-instruction_row p Throw f = on_object (top f.operands) (λ x. AskClass x (λ o. needing Fault o (λ class. Ends (Raise x class))))
+instruction_row p Throw f =
+    on_object (top f.operands) (λ x. AskClass x (λ o. needing Fault o (λ class. Ends (Raise x class))))
 instruction_row p PrintInt f =
     needing Fault (top_int f.operands) (λ n. Print (signed_decimal n ++ 10 ∷ []) (goes_on f (Some (rest f.operands))))
 instruction_row p Return f = Ends (Next (Returns None))
@@ -186,10 +194,13 @@ instruction_row p ReturnTop f = needing Fault (top f.operands) (λ v. Ends (Next
 -- ---- a thread's first frame, which `main` takes the place of
 
 abbrev pub start_frame : ℕ → ℕ → Frame
-start_frame c t = record { activity = Start c; place = 0; locals = []; operands = record { free = 0; values = OfThread t 0 ∷ [] } }
+start_frame c t =
+    record { activity = Start c; place = 0; locals = []; operands = record { free = 0; values = OfThread t 0 ∷ [] } }
 
 abbrev pub start_row : Code → ℕ → Frame → Row
-start_row p c f = with_class c (needing Missing (p.main c) (λ m. needing Fault (top f.operands) (λ v. enters p m (Some v ∷ []) Becomes)))
+start_row p c f =
+    with_class c
+    (needing Missing (p.main c) (λ m. needing Fault (top f.operands) (λ v. enters p m (Some v ∷ []) Becomes)))
 
 -- ---- the row of a frame
 

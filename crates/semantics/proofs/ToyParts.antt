@@ -4,8 +4,8 @@ use Rattle.std.proofs.Common.{option_and_then, slice_get, refl}
 use Rattle.vm_state.specs.declared.value.Value.{Value}
 use Rattle.vm_state.specs.declared.value.Value.TheVariants.{Int, Long, Null, Text, OfClass, OfThread, Out}
 use Rattle.vm_state.specs.declared.value.Name.{Name}
-use Rattle.vm_state.specs.declared.class_id.BuiltIn.{BuiltIn}
-use Rattle.vm_state.specs.declared.class_id.BuiltIn.TheVariants as classes
+use Rattle.built_in.specs.declared.class_id.BuiltIn.{BuiltIn}
+use Rattle.built_in.specs.declared.class_id.BuiltIn.TheVariants as classes
 use Rattle.vm_state.specs.declared.ends.FaultKind.{FaultKind}
 use Rattle.vm_state.specs.declared.ends.FaultKind.TheVariants.{Fault, Unsupported}
 use Rattle.vm_state.specs.Values.{name_of}
@@ -23,7 +23,8 @@ module _ {Holds : Row → Type 0} (admits : Admits Holds) where
   needing_holds kind None go h = admits.halting kind
   needing_holds kind (Some x) go h = h x refl
 
-  pub choice_holds : (b : Bool) (first second : Row) → (b ≡ true → Holds first) → Holds second → Holds (if b then first else second)
+  pub choice_holds : (b : Bool) (first second : Row) → (b ≡ true → Holds first) → Holds second
+      → Holds (if b then first else second)
   choice_holds true first second h k = h refl
   choice_holds false first second h k = k
 
@@ -44,7 +45,8 @@ module _ {Holds : Row → Type 0} (admits : Admits Holds) where
   pub slot_holds : (o : Option (List Value)) (i : ℕ) (go : Value → Row) →
       ((slots : List Value) (v : Value) → o ≡ Some slots → slice_get slots i ≡ Some v → Holds (go v)) →
       Holds (needing Fault o (λ slots. needing Fault (slice_get slots i) go))
-  slot_holds o i go h = needing_holds Fault o _ (λ slots e. needing_holds Fault (slice_get slots i) go (λ v at. h slots v e at))
+  slot_holds o i go h =
+      needing_holds Fault o _ (λ slots e. needing_holds Fault (slice_get slots i) go (λ v at. h slots v e at))
 
   pub length_holds : (n : ℤ) (go : ℕ → Row) → ((count : ℕ) → Holds (go count)) → Holds (with_length n go)
   length_holds (pos n) go h = h n

@@ -7,7 +7,7 @@ use Rattle.std.specs.List.{AllByRecursion}
 use Rattle.vm_state.specs.declared.value.Value.{Value}
 use Rattle.vm_state.specs.declared.value.Value.TheVariants.{Int}
 use Rattle.vm_state.specs.declared.value.Name.{Name}
-use Rattle.vm_state.specs.declared.class_id.ClassId.{ClassId}
+use Rattle.built_in.specs.declared.class_id.ClassId.{ClassId}
 use Rattle.vm_state.specs.declared.ends.FaultKind.TheVariants.{Fault, Missing}
 use Rattle.vm_state.specs.declared.frame.Frame.{Frame}
 use Rattle.vm_state.specs.declared.frame.Activity.{Activity}
@@ -18,7 +18,7 @@ use Rattle.vm_state.specs.Locals.{held}
 use Rattle.semantics.specs.Rows.{Part, Slots, Length, Move, Becomes, Calls, Row, Next, Ends}
 use Rattle.semantics.specs.Lawful.{Names, KnowsName, Knows, KnowsAll, KnowsSome, KnowsSlots, KnowsFrame}
 use Rattle.semantics.specs.Lawful.{OwnsFrame, Fits}
-use Rattle.semantics.proofs.FrameMoves.{pushed_known, name_known}
+use Rattle.semantics.proofs.FrameMovesLemmas.{pushed_known, name_known}
 use Rattle.semantics.proofs.ToyMachine as toys
 use Rattle.semantics.proofs.ToyMachine.{Code, needing, goes_on, on_object, in_slot}
 use Rattle.semantics.proofs.ToyMachine.{method_frame, unless_initializer, enters, calls}
@@ -27,7 +27,8 @@ use Rattle.semantics.proofs.ToyMachine.{is_of, fails_by, toy}
 use Rattle.semantics.proofs.ToyParts.{Admits, needing_holds, choice_holds, class_holds, object_holds, slot_holds}
 use Rattle.semantics.proofs.ToyParts.{length_holds}
 
-all_at : {A : Type 0} (P : A → Type 0) (xs : List A) (i : ℕ) (x : A) → AllByRecursion P xs → slice_get xs i ≡ Some x → P x
+all_at : {A : Type 0} (P : A → Type 0) (xs : List A) (i : ℕ) (x : A) → AllByRecursion P xs → slice_get xs i ≡ Some x
+    → P x
 all_at P [] i x h e = cc
 all_at P (y ∷ ys) zero x h e = let same : y ≡ x = cc in subst P same h.0
 all_at P (y ∷ ys) (suc i) x h e = all_at P ys i x h.1 e
@@ -97,8 +98,11 @@ module _ (p : Code) (known : Names) (own : ℕ → Bool) where
 
   in_slot_keeps : (x : Name) (part : Part) (i : ℕ) (go : Value → Row) →
       known x ≡ true → ((v : Value) → Knows known v → Suits (go v)) → Suits (in_slot x part i go)
-  in_slot_keeps x part i go hx h =
-      (hx, λ o ho. slot_holds admits o i go (λ slots v e at. h v (all_at (Knows known) slots i v (subst (KnowsSlots known) e ho) at)))
+  in_slot_keeps x part i go hx h = (
+    hx,
+    λ o ho. slot_holds admits o i go
+        (λ slots v e at. h v (all_at (Knows known) slots i v (subst (KnowsSlots known) e ho) at)),
+  )
 
   owned_where_final : (final : Bool) (o : Option ℕ) (c : ℕ) →
       (not final || is_of o c) ≡ true → ((d : ℕ) → o ≡ Some d → own d ≡ true) → final ≡ true → own c ≡ true
@@ -110,11 +114,13 @@ module _ (p : Code) (known : Names) (own : ℕ → Bool) where
   abbrev Puts : (Frame → Move) → Type 0
   Puts how = (g : Frame) → KnowsFrame known g → OwnsFrame (toy p) own g → Suits (Ends (Next (how g)))
 
-  enters_keeps : (m : ℕ) (locals : List (Option Value)) (how : Frame → Move) → AllByRecursion (KnowsSome known) locals → Puts how →
+  enters_keeps : (m : ℕ) (locals : List (Option Value)) (how : Frame → Move) → AllByRecursion (KnowsSome known) locals
+      → Puts how →
       Suits (enters p m locals how)
   enters_keeps m locals how h k = unless (p.initialized m) refl
     where
-      unless : (o : Option ℕ) → p.initialized m ≡ o → Suits (unless_initializer o (Ends (Next (how (method_frame p locals m)))))
+      unless : (o : Option ℕ) → p.initialized m ≡ o
+          → Suits (unless_initializer o (Ends (Next (how (method_frame p locals m)))))
       unless None e = k (method_frame p locals m) (tt, h) (λ c is. (let clash : None ≡ Some c = sym e ∙ is in cc))
       unless (Some c) e = (tt, tt)
 
@@ -125,7 +131,8 @@ module _ (p : Code) (known : Names) (own : ℕ → Bool) where
     goes_on_keeps None k = (tt, tt)
     goes_on_keeps (Some s) k = ((k, h.1), tt)
 
-    pushed_keeps : (v : Value) (s : OperandStack) → Knows known v → KnowsAll known s.values → Suits (goes_on f (pushed v s))
+    pushed_keeps : (v : Value) (s : OperandStack) → Knows known v → KnowsAll known s.values
+        → Suits (goes_on f (pushed v s))
     pushed_keeps v s hv k = goes_on_keeps _ (KnowsStack-pushed v s hv k)
 
     name_keeps : (x : Name) (s : OperandStack) →
@@ -151,11 +158,13 @@ module _ (p : Code) (known : Names) (own : ℕ → Bool) where
 
     calls_keeps : (m : ℕ) (class : ClassId) (x : Name) → known x ≡ true → Suits (calls p m f x class)
     calls_keeps m class x hx =
-        needing_holds admits Missing (p.selected class m) _ (λ n e. enters_keeps n _ (Calls (rest f.operands)) (name_known known x hx, tt) (λ g k o. ((below, k), o)))
+        needing_holds admits Missing (p.selected class m) _
+        (λ n e. enters_keeps n _ (Calls (rest f.operands)) (name_known known x hx, tt) (λ g k o. ((below, k), o)))
 
     instruction_keeps : ((c : ℕ) → KnowsAll known (p.slots c)) → (i : Instruction) → Suits (instruction_row p i f)
     instruction_keeps slots (toys.PushInt n) = pushed_keeps _ _ tt h.0
-    instruction_keeps slots (toys.Load i) = value_keeps _ _ (Knows-local f.locals i h.1) (λ v hv. pushed_keeps v _ hv h.0)
+    instruction_keeps slots (toys.Load i) =
+        value_keeps _ _ (Knows-local f.locals i h.1) (λ v hv. pushed_keeps v _ hv h.0)
     instruction_keeps slots (toys.GetStatic c k) = λ b. class_holds admits b _ (λ v hv. pushed_keeps v _ hv h.0)
     instruction_keeps slots (toys.PutStatic c k) =
         choice_holds admits (may_write p f.activity c k) _ _
@@ -165,21 +174,27 @@ module _ (p : Code) (known : Names) (own : ℕ → Bool) where
     instruction_keeps slots toys.NewArray =
         needing_holds admits Fault (top_int f.operands) _
         (λ n e. length_holds admits n _ (λ count. (KnowsAll-zeros count, λ x hx. name_keeps x _ hx below)))
-    instruction_keeps slots (toys.GetField i) = top_object_keeps _ (λ x hx. in_slot_keeps x Slots i _ hx (λ v hv. pushed_keeps v _ hv below))
+    instruction_keeps slots (toys.GetField i) =
+        top_object_keeps _ (λ x hx. in_slot_keeps x Slots i _ hx (λ v hv. pushed_keeps v _ hv below))
     instruction_keeps slots (toys.PutField i) =
         top_value_keeps _
         (λ v hv. object_keeps (top (rest f.operands)) _ (Knows-top (rest f.operands) below)
-        (λ x hx. in_slot_keeps x Slots i _ hx (λ old ho. (hx, hv, goes_on_keeps (Some (rest (rest f.operands))) below_two))))
-    instruction_keeps slots toys.ArrayLength = top_object_keeps _ (λ x hx. in_slot_keeps x Length 0 _ hx (λ v hv. pushed_keeps v _ hv below))
-    instruction_keeps slots (toys.InvokeStatic c m) = λ b. class_holds admits b _ (enters_keeps m [] (Calls f.operands) tt (λ g k o. ((h.0, k), o)))
+        (λ x hx. in_slot_keeps x Slots i _ hx
+        (λ old ho. (hx, hv, goes_on_keeps (Some (rest (rest f.operands))) below_two))))
+    instruction_keeps slots toys.ArrayLength =
+        top_object_keeps _ (λ x hx. in_slot_keeps x Length 0 _ hx (λ v hv. pushed_keeps v _ hv below))
+    instruction_keeps slots (toys.InvokeStatic c m) =
+        λ b. class_holds admits b _ (enters_keeps m [] (Calls f.operands) tt (λ g k o. ((h.0, k), o)))
     instruction_keeps slots (toys.InvokeVirtual m) =
         top_object_keeps _
         (λ x hx. (hx, λ o. needing_holds admits Fault o _ (λ class e. calls_keeps m class x hx)))
     instruction_keeps slots toys.MonitorEnter =
         top_object_keeps _ (λ x hx. (hx, λ done. choice_holds admits done _ _ (λ e. without_top_keeps) (tt, tt)))
     instruction_keeps slots toys.MonitorExit =
-        top_object_keeps _ (λ x hx. (hx, λ done. choice_holds admits done _ _ (λ e. without_top_keeps) (tt, λ y hy. (hy, tt))))
-    instruction_keeps slots toys.Throw = top_object_keeps _ (λ x hx. (hx, λ o. needing_holds admits Fault o _ (λ class e. (hx, tt))))
+        top_object_keeps _
+        (λ x hx. (hx, λ done. choice_holds admits done _ _ (λ e. without_top_keeps) (tt, λ y hy. (hy, tt))))
+    instruction_keeps slots toys.Throw =
+        top_object_keeps _ (λ x hx. (hx, λ o. needing_holds admits Fault o _ (λ class e. (hx, tt))))
     instruction_keeps slots toys.PrintInt = needing_holds admits Fault (top_int f.operands) _ (λ n e. without_top_keeps)
     instruction_keeps slots toys.Return = (tt, tt)
     instruction_keeps slots toys.ReturnTop = top_value_keeps _ (λ v hv. (hv, tt))
@@ -192,7 +207,8 @@ module _ (p : Code) (known : Names) (own : ℕ → Bool) where
     active_keeps : ((c : ℕ) → KnowsAll known (p.slots c)) → (activity : Activity) → Suits (active_row p activity f)
     active_keeps slots (Start c) = start_keeps c
     active_keeps slots (Method c m) =
-        needing_holds admits Fault (slice_get (p.body m) f.place) (λ i. instruction_row p i f) (λ i e. instruction_keeps slots i)
+        needing_holds admits Fault (slice_get (p.body m) f.place) (λ i. instruction_row p i f)
+        (λ i e. instruction_keeps slots i)
 
   pub toy_row_keeps : ((c : ℕ) → KnowsAll known (p.slots c)) →
       (f : Frame) → KnowsFrame known f → OwnsFrame (toy p) own f → Suits (toy_row p f)
@@ -203,4 +219,5 @@ module _ (p : Code) (known : Names) (own : ℕ → Bool) where
   pub fails_by_keeps : (x : Name) (o : Option ClassId) → known x ≡ true → Suits (needing Fault o (fails_by p x))
   fails_by_keeps x o hx =
       needing_holds admits Fault o _
-      (λ class e. choice_holds admits (p.is_error class) _ _ (λ e'. (hx, tt)) ((name_known known x hx, tt), λ y hy. (hy, tt)))
+      (λ class e. choice_holds admits (p.is_error class) _ _ (λ e'. (hx, tt))
+      ((name_known known x hx, tt), λ y hy. (hy, tt)))

@@ -1,7 +1,7 @@
 -- The start of a run from an image, in which the accepted classes are initialized.
 use Rattle.std.specs.Prelude.{◌≡◌, ℕ, Bool, true, if◌then◌else◌, List}
 use Rattle.std.specs.List.{Contains}
-use Rattle.vm_state.specs.declared.classes.ClassState.TheVariants.{Done}
+use Rattle.vm_state.specs.declared.classes.ClassState.TheVariants.{Initialized}
 use Rattle.vm_state.specs.SharedState.{Region, SharedState}
 use Rattle.semantics.specs.Programs.{Program}
 use Rattle.semantics.specs.Worlds.{World, lazy_start}
@@ -15,7 +15,7 @@ pub record Image : Type 0 where
 -- with the image's classes initialized, each with its region in place
 abbrev pub with_image : Image → SharedState → SharedState
 with_image I sh = record sh {
-  states = λ c. if I.holds c then Done else sh.states c;
+  states = λ c. if I.holds c then Initialized else sh.states c;
   regions = λ c. if I.holds c then I.region c else sh.regions c;
 }
 

@@ -5,7 +5,7 @@ use Rattle.std.specs.List.{AllByRecursion}
 use Rattle.vm_state.specs.declared.value.Value.{Value}
 use Rattle.vm_state.specs.declared.value.Name.{Name}
 use Rattle.vm_state.specs.declared.value.Maker.TheVariants as makers
-use Rattle.vm_state.specs.declared.class_id.ClassId.{ClassId}
+use Rattle.built_in.specs.declared.class_id.ClassId.{ClassId}
 use Rattle.vm_state.specs.declared.classes.StaticField.{StaticField}
 use Rattle.vm_state.specs.declared.frame.Frame.{Frame}
 use Rattle.vm_state.specs.Values.{name_of}
@@ -42,9 +42,6 @@ KnowsSlots known (Some vs) = KnowsAll known vs
 abbrev pub KnowsFrame : Names → Frame → Type 0
 KnowsFrame known f = KnowsAll known f.operands.values × AllByRecursion (KnowsSome known) f.locals
 
-abbrev pub KnowsFrames : Names → List Frame → Type 0
-KnowsFrames known fs = AllByRecursion (KnowsFrame known) fs
-
 abbrev pub KnowsMove : Names → Move → Type 0
 KnowsMove known (Stays place locals operands) = KnowsAll known operands.values × AllByRecursion (KnowsSome known) locals
 KnowsMove known (Becomes frame) = KnowsFrame known frame
@@ -61,9 +58,6 @@ KnowsOutcome known (Halt kind) = Unit {0}
 -- a frame that is no initializer's, or that of a class that `own` has
 abbrev pub OwnsFrame : Program → (ℕ → Bool) → Frame → Type 0
 OwnsFrame P own f = (c : ℕ) → P.initializes f.activity ≡ Some c → own c ≡ true
-
-abbrev pub Owns : Program → (ℕ → Bool) → List Frame → Type 0
-Owns P own fs = AllByRecursion (OwnsFrame P own) fs
 
 abbrev pub OwnsOutcome : Program → (ℕ → Bool) → Outcome → Type 0
 OwnsOutcome P own (Next (Stays place locals operands)) = Unit {0}

@@ -1,7 +1,7 @@
 -- What the initialization procedure and its threads ask of a program.
 use Rattle.std.specs.Prelude.{ℕ, List, Option}
 use Rattle.vm_state.specs.declared.value.Name.{Name}
-use Rattle.vm_state.specs.declared.class_id.ClassId.{ClassId}
+use Rattle.built_in.specs.declared.class_id.ClassId.{ClassId}
 use Rattle.vm_state.specs.declared.frame.Frame.{Frame}
 use Rattle.vm_state.specs.declared.frame.Activity.{Activity}
 use Rattle.vm_state.specs.declared.classes.StaticField.{StaticField}

@@ -9,7 +9,7 @@ use Rattle.vm_state.specs.Statics.{with_constants}
 use Rattle.semantics.specs.Rows.{Move, Stays, Becomes, Calls, Returns}
 use Rattle.semantics.specs.Moves.{with_operands, received}
 use Rattle.semantics.specs.Programs.{Program}
-use Rattle.semantics.specs.Quiet.{Environment, QuietMove, Refusal, OverBudget, Faulted, Stop, Refused, Leaves, Stops}
+use Rattle.semantics.specs.Quiet.{Environment, QuietMove, OverBudget, Faulted, Stop, Refused, Leaves, Stops}
 use Rattle.semantics.specs.Quiet.{quiet_step}
 use Rattle.semantics.specs.Worlds.{blank_region}
 
@@ -84,7 +84,7 @@ pub data StopsBody (P : Program) (env : Environment) (c : ℕ) : Frame → Regio
       m.elements + n ≤ budget → received result (with_operands f operands) ≡ None →
       StopsBody P env c f own (suc budget) (Refused Faulted)
   -- later, after the whole body that it calls
-  Behind : {f g callee : Frame} {operands : OperandStack} {own back : Region} {m : QuietMove} {n budget : ℕ}
+  AfterCall : {f g callee : Frame} {operands : OperandStack} {own back : Region} {m : QuietMove} {n budget : ℕ}
       {result : Option Value} {stop : Stop} →
       quiet_step P env c f own ≡ Leaves m → m.move ≡ Calls operands callee →
       RunsBody P env c callee m.region n result back →
@@ -98,11 +98,6 @@ StoppedAt P env c (Some f) budget stop = StopsBody P env c f (constant_region P 
 -- A class's initializer is stopped so, within this budget.
 abbrev pub StoppedBy : Program → Environment → ℕ → ℕ → Stop → Type 0
 StoppedBy P env c budget stop = StoppedAt P env c (P.initializer c) budget stop
-
--- It is refused for this reason, within this budget. It is said of classes without a reason that is seen in their
--- code.
-abbrev pub RefusedBy : Program → Environment → ℕ → ℕ → Refusal → Type 0
-RefusedBy P env c budget why = StoppedBy P env c budget (Refused why)
 
 -- ---- laws
 

@@ -2,10 +2,10 @@
 use Rattle.std.specs.Prelude.{◌≡◌, ℕ, ◌+◌, List, [], ◌∷◌, Option, Some, None, ◌==◌, nat_lt, if◌then◌else◌, slice_get}
 use Rattle.std.specs.Prelude.{slice_set, length}
 use Rattle.std.specs.Prelude.{map}
-use Rattle.vm_state.specs.declared.class_id.ClassId.TheVariants.{Array}
-use Rattle.vm_state.specs.declared.class_id.BuiltIn.TheVariants.{String}
-use Rattle.vm_state.specs.declared.class_id.ElementType.TheVariants as elements
-use Rattle.vm_state.specs.declared.classes.ClassState.TheVariants.{Not}
+use Rattle.built_in.specs.declared.class_id.ClassId.TheVariants.{Array}
+use Rattle.built_in.specs.declared.class_id.BuiltIn.TheVariants.{String}
+use Rattle.built_in.specs.declared.class_id.ElementType.TheVariants as elements
+use Rattle.vm_state.specs.declared.classes.ClassState.TheVariants.{Uninitialized}
 use Rattle.vm_state.specs.declared.ends.Ending.{Ending}
 use Rattle.vm_state.specs.declared.ends.Ending.TheVariants as endings
 use Rattle.vm_state.specs.declared.object.Object.{Object}
@@ -47,15 +47,15 @@ ending (Going fs ls) = endings.Going
 ending (Ended end) = ending_of end
 
 -- what was printed, and for each thread how far it has come
-pub record Sight : Type 0 where
+pub record Observation : Type 0 where
   pub printed : List Line
   pub threads : List Ending
 
-abbrev pub seen : World → Sight
+abbrev pub seen : World → Observation
 seen w = record { printed = w.shared.printed; threads = map ending w.threads }
 
 -- some schedule leads to a world in which this is seen
-abbrev pub Shows : Program → World → Sight → Type 0
+abbrev pub Shows : Program → World → Observation → Type 0
 Shows P w s = (schedule : List ℕ) × (last : World) × Run P w schedule last × (seen last ≡ s)
 
 -- ---- the start of the lazy procedure
@@ -87,7 +87,7 @@ threads_from P t (c ∷ cs) = Going (P.start c t ∷ []) [] ∷ threads_from P (
 abbrev pub lazy_start : Program → List ℕ → World
 lazy_start P entries = record {
   shared = record {
-    states = λ c. Not;
+    states = λ c. Uninitialized;
     regions = blank_region P;
     pools = λ t. if nat_lt t (length entries) then argument_pool else empty_pool;
     printed = [];

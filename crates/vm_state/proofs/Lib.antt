@@ -1,7 +1,7 @@
 pub mod OperandLemmas
-pub mod Lookups
-pub mod SharedLemmas
-pub mod ClassNameLemmas
+pub mod ListLemmas
+pub mod StaticLemmas
+pub mod ShareLemmas
 pub mod StackLemmas
 pub mod PoolLemmas
-pub mod RowLemmas
+pub mod ObjectLemmas

@@ -7,25 +7,26 @@ use Rattle.std.proofs.lemmas.List.{get_or_default}
 use Rattle.vm_state.specs.declared.value.Value.{Value}
 use Rattle.vm_state.specs.declared.object.Object.{Object}
 use Rattle.vm_state.specs.declared.object.Monitor.TheVariants.{Free}
-use Rattle.vm_state.specs.declared.class_id.ClassId.{ClassId}
-use Rattle.vm_state.specs.Objects.{ObjectRow, empty_row, with_next, or_later, object_in}
+use Rattle.built_in.specs.declared.class_id.ClassId.{ClassId}
+use Rattle.vm_state.specs.Objects.{ObjectRow, empty_row, or_later, object_in}
+use Rattle.vm_state.specs.steps.Objects.{with_next}
 use Rattle.vm_state.specs.SharedState.{Pool, with_new}
 use Rattle.vm_state.specs.Pools.{pool_by, row_at, pool_in, with_pool}
-use Rattle.vm_state.proofs.Lookups.{tested, get_or-slice_set, get_or-filled}
+use Rattle.vm_state.proofs.ListLemmas.{tested, get_or-slice_set, get_or-filled}
 
 -- ---- one more object
 
-later_chosen : (b : Bool) (first o : Option Object) (new : Object) →
+or_later-if : (b : Bool) (first o : Option Object) (new : Object) →
     or_later first (if b then Some new else o) ≡ (if b then Some new else or_later first o)
-later_chosen true first o new = refl
-later_chosen false first o new = refl
+or_later-if true first o new = refl
+or_later-if false first o new = refl
 
 object_in-more : (os : List (ℕ × Object)) (n : ℕ) (o : Object) (k : ℕ) →
     object_in (os ++ (n, o) ∷ []) k ≡ (if k == n then Some o else object_in os k)
 object_in-more [] n o k = refl
 object_in-more (x ∷ xs) n o k =
     ap (or_later (if k == x.0 then Some x.1 else None)) (object_in-more xs n o k)
-    ∙ later_chosen (k == n) (if k == x.0 then Some x.1 else None) (object_in xs k) o
+    ∙ or_later-if (k == n) (if k == x.0 then Some x.1 else None) (object_in xs k) o
 
 abbrev pool : ℕ → (ℕ → Option Object) → Pool
 pool count at = record { count = count; at = at }
@@ -41,22 +42,22 @@ pool_by-next r class slots =
 pub pool_in-more : (rows : List ObjectRow) → pool_in (rows ++ empty_row ∷ []) ≡ pool_in rows
 pool_in-more rows = fun_ext (λ m. ap pool_by (get_or-filled rows 1 m empty_row))
 
-turned : (i j : ℕ) → (i == j) ≡ (j == i)
-turned i j = elim (tested (j == i)) [
+equal_turned : (i j : ℕ) → (i == j) ≡ (j == i)
+equal_turned i j = elim (tested (j == i)) [
   | inl e ↦ let same : j ≡ i = eqb-true j i e in rw e (eq-eqb i j (sym same))
   | inr e ↦ rw e (grind arith)
 ]
 
-pushed_in : (b : Bool) (x y : ObjectRow) → pool_by (if b then x else y) ≡ (if b then pool_by x else pool_by y)
-pushed_in true x y = refl
-pushed_in false x y = refl
+pool_by-if : (b : Bool) (x y : ObjectRow) → pool_by (if b then x else y) ≡ (if b then pool_by x else pool_by y)
+pool_by-if true x y = refl
+pool_by-if false x y = refl
 
 pool_in-set : (rows : List ObjectRow) (m : ℕ) (r : ObjectRow) → m < length rows →
     pool_in (slice_set rows m r) ≡ with_pool (pool_in rows) m (pool_by r)
 pool_in-set rows m r h = fun_ext (λ k.
     ap pool_by (get_or-slice_set rows m k r empty_row h)
-    ∙ pushed_in (k == m) r (row_at rows k)
-    ∙ ap (λ b. if b then pool_by r else pool_in rows k) (turned k m))
+    ∙ pool_by-if (k == m) r (row_at rows k)
+    ∙ ap (λ b. if b then pool_by r else pool_in rows k) (equal_turned k m))
 
 pub pool_in-made : (rows : List ObjectRow) (m : ℕ) (old new : ObjectRow) (class : ClassId) (slots : List Value) →
     m < length rows → old ≡ get_or rows m old →

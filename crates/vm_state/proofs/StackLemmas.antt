@@ -1,4 +1,4 @@
--- A thread's stack is given by its number, its frames and its entries.
+-- A thread's stack is given by its number, its frames and its initializations.
 use Rattle.std.proofs.Common.{◌≡◌, ◌∙◌, ℕ, List, Option, Some, None, refl, ap}
 use Rattle.vm_state.specs.declared.frame.Frame.{Frame}
 use Rattle.vm_state.specs.declared.frame.Segment.{Segment}
@@ -36,7 +36,7 @@ abbrev stack : ℕ → Option Segment → Option Levels → Frames
 stack t s l = record { thread = t; segment = s; levels = l }
 
 pub same_stack : (a b : Frames) → a.thread ≡ b.thread → segment_of a ≡ segment_of b → levels_of a ≡ levels_of b → a ≡ b
-same_stack a b thread frames entries =
+same_stack a b thread frames initializations =
     ap (λ t. stack t a.segment a.levels) thread
     ∙ ap (λ s. stack b.thread s a.levels) (same_segment a.segment b.segment frames)
-    ∙ ap (stack b.thread b.segment) (same_levels a.levels b.levels entries)
+    ∙ ap (stack b.thread b.segment) (same_levels a.levels b.levels initializations)

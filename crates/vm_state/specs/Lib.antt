@@ -8,6 +8,7 @@ pub mod Stacks
 pub mod Objects
 pub mod SharedState
 pub mod Pools
+pub mod SharedTables
 pub mod Shares
 pub mod Endings
-pub mod ClassNames
+pub mod steps

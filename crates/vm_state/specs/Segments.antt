@@ -1,4 +1,4 @@
--- The frames above the highest initialization entry.
+-- The frames above the highest initialization.
 use Rattle.std.specs.Prelude.{List, [], ◌∷◌, Option, Some, None}
 use Rattle.vm_state.specs.declared.frame.Frame.{Frame}
 use Rattle.vm_state.specs.declared.frame.Segment.{Segment}

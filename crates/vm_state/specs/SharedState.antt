@@ -1,11 +1,12 @@
--- What all threads share, as functions of classes, fields and names: the statics, the objects, how many objects each maker made, the states
--- of the classes (JVMS 5.5), and what was printed.
-use Rattle.std.specs.Prelude.{ℕ, ◌+◌, Bool, false, List, [], ◌∷◌, ◌++◌, Option, Some, ◌==◌, if◌then◌else◌, option_map, slice_set}
+-- What all threads share, as functions of classes, fields and names: the statics, the objects, how many objects each
+-- maker made, the states of the classes (JVMS 5.5), and what was printed.
+use Rattle.std.specs.Prelude.{ℕ, ◌+◌, Bool, false, List, [], ◌∷◌, ◌++◌, Option, Some, ◌==◌, if◌then◌else◌, option_map}
+use Rattle.std.specs.Prelude.{slice_set}
 use Rattle.vm_state.specs.declared.value.Value.{Value}
 use Rattle.vm_state.specs.declared.value.Name.{Name}
 use Rattle.vm_state.specs.declared.value.Maker.{Maker}
 use Rattle.vm_state.specs.declared.value.Maker.TheVariants.{Class, Thread}
-use Rattle.vm_state.specs.declared.class_id.ClassId.{ClassId}
+use Rattle.built_in.specs.declared.class_id.ClassId.{ClassId}
 use Rattle.vm_state.specs.declared.object.Object.{Object}
 use Rattle.vm_state.specs.declared.object.Monitor.TheVariants.{Free}
 use Rattle.vm_state.specs.declared.classes.ClassState.{ClassState}

@@ -1,15 +1,20 @@
 -- The shared state that the machine's own tables stand for.
-use Rattle.std.specs.Prelude.{ℕ, List}
+use Rattle.std.specs.Prelude.{◌≡◌, ℕ, List}
 use Rattle.vm_state.specs.declared.classes.StaticField.{StaticField}
-use Rattle.vm_state.specs.declared.classes.ClassState.TheVariants.{By}
-use Rattle.vm_state.specs.declared.shared.Shared.{Shared}
+use Rattle.built_in.specs.declared.class_id.ClassId.{ClassId}
+use Rattle.vm_state.specs.declared.classes.ClassState.{ClassState}
+use Rattle.vm_state.specs.declared.classes.ClassState.TheVariants.{InProgress}
+use Rattle.vm_state.specs.SharedTables.{SharedTables}
 use Rattle.vm_state.specs.declared.text.Line.{Line}
+use Rattle.vm_state.specs.declared.value.Maker.{Maker}
+use Rattle.vm_state.specs.declared.value.Name.{Name}
+use Rattle.vm_state.specs.declared.value.Value.{Value}
 use Rattle.vm_state.specs.Statics.{states_of, fields_of, with_constants}
-use Rattle.vm_state.specs.SharedState.{SharedState, set_region, set_state}
+use Rattle.vm_state.specs.SharedState.{SharedState, made, next_name, set_region, set_state, with_static}
 use Rattle.vm_state.specs.Pools.{pool_in}
 
 -- the tables and what was printed, as one state
-unfoldable pub shared_of : Shared → List Line → SharedState
+unfoldable pub shared_of : SharedTables → List Line → SharedState
 shared_of s printed = record {
   states = states_of s.classes;
   regions = λ c. record { fields = fields_of s.classes c; pool = pool_in s.heap.classes c };
@@ -19,4 +24,32 @@ shared_of s printed = record {
 
 -- a class's initialization begins (JVMS 5.5, step 6): it is in progress by the thread, and its constants are set
 abbrev pub begun : SharedState → ℕ → ℕ → List StaticField → SharedState
-begun sh c t statics = set_state (set_region sh c (record (sh.regions c) { fields = with_constants statics (sh.regions c).fields })) c (By t)
+begun sh c t statics =
+    set_state (set_region sh c (record (sh.regions c) { fields = with_constants statics (sh.regions c).fields })) c
+    (InProgress t)
+
+-- ---- what a call changed, whatever was printed before
+
+-- all is as it was
+abbrev pub SharesTheSame : SharedTables → SharedTables → Type 0
+SharesTheSame old new = (p : List Line) → shared_of new p ≡ shared_of old p
+
+-- a static field has another value
+abbrev pub SetsField : SharedTables → SharedTables → ℕ → ℕ → Value → Type 0
+SetsField old new c f v = (p : List Line) → shared_of new p ≡ with_static (shared_of old p) c f v
+
+-- a class is in this state
+abbrev pub SetsState : SharedTables → SharedTables → ℕ → ClassState → Type 0
+SetsState old new c s = (p : List Line) → shared_of new p ≡ set_state (shared_of old p) c s
+
+-- a class's initialization began
+abbrev pub Begins : SharedTables → SharedTables → ℕ → ℕ → List StaticField → Type 0
+Begins old new c t statics = (p : List Line) → shared_of new p ≡ begun (shared_of old p) c t statics
+
+-- a maker has one more object
+abbrev pub Makes : SharedTables → SharedTables → Maker → ClassId → List Value → Type 0
+Makes old new maker class slots = (p : List Line) → shared_of new p ≡ made (shared_of old p) maker class slots
+
+-- the name of the next object of a maker
+abbrev pub IsNextName : SharedTables → Maker → Name → Type 0
+IsNextName s maker name = (p : List Line) → name ≡ next_name (shared_of s p) maker

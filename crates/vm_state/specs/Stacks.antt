@@ -1,4 +1,4 @@
--- A thread's stack: the frames above the highest initialization entry, and below them the entries with the frames
+-- A thread's stack: the frames above the highest initialization, and below them the initializations with the frames
 -- under each.
 use Rattle.std.specs.Prelude.{◌≡◌, ℕ, true, List, [], ◌∷◌, Option, Some, None}
 use Rattle.vm_state.specs.declared.frame.Frame.{Frame}
@@ -8,7 +8,7 @@ use Rattle.vm_state.specs.declared.initialization.Levels.{Levels}
 use Rattle.vm_state.specs.declared.initialization.Frames.{Frames}
 use Rattle.vm_state.specs.Segments.{frames_in}
 
--- the frames above the highest initialization entry, the innermost first
+-- the frames above the highest initialization, the innermost first
 abbrev pub segment_of : Frames → List Frame
 segment_of s = frames_in s.segment
 
@@ -16,11 +16,11 @@ abbrev pub levels_in : Option Levels → List Level
 levels_in None = []
 levels_in (Some s) = s.highest ∷ s.outer
 
--- the entries with the frames under each, the innermost first
+-- the initializations with the frames under each, the innermost first
 abbrev pub levels_of : Frames → List Level
 levels_of s = levels_in s.levels
 
--- after the first of these entries is taken away
+-- after the first of these initializations is taken away
 abbrev pub IsLeft : List Level → Frames → Type 0
 IsLeft [] s = levels_of s ≡ []
 IsLeft (l ∷ ls) s = (segment_of s ≡ l.under) × (levels_of s ≡ ls)
@@ -35,20 +35,21 @@ abbrev pub others_of : List ℕ → List ℕ
 others_of [] = []
 others_of (c ∷ cs) = cs
 
--- the entries with the highest one's next parent taken off
+-- the initializations with the highest one's next parent taken off
 abbrev pub parent_taken : List Level → List Level
 parent_taken [] = []
-parent_taken (l ∷ ls) = record l { entry = record l.entry { left = others_of l.entry.left } } ∷ ls
+parent_taken (l ∷ ls) = record l { initialization = record l.initialization { left = others_of l.initialization.left } }
+    ∷ ls
 
--- the entries, of which the highest one's class initialization method has begun
+-- the initializations, of which the highest one's class initialization method has begun
 abbrev pub initializer_begun : List Level → List Level
 initializer_begun [] = []
-initializer_begun (l ∷ ls) = record l { entry = record l.entry { begun = true } } ∷ ls
+initializer_begun (l ∷ ls) = record l { initialization = record l.initialization { begun = true } } ∷ ls
 
--- the entries, at the highest one of which an exception is pending
+-- the initializations, at the highest one of which an exception is pending
 abbrev pub exception_pending : Name → List Level → List Level
 exception_pending x [] = []
-exception_pending x (l ∷ ls) = record l { entry = record l.entry { pending = Some x } } ∷ ls
+exception_pending x (l ∷ ls) = record l { initialization = record l.initialization { pending = Some x } } ∷ ls
 
 abbrev pub first_level : List Level → Option Level
 first_level [] = None

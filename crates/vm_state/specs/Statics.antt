@@ -1,9 +1,11 @@
--- The states and the static fields of the given classes (JVMS 2.5.4, 5.5), as functions of the numbers of classes and fields.
-use Rattle.std.specs.Prelude.{ℕ, map, List, [], Option, Some, None, slice_get, slice_index_or, unwrap_or, if◌then◌else◌, ◌==◌}
+-- The states and the static fields of the given classes (JVMS 2.5.4, 5.5), as functions of the numbers of classes and
+-- fields.
+use Rattle.std.specs.Prelude.{ℕ, map, List, [], Option, Some, None, slice_get, slice_index_or, unwrap_or, if◌then◌else◌}
+use Rattle.std.specs.Prelude.{◌==◌}
 use Rattle.vm_state.specs.declared.value.Value.{Value}
 use Rattle.vm_state.specs.declared.value.Value.TheVariants.{Null}
 use Rattle.vm_state.specs.declared.classes.ClassState.{ClassState}
-use Rattle.vm_state.specs.declared.classes.ClassState.TheVariants.{Not, By, Done, Erroneous}
+use Rattle.vm_state.specs.declared.classes.ClassState.TheVariants.{Uninitialized, InProgress, Initialized, Erroneous}
 use Rattle.vm_state.specs.declared.classes.Usability.{Usability}
 use Rattle.vm_state.specs.declared.classes.Usability.TheVariants.{Ready, Fresh, Busy, Broken}
 use Rattle.vm_state.specs.declared.classes.StaticField.{StaticField}
@@ -11,9 +13,9 @@ use Rattle.vm_state.specs.declared.classes.ClassArea.{ClassArea}
 
 -- what a class's state is to a thread (JVMS 5.5, steps 2 to 5)
 abbrev pub usable : ℕ → ClassState → Usability
-usable t Not = Fresh
-usable t (By u) = if t == u then Ready else Busy
-usable t Done = Ready
+usable t Uninitialized = Fresh
+usable t (InProgress u) = if t == u then Ready else Busy
+usable t Initialized = Ready
 usable t Erroneous = Broken
 
 -- a field that was never set is null
@@ -22,7 +24,7 @@ field_in fields f = slice_index_or fields f Null
 
 -- a class of which nothing is kept yet
 abbrev pub untouched : ClassArea
-untouched = record { state = Not; fields = [] }
+untouched = record { state = Uninitialized; fields = [] }
 
 abbrev pub area_at : List ClassArea → ℕ → ClassArea
 area_at areas c = slice_index_or areas c untouched
@@ -46,10 +48,6 @@ with_fields fields c fs d = if d == c then fs else fields d
 abbrev pub with_value : (ℕ → Value) → ℕ → Value → ℕ → Value
 with_value fields f v g = if g == f then v else fields g
 
-abbrev pub with_constant : (ℕ → Value) → ℕ → Option Value → ℕ → Value
-with_constant fields f None g = fields g
-with_constant fields f (Some v) g = with_value fields f v g
-
 -- ---- the ConstantValues of final static fields (JVMS 4.7.2, 5.5 step 6)
 
 abbrev pub constant_or : Option StaticField → Value → Value
@@ -70,4 +68,4 @@ zeros_of statics f = zero_of (slice_get statics f)
 
 -- a class with these fields, whose initialization has not begun
 abbrev pub blank_area : List StaticField → ClassArea
-blank_area statics = record { state = Not; fields = map (λ (s : StaticField). s.zero) statics }
+blank_area statics = record { state = Uninitialized; fields = map (λ (s : StaticField). s.zero) statics }

@@ -1,7 +1,9 @@
 //! The states and the static fields of the given classes.
 
 ghost use Rattle.std.specs.Prelude.{◌≡◌, ◌++◌, ◌∷◌, map, ◌<◌, ◌^◌, ◌+◌, [], length, IfOk, OnErr, OnOk, true};
-ghost use Rattle.vm_state.specs.Statics.{blank_area, usable, field_in, states_of, fields_of, with_state, with_fields, with_value, with_constant, with_constants};
+ghost use Rattle.vm_state.specs.Statics.{blank_area, usable, field_in, states_of, fields_of, with_state, with_fields};
+ghost use Rattle.vm_state.specs.Statics.{with_value, with_constants};
+ghost use Rattle.vm_state.specs.steps.Statics.{with_constant};
 
 use crate::value::Value;
 use std::alloc::{AllocError, Global};
@@ -10,24 +12,26 @@ use std::marker::Model;
 /// How far the initialization of a class is (JVMS 5.5).
 #[derive(Clone, Copy, PartialEq, Eq, Debug)]
 pub enum ClassState {
-    /// Not begun.
-    Not,
-    /// In progress by the thread of this number.
-    By(u32),
-    Done,
+    /// Its initialization has not begun.
+    Uninitialized,
+    /// Its initialization is in progress by the thread of this number.
+    InProgress(u32),
+    /// It is fully initialized and ready for use.
+    Initialized,
+    /// It is in an erroneous state: its initialization failed.
     Erroneous,
 }
 
 /// What a class's state is to a thread that wants to use the class (JVMS 5.5, steps 2 to 5).
 #[derive(Clone, Copy, PartialEq, Eq, Debug)]
 pub enum Usability {
-    /// It is initialized, or the thread itself is initializing it.
+    /// Initialized, or in progress by the thread itself: the thread goes on (steps 3 and 4).
     Ready,
-    /// Its initialization is to begin first.
+    /// Uninitialized: the thread is to initialize it first (step 6).
     Fresh,
-    /// Another thread is initializing it.
+    /// In progress by another thread, for which the thread waits (step 2).
     Busy,
-    /// Its initialization failed.
+    /// Erroneous: the thread gets a `NoClassDefFoundError` (step 5).
     Broken,
 }
 
@@ -38,15 +42,15 @@ impl ClassState {
         ensures { result ≡ usable thread self }
     {
         match self {
-            ClassState::Not => Usability::Fresh,
-            ClassState::By(owner) => {
+            ClassState::Uninitialized => Usability::Fresh,
+            ClassState::InProgress(owner) => {
                 if thread == owner {
                     Usability::Ready
                 } else {
                     Usability::Busy
                 }
             }
-            ClassState::Done => Usability::Ready,
+            ClassState::Initialized => Usability::Ready,
             ClassState::Erroneous => Usability::Broken,
         }
     }
@@ -92,6 +96,9 @@ impl Fields {
     }
 
     /// The fields of a class before its initialization.
+    ///
+    /// # Errors
+    /// `AllocError` where memory is refused.
     pub fn zeros(alloc: Global, statics: &[StaticField]) -> Result<Fields, AllocError>
         ensures { IfOk result (λ r. r ≡ map (λ s. s.zero) statics.now) }
     {
@@ -126,7 +133,10 @@ impl Fields {
         Ok(())
     }
 
-    /// Sets a field that has a place, without memory. Where it has none nothing changes.
+    /// Sets a field that has a place, without memory.
+    ///
+    /// # Errors
+    /// `NoPlace` where it has none; nothing has changed then.
     #[inline(always)]
     pub fn replace(&mut self, field: u32, value: Value) -> Result<(), NoPlace>
         ensures ok { OnOk result (field_in self.new ≡ with_value (field_in self.old) field value) }
@@ -140,7 +150,10 @@ impl Fields {
         Ok(())
     }
 
-    /// Sets a field. Where memory is refused nothing changes.
+    /// Sets a field.
+    ///
+    /// # Errors
+    /// `AllocError` where memory is refused; nothing has changed then.
     pub fn set(&mut self, field: u32, value: Value) -> Result<(), AllocError>
         ensures ok { OnOk result (field_in self.new ≡ with_value (field_in self.old) field value) }
         ensures err { OnErr result (self.new ≡ self.old) }
@@ -169,6 +182,9 @@ impl Fields {
     }
 
     /// The same fields, each with its constant set where its declaration has one.
+    ///
+    /// # Errors
+    /// `AllocError` where memory is refused.
     pub fn with_constants(
         &self,
         alloc: Global,
@@ -189,8 +205,8 @@ impl Fields {
 /// What is kept of one class, apart from its objects.
 #[derive(Drop)]
 pub struct ClassArea {
-    pub state: ClassState,
-    pub fields: Fields,
+    state: ClassState,
+    fields: Fields,
 }
 
 /// The states and the static fields of the given classes, by their numbers. Nothing was begun and nothing
@@ -220,14 +236,16 @@ impl Classes {
     }
 
     /// One more class, with these static fields, whose initialization has not begun.
-    /// Where memory is refused nothing changes.
+    ///
+    /// # Errors
+    /// `AllocError` where memory is refused; nothing has changed then.
     pub fn add(&mut self, alloc: Global, statics: &[StaticField]) -> Result<(), AllocError>
         ensures ok { OnOk result (self.new ≡ self.old ++ blank_area statics.now ∷ []) }
         ensures err { OnErr result (self.new ≡ self.old) }
     {
         let fields = Fields::zeros(alloc, statics)?;
         self.areas.push(ClassArea {
-            state: ClassState::Not,
+            state: ClassState::Uninitialized,
             fields,
         })?;
         Ok(())
@@ -241,7 +259,7 @@ impl Classes {
     {
         match self.areas.get(class as usize) {
             Some(area) => area.state,
-            None => ClassState::Not,
+            None => ClassState::Uninitialized,
         }
     }
 
@@ -266,14 +284,17 @@ impl Classes {
     {
         while self.areas.len() <= class {
             self.areas.push(ClassArea {
-                state: ClassState::Not,
+                state: ClassState::Uninitialized,
                 fields: Fields::new(alloc),
             })?;
         }
         Ok(())
     }
 
-    /// Sets the state of a class. Where memory is refused nothing changes.
+    /// Sets the state of a class.
+    ///
+    /// # Errors
+    /// `AllocError` where memory is refused; nothing has changed then.
     pub fn set_state(
         &mut self,
         alloc: Global,
@@ -290,10 +311,15 @@ impl Classes {
         Ok(())
     }
 
-    /// Sets a static field that has a place, without memory. Where it has none nothing changes.
+    /// Sets a static field that has a place, without memory.
+    ///
+    /// # Errors
+    /// `NoPlace` where it has none; nothing has changed then.
     #[inline(always)]
     pub fn replace_field(&mut self, class: u32, field: u32, value: Value) -> Result<(), NoPlace>
-        ensures fields { OnOk result (fields_of self.new ≡ with_fields (fields_of self.old) class (with_value (fields_of self.old class) field value)) }
+        ensures fields { OnOk result
+            (fields_of self.new ≡ with_fields (fields_of self.old) class
+            (with_value (fields_of self.old class) field value)) }
         ensures states { OnOk result (states_of self.new ≡ states_of self.old) }
         ensures err { OnErr result (self.new ≡ self.old) }
     {
@@ -306,7 +332,10 @@ impl Classes {
         Ok(())
     }
 
-    /// Sets a static field. Where memory is refused nothing changes.
+    /// Sets a static field.
+    ///
+    /// # Errors
+    /// `AllocError` where memory is refused; nothing has changed then.
     #[inline(never)]
     pub fn set_field(
         &mut self,
@@ -315,7 +344,9 @@ impl Classes {
         field: u32,
         value: Value,
     ) -> Result<(), AllocError>
-        ensures fields { OnOk result (fields_of self.new ≡ with_fields (fields_of self.old) class (with_value (fields_of self.old class) field value)) }
+        ensures fields { OnOk result
+            (fields_of self.new ≡ with_fields (fields_of self.old) class
+            (with_value (fields_of self.old class) field value)) }
         ensures states { states_of self.new ≡ states_of self.old }
         ensures err { OnErr result (fields_of self.new ≡ fields_of self.old) }
     {
@@ -326,7 +357,9 @@ impl Classes {
     }
 
     /// Begins the initialization of a class by a thread: its state, and its constants (JVMS 5.5, step 6).
-    /// Where memory is refused nothing changes.
+    ///
+    /// # Errors
+    /// `AllocError` where memory is refused; nothing has changed then.
     pub fn begin(
         &mut self,
         alloc: Global,
@@ -334,15 +367,19 @@ impl Classes {
         thread: u32,
         statics: &[StaticField],
     ) -> Result<(), AllocError>
-        ensures states { OnOk result (states_of self.new ≡ with_state (states_of self.old) class (ClassState.By thread)) }
-        ensures fields { OnOk result (fields_of self.new ≡ with_fields (fields_of self.old) class (with_constants statics.now (fields_of self.old class))) }
-        ensures err { OnErr result ((states_of self.new ≡ states_of self.old) × (fields_of self.new ≡ fields_of self.old)) }
+        ensures states { OnOk result
+            (states_of self.new ≡ with_state (states_of self.old) class (ClassState.InProgress thread)) }
+        ensures fields { OnOk result
+            (fields_of self.new ≡ with_fields (fields_of self.old) class
+            (with_constants statics.now (fields_of self.old class))) }
+        ensures err { OnErr result ((states_of self.new ≡ states_of self.old)
+            × (fields_of self.new ≡ fields_of self.old)) }
     {
         self.reach(alloc, class as usize)?;
         let area = &mut self.areas[class as usize];
         let fields = area.fields.with_constants(alloc, statics)?;
         area.fields = fields;
-        area.state = ClassState::By(thread);
+        area.state = ClassState::InProgress(thread);
         Ok(())
     }
 }

@@ -3,7 +3,7 @@
 ghost use Rattle.std.specs.Prelude.{◌≡◌};
 ghost use Rattle.vm_state.specs.Endings.{ending_of};
 
-use crate::class_id::ClassId;
+use built_in::class_id::ClassId;
 use std::fmt;
 
 /// Why a thread could not go on.

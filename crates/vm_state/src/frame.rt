@@ -67,7 +67,10 @@ impl FrameList {
         }
     }
 
-    /// Takes all frames of a segment away. Where memory is refused nothing changes.
+    /// Takes all frames of a segment away.
+    ///
+    /// # Errors
+    /// `AllocError` where memory is refused; nothing has changed then.
     pub fn take_all(alloc: Global, segment: &mut Option<Segment>) -> Result<FrameList, AllocError>
         ensures ok { IfOk result (λ r. (r ≡ frames_in segment.old) × (segment.new ≡ None)) }
         ensures err { OnErr result (segment.new ≡ segment.old) }
@@ -110,9 +113,13 @@ impl Segment {
         }
     }
 
-    /// Puts the frame of a call on top. Where memory is refused nothing changes.
+    /// Puts the frame of a call on top.
+    ///
+    /// # Errors
+    /// `AllocError` where memory is refused; nothing has changed then.
     pub fn call(&mut self, callee: Frame) -> Result<(), AllocError>
-        ensures ok { OnOk result (self.new ≡ record { innermost = callee; callers = self.old.innermost ∷ self.old.callers }) }
+        ensures ok { OnOk result
+            (self.new ≡ record { innermost = callee; callers = self.old.innermost ∷ self.old.callers }) }
         ensures err { OnErr result (self.new ≡ self.old) }
     {
         self.callers.frames.reserve(1)?;

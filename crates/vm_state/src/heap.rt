@@ -1,14 +1,16 @@
 //! The objects, by their names.
 
-ghost use Rattle.std.specs.Prelude.{◌≡◌, ℕ, ◌∷◌, [], ◌++◌, ◌<◌, ◌≤◌, ◌^◌, length, slice_index_or, option_copied, IfOk, OnOk, OnErr};
+ghost use Rattle.std.specs.Prelude.{◌≡◌, ℕ, ◌∷◌, [], ◌++◌, ◌<◌, ◌≤◌, ◌^◌, length, slice_index_or, option_copied, IfOk};
+ghost use Rattle.std.specs.Prelude.{OnOk, OnErr};
 ghost use Rattle.std.specs.List.Sorted.{IsNonDecreasingBy};
 ghost use Rattle.vm_state.specs.declared.object.Object.{Object};
-ghost use Rattle.vm_state.specs.Objects.{empty_row, row_of, with_next, object_in, object_at_place};
+ghost use Rattle.vm_state.specs.Objects.{empty_row, row_of, object_in};
+ghost use Rattle.vm_state.specs.steps.Objects.{with_next, object_at_place};
 ghost use Rattle.vm_state.specs.SharedState.{with_new};
 ghost use Rattle.vm_state.specs.Pools.{pool_in, with_pool};
 
-use crate::class_id::ClassId;
 use crate::object::{Monitor, Object, Slots};
+use built_in::class_id::ClassId;
 use std::alloc::{AllocError, Global};
 use std::marker::Model;
 
@@ -148,7 +150,10 @@ impl Rows {
         }
     }
 
-    /// One more object of a maker, and its number. Where memory is refused nothing changes.
+    /// One more object of a maker, and its number.
+    ///
+    /// # Errors
+    /// `AllocError` where memory is refused; nothing has changed then.
     pub fn make(
         &mut self,
         alloc: Global,
@@ -157,7 +162,8 @@ impl Rows {
         slots: Slots,
     ) -> Result<u64, AllocError>
         ensures number { IfOk result (λ n. n ≡ (pool_in self.old maker).count) }
-        ensures ok { OnOk result (pool_in self.new ≡ with_pool (pool_in self.old) maker (with_new (pool_in self.old maker) class slots)) }
+        ensures ok { OnOk result
+            (pool_in self.new ≡ with_pool (pool_in self.old) maker (with_new (pool_in self.old maker) class slots)) }
         ensures err { OnErr result (pool_in self.new ≡ pool_in self.old) }
     {
         self.reach(alloc, maker as usize)?;
@@ -174,8 +180,8 @@ impl Rows {
 /// The objects of all makers: of classes and of threads.
 #[derive(Drop)]
 pub struct Heap {
-    pub classes: Rows,
-    pub threads: Rows,
+    pub(crate) classes: Rows,
+    pub(crate) threads: Rows,
 }
 
 impl Heap {
@@ -189,7 +195,10 @@ impl Heap {
         }
     }
 
-    /// The first object of one more thread. Where memory is refused nothing changes.
+    /// The first object of one more thread.
+    ///
+    /// # Errors
+    /// `AllocError` where memory is refused; nothing has changed then.
     pub fn add_thread(&mut self, alloc: Global, first: Object) -> Result<(), AllocError>
         ensures ok { OnOk result (self.new ≡ record self.old { threads = self.old.threads ++ row_of first ∷ [] }) }
         ensures err { OnErr result (self.new ≡ self.old) }

@@ -1,8 +1,9 @@
-//! Initialization entries (JVMS 5.5), and the whole stack of a thread.
+//! Initializations of classes in progress (JVMS 5.5), and the whole stack of a thread.
 
 ghost use Rattle.std.specs.Prelude.{◌≡◌, ◌∷◌, [], IfOk, OnOk, OnErr, None, IsSome, option_copied};
 ghost use Rattle.vm_state.specs.Segments.{frames_in, first_frame, callers_of};
-ghost use Rattle.vm_state.specs.Stacks.{first_of, others_of, first_level, levels_in, segment_of, levels_of, parent_taken};
+ghost use Rattle.vm_state.specs.Stacks.{first_of, others_of, first_level, levels_in, segment_of, levels_of};
+ghost use Rattle.vm_state.specs.Stacks.{parent_taken};
 ghost use Rattle.vm_state.specs.Stacks.{initializer_begun, exception_pending, IsLeft};
 
 use crate::frame::{Frame, FrameList, Segment};
@@ -27,6 +28,9 @@ impl Model for Parents {
 
 impl Parents {
     /// These classes, in this order.
+    ///
+    /// # Errors
+    /// `AllocError` where memory is refused.
     pub fn of(alloc: Global, classes: &[u32]) -> Result<Parents, AllocError>
         ensures { IfOk result (λ s. s ≡ classes.now) }
     {
@@ -52,8 +56,9 @@ impl Parents {
 
 /// The initialization of a class in progress (JVMS 5.5, steps 6 to 12).
 #[derive(Drop)]
-pub struct Entry {
+pub struct Initialization {
     pub class: u32,
+    /// What is still to be initialized before it.
     pub left: Parents,
     /// Whether its class initialization method has begun.
     pub begun: bool,
@@ -61,14 +66,14 @@ pub struct Entry {
     pub pending: Option<Name>,
 }
 
-/// An initialization entry, and the frames under it down to the next entry.
+/// An initialization in progress, and the frames under it down to the next one.
 #[derive(Drop)]
 pub struct Level {
-    pub entry: Entry,
+    pub initialization: Initialization,
     pub under: FrameList,
 }
 
-/// Some initialization entries of one thread, the innermost first.
+/// Some initializations in progress by one thread, the innermost first.
 #[derive(Drop)]
 pub struct LevelList {
     levels: Vec<Level>,
@@ -84,7 +89,7 @@ impl Model for LevelList {
 }
 
 impl LevelList {
-    /// No entries.
+    /// None.
     pub fn none(alloc: Global) -> LevelList
         ensures { result ≡ [] }
     {
@@ -93,7 +98,7 @@ impl LevelList {
         }
     }
 
-    /// These entries, where there is one.
+    /// These, where there is one.
     fn into_levels(self) -> Option<Levels>
         ensures { levels_in result ≡ self }
     {
@@ -108,7 +113,7 @@ impl LevelList {
     }
 }
 
-/// Initialization entries of one thread, at least one.
+/// Initializations in progress by one thread, at least one.
 #[derive(Drop)]
 pub struct Levels {
     pub highest: Level,
@@ -117,21 +122,28 @@ pub struct Levels {
 }
 
 impl Levels {
-    /// Puts an entry on all frames above the highest one. Where memory is refused nothing changes.
+    /// Puts an initialization on all frames above the highest one. Where memory is refused nothing changes.
     fn cover(
         &mut self,
         alloc: Global,
-        entry: Entry,
+        initialization: Initialization,
         segment: &mut Option<Segment>,
     ) -> Result<(), AllocError>
-        ensures highest { OnOk result (self.new.highest ≡ record { entry = entry; under = frames_in segment.old }) }
+        ensures highest { OnOk result
+            (self.new.highest ≡ record { initialization = initialization; under = frames_in segment.old }) }
         ensures outer { OnOk result (self.new.outer ≡ self.old.highest ∷ self.old.outer) }
         ensures segment { OnOk result (segment.new ≡ None) }
         ensures err { OnErr result ((self.new ≡ self.old) × (segment.new ≡ segment.old)) }
     {
         self.outer.levels.reserve(1)?;
         let under = FrameList::take_all(alloc, segment)?;
-        let covered = mem::replace(&mut self.highest, Level { entry, under });
+        let covered = mem::replace(
+            &mut self.highest,
+            Level {
+                initialization,
+                under,
+            },
+        );
         self.outer.levels.push_reserved(covered);
         Ok(())
     }
@@ -141,14 +153,14 @@ impl Levels {
 #[derive(Drop)]
 pub struct Frames {
     pub thread: u32,
-    /// The frames above the highest initialization entry, if there is one.
+    /// The frames above the highest initialization, if there is one.
     pub segment: Option<Segment>,
-    /// The initialization entries, if there is one.
+    /// The initializations in progress, if there is one.
     pub levels: Option<Levels>,
 }
 
 impl Frames {
-    /// The innermost frame above the highest entry.
+    /// The innermost frame above the highest initialization.
     pub fn innermost(&self) -> Option<&Frame>
         ensures { option_copied result ≡ first_frame (segment_of self.now) }
     {
@@ -158,8 +170,8 @@ impl Frames {
         }
     }
 
-    /// The highest entry.
-    pub fn entry(&self) -> Option<&Level>
+    /// The highest initialization.
+    pub fn highest(&self) -> Option<&Level>
         ensures { option_copied result ≡ first_level (levels_of self.now) }
     {
         match &self.levels {
@@ -168,7 +180,7 @@ impl Frames {
         }
     }
 
-    /// Takes the innermost frame above the highest entry; its caller is the innermost one then.
+    /// Takes the innermost frame above the highest initialization; its caller is the innermost one then.
     pub fn pop(&mut self) -> Option<Frame>
         ensures thread { self.new.thread ≡ self.old.thread }
         ensures frame { result ≡ first_frame (segment_of self.old) }
@@ -180,26 +192,34 @@ impl Frames {
         Some(innermost)
     }
 
-    /// Puts an initialization entry on top of the stack. Where memory is refused nothing changes.
-    pub fn enter(&mut self, alloc: Global, entry: Entry) -> Result<(), AllocError>
+    /// Puts an initialization on top of the stack.
+    ///
+    /// # Errors
+    /// `AllocError` where memory is refused; nothing has changed then.
+    pub fn enter(&mut self, alloc: Global, initialization: Initialization) -> Result<(), AllocError>
         ensures thread { self.new.thread ≡ self.old.thread }
         ensures segment { OnOk result (segment_of self.new ≡ []) }
-        ensures levels { OnOk result (levels_of self.new ≡ record { entry = entry; under = segment_of self.old } ∷ levels_of self.old) }
+        ensures levels { OnOk result
+            (levels_of self.new ≡ record { initialization = initialization; under = segment_of self.old }
+            ∷ levels_of self.old) }
         ensures err { OnErr result (self.new ≡ self.old) }
     {
         if let Some(levels) = &mut self.levels {
-            return levels.cover(alloc, entry, &mut self.segment);
+            return levels.cover(alloc, initialization, &mut self.segment);
         }
         let under = FrameList::take_all(alloc, &mut self.segment)?;
         self.levels = Some(Levels {
-            highest: Level { entry, under },
+            highest: Level {
+                initialization,
+                under,
+            },
             outer: LevelList::none(alloc),
         });
         Ok(())
     }
 
-    /// Takes the highest entry away, with all frames above it; those under it are the topmost ones then.
-    /// Where there is no entry nothing changes.
+    /// Takes the highest initialization away, with all frames above it; those under it are the topmost ones then.
+    /// Where there is none nothing changes.
     pub fn leave(&mut self)
         ensures thread { self.new.thread ≡ self.old.thread }
         ensures left { IsLeft (levels_of self.old) self.new }
@@ -213,7 +233,7 @@ impl Frames {
         self.levels = outer.into_levels();
     }
 
-    /// Takes the next parent off the highest entry.
+    /// Takes the next parent off the highest initialization.
     pub fn take_parent(&mut self)
         requires { IsSome self.old.levels }
         ensures thread { self.new.thread ≡ self.old.thread }
@@ -223,11 +243,11 @@ impl Frames {
         let Some(mut levels) = self.levels.take() else {
             unreachable!()
         };
-        levels.highest.entry.left.drop_first();
+        levels.highest.initialization.left.drop_first();
         self.levels = Some(levels);
     }
 
-    /// Puts the frame of its class initialization method on the highest entry.
+    /// Puts the frame of its class initialization method on the highest initialization.
     pub fn begin_initializer(&mut self, alloc: Global, frame: Frame)
         requires levels { IsSome self.old.levels }
         requires none { self.old.segment ≡ None }
@@ -238,14 +258,15 @@ impl Frames {
         let Some(levels) = &mut self.levels else {
             unreachable!()
         };
-        levels.highest.entry.begun = true;
+        levels.highest.initialization.begun = true;
         self.segment = Some(Segment {
             innermost: frame,
             callers: FrameList::none(alloc),
         });
     }
 
-    /// Takes all frames above the highest entry away; the exception that came out of them becomes pending there.
+    /// Takes all frames above the highest initialization away; the exception that came out of them becomes pending
+    /// there.
     pub fn set_pending(&mut self, exception: Name)
         requires { IsSome self.old.levels }
         ensures thread { self.new.thread ≡ self.old.thread }
@@ -255,7 +276,7 @@ impl Frames {
         let Some(levels) = &mut self.levels else {
             unreachable!()
         };
-        levels.highest.entry.pending = Some(exception);
+        levels.highest.initialization.pending = Some(exception);
         self.segment = None;
     }
 }

@@ -1,8 +1,7 @@
 //! What a Java virtual machine holds while it runs: values, objects, operand stacks, local variables,
-//! frames, initialization entries, and what all threads share.
+//! frames, initializations, and what all threads share.
 #![tactic(auto)]
 
-pub mod class_id;
 pub mod classes;
 pub mod ends;
 pub mod frame;

@@ -1,6 +1,7 @@
 //! The local variables of a frame (JVMS 2.6.1).
 
-ghost use Rattle.std.specs.Prelude.{◌≡◌, ◌<◌, IfOk, OnErr, OnOk, Some, None, length, option_map, replicate, slice_get, slice_set};
+ghost use Rattle.std.specs.Prelude.{◌≡◌, ◌<◌, IfOk, OnErr, OnOk, Some, None, length, option_map, replicate, slice_get};
+ghost use Rattle.std.specs.Prelude.{slice_set};
 ghost use Rattle.vm_state.specs.declared.value.Value.{Value};
 ghost use Rattle.vm_state.specs.Locals.{int_at, long_at, stored, value_at};
 ghost use Rattle.vm_state.specs.Variables.{value_in};
@@ -75,6 +76,9 @@ impl Model for Locals {
 
 impl Locals {
     /// So many places (`max_locals`) that hold nothing.
+    ///
+    /// # Errors
+    /// `AllocError` where memory is refused.
     pub fn new(alloc: Global, count: u16) -> Result<Locals, AllocError>
         ensures { IfOk result (λ s. s ≡ replicate count None) }
     {
@@ -133,7 +137,10 @@ impl Locals {
         }
     }
 
-    /// The int in a local variable; a fault where no int is there.
+    /// The int in a local variable.
+    ///
+    /// # Errors
+    /// `Fault` where no int is there.
     #[tactic(auto, unfolding(crate::specs::Locals::value_at))]
     #[inline(always)]
     pub fn int_at(&self, at: u16) -> Result<i32, Fault>
@@ -146,7 +153,10 @@ impl Locals {
         }
     }
 
-    /// The long in a local variable; a fault where no long is there, or one that was ended.
+    /// The long in a local variable.
+    ///
+    /// # Errors
+    /// `Fault` where no long is there, or one that was ended.
     #[tactic(auto, unfolding(crate::specs::Locals::value_at))]
     #[inline(always)]
     pub fn long_at(&self, at: u16) -> Result<i64, Fault>
@@ -160,7 +170,10 @@ impl Locals {
         }
     }
 
-    /// The value in a local variable; a fault where there is none, or a long that was ended.
+    /// The value in a local variable.
+    ///
+    /// # Errors
+    /// `Fault` where there is none, or a long that was ended.
     #[tactic(auto, unfolding(crate::specs::Locals::value_at))]
     #[inline(always)]
     pub fn value_at(&self, at: u16) -> Result<Value, Fault>
@@ -181,7 +194,10 @@ impl Locals {
         }
     }
 
-    /// Stores a value; a fault, and nothing changed, where its places are not all there.
+    /// Stores a value.
+    ///
+    /// # Errors
+    /// `Fault` where its places are not all there; nothing has changed then.
     #[tactic(auto, unfolding(crate::specs::Locals::stored))]
     #[inline(always)]
     pub fn store_value(&mut self, at: u16, value: Value) -> Result<(), Fault>
@@ -200,8 +216,10 @@ impl Locals {
         Ok(())
     }
 
-    /// Stores an int; a fault, and nothing changed, where there is no such variable. Where an int is there already its
-    /// number alone is written.
+    /// Stores an int. Where an int is there already its number alone is written.
+    ///
+    /// # Errors
+    /// `Fault` where there is no such variable; nothing has changed then.
     #[tactic(auto, unfolding(crate::specs::Locals::stored))]
     #[inline(always)]
     pub fn store_int(&mut self, at: u16, number: i32) -> Result<(), Fault>
@@ -217,8 +235,10 @@ impl Locals {
         Ok(())
     }
 
-    /// Stores a long; a fault, and nothing changed, where its two places are not there. Where a long
-    /// is there already its number alone is written.
+    /// Stores a long. Where a long is there already its number alone is written.
+    ///
+    /// # Errors
+    /// `Fault` where its two places are not there; nothing has changed then.
     #[tactic(auto, unfolding(crate::specs::Locals::stored))]
     #[inline(always)]
     pub fn store_long(&mut self, at: u16, number: i64) -> Result<(), Fault>

@@ -2,8 +2,8 @@
 
 ghost use Rattle.std.specs.Prelude.{◌≡◌, [], IfOk};
 
-use crate::class_id::ClassId;
 use crate::value::Value;
+use built_in::class_id::ClassId;
 use std::alloc::{AllocError, Global};
 use std::marker::Model;
 
@@ -33,6 +33,9 @@ impl Slots {
     }
 
     /// These values.
+    ///
+    /// # Errors
+    /// `AllocError` where memory is refused.
     pub fn of(alloc: Global, values: &[Value]) -> Result<Slots, AllocError>
         ensures { IfOk result (λ s. s ≡ values.now) }
     {

@@ -31,6 +31,9 @@ impl Model for Operands {
 
 impl Operands {
     /// An empty stack with room for so many places (`max_stack`).
+    ///
+    /// # Errors
+    /// `AllocError` where memory is refused.
     pub fn new(alloc: Global, room: u16) -> Result<Operands, AllocError>
         ensures { IfOk result (λ s. s ≡ record { free = room; values = [] }) }
     {
@@ -42,6 +45,9 @@ impl Operands {
     }
 
     /// A full stack with one value of one place.
+    ///
+    /// # Errors
+    /// `AllocError` where memory is refused.
     pub fn with(alloc: Global, value: Value) -> Result<Operands, AllocError>
         requires { places value ≡ 1 }
         ensures { IfOk result (λ s. s ≡ record { free = 0; values = value ∷ [] }) }
@@ -51,7 +57,10 @@ impl Operands {
         Ok(Operands { values, free: 0 })
     }
 
-    /// Puts a value on top; a fault, and nothing changed, where there is no room for it.
+    /// Puts a value on top.
+    ///
+    /// # Errors
+    /// `Fault` where there is no room for it; nothing has changed then.
     #[tactic(auto, unfolding(crate::specs::Operands::pushed))]
     #[inline(always)]
     pub fn push(&mut self, value: Value) -> Result<(), Fault>
@@ -77,6 +86,9 @@ impl Operands {
     }
 
     /// The value on top, which stays.
+    ///
+    /// # Errors
+    /// `Fault` where the stack is empty.
     #[tactic(auto, unfolding(crate::specs::Operands::top))]
     #[inline(always)]
     pub fn top(&self) -> Result<Value, Fault>
@@ -87,6 +99,9 @@ impl Operands {
     }
 
     /// The int on top, which stays.
+    ///
+    /// # Errors
+    /// `Fault` where no int is there.
     #[inline(always)]
     pub fn top_int(&self) -> Result<i32, Fault>
         ensures ok { IfOk result (λ n. top_int self.now ≡ Some n) }
@@ -96,6 +111,9 @@ impl Operands {
     }
 
     /// The value below so many others, which stays.
+    ///
+    /// # Errors
+    /// `Fault` where there is none.
     #[inline(always)]
     pub fn below(&self, others: usize) -> Result<Value, Fault>
         ensures ok { IfOk result (λ v. top (dropped others self.now) ≡ Some v) }
@@ -109,6 +127,9 @@ impl Operands {
     }
 
     /// The value below the top, which stays.
+    ///
+    /// # Errors
+    /// `Fault` where there is none.
     #[inline(always)]
     pub fn second(&self) -> Result<Value, Fault>
         ensures ok { IfOk result (λ v. top (rest self.now) ≡ Some v) }
@@ -118,6 +139,9 @@ impl Operands {
     }
 
     /// The int below the top, which stays.
+    ///
+    /// # Errors
+    /// `Fault` where no int is there.
     #[inline(always)]
     pub fn second_int(&self) -> Result<i32, Fault>
         ensures ok { IfOk result (λ n. top_int (rest self.now) ≡ Some n) }
@@ -127,6 +151,9 @@ impl Operands {
     }
 
     /// The long on top, which stays.
+    ///
+    /// # Errors
+    /// `Fault` where no long is there.
     #[inline(always)]
     pub fn top_long(&self) -> Result<i64, Fault>
         ensures ok { IfOk result (λ n. top_long self.now ≡ Some n) }
@@ -136,6 +163,9 @@ impl Operands {
     }
 
     /// The long below the top, which stays.
+    ///
+    /// # Errors
+    /// `Fault` where no long is there.
     #[inline(always)]
     pub fn second_long(&self) -> Result<i64, Fault>
         ensures ok { IfOk result (λ n. top_long (rest self.now) ≡ Some n) }
@@ -171,7 +201,10 @@ impl Operands {
         free
     }
 
-    /// Puts a value in the place of the one on top; a fault, and nothing changed, where there is no room for it.
+    /// Puts a value in the place of the one on top.
+    ///
+    /// # Errors
+    /// `Fault` where there is no room for it; nothing has changed then.
     #[tactic(auto, unfolding(crate::specs::Operands::pushed))]
     #[inline(always)]
     pub fn replace_one(&mut self, value: Value) -> Result<(), Fault>
@@ -186,7 +219,10 @@ impl Operands {
         self.push(value)
     }
 
-    /// Puts a value in the place of the two on top; a fault, and nothing changed, where there is no room for it.
+    /// Puts a value in the place of the two on top.
+    ///
+    /// # Errors
+    /// `Fault` where there is no room for it; nothing has changed then.
     #[tactic(auto, unfolding(crate::specs::Operands::pushed))]
     #[inline(always)]
     pub fn replace_two(&mut self, value: Value) -> Result<(), Fault>
@@ -214,8 +250,10 @@ impl Operands {
         Ok(())
     }
 
-    /// Puts values in the place of so many on top, the first one first; a fault, and nothing changed, where there is no
-    /// room for all of them.
+    /// Puts values in the place of so many on top, the first one first.
+    ///
+    /// # Errors
+    /// `Fault` where there is no room for all of them; nothing has changed then.
     #[tactic(auto, using(crate::proofs::OperandLemmas::pushed_none))]
     pub fn replace(&mut self, others: usize, values: &[Value]) -> Result<(), Fault>
         ensures fits { OnOk result (all_pushed values.now (dropped others self.old) ≡ Some self.new) }

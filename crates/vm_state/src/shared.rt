@@ -2,24 +2,40 @@
 
 ghost use Rattle.std.specs.Prelude.{◌≡◌, List, IfOk, OnOk, OnErr, option_copied};
 ghost use Rattle.vm_state.specs.declared.text.Line.{Line};
-ghost use Rattle.vm_state.specs.SharedState.{made, next_name, object_of, set_state, with_static};
-ghost use Rattle.vm_state.specs.Shares.{shared_of, begun};
+ghost use Rattle.vm_state.specs.SharedState.{object_of};
+ghost use Rattle.vm_state.specs.Shares.{shared_of, SharesTheSame, SetsField, SetsState, Begins, Makes, IsNextName};
 
-use crate::class_id::ClassId;
 use crate::classes::{ClassState, Classes, NoPlace, StaticField};
 use crate::heap::Heap;
 use crate::object::{Object, Slots};
 use crate::value::{Maker, Name, Value};
+use built_in::class_id::ClassId;
 use std::alloc::{AllocError, Global};
+use std::marker::Model;
 
 /// The states and static fields of the classes, and the objects.
 #[derive(Drop)]
 pub struct Shared {
-    pub classes: Classes,
-    pub heap: Heap,
+    classes: Classes,
+    heap: Heap,
+}
+
+impl Model for Shared {
+    ghost use Rattle.vm_state.specs.SharedTables.{SharedTables};
+
+    ghost Value = { SharedTables };
+
+    ghost view = { λ s. record { classes = s.classes; heap = s.heap } };
 }
 
 impl Shared {
+    /// These tables.
+    pub fn new(classes: Classes, heap: Heap) -> Shared
+        ensures { result ≡ record { classes = classes; heap = heap } }
+    {
+        Shared { classes, heap }
+    }
+
     /// The state of a class.
     #[tactic(auto, unfolding(crate::specs::Shares::shared_of))]
     #[inline(always)]
@@ -38,20 +54,23 @@ impl Shared {
         self.classes.field(class, field)
     }
 
-    /// Sets a static field that has a place, without memory. Where it has none nothing changes.
+    /// Sets a static field that has a place, without memory.
+    ///
+    /// # Errors
+    /// `NoPlace` where it has none; nothing has changed then.
     #[inline(always)]
     pub fn replace_field(&mut self, class: u32, field: u32, value: Value) -> Result<(), NoPlace>
-        ensures ok { OnOk result ((p : List Line) → shared_of self.new p ≡ with_static (shared_of self.old p) class field value) }
+        ensures ok { OnOk result (SetsField self.old self.new class field value) }
         ensures err { OnErr result (self.new ≡ self.old) }
     {
-        match self.classes.replace_field(class, field, value) {
-            Ok(()) => Ok(()),
-            Err(NoPlace) => Err(NoPlace),
-        }
+        self.classes.replace_field(class, field, value)?;
+        Ok(())
     }
 
-    /// Sets a static field. It takes memory only for a field that has no place yet; where that is refused nothing
-    /// changes.
+    /// Sets a static field. It takes memory only for a field that has no place yet.
+    ///
+    /// # Errors
+    /// `AllocError` where memory is refused; nothing has changed then.
     #[inline(always)]
     pub fn set_field(
         &mut self,
@@ -60,8 +79,8 @@ impl Shared {
         field: u32,
         value: Value,
     ) -> Result<(), AllocError>
-        ensures ok { OnOk result ((p : List Line) → shared_of self.new p ≡ with_static (shared_of self.old p) class field value) }
-        ensures err { OnErr result ((p : List Line) → shared_of self.new p ≡ shared_of self.old p) }
+        ensures ok { OnOk result (SetsField self.old self.new class field value) }
+        ensures err { OnErr result (SharesTheSame self.old self.new) }
     {
         match self.replace_field(class, field, value) {
             Ok(()) => Ok(()),
@@ -77,32 +96,34 @@ impl Shared {
         field: u32,
         value: Value,
     ) -> Result<(), AllocError>
-        ensures ok { OnOk result ((p : List Line) → shared_of self.new p ≡ with_static (shared_of self.old p) class field value) }
-        ensures err { OnErr result ((p : List Line) → shared_of self.new p ≡ shared_of self.old p) }
+        ensures ok { OnOk result (SetsField self.old self.new class field value) }
+        ensures err { OnErr result (SharesTheSame self.old self.new) }
     {
-        match self.classes.set_field(alloc, class, field, value) {
-            Ok(()) => Ok(()),
-            Err(error) => Err(error),
-        }
+        self.classes.set_field(alloc, class, field, value)?;
+        Ok(())
     }
 
-    /// Sets the state of a class. Where memory is refused nothing changes.
+    /// Sets the state of a class.
+    ///
+    /// # Errors
+    /// `AllocError` where memory is refused; nothing has changed then.
     pub fn set_state(
         &mut self,
         alloc: Global,
         class: u32,
         state: ClassState,
     ) -> Result<(), AllocError>
-        ensures ok { OnOk result ((p : List Line) → shared_of self.new p ≡ set_state (shared_of self.old p) class state) }
-        ensures err { OnErr result ((p : List Line) → shared_of self.new p ≡ shared_of self.old p) }
+        ensures ok { OnOk result (SetsState self.old self.new class state) }
+        ensures err { OnErr result (SharesTheSame self.old self.new) }
     {
-        match self.classes.set_state(alloc, class, state) {
-            Ok(()) => Ok(()),
-            Err(error) => Err(error),
-        }
+        self.classes.set_state(alloc, class, state)?;
+        Ok(())
     }
 
-    /// Begins the initialization of a class by a thread (JVMS 5.5, step 6). Where memory is refused nothing changes.
+    /// Begins the initialization of a class by a thread (JVMS 5.5, step 6).
+    ///
+    /// # Errors
+    /// `AllocError` where memory is refused; nothing has changed then.
     pub fn begin(
         &mut self,
         alloc: Global,
@@ -110,13 +131,11 @@ impl Shared {
         thread: u32,
         statics: &[StaticField],
     ) -> Result<(), AllocError>
-        ensures ok { OnOk result ((p : List Line) → shared_of self.new p ≡ begun (shared_of self.old p) class thread statics.now) }
-        ensures err { OnErr result ((p : List Line) → shared_of self.new p ≡ shared_of self.old p) }
+        ensures ok { OnOk result (Begins self.old self.new class thread statics.now) }
+        ensures err { OnErr result (SharesTheSame self.old self.new) }
     {
-        match self.classes.begin(alloc, class, thread, statics) {
-            Ok(()) => Ok(()),
-            Err(error) => Err(error),
-        }
+        self.classes.begin(alloc, class, thread, statics)?;
+        Ok(())
     }
 
     /// The object of a name, if it is held.
@@ -131,7 +150,10 @@ impl Shared {
         }
     }
 
-    /// One more object of a maker, and its name. Where memory is refused nothing changes.
+    /// One more object of a maker, and its name.
+    ///
+    /// # Errors
+    /// `AllocError` where memory is refused; nothing has changed then.
     pub fn make(
         &mut self,
         alloc: Global,
@@ -139,9 +161,9 @@ impl Shared {
         class: ClassId,
         slots: Slots,
     ) -> Result<Name, AllocError>
-        ensures name { IfOk result (λ name. (p : List Line) → name ≡ next_name (shared_of self.old p) maker) }
-        ensures ok { OnOk result ((p : List Line) → shared_of self.new p ≡ made (shared_of self.old p) maker class slots) }
-        ensures err { OnErr result ((p : List Line) → shared_of self.new p ≡ shared_of self.old p) }
+        ensures name { IfOk result (λ name. IsNextName self.old maker name) }
+        ensures ok { OnOk result (Makes self.old self.new maker class slots) }
+        ensures err { OnErr result (SharesTheSame self.old self.new) }
     {
         match maker {
             Maker::Class(number) => self.make_by_class(alloc, number, class, slots),
@@ -157,17 +179,15 @@ impl Shared {
         class: ClassId,
         slots: Slots,
     ) -> Result<Name, AllocError>
-        ensures name { IfOk result (λ name. (p : List Line) → name ≡ next_name (shared_of self.old p) (Maker.Class maker)) }
-        ensures ok { OnOk result ((p : List Line) → shared_of self.new p ≡ made (shared_of self.old p) (Maker.Class maker) class slots) }
-        ensures err { OnErr result ((p : List Line) → shared_of self.new p ≡ shared_of self.old p) }
+        ensures name { IfOk result (λ name. IsNextName self.old (Maker.Class maker) name) }
+        ensures ok { OnOk result (Makes self.old self.new (Maker.Class maker) class slots) }
+        ensures err { OnErr result (SharesTheSame self.old self.new) }
     {
-        match self.heap.classes.make(alloc, maker, class, slots) {
-            Ok(number) => Ok(Name {
-                maker: Maker::Class(maker),
-                number,
-            }),
-            Err(error) => Err(error),
-        }
+        let number = self.heap.classes.make(alloc, maker, class, slots)?;
+        Ok(Name {
+            maker: Maker::Class(maker),
+            number,
+        })
     }
 
     #[tactic(auto, unfolding(crate::specs::Shares::shared_of))]
@@ -178,16 +198,14 @@ impl Shared {
         class: ClassId,
         slots: Slots,
     ) -> Result<Name, AllocError>
-        ensures name { IfOk result (λ name. (p : List Line) → name ≡ next_name (shared_of self.old p) (Maker.Thread maker)) }
-        ensures ok { OnOk result ((p : List Line) → shared_of self.new p ≡ made (shared_of self.old p) (Maker.Thread maker) class slots) }
-        ensures err { OnErr result ((p : List Line) → shared_of self.new p ≡ shared_of self.old p) }
+        ensures name { IfOk result (λ name. IsNextName self.old (Maker.Thread maker) name) }
+        ensures ok { OnOk result (Makes self.old self.new (Maker.Thread maker) class slots) }
+        ensures err { OnErr result (SharesTheSame self.old self.new) }
     {
-        match self.heap.threads.make(alloc, maker, class, slots) {
-            Ok(number) => Ok(Name {
-                maker: Maker::Thread(maker),
-                number,
-            }),
-            Err(error) => Err(error),
-        }
+        let number = self.heap.threads.make(alloc, maker, class, slots)?;
+        Ok(Name {
+            maker: Maker::Thread(maker),
+            number,
+        })
     }
 }

@@ -22,6 +22,9 @@ impl Model for Text {
 
 impl Text {
     /// A number in decimal, and the end of the line (byte 0A).
+    ///
+    /// # Errors
+    /// `AllocError` where memory is refused.
     pub fn line_of_int(alloc: Global, number: i32) -> Result<Text, AllocError>
         ensures { IfOk result (λ t. t ≡ signed_decimal number ++ 10 ∷ []) }
     {
@@ -31,6 +34,9 @@ impl Text {
     }
 
     /// The same text once more.
+    ///
+    /// # Errors
+    /// `AllocError` where memory is refused.
     pub fn copy(&self, alloc: Global) -> Result<Text, AllocError>
         ensures { IfOk result (λ t. t ≡ self.now) }
     {
@@ -56,6 +62,9 @@ pub struct Line {
 
 impl Line {
     /// The same line once more.
+    ///
+    /// # Errors
+    /// `AllocError` where memory is refused.
     pub fn copy(&self, alloc: Global) -> Result<Line, AllocError>
         ensures { IfOk result (λ l. l ≡ self.now) }
     {

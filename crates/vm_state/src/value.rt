@@ -58,6 +58,9 @@ impl Value {
     }
 
     /// The number of an int.
+    ///
+    /// # Errors
+    /// `Fault` where it is no int.
     #[inline(always)]
     pub fn int(self) -> Result<i32, Fault>
         ensures ok { IfOk result (λ n. int_of (Some self) ≡ Some n) }
@@ -70,6 +73,9 @@ impl Value {
     }
 
     /// The number of a long.
+    ///
+    /// # Errors
+    /// `Fault` where it is no long.
     #[inline(always)]
     pub fn long(self) -> Result<i64, Fault>
         ensures ok { IfOk result (λ n. long_of (Some self) ≡ Some n) }

@@ -1,4 +1,4 @@
-use Rattle.semantics.proofs.ExactImages.{image_to_lazy_lem}
+use Rattle.semantics.proofs.ExactImagesLemmas.{image_to_lazy_lem}
 use Rattle.semantics.proofs.image_to_lazy.Goals as goal
 
 pub returns : goal.returns

@@ -1,4 +1,4 @@
-use Rattle.semantics.proofs.Refusals.{stop_excludes_lem, one_stop_lem}
+use Rattle.semantics.proofs.RefusalsLemmas.{stop_excludes_lem, one_stop_lem}
 use Rattle.semantics.proofs.refused_once.Goals as goal
 
 pub returns : goal.returns

@@ -1,4 +1,4 @@
-use Rattle.semantics.proofs.Refusals.{settles_or_stops_lem}
+use Rattle.semantics.proofs.RefusalsLemmas.{settles_or_stops_lem}
 use Rattle.semantics.proofs.settles_or_stops.Goals as goal
 
 pub returns : goal.returns

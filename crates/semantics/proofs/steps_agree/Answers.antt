@@ -1,4 +1,4 @@
-use Rattle.semantics.proofs.BigSteps.{steps_agree_lem}
+use Rattle.semantics.proofs.BigStepsLemmas.{steps_agree_lem}
 use Rattle.semantics.proofs.steps_agree.Goals as goal
 
 pub returns : goal.returns

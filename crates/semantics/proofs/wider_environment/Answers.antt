@@ -1,4 +1,4 @@
-use Rattle.semantics.proofs.AcceptedRegions.{wider_environment_lem}
+use Rattle.semantics.proofs.AcceptedRegionsLemmas.{wider_environment_lem}
 use Rattle.semantics.proofs.wider_environment.Goals as goal
 
 pub returns : goal.returns

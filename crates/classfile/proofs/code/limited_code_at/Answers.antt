@@ -1,5 +1,5 @@
 use Rattle.std.proofs.Common.{rules}
-use Rattle.classfile.proofs.Pairs.{code_in_parts}
+use Rattle.classfile.proofs.ReadInPairsLemmas.{code_in_parts}
 use Rattle.classfile.proofs.code.limited_code_at.Goals as goal
 
 pub returns-in_err-code : goal.returns-in_err-code

@@ -1,5 +1,5 @@
 use Rattle.std.proofs.Common.{◌≡◌, ◌&&◌, drop}
-use Rattle.classfile.specs.Descriptors.{lacks_semicolon}
+use Rattle.classfile.specs.reading.Descriptors.{lacks_semicolon}
 use Rattle.classfile.proofs.descriptor.lacks_semicolon.Given as goal
 
 abbrev pub invariant-loop-byte : goal.invariant-loop-byte

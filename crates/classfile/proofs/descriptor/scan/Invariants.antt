@@ -1,5 +1,5 @@
 use Rattle.std.proofs.Common.{◌≡◌, drop}
-use Rattle.classfile.specs.Descriptors.{scan}
+use Rattle.classfile.specs.reading.Descriptors.{scan}
 use Rattle.classfile.proofs.descriptor.scan.Given as goal
 
 abbrev pub invariant-loop-byte : goal.invariant-loop-byte

@@ -1,7 +1,8 @@
-use Rattle.classfile.proofs.EqualTexts.{inserted_is_found}
+use Rattle.classfile.proofs.EarlierUtf8Lemmas.{inserted_is_found}
 use Rattle.classfile.proofs.earlier.note_first.Goals as goal
 
 pub returns-clause-after : goal.returns-clause-after
 returns-clause-after c =
-    inserted_is_found c.args.by_text.now c.insert.new.self c.args.hash c.args.text c.args.index c.requires.hash c.requires.none
+    inserted_is_found c.args.by_utf8.now c.insert.new.self c.args.hash c.args.text c.args.index c.requires.hash
+    c.requires.none
     c.in_ok-insert.ensures.updates

@@ -1,5 +1,5 @@
 use Rattle.std.proofs.Common.{◌≡◌, take}
-use Rattle.classfile.specs.Forms.{forms_of}
+use Rattle.classfile.specs.reading.Forms.{forms_of}
 use Rattle.classfile.proofs.forms.forms_of.Given as goal
 
 abbrev pub invariant-loop-constant : goal.invariant-loop-constant

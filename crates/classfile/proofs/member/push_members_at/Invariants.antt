@@ -1,7 +1,7 @@
 use Rattle.std.proofs.Common.{◌≡◌, ◌-◌}
-use Rattle.classfile.specs.Earlier.{Finds}
-use Rattle.classfile.specs.Repeat.{repeat_at}
-use Rattle.classfile.specs.ReadMembers.{member_at}
+use Rattle.classfile.specs.reading.Earlier.{Finds}
+use Rattle.classfile.specs.reading.Repeat.{repeat_at}
+use Rattle.classfile.specs.reading.Members.{member_at}
 use Rattle.classfile.proofs.member.push_members_at.Given as goal
 
 abbrev pub invariant-loop-index : goal.invariant-loop-index

@@ -1,10 +1,10 @@
-use Rattle.classfile.proofs.EarlierMembers.{text_index_has_text, descriptor_has_text}
+use Rattle.classfile.proofs.EarlierMemberLemmas.{utf8_index_has_utf8, descriptor_has_utf8}
 use Rattle.classfile.proofs.member.signature_at.Goals as goal
 
 pub returns-clause-texts : goal.returns-clause-texts
 returns-clause-texts c = (
-  text_index_has_text c.args.pool.now c.args.total c.args.bytes.now c.in_ok-name.name c.in_ok-name.rest.now
+  utf8_index_has_utf8 c.args.pool.now c.args.total c.args.bytes.now c.in_ok-name.name c.in_ok-name.rest.now
       (rw c.as_slice.ensures at c.in_ok-name.ensures),
-  descriptor_has_text c.args.kind c.args.pool.now c.args.total c.in_ok-name.rest.now c.in_ok-descriptor.descriptor
+  descriptor_has_utf8 c.args.kind c.args.pool.now c.args.total c.in_ok-name.rest.now c.in_ok-descriptor.descriptor
       c.in_ok-descriptor.rest.now c.in_ok-descriptor.ensures,
 )

@@ -1,5 +1,5 @@
 use Rattle.std.proofs.Common.{◌≡◌, length}
-use Rattle.classfile.specs.Modified.{is_modified}
+use Rattle.classfile.specs.reading.Modified.{is_modified}
 use Rattle.classfile.proofs.modified.is_modified.Given as goal
 
 abbrev pub invariant-loop-rest : goal.invariant-loop-rest

@@ -1,5 +1,5 @@
 use Rattle.std.proofs.Common.{◌≡◌, ◌&&◌, drop}
-use Rattle.classfile.specs.Modified.{all_one}
+use Rattle.classfile.specs.reading.Modified.{all_one}
 use Rattle.classfile.proofs.modified.is_plain.Given as goal
 
 abbrev pub invariant-loop-byte : goal.invariant-loop-byte

@@ -6,4 +6,5 @@ use Rattle.classfile.proofs.writing.push_attributes.Given as goal
 
 abbrev pub invariant-loop-attribute : goal.invariant-loop-attribute
 invariant-loop-attribute l =
-    l.out.items ≡ l.fn.out.items ++ (u2 (length l.attributes) ++ flat_map attribute_text (take l.attribute-index l.attributes))
+    l.out.items
+    ≡ l.fn.out.items ++ (u2 (length l.attributes) ++ flat_map attribute_text (take l.attribute-index l.attributes))

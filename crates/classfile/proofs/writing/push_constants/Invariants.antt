@@ -5,4 +5,5 @@ use Rattle.classfile.proofs.writing.push_constants.Given as goal
 
 abbrev pub invariant-loop-constant : goal.invariant-loop-constant
 invariant-loop-constant l =
-    l.out.items ≡ l.fn.out.items ++ (u2 (length l.constants) ++ flat_map constant_text (take l.constant-index l.constants))
+    l.out.items
+    ≡ l.fn.out.items ++ (u2 (length l.constants) ++ flat_map constant_text (take l.constant-index l.constants))

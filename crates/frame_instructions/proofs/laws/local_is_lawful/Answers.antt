@@ -1,5 +1,5 @@
-use Rattle.frame_instructions.proofs.FamilyNames.{local_names_lem}
-use Rattle.frame_instructions.proofs.FamilyPlaces.{local_methods_lem, straight_places_lem}
+use Rattle.frame_instructions.proofs.FamiliesNameLemmas.{local_names_lem}
+use Rattle.frame_instructions.proofs.FamiliesPlaceLemmas.{local_methods_lem, straight_places_lem}
 use Rattle.frame_instructions.proofs.laws.local_is_lawful.Goals as goal
 
 pub returns-clause-names : goal.returns-clause-names

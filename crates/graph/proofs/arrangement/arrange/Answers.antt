@@ -1,5 +1,5 @@
 use Rattle.graph.specs.Order.{IsTopological, ComesAfter}
-use Rattle.graph.proofs.Topology.{topological_acyclic}
+use Rattle.graph.proofs.OrderLemmas.{topological_acyclic}
 use Rattle.graph.proofs.arrangement.arrange.Goals as goal
 
 pub returns-in-None : goal.returns-in-None

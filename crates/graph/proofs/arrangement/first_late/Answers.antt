@@ -5,7 +5,8 @@ use Rattle.std.proofs.lemmas.List.Elements.{All-more}
 use Rattle.graph.proofs.arrangement.first_late.Goals as goal
 
 pub loop-vertex-preserved : goal.loop-vertex-preserved
-loop-vertex-preserved c = All-more (Contains c.args.finished.now.items) c.args.row.now c.loop-vertex.vertex-index 0 (omega arith) c.loop-vertex.invariant (search rules)
+loop-vertex-preserved c = All-more (Contains c.args.finished.now.items) c.args.row.now c.loop-vertex.vertex-index 0
+    (omega arith) c.loop-vertex.invariant (search rules)
 
 pub returns : goal.returns
 returns c =

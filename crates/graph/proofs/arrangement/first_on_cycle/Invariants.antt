@@ -7,5 +7,6 @@ abbrev pub invariant-loop-vertex : goal.invariant-loop-vertex
 invariant-loop-vertex l = record {
   limit : l.finished.limit ≡ length l.graph;
   same : (x : ℕ) → Contains l.finished.items x ↔ Contains (take l.vertex-index l.order) x;
-  after : (i b : ℕ) → i < l.vertex-index → Contains (successors_of l.graph (slice_index l.order i)) b → Contains (take i l.order) b;
+  after : (i b : ℕ) → i < l.vertex-index → Contains (successors_of l.graph (slice_index l.order i)) b
+      → Contains (take i l.order) b;
 }

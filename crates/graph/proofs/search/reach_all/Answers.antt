@@ -1,12 +1,13 @@
 use Rattle.std.proofs.Common.{◌≡◌, ℕ, arith, slice_index, ◌∙◌, ap}
 use Rattle.graph.specs.Rows.{successors_of}
-use Rattle.graph.proofs.Searches.{searching_first, searching_next, searching_done}
+use Rattle.graph.proofs.AddsLemmas.{searching_first, searching_next, searching_done}
 use Rattle.graph.proofs.search.reach_all.Goals as goal
 
 pub loop-next-init : goal.loop-next-init
 loop-next-init c = record {
   limit = omega (arith, c.in_ok-seen.ensures.limit, c.visit.ensures.limit);
-  searching = searching_first c.args.graph.now c.args.from.now c.visit.new.seen.items (rw c.in_ok-seen.ensures.items at c.in_ok-visit.ensures.adds);
+  searching = searching_first c.args.graph.now c.args.from.now c.visit.new.seen.items
+      (rw c.in_ok-seen.ensures.items at c.in_ok-visit.ensures.adds);
 }
 
 pub loop-next-preserved : goal.loop-next-preserved
@@ -17,9 +18,11 @@ loop-next-preserved c =
     c.successors.ensures.value ∙ ap (λ (v : ℕ). successors_of graph v) c.at-vertex.ensures.value in
     record {
       limit = omega (arith, c.in_ok-visit-2.ensures.limit);
-      searching = searching_next graph c.args.from.now c.loop-next.seen.items c.visit-in-loop-next.new.seen.items c.loop-next.next
+      searching = searching_next graph c.args.from.now c.loop-next.seen.items c.visit-in-loop-next.new.seen.items
+          c.loop-next.next
           (omega arith) c.loop-next.invariant.searching (rw row at c.in_ok-visit-2.ensures.adds);
     }
 
 pub returns-clause-members : goal.returns-clause-members
-returns-clause-members c = searching_done c.args.graph.now c.args.from.now c.loop-next.seen.items c.loop-next.next (omega arith) c.loop-next.invariant.searching
+returns-clause-members c = searching_done c.args.graph.now c.args.from.now c.loop-next.seen.items c.loop-next.next
+    (omega arith) c.loop-next.invariant.searching

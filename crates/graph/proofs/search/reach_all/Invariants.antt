@@ -1,5 +1,5 @@
 use Rattle.std.proofs.Common.{◌≡◌, ◌-◌, length}
-use Rattle.graph.proofs.Searches.{Searching}
+use Rattle.graph.proofs.AddsLemmas.{Searching}
 use Rattle.graph.proofs.search.reach_all.Given as goal
 
 abbrev pub invariant-loop-next : goal.invariant-loop-next

@@ -1,5 +1,5 @@
 use Rattle.std.proofs.Common.{◌≡◌, take}
-use Rattle.graph.specs.Adds.{Adds}
+use Rattle.graph.specs.steps.Adds.{Adds}
 use Rattle.graph.proofs.search.visit.Given as goal
 
 abbrev pub invariant-loop-vertex : goal.invariant-loop-vertex

@@ -1,6 +1,6 @@
 use Rattle.std.proofs.Common.{arith}
 use Rattle.std.specs.List.{Contains}
-use Rattle.graph.proofs.Walks.{one_more, walk_done}
+use Rattle.graph.proofs.WalkingLemmas.{one_more, walk_done}
 use Rattle.graph.proofs.walk.walk_all.Goals as goal
 
 pub loop-root-preserved : goal.loop-root-preserved
@@ -14,5 +14,6 @@ loop-root-preserved c = record {
 }
 
 pub returns : goal.returns
-returns c = walk_done c.args.graph.now c.loop-root.walk.seen.items c.loop-root.walk.passed.items c.loop-root.walk.finished.items
+returns c =
+    walk_done c.args.graph.now c.loop-root.walk.seen.items c.loop-root.walk.passed.items c.loop-root.walk.finished.items
     (λ v h. c.loop-root.invariant.seen v (omega arith)) c.loop-root.invariant.walking

@@ -1,6 +1,6 @@
 use Rattle.std.proofs.Common.{◌≡◌, ℕ, ◌<◌, length, []}
 use Rattle.std.specs.List.{Contains}
-use Rattle.graph.specs.Walking.{Walking}
+use Rattle.graph.specs.steps.Walking.{Walking}
 use Rattle.graph.proofs.walk.walk_all.Given as goal
 
 abbrev pub invariant-loop-root : goal.invariant-loop-root

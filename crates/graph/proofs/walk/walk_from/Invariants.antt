@@ -1,6 +1,6 @@
 use Rattle.std.proofs.Common.{◌≡◌, ℕ, ◌+◌, ◌-◌, ◌*◌, length, vec_len}
 use Rattle.std.specs.List.{Contains}
-use Rattle.graph.specs.Walking.{Walking}
+use Rattle.graph.specs.steps.Walking.{Walking}
 use Rattle.graph.proofs.walk.walk_from.Given as goal
 
 abbrev pub invariant-loop-walk : goal.invariant-loop-walk

@@ -1,4 +1,4 @@
-use Rattle.loading.proofs.FirstFaults.{not_both, one_fault}
+use Rattle.loading.proofs.FilesFaultLemmas.{not_both, one_fault}
 use Rattle.loading.proofs.linking.links_or_fails.Goals as goal
 
 pub returns-clause-not_both : goal.returns-clause-not_both

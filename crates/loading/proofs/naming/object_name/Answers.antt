@@ -14,6 +14,6 @@ pub returns : goal.returns
 returns c =
     let text = c.args.text.now in
     let rest = c.in_ok-strip_prefix.field-0 in
-    let behind = strip_prefix_is Decides-eqb text (76 ∷ []) (Some rest) c.in_ok-strip_prefix.ensures.cases in
-    by_parts text rest.now c.strip_suffix.result behind
+    let after_prefix = strip_prefix_is Decides-eqb text (76 ∷ []) (Some rest) c.in_ok-strip_prefix.ensures.cases in
+    by_parts text rest.now c.strip_suffix.result after_prefix
     (strip_suffix_is Decides-eqb rest.now (59 ∷ []) c.strip_suffix.result c.strip_suffix.ensures.cases)

@@ -1,4 +1,4 @@
-use Rattle.loading.proofs.Interfaces.{AreSoFar}
+use Rattle.loading.proofs.LinkingInterfaceLemmas.{AreSoFar}
 use Rattle.loading.proofs.parents.add_interfaces.Given as goal
 
 abbrev pub invariant-loop-index : goal.invariant-loop-index

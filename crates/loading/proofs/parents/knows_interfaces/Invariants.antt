@@ -1,4 +1,4 @@
-use Rattle.loading.proofs.Interfaces.{KnownBefore}
+use Rattle.loading.proofs.LinkingInterfaceLemmas.{KnownBefore}
 use Rattle.loading.proofs.parents.knows_interfaces.Given as goal
 
 abbrev pub invariant-loop-index : goal.invariant-loop-index

@@ -1,24 +1,28 @@
 use Rattle.std.proofs.Common.{ℕ, List, length, sym, refl, ◌∙◌, subst, arith}
 use Rattle.std.proofs.lemmas.Option.{slice_get_read}
 use Rattle.loading.specs.Files.{IsBuiltIn}
-use Rattle.loading.proofs.FilePlaces.{none_more}
-use Rattle.loading.proofs.Taken.{HasTakenName, found_built_in, found_none, least_taken, none_taken}
+use Rattle.loading.proofs.LinkingPlaceLemmas.{none_more}
+use Rattle.loading.proofs.FilesTakenLemmas.{HasTakenName, found_built_in, found_none, least_taken, none_taken}
 use Rattle.loading.proofs.sorting.first_taken.Goals as goal
 
 pub returns-then-is_some : goal.returns-then-is_some
 returns-then-is_some c =
     let files = c.args.files.now in
-    let at-f = slice_get_read files (length files) c.loop-file.file-index c.file-item.result refl c.loop-file-test.true c.file-item.is in
-    let built = found_built_in c.named.result c.name_of.result.now c.named.ensures (sym c.is_some.ensures ∙ c.if-is_some.true) in
+    let at-f = slice_get_read files (length files) c.loop-file.file-index c.file-item.result refl c.loop-file-test.true
+    c.file-item.is in
+    let built = found_built_in c.named.result c.name_of.result.now c.named.ensures
+    (sym c.is_some.ensures ∙ c.if-is_some.true) in
     least_taken files c.loop-file.file-index c.file-item.result c.requires at-f c.loop-file.invariant
     (subst (λ (z : List ℕ). IsBuiltIn z) c.name_of.ensures.value built)
 
 pub loop-file-preserved : goal.loop-file-preserved
 loop-file-preserved c =
     let files = c.args.files.now in
-    let at-f = slice_get_read files (length files) c.loop-file.file-index c.file-item.result refl c.loop-file-test.true c.file-item.is in
+    let at-f = slice_get_read files (length files) c.loop-file.file-index c.file-item.result refl c.loop-file-test.true
+    c.file-item.is in
     none_more HasTakenName files c.loop-file.file-index c.file-item.result at-f c.loop-file.invariant
-    (λ built. found_none c.named.result c.name_of.result.now c.named.ensures (sym c.is_some.ensures ∙ c.if-is_some.false)
+    (λ built. found_none c.named.result c.name_of.result.now c.named.ensures
+    (sym c.is_some.ensures ∙ c.if-is_some.false)
     (subst (λ (z : List ℕ). IsBuiltIn z) (sym c.name_of.ensures.value) built))
 
 pub returns : goal.returns

@@ -1,5 +1,5 @@
-use Rattle.loading.proofs.FilePlaces.{NoneBefore}
-use Rattle.loading.proofs.Taken.{HasTakenName}
+use Rattle.loading.proofs.LinkingPlaceLemmas.{NoneBefore}
+use Rattle.loading.proofs.FilesTakenLemmas.{HasTakenName}
 use Rattle.loading.proofs.sorting.first_taken.Given as goal
 
 abbrev pub invariant-loop-file : goal.invariant-loop-file

@@ -1,4 +1,4 @@
-use Rattle.loading.proofs.Twice.{Apart}
+use Rattle.loading.proofs.FilesTwiceLemmas.{Apart}
 use Rattle.loading.proofs.sorting.first_twice.Given as goal
 
 abbrev pub invariant-loop-next : goal.invariant-loop-next

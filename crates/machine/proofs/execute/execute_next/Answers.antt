@@ -1,8 +1,8 @@
 use Rattle.std.proofs.Common.{rules}
-use Rattle.hierarchy.specs.Tables.{implementation_at}
+use Rattle.program.specs.Tables.{implementation_at}
 use Rattle.machine.specs.Table.{catches_in}
 use Rattle.frame_instructions.specs.Completion.{completed}
-use Rattle.machine.proofs.LocalRows.{next_local, next_other, local_activity}
+use Rattle.machine.proofs.TableLocalLemmas.{next_local, next_other, local_activity}
 use Rattle.machine.proofs.execute.execute_next.Goals as goal
 
 pub returns-in-None-clause-gives : goal.returns-in-None-clause-gives
@@ -17,10 +17,13 @@ returns-in-None-clause-gives g c =
 
 pub returns-in-Some-execute_local-clause-gives : goal.returns-in-Some-execute_local-clause-gives
 returns-in-Some-execute_local-clause-gives g c =
-    λ p. rw (next_local c.args.program.now c.args.class c.args.method c.args.frame.now c.in-Some.instruction.now (search rules)
-    (catches_in (implementation_at c.args.program.now c.args.class c.args.method)) (completed c.in-Some-execute_local.went c.execute_local.new.frame)
+    λ p. rw (next_local c.args.program.now c.args.class c.args.method c.args.frame.now c.in-Some.instruction.now
+    (search rules)
+    (catches_in (implementation_at c.args.program.now c.args.class c.args.method))
+    (completed c.in-Some-execute_local.went c.execute_local.new.frame)
     (search rules)) (c.end.ensures.gives p)
 
 pub returns-in-Some-execute_local-clause-activity : goal.returns-in-Some-execute_local-clause-activity
 returns-in-Some-execute_local-clause-activity g c =
-    local_activity c.args.frame.now c.execute_local.new.frame c.in-Some.instruction.now c.in-Some-execute_local.went (search rules) (search rules)
+    local_activity c.args.frame.now c.execute_local.new.frame c.in-Some.instruction.now c.in-Some-execute_local.went
+    (search rules) (search rules)

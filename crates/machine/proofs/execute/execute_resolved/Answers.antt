@@ -1,5 +1,5 @@
 use Rattle.machine.specs.Table.{print_int}
-use Rattle.machine.proofs.LocalRows.{apart}
+use Rattle.machine.proofs.TableLocalLemmas.{apart}
 use Rattle.machine.proofs.execute.execute_resolved.Goals as goal
 
 pub returns-in-GetStatic-clause-gives : goal.returns-in-GetStatic-clause-gives

@@ -1,4 +1,4 @@
-use Rattle.machine.proofs.LawfulTable.{table_is_lawful_lem}
+use Rattle.machine.proofs.LawsLemmas.{table_is_lawful_lem}
 use Rattle.machine.proofs.laws.table_is_lawful.Goals as goal
 
 pub returns : goal.returns

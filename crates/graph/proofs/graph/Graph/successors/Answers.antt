@@ -2,7 +2,7 @@ use Rattle.std.proofs.Common.{◌≡◌, ℕ, ◌<◌, List, length, sym, subst,
 use Rattle.std.specs.List.{All}
 use Rattle.std.proofs.lemmas.Grind.{common_steps}
 use Rattle.graph.specs.Rows.{Rows, successors_of, IsClosed}
-use Rattle.graph.proofs.Edges.{successors_within}
+use Rattle.graph.proofs.RowsLemmas.{successors_within}
 use Rattle.graph.proofs.graph.Graph.successors.Goals as goal
 
 pub returns-in-Some-clause-within : goal.returns-in-Some-clause-within

@@ -1,5 +1,5 @@
 use Rattle.std.proofs.Common.{◌<◌, ◌∙◌, false, arith, length}
-use Rattle.graph.proofs.Marks.{member_is_below, visited_pop}
+use Rattle.graph.proofs.MarksLemmas.{member_is_below, visited_pop}
 use Rattle.std.proofs.lemmas.List.Elements.{Contains-push}
 use Rattle.std.proofs.lemmas.List.{length-set}
 use Rattle.graph.proofs.visited.Visited.clear.Goals as goal
@@ -9,7 +9,8 @@ index_mut-requires c =
     let marks = c.loop-member.self-inside.marks.items in
     let order = c.loop-member.self-inside.order.items in
     let below : c.in-Some.member < length marks =
-    member_is_below marks order c.in-Some.member c.loop-member.invariant.visited (rw c.in-Some.ensures.items (Contains-push c.pop.new.self.items c.in-Some.member)) in
+    member_is_below marks order c.in-Some.member c.loop-member.invariant.visited
+    (rw c.in-Some.ensures.items (Contains-push c.pop.new.self.items c.in-Some.member)) in
     omega arith
 
 pub loop-member-preserved : goal.loop-member-preserved
@@ -17,8 +18,10 @@ loop-member-preserved c =
     let marks = c.loop-member.self-inside.marks.items in
     let order = c.loop-member.self-inside.order.items in
     let below : c.in-Some.member < length marks =
-    member_is_below marks order c.in-Some.member c.loop-member.invariant.visited (rw c.in-Some.ensures.items (Contains-push c.pop.new.self.items c.in-Some.member)) in
+    member_is_below marks order c.in-Some.member c.loop-member.invariant.visited
+    (rw c.in-Some.ensures.items (Contains-push c.pop.new.self.items c.in-Some.member)) in
     record {
       limit = length-set marks c.in-Some.member false ∙ c.loop-member.invariant.limit;
-      visited = visited_pop marks order c.pop.new.self.items c.in-Some.member below c.in-Some.ensures.items c.loop-member.invariant.visited;
+      visited = visited_pop marks order c.pop.new.self.items c.in-Some.member below c.in-Some.ensures.items
+          c.loop-member.invariant.visited;
     }

@@ -1,5 +1,5 @@
 use Rattle.std.proofs.Common.{◌≡◌, length, vec_len}
-use Rattle.graph.specs.Seen.{IsVisited}
+use Rattle.graph.specs.steps.Marks.{IsVisited}
 use Rattle.graph.proofs.visited.Visited.clear.Given as goal
 
 abbrev pub invariant-loop-member : goal.invariant-loop-member

@@ -1,23 +1,36 @@
-use Rattle.std.proofs.Common.{rules}
+use Rattle.std.proofs.Common.{◌≡◌, ◌∙◌, ap, rules}
 use Rattle.machine.specs.Linked.{program_of}
-use Rattle.init_engine.proofs.WorldSteps.{turned, noted, refused, numbered_set}
+use Rattle.vm_state.proofs.ListLemmas.{item_at}
+use Rattle.vm_state.proofs.ShareLemmas.{if_refused}
+use Rattle.vm_state.specs.Shares.{shared_of}
+use Rattle.init_engine.specs.steps.Threads.{view_of}
+use Rattle.init_engine.proofs.WorldSteps.{turn_of_world, stays_same, number_set}
 use Rattle.init_engine.proofs.world.World.step.Goals as goal
 
-pub invariant_of-self-in-Ok : goal.invariant_of-self-in-Ok
-invariant_of-self-in-Ok c =
-    (numbered_set c.self.inside.threads.items c.args.thread _ c.take_turn.new.thread (search rules) c.index_mut-stepping.ensures.value c.self.invariant.0 c.in-Ok.ensures.number, search rules)
-
-pub invariant_of-self-in-Err : goal.invariant_of-self-in-Err
-invariant_of-self-in-Err c =
-    (numbered_set c.self.inside.threads.items c.args.thread _ c.take_turn.new.thread (search rules) c.index_mut-stepping.ensures.value c.self.invariant.0 c.in-Err.ensures.number, search rules)
-
-pub returns-in-Ok-clause-ok : goal.returns-in-Ok-clause-ok
-returns-in-Ok-clause-ok c =
+pub returns-clause-ok : goal.returns-clause-ok
+returns-clause-ok c =
+    let threads = c.self.inside.threads.items in
+    let at = item_at threads c.args.thread _ (search rules) c.index_mut-stepping.ensures.value in
     rw (← c.self.view_is)
-    (noted (program_of c.args.program.now) c.self.inside.threads.items c.self.inside.shared c.take_turn.new.shared c.args.thread _ c.take_turn.new.thread c.in-Ok.done c.self.inside.printed.items _ _ (search rules) c.noted.ensures.turn
-    (turned (program_of c.args.program.now) c.self.inside.threads.items c.self.inside.shared c.take_turn.new.shared c.args.thread _ c.take_turn.new.thread _ _ (search rules) c.index_mut-stepping.ensures.value c.self.invariant.0 (search rules) c.in-Ok.ensures.steps c.in-Ok.ensures.stays))
+    (turn_of_world (program_of c.args.program.now) threads c.args.thread _ _ _ at
+    (rw c.in_ok-reserve.ensures.items at c.in_ok-turn.ensures.turn))
 
-pub returns-in-Err-clause-err : goal.returns-in-Err-clause-err
-returns-in-Err-clause-err c =
-    rw (← c.self.view_is, c.in_ok-reserve.ensures.items)
-    (refused c.self.inside.threads.items c.self.inside.shared c.take_turn.new.shared c.self.inside.printed.items c.args.thread _ c.take_turn.new.thread (search rules) c.index_mut-stepping.ensures.value c.in-Err.ensures.err)
+pub returns-in_err-turn-clause-err : goal.returns-in_err-turn-clause-err
+returns-in_err-turn-clause-err c =
+    let threads = c.self.inside.threads.items in
+    let at = item_at threads c.args.thread _ (search rules) c.index_mut-stepping.ensures.value in
+    let printed : c.take_turn.new.printed.items ≡ c.self.inside.printed.items =
+    c.in_err-turn.ensures.printed ∙ c.in_ok-reserve.ensures.items in
+    let shared = c.in_err-turn.ensures.shared c.take_turn.new.printed.items
+    ∙ ap (shared_of c.self.inside.shared) printed in
+    if_refused c.from_residual-in_err-turn.result (rw (← c.self.view_is)
+    (stays_same threads c.args.thread (view_of _ c.self.inside.shared c.self.inside.printed.items)
+    (view_of c.take_turn.new.thread c.take_turn.new.shared c.take_turn.new.printed.items) at
+    c.in_err-turn.ensures.thread shared))
+
+pub invariant_of-self-2 : goal.invariant_of-self-2
+invariant_of-self-2 c = (
+  number_set c.self.inside.threads.items c.args.thread c.take_turn.new.thread c.self.invariant.0
+      c.take_turn.ensures.number,
+  search rules,
+)

@@ -1,6 +1,6 @@
 use Rattle.std.proofs.Common.{◌≡◌, Some, sym, ap, ◌∙◌}
 use Rattle.loading.specs.Families.{Family, superclass_in, superclass_if}
-use Rattle.loading.proofs.ParentsWithin.{superclass_within, class_at}
+use Rattle.loading.proofs.FamiliesParentLemmas.{superclass_within, class_at}
 use Rattle.loading.proofs.family.Family.superclass.Goals as goal
 
 pub returns-clause-within : goal.returns-clause-within

@@ -1,6 +1,6 @@
 use Rattle.std.proofs.Common.{ap, ◌∙◌}
 use Rattle.vm_state.specs.Statics.{states_of, fields_of}
-use Rattle.vm_state.proofs.Lookups.{states_of-more, fields_of-more}
+use Rattle.vm_state.proofs.StaticLemmas.{states_of-more, fields_of-more}
 use Rattle.vm_state.proofs.classes.Classes.reach.Goals as goal
 
 pub loop-alloc-preserved : goal.loop-alloc-preserved

@@ -1,13 +1,14 @@
 use Rattle.std.proofs.Common.{◌<◌, length, refl, ap, ◌∙◌, rules}
 use Rattle.vm_state.specs.Statics.{states_of, fields_of, with_state}
-use Rattle.vm_state.proofs.Lookups.{states_of-set, fields_of-kept}
+use Rattle.vm_state.proofs.StaticLemmas.{states_of-set, fields_of-kept}
 use Rattle.vm_state.proofs.classes.Classes.set_state.Goals as goal
 
 pub returns-clause-states : goal.returns-clause-states
 returns-clause-states c =
     let room : c.args.class < length c.self.inside.areas.items = search rules in
     states_of-set c.self.inside.areas.items c.args.class _ room
-    ∙ ap (λ states. with_state states c.args.class c.args.state) (ap states_of c.self.view_is ∙ c.in_ok-reach.ensures.states)
+    ∙ ap (λ states. with_state states c.args.class c.args.state)
+    (ap states_of c.self.view_is ∙ c.in_ok-reach.ensures.states)
 
 pub returns-clause-fields : goal.returns-clause-fields
 returns-clause-fields c =

@@ -1,6 +1,6 @@
 use Rattle.std.proofs.Common.{◌<◌, length, ap, ◌∙◌, rules}
 use Rattle.vm_state.specs.Statics.{field_in, with_value}
-use Rattle.vm_state.proofs.Lookups.{field_in-set}
+use Rattle.vm_state.proofs.StaticLemmas.{field_in-set}
 use Rattle.vm_state.proofs.classes.Fields.set_at.Goals as goal
 
 pub returns-clause-ok : goal.returns-clause-ok

@@ -1,6 +1,6 @@
 use Rattle.std.proofs.Common.{◌≡◌}
 use Rattle.vm_state.specs.Statics.{field_in}
-use Rattle.vm_state.proofs.Lookups.{constants_below}
+use Rattle.vm_state.proofs.StaticLemmas.{constants_below}
 use Rattle.vm_state.proofs.classes.Fields.with_constants.Given as goal
 
 abbrev pub invariant-loop-field : goal.invariant-loop-field

@@ -1,7 +1,7 @@
 use Rattle.std.proofs.Common.{◌≡◌, ℕ, ◌+◌, ◌++◌, ◌∷◌, [], List, sym, subst, rules}
 use Rattle.vm_state.specs.declared.object.Object.{Object}
 use Rattle.vm_state.specs.Objects.{AscendsFrom}
-use Rattle.vm_state.proofs.RowLemmas.{ascends-more}
+use Rattle.vm_state.proofs.ObjectLemmas.{ascends-more}
 use Rattle.vm_state.proofs.heap.Row.add.Goals as goal
 
 pub invariant_of-self-2 : goal.invariant_of-self-2

@@ -1,6 +1,7 @@
 use Rattle.std.proofs.Common.{◌≡◌, ◌∙◌, Some, sym, ap}
-use Rattle.vm_state.specs.Objects.{ObjectRow, object_in, object_at_place}
-use Rattle.vm_state.proofs.RowLemmas.{rises, found_at, searched_at}
+use Rattle.vm_state.specs.Objects.{ObjectRow, object_in}
+use Rattle.vm_state.specs.steps.Objects.{object_at_place}
+use Rattle.vm_state.proofs.ObjectLemmas.{rises, found_at, searched_at}
 use Rattle.vm_state.proofs.heap.Row.object.Goals as goal
 
 pub place_of-requires : goal.place_of-requires

@@ -1,8 +1,21 @@
-use Rattle.vm_state.proofs.SharedLemmas.{made_by_class, made_none_by_class}
+use Rattle.std.proofs.Common.{ap, ◌∙◌}
+use Rattle.vm_state.specs.declared.value.Maker.TheVariants.{Class}
+use Rattle.vm_state.specs.SharedState.{made}
+use Rattle.vm_state.specs.SharedTables.{SharedTables}
+use Rattle.vm_state.specs.Shares.{shared_of}
+use Rattle.vm_state.proofs.ShareLemmas.{made_by_class, made_none_by_class, if_refused}
 use Rattle.vm_state.proofs.shared.Shared.make_by_class.Goals as goal
 
-pub returns-in-Ok-clause-ok : goal.returns-in-Ok-clause-ok
-returns-in-Ok-clause-ok c = made_by_class c.args.self.now _ c.args.maker c.args.class c.args.slots c.in-Ok.ensures.ok
+pub returns-clause-ok : goal.returns-clause-ok
+returns-clause-ok c p =
+    let tables : SharedTables = record { classes = c.self.inside.classes; heap = c.self.inside.heap } in
+    made_by_class tables c.make.new.self c.args.maker c.args.class c.args.slots
+    c.in_ok-number.ensures.ok p
+    ∙ ap (λ (s : SharedTables). made (shared_of s p) (Class c.args.maker) c.args.class c.args.slots) c.self.view_is
 
-pub returns-in-Err-clause-err : goal.returns-in-Err-clause-err
-returns-in-Err-clause-err c = made_none_by_class c.args.self.now _ c.in-Err.ensures.err
+pub returns-in_err-number-clause-err : goal.returns-in_err-number-clause-err
+returns-in_err-number-clause-err c =
+    let tables : SharedTables = record { classes = c.self.inside.classes; heap = c.self.inside.heap } in
+    if_refused c.from_residual.result (λ p.
+    made_none_by_class tables c.make.new.self c.in_err-number.ensures.err p
+    ∙ ap (λ (s : SharedTables). shared_of s p) c.self.view_is)

@@ -1,0 +1,2 @@
+pub mod ClassNameLemmas
+pub mod MethodsLemmas

@@ -1,0 +1,3 @@
+pub mod ClassNames
+pub mod Keys
+pub mod Methods

@@ -1,0 +1,125 @@
+//! Classes as values and objects name them.
+
+ghost use Rattle.std.specs.Prelude.{◌≡◌, ◌≢◌, MatchOption};
+ghost use Rattle.built_in.specs.declared.class_id.BuiltIn.{BuiltIn as Class};
+ghost use Rattle.built_in.specs.ClassNames.{name_of_built_in};
+
+/// A class: a given one, one that is built in, or an array class.
+#[derive(Clone, Copy, PartialEq, Eq, Debug)]
+pub enum ClassId {
+    /// A class handed in as a class file, by its number in the program.
+    Given(u32),
+    BuiltIn(BuiltIn),
+    Array(ArrayType),
+}
+
+/// The classes that the machine has of itself. They are taken as initialized.
+#[derive(Clone, Copy, PartialEq, Eq, Debug)]
+pub enum BuiltIn {
+    Object,
+    String,
+    System,
+    Enum,
+    Throwable,
+    Exception,
+    RuntimeException,
+    ArithmeticException,
+    NullPointerException,
+    ClassCastException,
+    ArrayStoreException,
+    NegativeArraySizeException,
+    IllegalMonitorStateException,
+    IndexOutOfBoundsException,
+    ArrayIndexOutOfBoundsException,
+    Error,
+    LinkageError,
+    ExceptionInInitializerError,
+    NoClassDefFoundError,
+    PrintStream,
+}
+
+const ALL: [BuiltIn; 20] = [
+    BuiltIn::Object,
+    BuiltIn::String,
+    BuiltIn::System,
+    BuiltIn::Enum,
+    BuiltIn::Throwable,
+    BuiltIn::Exception,
+    BuiltIn::RuntimeException,
+    BuiltIn::ArithmeticException,
+    BuiltIn::NullPointerException,
+    BuiltIn::ClassCastException,
+    BuiltIn::ArrayStoreException,
+    BuiltIn::NegativeArraySizeException,
+    BuiltIn::IllegalMonitorStateException,
+    BuiltIn::IndexOutOfBoundsException,
+    BuiltIn::ArrayIndexOutOfBoundsException,
+    BuiltIn::Error,
+    BuiltIn::LinkageError,
+    BuiltIn::ExceptionInInitializerError,
+    BuiltIn::NoClassDefFoundError,
+    BuiltIn::PrintStream,
+];
+
+/// An array class (JVMS 4.3.2): so many dimensions of an element type.
+#[derive(Clone, Copy, PartialEq, Eq, Debug)]
+pub struct ArrayType {
+    /// 1 to 255.
+    pub dimensions: u8,
+    pub element: ElementType,
+}
+
+/// The element type of an array class, which is no array.
+#[derive(Clone, Copy, PartialEq, Eq, Debug)]
+pub enum ElementType {
+    Boolean,
+    Byte,
+    Char,
+    Short,
+    Int,
+    Long,
+    Float,
+    Double,
+    Given(u32),
+    BuiltIn(BuiltIn),
+}
+
+impl BuiltIn {
+    /// The built-in class of a name, as its bytes with slashes.
+    pub fn named(name: &[u8]) -> Option<BuiltIn>
+        ensures { MatchOption result ((c : Class) → name_of_built_in c ≢ name.now)
+            (λ c. name_of_built_in c ≡ name.now) }
+    {
+        ALL.iter()
+            .find(|class| class.name().as_bytes() == name)
+            .copied()
+    }
+
+    /// Its name, with slashes.
+    pub fn name(self) -> &'static str
+        ensures { result.now ≡ name_of_built_in self }
+    {
+        match self {
+            BuiltIn::Object => "java/lang/Object",
+            BuiltIn::String => "java/lang/String",
+            BuiltIn::System => "java/lang/System",
+            BuiltIn::Enum => "java/lang/Enum",
+            BuiltIn::Throwable => "java/lang/Throwable",
+            BuiltIn::Exception => "java/lang/Exception",
+            BuiltIn::RuntimeException => "java/lang/RuntimeException",
+            BuiltIn::ArithmeticException => "java/lang/ArithmeticException",
+            BuiltIn::NullPointerException => "java/lang/NullPointerException",
+            BuiltIn::ClassCastException => "java/lang/ClassCastException",
+            BuiltIn::ArrayStoreException => "java/lang/ArrayStoreException",
+            BuiltIn::NegativeArraySizeException => "java/lang/NegativeArraySizeException",
+            BuiltIn::IllegalMonitorStateException => "java/lang/IllegalMonitorStateException",
+            BuiltIn::IndexOutOfBoundsException => "java/lang/IndexOutOfBoundsException",
+            BuiltIn::ArrayIndexOutOfBoundsException => "java/lang/ArrayIndexOutOfBoundsException",
+            BuiltIn::Error => "java/lang/Error",
+            BuiltIn::LinkageError => "java/lang/LinkageError",
+            BuiltIn::ExceptionInInitializerError => "java/lang/ExceptionInInitializerError",
+            BuiltIn::NoClassDefFoundError => "java/lang/NoClassDefFoundError",
+            BuiltIn::PrintStream => "java/io/PrintStream",
+        }
+    }
+}

@@ -1,0 +1,5 @@
+pub mod Ascending
+pub mod Decoded
+pub mod Forms
+pub mod Places
+pub mod SweptTargets

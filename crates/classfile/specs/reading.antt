@@ -1,0 +1,15 @@
+pub mod Checks
+pub mod Descriptors
+pub mod Earlier
+pub mod Forms
+pub mod Kinds
+pub mod LookupTests
+pub mod Modified
+pub mod Class
+pub mod Code
+pub mod Constants
+pub mod Members
+pub mod Numbers
+pub mod Pool
+pub mod Repeat
+pub mod Sizes

@@ -1,0 +1,4 @@
+pub mod Adds
+pub mod Walking
+pub mod Components
+pub mod Marks

@@ -1,0 +1,53 @@
+-- Steps of a search from a class up, at a class that is known by an equation.
+use Rattle.std.proofs.Common.{◌≡◌, ◌≢◌, ◌<◌, ℕ, Option, Some, None, sym, subst}
+use Rattle.built_in.specs.declared.class_id.BuiltIn.{BuiltIn}
+use Rattle.built_in.specs.Keys.{NameAndType}
+use Rattle.loading.specs.Families.{Family, IsFamily, superclass_in}
+use Rattle.built_in.specs.Methods.{HasMember, key_of_member}
+use Rattle.hierarchy.specs.MemberLookup.{UpClasses, here, up, beyond, member, no_member}
+use Rattle.built_in.specs.declared.method.BuiltInMethod.{BuiltInMethod}
+use Rattle.hierarchy.specs.declared.member.Method.{Method}
+use Rattle.hierarchy.specs.declared.member.Method.TheVariants as method
+use Rattle.loading.specs.declared.given.Superclass.{Superclass}
+use Rattle.loading.specs.declared.given.Superclass.TheVariants as super
+use Rattle.hierarchy.proofs.FamiliesChainLemmas.{height_falls, height_at}
+
+pub found_here : (family : Family) (own : ℕ → Option ℕ) (key : NameAndType) (at : Superclass) (c k : ℕ)
+    → at ≡ super.Given c → own c ≡ Some k
+    → UpClasses family own key at (Some (method.Given c k))
+found_here family own key at c k is e = subst (λ (s : Superclass). UpClasses family own key s (Some (method.Given c k)))
+    (sym is) (here e)
+
+pub one_up : (family : Family) (own : ℕ → Option ℕ) (key : NameAndType) (at s : Superclass) (c : ℕ) (r : Option Method)
+    → at ≡ super.Given c
+    → own c ≡ None → superclass_in family c ≡ Some s → UpClasses family own key s r → UpClasses family own key at r
+one_up family own key at s c r is none above rest =
+    subst (λ (t : Superclass). UpClasses family own key t r) (sym is) (up none above rest)
+
+pub found_nowhere : (family : Family) (own : ℕ → Option ℕ) (key : NameAndType) (at : Superclass) (c : ℕ)
+    (r : Option Method) → at ≡ super.Given c
+    → own c ≡ None → superclass_in family c ≡ None → r ≡ None → UpClasses family own key at r
+found_nowhere family own key at c r is none above nothing =
+    subst (λ (t : Superclass). UpClasses family own key t r) (sym is)
+    (subst (λ (o : Option Method). UpClasses family own key (super.Given c) o) (sym nothing) (beyond none above))
+
+pub built_in_member : (family : Family) (own : ℕ → Option ℕ) (key : NameAndType) (at : Superclass) (b : BuiltIn)
+    (m : BuiltInMethod)
+    → at ≡ super.BuiltIn b → HasMember b m → key_of_member m ≡ key
+    → UpClasses family own key at (Some (method.BuiltIn m))
+built_in_member family own key at b m is has named =
+    subst (λ (t : Superclass). UpClasses family own key t (Some (method.BuiltIn m))) (sym is) (member has named)
+
+pub no_built_in : (family : Family) (own : ℕ → Option ℕ) (key : NameAndType) (at : Superclass) (b : BuiltIn)
+    (r : Option Method)
+    → at ≡ super.BuiltIn b → ((m : BuiltInMethod) → HasMember b m → key_of_member m ≢ key) → r ≡ None
+    → UpClasses family own key at r
+no_built_in family own key at b r is none nothing =
+    subst (λ (t : Superclass). UpClasses family own key t r) (sym is)
+    (subst (λ (o : Option Method). UpClasses family own key (super.BuiltIn b) o) (sym nothing) (no_member none))
+
+pub falls_at : (family : Family) (at s : Superclass) (c : ℕ) → at ≡ super.Given c → IsFamily family
+    → superclass_in family c ≡ Some s
+    → height_at family s < height_at family at
+falls_at family at s c is fits above = subst (λ (t : Superclass). height_at family s < height_at family t) (sym is)
+    (height_falls family c s fits above)

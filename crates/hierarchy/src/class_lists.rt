@@ -1,0 +1,38 @@
+//! Lists of classes by class.
+
+ghost use Rattle.std.specs.Prelude.{◌≡◌, ◌<◌, length};
+ghost use Rattle.std.specs.List.{All};
+ghost use Rattle.hierarchy.specs.Search.{row_in};
+
+use loading::given::ClassNumbers;
+use std::marker::Model;
+
+/// For each class of a family a list of its classes.
+#[derive(Drop)]
+pub struct ClassLists {
+    pub(crate) rows: Vec<ClassNumbers>,
+}
+
+impl Model for ClassLists {
+    ghost use Rattle.std.specs.Prelude.{List, ℕ};
+    ghost use Rattle.graph.specs.Rows.{IsClosed};
+
+    ghost Value = { List (List ℕ) };
+
+    ghost view = { λ s. s.rows.items };
+
+    ghost invariant = { λ s. IsClosed s.rows.items };
+}
+
+impl ClassLists {
+    /// The list of a class. Empty for a number of no class.
+    pub fn of_class(&self, class: u32) -> &[u32]
+        ensures value { result.now ≡ row_in self.now class }
+        ensures within { All (λ c. c < length self.now) result.now }
+    {
+        match self.rows.get(class as usize) {
+            Some(row) => row.as_slice(),
+            None => &[],
+        }
+    }
+}

@@ -1,0 +1,176 @@
+//! A family with what its members are found by.
+
+ghost use Rattle.std.specs.Prelude.{◌≡◌, IfOk, option_map, option_to_list, slice_get};
+ghost use Rattle.loading.specs.Families.{IsFamily, superclass_in, superclasses_in};
+ghost use Rattle.hierarchy.specs.steps.HierarchyTables.{wanted_in};
+ghost use Rattle.built_in.specs.Keys.{NameAndType};
+ghost use Rattle.hierarchy.specs.steps.MemberIndexes.{IsLookup};
+ghost use Rattle.hierarchy.specs.MemberLookup.{flags_in, member_flags, is_inherited, key_in, key_of};
+ghost use Rattle.hierarchy.specs.Resolution.{instance_method_in};
+ghost use Rattle.hierarchy.specs.steps.InterfaceLists.{AreInterfaceLists, IsInterfaceList};
+
+use crate::class_lists::ClassLists;
+use crate::member_index::MemberKey;
+use crate::member_table::MemberTable;
+use crate::wanted::Wanted;
+use classfile::ClassFile;
+use classfile::flags::{PRIVATE, STATIC, has_flag};
+use loading::family::Family;
+use loading::given::Superclass;
+use loading::names::text_at;
+use std::alloc::{AllocError, Global};
+use std::marker::Model;
+
+/// The classes of a family, found by number, and their members, found by name and descriptor.
+#[derive(Drop)]
+pub struct Hierarchy {
+    family: Family,
+    table: MemberTable,
+    interfaces: ClassLists,
+}
+
+impl Model for Hierarchy {
+    ghost use Rattle.hierarchy.specs.Hierarchies.{NumberedFamily};
+    ghost use Rattle.hierarchy.specs.steps.HierarchyTables.{IsHierarchy};
+
+    ghost Value = { NumberedFamily };
+
+    ghost view = { λ h. record { family = h.family; texts = h.table.texts } };
+
+    ghost invariant = { λ h. IsHierarchy h.family h.table h.interfaces };
+}
+
+impl Hierarchy {
+    /// Puts a family and the lists of its classes' superinterfaces together.
+    ///
+    /// # Errors
+    /// Where memory runs out.
+    pub fn new(alloc: Global, family: Family, interfaces: ClassLists) -> Result<Self, AllocError>
+        requires { AreInterfaceLists family interfaces }
+        ensures { IfOk result (λ h. h.family ≡ family) }
+    {
+        let table = MemberTable::of_classes(alloc, family.classes())?;
+        Ok(Hierarchy {
+            family,
+            table,
+            interfaces,
+        })
+    }
+
+    /// The family of its classes.
+    pub fn family(&self) -> &Family
+        ensures { result.now ≡ self.now.family }
+    {
+        &self.family
+    }
+
+    /// The numbers of a name and a descriptor. Without numbers no given class has such a member.
+    pub(crate) fn key_of(&self, name: &[u8], descriptor: &[u8]) -> Option<MemberKey>
+        ensures { IsLookup self.now.texts (record { name = name.now; descriptor = descriptor.now }) result }
+    {
+        self.table.key_of(name, descriptor)
+    }
+
+    /// The superclass of a class.
+    pub(crate) fn superclass(&self, class: u32) -> Option<Superclass>
+        ensures value { result ≡ superclass_in self.now.family class }
+        ensures fits { IsFamily self.now.family }
+    {
+        self.family.superclass(class)
+    }
+
+    /// The superclass of a class, if it is a given one.
+    pub(crate) fn given_superclass(&self, class: u32) -> Option<u32>
+        ensures value { superclasses_in self.now.family class ≡ option_to_list result }
+        ensures fits { IsFamily self.now.family }
+    {
+        match self.superclass(class) {
+            Some(Superclass::Given(above)) => Some(above),
+            Some(Superclass::BuiltIn(_)) | None => None,
+        }
+    }
+
+    /// The superinterfaces of a class, without those of its superclass.
+    pub(crate) fn superinterfaces(&self, class: u32) -> &[u32]
+        ensures list { IsInterfaceList self.now.family class result.now }
+        ensures fits { IsFamily self.now.family }
+    {
+        self.interfaces.of_class(class)
+    }
+
+    /// The access flags of the method at a place of a class, or no flags.
+    pub(crate) fn flags(&self, class: u32, index: u16) -> u16
+        ensures { result ≡ flags_in self.now.family class index }
+    {
+        match self.family.file(class) {
+            Some(file) => flags_at(file, index),
+            None => 0,
+        }
+    }
+
+    /// The name and the descriptor of the method at a place of a class.
+    pub fn names(&self, class: u32, index: u16) -> Option<(&[u8], &[u8])>
+        ensures { option_map (λ x. record { name = x.0.now; descriptor = x.1.now }) result
+            ≡ key_in self.now.family class index }
+    {
+        let file = self.family.file(class)?;
+        names_at(file, index)
+    }
+
+    /// The place of a class's member of some kind.
+    pub(crate) fn find(&self, wanted: Wanted, class: u32, key: Option<MemberKey>) -> Option<u16>
+        ensures { (name : NameAndType) → IsLookup self.now.texts name key
+            → result ≡ wanted_in wanted self.now.family name class }
+    {
+        match wanted {
+            Wanted::Field => self.table.field(class, key),
+            Wanted::Method => self.table.method(class, key),
+            Wanted::InstanceMethod => self.instance_method(class, key),
+            Wanted::InterfaceMethod => {
+                if self.family.is_interface(class) {
+                    self.instance_method(class, key)
+                } else {
+                    None
+                }
+            }
+        }
+    }
+
+    /// The place of a class's method that is neither private nor static.
+    fn instance_method(&self, class: u32, key: Option<MemberKey>) -> Option<u16>
+        ensures { (name : NameAndType) → IsLookup self.now.texts name key
+            → result ≡ instance_method_in self.now.family name class }
+    {
+        match self.table.method(class, key) {
+            Some(index) if is_inherited(self.flags(class, index)) => Some(index),
+            _ => None,
+        }
+    }
+}
+
+/// The access flags of the method at a place of a class file, or no flags.
+fn flags_at(file: &ClassFile, index: u16) -> u16
+    ensures { result ≡ member_flags (slice_get file.now.methods index) }
+{
+    match file.methods().get(usize::from(index)) {
+        Some(method) => method.access_flags,
+        None => 0,
+    }
+}
+
+/// The name and the descriptor of the method at a place of a class file.
+fn names_at(file: &ClassFile, index: u16) -> Option<(&[u8], &[u8])>
+    ensures { option_map (λ x. record { name = x.0.now; descriptor = x.1.now }) result
+        ≡ key_of file.now (slice_get file.now.methods index) }
+{
+    let method = file.methods().get(usize::from(index))?;
+    let name = text_at(file, method.name);
+    Some((name, text_at(file, method.descriptor)))
+}
+
+/// Whether a method of these flags is neither private nor static.
+fn is_inherited(flags: u16) -> bool
+    ensures { result ≡ is_inherited flags }
+{
+    !(has_flag(flags, PRIVATE) || has_flag(flags, STATIC))
+}

@@ -1,0 +1,91 @@
+//! Searches through superinterfaces and superclasses (JVMS 5.4.3.2 to 5.4.3.4).
+
+ghost use Rattle.std.specs.Prelude.{◌≡◌, [], ◌∷◌};
+ghost use Rattle.hierarchy.specs.steps.HierarchyTables.{wanted_in};
+ghost use Rattle.built_in.specs.Keys.{NameAndType};
+ghost use Rattle.hierarchy.specs.steps.MemberIndexes.{IsLookup};
+ghost use Rattle.hierarchy.specs.MemberLookup.{UpClasses};
+ghost use Rattle.hierarchy.specs.Search.{Search};
+ghost use Rattle.hierarchy.specs.steps.InterfaceLists.{first_with};
+
+use crate::hierarchy::Hierarchy;
+use crate::member::{DeclaredMember, Method};
+use crate::member_index::MemberKey;
+use crate::wanted::Wanted;
+use built_in::method::BuiltInMethod;
+use loading::given::Superclass;
+
+impl Hierarchy {
+    /// The first member of some kind in a class, its superinterfaces and its superclass, in this order.
+    pub(crate) fn search(
+        &self,
+        wanted: Wanted,
+        class: u32,
+        key: Option<MemberKey>,
+    ) -> Option<DeclaredMember>
+        ensures { (name : NameAndType) → IsLookup self.now.texts name key
+            → Search self.now.family (wanted_in wanted self.now.family name) (class ∷ []) result }
+    {
+        let mut at = class;
+        loop {
+            if let Some(index) = self.find(wanted, at, key) {
+                return Some(DeclaredMember { class: at, index });
+            }
+            if let Some(found) = self.first_in(wanted, self.superinterfaces(at), key) {
+                return Some(found);
+            }
+            at = self.given_superclass(at)?;
+        }
+    }
+
+    /// The first of some classes that has a member of some kind, and its place.
+    fn first_in(
+        &self,
+        wanted: Wanted,
+        classes: &[u32],
+        key: Option<MemberKey>,
+    ) -> Option<DeclaredMember>
+        ensures { (name : NameAndType) → IsLookup self.now.texts name key
+            → result ≡ first_with (wanted_in wanted self.now.family name) classes.now }
+    {
+        for class in classes {
+            if let Some(index) = self.find(wanted, *class, key) {
+                return Some(DeclaredMember {
+                    class: *class,
+                    index,
+                });
+            }
+        }
+        None
+    }
+
+    /// The first method of some kind from a class up; at the end stand those of the built-in classes.
+    pub(crate) fn up_classes(
+        &self,
+        wanted: Wanted,
+        from: Superclass,
+        name: &[u8],
+        descriptor: &[u8],
+        key: Option<MemberKey>,
+    ) -> Option<Method>
+        requires { IsLookup self.now.texts (record { name = name.now; descriptor = descriptor.now }) key }
+        ensures { let name_and_type : NameAndType = record { name = name.now; descriptor = descriptor.now } in
+            UpClasses self.now.family (wanted_in wanted self.now.family name_and_type) name_and_type from result }
+    {
+        let mut at = from;
+        loop {
+            match at {
+                Superclass::Given(class) => {
+                    if let Some(index) = self.find(wanted, class, key) {
+                        return Some(Method::Given { class, index });
+                    }
+                    at = self.superclass(class)?;
+                }
+                Superclass::BuiltIn(class) => {
+                    let method = BuiltInMethod::of_class(class, name, descriptor)?;
+                    return Some(Method::BuiltIn(method));
+                }
+            }
+        }
+    }
+}

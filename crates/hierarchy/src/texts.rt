@@ -1,0 +1,81 @@
+//! Texts by number.
+
+ghost use Rattle.std.specs.Prelude.{◌≡◌, [], Some, IfOk, OnOk, MatchOption, option_map, slice_get};
+ghost use Rattle.std.specs.List.{Contains};
+ghost use Rattle.hierarchy.specs.Texts.{AreDistinct};
+ghost use Rattle.hierarchy.specs.steps.GrowingTexts.{KeepsNumbers};
+
+use indexmap::IndexSet;
+use std::alloc::{AllocError, Global};
+use std::marker::Model;
+
+/// Texts in the order in which they came, each once. A text's number is its place.
+#[derive(Drop)]
+pub struct Texts {
+    texts: IndexSet<Vec<u8>>,
+}
+
+impl Model for Texts {
+    ghost use Rattle.std.specs.Prelude.{List, ℕ, map};
+    ghost use Rattle.hierarchy.specs.Texts.{AreDistinct};
+
+    ghost Value = { List (List ℕ) };
+
+    ghost view = { λ s. map (λ text. text.items) s.texts.keys };
+
+    ghost invariant = { λ s. AreDistinct (map (λ text. text.items) s.texts.keys) };
+}
+
+impl Texts {
+    /// No texts.
+    pub fn new(alloc: Global) -> Self
+        ensures { result ≡ [] }
+    {
+        Texts {
+            texts: IndexSet::new(alloc),
+        }
+    }
+
+    /// The number of a text, if it has one.
+    pub fn number(&self, text: &[u8]) -> Option<usize>
+        ensures number { MatchOption result (¬ Contains self.now text.now) (λ n. slice_get self.now n ≡ Some text.now) }
+        ensures distinct { AreDistinct self.now }
+    {
+        self.texts.get_index_of(text)
+    }
+
+    /// The text of a number.
+    pub fn text(&self, number: usize) -> Option<&[u8]>
+        ensures { option_map (λ t. t.now) result ≡ slice_get self.now number }
+    {
+        let text = self.texts.get_index(number)?;
+        Some(text.as_slice())
+    }
+
+    /// The number of a text, which gets one if it had none.
+    ///
+    /// # Errors
+    /// Where memory runs out; each text that had a number keeps it.
+    pub fn add(&mut self, alloc: Global, text: &[u8]) -> Result<usize, AllocError>
+        ensures number { IfOk result (λ n. slice_get self.new n ≡ Some text.now) }
+        ensures keeps { KeepsNumbers self.old self.new }
+        ensures distinct { OnOk result (AreDistinct self.new) }
+    {
+        match self.number(text) {
+            Some(number) => Ok(number),
+            None => self.push(alloc, text),
+        }
+    }
+
+    /// The number of a new text.
+    fn push(&mut self, alloc: Global, text: &[u8]) -> Result<usize, AllocError>
+        requires { ¬ Contains self.old text.now }
+        ensures number { IfOk result (λ n. slice_get self.new n ≡ Some text.now) }
+        ensures keeps { KeepsNumbers self.old self.new }
+        ensures distinct { OnOk result (AreDistinct self.new) }
+    {
+        let copy = Vec::from_slice(alloc, text)?;
+        let (number, _) = self.texts.insert_full(copy)?;
+        Ok(number)
+    }
+}

@@ -1,0 +1,38 @@
+-- What a step of a thread says, in the words of the definition.
+use Rattle.std.specs.Prelude.{◌≡◌, ℕ, List, Option, Some, None}
+use Rattle.vm_state.specs.declared.ends.End.{End}
+use Rattle.vm_state.specs.declared.initialization.Frames.{Frames}
+use Rattle.vm_state.specs.SharedTables.{SharedTables}
+use Rattle.vm_state.specs.declared.text.Line.{Line}
+use Rattle.vm_state.specs.SharedState.{SharedState, with_line}
+use Rattle.vm_state.specs.Shares.{shared_of}
+use Rattle.semantics.specs.Programs.{Program}
+use Rattle.machine.specs.Effects.{going}
+use Rattle.semantics.specs.Steps.{Thread, Ended as HasEnded, After, step_thread}
+use Rattle.init_engine.specs.declared.procedure.Progress.{Progress}
+use Rattle.init_engine.specs.declared.procedure.Progress.TheVariants.{Moved, Printed, Ended, Waits}
+
+abbrev pub Stands : Option End → Thread → Frames → Type 0
+Stands None thread s = thread ≡ going s
+Stands (Some end) thread s = thread ≡ HasEnded end
+
+-- what a step of thread t leaves, by what the code says of it
+abbrev pub left_by_step : Progress → ℕ → Frames → SharedState → Option After
+left_by_step Moved t s sh = Some (record { shared = sh; thread = going s })
+left_by_step (Printed text) t s sh =
+    Some (record { shared = with_line sh (record { thread = t; text = text }); thread = going s })
+left_by_step (Ended end) t s sh = Some (record { shared = sh; thread = HasEnded end })
+left_by_step Waits t s sh = None
+
+-- the code's step is the definition's
+abbrev pub Steps : Program → Frames → SharedTables → Progress → Frames → SharedTables → Type 0
+Steps P old before progress new after =
+    (p : List Line) → step_thread P old.thread (shared_of before p) (going old) ≡ left_by_step progress old.thread new
+    (shared_of after p)
+
+-- where there is no step the thread and what threads share stay as they were
+abbrev pub StaysPut : Progress → Frames → Frames → SharedTables → SharedTables → Type 0
+StaysPut Moved old new before after = Unit {0}
+StaysPut (Printed text) old new before after = Unit {0}
+StaysPut (Ended end) old new before after = Unit {0}
+StaysPut Waits old new before after = (new ≡ old) × (after ≡ before)

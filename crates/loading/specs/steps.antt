@@ -1,0 +1,3 @@
+pub mod Linking
+pub mod InterfaceFaults
+pub mod BaseTypes

@@ -1,0 +1,390 @@
+-- In a linked program a static final is written in the class initialization method of its own class alone.
+use Rattle.std.proofs.Common.{◌≡◌, ℕ, ◌<◌, Bool, true, false, cond, ◌&&◌, ◌==◌, List, length, map, get_or, Option, Some}
+use Rattle.std.proofs.Common.{None}
+use Rattle.std.proofs.Common.{Ok, Err, slice_get, refl, sym, ap, ◌∙◌, subst, arith, eqb-true}
+use Rattle.std.specs.declared.result.Result.{Result}
+use Rattle.std.proofs.lemmas.Option.{same_Some, slice_get_within, slice_get-get_or}
+use Rattle.std.proofs.lemmas.Slice.Eq.{bytes_eq-Decides}
+use Rattle.std.specs.Str.{bytes_eq}
+use Rattle.classfile.specs.Flags.{has_flag}
+use Rattle.classfile.specs.ClassFile.{ClassFile}
+use Rattle.classfile.specs.declared.constant.Constant.{Constant}
+use Rattle.classfile.specs.declared.constant.Constant.TheVariants as constants
+use Rattle.classfile.specs.declared.member.Member.{Member}
+use Rattle.vm_state.specs.declared.ends.FaultKind.TheVariants.{Fault}
+use Rattle.built_in.specs.declared.class_id.ClassId.{ClassId}
+use Rattle.bytecode.specs.declared.instruction.Instruction.{Instruction}
+use Rattle.bytecode.specs.declared.instruction.Instruction.TheVariants as instructions
+use Rattle.semantics.specs.Quiet.{declared_final, is_final}
+use Rattle.built_in.specs.declared.method.BuiltInMethod.TheVariants as members
+use Rattle.built_in.specs.declared.method.Printed.TheVariants as printed
+use Rattle.program.specs.declared.class.Class.{Class}
+use Rattle.program.specs.declared.class.Implementation.{Implementation}
+use Rattle.program.specs.declared.class.Implementation.TheVariants as implementations
+use Rattle.program.specs.declared.runtime_constant.RuntimeConstant.{RuntimeConstant}
+use Rattle.program.specs.declared.runtime_constant.RuntimeConstant.TheVariants as runtime
+use Rattle.program.specs.declared.runtime_constant.FieldKind.{FieldKind}
+use Rattle.program.specs.declared.runtime_constant.FieldKind.TheVariants as kinds
+use Rattle.program.specs.declared.runtime_constant.FieldTarget.{FieldTarget}
+use Rattle.program.specs.declared.runtime_constant.FieldTarget.TheVariants as targets
+use Rattle.loading.specs.declared.given.GivenClass.{GivenClass}
+use Rattle.hierarchy.specs.declared.member.DeclaredMember.{DeclaredMember}
+use Rattle.hierarchy.specs.declared.member.Field.{Field}
+use Rattle.hierarchy.specs.declared.member.Field.TheVariants as fields
+use Rattle.hierarchy.specs.declared.member.Method.{Method}
+use Rattle.hierarchy.specs.declared.member.Method.TheVariants as methods
+use Rattle.hierarchy.specs.declared.member.Unresolved.{Unresolved}
+use Rattle.hierarchy.specs.declared.member.Unresolved.TheVariants as unresolved
+use Rattle.built_in.specs.Keys.{NameAndType}
+use Rattle.loading.specs.Names.{class_name_at, text_at}
+use Rattle.loading.specs.Families.{Family, file_of, file_in}
+use Rattle.hierarchy.specs.MemberLookup.{is_named, field_of, field_in}
+use Rattle.hierarchy.specs.Search.{Search}
+use Rattle.hierarchy.specs.Resolution.{ResolvesField}
+use Rattle.program.specs.References.{key_at, FindsField}
+use Rattle.program.specs.Fields.{field_kind, has_value, is_static_field, statics_of, static_number_of, final_of}
+use Rattle.program.specs.Fields.{static_of, target_in, targeted}
+use Rattle.program.specs.RuntimePool.{IsRuntimeConstant}
+use Rattle.program.specs.Programs.{static_field, IsProgram}
+use Rattle.program.specs.Tables.{Tables, instruction_at, implementation_at, runtime_pool_of, constant_at, statics_if}
+use Rattle.program.specs.Tables.{statics_in, initializer_in}
+use Rattle.frame_instructions.specs.declared.operand_kind.OperandKind.{OperandKind}
+use Rattle.frame_instructions.specs.Families.{Local as LocalOperation}
+use Rattle.frame_instructions.specs.Instructions.{local_of}
+use Rattle.machine.specs.Operations.{Operation, PutStatic, Return, Refused, int_constant, long_constant}
+use Rattle.machine.specs.Operations.{local_or, get_static, put_static, is_method, may_write, if_valued, get_target}
+use Rattle.machine.specs.Operations.{getstatic_of, put_target, putstatic_of, call_of, invokevirtual_of, return_of}
+use Rattle.machine.specs.Operations.{resolved_operation, operation_of, operation_at}
+use Rattle.machine.specs.Linked.{program_of}
+use Rattle.machine.proofs.ListLemmas.{left_of_pair, right_of_pair, first_passes, kept_place, both_true}
+use Rattle.loading.proofs.PlaceLemmas.{mapped_at}
+use Rattle.machine.proofs.LinkedLemmas.{method_is}
+use Rattle.machine.proofs.LawsStaticLemmas.{IsClassIn}
+
+-- ---- which instructions put
+
+module _ (w : OperandKind) (c k : ℕ) where
+  valued : (kind : FieldKind) (o : Operation) → if_valued kind o ≡ PutStatic w c k → o ≡ PutStatic w c k
+  valued kinds.Boolean o e = e
+  valued kinds.Byte o e = e
+  valued kinds.Char o e = e
+  valued kinds.Short o e = e
+  valued kinds.Int o e = e
+  valued kinds.Long o e = e
+  valued kinds.Float o e = absurd cc
+  valued kinds.Double o e = absurd cc
+  valued kinds.Reference o e = e
+
+  no_get : (d j : ℕ) (kind : FieldKind) → get_static d j kind ≡ PutStatic w c k → ⊥
+  no_get d j kinds.Int e = cc
+  no_get d j kinds.Long e = cc
+  no_get d j other e = cc
+
+  no_getstatic : (e : Option RuntimeConstant) → getstatic_of e ≡ PutStatic w c k → ⊥
+  no_getstatic (Some (runtime.Field kind target)) e = by target (valued kind (get_target kind target) e)
+    where
+      by : (t : Result FieldTarget Unresolved) → get_target kind t ≡ PutStatic w c k → ⊥
+      by (Ok (targets.Static d j final)) h = no_get d j kind h
+      by (Ok (targets.Instance d j)) h = cc
+      by (Ok targets.Out) h = cc
+      by (Err unresolved.Missing) h = cc
+      by (Err unresolved.NoReference) h = cc
+      by (Err unresolved.Incompatible) h = cc
+  no_getstatic other e = cc
+
+  no_int : (e : Option RuntimeConstant) → int_constant e ≡ PutStatic w c k → ⊥
+  no_int (Some (runtime.Int n)) e = cc
+  no_int (Some (runtime.String n)) e = cc
+  no_int (Some runtime.Float) e = cc
+  no_int (Some (runtime.Class x)) e = cc
+  no_int (Some runtime.MethodHandle) e = cc
+  no_int (Some runtime.MethodType) e = cc
+  no_int other e = cc
+
+  no_long : (e : Option RuntimeConstant) → long_constant e ≡ PutStatic w c k → ⊥
+  no_long (Some (runtime.Long n)) e = cc
+  no_long (Some runtime.Double) e = cc
+  no_long other e = cc
+
+  no_call : (r : Result Method Unresolved) → call_of r ≡ PutStatic w c k → ⊥
+  no_call (Ok (methods.BuiltIn (members.PrintLine printed.Int))) e = cc
+  no_call other e = cc
+
+  no_invoke : (e : Option RuntimeConstant) → invokevirtual_of e ≡ PutStatic w c k → ⊥
+  no_invoke (Some (runtime.Method method)) e = no_call method e
+  no_invoke other e = cc
+
+  no_return : (o : Option Implementation) → return_of o ≡ PutStatic w c k → ⊥
+  no_return (Some (implementations.Code code)) e = by code.returns_nothing e
+    where
+      by : (b : Bool) → cond b Return (Refused Fault) ≡ PutStatic w c k → ⊥
+      by true h = cc
+      by false h = cc
+  no_return other e = cc
+
+  put_is : (d j : ℕ) (kind : FieldKind) → put_static d j kind ≡ PutStatic w c k → (has_value kind ≡ true) × (d ≡ c)
+      × (j ≡ k)
+  put_is d j kinds.Int e = (refl, cc, cc)
+  put_is d j kinds.Long e = (refl, cc, cc)
+  put_is d j other e = absurd cc
+
+  module _ (P : Tables) (d m : ℕ) where
+    -- what a constant is that is written to
+    record IsPut (e : Option RuntimeConstant) : Type 0 where
+      kind : FieldKind
+      final : Bool
+      valued : has_value kind ≡ true
+      constant : e ≡ Some (runtime.Field kind (Ok (targets.Static c k final)))
+      may : may_write P d m c final ≡ true
+
+    put_constant : (e : Option RuntimeConstant) → putstatic_of P d m e ≡ PutStatic w c k → IsPut e
+    put_constant (Some (runtime.Field kind target)) e = by target (valued kind (put_target P d m kind target) e)
+      where
+        written : (x j : ℕ) (final b : Bool) → may_write P d m x final ≡ b
+            → cond b (put_static x j kind) (Refused Fault) ≡ PutStatic w c k
+            → IsPut (Some (runtime.Field kind (Ok (targets.Static x j final))))
+        written x j final true may h =
+            let put = put_is x j kind h in
+            record {
+              kind = kind;
+              final = final;
+              valued = put.0;
+              constant = rw (put.1, put.2) refl;
+              may = subst (λ (n : ℕ). may_write P d m n final ≡ true) put.1 may;
+            }
+        written x j final false may h = absurd cc
+
+        by : (t : Result FieldTarget Unresolved) → put_target P d m kind t ≡ PutStatic w c k
+            → IsPut (Some (runtime.Field kind t))
+        by (Ok (targets.Static x j final)) h = written x j final (may_write P d m x final) refl h
+        by (Ok (targets.Instance x j)) h = absurd cc
+        by (Ok targets.Out) h = absurd cc
+        by (Err unresolved.Missing) h = absurd cc
+        by (Err unresolved.NoReference) h = absurd cc
+        by (Err unresolved.Incompatible) h = absurd cc
+    put_constant other e = absurd cc
+
+    put_resolved : (i : Instruction) → resolved_operation P d m i ≡ PutStatic w c k → (index : ℕ)
+        × IsPut (constant_at P d index)
+    put_resolved (instructions.LoadConstant index) e = absurd (no_int (constant_at P d index) e)
+    put_resolved (instructions.LoadWideConstant index) e = absurd (no_long (constant_at P d index) e)
+    put_resolved (instructions.GetStatic index) e = absurd (no_getstatic (constant_at P d index) e)
+    put_resolved (instructions.PutStatic index) e = (index, put_constant (constant_at P d index) e)
+    put_resolved (instructions.InvokeVirtual index) e = absurd (no_invoke (constant_at P d index) e)
+    put_resolved instructions.Return e = absurd (no_return (implementation_at P d m) e)
+    put_resolved other e = absurd cc
+
+    put_local : (l : Option LocalOperation) (o : Operation) → local_or l o ≡ PutStatic w c k → o ≡ PutStatic w c k
+    put_local None o e = e
+    put_local (Some l) o e = absurd cc
+
+    put_instruction : (o : Option Instruction) → operation_of P d m o ≡ Some (PutStatic w c k) → (index : ℕ)
+        × IsPut (constant_at P d index)
+    put_instruction None e = absurd cc
+    put_instruction (Some i) e = put_resolved i (put_local (local_of i) (resolved_operation P d m i) (same_Some _ _ e))
+
+    put_at : (place : ℕ) → operation_at P d m place ≡ Some (PutStatic w c k) → (index : ℕ)
+        × IsPut (constant_at P d index)
+    unfolding operation_at
+    put_at place e = put_instruction (instruction_at P d m place) e
+
+-- ---- what such a constant stands for
+
+-- the Fieldref that a constant stands for
+record IsFieldConstant (family : Family) (f : ClassFile) (constant : Constant) (kind : FieldKind)
+    (target : Result FieldTarget Unresolved) : Type 0 where
+  class : List ℕ
+  key : NameAndType
+  result : Result Field Unresolved
+  finds : FindsField family class key result
+  kind_is : field_kind key.descriptor ≡ kind
+  target_is : targeted family result ≡ target
+
+field_constant : {family : Family} {strings : List (List ℕ)} {f : ClassFile} {index : ℕ} {constant : Constant}
+    {held : RuntimeConstant}
+    (kind : FieldKind) (target : Result FieldTarget Unresolved) → slice_get f.constants index ≡ Some constant
+    → held ≡ runtime.Field kind target
+    → IsRuntimeConstant family strings f index constant held → IsFieldConstant family f constant kind target
+field_constant {family} {f = f} kind target there e (IsRuntimeConstant.field {c = c} {n = n} r resolves) = record {
+  class = class_name_at f c;
+  key = key_at f n;
+  result = r;
+  finds = rw there at resolves;
+  kind_is = cc;
+  target_is = cc;
+}
+field_constant kind target there e IsRuntimeConstant.int = absurd cc
+field_constant kind target there e IsRuntimeConstant.long = absurd cc
+field_constant kind target there e IsRuntimeConstant.float = absurd cc
+field_constant kind target there e IsRuntimeConstant.double = absurd cc
+field_constant kind target there e (IsRuntimeConstant.string h) = absurd cc
+field_constant kind target there e (IsRuntimeConstant.class h) = absurd cc
+field_constant kind target there e (IsRuntimeConstant.method h) = absurd cc
+field_constant kind target there e (IsRuntimeConstant.interface_method h) = absurd cc
+field_constant kind target there e IsRuntimeConstant.utf8 = absurd cc
+field_constant kind target there e IsRuntimeConstant.unusable = absurd cc
+field_constant kind target there e IsRuntimeConstant.name_and_type = absurd cc
+field_constant kind target there e IsRuntimeConstant.method_handle = absurd cc
+field_constant kind target there e IsRuntimeConstant.method_type = absurd cc
+field_constant kind target there e IsRuntimeConstant.invoke_dynamic = absurd cc
+
+-- the static field that a target is
+record IsStatic (family : Family) (c k : ℕ) (final : Bool) (r : Result Field Unresolved) : Type 0 where
+  place : ℕ
+  file : ClassFile
+  member : Member
+  result : r ≡ Ok (fields.Given c place)
+  stands : file_in family c ≡ Some file
+  is : slice_get file.fields place ≡ Some member
+  static : has_flag member.access_flags 8 ≡ true
+  slot : k ≡ static_number_of file place
+  flag : final ≡ has_flag member.access_flags 16
+
+abbrev IsOk : FieldTarget → FieldTarget → Type 0
+IsOk a b = ◌≡◌ {A = Result FieldTarget Unresolved} (Ok a) (Ok b)
+
+static_target : (family : Family) (c k : ℕ) (final : Bool) (r : Result Field Unresolved)
+    → targeted family r ≡ Ok (targets.Static c k final)
+    → IsStatic family c k final r
+static_target family c k final (Err x) e = absurd cc
+static_target family c k final (Ok fields.Out) e = absurd cc
+static_target family c k final (Ok (fields.Given x j)) e = by_file (file_in family x) refl e
+  where
+    by_flag : (f : ClassFile) (m : Member) (b : Bool) → file_in family x ≡ Some f → slice_get f.fields j ≡ Some m
+        → has_flag m.access_flags 8 ≡ b
+        → IsOk (cond b (targets.Static x (static_number_of f j) (has_flag m.access_flags 16)) (targets.Instance x j))
+        (targets.Static c k final)
+        → IsStatic family c k final (Ok (fields.Given x j))
+    by_flag f m true file at static h =
+        let class : x ≡ c = cc in
+        record {
+          place = j;
+          file = f;
+          member = m;
+          result = ap (λ (n : ℕ). Ok (fields.Given n j)) class;
+          stands = ap (file_in family) (sym class) ∙ file;
+          is = at;
+          static = static;
+          slot = cc;
+          flag = cc;
+        }
+    by_flag f m false file at static h = absurd cc
+
+    by_member : (f : ClassFile) (o : Option Member) → file_in family x ≡ Some f → slice_get f.fields j ≡ o
+        → IsOk (cond (static_of o) (targets.Static x (static_number_of f j) (final_of o)) (targets.Instance x j))
+        (targets.Static c k final)
+        → IsStatic family c k final (Ok (fields.Given x j))
+    by_member f None file at h = absurd cc
+    by_member f (Some m) file at h = by_flag f m (has_flag m.access_flags 8) file at refl h
+
+    by_file : (o : Option ClassFile) → file_in family x ≡ o → IsOk (target_in o x j) (targets.Static c k final)
+        → IsStatic family c k final (Ok (fields.Given x j))
+    by_file None file h = absurd cc
+    by_file (Some f) file h = by_member f (slice_get f.fields j) file refl h
+
+search_ends : {family : Family} {own : ℕ → Option ℕ} {cs : List ℕ} {r : Option DeclaredMember} (c j : ℕ)
+    → r ≡ Some (record { class = c; index = j }) → Search family own cs r → own c ≡ Some j
+search_ends c j e Search.nothing = absurd cc
+search_ends {own = own} c j e (Search.here {c = x} {k = y} h) =
+    let same = same_Some (record { class = x; index = y }) (record { class = c; index = j }) e in
+    ap own (sym (ap (λ (m : DeclaredMember). m.class) same)) ∙ h ∙ ap Some (ap (λ (m : DeclaredMember). m.index) same)
+search_ends c j e (Search.above h rest) = search_ends c j e rest
+
+found_field : {family : Family} {key : NameAndType} {x : ClassId} {o : Option Field} (c j : ℕ)
+    → o ≡ Some (fields.Given c j)
+    → ResolvesField family key x o → field_in family key c ≡ Some j
+found_field c j e (ResolvesField.found {d = d} {k = k} search) =
+    let class : d ≡ c = cc in
+    let place : k ≡ j = cc in
+    search_ends c j (rw (class, place) refl) search
+found_field c j e (ResolvesField.missing search) = absurd cc
+found_field c j e (ResolvesField.out h) = absurd cc
+found_field c j e (ResolvesField.no_out h) = absurd cc
+found_field c j e (ResolvesField.built_in h) = absurd cc
+found_field c j e ResolvesField.array = absurd cc
+
+finds_field : {family : Family} {name : List ℕ} {key : NameAndType} {r : Result Field Unresolved} (c j : ℕ)
+    → r ≡ Ok (fields.Given c j)
+    → FindsField family name key r → field_in family key c ≡ Some j
+finds_field c j e (FindsField.unknown h) = absurd cc
+finds_field c j e (FindsField.missing h g) = absurd cc
+finds_field c j e (FindsField.found {m = m} h resolves) = let same : m ≡ fields.Given c j = cc in
+    found_field c j (ap Some same) resolves
+
+-- the field has the descriptor of its key
+descriptor_is : (f : ClassFile) (key : NameAndType) (j : ℕ) (m : Member) → field_of key (Some f) ≡ Some j
+    → slice_get f.fields j ≡ Some m
+    → text_at f m.descriptor ≡ key.descriptor
+descriptor_is f key j m found at =
+    let first = first_passes (is_named f key) f.fields j found in
+    let same : m ≡ first.0 = same_Some m first.0 (sym at ∙ first.1) in
+    let named =
+    both_true (bytes_eq (text_at f first.0.name) key.name) (bytes_eq (text_at f first.0.descriptor) key.descriptor)
+    first.2 in
+    ap (λ (x : Member). text_at f x.descriptor) same
+    ∙ (bytes_eq-Decides (text_at f first.0.descriptor) key.descriptor).0 named.1
+
+-- ---- the static field in the tables
+
+given_of : (o : Option GivenClass) (f : ClassFile) → file_of o ≡ Some f → (given : GivenClass) × (o ≡ Some given)
+    × (given.file ≡ f)
+given_of None f e = absurd cc
+given_of (Some given) f e = (given, refl, same_Some given.file f e)
+
+module _ (P : Tables) (is : IsProgram P) where
+  static_at : (c k j : ℕ) (f : ClassFile) (m : Member) → file_in P.family c ≡ Some f → slice_get f.fields j ≡ Some m
+      → is_static_field f m ≡ true
+      → k ≡ static_number_of f j → is_final (program_of P) c k ≡ has_flag m.access_flags 16
+  static_at c k j f m file at static slot =
+      let given = given_of (slice_get P.family c) f file in
+      let class = right_of_pair (IsClassIn P) P.family P.classes c given.0 is.classes given.1 in
+      let statics : statics_in P c ≡ map (static_field f) (statics_of f) =
+      ap statics_if class.1 ∙ class.2.statics ∙ ap (λ (g : ClassFile). map (static_field g) (statics_of g)) given.2 in
+      let kept : slice_get (statics_of f) k ≡ Some m =
+      ap (slice_get (statics_of f)) slot ∙ kept_place (is_static_field f) f.fields j m at static in
+      let held : slice_get (statics_in P c) k ≡ Some (static_field f m) =
+      rw statics (mapped_at (static_field f) (statics_of f) k m kept) in
+      ap declared_final held
+
+  -- the constant of an instruction that puts, and its Fieldref
+  constant_at_put : (d index : ℕ) (kind : FieldKind) (target : Result FieldTarget Unresolved)
+      → constant_at P d index ≡ Some (runtime.Field kind target) →
+      (f : ClassFile) × (constant : Constant) × IsFieldConstant P.family f constant kind target
+  constant_at_put d index kind target e = by (slice_get P.classes d) refl e
+    where
+      by : (o : Option Class) → slice_get P.classes d ≡ o
+          → slice_get (runtime_pool_of o) index ≡ Some (runtime.Field kind target)
+          → (f : ClassFile) × (constant : Constant) × IsFieldConstant P.family f constant kind target
+      by None there h = absurd cc
+      by (Some class) there h =
+          let found = left_of_pair (IsClassIn P) P.family P.classes d class is.classes there in
+          let f = found.0.file in
+          let pool = found.2.runtime_pool in
+          let within : index < length f.constants =
+          omega (arith, slice_get_within class.runtime_pool index (runtime.Field kind target) h, pool.count) in
+          let constant = get_or f.constants index constants.Unusable in
+          let at : slice_get f.constants index ≡ Some constant =
+          slice_get-get_or f.constants index constants.Unusable within in
+          (f, constant, field_constant kind target at refl (pool.each index constant (runtime.Field kind target) at h))
+
+  pub finals_written : (w : OperandKind) (d m place c k : ℕ) → operation_at P d m place ≡ Some (PutStatic w c k)
+      → is_final (program_of P) c k ≡ true
+      → (d ≡ c) × (initializer_in P c ≡ Some m)
+  finals_written w d m place c k e final =
+      let put = put_at w c k P d m place e in
+      let source = (constant_at_put d put.0 put.1.kind (Ok (targets.Static c k put.1.final)) put.1.constant).2 in
+      let static = static_target P.family c k put.1.final source.result source.target_is in
+      let declared = finds_field c static.place static.result source.finds in
+      let named : field_of source.key (Some static.file) ≡ Some static.place =
+      ap (field_of source.key) (sym static.stands) ∙ declared in
+      let kind : field_kind (text_at static.file static.member.descriptor) ≡ put.1.kind =
+      ap field_kind (descriptor_is static.file source.key static.place static.member named static.is)
+      ∙ source.kind_is in
+      let has : is_static_field static.file static.member ≡ true = rw (static.static, kind, put.1.valued) refl in
+      let declares : is_final (program_of P) c k ≡ has_flag static.member.access_flags 16 =
+      static_at c k static.place static.file static.member static.stands static.is has static.slot in
+      let flagged : put.1.final ≡ true = static.flag ∙ sym declares ∙ final in
+      let may : (c == d && is_method m (initializer_in P d)) ≡ true = rw flagged at put.1.may in
+      let parts = both_true (c == d) (is_method m (initializer_in P d)) may in
+      let same : c ≡ d = eqb-true c d parts.0 in
+      (sym same, ap (initializer_in P) same ∙ method_is m (initializer_in P d) parts.1)

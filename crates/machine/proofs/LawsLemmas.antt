@@ -1,0 +1,50 @@
+-- The table of instructions is lawful.
+use Rattle.std.proofs.Common.{◌≡◌, ℕ, Some, None, sym, ap, subst, ◌∙◌}
+use Rattle.vm_state.specs.declared.frame.Frame.{Frame}
+use Rattle.semantics.specs.Lawful.{Names, KnowsFrame, IsLawful}
+use Rattle.program.specs.Tables.{Tables}
+use Rattle.machine.specs.Linked.{program_of, initializer_frame, initialized_by}
+use Rattle.machine.specs.Laws.{AreSound, LinkedTablesAreSound, TableIsLawful}
+use Rattle.machine.proofs.LawsStaticLemmas.{plain_statics, mains_apart}
+use Rattle.machine.proofs.LawsFinalLemmas.{finals_written}
+use Rattle.machine.proofs.LinkedLemmas.{found_class_has, initializer_frame_is}
+use Rattle.machine.proofs.TableLawLemmas.{blank_known, row_suits}
+
+-- the frame of a class initialization method holds nothing,
+initializer_known : (P : Tables) (known : Names) (c : ℕ) (f : Frame) → initializer_frame P c ≡ Some f
+    → KnowsFrame known f
+initializer_known P known c f h =
+    let frame = initializer_frame_is P c f h in
+    subst (KnowsFrame known) (sym frame.is) (tt, blank_known known frame.code.max_locals)
+
+-- and is of its class alone
+initializer_owned : (P : Tables) (c d : ℕ) (f : Frame) →
+    initializer_frame P c ≡ Some f → initialized_by P f.activity ≡ Some d → d ≡ c
+initializer_owned P c d f h of =
+    let frame = initializer_frame_is P c f h in
+    let found = ap (λ (g : Frame). initialized_by P g.activity) (sym frame.is) ∙ of in
+    (found_class_has P c frame.method d found).0
+
+lawful_over : (P : Tables) → AreSound P → IsLawful (program_of P)
+lawful_over P sound = record {
+  row = row_suits sound;
+  failing = λ known own c x h. (tt, tt);
+  orphaned = λ known own c. (tt, tt);
+  plain_failing = λ c x. tt;
+  plain_orphaned = λ c. tt;
+  initializer_names = initializer_known P;
+  initializer_owner = initializer_owned P;
+  start_names = λ known entry t h. ((h, tt), tt);
+  start_owner = λ entry t c h. (let clash : None ≡ Some c = h in cc);
+  statics = sound.statics;
+}
+
+pub linked_tables_are_sound_lem : LinkedTablesAreSound
+linked_tables_are_sound_lem P is = record {
+  statics = plain_statics P is;
+  finals = finals_written P is;
+  mains = mains_apart P is;
+}
+
+pub table_is_lawful_lem : TableIsLawful
+table_is_lawful_lem P is = lawful_over P (linked_tables_are_sound_lem P is)

@@ -1,0 +1,99 @@
+-- Places in lists: of elements in pairs, of the first element that passes, and among those that pass.
+use Rattle.std.proofs.Common.{◌≡◌, ℕ, zero, suc, ◌+◌, Bool, true, false, cond, ◌&&◌, List, [], ◌∷◌, take, count_by}
+use Rattle.std.proofs.Common.{Some, slice_get, refl}
+use Rattle.std.proofs.Common.{ap, ◌∙◌, subst, arith}
+use Rattle.std.specs.List.{AllZip, filter, position_from}
+use Rattle.std.proofs.lemmas.List.Sums.{sum_by-cons}
+
+pub left_of_pair : {A B : Type 0} (R : A → B → Type 0) (xs : List A) (ys : List B) (i : ℕ) (y : B) → AllZip R xs ys
+    → slice_get ys i ≡ Some y
+    → (x : A) × (slice_get xs i ≡ Some x) × R x y
+left_of_pair R [] [] i y all h = absurd cc
+left_of_pair R [] (b ∷ bs) i y all h = absurd all
+left_of_pair R (a ∷ rest) [] i y all h = absurd all
+left_of_pair R (a ∷ rest) (b ∷ bs) zero y all h = let same : b ≡ y = cc in (a, refl, subst (R a) same all.0)
+left_of_pair R (a ∷ rest) (b ∷ bs) (suc i) y all h = left_of_pair R rest bs i y all.1 h
+
+pub right_of_pair : {A B : Type 0} (R : A → B → Type 0) (xs : List A) (ys : List B) (i : ℕ) (x : A) → AllZip R xs ys
+    → slice_get xs i ≡ Some x
+    → (y : B) × (slice_get ys i ≡ Some y) × R x y
+right_of_pair R [] [] i x all h = absurd cc
+right_of_pair R [] (b ∷ bs) i x all h = absurd all
+right_of_pair R (a ∷ rest) [] i x all h = absurd all
+right_of_pair R (a ∷ rest) (b ∷ bs) zero x all h = let same : a ≡ x = cc in (b, refl, subst (λ z. R z b) same all.0)
+right_of_pair R (a ∷ rest) (b ∷ bs) (suc i) x all h = right_of_pair R rest bs i x all.1 h
+
+-- the first place from i on that a search gives
+record IsFound {X : Type 0} (p : X → Bool) (xs : List X) (i m : ℕ) : Type 0 where
+  place : ℕ
+  item : X
+  far : m ≡ i + place
+  stands : slice_get xs place ≡ Some item
+  passes : p item ≡ true
+
+passes_from : {X : Type 0} (p : X → Bool) (xs : List X) (i m : ℕ) → position_from p i xs ≡ Some m → IsFound p xs i m
+passes_from p [] i m e = absurd cc
+passes_from {X = X} p (x ∷ xs) i m e = by (p x) refl (passes_from p xs (i + 1) m)
+  where
+    by : (b : Bool) → p x ≡ b → (position_from p (i + 1) xs ≡ Some m → IsFound p xs (i + 1) m) → IsFound p (x ∷ xs) i m
+    by true passed further =
+        let here : Some i ≡ Some m = rw passed at e in
+        let same : i ≡ m = cc in
+        record { place = zero; item = x; far = omega arith; stands = refl; passes = passed }
+    by false failed further =
+        let there : position_from p (i + 1) xs ≡ Some m = rw failed at e in
+        let found = further there in
+        record {
+          place = suc found.place;
+          item = found.item;
+          far = omega (arith, found.far);
+          stands = found.stands;
+          passes = found.passes;
+        }
+
+pub first_passes : {X : Type 0} (p : X → Bool) (xs : List X) (m : ℕ) → position_from p 0 xs ≡ Some m
+    → (x : X) × (slice_get xs m ≡ Some x) × (p x ≡ true)
+first_passes p xs m e =
+    let found = passes_from p xs 0 m e in
+    let same : found.place ≡ m = omega (arith, found.far) in
+    (found.item, subst (λ (n : ℕ). slice_get xs n ≡ Some found.item) same found.stands, found.passes)
+
+abbrev as_number : Bool → ℕ
+as_number b = cond b 1 0
+
+-- an element that passes has as many before it among those that pass as pass before it
+pub kept_place : {X : Type 0} (p : X → Bool) (xs : List X) (j : ℕ) (x : X) → slice_get xs j ≡ Some x → p x ≡ true
+    → slice_get (filter p xs) (count_by p (take j xs)) ≡ Some x
+kept_place p [] j x h passed = absurd cc
+kept_place p (y ∷ ys) zero x h passed = let same : y ≡ x = cc in let here : p y ≡ true = ap p same ∙ passed in
+    rw here (ap Some same)
+kept_place {X = X} p (y ∷ ys) (suc j) x h passed = by (p y) refl (kept_place p ys j x h passed)
+  where
+    count : count_by p (y ∷ take j ys) ≡ as_number (p y) + count_by p (take j ys)
+    count = sum_by-cons (λ (z : X). cond (p z) 1 0) y (take j ys)
+
+    by : (b : Bool) → p y ≡ b → slice_get (filter p ys) (count_by p (take j ys)) ≡ Some x
+        → slice_get (filter p (y ∷ ys)) (count_by p (y ∷ take j ys)) ≡ Some x
+    by true here rest =
+        let one : as_number (p y) ≡ 1 = ap as_number here in
+        let more : count_by p (y ∷ take j ys) ≡ suc (count_by p (take j ys)) = omega (arith, count, one) in
+        rw (more, here) rest
+    by false here rest =
+        let none : as_number (p y) ≡ 0 = ap as_number here in
+        let more : count_by p (y ∷ take j ys) ≡ count_by p (take j ys) = omega (arith, count, none) in
+        rw (more, here) rest
+
+pub both_true : (a b : Bool) → (a && b) ≡ true → (a ≡ true) × (b ≡ true)
+both_true true b e = (refl, e)
+both_true false b e = absurd cc
+
+pub second_of_three : (a b c : Bool) → (a && b && c) ≡ true → b ≡ true
+second_of_three true true c e = refl
+second_of_three true false c e = absurd cc
+second_of_three false b c e = absurd cc
+
+pub third_of_four : (a b c d : Bool) → (a && b && c && d) ≡ true → c ≡ true
+third_of_four true true true d e = refl
+third_of_four true true false d e = absurd cc
+third_of_four true false c d e = absurd cc
+third_of_four false b c d e = absurd cc

@@ -1,0 +1,119 @@
+-- No instruction of the table makes up a name; each writes a final in its own class's initialization method alone, and
+-- makes no frame of such a method.
+use Rattle.std.proofs.Common.{ℕ, zero, suc, Option, Some, None, Ok, Err, replicate, ◌≡◌, Bool, true, false, refl, ap}
+use Rattle.std.proofs.Common.{◌∙◌}
+use Rattle.std.specs.declared.result.Result.{Result}
+use Rattle.std.specs.Result.{IfOk}
+use Rattle.vm_state.specs.declared.value.Value.TheVariants as values
+use Rattle.built_in.specs.declared.class_id.BuiltIn.{BuiltIn}
+use Rattle.vm_state.specs.declared.ends.FaultKind.{FaultKind}
+use Rattle.vm_state.specs.declared.ends.FaultKind.TheVariants.{Fault, Unsupported}
+use Rattle.vm_state.specs.declared.frame.Frame.{Frame}
+use Rattle.vm_state.specs.declared.frame.Activity.{Activity}
+use Rattle.vm_state.specs.declared.frame.Activity.TheVariants.{Start, Method}
+use Rattle.vm_state.specs.Operands.{OperandStack, pushed, top, top_int, rest}
+use Rattle.semantics.specs.Rows.{Row}
+use Rattle.semantics.specs.Lawful.{Names, Knows, KnowsAll, KnowsFrame, OwnsFrame, Fits}
+use Rattle.semantics.specs.Moves.{advanced, with_operands}
+use Rattle.semantics.specs.Quiet.{is_final}
+use Rattle.program.specs.Tables.{Tables, implementation_at, main_in}
+use Rattle.frame_instructions.specs.declared.trap.Trap.{Trap}
+use Rattle.frame_instructions.specs.declared.trap.Trap.TheVariants as traps
+use Rattle.frame_instructions.specs.OperandKinds.{top_as}
+use Rattle.frame_instructions.specs.Families.{local_after}
+use Rattle.frame_instructions.proofs.LawsFrameLemmas.{KnowsLocals, top_known, rest_known, pushed_known, as_kind_known}
+use Rattle.frame_instructions.proofs.LawsFrameLemmas.{stored_known}
+use Rattle.frame_instructions.proofs.FamiliesNameLemmas.{local_names_lem}
+use Rattle.machine.specs.Operations.{Operation, Local, GetStatic, PutStatic, GetOut, PrintInt, Return, Refused}
+use Rattle.machine.specs.Operations.{operation_at}
+use Rattle.machine.specs.Table.{halts, goes_on, raises, local_row, print_on, operation_row, call_main, catches_in}
+use Rattle.machine.specs.Table.{fetched, active_row, row}
+use Rattle.machine.specs.Linked.{initialized_by, program_of}
+use Rattle.machine.specs.Laws.{AreSound}
+use Rattle.machine.proofs.TableLemmas.{of_some, needing_any, needing_such, if_usable_any, print_any, HoldsOfCall}
+use Rattle.machine.proofs.TableLemmas.{called_any}
+use Rattle.machine.proofs.LinkedLemmas.{found_class_has, class_is_found}
+
+-- local variables that hold nothing yet
+pub blank_known : (known : Names) (n : ℕ) → KnowsLocals known (replicate n None)
+blank_known known zero = tt
+blank_known known (suc n) = (tt, blank_known known n)
+
+module _ {P : Tables} (sound : AreSound P) (known : Names) (own : ℕ → Bool) where
+  abbrev Suits : Row → Type 0
+  Suits r = Fits (program_of P) known own r
+
+  halted : (kind : FaultKind) → Suits (halts kind)
+  halted kind = (tt, tt)
+
+  raised : (catches : Bool) (class : BuiltIn) → Suits (raises catches class)
+  raised true class = halted Unsupported
+  raised false class = (tt, λ x h. (h, tt))
+
+  local_suits : (catches : Bool) (r : Result Frame Trap) → IfOk r (KnowsFrame known) → Suits (local_row catches r)
+  local_suits catches (Ok g) h = (h, tt)
+  local_suits catches (Err traps.Fault) h = halted Fault
+  local_suits catches (Err (traps.Raise class)) h = raised catches class
+
+  module _ (f : Frame) (h : KnowsFrame known f) (ho : OwnsFrame (program_of P) own f) where
+    -- it goes on with other operands
+    on_suits : (s : OperandStack) → KnowsAll known s.values → Suits (goes_on (advanced (with_operands f s)))
+    on_suits s hs = ((hs, h.1), tt)
+
+    one_less : KnowsAll known (rest f.operands).values
+    one_less = rest_known known f.operands h.0
+
+    two_less : KnowsAll known (rest (rest f.operands)).values
+    two_less = rest_known known (rest f.operands) one_less
+
+    -- an instruction of a method, whose frame this is
+    module _ (d m : ℕ) (catches : Bool) (runs : f.activity ≡ Method d m) where
+      instruction_suits : (i : Operation) → operation_at P d m f.place ≡ Some i → Suits (operation_row catches i f)
+      instruction_suits (Local i) at = local_suits catches (local_after i f) (local_names_lem known i f h)
+      instruction_suits (GetStatic c k) at =
+          λ b. if_usable_any Suits halted _ b (λ v hv.
+          needing_such Suits halted (λ s. KnowsAll known s.values) (pushed v f.operands) _
+          (pushed_known known v f.operands hv h.0) on_suits)
+      instruction_suits (PutStatic kind c k) at =
+          let may : is_final (program_of P) c k ≡ true → own c ≡ true =
+          λ final. let found = sound.finals kind d m f.place c k at final in
+          ho c (ap (initialized_by P) runs ∙ class_is_found P d m c found.0 found.1) in
+          λ b. if_usable_any Suits halted _ b (
+          needing_such Suits halted (Knows known) (top_as kind f.operands) _
+          (as_kind_known known kind (top f.operands) (top_known known f.operands h.0))
+          (λ v hv. (hv, may, on_suits (rest f.operands) one_less)))
+      instruction_suits GetOut at =
+          needing_such Suits halted (λ s. KnowsAll known s.values) (pushed values.Out f.operands) _
+          (pushed_known known values.Out f.operands tt h.0)
+          on_suits
+      instruction_suits PrintInt at =
+          needing_any Suits halted (top_int f.operands) _ (λ n e.
+          needing_any Suits halted (top (rest f.operands)) (print_on n f) (λ v is.
+          print_any Suits halted n f v (on_suits (rest (rest f.operands)) two_less)))
+      instruction_suits Return at = (tt, tt)
+      instruction_suits (Refused kind) at = (tt, tt)
+
+      fetched_suits : (o : Option Operation) → operation_at P d m f.place ≡ o → Suits (fetched catches o f)
+      fetched_suits None at = (tt, tt)
+      fetched_suits (Some i) at = instruction_suits i at
+
+    call_suits : (c m : ℕ) → main_in P c ≡ Some m → HoldsOfCall Suits halted c m f
+    call_suits c m is code argument locals on_top is_stored =
+        let given = of_some (Knows known) (top f.operands) argument (top_known known f.operands h.0) on_top in
+        let held =
+        of_some (KnowsLocals known) _ locals
+        (stored_known known _ 0 argument (blank_known known code.max_locals) given) is_stored in
+        ((tt, held), λ d of. absurd (sound.mains c m is (found_class_has P c m d of).1))
+
+    main_suits : (c : ℕ) (o : Option ℕ) → main_in P c ≡ o → Suits (call_main P c f o)
+    main_suits c None is = (tt, tt)
+    main_suits c (Some m) is = called_any Suits halted c m f (implementation_at P c m) (call_suits c m is)
+
+    active_suits : (a : Activity) → f.activity ≡ a → Suits (active_row P a f)
+    active_suits (Start c) runs = λ b. if_usable_any Suits halted _ b (main_suits c (main_in P c) refl)
+    active_suits (Method d m) runs = fetched_suits d m (catches_in (implementation_at P d m)) runs
+        (operation_at P d m f.place) refl
+
+  pub row_suits : (f : Frame) → KnowsFrame known f → OwnsFrame (program_of P) own f → Suits (row P f)
+  unfolding row
+  row_suits f h ho = active_suits f h ho f.activity refl

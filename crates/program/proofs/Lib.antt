@@ -1,0 +1,4 @@
+pub mod ZipLemmas
+pub mod RuntimePoolGrowthLemmas
+pub mod StaticNumbersLemmas
+pub mod RuntimePoolLemmas

@@ -1,0 +1,74 @@
+-- The constants of a run-time constant pool.
+use Rattle.std.proofs.Common.{◌≡◌, ◌≢◌, ℕ, refl, List, [], ◌∷◌, ◌++◌, length, Some, slice_get, sym, ◌∙◌, subst, ap, inl}
+use Rattle.std.proofs.Common.{inr}
+use Rattle.std.proofs.lemmas.Option.{same_Some}
+use Rattle.classfile.specs.ClassFile.{ClassFile}
+use Rattle.classfile.specs.declared.constant.Constant.{Constant}
+use Rattle.classfile.specs.declared.constant.Constant.TheVariants as constants
+use Rattle.program.specs.declared.runtime_constant.RuntimeConstant.{RuntimeConstant}
+use Rattle.program.specs.declared.runtime_constant.RuntimeConstant.TheVariants as runtime
+use Rattle.loading.specs.Families.{Family}
+use Rattle.hierarchy.specs.steps.GrowingTexts.{KeepsNumbers}
+use Rattle.program.specs.RuntimePool.{IsRuntimeConstant}
+use Rattle.program.proofs.RuntimePoolGrowthLemmas.{constant_kept}
+use Rattle.loading.proofs.PlaceLemmas.{pushed_at}
+
+pub constant_is : (family : Family) (strings : List (List ℕ)) (f : ClassFile) (index : ℕ) (constant other : Constant)
+    (held given : RuntimeConstant)
+    → other ≡ constant → given ≡ held → IsRuntimeConstant family strings f index constant held
+    → IsRuntimeConstant family strings f index other given
+constant_is family strings f index constant other held given same_constant same_held is =
+    subst (λ (k : Constant). IsRuntimeConstant family strings f index k given) (sym same_constant)
+    (subst (λ (x : RuntimeConstant). IsRuntimeConstant family strings f index constant x) (sym same_held) is)
+
+-- a constant of no other kind stands for nothing
+pub other_constant : (family : Family) (strings : List (List ℕ)) (f : ClassFile) (index : ℕ) (constant : Constant)
+    → ((bits : ℕ) → constant ≢ constants.Integer bits) → ((bits : ℕ) → constant ≢ constants.Float bits)
+    → ((high low : ℕ) → constant ≢ constants.Long high low) → ((high low : ℕ) → constant ≢ constants.Double high low)
+    → ((name : ℕ) → constant ≢ constants.Class name) → ((c n : ℕ) → constant ≢ constants.Fieldref c n)
+    → ((c n : ℕ) → constant ≢ constants.Methodref c n) → ((c n : ℕ) → constant ≢ constants.InterfaceMethodref c n)
+    → ((kind reference : ℕ) → constant ≢ constants.MethodHandle kind reference)
+    → ((descriptor : ℕ) → constant ≢ constants.MethodType descriptor)
+    → ((utf8 : ℕ) → constant ≢ constants.String utf8) → IsRuntimeConstant family strings f index constant runtime.Other
+other_constant family strings f index constants.Unusable i l m d k r s t h y u = IsRuntimeConstant.unusable
+other_constant family strings f index (constants.Utf8 text) i l m d k r s t h y u = IsRuntimeConstant.utf8
+other_constant family strings f index (constants.Integer bits) i l m d k r s t h y u = absurd (i bits refl)
+other_constant family strings f index (constants.Float bits) i l m d k r s t h y u = absurd (l bits refl)
+other_constant family strings f index (constants.Long high low) i l m d k r s t h y u = absurd (m high low refl)
+other_constant family strings f index (constants.Double high low) i l m d k r s t h y u = absurd (d high low refl)
+other_constant family strings f index (constants.Class name) i l m d k r s t h y u = absurd (k name refl)
+other_constant family strings f index (constants.String utf8) i l m d k r s t h y u = absurd (u utf8 refl)
+other_constant family strings f index (constants.Fieldref c n) i l m d k r s t h y u = absurd (r c n refl)
+other_constant family strings f index (constants.Methodref c n) i l m d k r s t h y u = absurd (s c n refl)
+other_constant family strings f index (constants.InterfaceMethodref c n) i l m d k r s t h y u = absurd (t c n refl)
+other_constant family strings f index (constants.NameAndType name descriptor) i l m d k r s t h y u =
+    IsRuntimeConstant.name_and_type
+other_constant family strings f index (constants.MethodHandle kind reference) i l m d k r s t h y u =
+    absurd (h kind reference refl)
+other_constant family strings f index (constants.MethodType descriptor) i l m d k r s t h y u =
+    absurd (y descriptor refl)
+other_constant family strings f index (constants.InvokeDynamic bootstrap n) i l m d k r s t h y u =
+    IsRuntimeConstant.invoke_dynamic
+
+-- each of these entries has its run-time constant
+abbrev pub AreRuntimeConstants : Family → List (List ℕ) → ClassFile → List RuntimeConstant → Type 0
+AreRuntimeConstants family strings f pool = (index : ℕ) (constant : Constant) (held : RuntimeConstant)
+    → slice_get f.constants index ≡ Some constant
+    → slice_get pool index ≡ Some held → IsRuntimeConstant family strings f index constant held
+
+-- one more entry has its run-time constant
+pub constants_next : (family : Family) (old strings : List (List ℕ)) (f : ClassFile) (pool new : List RuntimeConstant)
+    (i : ℕ)
+    (constant : Constant) (held : RuntimeConstant) → length pool ≡ i → KeepsNumbers old strings
+    → slice_get f.constants i ≡ Some constant
+    → IsRuntimeConstant family strings f i constant held → AreRuntimeConstants family old f pool
+    → new ≡ pool ++ held ∷ []
+    → AreRuntimeConstants family strings f new
+constants_next family old strings f pool new i constant held count keeps here is was e index other stands at also =
+    elim (pushed_at pool held stands index
+    (subst (λ (xs : List RuntimeConstant). slice_get xs index ≡ Some stands) e also)) [
+      | inl before ↦ constant_kept keeps (was index other stands at before)
+      | inr last ↦ (let place : index ≡ i = last.0 ∙ count in
+          let same : other ≡ constant = same_Some other constant (sym at ∙ ap (slice_get f.constants) place ∙ here) in
+          rw (place, same, ← last.1) is)
+    ]

@@ -1,0 +1,43 @@
+use Rattle.std.proofs.Common.{◌≡◌, ◌<◌, List, length, Some, slice_get, refl, ap, subst, arith}
+use Rattle.std.proofs.lemmas.List.{length_push}
+use Rattle.classfile.specs.declared.constant.Constant.{Constant}
+use Rattle.program.proofs.RuntimePoolGrowthLemmas.{grows_twice}
+use Rattle.program.proofs.RuntimePoolLemmas.{constants_next}
+use Rattle.program.proofs.ZipLemmas.{item_at}
+use Rattle.program.proofs.runtime_pool.Resolver.add_constants.Goals as goal
+
+pub loop-index-preserved : goal.loop-index-preserved
+loop-index-preserved c =
+    let i = c.loop-index.index in
+    let f = c.args.file.now in
+    let constant = c.index-constants-index.result in
+    let pool = c.loop-index.pool.items in
+    let within : i < length c.constants-constants.result.now = omega arith in
+    let here : slice_get f.constants i ≡ Some constant =
+    subst (λ (xs : List Constant). slice_get xs i ≡ Some constant) c.constants-constants.ensures.value
+    (item_at c.constants-constants.result.now i constant within c.index-constants-index.is) in
+    let added = c.in_ok-add_constant.ensures.held in
+    record {
+      count = omega (arith, ap length added.2, length_push pool added.0);
+      pool = constants_next c.args.self.now.hierarchy.now.family c.loop-index.strings
+          c.add_constant.new.strings f pool c.add_constant.new.pool.items i constant
+          added.0 c.loop-index.invariant.count c.in_ok-add_constant.ensures.grows.keeps here added.1
+          c.loop-index.invariant.pool added.2;
+      grows = grows_twice c.loop-index.invariant.grows c.in_ok-add_constant.ensures.grows;
+    }
+
+pub loop-index-init : goal.loop-index-init
+loop-index-init c = record {
+  count = rw c.requires refl;
+  pool = rw c.requires (λ index constant held at also. absurd cc);
+  grows = record { keeps = λ i text at. at; distinct = λ apart. apart };
+}
+
+pub returns-clause-pool : goal.returns-clause-pool
+returns-clause-pool c = record {
+  count = omega (arith, c.loop-index.invariant.count, ap length c.constants-constants.ensures.value);
+  each = c.loop-index.invariant.pool;
+}
+
+pub returns-clause-grows : goal.returns-clause-grows
+returns-clause-grows c = c.loop-index.invariant.grows

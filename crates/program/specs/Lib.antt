@@ -1,0 +1,6 @@
+pub mod References
+pub mod RuntimePool
+pub mod Tables
+pub mod Programs
+pub mod steps
+pub mod Fields

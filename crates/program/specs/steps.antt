@@ -1,0 +1,2 @@
+pub mod StaticNumbers
+pub mod ResolvedConstants

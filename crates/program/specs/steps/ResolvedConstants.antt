@@ -1,0 +1,24 @@
+-- Constants of run-time constant pools as they are resolved one by one.
+use Rattle.std.specs.Prelude.{◌≡◌, ◌≢◌, ℕ, List}
+use Rattle.std.specs.declared.result.Result.{Result}
+use Rattle.classfile.specs.ClassFile.{ClassFile}
+use Rattle.classfile.specs.declared.constant.Constant.{Constant}
+use Rattle.classfile.specs.declared.constant.Constant.TheVariants as constants
+use Rattle.program.specs.declared.runtime_constant.RuntimeConstant.{RuntimeConstant}
+use Rattle.program.specs.declared.runtime_constant.FieldTarget.{FieldTarget}
+use Rattle.hierarchy.specs.declared.member.Field.{Field}
+use Rattle.hierarchy.specs.declared.member.Unresolved.{Unresolved}
+use Rattle.loading.specs.Families.{Family}
+use Rattle.program.specs.References.{ResolvesFieldAt}
+use Rattle.program.specs.Fields.{targeted}
+use Rattle.program.specs.RuntimePool.{IsRuntimeConstant}
+
+-- what the field that the Fieldref at an index resolves to is for instructions
+abbrev pub IsTargetAt : Family → ClassFile → ℕ → Result FieldTarget Unresolved → Type 0
+IsTargetAt family f index target = (r : Result Field Unresolved) × ResolvesFieldAt family f index r
+    × (target ≡ targeted family r)
+
+-- an entry that is no string is the same whatever strings there are
+abbrev pub IsResolved : Family → ClassFile → ℕ → Constant → RuntimeConstant → Type 0
+IsResolved family f index constant held = (strings : List (List ℕ)) → ((utf8 : ℕ) → constant ≢ constants.String utf8)
+    → IsRuntimeConstant family strings f index constant held

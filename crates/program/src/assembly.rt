@@ -1,0 +1,287 @@
+//! Puts a program together from class files (JVMS 5.4).
+
+ghost use Rattle.std.specs.Prelude.{◌≡◌, ◌⊎◌, [], ◌∷◌, ◌++◌, map, Err, IfOk, IfErr, OnOk, IsOk};
+ghost use Rattle.std.specs.List.{AllZip};
+ghost use Rattle.loading.specs.declared.fault.LinkFault.{LinkFault as Fault};
+ghost use Rattle.loading.specs.declared.fault.LinkFault.TheVariants.{Memory};
+ghost use Rattle.loading.specs.Families.{IsFamilyOf};
+ghost use Rattle.loading.specs.Files.{LinkFails, Links};
+ghost use Rattle.program.specs.declared.class.Class.{Class as ClassTables};
+ghost use Rattle.program.specs.Fields.{statics_of};
+ghost use Rattle.program.specs.steps.StaticNumbers.{AreStaticNumbersOf};
+ghost use Rattle.hierarchy.specs.Initialization.{AreOrders};
+ghost use Rattle.program.specs.Programs.{AreClasses, IsClass, IsProgram, IsImplementation, static_field};
+ghost use Rattle.hierarchy.specs.Texts.{AreDistinct};
+ghost use Rattle.hierarchy.specs.steps.GrowingTexts.{Grows};
+
+use crate::class::{Class, Methods, StaticFields};
+use crate::methods::{initializer_of, main_of, methods_of};
+use crate::program::Program;
+use crate::runtime_pool::Resolver;
+use crate::static_numbers::StaticNumbers;
+use crate::statics::statics_of;
+use classfile::ClassFile;
+use hierarchy::class_lists::ClassLists;
+use hierarchy::hierarchy::Hierarchy;
+use hierarchy::initialization::initialization_orders;
+use hierarchy::superinterfaces::superinterface_lists;
+use hierarchy::texts::Texts;
+use loading::family::Family;
+use loading::family_of;
+use loading::fault::LinkFault;
+use loading::given::GivenClass;
+use std::alloc::{AllocError, Global};
+
+/// Links class files into one program. Classes are numbered in the order of their names' bytes, whatever the order of
+/// the files (JVMS 5.3.5, 5.4).
+///
+/// # Errors
+/// The first of `Memory`, `Limit`, `Twice`, `BuiltIn`, `Parent` and `Circle` that holds; among several of one kind the
+/// one of the least name, and then of the least kind of bad parent.
+pub fn link(alloc: Global, files: Vec<ClassFile>) -> Result<Program, LinkFault>
+    // The classes of the program are those of the files.
+    ensures family { IfOk result (λ program. IsFamilyOf files.items program.family) }
+    // Its tables are those of its classes.
+    ensures program { IfOk result IsProgram }
+    // Before each class is initialized what the procedure says.
+    ensures orders { IfOk result (λ program. AreOrders program.family program.orders) }
+    // A program is answered exactly where nothing is wrong with the files, unless memory runs out.
+    ensures links { OnOk result (Links files.items) }
+    ensures only_links { Links files.items → IsOk result ⊎ (result ≡ Err Memory) }
+    // What is answered otherwise is the first fault, or that memory ran out.
+    ensures fault { IfErr result (λ x. (x ≡ Memory) ⊎ LinkFails files.items x) }
+    ensures only_fault { (x : Fault) → LinkFails files.items x → (result ≡ Err x) ⊎ (result ≡ Err Memory) }
+{
+    match family_of(alloc, files) {
+        Ok(family) => linked(alloc, family),
+        Err(fault) => Err(fault),
+    }
+}
+
+/// The program of a family, unless memory runs out.
+fn linked(alloc: Global, family: Family) -> Result<Program, LinkFault>
+    ensures family { IfOk result (λ program. program.family ≡ family) }
+    ensures program { IfOk result IsProgram }
+    ensures orders { IfOk result (λ program. AreOrders program.family program.orders) }
+    ensures fault { IfErr result (λ x. x ≡ Memory) }
+{
+    match program_of(alloc, family) {
+        Ok(program) => Ok(program),
+        Err(_) => Err(LinkFault::Memory),
+    }
+}
+
+/// The program of a family.
+fn program_of(alloc: Global, family: Family) -> Result<Program, AllocError>
+    ensures family { IfOk result (λ program. program.family ≡ family) }
+    ensures program { IfOk result IsProgram }
+    ensures orders { IfOk result (λ program. AreOrders program.family program.orders) }
+{
+    match hierarchy_of(alloc, family) {
+        Ok(hierarchy) => with_tables(alloc, hierarchy),
+        Err(error) => Err(error),
+    }
+}
+
+/// The program of a hierarchy.
+fn with_tables(alloc: Global, hierarchy: Hierarchy) -> Result<Program, AllocError>
+    ensures family { IfOk result (λ program. program.family ≡ hierarchy.family) }
+    ensures program { IfOk result IsProgram }
+    ensures orders { IfOk result (λ program. AreOrders program.family program.orders) }
+{
+    match tables_of(alloc, &hierarchy) {
+        Ok(tables) => Ok(joined(hierarchy, tables)),
+        Err(error) => {
+            drop(hierarchy);
+            Err(error)
+        }
+    }
+}
+
+/// A family with the lists of its classes' superinterfaces.
+fn hierarchy_of(alloc: Global, family: Family) -> Result<Hierarchy, AllocError>
+    ensures { IfOk result (λ hierarchy. hierarchy.family ≡ family) }
+{
+    let interfaces = superinterface_lists(alloc, &family)?;
+    Hierarchy::new(alloc, family, interfaces)
+}
+
+/// What a program has beside its classes' parents and members.
+#[derive(Drop)]
+struct Tables {
+    orders: ClassLists,
+    classes: Vec<Class>,
+    strings: Texts,
+}
+
+/// The tables of a hierarchy.
+fn tables_of(alloc: Global, hierarchy: &Hierarchy) -> Result<Tables, AllocError>
+    ensures orders { IfOk result (λ tables. AreOrders hierarchy.now.family tables.orders) }
+    ensures classes { IfOk result (λ tables. AreClasses hierarchy.now.family tables.strings tables.classes.items) }
+    ensures distinct { IfOk result (λ tables. AreDistinct tables.strings) }
+{
+    let orders = initialization_orders(alloc, hierarchy.family())?;
+    with_classes(alloc, hierarchy, orders)
+}
+
+/// The tables of a hierarchy, from its classes' orders.
+fn with_classes(
+    alloc: Global,
+    hierarchy: &Hierarchy,
+    orders: ClassLists,
+) -> Result<Tables, AllocError>
+    ensures orders { IfOk result (λ tables. tables.orders ≡ orders) }
+    ensures classes { IfOk result (λ tables. AreClasses hierarchy.now.family tables.strings tables.classes.items) }
+    ensures distinct { IfOk result (λ tables. AreDistinct tables.strings) }
+{
+    match class_tables(alloc, hierarchy) {
+        Ok((classes, strings)) => Ok(Tables {
+            orders,
+            classes,
+            strings,
+        }),
+        Err(error) => Err(error),
+    }
+}
+
+/// What the machine uses of each class, and the distinct strings.
+fn class_tables(alloc: Global, hierarchy: &Hierarchy) -> Result<(Vec<Class>, Texts), AllocError>
+    ensures classes { IfOk result (λ tables. AreClasses hierarchy.now.family tables.1 tables.0.items) }
+    ensures distinct { IfOk result (λ tables. AreDistinct tables.1) }
+{
+    let mut strings = Texts::new(alloc);
+    match classes_of(alloc, hierarchy, &mut strings) {
+        Ok(classes) => Ok((classes, strings)),
+        Err(error) => Err(error),
+    }
+}
+
+/// A program of its parts.
+fn joined(hierarchy: Hierarchy, tables: Tables) -> Program
+    requires orders { AreOrders hierarchy.family tables.orders }
+    requires classes { AreClasses hierarchy.family tables.strings tables.classes.items }
+    requires distinct { AreDistinct tables.strings }
+    ensures family { result.family ≡ hierarchy.family }
+    ensures orders { result.orders ≡ tables.orders }
+    ensures program { IsProgram result }
+{
+    Program {
+        hierarchy,
+        orders: tables.orders,
+        classes: tables.classes,
+        strings: tables.strings,
+    }
+}
+
+/// What the machine uses of each class.
+fn classes_of(
+    alloc: Global,
+    hierarchy: &Hierarchy,
+    strings: &mut Texts,
+) -> Result<Vec<Class>, AllocError>
+    ensures classes { IfOk result (λ classes. AreClasses hierarchy.now.family strings.new classes.items) }
+    ensures grows { OnOk result (Grows strings.old strings.new) }
+{
+    let numbers = static_numbers_of(alloc, hierarchy.family().classes())?;
+    let resolver = Resolver {
+        hierarchy,
+        numbers: numbers.as_slice(),
+    };
+    resolved_classes(alloc, &resolver, strings)
+}
+
+/// The same with what references are resolved with.
+fn resolved_classes(
+    alloc: Global,
+    resolver: &Resolver<'_>,
+    strings: &mut Texts,
+) -> Result<Vec<Class>, AllocError>
+    ensures classes { IfOk result (λ classes. AreClasses resolver.now.hierarchy.now.family strings.new classes.items) }
+    ensures grows { OnOk result (Grows strings.old strings.new) }
+{
+    let mut classes = Vec::new(alloc);
+    add_classes(alloc, resolver, strings, &mut classes)?;
+    Ok(classes)
+}
+
+/// Adds what the machine uses of each class.
+fn add_classes(
+    alloc: Global,
+    resolver: &Resolver<'_>,
+    strings: &mut Texts,
+    classes: &mut Vec<Class>,
+) -> Result<(), AllocError>
+    requires { classes.old.items ≡ [] }
+    ensures classes { OnOk result (AreClasses resolver.now.hierarchy.now.family strings.new classes.new.items) }
+    ensures grows { OnOk result (Grows strings.old strings.new) }
+{
+    for given in resolver.hierarchy.family().classes() {
+        add_class(alloc, resolver, strings, &given.file, classes)?;
+    }
+    Ok(())
+}
+
+/// Adds what the machine uses of one more class.
+fn add_class(
+    alloc: Global,
+    resolver: &Resolver<'_>,
+    strings: &mut Texts,
+    file: &ClassFile,
+    classes: &mut Vec<Class>,
+) -> Result<(), AllocError>
+    ensures class { OnOk result
+        ((class : ClassTables) × IsClass resolver.now.hierarchy.now.family strings.new file.now class
+        × (classes.new.items ≡ classes.old.items ++ class ∷ [])) }
+    ensures grows { OnOk result (Grows strings.old strings.new) }
+{
+    let class = class_of(alloc, resolver, strings, file)?;
+    classes.push(class)?;
+    Ok(())
+}
+
+/// By class: the numbers of its static fields.
+fn static_numbers_of(
+    alloc: Global,
+    classes: &[GivenClass],
+) -> Result<Vec<StaticNumbers>, AllocError>
+    ensures { IfOk result (λ numbers. AreStaticNumbersOf classes.now numbers.items) }
+{
+    let mut numbers = Vec::new(alloc);
+    for given in classes {
+        numbers.push(StaticNumbers::of_class(alloc, &given.file)?)?;
+    }
+    Ok(numbers)
+}
+
+/// What the machine uses of a class.
+fn class_of(
+    alloc: Global,
+    resolver: &Resolver<'_>,
+    strings: &mut Texts,
+    file: &ClassFile,
+) -> Result<Class, AllocError>
+    ensures class { IfOk result (IsClass resolver.now.hierarchy.now.family strings.new file.now) }
+    ensures grows { OnOk result (Grows strings.old strings.new) }
+{
+    let runtime_pool = resolver.runtime_pool_of(alloc, strings, file)?;
+    match members_of(alloc, file) {
+        Ok((statics, methods)) => Ok(Class {
+            statics,
+            methods,
+            initializer: initializer_of(file),
+            main: main_of(file),
+            runtime_pool,
+        }),
+        Err(error) => Err(error),
+    }
+}
+
+/// The static fields and the methods of a class.
+fn members_of(alloc: Global, file: &ClassFile) -> Result<(StaticFields, Methods), AllocError>
+    ensures statics { IfOk result (λ members. members.0 ≡ map (static_field file.now) (statics_of file.now)) }
+    ensures methods { IfOk result (λ members. AllZip (IsImplementation file.now) file.now.methods members.1) }
+{
+    let statics = statics_of(alloc, file)?;
+    let methods = methods_of(alloc, file)?;
+    Ok((statics, methods))
+}

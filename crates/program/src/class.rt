@@ -1,0 +1,95 @@
+//! What the machine uses of a given class.
+
+ghost use Rattle.std.specs.Prelude.{◌≡◌};
+
+use crate::runtime_constant::RuntimeConstant;
+use bytecode::Body;
+use std::marker::Model;
+use vm_state::classes::StaticField;
+
+/// What a method runs (JVMS 4.7.3).
+#[derive(Drop)]
+pub struct MethodCode {
+    pub max_stack: u16,
+    pub max_locals: u16,
+    /// Whether its descriptor ends with `)V` (JVMS 4.3.3).
+    pub returns_nothing: bool,
+    /// Whether its exception table has an entry.
+    pub has_handlers: bool,
+    pub body: Body,
+}
+
+/// How a method is implemented.
+#[derive(Drop)]
+pub enum Implementation {
+    Code(MethodCode),
+    Abstract,
+    /// Native or synchronized, which the machine leaves out.
+    Unsupported,
+}
+
+/// The methods of a class, in the order of its file.
+#[derive(Drop)]
+pub struct Methods {
+    pub(crate) methods: Vec<Implementation>,
+}
+
+impl Model for Methods {
+    ghost use Rattle.std.specs.Prelude.{List};
+    ghost use Rattle.program.specs.declared.class.Implementation.{Implementation as Held};
+
+    ghost Value = { List Held };
+
+    ghost view = { λ s. s.methods.items };
+}
+
+/// The static fields of a class that have values, in the order of its file; those of type float and double have none.
+#[derive(Drop)]
+pub struct StaticFields {
+    pub(crate) fields: Vec<StaticField>,
+}
+
+impl Model for StaticFields {
+    ghost use Rattle.std.specs.Prelude.{List};
+    ghost use Rattle.vm_state.specs.declared.classes.StaticField.{StaticField as Held};
+
+    ghost Value = { List Held };
+
+    ghost view = { λ s. s.fields.items };
+}
+
+impl StaticFields {
+    /// The fields as a slice.
+    pub fn as_slice(&self) -> &[StaticField]
+        ensures { result.now ≡ self.now }
+    {
+        self.fields.as_slice()
+    }
+}
+
+/// The run-time constant pool of a class (JVMS 5.1), by the indices of its constant pool.
+#[derive(Drop)]
+pub struct RuntimePool {
+    pub(crate) constants: Vec<RuntimeConstant>,
+}
+
+impl Model for RuntimePool {
+    ghost use Rattle.std.specs.Prelude.{List};
+    ghost use Rattle.program.specs.declared.runtime_constant.RuntimeConstant.{RuntimeConstant as Held};
+
+    ghost Value = { List Held };
+
+    ghost view = { λ s. s.constants.items };
+}
+
+/// A given class, as the machine uses it.
+#[derive(Drop)]
+pub struct Class {
+    pub statics: StaticFields,
+    pub methods: Methods,
+    /// Its class initialization method (JVMS 2.9), by its place among the methods.
+    pub initializer: Option<u16>,
+    /// Its own static `main` of `([Ljava/lang/String;)V`, by its place among the methods.
+    pub main: Option<u16>,
+    pub runtime_pool: RuntimePool,
+}

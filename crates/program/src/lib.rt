@@ -1,0 +1,20 @@
+//! Links class files into one program: numbers, parents, resolution, selection and the order of initialization
+//! (JVMS SE 8, chapter 5).
+#![tactic(auto)]
+
+mod assembly;
+pub mod class;
+mod lookup;
+mod methods;
+pub mod program;
+mod references;
+pub mod runtime_constant;
+mod runtime_pool;
+mod static_numbers;
+mod statics;
+
+pub use assembly::link;
+pub use built_in::method::{BuiltInMethod, Printed};
+pub use hierarchy::member::{Field, Method, Unresolved};
+pub use loading::fault::{BadParent, LinkFault};
+pub use loading::links_or_fails;

@@ -1,0 +1,58 @@
+//! What a program answers about the parents and the members of its classes (JVMS 4.1, 5.4.3; 6.5, invokevirtual).
+
+ghost use Rattle.hierarchy.specs.Initialization.{AreSuperclasses};
+ghost use Rattle.program.specs.References.{ResolvesFieldOf, ResolvesMethodOf};
+ghost use Rattle.hierarchy.specs.Resolution.{Selects};
+
+use crate::program::Program;
+use crate::references::{resolve_field_at, resolve_method_at};
+use built_in::class_id::ClassId;
+use hierarchy::member::{Field, Method, Unresolved};
+use hierarchy::superclasses::Superclasses;
+
+impl Program {
+    /// The given superclasses of a class, the nearest first. None for a number of no class.
+    pub fn supers(&self, class: u32) -> Superclasses<'_>
+        ensures { AreSuperclasses self.now.family class result }
+    {
+        self.hierarchy.superclasses(class)
+    }
+
+    /// The field that the Fieldref at an index of a class's constant pool resolves to (JVMS 5.4.3.2).
+    ///
+    /// # Errors
+    /// `NoReference` where no Fieldref stands there, or there is no class of this number; `Missing` where it names no
+    /// class or its class has no such field.
+    pub fn resolve_field(&self, class: u32, index: u16) -> Result<Field, Unresolved>
+        ensures { ResolvesFieldOf self.now.family class index result }
+    {
+        match self.hierarchy.family().file(class) {
+            Some(file) => resolve_field_at(&self.hierarchy, file, index),
+            None => Err(Unresolved::NoReference),
+        }
+    }
+
+    /// The method that the Methodref or InterfaceMethodref at an index of a class's constant pool resolves to (JVMS
+    /// 5.4.3.3, 5.4.3.4).
+    ///
+    /// # Errors
+    /// `NoReference` where neither stands there, or there is no class of this number; `Missing` where it names no class
+    /// or its class has no such method; `Incompatible` for a Methodref of an interface or an InterfaceMethodref of a
+    /// class.
+    pub fn resolve_method(&self, class: u32, index: u16) -> Result<Method, Unresolved>
+        ensures { ResolvesMethodOf self.now.family class index result }
+    {
+        match self.hierarchy.family().file(class) {
+            Some(file) => resolve_method_at(&self.hierarchy, file, index),
+            None => Err(Unresolved::NoReference),
+        }
+    }
+
+    /// The method that a call of a resolved method runs on an object of a class, if there is one. A private one is
+    /// selected itself, and any other one by its name and descriptor.
+    pub fn select(&self, class: ClassId, method: Method) -> Option<Method>
+        ensures { Selects self.now.family class method result }
+    {
+        self.hierarchy.select(class, method)
+    }
+}

@@ -1,0 +1,135 @@
+//! How the methods of a class are implemented.
+
+ghost use Rattle.std.specs.Prelude.{◌≡◌, IfOk};
+ghost use Rattle.std.specs.List.{AllZip, position_from};
+ghost use Rattle.loading.specs.Names.{text_at};
+ghost use Rattle.program.specs.Programs.{is_initializer, initializer_of, is_main, main_of, returns_nothing};
+ghost use Rattle.program.specs.Programs.{is_abstract_method, is_left_out};
+ghost use Rattle.program.specs.Programs.{IsMethodCode, IsImplementation};
+
+use crate::class::{Implementation, MethodCode, Methods};
+use bytecode::decode;
+use classfile::flags::{ABSTRACT, NATIVE, STATIC, SYNCHRONIZED, has_flag};
+use classfile::{ClassFile, Member};
+use loading::names::text_at;
+use std::alloc::{AllocError, Global};
+
+/// Whether it is the class initialization method (JVMS 2.9): static, of that name, without parameters and result, and
+/// with code.
+fn is_initializer(file: &ClassFile, method: &Member) -> bool
+    ensures { result ≡ is_initializer file.now method.now }
+{
+    has_flag(method.access_flags, STATIC)
+        && method.code().is_some()
+        && text_at(file, method.name) == b"<clinit>".as_slice()
+        && text_at(file, method.descriptor) == b"()V".as_slice()
+}
+
+/// Whether it is the `main` that a thread may begin with.
+fn is_main(file: &ClassFile, method: &Member) -> bool
+    ensures { result ≡ is_main file.now method.now }
+{
+    has_flag(method.access_flags, STATIC)
+        && text_at(file, method.name) == b"main".as_slice()
+        && text_at(file, method.descriptor) == b"([Ljava/lang/String;)V".as_slice()
+}
+
+/// The place of the class initialization method of a class.
+pub(crate) fn initializer_of(file: &ClassFile) -> Option<u16>
+    ensures { result ≡ initializer_of file.now }
+{
+    let methods = file.methods();
+    for (place, method) in methods.iter().enumerate() {
+        if is_initializer(file, method) {
+            return Some(place as u16);
+        }
+    }
+    None
+}
+
+/// The place of the `main` of a class.
+pub(crate) fn main_of(file: &ClassFile) -> Option<u16>
+    ensures { result ≡ main_of file.now }
+{
+    let methods = file.methods();
+    for (place, method) in methods.iter().enumerate() {
+        if is_main(file, method) {
+            return Some(place as u16);
+        }
+    }
+    None
+}
+
+/// Whether a descriptor ends with `)V`.
+fn returns_nothing(descriptor: &[u8]) -> bool
+    ensures { result ≡ returns_nothing descriptor.now }
+{
+    descriptor.ends_with(b")V")
+}
+
+fn is_abstract(file: &ClassFile, method: &Member) -> bool
+    ensures { result ≡ is_abstract_method file.now method.now }
+{
+    !is_initializer(file, method) && has_flag(method.access_flags, ABSTRACT)
+}
+
+/// Whether it is native or synchronized. The flags of a class initialization method say nothing (JVMS 4.6).
+fn is_left_out(file: &ClassFile, method: &Member) -> bool
+    ensures { result ≡ is_left_out file.now method.now }
+{
+    let flags = method.access_flags;
+    !is_initializer(file, method)
+        && !has_flag(flags, ABSTRACT)
+        && (has_flag(flags, NATIVE) || has_flag(flags, SYNCHRONIZED))
+}
+
+fn code_of(
+    alloc: Global,
+    file: &ClassFile,
+    method: &Member,
+    attribute: &classfile::Code,
+) -> Result<MethodCode, AllocError>
+    ensures { IfOk result (IsMethodCode file.now method.now attribute.now) }
+{
+    let body = decode(alloc, attribute)?;
+    Ok(MethodCode {
+        max_stack: attribute.max_stack,
+        max_locals: attribute.max_locals,
+        returns_nothing: returns_nothing(text_at(file, method.descriptor)),
+        has_handlers: !attribute.exceptions.as_slice().is_empty(),
+        body,
+    })
+}
+
+fn implementation_of(
+    alloc: Global,
+    file: &ClassFile,
+    method: &Member,
+) -> Result<Implementation, AllocError>
+    ensures { IfOk result (IsImplementation file.now method.now) }
+{
+    if is_abstract(file, method) {
+        return Ok(Implementation::Abstract);
+    }
+    if is_left_out(file, method) {
+        return Ok(Implementation::Unsupported);
+    }
+    let Some(code) = method.code() else {
+        return Ok(Implementation::Abstract);
+    };
+    Ok(Implementation::Code(code_of(alloc, file, method, code)?))
+}
+
+/// How the methods of a class are implemented, in the order of its file.
+pub(crate) fn methods_of(alloc: Global, file: &ClassFile) -> Result<Methods, AllocError>
+    ensures { IfOk result (AllZip (IsImplementation file.now) file.now.methods) }
+{
+    let mut implementations = Vec::new(alloc);
+    let methods = file.methods();
+    for method in methods {
+        implementations.push(implementation_of(alloc, file, method)?)?;
+    }
+    Ok(Methods {
+        methods: implementations,
+    })
+}

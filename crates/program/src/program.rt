@@ -1,0 +1,219 @@
+//! The linked program.
+
+ghost use Rattle.std.specs.Prelude.{◌≡◌, ◌≢◌, ◌<◌, ℕ, [], length, Option, Some, IfOk, MatchOption, option_copied};
+ghost use Rattle.classfile.specs.Units.{units_text};
+ghost use Rattle.loading.specs.Families.{name_in};
+ghost use Rattle.hierarchy.specs.Initialization.{IsInitializationOrder};
+ghost use Rattle.program.specs.Programs.{IsProgram};
+ghost use Rattle.program.specs.Tables.{Tables, instruction_at, implementation_at, constant_at, statics_in, order_in};
+ghost use Rattle.program.specs.Tables.{initializer_in, main_in};
+
+use crate::class::{Class, Implementation};
+use crate::runtime_constant::RuntimeConstant;
+use built_in::class_id::{ArrayType, ClassId, ElementType};
+use bytecode::Instruction;
+use classfile::{ClassName, printed};
+use hierarchy::class_lists::ClassLists;
+use hierarchy::hierarchy::Hierarchy;
+use hierarchy::texts::Texts;
+use loading::names::name_of;
+use std::alloc::{AllocError, Global};
+use std::marker::Model;
+use vm_state::classes::StaticField;
+
+/// Given classes by their numbers, which are in the order of their names' bytes, with their members and parents by
+/// number.
+#[derive(Drop)]
+pub struct Program {
+    pub(crate) hierarchy: Hierarchy,
+    pub(crate) orders: ClassLists,
+    pub(crate) classes: Vec<Class>,
+    /// The distinct strings, as class files spell them.
+    pub(crate) strings: Texts,
+}
+
+impl Model for Program {
+    ghost use Rattle.program.specs.Programs.{IsProgram};
+    ghost use Rattle.program.specs.Tables.{Tables};
+
+    ghost Value = { Tables };
+
+    ghost view = { λ s. record {
+      family = s.hierarchy.family;
+      orders = s.orders;
+      classes = s.classes.items;
+      strings =
+          s.strings;
+    } };
+
+    ghost invariant = { λ s. IsProgram
+        (record { family = s.hierarchy.family; orders = s.orders; classes = s.classes.items; strings = s.strings }) };
+}
+
+impl Program {
+    /// The given classes, as the machine uses them.
+    pub fn classes(&self) -> &[Class]
+        ensures value { result.now ≡ self.now.classes }
+        // What holds of every linked program.
+        ensures fits { IsProgram self.now }
+    {
+        self.classes.as_slice()
+    }
+
+    /// How many classes were given.
+    pub fn class_count(&self) -> usize
+        ensures { result ≡ length self.now.classes }
+    {
+        self.classes.len()
+    }
+
+    /// How a method of a class is implemented.
+    #[inline(always)]
+    pub fn implementation(&self, class: u32, method: u16) -> Option<&Implementation>
+        ensures { option_copied result ≡ implementation_at self.now class method }
+    {
+        let class = self.classes.get(class as usize)?;
+        class.methods.methods.get(usize::from(method))
+    }
+
+    /// The instruction at a place of a method's body.
+    #[tactic(auto, unfolding(crate::specs::Tables::instruction_at))]
+    #[inline(always)]
+    pub fn instruction(&self, class: u32, method: u16, place: u32) -> Option<&Instruction>
+        ensures { option_copied result ≡ instruction_at self.now class method place }
+    {
+        match self.implementation(class, method)? {
+            Implementation::Code(code) => code.body.instruction(place),
+            _ => None,
+        }
+    }
+
+    /// The constant at an index of a class's run-time constant pool.
+    pub fn constant(&self, class: u32, index: u16) -> Option<RuntimeConstant>
+        ensures { result ≡ constant_at self.now class index }
+    {
+        let class = self.classes.get(class as usize)?;
+        class
+            .runtime_pool
+            .constants
+            .get(usize::from(index))
+            .copied()
+    }
+
+    /// The static fields of a class that have values, in order; none of a class that is not there.
+    pub fn statics(&self, class: u32) -> &[StaticField]
+        ensures { result.now ≡ statics_in self.now class }
+    {
+        match self.classes.get(class as usize) {
+            Some(class) => class.statics.fields.as_slice(),
+            None => &[],
+        }
+    }
+
+    /// What is initialized before a class, in order (JVMS 5.5, step 7).
+    pub fn init_order(&self, class: u32) -> &[u32]
+        ensures value { result.now ≡ order_in self.now class }
+        ensures order { class < length self.now.family → IsInitializationOrder self.now.family class result.now }
+    {
+        self.orders.of_class(class)
+    }
+
+    /// The class initialization method of a class.
+    pub fn initializer(&self, class: u32) -> Option<u16>
+        ensures { result ≡ initializer_in self.now class }
+    {
+        self.classes.get(class as usize)?.initializer
+    }
+
+    /// The `main` that a thread calls which begins with a class.
+    pub fn main(&self, class: u32) -> Option<u16>
+        ensures { result ≡ main_in self.now class }
+    {
+        self.classes.get(class as usize)?.main
+    }
+
+    /// The number of the given class of a name, if there is one.
+    ///
+    /// # Errors
+    /// Where memory runs out.
+    pub fn number_of(&self, alloc: Global, name: &ClassName) -> Result<Option<u32>, AllocError>
+        ensures { IfOk result (λ number. MatchOption number
+            ((c : ℕ) → name_in self.now.family c ≢ Some (units_text name.now))
+            (λ c. name_in self.now.family c ≡ Some (units_text name.now))) }
+    {
+        let bytes = name.modified_utf8(alloc)?;
+        Ok(self.hierarchy.family().number_of(bytes.bytes()))
+    }
+
+    /// The name of a class with slashes, as messages print it. An array class's name is its descriptor (JVMS 4.4.1).
+    ///
+    /// # Errors
+    /// Where memory runs out.
+    pub fn class_text(&self, alloc: Global, class: ClassId) -> Result<String, AllocError> {
+        match class {
+            ClassId::Given(number) => self.given_text(alloc, number),
+            ClassId::BuiltIn(class) => String::from_str(alloc, class.name()),
+            ClassId::Array(array) => self.array_text(alloc, array),
+        }
+    }
+
+    fn given_text(&self, alloc: Global, number: u32) -> Result<String, AllocError> {
+        match self.hierarchy.family().file(number) {
+            Some(file) => printed(alloc, name_of(file)),
+            None => Ok(String::new(alloc)),
+        }
+    }
+
+    fn array_text(&self, alloc: Global, array: ArrayType) -> Result<String, AllocError> {
+        let mut text = String::new(alloc);
+        self.push_array(alloc, array, &mut text)?;
+        Ok(text)
+    }
+
+    /// Adds the descriptor of an array class.
+    fn push_array(
+        &self,
+        alloc: Global,
+        array: ArrayType,
+        text: &mut String,
+    ) -> Result<(), AllocError> {
+        for _ in 0..array.dimensions {
+            text.push_str("[")?;
+        }
+        self.push_element(alloc, array.element, text)
+    }
+
+    /// Adds the descriptor of an array's elements (JVMS 4.3.2).
+    fn push_element(
+        &self,
+        alloc: Global,
+        element: ElementType,
+        text: &mut String,
+    ) -> Result<(), AllocError> {
+        match element {
+            ElementType::Boolean => text.push_str("Z"),
+            ElementType::Byte => text.push_str("B"),
+            ElementType::Char => text.push_str("C"),
+            ElementType::Short => text.push_str("S"),
+            ElementType::Int => text.push_str("I"),
+            ElementType::Long => text.push_str("J"),
+            ElementType::Float => text.push_str("F"),
+            ElementType::Double => text.push_str("D"),
+            ElementType::Given(number) => self.push_given(alloc, number, text),
+            ElementType::BuiltIn(class) => push_class(class.name(), text),
+        }
+    }
+
+    /// Adds the descriptor of a given class.
+    fn push_given(&self, alloc: Global, number: u32, text: &mut String) -> Result<(), AllocError> {
+        let name = self.given_text(alloc, number)?;
+        push_class(&name, text)
+    }
+}
+
+/// Adds the descriptor of the class of a name.
+fn push_class(name: &str, text: &mut String) -> Result<(), AllocError> {
+    text.push_str("L")?;
+    text.push_str(name)?;
+    text.push_str(";")
+}

@@ -1,0 +1,229 @@
+//! The run-time constant pool of a class (JVMS 5.1).
+
+ghost use Rattle.std.specs.Prelude.{◌≡◌, ◌<◌, [], ◌∷◌, ◌++◌, length, Some, IfOk, OnOk, if◌then◌else◌};
+ghost use Rattle.loading.specs.ClassIds.{StandsFor};
+ghost use Rattle.program.specs.RuntimePool.{int_of_bits, long_of_halves};
+ghost use Rattle.program.specs.Fields.{static_number_of, static_of, final_of, target_in, target_of};
+ghost use Rattle.program.specs.steps.StaticNumbers.{AreStaticNumbersOf, static_number_in};
+ghost use Rattle.program.specs.declared.runtime_constant.RuntimeConstant.{RuntimeConstant as Held};
+ghost use Rattle.program.specs.declared.runtime_constant.FieldTarget.TheVariants as targets;
+ghost use Rattle.loading.specs.Families.{file_in};
+ghost use Rattle.program.specs.RuntimePool.{IsRuntimeConstant, IsRuntimePool};
+ghost use Rattle.program.specs.steps.ResolvedConstants.{IsTargetAt, IsResolved};
+ghost use Rattle.loading.specs.Names.{class_name_at};
+ghost use Rattle.hierarchy.specs.steps.GrowingTexts.{Grows};
+
+use crate::class::RuntimePool;
+use crate::references::{descriptor_at, resolve_field_at, resolve_method_at};
+use crate::runtime_constant::{FieldTarget, RuntimeConstant};
+use crate::static_numbers::StaticNumbers;
+use crate::statics::field_kind;
+use built_in::class_id::ClassId;
+use classfile::flags::{FINAL, STATIC, has_flag};
+use classfile::{ClassFile, Constant, Member};
+use hierarchy::hierarchy::Hierarchy;
+use hierarchy::member::{Field, Unresolved};
+use hierarchy::texts::Texts;
+use loading::class_named;
+use loading::names::{class_name_at, text_at};
+use std::alloc::{AllocError, Global};
+
+/// What the references of a class are resolved with.
+#[derive(Drop)]
+pub(crate) struct Resolver<'a> {
+    pub(crate) hierarchy: &'a Hierarchy,
+    /// By class: the numbers of its static fields.
+    pub(crate) numbers: &'a [StaticNumbers],
+    pub(crate) ghost fits: { AreStaticNumbersOf hierarchy.now.family numbers.now },
+}
+
+/// The int of these bits (JVMS 4.4.4).
+pub(crate) fn int_of_bits(bits: u32) -> i32
+    ensures { result ≡ int_of_bits bits }
+{
+    i32::from_be_bytes(bits.to_be_bytes())
+}
+
+/// The long of these halves (JVMS 4.4.5).
+pub(crate) fn long_of_halves(high: u32, low: u32) -> i64
+    ensures { result ≡ long_of_halves high low }
+{
+    let bits = u64::from(high) * 4_294_967_296 + u64::from(low);
+    i64::from_be_bytes(bits.to_be_bytes())
+}
+
+/// A field of a class file as instructions use it, from its number.
+fn target_in(file: &ClassFile, class: u32, index: u16, number: u32) -> FieldTarget
+    requires { index < length file.now.fields → number ≡ static_number_of file.now index }
+    ensures { result ≡ target_in (Some file.now) class index }
+{
+    match file.fields().get(usize::from(index)) {
+        Some(field) => target_of_field(field, class, index, number),
+        None => FieldTarget::Instance { class, index },
+    }
+}
+
+/// A field as instructions use it, from its number.
+fn target_of_field(field: &Member, class: u32, index: u16, number: u32) -> FieldTarget
+    ensures { result ≡ (if static_of (Some field.now) then targets.Static class number (final_of (Some field.now))
+        else targets.Instance class index) }
+{
+    if has_flag(field.access_flags, STATIC) {
+        FieldTarget::Static {
+            class,
+            number,
+            is_final: has_flag(field.access_flags, FINAL),
+        }
+    } else {
+        FieldTarget::Instance { class, index }
+    }
+}
+
+impl<'a> Resolver<'a> {
+    /// A field as instructions use it.
+    fn target_of(&self, field: Field) -> FieldTarget
+        ensures { result ≡ target_of self.now.hierarchy.now.family field }
+    {
+        match field {
+            Field::Given { class, index } => self.given_target(class, index),
+            Field::Out => FieldTarget::Out,
+        }
+    }
+
+    /// A field of a given class as instructions use it.
+    fn given_target(&self, class: u32, index: u16) -> FieldTarget
+        ensures { result ≡ target_in (file_in self.now.hierarchy.now.family class) class index }
+    {
+        match self.hierarchy.family().file(class) {
+            Some(file) => target_in(file, class, index, self.number(class, index)),
+            None => FieldTarget::Instance { class, index },
+        }
+    }
+
+    /// The number of a static field.
+    fn number(&self, class: u32, index: u16) -> u32
+        ensures { result ≡ static_number_in self.now.numbers.now class index }
+    {
+        match self.numbers.get(class as usize) {
+            Some(numbers) => numbers.number(index),
+            None => 0,
+        }
+    }
+
+    /// A field that a reference resolves to, as instructions use it.
+    fn field_at(&self, file: &ClassFile, index: u16) -> Result<FieldTarget, Unresolved>
+        ensures { IsTargetAt self.now.hierarchy.now.family file.now index result }
+    {
+        match resolve_field_at(self.hierarchy, file, index) {
+            Ok(field) => Ok(self.target_of(field)),
+            Err(fault) => Err(fault),
+        }
+    }
+
+    /// What an entry of a class file's constant pool stands for, other than a string.
+    fn resolved(&self, file: &ClassFile, index: u16, constant: &Constant) -> RuntimeConstant
+        ensures { IsResolved self.now.hierarchy.now.family file.now index constant.now result }
+    {
+        match constant {
+            Constant::Integer { bits } => RuntimeConstant::Int(int_of_bits(*bits)),
+            Constant::Long { high, low } => RuntimeConstant::Long(long_of_halves(*high, *low)),
+            Constant::Float { .. } => RuntimeConstant::Float,
+            Constant::Double { .. } => RuntimeConstant::Double,
+            Constant::Class { .. } => RuntimeConstant::Class(self.class_at(file, index)),
+            Constant::Fieldref { name_and_type, .. } => RuntimeConstant::Field(
+                field_kind(descriptor_at(file, *name_and_type)),
+                self.field_at(file, index),
+            ),
+            Constant::Methodref { .. } => {
+                RuntimeConstant::Method(resolve_method_at(self.hierarchy, file, index))
+            }
+            Constant::InterfaceMethodref { .. } => {
+                RuntimeConstant::InterfaceMethod(resolve_method_at(self.hierarchy, file, index))
+            }
+            Constant::MethodHandle { .. } => RuntimeConstant::MethodHandle,
+            Constant::MethodType { .. } => RuntimeConstant::MethodType,
+            _ => RuntimeConstant::Other,
+        }
+    }
+
+    /// The class that the Class at an index names.
+    fn class_at(&self, file: &ClassFile, index: u16) -> Option<ClassId>
+        ensures { StandsFor self.now.hierarchy.now.family (class_name_at file.now index) result }
+    {
+        class_named(self.hierarchy.family(), class_name_at(file, index))
+    }
+
+    /// What an entry of a class file's constant pool stands for. A string gets a number if it had none.
+    fn runtime_constant_of(
+        &self,
+        alloc: Global,
+        strings: &mut Texts,
+        file: &ClassFile,
+        index: u16,
+        constant: &Constant,
+    ) -> Result<RuntimeConstant, AllocError>
+        ensures held { IfOk result
+            (IsRuntimeConstant self.now.hierarchy.now.family strings.new file.now index constant.now) }
+        ensures grows { OnOk result (Grows strings.old strings.new) }
+    {
+        let Constant::String { text } = constant else {
+            return Ok(self.resolved(file, index, constant));
+        };
+        let number = strings.add(alloc, text_at(file, *text))?;
+        Ok(RuntimeConstant::String(number))
+    }
+
+    /// The run-time constant pool of a class.
+    pub(crate) fn runtime_pool_of(
+        &self,
+        alloc: Global,
+        strings: &mut Texts,
+        file: &ClassFile,
+    ) -> Result<RuntimePool, AllocError>
+        ensures pool { IfOk result (IsRuntimePool self.now.hierarchy.now.family strings.new file.now) }
+        ensures grows { OnOk result (Grows strings.old strings.new) }
+    {
+        let mut pool = Vec::with_capacity(alloc, file.constants().len())?;
+        self.add_constants(alloc, strings, file, &mut pool)?;
+        Ok(RuntimePool { constants: pool })
+    }
+
+    /// Adds a constant for each entry of a class file's constant pool.
+    fn add_constants(
+        &self,
+        alloc: Global,
+        strings: &mut Texts,
+        file: &ClassFile,
+        pool: &mut Vec<RuntimeConstant>,
+    ) -> Result<(), AllocError>
+        requires { pool.old.items ≡ [] }
+        ensures pool { OnOk result (IsRuntimePool self.now.hierarchy.now.family strings.new file.now pool.new.items) }
+        ensures grows { OnOk result (Grows strings.old strings.new) }
+    {
+        let constants = file.constants();
+        for (index, constant) in constants.iter().enumerate() {
+            self.add_constant(alloc, strings, file, index as u16, constant, pool)?;
+        }
+        Ok(())
+    }
+
+    /// Adds the constant of one more entry.
+    fn add_constant(
+        &self,
+        alloc: Global,
+        strings: &mut Texts,
+        file: &ClassFile,
+        index: u16,
+        constant: &Constant,
+        pool: &mut Vec<RuntimeConstant>,
+    ) -> Result<(), AllocError>
+        ensures held { OnOk result ((held : Held)
+            × IsRuntimeConstant self.now.hierarchy.now.family strings.new file.now index constant.now held
+            × (pool.new.items ≡ pool.old.items ++ held ∷ [])) }
+        ensures grows { OnOk result (Grows strings.old strings.new) }
+    {
+        let held = self.runtime_constant_of(alloc, strings, file, index, constant)?;
+        pool.push(held)?;
+        Ok(())
+    }
+}

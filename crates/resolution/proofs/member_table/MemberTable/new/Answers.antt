@@ -1,5 +1,0 @@
-use Rattle.resolution.proofs.Tables.{table_of_none}
-use Rattle.resolution.proofs.member_table.MemberTable.new.Goals as goal
-
-pub returns : goal.returns
-returns c = table_of_none _ c.new.ensures c.new-2.ensures c.new-3.ensures

@@ -1,0 +1,151 @@
+-- What a change of some objects keeps: whose names they hold, and their classes.
+use Rattle.std.proofs.Common.{◌≡◌, ℕ, zero, suc, inl, inr, List, [], ◌∷◌, Option, Some, None, ◌==◌, refl, eqb-true}
+use Rattle.std.proofs.Common.{option_map, option_and_then, slice_set}
+use Rattle.std.proofs.Common.{true, ap, length, pos}
+use Rattle.std.proofs.lemmas.List.{length-set}
+use Rattle.vm_state.specs.declared.value.Value.{Value}
+use Rattle.vm_state.specs.declared.value.Value.TheVariants.{Null, Int}
+use Rattle.built_in.specs.declared.class_id.ClassId.{ClassId}
+use Rattle.vm_state.specs.declared.object.Object.{Object}
+use Rattle.vm_state.specs.declared.object.Monitor.{Monitor}
+use Rattle.vm_state.specs.SharedState.{Pool, with_object, with_slot, with_new, object_with_slot, class_at, slots_at}
+use Rattle.semantics.specs.Rows.{Part, Slots, Length, Named, named, part_of, part_at, object_with_monitor, with_monitor}
+use Rattle.semantics.specs.Quiet.{is_open}
+use Rattle.semantics.specs.Lawful.{Names, Knows, KnowsAll, KnowsSlots}
+use Rattle.vm_state.proofs.ListLemmas.{tested}
+
+-- ---- names
+
+-- the objects hold known names alone
+abbrev pub Holds : Names → Pool → Type 0
+Holds known p = (n : ℕ) → KnowsSlots known (slots_at p n)
+
+abbrev slots_of : Option Object → Option (List Value)
+slots_of o = option_map (λ (x : Object). x.slots) o
+
+abbrev class_of : Option Object → Option ClassId
+class_of o = option_map (λ (x : Object). x.class) o
+
+with_object-holds : (known : Names) (p : Pool) (n : ℕ) (o : Option Object) → Holds known p
+    → KnowsSlots known (slots_of o) →
+    Holds known (with_object p n o)
+with_object-holds known p n o h ho k = elim (tested (k == n)) [
+  | inl e ↦ rw e ho
+  | inr e ↦ rw e (h k)
+]
+
+set-knows : (known : Names) (vs : List Value) (i : ℕ) (v : Value) → KnowsAll known vs → Knows known v
+    → KnowsAll known (slice_set vs i v)
+set-knows known [] i v h kv = tt
+set-knows known (u ∷ us) zero v h kv = (kv, h.1)
+set-knows known (u ∷ us) (suc i) v h kv = (h.0, set-knows known us i v h.1 kv)
+
+pub with_slot-holds : (known : Names) (p : Pool) (n i : ℕ) (v : Value) → Holds known p → Knows known v
+    → Holds known (with_slot p n i v)
+with_slot-holds known p n i v h kv = with_object-holds known p n _ h (slots (p.at n) (h n))
+  where
+    slots : (o : Option Object) → KnowsSlots known (slots_of o)
+        → KnowsSlots known (slots_of (option_map (object_with_slot i v) o))
+    slots None k = tt
+    slots (Some o) k = set-knows known o.slots i v k kv
+
+pub with_monitor-holds : (known : Names) (p : Pool) (n : ℕ) (m : Monitor) → Holds known p
+    → Holds known (with_monitor p n m)
+with_monitor-holds known p n m h = with_object-holds known p n _ h (slots (p.at n) (h n))
+  where
+    slots : (o : Option Object) → KnowsSlots known (slots_of o)
+        → KnowsSlots known (slots_of (option_map (object_with_monitor m) o))
+    slots None k = tt
+    slots (Some o) k = k
+
+pub with_new-holds : (known : Names) (p : Pool) (class : ClassId) (slots : List Value) → Holds known p
+    → KnowsAll known slots →
+    Holds known (with_new p class slots)
+with_new-holds known p class slots h ks n = elim (tested (n == p.count)) [
+  | inl e ↦ rw e ks
+  | inr e ↦ rw e (h n)
+]
+
+-- ---- what never changes of an object: its class, and how many slots it has
+
+abbrev shape_of : Option Object → Option (ClassId × ℕ)
+shape_of o = option_map (λ (x : Object). (x.class, length x.slots)) o
+
+abbrev pub shape_at : Pool → ℕ → Option (ClassId × ℕ)
+shape_at p n = shape_of (p.at n)
+
+with_object-shape : (p : Pool) (n : ℕ) (o : Option Object) → shape_of o ≡ shape_at p n → (k : ℕ) →
+    shape_at (with_object p n o) k ≡ shape_at p k
+with_object-shape p n o h k = elim (tested (k == n)) [
+  | inl e ↦ rw (e, eqb-true k n e) h
+  | inr e ↦ rw e
+]
+
+pub with_slot-shape : (p : Pool) (n i : ℕ) (v : Value) (k : ℕ) → shape_at (with_slot p n i v) k ≡ shape_at p k
+with_slot-shape p n i v k = with_object-shape p n _ (same (p.at n)) k
+  where
+    same : (o : Option Object) → shape_of (option_map (object_with_slot i v) o) ≡ shape_of o
+    same None = refl
+    same (Some o) = rw (length-set o.slots i v) refl
+
+pub with_monitor-shape : (p : Pool) (n : ℕ) (m : Monitor) (k : ℕ) → shape_at (with_monitor p n m) k ≡ shape_at p k
+with_monitor-shape p n m k = with_object-shape p n _ (same (p.at n)) k
+  where
+    same : (o : Option Object) → shape_of (option_map (object_with_monitor m) o) ≡ shape_of o
+    same None = refl
+    same (Some o) = refl
+
+pub shape-class : (p q : Pool) (n : ℕ) → shape_at p n ≡ shape_at q n → class_at p n ≡ class_at q n
+shape-class p q n same = by_objects (p.at n) (q.at n) same
+  where
+    by_objects : (o r : Option Object) → shape_of o ≡ shape_of r → class_of o ≡ class_of r
+    by_objects None None is = refl
+    by_objects None (Some r) is = cc
+    by_objects (Some o) None is = cc
+    by_objects (Some o) (Some r) is = ap (option_map (λ (s : ClassId × ℕ). s.0)) is
+
+pub shape-part : (part : Part) (p q : Pool) (n : ℕ) → is_open part ≡ true → shape_at p n ≡ shape_at q n
+    → part_at part p n ≡ part_at part q n
+shape-part Slots p q n open_part same = cc
+shape-part Named p q n open_part same = cc
+shape-part Length p q n open_part same = by_objects (p.at n) (q.at n) same
+  where
+    by_objects : (o r : Option Object) → shape_of o ≡ shape_of r →
+        option_and_then (part_of Length) (slots_of o) ≡ option_and_then (part_of Length) (slots_of r)
+    by_objects None None is = refl
+    by_objects None (Some r) is = cc
+    by_objects (Some o) None is = cc
+    by_objects (Some o) (Some r) is = ap (option_map (λ (s : ClassId × ℕ). Int (pos s.1) ∷ [])) is
+
+-- ---- parts of objects
+
+named-known : (known : Names) (name ordinal : Value) → Knows known name → Knows known ordinal
+    → KnowsSlots known (named name ordinal)
+named-known known Null ordinal k h = tt
+named-known known name ordinal k h = (k, (h, tt))
+
+part_of-known : (known : Names) (part : Part) (vs : List Value) → KnowsAll known vs → KnowsSlots known (part_of part vs)
+part_of-known known Slots vs k = k
+part_of-known known Length vs k = (tt, tt)
+part_of-known known Named [] k = tt
+part_of-known known Named (v ∷ []) k = tt
+part_of-known known Named (name ∷ ordinal ∷ vs) k = named-known known name ordinal k.0 k.1.0
+
+pub part_at-holds : (known : Names) (part : Part) (p : Pool) (n : ℕ) → Holds known p
+    → KnowsSlots known (part_at part p n)
+part_at-holds known part p n h = by_slots (slots_at p n) (h n)
+  where
+    by_slots : (o : Option (List Value)) → KnowsSlots known o → KnowsSlots known (option_and_then (part_of part) o)
+    by_slots None k = tt
+    by_slots (Some vs) k = part_of-known known part vs k
+
+-- an open part holds no names
+pub open-known : (known : Names) (part : Part) (p : Pool) (n : ℕ) → is_open part ≡ true
+    → KnowsSlots known (part_at part p n)
+open-known known Slots p n open_part = cc
+open-known known Named p n open_part = cc
+open-known known Length p n open_part = by_slots (slots_at p n)
+  where
+    by_slots : (o : Option (List Value)) → KnowsSlots known (option_and_then (part_of Length) o)
+    by_slots None = tt
+    by_slots (Some vs) = (tt, tt)

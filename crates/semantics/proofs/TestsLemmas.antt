@@ -1,0 +1,25 @@
+-- Small facts on tests and options.
+use Rattle.std.proofs.Common.{◌≡◌, Bool, true, false, ◌&&◌, Some, refl}
+use Rattle.vm_state.specs.declared.value.Maker.{Maker}
+use Rattle.vm_state.specs.declared.value.Maker.TheVariants.{Class, Thread}
+use Rattle.std.proofs.Common.{ap, eqb-true, eq-eqb}
+use Rattle.vm_state.specs.SharedState.{same_maker}
+
+-- both parts of a conjunction
+pub both_true : (a b : Bool) → (a && b) ≡ true → (a ≡ true) × (b ≡ true)
+both_true true true h = (refl, refl)
+both_true true false h = cc
+both_true false b h = cc
+
+pub from_some : {A : Type 0} {a b : A} → Some a ≡ Some b → a ≡ b
+from_some h = cc
+
+pub same_maker-refl : (m : Maker) → same_maker m m ≡ true
+same_maker-refl (Class c) = eq-eqb c c refl
+same_maker-refl (Thread t) = eq-eqb t t refl
+
+pub same_maker-true : (m n : Maker) → same_maker m n ≡ true → m ≡ n
+same_maker-true (Class c) (Class d) h = ap Class (eqb-true c d h)
+same_maker-true (Thread t) (Thread u) h = ap Thread (eqb-true t u h)
+same_maker-true (Class c) (Thread t) h = cc
+same_maker-true (Thread t) (Class c) h = cc

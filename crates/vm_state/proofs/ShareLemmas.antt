@@ -1,0 +1,129 @@
+-- What a change of the classes' table is of the shared state.
+use Rattle.std.proofs.Common.{◌≡◌, ℕ, Bool, true, false, List, refl, ap, ◌∙◌, ◌==◌, eqb-true, if◌then◌else◌, inl, inr}
+use Rattle.std.proofs.Common.{Result, Ok, Err, OnErr}
+use Rattle.std.proofs.Math.Path.{fun_ext}
+use Rattle.vm_state.specs.declared.value.Value.{Value}
+use Rattle.vm_state.specs.declared.text.Line.{Line}
+use Rattle.vm_state.specs.SharedTables.{SharedTables}
+use Rattle.vm_state.specs.declared.classes.ClassArea.{ClassArea}
+use Rattle.vm_state.specs.declared.classes.ClassState.{ClassState}
+use Rattle.vm_state.specs.declared.classes.ClassState.TheVariants.{InProgress}
+use Rattle.vm_state.specs.declared.classes.StaticField.{StaticField}
+use Rattle.vm_state.specs.Statics.{states_of, fields_of, with_state, with_fields, with_value, with_constants}
+use Rattle.vm_state.specs.SharedState.{Pool, Region, SharedState, pool_of, set_pool, set_region, set_state}
+use Rattle.vm_state.specs.SharedState.{with_field, with_new}
+use Rattle.vm_state.specs.Shares.{shared_of, begun}
+use Rattle.vm_state.specs.Pools.{pool_in, with_pool}
+use Rattle.vm_state.specs.Objects.{ObjectRow}
+use Rattle.built_in.specs.declared.class_id.ClassId.{ClassId}
+use Rattle.vm_state.specs.declared.value.Maker.TheVariants.{Class, Thread}
+use Rattle.vm_state.proofs.ListLemmas.{tested}
+
+pub shared_of-kept : (s : SharedTables) (b : List ClassArea) → states_of b ≡ states_of s.classes →
+    fields_of b ≡ fields_of s.classes →
+    (p : List Line) → shared_of (record s { classes = b }) p ≡ shared_of s p
+unfolding shared_of
+shared_of-kept s b states fields p = rw (states, fields) refl
+
+pub shared_of-state : (s : SharedTables) (b : List ClassArea) (c : ℕ) (state : ClassState) →
+    states_of b ≡ with_state (states_of s.classes) c state → fields_of b ≡ fields_of s.classes →
+    (p : List Line) → shared_of (record s { classes = b }) p ≡ set_state (shared_of s p) c state
+unfolding shared_of
+shared_of-state s b c state states fields p = rw (states, fields) refl
+
+-- one class's fields changed
+abbrev region : (ℕ → Value) → Pool → Region
+region fields pool = record { fields = fields; pool = pool }
+
+region_with : (fields : ℕ → ℕ → Value) (pools : ℕ → Pool) (c : ℕ) (fs : ℕ → Value) (d : ℕ) →
+    region (with_fields fields c fs d) (pools d) ≡ (if d == c then region fs (pools c) else region (fields d) (pools d))
+region_with fields pools c fs d = elim (tested (d == c)) [
+  | inl e ↦ let same : d ≡ c = eqb-true d c e in rw e (ap (λ k. region fs (pools k)) same)
+  | inr e ↦ rw e refl
+]
+
+regions_with : (fields : ℕ → ℕ → Value) (pools : ℕ → Pool) (c : ℕ) (fs : ℕ → Value) (b : ℕ → ℕ → Value) →
+    b ≡ with_fields fields c fs →
+    let before : ℕ → Region = λ d. region (b d) (pools d) in
+    let after : ℕ → Region = λ d. if d == c then region fs (pools c) else region (fields d) (pools d) in before ≡ after
+regions_with fields pools c fs b is =
+    fun_ext (λ d. ap (λ (g : ℕ → ℕ → Value). region (g d) (pools d)) is ∙ region_with fields pools c fs d)
+
+abbrev shared_by : (ℕ → ClassState) → (ℕ → Region) → (ℕ → Pool) → List Line → SharedState
+shared_by states regions pools printed = record { states = states; regions = regions; pools = pools; printed = printed }
+
+pub shared_of-fields : (s : SharedTables) (b : List ClassArea) (c : ℕ) (fs : ℕ → Value) →
+    states_of b ≡ states_of s.classes → fields_of b ≡ with_fields (fields_of s.classes) c fs →
+    (p : List Line) → shared_of (record s { classes = b }) p ≡ set_region (shared_of s p) c
+    (record ((shared_of s p).regions c) { fields = fs })
+unfolding shared_of
+shared_of-fields s b c fs states fields p =
+    ap (λ g. shared_by g (λ d. region (fields_of b d) (pool_in s.heap.classes d)) (pool_in s.heap.threads) p) states
+    ∙ ap (λ g. shared_by (states_of s.classes) g (pool_in s.heap.threads) p)
+    (regions_with (fields_of s.classes) (pool_in s.heap.classes) c fs (fields_of b) fields)
+
+pub shared_of-begun : (s : SharedTables) (b : List ClassArea) (c t : ℕ) (statics : List StaticField) →
+    states_of b ≡ with_state (states_of s.classes) c (InProgress t) →
+    fields_of b ≡ with_fields (fields_of s.classes) c (with_constants statics (fields_of s.classes c)) →
+    (p : List Line) → shared_of (record s { classes = b }) p ≡ begun (shared_of s p) c t statics
+unfolding shared_of
+shared_of-begun s b c t statics states fields p =
+    ap (λ g. shared_by g (λ d. region (fields_of b d) (pool_in s.heap.classes d)) (pool_in s.heap.threads) p) states
+    ∙ ap (λ g. shared_by (with_state (states_of s.classes) c (InProgress t)) g (pool_in s.heap.threads) p)
+    (regions_with (fields_of s.classes) (pool_in s.heap.classes) c (with_constants statics (fields_of s.classes c))
+    (fields_of b) fields)
+
+pub shared_of-field : (s : SharedTables) (b : List ClassArea) (c f : ℕ) (v : Value) → states_of b ≡ states_of s.classes
+    →
+    fields_of b ≡ with_fields (fields_of s.classes) c (with_value (fields_of s.classes c) f v) →
+    (p : List Line) → shared_of (record s { classes = b }) p ≡ set_region (shared_of s p) c
+    (with_field ((shared_of s p).regions c) f v)
+unfolding shared_of
+shared_of-field s b c f v states fields = shared_of-fields s b c (with_value (fields_of s.classes c) f v) states fields
+
+-- ---- an object made
+
+with_made : (fields : ℕ → ℕ → Value) (pools : ℕ → Pool) (c : ℕ) (p : Pool) (d : ℕ) →
+    region (fields d) (with_pool pools c p d)
+    ≡ (if c == d then record (region (fields d) (pools d)) { pool = p } else region (fields d) (pools d))
+with_made fields pools c p d = chosen (c == d) where
+  chosen : (b : Bool) → region (fields d) (if b then p else pools d)
+      ≡ (if b then region (fields d) p else region (fields d) (pools d))
+  chosen true = refl
+  chosen false = refl
+
+pub made_by_class : (s : SharedTables) (b : List ObjectRow) (c : ℕ) (class : ClassId) (slots : List Value) →
+    pool_in b ≡ with_pool (pool_in s.heap.classes) c (with_new (pool_in s.heap.classes c) class slots) →
+    (p : List Line) →
+    shared_of (record s { heap = record s.heap { classes = b } }) p
+    ≡ set_pool (shared_of s p) (Class c) (with_new (pool_of (shared_of s p) (Class c)) class slots)
+unfolding shared_of
+made_by_class s b c class slots is p =
+    ap (λ (regions : ℕ → Region). shared_by (states_of s.classes) regions (pool_in s.heap.threads) p) (fun_ext (λ d.
+    ap (λ (pools : ℕ → Pool). region (fields_of s.classes d) (pools d)) is
+    ∙ with_made (fields_of s.classes) (pool_in s.heap.classes) c (with_new (pool_in s.heap.classes c) class slots) d))
+
+pub made_by_thread : (s : SharedTables) (b : List ObjectRow) (t : ℕ) (class : ClassId) (slots : List Value) →
+    pool_in b ≡ with_pool (pool_in s.heap.threads) t (with_new (pool_in s.heap.threads t) class slots) →
+    (p : List Line) →
+    shared_of (record s { heap = record s.heap { threads = b } }) p
+    ≡ set_pool (shared_of s p) (Thread t) (with_new (pool_of (shared_of s p) (Thread t)) class slots)
+unfolding shared_of
+made_by_thread s b t class slots is p =
+    let regions : ℕ → Region = λ d. region (fields_of s.classes d) (pool_in s.heap.classes d) in
+    ap (λ (pools : ℕ → Pool). shared_by (states_of s.classes) regions pools p) is
+
+pub made_none_by_class : (s : SharedTables) (b : List ObjectRow) → pool_in b ≡ pool_in s.heap.classes → (p : List Line)
+    →
+    shared_of (record s { heap = record s.heap { classes = b } }) p ≡ shared_of s p
+unfolding shared_of
+made_none_by_class s b is p =
+    let states = states_of s.classes in
+    let threads = pool_in s.heap.threads in
+    ap (λ (pools : ℕ → Pool). shared_by states (λ d. region (fields_of s.classes d) (pools d)) threads p) is
+
+-- ---- after a refusal
+
+pub if_refused : {T E P : Type 0} (r : Result T E) → P → OnErr r P
+if_refused (Ok value) holds = tt
+if_refused (Err error) holds = holds
