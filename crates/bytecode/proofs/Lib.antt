@@ -6,3 +6,4 @@ pub mod PlacesLemmas
 pub mod AscendingLemmas
 pub mod BodyLemmas
 pub mod SwitchesLemmas
+pub mod FirstCasesLemmas

@@ -3,3 +3,4 @@ pub mod Decoded
 pub mod Forms
 pub mod Places
 pub mod SweptTargets
+pub mod FirstCases

@@ -29,15 +29,13 @@ pub fn table_target(switch: &TableSwitch, key: i32) -> Option<u32>
     }
 }
 
-/// The target of a key, or none where no instruction begins there. The keys are looked at in the file's order, since a
-/// file may have them in any.
+/// The target of a key, or none where no instruction begins there.
+#[inline(always)]
 pub fn lookup_target(switch: &LookupSwitch, key: i32) -> Option<u32>
     ensures { result ≡ lookup_target switch.now key }
 {
-    for case in switch.cases() {
-        if case.key == key {
-            return case.target;
-        }
+    match switch.target(key) {
+        Some(target) => target,
+        None => switch.default(),
     }
-    switch.default()
 }
