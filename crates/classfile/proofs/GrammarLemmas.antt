@@ -141,12 +141,12 @@ returned_by : (text : List ℕ) → IsFieldDescriptor text ⊎ ((true ≡ true) 
 returned_by text (inl field) = inl field
 returned_by text (inr void) = inr void.1
 
-last : (depth : ℕ) (may_be_void : Bool) (b : ℕ) (text : List ℕ) → depth ≤ 255
+read_to_last : (depth : ℕ) (may_be_void : Bool) (b : ℕ) (text : List ℕ) → depth ≤ 255
     → scan (places.Last depth may_be_void) (b ∷ text) ≡ true
     → ((place : Place) → scan place text ≡ true → Left place text)
     → IsFieldDescriptor (replicate depth 91 ++ b ∷ text) ⊎ ((may_be_void ≡ true) × (b ∷ text ≡ 86 ∷ []))
 unfolding step
-last depth may_be_void b text le e rest =
+read_to_last depth may_be_void b text le e rest =
     elim (scan_cond_cases (eqb b 86) (cond may_be_void places.End places.Bad)
     (cond (eqb b 91) (cond (ltb depth 255) (places.Last (depth + 1) false) places.Bad)
     (cond (eqb b 76) (places.LastName true) (cond (is_base b) places.End places.Bad))) text e) [
@@ -206,10 +206,10 @@ no_parameter text is =
           refl;
     }
 
-parameter : (depth b : ℕ) (text : List ℕ) → depth ≤ 255 → scan (places.Parameter depth) (b ∷ text) ≡ true
+read_to_parameter : (depth b : ℕ) (text : List ℕ) → depth ≤ 255 → scan (places.Parameter depth) (b ∷ text) ≡ true
     → ((place : Place) → scan place text ≡ true → Left place text) → Ends (replicate depth 91 ++ b ∷ text)
 unfolding step
-parameter depth b text le e rest =
+read_to_parameter depth b text le e rest =
     elim (scan_cond_cases (eqb b 41) (cond (eqb depth 0) (places.Last 0 true) places.Bad)
     (cond (eqb b 91) (cond (ltb depth 255) (places.Parameter (depth + 1)) places.Bad)
     (cond (eqb b 76) (places.ParameterName true) (cond (is_base b) (places.Parameter 0) places.Bad))) text e) [
@@ -253,21 +253,21 @@ parameter depth b text le e rest =
           ]
     ]
 
-left : (text : List ℕ) (place : Place) → scan place text ≡ true → Left place text
+scan_left : (text : List ℕ) (place : Place) → scan place text ≡ true → Left place text
 unfolding step
-left [] places.Open e = absurd cc
-left [] (places.Parameter depth) e = absurd cc
-left [] (places.ParameterName is_empty) e = absurd cc
-left [] (places.Last depth may_be_void) e = absurd cc
-left [] (places.LastName is_empty) e = absurd cc
-left [] places.End e = refl
-left [] places.Bad e = absurd cc
-left (b ∷ text) places.End e = absurd (bad_scan text e)
-left (b ∷ text) places.Bad e = absurd (bad_scan text e)
-left (b ∷ text) places.Open e =
+scan_left [] places.Open e = absurd cc
+scan_left [] (places.Parameter depth) e = absurd cc
+scan_left [] (places.ParameterName is_empty) e = absurd cc
+scan_left [] (places.Last depth may_be_void) e = absurd cc
+scan_left [] (places.LastName is_empty) e = absurd cc
+scan_left [] places.End e = refl
+scan_left [] places.Bad e = absurd cc
+scan_left (b ∷ text) places.End e = absurd (bad_scan text e)
+scan_left (b ∷ text) places.Bad e = absurd (bad_scan text e)
+scan_left (b ∷ text) places.Open e =
     elim (scan_cond_cases (eqb b 40) (places.Parameter 0) places.Bad text e) [
       | inl here ↦
-          let ends = left text (places.Parameter 0) here.1 (omega arith) in
+          let ends = scan_left text (places.Parameter 0) here.1 (omega arith) in
           record {
             parameters = ends.parameters;
             returned = ends.returned;
@@ -279,36 +279,36 @@ left (b ∷ text) places.Open e =
           }
       | inr other ↦ absurd (bad_scan text other.1)
     ]
-left (b ∷ text) (places.ParameterName is_empty) e =
+scan_left (b ∷ text) (places.ParameterName is_empty) e =
     elim (scan_cond_cases (eqb b 59) (cond is_empty places.Bad (places.Parameter 0)) (places.ParameterName false) text
     e) [
       | inl here ↦ elim (scan_cond_cases is_empty places.Bad (places.Parameter 0) text here.1) [
         | inl bad ↦ absurd (bad_scan text bad.1)
         | inr good ↦
             let P : Bool → Type 0 = λ z. Named Ends z (b ∷ text) in
-            subst P (sym good.0) (name_ends Ends b text here.0 (left text (places.Parameter 0) good.1 (omega arith)))
+            subst P (sym good.0) (name_ends Ends b text here.0 (scan_left text (places.Parameter 0) good.1 (omega arith)))
       ]
-      | inr other ↦ longer Ends is_empty b text other.0 (left text (places.ParameterName false) other.1)
+      | inr other ↦ longer Ends is_empty b text other.0 (scan_left text (places.ParameterName false) other.1)
     ]
-left (b ∷ text) (places.LastName is_empty) e =
+scan_left (b ∷ text) (places.LastName is_empty) e =
     elim (scan_cond_cases (eqb b 59) (cond is_empty places.Bad places.End) (places.LastName false) text e) [
       | inl here ↦ elim (scan_cond_cases is_empty places.Bad places.End text here.1) [
         | inl bad ↦ absurd (bad_scan text bad.1)
         | inr good ↦
             let P : Bool → Type 0 = λ z. Named (λ rest. rest ≡ []) z (b ∷ text) in
-            subst P (sym good.0) (name_ends (λ rest. rest ≡ []) b text here.0 (left text places.End good.1))
+            subst P (sym good.0) (name_ends (λ rest. rest ≡ []) b text here.0 (scan_left text places.End good.1))
       ]
-      | inr other ↦ longer (λ rest. rest ≡ []) is_empty b text other.0 (left text (places.LastName false) other.1)
+      | inr other ↦ longer (λ rest. rest ≡ []) is_empty b text other.0 (scan_left text (places.LastName false) other.1)
     ]
-left (b ∷ text) (places.Last depth may_be_void) e = λ le. last depth may_be_void b text le e (left text)
-left (b ∷ text) (places.Parameter depth) e = λ le. parameter depth b text le e (left text)
+scan_left (b ∷ text) (places.Last depth may_be_void) e = λ le. read_to_last depth may_be_void b text le e (scan_left text)
+scan_left (b ∷ text) (places.Parameter depth) e = λ le. read_to_parameter depth b text le e (scan_left text)
 
 -- whether the text is a field's descriptor
 pub field_is : (text : List ℕ) → is_field text ≡ true → IsFieldDescriptor text
-field_is text e = elim (left text (places.Last 0 false) e (omega arith)) [ inl field ↦ field | inr void ↦ absurd cc ]
+field_is text e = elim (scan_left text (places.Last 0 false) e (omega arith)) [ inl field ↦ field | inr void ↦ absurd cc ]
 
 pub method_is : (text : List ℕ) → is_method text ≡ true → IsMethodDescriptor text
-method_is text e = left text places.Open e
+method_is text e = scan_left text places.Open e
 
 lacks_by : (hit : Bool) (b : ℕ) (text : List ℕ) → eqb b 59 ≡ hit → cond hit false (lacks_semicolon text) ≡ true
     → (lacks_semicolon text ≡ true → All (λ b. b ≢ 59) text) → All (λ b. b ≢ 59) (b ∷ text)

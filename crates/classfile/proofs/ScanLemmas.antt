@@ -25,9 +25,6 @@ by_letters P p0 p1 p2 p3 p4 p5 p6 p7 b (suc (suc (suc (suc (suc (suc (suc zero))
 by_letters P p0 p1 p2 p3 p4 p5 p6 p7 b (suc (suc (suc (suc (suc (suc (suc (suc k))))))), lt, e) =
     absurd (omega (arith, lt))
 
-other : (a b : ℕ) → a ≢ b → eqb a b ≡ false
-other a b ne = ne_eqb a b ne
-
 -- a name up to its `;`
 last_name : (is_empty : Bool) (name rest : List ℕ) → (is_empty ≡ true → name ≢ []) → All (λ b. b ≢ 59) name
     → scan (places.LastName is_empty) (name ++ 59 ∷ rest) ≡ scan places.End rest
@@ -35,7 +32,7 @@ unfolding step
 last_name true [] rest some free = absurd (some refl refl)
 last_name false [] rest some free = refl
 last_name is_empty (b ∷ name) rest some free =
-    let miss : eqb b 59 ≡ false = other b 59 (free 0 b (omega arith)) in
+    let miss : eqb b 59 ≡ false = ne_eqb b 59 (free 0 b (omega arith)) in
     ap (λ (hit : Bool). scan (cond hit (cond is_empty places.Bad places.End) (places.LastName false))
     (name ++ 59 ∷ rest)) miss
     ∙ last_name false name rest (λ e. absurd cc) (λ k d lt. free (suc k) d (omega arith))
@@ -46,7 +43,7 @@ unfolding step
 parameter_name true [] rest some free = absurd (some refl refl)
 parameter_name false [] rest some free = refl
 parameter_name is_empty (b ∷ name) rest some free =
-    let miss : eqb b 59 ≡ false = other b 59 (free 0 b (omega arith)) in
+    let miss : eqb b 59 ≡ false = ne_eqb b 59 (free 0 b (omega arith)) in
     ap (λ (hit : Bool). scan (cond hit (cond is_empty places.Bad (places.Parameter 0)) (places.ParameterName false))
     (name ++ 59 ∷ rest))
     miss
@@ -127,14 +124,14 @@ method_scans text method =
 lacks_it : (text : List ℕ) → All (λ b. b ≢ 59) text → lacks_semicolon text ≡ true
 lacks_it [] free = refl
 lacks_it (b ∷ text) free =
-    let miss : eqb b 59 ≡ false = other b 59 (free 0 b (omega arith)) in
+    let miss : eqb b 59 ≡ false = ne_eqb b 59 (free 0 b (omega arith)) in
     rw miss (lacks_it text (λ k d lt. free (suc k) d (omega arith)))
 
 object_name : (text : List ℕ) → IsObjectName text → ((rest : List ℕ) → text ≢ 91 ∷ rest) → is_class_name text ≡ true
 unfolding is_class_name
 object_name [] is plain = absurd (is.not_empty refl)
 object_name (b ∷ text) is plain =
-    let miss : eqb b 91 ≡ false = other b 91 (λ e. plain text (ap (λ (z : ℕ). z ∷ text) e)) in
+    let miss : eqb b 91 ≡ false = ne_eqb b 91 (λ e. plain text (ap (λ (z : ℕ). z ∷ text) e)) in
     rw miss (lacks_it (b ∷ text) is.no_semicolon)
 
 class_name_scans : (text : List ℕ) → IsClassName text → is_class_name text ≡ true
