@@ -286,7 +286,8 @@ scan_left (b ∷ text) (places.ParameterName is_empty) e =
         | inl bad ↦ absurd (bad_scan text bad.1)
         | inr good ↦
             let P : Bool → Type 0 = λ z. Named Ends z (b ∷ text) in
-            subst P (sym good.0) (name_ends Ends b text here.0 (scan_left text (places.Parameter 0) good.1 (omega arith)))
+            subst P (sym good.0)
+            (name_ends Ends b text here.0 (scan_left text (places.Parameter 0) good.1 (omega arith)))
       ]
       | inr other ↦ longer Ends is_empty b text other.0 (scan_left text (places.ParameterName false) other.1)
     ]
@@ -300,12 +301,14 @@ scan_left (b ∷ text) (places.LastName is_empty) e =
       ]
       | inr other ↦ longer (λ rest. rest ≡ []) is_empty b text other.0 (scan_left text (places.LastName false) other.1)
     ]
-scan_left (b ∷ text) (places.Last depth may_be_void) e = λ le. read_to_last depth may_be_void b text le e (scan_left text)
+scan_left (b ∷ text) (places.Last depth may_be_void) e =
+    λ le. read_to_last depth may_be_void b text le e (scan_left text)
 scan_left (b ∷ text) (places.Parameter depth) e = λ le. read_to_parameter depth b text le e (scan_left text)
 
 -- whether the text is a field's descriptor
 pub field_is : (text : List ℕ) → is_field text ≡ true → IsFieldDescriptor text
-field_is text e = elim (scan_left text (places.Last 0 false) e (omega arith)) [ inl field ↦ field | inr void ↦ absurd cc ]
+field_is text e =
+    elim (scan_left text (places.Last 0 false) e (omega arith)) [ inl field ↦ field | inr void ↦ absurd cc ]
 
 pub method_is : (text : List ℕ) → is_method text ≡ true → IsMethodDescriptor text
 method_is text e = scan_left text places.Open e

@@ -83,7 +83,7 @@ fn stand(frames: &mut Frames, innermost: Frame, callers: FrameList)
 }
 
 /// An exception that no frame above the highest initialization catches: it becomes pending there, and where there is
-/// no entry its thread ends (JVMS 2.10, 5.5).
+/// no initialization its thread ends (JVMS 2.10, 5.5).
 fn throw(frames: &mut Frames, exception: Name, class: ClassId) -> Effect
     ensures step { (P : Tables) (fs : List Frame) (f : Frame) (before after : SharedState)
         → IsStep P frames.old.thread (f ∷ fs) (levels_of frames.old) before (Moved (Raise exception class) after) result

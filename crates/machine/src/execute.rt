@@ -112,7 +112,7 @@ fn push_constant(frame: &mut Frame, number: Value) -> Conclusion
     }
 }
 
-/// An instruction that touches more than its frame, or names an entry of the run-time constant pool.
+/// An instruction that touches more than its frame, or names a constant of the run-time constant pool.
 #[tactic(auto, using(crate::proofs::AccessesLemmas::kept_same))]
 #[inline(always)]
 fn execute_resolved<S: Store>(
