@@ -14,3 +14,8 @@ pub mod InterfaceOrdersLemmas
 pub mod UniquenessLemmas
 pub mod InitializationLemmas
 pub mod SearchRowLemmas
+pub mod RowLemmas
+pub mod DepthFirstLemmas
+pub mod DepthFirstListLemmas
+pub mod ReachTableLemmas
+pub mod PoolTextsLemmas

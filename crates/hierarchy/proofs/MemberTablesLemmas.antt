@@ -1,13 +1,15 @@
 -- The table of members, class after class.
 use Rattle.std.proofs.Common.{◌≡◌, ℕ, Bool, true, false, cond, eqb, List, [], ◌∷◌, ◌++◌, length, Option, Some, None}
-use Rattle.std.proofs.Common.{slice_get, refl, sym, ap, ◌∙◌, subst, arith}
+use Rattle.std.proofs.Common.{slice_get, get_or, inl, inr, refl, sym, ap, ◌∙◌, subst, arith}
 use Rattle.std.specs.List.{position_from}
-use Rattle.std.proofs.lemmas.Bool.{eqb-true}
-use Rattle.std.proofs.lemmas.Option.{slice_get_past}
+use Rattle.std.proofs.lemmas.Bool.{eqb-true, eqb-false}
+use Rattle.std.proofs.lemmas.Option.{slice_get_past, slice_get_within}
+use Rattle.std.proofs.lemmas.List.{length-append}
 use Rattle.classfile.specs.ClassFile.{ClassFile}
 use Rattle.classfile.specs.declared.member.Member.{Member}
 use Rattle.built_in.specs.Keys.{NameAndType}
-use Rattle.loading.specs.Families.{Family, file_of}
+use Rattle.loading.specs.Names.{text_at}
+use Rattle.loading.specs.Families.{Family, file_of, file_in}
 use Rattle.hierarchy.specs.MemberLookup.{is_named, field_in, method_in, field_of, method_of}
 use Rattle.hierarchy.specs.Texts.{AreDistinct}
 use Rattle.hierarchy.specs.steps.GrowingTexts.{KeepsNumbers}
@@ -17,7 +19,8 @@ use Rattle.hierarchy.specs.declared.member_index.MemberKey.{MemberKey}
 use Rattle.hierarchy.specs.declared.member_table.MemberTable.{MemberTable}
 use Rattle.hierarchy.specs.steps.MemberIndexes.{place_of, IsIndex, first_some, declared_after}
 use Rattle.hierarchy.specs.steps.MemberTables.{IsTableOf}
-use Rattle.loading.proofs.PlaceLemmas.{slice_get_push}
+use Rattle.hierarchy.specs.steps.PoolTexts.{AreTextNumbers}
+use Rattle.loading.proofs.PlaceLemmas.{slice_get_push, pushed_at}
 use Rattle.hierarchy.proofs.MemberIndexesLemmas.{grown, index_same}
 
 -- what classes declare with one class more, for fields and for methods
@@ -43,22 +46,66 @@ module _ (own : NameAndType → Option ClassFile → Option ℕ) (members : Clas
           rw (e, gone) (some q given.file)
       by false e = rw e refl
 
+-- the numbers of the texts of one class more
+pools_next : (old texts : List (List ℕ)) (family : Family) (given : GivenClass) (pools : List (List ℕ))
+    (numbers : List ℕ) → KeepsNumbers old texts → length pools ≡ length family
+    → AreTextNumbers texts given.file numbers
+    → ((c : ℕ) (f : ClassFile) (n : List ℕ) → file_in family c ≡ Some f → slice_get pools c ≡ Some n
+    → AreTextNumbers old f n)
+    → (c : ℕ) (f : ClassFile) (n : List ℕ) → file_in (family ++ given ∷ []) c ≡ Some f
+    → slice_get (pools ++ numbers ∷ []) c ≡ Some n → AreTextNumbers texts f n
+pools_next old texts family given pools numbers keeps count here before c f n of there =
+    by (eqb (length family) c) refl
+  where
+    file : file_of (cond (eqb (length family) c) (Some given) (slice_get family c)) ≡ Some f
+    file = ap file_of (sym (slice_get_push family given c)) ∙ of
+
+    by : (b : Bool) → eqb (length family) c ≡ b → AreTextNumbers texts f n
+    by true e = elim (pushed_at pools numbers n c there) [
+      | inl early ↦ absurd (omega (arith, slice_get_within pools c n early, count, eqb-true (length family) c e))
+      | inr last ↦ (let is : given.file ≡ f =
+          let same : Some given.file ≡ Some f = sym (rw e refl) ∙ file in cc in
+          subst (λ (g : ClassFile). AreTextNumbers texts g n) is
+          (subst (λ (l : List ℕ). AreTextNumbers texts given.file l) last.1 here))
+    ]
+    by false e = elim (pushed_at pools numbers n c there) [
+      | inl early ↦ (let is : file_in family c ≡ Some f = sym (rw e refl) ∙ file in
+          λ index. keeps (get_or n index 0) (text_at f index) (before c f n is early index))
+      | inr last ↦ absurd (eqb-false (length family) c e (sym count ∙ sym last.0))
+    ]
+
 -- a table with one class more
-pub table_with : (old new : MemberTable) (texts : List (List ℕ)) (family : Family) (given : GivenClass)
-    → KeepsNumbers old.texts texts → AreDistinct texts → KeepsNumbers texts new.texts → AreDistinct new.texts
-    → ((declared : ℕ → NameAndType → Option ℕ) → IsIndex old.texts declared (place_of old.fields)
-    → IsIndex texts (declared_after declared (length family) given.file given.file.fields) (place_of new.fields))
-    → ((declared : ℕ → NameAndType → Option ℕ) → IsIndex texts declared (place_of old.methods)
-    → IsIndex new.texts (declared_after declared (length family) given.file given.file.methods) (place_of new.methods))
+pub table_with : (old new : MemberTable) (family : Family) (given : GivenClass) (numbers : List ℕ)
+    (fields methods : List Member)
+    → fields ≡ given.file.fields → methods ≡ given.file.methods
+    → KeepsNumbers old.texts new.texts → AreDistinct new.texts → AreTextNumbers new.texts given.file numbers
+    → new.pools.items ≡ old.pools.items ++ numbers ∷ []
+    → ((texts : List (List ℕ)) (f : ClassFile) (declared : ℕ → NameAndType → Option ℕ) → AreTextNumbers texts f numbers
+    → AreDistinct texts → IsIndex texts declared (place_of old.fields)
+    → IsIndex texts (declared_after declared (length family) f fields) (place_of new.fields))
+    → ((texts : List (List ℕ)) (f : ClassFile) (declared : ℕ → NameAndType → Option ℕ) → AreTextNumbers texts f numbers
+    → AreDistinct texts → IsIndex texts declared (place_of old.methods)
+    → IsIndex texts (declared_after declared (length family) f methods) (place_of new.methods))
     → IsTableOf family old → IsTableOf (family ++ given ∷ []) new
-table_with old new texts family given first distinct second all fields methods is = record {
-  distinct = all;
+table_with old new family given numbers fields methods fs ms keeps distinct here pushed by_fields by_methods is = record {
+  distinct = distinct;
+  first = keeps 0 [] is.first;
+  count = omega (arith, ap length pushed, length-append old.pools.items (numbers ∷ []), is.count,
+      length-append family (given ∷ []));
+  pools = λ c f n of there. pools_next old.texts new.texts family given old.pools.items numbers keeps is.count here
+      is.pools c f n of (ap (λ l. slice_get l c) (sym pushed) ∙ there);
   fields = index_same new.texts _ (λ c q. field_in (family ++ given ∷ []) q c) (place_of new.fields)
       (one_class field_of (λ f. f.fields) (λ q. refl) (λ q f. refl) family given)
-      (grown texts new.texts _ (place_of new.fields) (fields _ is.fields) second all);
+      (subst (λ (l : List Member). IsIndex new.texts
+      (declared_after (λ c q. field_in family q c) (length family) given.file l) (place_of new.fields)) fs
+      (by_fields new.texts given.file _ here distinct
+      (grown old.texts new.texts _ (place_of old.fields) is.fields keeps distinct)));
   methods = index_same new.texts _ (λ c q. method_in (family ++ given ∷ []) q c) (place_of new.methods)
       (one_class method_of (λ f. f.methods) (λ q. refl) (λ q f. refl) family given)
-      (methods _ (grown old.texts texts _ (place_of old.methods) is.methods first distinct));
+      (subst (λ (l : List Member). IsIndex new.texts
+      (declared_after (λ c q. method_in family q c) (length family) given.file l) (place_of new.methods)) ms
+      (by_methods new.texts given.file _ here distinct
+      (grown old.texts new.texts _ (place_of old.methods) is.methods keeps distinct)));
 }
 
 -- ---- a table of no classes
@@ -72,35 +119,15 @@ none_found texts declared index nothing empty = record {
   found = λ c q n are. empty c n ∙ sym (nothing c q);
 }
 
-pub table_of_none : (table : MemberTable) → table.texts ≡ []
+pub table_of_none : (table : MemberTable) → AreDistinct table.texts → slice_get table.texts 0 ≡ Some []
+    → table.pools.items ≡ []
     → ((c : ℕ) (q : MemberKey) → place_of table.fields c q ≡ None)
     → ((c : ℕ) (q : MemberKey) → place_of table.methods c q ≡ None) → IsTableOf [] table
-table_of_none table none fields methods = record {
-  distinct = λ i j text at also. let clash : slice_get [] i ≡ Some text =
-      subst (λ (ts : List (List ℕ)). slice_get ts i ≡ Some text) none at in absurd cc;
+table_of_none table distinct first none fields methods = record {
+  distinct = distinct;
+  first = first;
+  count = ap length none;
+  pools = λ c f n of there. let clash : None ≡ Some f = of in absurd cc;
   fields = none_found table.texts _ table.fields (λ c q. refl) fields;
   methods = none_found table.texts _ table.methods (λ c q. refl) methods;
 }
-
--- a table with one class more, whose number and members are given apart
-pub table_next : (old new : MemberTable) (texts : List (List ℕ)) (family : Family) (given : GivenClass) (class : ℕ)
-    (fields methods : List Member)
-    → length family ≡ class → fields ≡ given.file.fields → methods ≡ given.file.methods
-    → KeepsNumbers old.texts texts → AreDistinct texts → KeepsNumbers texts new.texts → AreDistinct new.texts
-    → ((declared : ℕ → NameAndType → Option ℕ) → IsIndex old.texts declared (place_of old.fields)
-    → IsIndex texts (declared_after declared class given.file fields) (place_of new.fields))
-    → ((declared : ℕ → NameAndType → Option ℕ) → IsIndex texts declared (place_of old.methods)
-    → IsIndex new.texts (declared_after declared class given.file methods) (place_of new.methods))
-    → IsTableOf family old → IsTableOf (family ++ given ∷ []) new
-table_next old new texts family given class fields methods count fs ms first distinct second all by_fields by_methods
-    is =
-    table_with old new texts family given first distinct second all
-    (λ declared was. subst (λ (n : ℕ). IsIndex texts (declared_after declared n given.file given.file.fields)
-    (place_of new.fields)) (sym count)
-    (subst (λ (l : List Member). IsIndex texts (declared_after declared class given.file l) (place_of new.fields)) fs
-    (by_fields declared was)))
-    (λ declared was. subst (λ (n : ℕ). IsIndex new.texts (declared_after declared n given.file given.file.methods)
-    (place_of new.methods)) (sym count)
-    (subst (λ (l : List Member). IsIndex new.texts (declared_after declared class given.file l) (place_of new.methods))
-    ms (by_methods declared was)))
-    is

@@ -6,3 +6,6 @@ pub mod Joined
 pub mod HierarchyTables
 pub mod InterfaceOrders
 pub mod GrowingTexts
+pub mod DepthFirst
+pub mod Reaches
+pub mod PoolTexts

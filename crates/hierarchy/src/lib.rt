@@ -4,12 +4,15 @@
 
 pub mod class_lists;
 mod defaults;
+mod depth_first;
 pub mod hierarchy;
 pub mod initialization;
 mod joined;
 pub mod member;
 mod member_index;
 mod member_table;
+mod pool_texts;
+mod reach_table;
 mod resolve_field;
 mod resolve_method;
 mod search;

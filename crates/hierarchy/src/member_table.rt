@@ -1,69 +1,63 @@
 //! The table of all members of a family.
 
-ghost use Rattle.std.specs.Prelude.{◌≡◌, ◌≤◌, ◌^◌, ℕ, List, Option, [], ◌∷◌, ◌++◌, IfOk, OnOk, length};
+ghost use Rattle.std.specs.Prelude.{◌≡◌, ◌≤◌, ◌^◌, ℕ, List, Option, [], ◌∷◌, ◌++◌, IfOk, OnOk, length, slice_get, Some};
 ghost use Rattle.loading.specs.Families.{Family};
 ghost use Rattle.built_in.specs.Keys.{NameAndType};
 ghost use Rattle.loading.specs.Names.{text_at};
 ghost use Rattle.hierarchy.specs.Texts.{AreDistinct};
-ghost use Rattle.hierarchy.specs.steps.GrowingTexts.{KeepsNumbers};
+ghost use Rattle.hierarchy.specs.steps.PoolTexts.{AreTextNumbers};
+ghost use Rattle.classfile.specs.ClassFile.{ClassFile as File};
 ghost use Rattle.hierarchy.specs.steps.MemberIndexes.{place_of, IsIndex, Notes, IsLookup, declared_after};
 ghost use Rattle.hierarchy.specs.MemberLookup.{field_in, method_in};
 ghost use Rattle.hierarchy.specs.steps.MemberTables.{IsTableOf};
 
 use crate::member_index::{MemberIndex, MemberKey};
+use crate::pool_texts::PoolTexts;
 use crate::texts::Texts;
-use classfile::{ClassFile, Member};
+use classfile::Member;
 use loading::given::GivenClass;
-use loading::names::text_at;
 use std::alloc::{AllocError, Global};
 
 /// All fields and methods that the classes of a family declare, by class, name and descriptor.
 #[derive(Drop)]
 pub(crate) struct MemberTable {
     texts: Texts,
+    /// By class: the numbers of its file's texts.
+    pools: Vec<PoolTexts>,
     fields: MemberIndex,
     methods: MemberIndex,
 }
 
 /// Notes one member of a class.
 fn add_member(
-    alloc: Global,
-    texts: &mut Texts,
-    members: &mut MemberIndex,
+    pool: &PoolTexts,
+    index: &mut MemberIndex,
     class: usize,
-    file: &ClassFile,
     member: &Member,
     place: u16,
 ) -> Result<(), AllocError>
-    ensures keeps { KeepsNumbers texts.old texts.new }
-    ensures distinct { OnOk result (AreDistinct texts.new) }
-    ensures notes { OnOk result (Notes texts.new (place_of members.old) (place_of members.new) class
-        (record { name = text_at file.now member.now.name; descriptor = text_at file.now member.now.descriptor })
-        place) }
+    ensures { OnOk result ((texts : List (List ℕ)) (f : File) → AreTextNumbers texts f pool.now
+        → Notes texts (place_of index.old) (place_of index.new) class
+        (record { name = text_at f member.now.name; descriptor = text_at f member.now.descriptor }) place) }
 {
-    let name = texts.add(alloc, text_at(file, member.name))?;
-    let descriptor = texts.add(alloc, text_at(file, member.descriptor))?;
-    members.add(class, MemberKey { name, descriptor }, place)
+    let key = pool.key(member.name, member.descriptor);
+    index.add(class, key, place)
 }
 
 /// Notes the members of one kind that a class declares.
 fn add_members(
-    alloc: Global,
-    texts: &mut Texts,
+    pool: &PoolTexts,
     index: &mut MemberIndex,
     class: usize,
-    file: &ClassFile,
     members: &[Member],
 ) -> Result<(), AllocError>
     requires { length members.now ≤ 2 ^ 16 }
-    ensures keeps { KeepsNumbers texts.old texts.new }
-    ensures distinct { OnOk result (AreDistinct texts.old → AreDistinct texts.new) }
-    ensures index { OnOk result ((declared : ℕ → NameAndType → Option ℕ) → IsIndex texts.old declared
-        (place_of index.old)
-        → IsIndex texts.new (declared_after declared class file.now members.now) (place_of index.new)) }
+    ensures { OnOk result ((texts : List (List ℕ)) (f : File) (declared : ℕ → NameAndType → Option ℕ)
+        → AreTextNumbers texts f pool.now → AreDistinct texts → IsIndex texts declared (place_of index.old)
+        → IsIndex texts (declared_after declared class f members.now) (place_of index.new)) }
 {
     for (place, member) in members.iter().enumerate() {
-        add_member(alloc, texts, index, class, file, member, place as u16)?;
+        add_member(pool, index, class, member, place as u16)?;
     }
     Ok(())
 }
@@ -73,20 +67,22 @@ impl MemberTable {
     pub(crate) fn of_classes(alloc: Global, classes: &[GivenClass]) -> Result<Self, AllocError>
         ensures { IfOk result (IsTableOf classes.now) }
     {
-        let mut table = MemberTable::new(alloc);
+        let mut table = MemberTable::new(alloc)?;
         add_classes(alloc, &mut table, classes)?;
         Ok(table)
     }
 
     /// The table of no classes.
-    fn new(alloc: Global) -> Self
-        ensures { IsTableOf [] result }
+    fn new(alloc: Global) -> Result<Self, AllocError>
+        ensures { IfOk result (IsTableOf []) }
     {
-        MemberTable {
-            texts: Texts::new(alloc),
+        let texts = Texts::with_empty(alloc)?;
+        Ok(MemberTable {
+            texts,
+            pools: Vec::new(alloc),
             fields: MemberIndex::new(alloc),
             methods: MemberIndex::new(alloc),
-        }
+        })
     }
 
     /// The numbers of a name and a descriptor, if both have some.
@@ -137,27 +133,16 @@ fn add_class(
     class: usize,
     given: &GivenClass,
 ) -> Result<(), AllocError>
+    requires { slice_get table.old.texts 0 ≡ Some [] }
     ensures { OnOk result ((family : Family) → length family ≡ class → IsTableOf family table.old
         → IsTableOf (family ++ given.now ∷ []) table.new) }
 {
     let file = &given.file;
     // A class file that was read has less than 2^16 members of a kind (JVMS 4.1).
     let _constants = file.constants();
-    add_members(
-        alloc,
-        &mut table.texts,
-        &mut table.fields,
-        class,
-        file,
-        file.fields(),
-    )?;
-    add_members(
-        alloc,
-        &mut table.texts,
-        &mut table.methods,
-        class,
-        file,
-        file.methods(),
-    )?;
+    let pool = PoolTexts::of_file(alloc, &mut table.texts, file)?;
+    add_members(&pool, &mut table.fields, class, file.fields())?;
+    add_members(&pool, &mut table.methods, class, file.methods())?;
+    table.pools.push(pool)?;
     Ok(())
 }

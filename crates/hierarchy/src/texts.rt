@@ -1,6 +1,6 @@
 //! Texts by number.
 
-ghost use Rattle.std.specs.Prelude.{◌≡◌, [], Some, IfOk, OnOk, MatchOption, option_map, slice_get};
+ghost use Rattle.std.specs.Prelude.{◌++◌, ◌∷◌, ◌≡◌, [], Some, IfOk, OnOk, MatchOption, option_map, slice_get};
 ghost use Rattle.std.specs.List.{Contains};
 ghost use Rattle.hierarchy.specs.Texts.{AreDistinct};
 ghost use Rattle.hierarchy.specs.steps.GrowingTexts.{KeepsNumbers};
@@ -34,6 +34,19 @@ impl Texts {
         Texts {
             texts: IndexSet::new(alloc),
         }
+    }
+
+    /// The empty text alone, at number 0.
+    ///
+    /// # Errors
+    /// Where memory runs out.
+    pub(crate) fn with_empty(alloc: Global) -> Result<Self, AllocError>
+        ensures first { IfOk result (λ texts. slice_get texts 0 ≡ Some []) }
+        ensures distinct { IfOk result AreDistinct }
+    {
+        let mut texts = Texts::new(alloc);
+        texts.push(alloc, &[])?;
+        Ok(texts)
     }
 
     /// The number of a text, if it has one.
@@ -70,6 +83,7 @@ impl Texts {
     /// The number of a new text.
     fn push(&mut self, alloc: Global, text: &[u8]) -> Result<usize, AllocError>
         requires { ¬ Contains self.old text.now }
+        ensures after { OnOk result (self.new ≡ self.old ++ text.now ∷ []) }
         ensures number { IfOk result (λ n. slice_get self.new n ≡ Some text.now) }
         ensures keeps { KeepsNumbers self.old self.new }
         ensures distinct { OnOk result (AreDistinct self.new) }

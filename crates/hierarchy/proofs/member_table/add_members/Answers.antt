@@ -1,5 +1,5 @@
 use Rattle.std.proofs.Common.{◌≡◌, ◌+◌, ◌<◌, ◌++◌, ◌∷◌, [], List, take, length, sym, ap, ◌∙◌, subst, arith}
-use Rattle.std.proofs.lemmas.List.{take_more, length-take-le}
+use Rattle.std.proofs.lemmas.List.{take_more, take_all, length-take-le}
 use Rattle.classfile.specs.declared.member.Member.{Member}
 use Rattle.built_in.specs.Keys.{NameAndType}
 use Rattle.loading.specs.Names.{text_at}
@@ -8,27 +8,24 @@ use Rattle.hierarchy.proofs.MemberIndexesLemmas.{member_noted}
 use Rattle.hierarchy.proofs.member_table.add_members.Goals as goal
 
 pub loop-place-preserved : goal.loop-place-preserved
-loop-place-preserved c =
-    let e = c.in_ok-add_member.ensures in
+loop-place-preserved c = λ texts f declared numbers distinct is.
     let i = c.loop-place.place in
     let ms = c.args.members.now in
     let m = c.index-members-place.result in
-    let f = c.args.file.now in
     let key : NameAndType = record { name = text_at f m.name; descriptor = text_at f m.descriptor } in
     let within : i < length ms = omega arith in
     let here : take (i + 1) ms ≡ take i ms ++ m ∷ [] = take_more ms i m within
     ∙ ap (λ (x : Member). take i ms ++ x ∷ []) (sym c.index-members-place.is) in
     let count : length (take i ms) ≡ i = length-take-le i ms (omega arith) in
-    record {
-      keeps = λ j text at. e.keeps j text (c.loop-place.invariant.keeps j text at);
-      distinct = λ was. e.distinct;
-      index = λ declared is.
-          subst (λ (l : List Member). IsIndex c.add_member.new.texts (declared_after declared c.args.class f l)
-          (place_of c.add_member.new.members)) (sym here)
-          (member_noted c.loop-place.texts c.add_member.new.texts declared (place_of c.loop-place.index)
-          (place_of c.add_member.new.members) c.args.class f (take i ms) m
-          (c.loop-place.invariant.index declared is) e.keeps e.distinct
-          (subst
-          (λ n. Notes c.add_member.new.texts (place_of c.loop-place.index) (place_of c.add_member.new.members)
-          c.args.class key n) (sym count) e.notes));
-    }
+    subst (λ (l : List Member). IsIndex texts (declared_after declared c.args.class f l)
+    (place_of c.add_member.new.index)) (sym here)
+    (member_noted texts texts declared (place_of c.loop-place.index) (place_of c.add_member.new.index) c.args.class f
+    (take i ms) m (c.loop-place.invariant texts f declared numbers distinct is) (λ j text at. at) distinct
+    (subst (λ n. Notes texts (place_of c.loop-place.index) (place_of c.add_member.new.index) c.args.class key n)
+    (sym count) (c.in_ok-add_member.ensures texts f numbers)))
+
+pub returns : goal.returns
+returns c = λ texts f declared numbers distinct is.
+    subst (λ (l : List Member). IsIndex texts (declared_after declared c.args.class f l) (place_of c.loop-place.index))
+    (take_all c.loop-place.place c.args.members.now (omega arith))
+    (c.loop-place.invariant texts f declared numbers distinct is)

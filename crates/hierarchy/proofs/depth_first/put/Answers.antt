@@ -1,0 +1,27 @@
+use Rattle.std.proofs.Common.{sym, ap, ◌∙◌, [], ◌∷◌, ◌≡◌, subst, option_to_list, arith, rules}
+use Rattle.std.specs.List.{All, Contains}
+use Rattle.loading.specs.Families.{superclasses_in}
+use Rattle.hierarchy.specs.steps.DepthFirst.{Holds}
+use Rattle.hierarchy.proofs.DepthFirstLemmas.{holds_behind, holds_first}
+use Rattle.hierarchy.proofs.depth_first.put.Goals as goal
+
+pub returns-in-Some-clause-holds : goal.returns-in-Some-clause-holds
+returns-in-Some-clause-holds c = λ holds.
+    let family = c.args.family.now in
+    let is : superclasses_in family c.args.class ≡ c.in-Some.above ∷ [] =
+    c.given_superclass.ensures.value ∙ ap option_to_list c.in-Some.is in
+    let new = rw c.if-not-branch.false at c.in_ok-add.ensures.ok in
+    let above : Contains c.args.placed.now.items c.in-Some.above =
+    subst (All (Contains c.args.placed.now.items)) is c.requires.above 0 0 (omega arith) in
+    rw new.1 (holds_behind family c.args.placed.now.items c.args.row.now.first c.args.row.now.behind.items c.args.class
+    holds new.0 c.put_behind.new.self.first c.put_behind.new.self.behind.items c.in-Some.above is above
+    c.put_behind.ensures.row)
+
+pub returns-in-None-clause-holds : goal.returns-in-None-clause-holds
+returns-in-None-clause-holds c = λ holds.
+    let family = c.args.family.now in
+    let is : superclasses_in family c.args.class ≡ [] =
+    c.given_superclass.ensures.value ∙ ap option_to_list c.in-None.is in
+    let new = rw c.if-not-branch.false at c.in_ok-add.ensures.ok in
+    rw new.1 (holds_first family c.args.placed.now.items c.args.row.now.first c.args.row.now.behind.items c.args.class
+    holds new.0 c.put_first.new.self.first c.put_first.new.self.behind.items is c.put_first.ensures.row)

@@ -1,0 +1,79 @@
+-- How far the nearest class that declares a member reaches, along classes that stand depth first.
+use Rattle.std.specs.Prelude.{◌≡◌, ◌≢◌, ℕ, zero, suc, ◌<◌, ◌≤◌, ◌⊎◌, ◌∷◌, ◌++◌, [], List, Option, Some, None, length, slice_get}
+use Rattle.std.specs.Prelude.{fold, nat_lt, if◌then◌else◌}
+use Rattle.std.specs.declared.vec.Vec.{Vec}
+use Rattle.std.specs.declared.alloc.Global.{Global}
+use Rattle.indexmap.specs.IndexMap.{get}
+use Rattle.loading.specs.Families.{Family, superclasses_in}
+use Rattle.hierarchy.specs.steps.MemberIndexes.{same_key}
+use Rattle.hierarchy.specs.declared.member_index.MemberKey.{MemberKey}
+use Rattle.hierarchy.specs.declared.member.DeclaredMember.{DeclaredMember}
+use Rattle.hierarchy.specs.declared.reach_table.Reach.{Reach}
+use Rattle.hierarchy.specs.declared.reach_table.ReachTable.{ReachTable}
+
+-- The nearest class that has something, a class itself or one on its chain of given superclasses, and what.
+pub data Nearest (family : Family) (own : ℕ → Option ℕ) : ℕ → Option DeclaredMember → Type 0 where
+  here : {c k : ℕ} → own c ≡ Some k → Nearest family own c (Some (record { class = c; index = k }))
+  above : {c d : ℕ} {r : Option DeclaredMember} → own c ≡ None → superclasses_in family c ≡ d ∷ []
+      → Nearest family own d r → Nearest family own c r
+  nowhere : {c : ℕ} → own c ≡ None → superclasses_in family c ≡ [] → Nearest family own c None
+
+-- ---- rows of reaches by key
+
+abbrev pub reaches_in : Option (Vec Reach Global) → List Reach
+reaches_in None = []
+reaches_in (Some row) = row.items
+
+abbrev pub row_at : List (Vec Reach Global) → Option ℕ → List Reach
+row_at rows None = []
+row_at rows (Some n) = reaches_in (slice_get rows n)
+
+abbrev pub number_in : ReachTable → MemberKey → Option ℕ
+number_in table key = get same_key table.numbers key
+
+-- the reaches that were noted for a key
+abbrev pub reaches_of : ReachTable → MemberKey → List Reach
+reaches_of table key = row_at table.rows.items (number_in table key)
+
+-- keys have rows of their own
+pub record IsReachTable (table : ReachTable) : Type 0 where
+  pub within : (key : MemberKey) (n : ℕ) → number_in table key ≡ Some n → n < length table.rows.items
+  pub apart : (a b : MemberKey) (n : ℕ) → number_in table a ≡ Some n → number_in table b ≡ Some n → a ≡ b
+
+-- ---- what they tell
+
+-- what reaches a place: what was noted last up to this place
+abbrev pub reach_after : ℕ → Option DeclaredMember → Reach → Option DeclaredMember
+reach_after place before reach = if nat_lt place reach.from then before else reach.nearest
+
+abbrev pub reaching : List Reach → ℕ → Option DeclaredMember
+reaching row place = fold (reach_after place) None row
+
+abbrev pub nearest_of : Option Reach → Option DeclaredMember
+nearest_of None = None
+nearest_of (Some reach) = reach.nearest
+
+-- what was noted last of so many reaches
+abbrev pub last_nearest : List Reach → ℕ → Option DeclaredMember
+last_nearest row zero = None
+last_nearest row (suc n) = nearest_of (slice_get row n)
+
+-- places go up
+abbrev pub GoUp : List Reach → Type 0
+GoUp row = (i j : ℕ) (a b : Reach) → i ≤ j → slice_get row i ≡ Some a → slice_get row j ≡ Some b → a.from ≤ b.from
+
+-- A row tells of each class of a list what is nearest to it.
+pub record Tells (family : Family) (own : ℕ → Option ℕ) (classes : List ℕ) (row : List Reach) : Type 0 where
+  pub up : GoUp row
+  pub below : (i : ℕ) (a : Reach) → slice_get row i ≡ Some a → a.from ≤ length classes
+  pub told : (place c : ℕ) → slice_get classes place ≡ Some c → Nearest family own c (reaching row place)
+
+-- and nothing is noted beyond them
+pub record TellsAlone (family : Family) (own : ℕ → Option ℕ) (classes : List ℕ) (row : List Reach) : Type 0 where
+  pub tells : Tells family own classes row
+  pub none_beyond : (i : ℕ) (a : Reach) → slice_get row i ≡ Some a → a.from < length classes
+
+-- Where one more class comes: a row stays as it is, or it tells of that class too.
+abbrev pub Goes : Family → (ℕ → Option ℕ) → List ℕ → ℕ → List Reach → List Reach → Type 0
+Goes family own classes c old new =
+    (new ≡ old) ⊎ (Tells family own classes old → TellsAlone family own (classes ++ c ∷ []) new)

@@ -1,0 +1,103 @@
+//! Rows of reaches by name and descriptor.
+
+ghost use Rattle.std.specs.Prelude.{◌≡◌, ◌++◌, ◌∷◌, [], Some, IfOk, OnOk, if◌then◌else◌};
+ghost use Rattle.hierarchy.specs.declared.member_index.MemberKey.{MemberKey as Key};
+ghost use Rattle.hierarchy.specs.steps.MemberIndexes.{same_key};
+ghost use Rattle.hierarchy.specs.steps.Reaches.{reaches_of, number_in, IsReachTable, GoUp, reaching, last_nearest};
+
+use crate::member::DeclaredMember;
+use crate::member_index::MemberKey;
+use indexmap::IndexMap;
+use std::alloc::{AllocError, Global};
+
+/// From which place on what member is the nearest, among classes that stand depth first.
+#[derive(Clone, Copy, Debug)]
+pub(crate) struct Reach {
+    pub(crate) from: usize,
+    pub(crate) nearest: Option<DeclaredMember>,
+}
+
+/// For each name and descriptor its reaches, in the order of their places.
+#[derive(Drop)]
+pub(crate) struct ReachTable {
+    numbers: IndexMap<MemberKey, usize>,
+    rows: Vec<Vec<Reach>>,
+}
+
+impl ReachTable {
+    /// No reaches.
+    pub(crate) fn new(alloc: Global) -> Self
+        ensures table { IsReachTable result }
+        ensures empty { (key : Key) → reaches_of result key ≡ [] }
+    {
+        ReachTable {
+            numbers: IndexMap::new(alloc),
+            rows: Vec::new(alloc),
+        }
+    }
+
+    /// The reaches of a key.
+    fn row(&self, key: MemberKey) -> &[Reach]
+        ensures { result.now ≡ reaches_of self.now key }
+    {
+        let Some(number) = self.numbers.get(&key) else {
+            return &[];
+        };
+        match self.rows.get(*number) {
+            Some(row) => row.as_slice(),
+            None => &[],
+        }
+    }
+
+    /// The number of a key's row. The key gets an empty one if it had none.
+    fn number_of(&mut self, alloc: Global, key: MemberKey) -> Result<usize, AllocError>
+        requires { IsReachTable self.old }
+        ensures table { OnOk result (IsReachTable self.new) }
+        ensures number { IfOk result (λ n. number_in self.new key ≡ Some n) }
+        ensures kept { OnOk result ((k : Key) → reaches_of self.new k ≡ reaches_of self.old k) }
+    {
+        if let Some(number) = self.numbers.get(&key) {
+            return Ok(*number);
+        }
+        let number = self.rows.len();
+        self.rows.push(Vec::new(alloc))?;
+        self.numbers.insert(key, number)?;
+        Ok(number)
+    }
+
+    /// Notes one more reach of a key.
+    pub(crate) fn push(
+        &mut self,
+        alloc: Global,
+        key: MemberKey,
+        reach: Reach,
+    ) -> Result<(), AllocError>
+        requires { IsReachTable self.old }
+        ensures table { OnOk result (IsReachTable self.new) }
+        ensures rows { OnOk result ((k : Key) → reaches_of self.new k
+            ≡ (if same_key key k then reaches_of self.old k ++ reach ∷ [] else reaches_of self.old k)) }
+    {
+        let number = self.number_of(alloc, key)?;
+        self.rows[number].push(reach)?;
+        Ok(())
+    }
+
+    /// What reaches a place.
+    pub(crate) fn reaching(&self, key: MemberKey, place: usize) -> Option<DeclaredMember>
+        ensures { GoUp (reaches_of self.now key) → result ≡ reaching (reaches_of self.now key) place }
+    {
+        let row = self.row(key);
+        let count = row.partition_point(|reach| reach.from <= place);
+        last_of(row, count)
+    }
+}
+
+/// What is the nearest from the last of so many reaches on.
+fn last_of(row: &[Reach], count: usize) -> Option<DeclaredMember>
+    ensures { result ≡ last_nearest row.now count }
+{
+    match count.checked_sub(1) {
+        Some(last) => row.get(last)?.nearest,
+        None => None,
+    }
+}
