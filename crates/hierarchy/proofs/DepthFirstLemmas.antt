@@ -10,7 +10,7 @@ use Rattle.std.proofs.lemmas.Option.{slice_get_read}
 use Rattle.loading.specs.Families.{Family, IsParentsFirst, interfaces_in, superclasses_in}
 use Rattle.hierarchy.specs.steps.DepthFirst.{IsAtOrAbove, same, up, MayFollow, root, below, IsDepthFirst, none, next}
 use Rattle.hierarchy.specs.steps.DepthFirst.{put_behind, Holds, IsRow, IsWholeOrder}
-use Rattle.hierarchy.proofs.RowLemmas.{at_head, in_tail, head_or_tail, row_within}
+use Rattle.hierarchy.proofs.RowLemmas.{at_head, in_tail, head_or_tail, row_within, stand_once}
 
 module _ (family : Family) where
   -- ---- one more class
@@ -201,6 +201,8 @@ whole_order family placed first behind order holds short len all read =
       whole = λ c small. subst (λ l. Contains l c) (sym is) (holds.members c (all c small));
       within = λ c has. omega (arith, len, row_within behind first holds.classes c holds.is_row
           (subst (λ l. Contains l c) is has));
+      once = λ i j c at also. stand_once behind first holds.classes holds.is_row i j c
+          (ap (λ l. slice_get l i) (sym is) ∙ at) (ap (λ l. slice_get l j) (sym is) ∙ also);
       ordered = subst (IsDepthFirst family None) (sym is) holds.ordered;
     }
 

@@ -19,3 +19,6 @@ pub mod DepthFirstLemmas
 pub mod DepthFirstListLemmas
 pub mod ReachTableLemmas
 pub mod PoolTextsLemmas
+pub mod ReachesLemmas
+pub mod SweepsLemmas
+pub mod OrderWalkLemmas

@@ -114,7 +114,7 @@ same_names_itself : (a : NameAndType) → same_names a a ≡ true
 same_names_itself a = rw ((bytes_eq-Decides a.name a.name).1 refl, (bytes_eq-Decides a.descriptor a.descriptor).1 refl)
     refl
 
-same_key_itself : (a : MemberKey) → same_key a a ≡ true
+pub same_key_itself : (a : MemberKey) → same_key a a ≡ true
 same_key_itself a = rw (eq-eqb a.name a.name refl, eq-eqb a.descriptor a.descriptor refl) refl
 
 -- two keys are the same where their numbers are

@@ -137,3 +137,16 @@ row_behind behind first (x ∷ xs) d c after within fits is row out =
         let new : slice_get all_set c ≡ Some after =
         set_else once_set d c (Some c) not_d ∙ set_here behind c after fits in
         rw e (row.0, Some c, top, (refl, after, new, moved))
+
+pub stand_once : (behind : List (Option ℕ)) (first : Option ℕ) (cs : List ℕ) → IsRow behind first cs
+    → (i j c : ℕ) → slice_get cs i ≡ Some c → slice_get cs j ≡ Some c → i ≡ j
+stand_once behind first [] row i j c at also = absurd cc
+stand_once behind first (x ∷ xs) row zero zero c at also = refl
+stand_once behind first (x ∷ xs) row zero (suc j) c at also =
+    let head : x ≡ c = cc in
+    absurd (once behind first x xs row (subst (Contains xs) (sym head) (contains_at xs j c also)))
+stand_once behind first (x ∷ xs) row (suc i) zero c at also =
+    let head : x ≡ c = cc in
+    absurd (once behind first x xs row (subst (Contains xs) (sym head) (contains_at xs i c at)))
+stand_once behind first (x ∷ xs) row (suc i) (suc j) c at also =
+    ap suc (stand_once behind row.1 xs row.3 i j c at also)

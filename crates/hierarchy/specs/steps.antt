@@ -9,3 +9,5 @@ pub mod GrowingTexts
 pub mod DepthFirst
 pub mod Reaches
 pub mod PoolTexts
+pub mod Sweeps
+pub mod Tops

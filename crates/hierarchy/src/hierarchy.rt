@@ -3,6 +3,7 @@
 ghost use Rattle.std.specs.Prelude.{◌≡◌, IfOk, option_map, option_to_list, slice_get};
 ghost use Rattle.loading.specs.Families.{IsFamily, superclass_in, superclasses_in};
 ghost use Rattle.hierarchy.specs.steps.HierarchyTables.{wanted_in};
+ghost use Rattle.hierarchy.specs.steps.MemberTables.{IsTableOf};
 ghost use Rattle.built_in.specs.Keys.{NameAndType};
 ghost use Rattle.hierarchy.specs.steps.MemberIndexes.{IsLookup};
 ghost use Rattle.hierarchy.specs.MemberLookup.{flags_in, member_flags, is_inherited, key_in, key_of};
@@ -102,10 +103,7 @@ impl Hierarchy {
     pub(crate) fn flags(&self, class: u32, index: u16) -> u16
         ensures { result ≡ flags_in self.now.family class index }
     {
-        match self.family.file(class) {
-            Some(file) => flags_at(file, index),
-            None => 0,
-        }
+        flags_in(&self.family, class, index)
     }
 
     /// The name and the descriptor of the method at a place of a class.
@@ -122,29 +120,60 @@ impl Hierarchy {
         ensures { (name : NameAndType) → IsLookup self.now.texts name key
             → result ≡ wanted_in wanted self.now.family name class }
     {
-        match wanted {
-            Wanted::Field => self.table.field(class, key),
-            Wanted::Method => self.table.method(class, key),
-            Wanted::InstanceMethod => self.instance_method(class, key),
-            Wanted::InterfaceMethod => {
-                if self.family.is_interface(class) {
-                    self.instance_method(class, key)
-                } else {
-                    None
-                }
+        find(&self.family, &self.table, wanted, class, key)
+    }
+}
+
+/// The place of a class's member of some kind.
+pub(crate) fn find(
+    family: &Family,
+    table: &MemberTable,
+    wanted: Wanted,
+    class: u32,
+    key: Option<MemberKey>,
+) -> Option<u16>
+    requires { IsTableOf family.now table.now }
+    ensures { (name : NameAndType) → IsLookup table.now.texts name key
+        → result ≡ wanted_in wanted family.now name class }
+{
+    match wanted {
+        Wanted::Field => table.field(class, key),
+        Wanted::Method => table.method(class, key),
+        Wanted::InstanceMethod => instance_method(family, table, class, key),
+        Wanted::InterfaceMethod => {
+            if family.is_interface(class) {
+                instance_method(family, table, class, key)
+            } else {
+                None
             }
         }
     }
+}
 
-    /// The place of a class's method that is neither private nor static.
-    fn instance_method(&self, class: u32, key: Option<MemberKey>) -> Option<u16>
-        ensures { (name : NameAndType) → IsLookup self.now.texts name key
-            → result ≡ instance_method_in self.now.family name class }
-    {
-        match self.table.method(class, key) {
-            Some(index) if is_inherited(self.flags(class, index)) => Some(index),
-            _ => None,
-        }
+/// The place of a class's method that is neither private nor static.
+fn instance_method(
+    family: &Family,
+    table: &MemberTable,
+    class: u32,
+    key: Option<MemberKey>,
+) -> Option<u16>
+    requires { IsTableOf family.now table.now }
+    ensures { (name : NameAndType) → IsLookup table.now.texts name key
+        → result ≡ instance_method_in family.now name class }
+{
+    match table.method(class, key) {
+        Some(index) if is_inherited(flags_in(family, class, index)) => Some(index),
+        _ => None,
+    }
+}
+
+/// The access flags of the method at a place of a class, or no flags.
+fn flags_in(family: &Family, class: u32, index: u16) -> u16
+    ensures { result ≡ flags_in family.now class index }
+{
+    match family.file(class) {
+        Some(file) => flags_at(file, index),
+        None => 0,
     }
 }
 

@@ -1,6 +1,6 @@
 //! The table of all members of a family.
 
-ghost use Rattle.std.specs.Prelude.{◌≡◌, ◌≤◌, ◌^◌, ℕ, List, Option, [], ◌∷◌, ◌++◌, IfOk, OnOk, length, slice_get, Some};
+ghost use Rattle.std.specs.Prelude.{◌≡◌, ◌≤◌, ◌^◌, ℕ, List, Option, [], ◌∷◌, ◌++◌, IfOk, OnOk, length, slice_get, Some, option_copied};
 ghost use Rattle.loading.specs.Families.{Family};
 ghost use Rattle.built_in.specs.Keys.{NameAndType};
 ghost use Rattle.loading.specs.Names.{text_at};
@@ -92,6 +92,13 @@ impl MemberTable {
         let name = self.texts.number(name)?;
         let descriptor = self.texts.number(descriptor)?;
         Some(MemberKey { name, descriptor })
+    }
+
+    /// The numbers of the texts of a class's file.
+    pub(crate) fn pool(&self, class: u32) -> Option<&PoolTexts>
+        ensures { option_copied result ≡ slice_get self.now.pools.items class }
+    {
+        self.pools.get(class as usize)
     }
 
     /// The place of a class's field.

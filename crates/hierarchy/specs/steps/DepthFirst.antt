@@ -41,10 +41,15 @@ pub record Holds (family : Family) (placed : List ℕ) (first : Option ℕ) (beh
   pub count : length classes ≡ length placed
   pub ordered : IsDepthFirst family None classes
 
+-- no class stands at two places
+abbrev pub StandOnce : List ℕ → Type 0
+StandOnce order = (i j c : ℕ) → slice_get order i ≡ Some c → slice_get order j ≡ Some c → i ≡ j
+
 -- All given classes, depth first.
 pub record IsWholeOrder (family : Family) (order : List ℕ) : Type 0 where
   pub whole : (c : ℕ) → c < length family → Contains order c
   pub within : (c : ℕ) → Contains order c → c < length family
+  pub once : StandOnce order
   pub ordered : IsDepthFirst family None order
 
 -- by class: where it stands in an order of all of them

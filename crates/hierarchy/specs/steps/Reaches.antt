@@ -1,11 +1,12 @@
 -- How far the nearest class that declares a member reaches, along classes that stand depth first.
-use Rattle.std.specs.Prelude.{◌≡◌, ◌≢◌, ℕ, zero, suc, ◌<◌, ◌≤◌, ◌⊎◌, ◌∷◌, ◌++◌, [], List, Option, Some, None, length, slice_get}
+use Rattle.std.specs.Prelude.{◌≡◌, ◌≢◌, ℕ, zero, suc, ◌<◌, ◌≤◌, ◌⊎◌, ◌∷◌, ◌++◌, [], List, Option, Some, None, length, slice_get, slice_index_or}
 use Rattle.std.specs.Prelude.{fold, nat_lt, if◌then◌else◌}
 use Rattle.std.specs.declared.vec.Vec.{Vec}
 use Rattle.std.specs.declared.alloc.Global.{Global}
 use Rattle.indexmap.specs.IndexMap.{get}
 use Rattle.loading.specs.Families.{Family, superclasses_in}
-use Rattle.hierarchy.specs.steps.MemberIndexes.{same_key}
+use Rattle.built_in.specs.Keys.{NameAndType}
+use Rattle.hierarchy.specs.steps.MemberIndexes.{same_key, AreNumbers}
 use Rattle.hierarchy.specs.declared.member_index.MemberKey.{MemberKey}
 use Rattle.hierarchy.specs.declared.member.DeclaredMember.{DeclaredMember}
 use Rattle.hierarchy.specs.declared.reach_table.Reach.{Reach}
@@ -77,3 +78,48 @@ pub record TellsAlone (family : Family) (own : ℕ → Option ℕ) (classes : Li
 abbrev pub Goes : Family → (ℕ → Option ℕ) → List ℕ → ℕ → List Reach → List Reach → Type 0
 Goes family own classes c old new =
     (new ≡ old) ⊎ (Tells family own classes old → TellsAlone family own (classes ++ c ∷ []) new)
+
+-- ---- along an order of classes
+
+-- the same from a class on, if there is one
+abbrev pub NearestFrom : Family → (ℕ → Option ℕ) → Option ℕ → Option DeclaredMember → Type 0
+NearestFrom family own None r = r ≡ None
+NearestFrom family own (Some c) r = Nearest family own c r
+
+-- the nearest from a class's given superclass on
+abbrev pub NearestAbove : Family → (ℕ → Option ℕ) → ℕ → Option DeclaredMember → Type 0
+NearestAbove family own c r = ((d : ℕ) → superclasses_in family c ≡ d ∷ [] → Nearest family own d r)
+    × (superclasses_in family c ≡ [] → r ≡ None)
+
+-- the last of some classes
+abbrev pub IsLast : List ℕ → Option ℕ → Type 0
+IsLast classes None = classes ≡ []
+IsLast classes (Some v) = (last : ℕ) × (length classes ≡ suc last) × (slice_get classes last ≡ Some v)
+
+-- One more class stands behind others, its superclass at its place among them.
+pub record StandsBehind (family : Family) (places classes : List ℕ) (c place : ℕ) : Type 0 where
+  pub count : length classes ≡ place
+  pub above : (d : ℕ) → superclasses_in family c ≡ d ∷ []
+      → slice_get classes (slice_index_or places d 0) ≡ Some d
+
+-- What is declared by name and descriptor, and the texts that keys are numbers of.
+pub record Members : Type 0 where
+  pub family : Family
+  pub texts : List (List ℕ)
+  pub own : NameAndType → ℕ → Option ℕ
+
+-- each row goes on or stays when one more class comes
+abbrev pub AllGo : Members → List ℕ → ℕ → ReachTable → ReachTable → Type 0
+AllGo m classes c old new = (key : MemberKey) (name : NameAndType) → AreNumbers m.texts name key
+    → Goes m.family (m.own name) classes c (reaches_of old key) (reaches_of new key)
+
+-- the row of a name and a descriptor goes on
+abbrev pub IsNoted : Members → List ℕ → ℕ → ReachTable → ReachTable → NameAndType → Type 0
+IsNoted m classes c old new name = (key : MemberKey) → AreNumbers m.texts name key
+    → Tells m.family (m.own name) classes (reaches_of old key)
+    → TellsAlone m.family (m.own name) (classes ++ c ∷ []) (reaches_of new key)
+
+-- each row tells of all classes
+abbrev pub AllTell : Members → List ℕ → ReachTable → Type 0
+AllTell m classes table = (key : MemberKey) (name : NameAndType) → AreNumbers m.texts name key
+    → TellsAlone m.family (m.own name) classes (reaches_of table key)

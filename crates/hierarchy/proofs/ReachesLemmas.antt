@@ -1,0 +1,165 @@
+-- Rows of reaches as classes come, depth first.
+use Rattle.std.proofs.Common.{◌≡◌, ℕ, zero, suc, ◌<◌, ◌≤◌, ◌⊎◌, Bool, true, false, cond, List, [], ◌∷◌, ◌++◌, length, Option}
+use Rattle.std.proofs.Common.{Some, None, slice_get, fold, ltb, refl, sym, ap, ◌∙◌, subst, inl, inr, arith}
+use Rattle.std.proofs.lemmas.Bool.{ltb-true, lt-ltb}
+use Rattle.std.proofs.lemmas.List.{length-append}
+use Rattle.std.proofs.lemmas.Option.{slice_get_within}
+use Rattle.loading.specs.Families.{Family, superclasses_in}
+use Rattle.loading.proofs.PlaceLemmas.{pushed_at, kept_at}
+use Rattle.hierarchy.specs.steps.MemberIndexes.{same_key}
+use Rattle.hierarchy.specs.steps.Reaches.{Nearest, here, above, nowhere, Tells, TellsAlone, reaching, reach_after, GoUp}
+use Rattle.hierarchy.specs.steps.Reaches.{Goes}
+use Rattle.hierarchy.specs.declared.member_index.MemberKey.{MemberKey}
+use Rattle.hierarchy.specs.declared.member.DeclaredMember.{DeclaredMember}
+use Rattle.hierarchy.specs.declared.reach_table.Reach.{Reach}
+use Rattle.hierarchy.proofs.MemberIndexesPlaceLemmas.{key_is}
+
+fold_push : (row : List Reach) (place : ℕ) (before : Option DeclaredMember) (x : Reach)
+    → fold (reach_after place) before (row ++ x ∷ []) ≡ reach_after place (fold (reach_after place) before row) x
+fold_push [] place before x = refl
+fold_push (y ∷ ys) place before x = fold_push ys place (reach_after place before y) x
+
+reaching_before : (row : List Reach) (place : ℕ) (x : Reach) → place < x.from
+    → reaching (row ++ x ∷ []) place ≡ reaching row place
+reaching_before row place x less = fold_push row place None x ∙ rw (lt-ltb place x.from less) refl
+
+reaching_at : (row : List Reach) (place : ℕ) (x : Reach) → x.from ≡ place
+    → reaching (row ++ x ∷ []) place ≡ x.nearest
+reaching_at row place x same = fold_push row place None x ∙ by (ltb place x.from) refl
+  where
+    by : (b : Bool) → ltb place x.from ≡ b → reach_after place (reaching row place) x ≡ x.nearest
+    by true e = absurd (omega (arith, ltb-true place x.from e, same))
+    by false e = rw e refl
+
+module _ (family : Family) (own : ℕ → Option ℕ) (classes : List ℕ) where
+  -- what tells of the classes so far tells of them and the next one when that is noted
+  pub tell_next : (c : ℕ) (row : List Reach) (place : ℕ) (r : Option DeclaredMember) → length classes ≡ place
+      → Tells family own classes row → Nearest family own c r
+      → TellsAlone family own (classes ++ c ∷ []) (row ++ record { from = place; nearest = r } ∷ [])
+  tell_next c row place r count tells near = record {
+    tells = record { up = ups; below = λ i a at. omega (arith, alone i a at); told = told };
+    none_beyond = alone;
+  }
+    where
+      x : Reach
+      x = record { from = place; nearest = r }
+
+      ups : GoUp (row ++ x ∷ [])
+      ups i j a b before first second = elim (pushed_at row x a i first) [
+        | inl early ↦ elim (pushed_at row x b j second) [
+          | inl late ↦ tells.up i j a b before early late
+          | inr last ↦ subst (λ (y : Reach). a.from ≤ y.from) last.1
+              (omega (arith, tells.below i a early, count))
+        ]
+        | inr end ↦ elim (pushed_at row x b j second) [
+          | inl late ↦ absurd (omega (arith, slice_get_within row j b late, end.0, before))
+          | inr last ↦ subst (λ (y : Reach). y.from ≤ b.from) end.1
+              (subst (λ (y : Reach). place ≤ y.from) last.1 (omega arith))
+        ]
+      ]
+
+      alone : (i : ℕ) (a : Reach) → slice_get (row ++ x ∷ []) i ≡ Some a → a.from < length (classes ++ c ∷ [])
+      alone i a at = elim (pushed_at row x a i at) [
+        | inl early ↦ omega (arith, tells.below i a early, length-append classes (c ∷ []))
+        | inr last ↦ subst (λ (y : Reach). y.from < length (classes ++ c ∷ [])) last.1
+            (omega (arith, count, length-append classes (c ∷ [])))
+      ]
+
+      told : (q d : ℕ) → slice_get (classes ++ c ∷ []) q ≡ Some d → Nearest family own d (reaching (row ++ x ∷ []) q)
+      told q d at = elim (pushed_at classes c d q at) [
+        | inl early ↦ subst (λ n. Nearest family own d n)
+            (sym (reaching_before row q x (omega (arith, slice_get_within classes q d early, count))))
+            (tells.told q d early)
+        | inr last ↦ subst (λ n. Nearest family own d n) (sym (reaching_at row q x (sym count ∙ sym last.0)))
+            (subst (λ e. Nearest family own e r) last.1 near)
+      ]
+
+  -- what tells of one class more tells of those before
+  pub tells_fewer : (c : ℕ) (row : List Reach) → TellsAlone family own (classes ++ c ∷ []) row
+      → Tells family own classes row
+  tells_fewer c row alone = record {
+    up = alone.tells.up;
+    below = λ i a at. omega (arith, alone.none_beyond i a at, length-append classes (c ∷ []));
+    told = λ q d at. alone.tells.told q d (kept_at classes c d q at);
+  }
+
+  pub goes_then : (c : ℕ) (old mid new : List Reach) → Goes family own classes c old mid
+      → Goes family own classes c mid new → Goes family own classes c old new
+  goes_then c old mid new (inl same) (inl other) = inl (other ∙ same)
+  goes_then c old mid new (inl same) (inr moves) = inr (λ tells. moves (subst (Tells family own classes) (sym same) tells))
+  goes_then c old mid new (inr moves) (inl same) =
+      inr (λ tells. subst (TellsAlone family own (classes ++ c ∷ [])) (sym same) (moves tells))
+  goes_then c old mid new (inr moves) (inr further) =
+      inr (λ tells. further (tells_fewer c mid (moves tells)))
+
+  -- a row that was noted stays so
+  pub noted_stays : (c : ℕ) (old mid new : List Reach)
+      → (Tells family own classes old → TellsAlone family own (classes ++ c ∷ []) mid)
+      → Goes family own classes c mid new
+      → Tells family own classes old → TellsAlone family own (classes ++ c ∷ []) new
+  noted_stays c old mid new noted (inl same) tells =
+      subst (TellsAlone family own (classes ++ c ∷ [])) (sym same) (noted tells)
+  noted_stays c old mid new noted (inr moves) tells = moves (tells_fewer c mid (noted tells))
+
+  pub noted_before : (c : ℕ) (old mid new : List Reach) → Goes family own classes c old mid
+      → (Tells family own classes mid → TellsAlone family own (classes ++ c ∷ []) new)
+      → Tells family own classes old → TellsAlone family own (classes ++ c ∷ []) new
+  noted_before c old mid new (inl same) noted tells = noted (subst (Tells family own classes) (sym same) tells)
+  noted_before c old mid new (inr moves) noted tells = noted (tells_fewer c mid (moves tells))
+
+  -- one key is noted, and the others stay
+  pub goes_by_key : (c : ℕ) (key k : MemberKey) (old new : List Reach) (place : ℕ) (r : Option DeclaredMember)
+      → length classes ≡ place
+      → new ≡ cond (same_key key k) (old ++ record { from = place; nearest = r } ∷ []) old
+      → (key ≡ k → Tells family own classes old → Nearest family own c r) → Goes family own classes c old new
+  goes_by_key c key k old new place r count is near = by (same_key key k) refl
+    where
+      by : (b : Bool) → same_key key k ≡ b → Goes family own classes c old new
+      by false e = inl (is ∙ rw e refl)
+      by true e = inr (λ tells.
+          let pushed : new ≡ old ++ record { from = place; nearest = r } ∷ [] = is ∙ rw e refl in
+          subst (TellsAlone family own (classes ++ c ∷ [])) (sym pushed)
+          (tell_next c old place r count tells (near (key_is key k e) tells)))
+
+  -- the last class tells of the next one where both have the same nearest one
+  pub tells_same : (v c : ℕ) (row : List Reach) (last : ℕ) → length classes ≡ suc last
+      → slice_get classes last ≡ Some v
+      → TellsAlone family own classes row
+      → ((r : Option DeclaredMember) → Nearest family own v r → Nearest family own c r)
+      → TellsAlone family own (classes ++ c ∷ []) row
+  tells_same v c row last count there alone same = record {
+    tells = record {
+      up = alone.tells.up;
+      below = λ i a at. omega (arith, alone.none_beyond i a at, length-append classes (c ∷ []));
+      told = told;
+    };
+    none_beyond = λ i a at. omega (arith, alone.none_beyond i a at, length-append classes (c ∷ []));
+  }
+    where
+      told : (q d : ℕ) → slice_get (classes ++ c ∷ []) q ≡ Some d → Nearest family own d (reaching row q)
+      told q d at = elim (pushed_at classes c d q at) [
+        | inl early ↦ alone.tells.told q d early
+        | inr end ↦ (let further : reaching row q ≡ reaching row last =
+            beyond row q last (λ i a held. omega (arith, alone.none_beyond i a held, count)) (omega (arith, end.0, count)) in
+            subst (λ e. Nearest family own e (reaching row q)) end.1
+            (subst (λ n. Nearest family own c n) (sym further) (same (reaching row last) (alone.tells.told last v there))))
+      ]
+        where
+          beyond_from : (before : Option DeclaredMember) (xs : List Reach) (p m : ℕ)
+              → ((i : ℕ) (a : Reach) → slice_get xs i ≡ Some a → a.from ≤ m) → m ≤ p
+              → fold (reach_after p) before xs ≡ fold (reach_after m) before xs
+          beyond_from before [] p m low less = refl
+          beyond_from before (y ∷ ys) p m low less =
+              rw (not_less p y.from (omega (arith, low 0 y refl, less)), not_less m y.from (low 0 y refl))
+              (beyond_from y.nearest ys p m (λ i a at. low (suc i) a at) less)
+            where
+              not_less : (a b : ℕ) → b ≤ a → ltb a b ≡ false
+              not_less a b h = by (ltb a b) refl
+                where
+                  by : (t : Bool) → ltb a b ≡ t → ltb a b ≡ false
+                  by false e = e
+                  by true e = absurd (omega (arith, ltb-true a b e, h))
+
+          beyond : (xs : List Reach) (p m : ℕ) → ((i : ℕ) (a : Reach) → slice_get xs i ≡ Some a → a.from ≤ m) → m ≤ p
+              → reaching xs p ≡ reaching xs m
+          beyond xs p m low less = beyond_from None xs p m low less
