@@ -14,3 +14,5 @@ pub mod InterfaceOrdersLemmas
 pub mod UniquenessLemmas
 pub mod InitializationLemmas
 pub mod SearchRowLemmas
+pub mod WalksOrderLemmas
+pub mod WalksLemmas

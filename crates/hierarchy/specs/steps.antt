@@ -5,4 +5,5 @@ pub mod InterfaceLists
 pub mod Joined
 pub mod HierarchyTables
 pub mod InterfaceOrders
+pub mod Walks
 pub mod GrowingTexts

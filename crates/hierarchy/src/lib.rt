@@ -18,4 +18,5 @@ pub mod superclasses;
 pub mod superinterfaces;
 pub mod texts;
 pub mod uniqueness;
+mod walk;
 mod wanted;
