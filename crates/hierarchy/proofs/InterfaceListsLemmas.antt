@@ -95,7 +95,8 @@ pub among_parents : {family : Family} {c j : ℕ} → IsAmongOrAbove family (par
 among_parents (inl h) = parent h
 among_parents (inr up) = ancestor_of_parent up.1 up.2
 
-pub further_on : (family : Family) (i j : ℕ) (is : List ℕ) → IsAmongOrAbove family is j → IsAmongOrAbove family (i ∷ is) j
+pub further_on : (family : Family) (i j : ℕ) (is : List ℕ) → IsAmongOrAbove family is j
+    → IsAmongOrAbove family (i ∷ is) j
 further_on family i j is (inl (k, small, e)) = inl (suc k, omega arith, e)
 further_on family i j is (inr (p, (k, small, e), a)) = inr (p, (suc k, omega arith, e), a)
 

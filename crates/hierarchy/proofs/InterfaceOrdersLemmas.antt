@@ -1,69 +1,97 @@
--- Interfaces after their superinterfaces, each once.
-use Rattle.std.proofs.Common.{◌≡◌, ℕ, suc, Bool, false, List, [], ◌∷◌, ◌++◌, refl, sym, ap, ◌∙◌, arith}
-use Rattle.std.proofs.Common.{append_assoc}
-use Rattle.std.specs.List.{Contains, filter, flat_map}
-use Rattle.std.proofs.lemmas.List.Elements.{filter-append}
-use Rattle.loading.specs.Families.{Family, interfaces_in, is_interface_in, superclasses_in}
-use Rattle.hierarchy.specs.Search.{SuperinterfacesFirst, none, next, firsts}
-use Rattle.hierarchy.specs.Initialization.{is_initialized_first, IsInitializationOrder, class}
-use Rattle.hierarchy.specs.steps.InterfaceOrders.{IsInterfaceOrder}
-use Rattle.hierarchy.proofs.JoinedLemmas.{firsts-append_same, firsts-filter, firsts-firsts}
+-- What is initialized before a class, from a walk up its interfaces.
+use Rattle.std.proofs.Common.{◌≡◌, ℕ, zero, suc, Bool, true, false, List, [], ◌∷◌, ◌++◌, get_or, refl, sym, ap}
+use Rattle.std.proofs.Common.{◌∙◌, subst, ◌<◌, ◌≤◌, ◌+◌, length, take, cond, inl, inr, arith, Option}
+use Rattle.std.proofs.Common.{append-nil, append_assoc}
+use Rattle.std.proofs.lemmas.Bool.{cases_lt}
+use Rattle.std.proofs.lemmas.Option.{slice_get_past}
+use Rattle.std.specs.List.{Contains, filter}
+use Rattle.std.proofs.lemmas.List.{take_more}
+use Rattle.std.proofs.lemmas.List.Elements.{filter_agree, filter-append}
+use Rattle.loading.specs.Families.{Family, IsFamily, parents_in, interfaces_in, is_interface_in, superclasses_in}
+use Rattle.loading.specs.Families.{passes, file_of}
+use Rattle.loading.specs.declared.given.GivenClass.{GivenClass}
+use Rattle.hierarchy.specs.Search.{SuperinterfacesFirst, none, next}
+use Rattle.hierarchy.specs.Initialization.{is_initialized_first, declares_default, IsInitializationOrder, class}
+use Rattle.hierarchy.specs.steps.InterfaceOrders.{AddsInterfaces, AreMarks}
+use Rattle.hierarchy.specs.steps.Walks.{ParentsBefore, IsPostorderOf}
+use Rattle.hierarchy.specs.steps.Walks as walks
+use Rattle.hierarchy.proofs.InterfaceListsLemmas.{interface_parents}
+use Rattle.hierarchy.proofs.WalksOrderLemmas.{in_front, in_rest}
 
--- some interfaces and those above them, each after its own superinterfaces, of which those stay that are initialized
--- first
-pub record AreBehind (family : Family) (is list : List ℕ) : Type 0 where
-  pub all : List ℕ
-  pub stand : SuperinterfacesFirst family is all
-  pub kept : firsts list ≡ filter (is_initialized_first family) (firsts all)
+-- above interfaces stand interfaces alone
+pub superinterfaces_first : (family : Family) → IsFamily family → {is all : List ℕ} → ParentsBefore family is all
+    → ((i : ℕ) → Contains is i → is_interface_in family i ≡ true) → SuperinterfacesFirst family is all
+superinterfaces_first family fits walks.none are = none
+superinterfaces_first family fits (walks.next {c} {cs} {above = low} {rest} lower higher) are =
+    let parents : parents_in family c ≡ interfaces_in family c =
+    interface_parents family c fits (are c (in_front c cs)) in
+    let under : SuperinterfacesFirst family (parents_in family c) low =
+    superinterfaces_first family fits lower
+    (λ i h. fits.interfaces c i (subst (λ (xs : List ℕ). Contains xs i) parents h)) in
+    next (subst (λ (xs : List ℕ). SuperinterfacesFirst family xs low) parents under)
+    (superinterfaces_first family fits higher (λ i h. are i (in_rest c cs i h)))
 
--- filters and first places of joined lists
-joined_kept : (p : ℕ → Bool) (xs ys zs ws : List ℕ) → firsts xs ≡ filter p (firsts zs)
-    → firsts ys ≡ filter p (firsts ws)
-    → firsts (xs ++ ys) ≡ filter p (firsts (zs ++ ws))
-joined_kept p xs ys zs ws e f =
-    firsts-append_same xs ys (filter p zs) (filter p ws) (e ∙ sym (firsts-filter p zs)) (f ∙ sym (firsts-filter p ws))
-    ∙ ap firsts (sym (filter-append p zs ws)) ∙ firsts-filter p (zs ++ ws)
+get_or_past : (marks : List Bool) (i : ℕ) → length marks ≤ i → get_or marks i false ≡ false
+get_or_past [] i past = refl
+get_or_past (m ∷ marks) zero past = absurd (omega (arith, past))
+get_or_past (m ∷ marks) (suc i) past = get_or_past marks i (omega arith)
 
-kept_firsts : (p : ℕ → Bool) (list xs : List ℕ) → list ≡ filter p (firsts xs) → firsts list ≡ filter p (firsts xs)
-kept_firsts p list xs e = ap firsts e ∙ firsts-filter p (firsts xs) ∙ ap (filter p) (firsts-firsts xs)
+-- a number of no class is not initialized
+marks_tell : (family : Family) (marks : List Bool) (i : ℕ) → AreMarks family marks
+    → get_or marks i false ≡ is_initialized_first family i
+marks_tell family marks i are = elim (cases_lt i (length marks)) [
+  | inl small ↦ are.tell i small
+  | inr past ↦ get_or_past marks i past
+      ∙ sym (ap (λ (g : Option GivenClass). passes declares_default (file_of g))
+      (slice_get_past family i (omega (arith, are.count))))
+]
 
-pub interface_orders_joined : (family : Family) (row : ℕ → List ℕ) (is : List ℕ)
-    → ((i : ℕ) → Contains is i → IsInterfaceOrder family i (row i))
-    → AreBehind family is (flat_map row is)
-interface_orders_joined family row [] each = record { all = []; stand = none; kept = refl }
-interface_orders_joined family row (i ∷ is) each =
-    let own = each i (0, omega arith, refl) in
-    let rest = interface_orders_joined family row is (λ j h. each j (suc h.0, omega (arith, h.1), h.2)) in
-    let p = is_initialized_first family in
-    let joined : firsts (row i ++ flat_map row is) ≡ filter p (firsts ((own.above ++ i ∷ []) ++ rest.all)) =
-    joined_kept p (row i) (flat_map row is) (own.above ++ i ∷ []) rest.all
-    (kept_firsts p (row i) (own.above ++ i ∷ []) own.kept) rest.kept in
-    record {
-      all = own.above ++ i ∷ rest.all;
-      stand = next own.stand rest.stand;
-      kept = joined ∙ ap (λ (xs : List ℕ). filter p (firsts xs)) (append_assoc own.above (i ∷ []) rest.all);
-    }
+pub marked_added : (family : Family) (is seen old new : List ℕ) (marks : List Bool) → IsFamily family
+    → AreMarks family marks
+    → ((i : ℕ) → Contains is i → is_interface_in family i ≡ true) → IsPostorderOf family is seen
+    → new ≡ old ++ filter (λ c. get_or marks c false) seen
+    → AddsInterfaces family is old new
+marked_added family is seen old new marks fits marked are order added = record {
+  all = order.all;
+  stand = superinterfaces_first family fits order.stand are;
+  kept = added
+      ∙ ap (λ (xs : List ℕ). old ++ xs)
+      (filter_agree (λ c. get_or marks c false) (is_initialized_first family) (λ i. marks_tell family marks i marked)
+      seen ∙ ap (filter (is_initialized_first family)) order.first);
+}
 
--- the list of an interface, from those of its direct superinterfaces and itself
-pub interface_order_with_itself : (family : Family) (row : ℕ → List ℕ) (i : ℕ) (own list : List ℕ)
-    → ((j : ℕ) → Contains (interfaces_in family i) j → IsInterfaceOrder family j (row j))
-    → own ≡ filter (is_initialized_first family) (i ∷ []) → list ≡ firsts (flat_map row (interfaces_in family i) ++ own)
-    → IsInterfaceOrder family i list
-interface_order_with_itself family row i own list each e f =
-    let joined = interface_orders_joined family row (interfaces_in family i) each in
-    let p = is_initialized_first family in
-    let alone : firsts own ≡ filter p (firsts (i ∷ [])) = kept_firsts p own (i ∷ []) e in
-    record {
-      above = joined.all;
-      stand = joined.stand;
-      kept = f ∙ joined_kept p (flat_map row (interfaces_in family i)) own joined.all (i ∷ []) joined.kept alone;
-    }
+pub none_added : (family : Family) (is old : List ℕ) → is ≡ [] → AddsInterfaces family is old old
+none_added family is old empty = record {
+  all = [];
+  stand = rw empty none;
+  kept = sym (append-nil old);
+}
 
--- what is initialized before a class, from the lists of its direct superinterfaces
-pub class_order : (family : Family) (row : ℕ → List ℕ) (c : ℕ) (list : List ℕ) → is_interface_in family c ≡ false
-    → ((j : ℕ) → Contains (interfaces_in family c) j → IsInterfaceOrder family j (row j))
-    → list ≡ firsts (flat_map row (interfaces_in family c))
-    → IsInitializationOrder family c (superclasses_in family c ++ list)
-class_order family row c list is each e =
-    let joined = interface_orders_joined family row (interfaces_in family c) each in
-    rw (e ∙ joined.kept) (class is joined.stand)
+-- what is initialized before a class
+pub class_order : (family : Family) (c : ℕ) (list : List ℕ) → is_interface_in family c ≡ false
+    → AddsInterfaces family (interfaces_in family c) (superclasses_in family c) list
+    → IsInitializationOrder family c list
+class_order family c list is adds = rw adds.kept (class is adds.stand)
+
+-- one more member of a list is looked at
+kept_more : (p : ℕ → Bool) (seen old now : List ℕ) (k x : ℕ) (b : Bool) → k < length seen → x ≡ get_or seen k 0
+    → p x ≡ b
+    → now ≡ old ++ filter p (take k seen) → now ++ cond b (x ∷ []) [] ≡ old ++ filter p (take (k + 1) seen)
+kept_more p seen old now k x b small read test before =
+    ap (λ (c : Bool). now ++ cond c (x ∷ []) []) (sym test)
+    ∙ ap (λ (xs : List ℕ). xs ++ filter p (x ∷ [])) before
+    ∙ append_assoc old (filter p (take k seen)) (filter p (x ∷ []))
+    ∙ ap (λ (xs : List ℕ). old ++ xs) (sym (filter-append p (take k seen) (x ∷ []))
+    ∙ ap (filter p) (ap (λ (y : ℕ). take k seen ++ y ∷ []) read ∙ sym (take_more seen k 0 small)))
+
+pub kept_one : (p : ℕ → Bool) (seen old now new : List ℕ) (k x : ℕ) → k < length seen → x ≡ get_or seen k 0
+    → p x ≡ true
+    → now ≡ old ++ filter p (take k seen) → new ≡ now ++ x ∷ [] → new ≡ old ++ filter p (take (k + 1) seen)
+kept_one p seen old now new k x small read test before push =
+    push ∙ kept_more p seen old now k x true small read test before
+
+pub kept_none : (p : ℕ → Bool) (seen old now new : List ℕ) (k x : ℕ) → k < length seen → x ≡ get_or seen k 0
+    → p x ≡ false
+    → now ≡ old ++ filter p (take k seen) → new ≡ now → new ≡ old ++ filter p (take (k + 1) seen)
+kept_none p seen old now new k x small read test before same =
+    same ∙ sym (append-nil now) ∙ kept_more p seen old now k x false small read test before

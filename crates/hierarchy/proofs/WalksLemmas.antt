@@ -2,11 +2,11 @@
 use Rattle.std.proofs.Common.{◌≡◌, ℕ, zero, suc, ◌⊎◌, ◌↔◌, Bool, true, false, List, [], ◌∷◌, ◌++◌, length, map, reverse}
 use Rattle.std.proofs.Common.{Option, Some, None, refl, sym, ap, ◌∙◌, subst, inl, inr, arith}
 use Rattle.std.proofs.Common.{append-nil, append_assoc}
-use Rattle.std.specs.List.{All, Contains}
 use Rattle.std.proofs.Common.{◌+◌, ◌-◌, ◌*◌, ◌<◌, ◌≤◌}
+use Rattle.std.specs.List.{All, Contains}
 use Rattle.std.proofs.Math.Nat.{suc-mul}
-use Rattle.std.proofs.lemmas.List.{map-append, reverse-append, nil_from_length, length-append, length-map, length-reverse}
-use Rattle.std.proofs.lemmas.List.{length_push}
+use Rattle.std.proofs.lemmas.List.{map-append, reverse-append, nil_from_length}
+use Rattle.std.proofs.lemmas.List.{length-append, length-map, length-reverse, length_push}
 use Rattle.std.proofs.lemmas.List.Elements.{All-append, All-map, All-weaker, All-contains_itself, All-nil}
 use Rattle.std.proofs.lemmas.List.Elements.{Contains-append_left, Contains-append_right, Contains-append_cases}
 use Rattle.std.proofs.lemmas.List.Elements.{Contains-push, Contains-push_cases}
@@ -16,7 +16,7 @@ use Rattle.loading.specs.Families.{Family, IsFamily, IsAncestor, parent, further
 use Rattle.loading.specs.Families.{AreParentsWithin, given_superclass}
 use Rattle.loading.specs.declared.given.Superclass.{Superclass}
 use Rattle.loading.specs.declared.given.Superclass.TheVariants as super
-use Rattle.hierarchy.specs.Search.{Search, nothing, here, above, firsts}
+use Rattle.hierarchy.specs.Search.{Search, nothing, here, above}
 use Rattle.hierarchy.specs.steps.InterfaceLists.{first_with, with_place, or_else, IsAmongOrAbove}
 use Rattle.hierarchy.specs.steps.Walks.{ParentsBefore, none, next, Leaves, done, enter, leave, ParentsCome, StandAbove}
 use Rattle.hierarchy.specs.steps.Walks.{IsFinished, Walking, IsPostorderOf, IsSearchOrder, to_enter, class_of}
@@ -82,8 +82,11 @@ one_superclass (Some (super.BuiltIn class)) = omega arith
 few_parents : (family : Family) (c : ℕ) → length (parents_in family c) ≤ parents_count family
 few_parents [] c = omega arith
 few_parents (g ∷ family) zero =
-    omega (arith, length-append g.interfaces (given_superclass (Some g.superclass)),
-    one_superclass (Some g.superclass))
+    omega (
+      arith,
+      length-append g.interfaces (given_superclass (Some g.superclass)),
+      one_superclass (Some g.superclass),
+    )
 few_parents (g ∷ family) (suc c) = omega (arith, few_parents family c)
 
 less_by_one : (limit a b m : ℕ) → b ≡ a + 1 → b ≤ limit → (limit - a) * m ≡ (limit - b) * m + m
@@ -101,8 +104,12 @@ enter_nearer family limit c entered now todo new joined small planned =
     ∙ length-append (map Enter ps) (Leave c ∷ reverse todo) ∙ ap (λ (n : ℕ). n + length (Leave c ∷ reverse todo))
     (length-map ps Enter) ∙ ap (λ (n : ℕ). length ps + n) (let behind : length (Leave c ∷ reverse todo)
     ≡ 1 + length todo = omega (arith, length-reverse todo) in behind) in
-    omega (arith, visits, few_parents family c,
-    less_by_one limit (length entered) (length now) (parents_count family + 2) one_more small)
+    omega (
+      arith,
+      visits,
+      few_parents family c,
+      less_by_one limit (length entered) (length now) (parents_count family + 2) one_more small,
+    )
 
 module _ (family : Family) where
   -- ---- what is left stands behind what is entered

@@ -1,11 +1,11 @@
 -- Classes after their parents, as a walk leaves them, and searches past what was found before.
-use Rattle.std.proofs.Common.{◌≡◌, ℕ, zero, suc, ◌⊎◌, ◌↔◌, List, [], ◌∷◌, ◌++◌, Option, Some, None, refl, sym, ap, ◌∙◌}
+use Rattle.std.proofs.Common.{◌≡◌, ℕ, zero, suc, ◌⊎◌, List, [], ◌∷◌, ◌++◌, Option, Some, None, refl, sym, ap, ◌∙◌}
 use Rattle.std.proofs.Common.{subst, inl, inr, arith, false}
 use Rattle.std.proofs.Common.{append-nil, append_assoc}
 use Rattle.std.specs.List.{Contains}
 use Rattle.std.proofs.lemmas.List.Elements.{Contains-append_left, Contains-append_right, Contains-append_cases}
-use Rattle.loading.specs.Families.{Family, IsFamily, IsAncestor, parent, further, parents_in, interfaces_in}
-use Rattle.hierarchy.specs.Search.{Search, nothing, here, above, firsts}
+use Rattle.loading.specs.Families.{Family, IsAncestor, parent, further, parents_in}
+use Rattle.hierarchy.specs.Search.{Search, here, above, firsts}
 use Rattle.hierarchy.specs.steps.InterfaceLists.{first_with, with_place, or_else, IsAmongOrAbove}
 use Rattle.hierarchy.specs.steps.Walks.{ParentsBefore, none, next}
 use Rattle.hierarchy.specs.declared.member.DeclaredMember.{DeclaredMember}
@@ -156,4 +156,5 @@ search_again family own asked (next {c} {cs} {above = low} {rest = more} lower h
         let found = found_among own asked c k e (known c (Contains-append_right low (c ∷ more) c (in_front c more))) in
         let either : (t : Option DeclaredMember) → or_else (first_with own asked) t ≡ Some found.0 =
         λ t. ap (λ (o : Option DeclaredMember). or_else o t) found.1 in
-        (Some (record { class = c; index = k }), here e, either (Some (record { class = c; index = k })) ∙ sym (either r))
+        let member : DeclaredMember = record { class = c; index = k } in
+        (Some member, here e, either (Some member) ∙ sym (either r))

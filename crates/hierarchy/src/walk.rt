@@ -1,6 +1,6 @@
 //! Walks up a family, depth first (JVMS 5.4.3.2, 5.5).
 
-ghost use Rattle.std.specs.Prelude.{◌≡◌, ℕ, List, ◌+◌, ◌<◌, ◌≤◌, [], ◌∷◌, ◌++◌, length, map, reverse, IfOk, OnOk, vec_len};
+ghost use Rattle.std.specs.Prelude.{◌≡◌, ℕ, List, ◌<◌, ◌≤◌, [], ◌∷◌, ◌++◌, length, map, reverse, IfOk, OnOk};
 ghost use Rattle.std.specs.List.{All};
 ghost use Rattle.loading.specs.Families.{IsFamily, AreParentsWithin, parents_in};
 ghost use Rattle.loading.specs.declared.given.GivenClass.{GivenClass};

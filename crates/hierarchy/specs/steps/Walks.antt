@@ -3,7 +3,6 @@ use Rattle.std.specs.Prelude.{◌≡◌, ℕ, ◌+◌, ◌-◌, ◌*◌, ◌⊎�
 use Rattle.std.specs.List.{Contains}
 use Rattle.graph.specs.Seen.{AreDistinct}
 use Rattle.loading.specs.Families.{Family, IsFamily, IsAncestor, parents_in}
-use Rattle.loading.specs.declared.given.GivenClass.{GivenClass}
 use Rattle.hierarchy.specs.Search.{Search, firsts}
 use Rattle.hierarchy.specs.steps.InterfaceLists.{or_else, first_with, IsAmongOrAbove}
 use Rattle.hierarchy.specs.declared.member.DeclaredMember.{DeclaredMember}

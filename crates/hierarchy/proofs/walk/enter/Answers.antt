@@ -1,11 +1,9 @@
-use Rattle.std.proofs.Common.{◌≡◌, ℕ, ◌<◌, length, ◌∷◌, ◌++◌, Bool, List, [], map, reverse, true, false, sym, ap, subst, ◌∙◌}
-use Rattle.std.specs.List.{All}
+use Rattle.std.proofs.Common.{◌≡◌, ◌<◌, length, ◌∷◌, ◌++◌, Bool, map, reverse, true, false, subst}
 use Rattle.std.proofs.lemmas.List.Elements.{All-cons}
 use Rattle.std.proofs.lemmas.Result.{on_ok_weaker}
 use Rattle.graph.specs.Seen.{Joins}
 use Rattle.loading.specs.Families.{parents_in}
-use Rattle.hierarchy.specs.steps.Walks.{Walking, class_of}
-use Rattle.hierarchy.specs.declared.walk.Visit.{Visit}
+use Rattle.hierarchy.specs.steps.Walks.{class_of}
 use Rattle.hierarchy.specs.declared.walk.Visit.TheVariants.{Enter, Leave}
 use Rattle.hierarchy.proofs.WalksLemmas.{walk_enter, walk_again, planned_within, enter_nearer, planned_after}
 use Rattle.hierarchy.proofs.walk.enter.Goals as goal
@@ -56,8 +54,11 @@ returns-clause-walking c =
     on_ok_weaker c.plan_parents.result
     (λ (planned : reverse c.plan_parents.new.todo.items
     ≡ map Enter (parents_in c.args.family.now c.args.class) ++ reverse c.push.new.self.items).
-    λ from w. rw (planned_after c.args.class c.args.walk.now.todo.items c.push.new.self.items _ _
-    c.in_ok-push.ensures.items planned, joins.1)
+    λ from w. rw (
+      planned_after c.args.class c.args.walk.now.todo.items c.push.new.self.items _ _
+          c.in_ok-push.ensures.items planned,
+      joins.1,
+    )
     (walk_enter c.args.family.now from (reverse c.args.walk.now.todo.items) c.args.walk.now.entered.items
     c.args.walk.now.left.items c.args.class joins.0 w))
     c.plan_parents.ensures

@@ -1,5 +1,4 @@
-use Rattle.std.proofs.Common.{◌≡◌, ℕ, List, [], ◌∷◌, ◌++◌, map, reverse, ap, sym, ◌∙◌}
-use Rattle.hierarchy.specs.declared.walk.Visit.{Visit}
+use Rattle.std.proofs.Common.{◌≡◌, ℕ, List, ◌++◌, map, reverse, ap}
 use Rattle.hierarchy.specs.declared.walk.Visit.TheVariants.{Enter}
 use Rattle.hierarchy.proofs.WalksLemmas.{planned_one, planned_all}
 use Rattle.hierarchy.proofs.walk.plan.Goals as goal

@@ -1,7 +1,6 @@
-use Rattle.std.proofs.Common.{rules, [], ◌≡◌, ◌∷◌, ◌<◌, List, reverse, length, ap, ◌∙◌, sym}
+use Rattle.std.proofs.Common.{rules, [], ◌≡◌, ◌∷◌, ◌<◌, reverse, length, ap, ◌∙◌}
 use Rattle.std.proofs.lemmas.List.Elements.{All-tail}
 use Rattle.hierarchy.specs.steps.Walks.{class_of}
-use Rattle.hierarchy.specs.declared.walk.Visit.{Visit}
 use Rattle.hierarchy.proofs.WalksLemmas.{reverse_push}
 use Rattle.hierarchy.proofs.walk.walk_on.Goals as goal
 

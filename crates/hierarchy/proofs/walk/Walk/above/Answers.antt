@@ -1,9 +1,5 @@
-use Rattle.std.proofs.Common.{◌≡◌, ℕ, List, [], ◌++◌, map, reverse, ap, sym, subst, ◌∙◌}
+use Rattle.std.proofs.Common.{reverse}
 use Rattle.std.proofs.lemmas.Result.{on_ok_weaker}
-use Rattle.loading.specs.declared.given.GivenClass.{GivenClass}
-use Rattle.hierarchy.specs.steps.Walks.{Walking}
-use Rattle.hierarchy.specs.declared.walk.Visit.{Visit}
-use Rattle.hierarchy.specs.declared.walk.Visit.TheVariants.{Enter}
 use Rattle.hierarchy.proofs.WalksLemmas.{started_within, walk_start, walk_postorder, walk_search}
 use Rattle.hierarchy.proofs.walk.Walk.above.Goals as goal
 
