@@ -16,3 +16,4 @@ pub mod InitializationLemmas
 pub mod SearchRowLemmas
 pub mod WalksOrderLemmas
 pub mod WalksLemmas
+pub mod AncestorsLemmas

@@ -2,6 +2,7 @@
 //! 5.4.3, 5.5; 6.5, invokevirtual).
 #![tactic(auto)]
 
+pub mod ancestors;
 pub mod class_lists;
 mod defaults;
 pub mod hierarchy;

@@ -34,6 +34,7 @@ impl Walk {
     pub(crate) fn new(alloc: Global, count: usize) -> Result<Walk, AllocError>
         ensures entered { IfOk result (λ walk. walk.entered.limit ≡ count) }
         ensures left { IfOk result (λ walk. walk.left.limit ≡ count) }
+        ensures empty { IfOk result (λ walk. walk.entered.items ≡ []) }
     {
         let entered = Visited::new(alloc, count)?;
         let left = Visited::new(alloc, count)?;
@@ -70,11 +71,38 @@ impl Walk {
         ensures entered { OnOk result (IsSearchOrder family.now from.now self.new.entered.items) }
         ensures left { OnOk result (IsPostorderOf family.now from.now self.new.left.items) }
     {
+        self.forget();
+        plan(&mut self.todo, from)?;
+        walk_on(self, family)
+    }
+
+    /// Walks from the parents of a class.
+    pub(crate) fn above_class(&mut self, family: &Family, class: u32) -> Result<(), AllocError>
+        requires fits { IsFamily family.now }
+        requires parents { AreParentsWithin family.now }
+        requires entered { length family.now ≤ self.old.entered.limit }
+        requires left { length family.now ≤ self.old.left.limit }
+        ensures entered_limit { self.new.entered.limit ≡ self.old.entered.limit }
+        ensures left_limit { self.new.left.limit ≡ self.old.left.limit }
+        ensures entered { OnOk result (IsSearchOrder family.now (parents_in family.now class) self.new.entered.items) }
+        ensures left { OnOk result (IsPostorderOf family.now (parents_in family.now class) self.new.left.items) }
+    {
+        self.forget();
+        plan_parents(&mut self.todo, family, class)?;
+        walk_on(self, family)
+    }
+
+    /// As if it was nowhere, with the same room.
+    pub(crate) fn forget(&mut self)
+        ensures todo { self.new.todo.items ≡ [] }
+        ensures entered { self.new.entered.items ≡ [] }
+        ensures left { self.new.left.items ≡ [] }
+        ensures entered_limit { self.new.entered.limit ≡ self.old.entered.limit }
+        ensures left_limit { self.new.left.limit ≡ self.old.left.limit }
+    {
         self.todo.clear();
         self.entered.clear();
         self.left.clear();
-        plan(&mut self.todo, from)?;
-        walk_on(self, family)
     }
 }
 
