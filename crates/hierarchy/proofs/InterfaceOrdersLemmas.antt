@@ -1,22 +1,27 @@
 -- What is initialized before a class, from a walk up its interfaces.
-use Rattle.std.proofs.Common.{◌≡◌, ℕ, zero, suc, Bool, true, false, List, [], ◌∷◌, ◌++◌, get_or, refl, sym, ap}
-use Rattle.std.proofs.Common.{◌∙◌, subst, ◌<◌, ◌≤◌, ◌+◌, length, take, cond, inl, inr, arith, Option}
+use Rattle.std.proofs.Common.{◌≡◌, ℕ, zero, suc, ◌+◌, ◌<◌, ◌≤◌, Bool, true, false, cond, List, [], ◌∷◌, ◌++◌, length}
+use Rattle.std.proofs.Common.{take, get_or, set, Option, refl, sym, ap, ◌∙◌, subst, inl, inr, arith}
 use Rattle.std.proofs.Common.{append-nil, append_assoc}
-use Rattle.std.proofs.lemmas.Bool.{cases_lt}
+use Rattle.std.specs.List.{All, Contains, filter}
+use Rattle.std.proofs.lemmas.Bool.{cases_lt, cases_eq}
+use Rattle.std.proofs.lemmas.List.{take_more, get_or-set_same, get_or-set_other}
+use Rattle.std.proofs.lemmas.List.Elements.{filter_agree, filter-append, All-contains, Contains-push_cases}
 use Rattle.std.proofs.lemmas.Option.{slice_get_past}
-use Rattle.std.specs.List.{Contains, filter}
-use Rattle.std.proofs.lemmas.List.{take_more}
-use Rattle.std.proofs.lemmas.List.Elements.{filter_agree, filter-append}
-use Rattle.loading.specs.Families.{Family, IsFamily, parents_in, interfaces_in, is_interface_in, superclasses_in}
-use Rattle.loading.specs.Families.{passes, file_of}
 use Rattle.loading.specs.declared.given.GivenClass.{GivenClass}
-use Rattle.hierarchy.specs.Search.{SuperinterfacesFirst, none, next}
+use Rattle.loading.specs.Families.{Family, IsFamily, parents_in, interfaces_in, is_interface_in, superclasses_in}
+use Rattle.loading.specs.Families.{passes, file_of, IsAncestor, IsParentsFirst}
+use Rattle.hierarchy.specs.Search.{SuperinterfacesFirst, none, next, firsts}
 use Rattle.hierarchy.specs.Initialization.{is_initialized_first, declares_default, IsInitializationOrder, class}
-use Rattle.hierarchy.specs.steps.InterfaceOrders.{AddsInterfaces, AreMarks}
-use Rattle.hierarchy.specs.steps.Walks.{ParentsBefore, IsPostorderOf}
+use Rattle.hierarchy.specs.steps.InterfaceLists.{IsAmongOrAbove}
+use Rattle.hierarchy.specs.steps.InterfaceOrders.{AddsInterfaces, TellFirst, TellIdle, AreIdle}
+use Rattle.hierarchy.specs.steps.Walks.{ParentsBefore, IsPostorderOf, HasPostorder}
 use Rattle.hierarchy.specs.steps.Walks as walks
-use Rattle.hierarchy.proofs.InterfaceListsLemmas.{interface_parents}
-use Rattle.hierarchy.proofs.WalksOrderLemmas.{in_front, in_rest}
+use Rattle.hierarchy.proofs.InterfaceListsLemmas.{interface_parents, ancestor_parts}
+use Rattle.hierarchy.proofs.JoinedLemmas.{Contains-firsts}
+use Rattle.hierarchy.proofs.SearchRowLemmas.{interfaces_before}
+use Rattle.hierarchy.proofs.WalksOrderLemmas.{in_front, in_rest, cons_cases, none_in_empty, before_among}
+
+-- ---- walks up interfaces
 
 -- above interfaces stand interfaces alone
 pub superinterfaces_first : (family : Family) → IsFamily family → {is all : List ℕ} → ParentsBefore family is all
@@ -37,7 +42,7 @@ get_or_past (m ∷ marks) zero past = absurd (omega (arith, past))
 get_or_past (m ∷ marks) (suc i) past = get_or_past marks i (omega arith)
 
 -- a number of no class is not initialized
-marks_tell : (family : Family) (marks : List Bool) (i : ℕ) → AreMarks family marks
+marks_tell : (family : Family) (marks : List Bool) (i : ℕ) → TellFirst family marks
     → get_or marks i false ≡ is_initialized_first family i
 marks_tell family marks i are = elim (cases_lt i (length marks)) [
   | inl small ↦ are.tell i small
@@ -47,7 +52,7 @@ marks_tell family marks i are = elim (cases_lt i (length marks)) [
 ]
 
 pub marked_added : (family : Family) (is seen old new : List ℕ) (marks : List Bool) → IsFamily family
-    → AreMarks family marks
+    → TellFirst family marks
     → ((i : ℕ) → Contains is i → is_interface_in family i ≡ true) → IsPostorderOf family is seen
     → new ≡ old ++ filter (λ c. get_or marks c false) seen
     → AddsInterfaces family is old new
@@ -60,12 +65,85 @@ marked_added family is seen old new marks fits marked are order added = record {
       seen ∙ ap (filter (is_initialized_first family)) order.first);
 }
 
-pub none_added : (family : Family) (is old : List ℕ) → is ≡ [] → AddsInterfaces family is old old
-none_added family is old empty = record {
-  all = [];
-  stand = rw empty none;
-  kept = sym (append-nil old);
+-- ---- interfaces above which nothing is initialized
+
+none_kept : (p : ℕ → Bool) (xs : List ℕ) → ((x : ℕ) → Contains xs x → p x ≡ false) → filter p xs ≡ []
+none_kept p [] lacks = refl
+none_kept p (x ∷ xs) lacks =
+    rw (lacks x (in_front x xs)) (none_kept p xs (λ y h. lacks y (in_rest x xs y h)))
+
+-- of idle interfaces nothing is added
+pub none_added : (family : Family) (is old : List ℕ) → IsFamily family → HasPostorder family is
+    → ((i : ℕ) → Contains is i → is_interface_in family i ≡ true) → AreIdle family is → AddsInterfaces family is old old
+none_added family is old fits (all, stand) are idle = record {
+  all = all;
+  stand = superinterfaces_first family fits stand are;
+  kept = sym (ap (λ (xs : List ℕ). old ++ xs) (none_kept (is_initialized_first family) (firsts all)
+      (λ j h. idle j (before_among family stand j ((Contains-firsts all j).0 h)))) ∙ append-nil old);
 }
+
+idle_joined : (family : Family) (is : List ℕ) → ((i : ℕ) → Contains is i → AreIdle family (i ∷ []))
+    → AreIdle family is
+idle_joined family is each j (inl among) = each j among j (inl (in_front j []))
+idle_joined family is each j (inr (i, among, up)) = each i among j (inr (i, in_front i [], up))
+
+pub none_marked : (family : Family) (is : List ℕ) (marks : List Bool) → TellIdle family marks
+    → All (λ i. i < length family) is
+    → ((i : ℕ) → Contains is i → is_interface_in family i ≡ true) → All (λ i. get_or marks i false ≡ false) is
+    → AreIdle family is
+none_marked family is marks told within are unmarked =
+    idle_joined family is
+    (λ i h. told.tell i (All-contains (λ i. i < length family) is i within h) (are i h)
+    (All-contains (λ i. get_or marks i false ≡ false) is i unmarked h))
+
+idle_alone : (family : Family) (c : ℕ) → IsFamily family → is_interface_in family c ≡ true
+    → is_initialized_first family c ≡ false → AreIdle family (interfaces_in family c) → AreIdle family (c ∷ [])
+idle_alone family c fits is own over j (inl among) = elim (cons_cases c [] j among) [
+  | inl same ↦ rw (sym same) own
+  | inr more ↦ absurd (none_in_empty j more)
+]
+idle_alone family c fits is own over j (inr (i, among, up)) = elim (cons_cases c [] i among) [
+  | inl same ↦ over j (subst (λ (is : List ℕ). IsAmongOrAbove family is j) (interface_parents family c fits is)
+      (ancestor_parts (subst (λ (x : ℕ). IsAncestor family x j) (sym same) up)))
+  | inr more ↦ absurd (none_in_empty i more)
+]
+
+-- the marks of one more class, all of whose parents have theirs
+pub idle_next : (family : Family) (order : List ℕ) (marks : List Bool) (k : ℕ) (b : Bool) → IsFamily family
+    → IsParentsFirst family order
+    → k < length order → get_or order k 0 < length marks
+    → (b ≡ false → (is_initialized_first family (get_or order k 0) ≡ false)
+    × All (λ i. get_or marks i false ≡ false) (interfaces_in family (get_or order k 0)))
+    → ((c : ℕ) → Contains (take k order) c → is_interface_in family c ≡ true → get_or marks c false ≡ false
+    → AreIdle family (c ∷ []))
+    → (c : ℕ) → Contains (take (k + 1) order) c → is_interface_in family c ≡ true
+    → get_or (set marks (get_or order k 0) b) c false ≡ false
+    → AreIdle family (c ∷ [])
+idle_next family order marks k b fits first small below own before d h is unmarked =
+    elim (cases_eq d (get_or order k 0)) [
+      | inl same ↦ here same
+      | inr other ↦ before d (earlier other) is
+          (sym (get_or-set_other marks (get_or order k 0) d b false other) ∙ unmarked)
+    ]
+  where
+    earlier : (d ≡ get_or order k 0 → ⊥) → Contains (take k order) d
+    earlier other =
+        elim (Contains-push_cases (take k order) (get_or order k 0) d (rw (take_more order k 0 small) at h)) [
+          | inl past ↦ past
+          | inr same ↦ absurd (other (sym same))
+        ]
+
+    here : d ≡ get_or order k 0 → AreIdle family (d ∷ [])
+    here same =
+        let class : ℕ = get_or order k 0 in
+        let off : b ≡ false = sym (ap (λ (x : ℕ). get_or (set marks class b) x false) same
+        ∙ get_or-set_same marks class b false below) ∙ unmarked in
+        let known = own off in
+        subst (λ (x : ℕ). AreIdle family (x ∷ [])) (sym same)
+        (idle_alone family class fits (subst (λ (x : ℕ). is_interface_in family x ≡ true) same is) known.0
+        (idle_joined family (interfaces_in family class)
+        (λ i among. before i (interfaces_before family order k i small first among) (fits.interfaces class i among)
+        (All-contains (λ i. get_or marks i false ≡ false) (interfaces_in family class) i known.1 among))))
 
 -- what is initialized before a class
 pub class_order : (family : Family) (c : ℕ) (list : List ℕ) → is_interface_in family c ≡ false

@@ -1,13 +1,20 @@
 -- Classes after their parents, as a walk leaves them, and searches past what was found before.
 use Rattle.std.proofs.Common.{◌≡◌, ℕ, zero, suc, ◌⊎◌, List, [], ◌∷◌, ◌++◌, Option, Some, None, refl, sym, ap, ◌∙◌}
-use Rattle.std.proofs.Common.{subst, inl, inr, arith, false}
+use Rattle.std.proofs.Common.{subst, inl, inr, arith, false, ◌<◌, ◌≤◌, length, take, get_or}
 use Rattle.std.proofs.Common.{append-nil, append_assoc}
 use Rattle.std.specs.List.{Contains}
+use Rattle.std.proofs.Math.Seq.{take-suc}
+use Rattle.std.proofs.lemmas.Bool.{cases_lt}
+use Rattle.std.proofs.lemmas.List.{take_all, get_or_default}
+use Rattle.std.proofs.lemmas.List.Elements.{Contains-push_cases}
+use Rattle.std.proofs.lemmas.Option.{slice_get_read}
 use Rattle.std.proofs.lemmas.List.Elements.{Contains-append_left, Contains-append_right, Contains-append_cases}
 use Rattle.loading.specs.Families.{Family, IsAncestor, parent, further, parents_in}
 use Rattle.hierarchy.specs.Search.{Search, here, above, firsts}
 use Rattle.hierarchy.specs.steps.InterfaceLists.{first_with, with_place, or_else, IsAmongOrAbove}
-use Rattle.hierarchy.specs.steps.Walks.{ParentsBefore, none, next}
+use Rattle.hierarchy.specs.steps.Walks.{ParentsBefore, none, next, HasPostorder}
+use Rattle.loading.specs.Families.{IsParentsFirst, superclasses_in}
+use Rattle.loading.proofs.FamiliesParentLemmas.{no_interfaces, no_superclasses}
 use Rattle.hierarchy.specs.declared.member.DeclaredMember.{DeclaredMember}
 use Rattle.hierarchy.proofs.InterfaceListsLemmas.{or_else_assoc, first_with-append, among_parents, further_on}
 use Rattle.hierarchy.proofs.JoinedLemmas.{Contains-firsts, firsts_joins}
@@ -99,6 +106,47 @@ module _ (family : Family) where
       | inr more ↦ further_on family c x cs (before_among higher x more)
     ]
   ]
+
+-- ---- walks end
+
+-- each class has an end of the walk above it
+postorder_joined : (family : Family) (is : List ℕ)
+    → ((i : ℕ) → Contains is i → HasPostorder family (parents_in family i)) → HasPostorder family is
+postorder_joined family [] each = ([], none)
+postorder_joined family (i ∷ is) each =
+    let own = each i (in_front i is) in
+    let rest = postorder_joined family is (λ j h. each j (in_rest i is j h)) in
+    (own.0 ++ i ∷ rest.0, next own.1 rest.1)
+
+-- all walks end, since there is an order in which each class stands after its parents
+postorder_before : (family : Family) (order : List ℕ) → IsParentsFirst family order → (k : ℕ) → k ≤ length order
+    → (c : ℕ) → Contains (take k order) c → HasPostorder family (parents_in family c)
+postorder_before family order first zero small c h = absurd (none_in_empty c h)
+postorder_before family order first (suc k) small c h =
+    let before = postorder_before family order first k (omega arith) in
+    let class : ℕ = get_or order k 0 in
+    let below : k < length order = omega arith in
+    elim (Contains-push_cases (take k order) class c
+    (subst (λ (xs : List ℕ). Contains xs c) (take-suc order k 0 below) h)) [
+      | inl past ↦ before c past
+      | inr same ↦ subst (λ (x : ℕ). HasPostorder family (parents_in family x)) same
+          (postorder_joined family (parents_in family class)
+          (λ d up. before d (first.after k class d
+          (slice_get_read order (length order) k class refl below (get_or_default order k 0 class below)) up)))
+    ]
+
+pub postorder_ends : (family : Family) (order : List ℕ) → IsParentsFirst family order → (is : List ℕ)
+    → HasPostorder family is
+postorder_ends family order first is = postorder_joined family is (λ c h. elim (cases_lt c (length family)) [
+  | inl small ↦ postorder_before family order first (length order) (omega arith) c
+      (rw (take_all (length order) order (omega arith)) (first.whole c small))
+  | inr past ↦ ([], rw (no_parents c past) none)
+])
+  where
+    no_parents : (c : ℕ) → length family ≤ c → parents_in family c ≡ []
+    no_parents c past =
+        ap (λ (xs : List ℕ). xs ++ superclasses_in family c) (no_interfaces family c past)
+        ∙ no_superclasses family c past
 
 -- ---- searches
 

@@ -1,19 +1,18 @@
 //! What is initialized before each class (JVMS 5.5, step 7).
 
-ghost use Rattle.std.specs.Prelude.{◌≡◌, ℕ, ◌<◌, ◌≤◌, ◌^◌, true, false, ◌++◌, length, IfOk, OnOk, slice_index_or};
+ghost use Rattle.std.specs.Prelude.{◌≡◌, ℕ, List, ◌<◌, ◌≤◌, ◌^◌, true, false, ◌++◌, length, IfOk, OnOk, slice_index_or};
 ghost use Rattle.std.specs.List.{All, Contains, filter};
 ghost use Rattle.graph.specs.Rows.{IsClosed};
 ghost use Rattle.loading.specs.Families.{IsFamily, AreParentsWithin, interfaces_in, superclasses_in, is_interface_in};
 ghost use Rattle.hierarchy.specs.Initialization.{IsInitializationOrder};
 ghost use Rattle.hierarchy.specs.steps.InterfaceOrders.{AddsInterfaces, AreMarks};
-ghost use Rattle.hierarchy.specs.Initialization.{is_initialized_first, declares_default, is_default_method};
+ghost use Rattle.hierarchy.specs.steps.Walks.{HasPostorder};
 ghost use Rattle.hierarchy.specs.Search.{row_in};
 
 use crate::class_lists::ClassLists;
 use crate::joined::empty_lists;
+use crate::marks::{Marks, any_marked};
 use crate::walk::Walk;
-use classfile::flags::{ABSTRACT, STATIC, has_flag};
-use classfile::{ClassFile, Member};
 use graph::Visited;
 use loading::family::Family;
 use loading::given::{ClassNumbers, Superclass};
@@ -30,19 +29,19 @@ pub fn initialization_orders(alloc: Global, family: &Family) -> Result<ClassList
     ensures orders { IfOk result (λ rows. (c : ℕ) → c < length family.now → IsInitializationOrder family.now c
         (row_in rows c)) }
 {
-    let first = initialized_first(alloc, family)?;
+    let marks = Marks::new(alloc, family)?;
     let mut walk = Walk::new(alloc, family.classes().len())?;
-    orders_of(alloc, family, first.as_slice(), &mut walk)
+    orders_of(alloc, family, &marks, &mut walk)
 }
 
 /// The orders of the classes of a family.
 fn orders_of(
     alloc: Global,
     family: &Family,
-    first: &[bool],
+    marks: &Marks,
     walk: &mut Walk,
 ) -> Result<ClassLists, AllocError>
-    requires first { AreMarks family.now first.now }
+    requires marks { AreMarks family.now marks.now }
     requires entered { walk.old.entered.limit ≡ length family.now }
     requires left { walk.old.left.limit ≡ length family.now }
     ensures len { IfOk result (λ rows. length rows ≡ length family.now) }
@@ -50,7 +49,7 @@ fn orders_of(
         (row_in rows c)) }
 {
     let mut rows = empty_lists(alloc, family.classes().len())?;
-    fill_orders(alloc, family, first, walk, &mut rows)?;
+    fill_orders(alloc, family, marks, walk, &mut rows)?;
     Ok(ClassLists { rows })
 }
 
@@ -58,13 +57,13 @@ fn orders_of(
 fn fill_orders(
     alloc: Global,
     family: &Family,
-    first: &[bool],
+    marks: &Marks,
     walk: &mut Walk,
     rows: &mut Vec<ClassNumbers>,
 ) -> Result<(), AllocError>
     requires fits { IsFamily family.now }
     requires parents { AreParentsWithin family.now }
-    requires first { AreMarks family.now first.now }
+    requires marks { AreMarks family.now marks.now }
     requires entered { walk.old.entered.limit ≡ length family.now }
     requires left { walk.old.left.limit ≡ length family.now }
     requires len { length rows.old.items ≡ length family.now }
@@ -76,7 +75,7 @@ fn fill_orders(
 {
     let order = family.parents_first();
     for class in order {
-        let row = order_of(alloc, family, *class, first, walk)?;
+        let row = order_of(alloc, family, *class, marks, walk)?;
         rows[*class as usize] = row;
     }
     Ok(())
@@ -87,13 +86,14 @@ fn order_of(
     alloc: Global,
     family: &Family,
     class: u32,
-    first: &[bool],
+    marks: &Marks,
     walk: &mut Walk,
 ) -> Result<ClassNumbers, AllocError>
     requires fits { IsFamily family.now }
     requires parents { AreParentsWithin family.now }
     requires few { length family.now ≤ 2 ^ 32 }
-    requires first { AreMarks family.now first.now }
+    requires known { (is : List ℕ) → HasPostorder family.now is }
+    requires marks { AreMarks family.now marks.now }
     requires entered { walk.old.entered.limit ≡ length family.now }
     requires left { walk.old.left.limit ≡ length family.now }
     ensures entered { walk.new.entered.limit ≡ walk.old.entered.limit }
@@ -105,7 +105,7 @@ fn order_of(
         return Ok(ClassNumbers::new(Vec::new(alloc)));
     }
     let mut order = superclass_alone(alloc, family, class)?;
-    add_interfaces(family, family.interfaces(class), first, walk, &mut order)?;
+    add_interfaces(family, family.interfaces(class), marks, walk, &mut order)?;
     Ok(ClassNumbers::new(order))
 }
 
@@ -126,14 +126,15 @@ fn superclass_alone(alloc: Global, family: &Family, class: u32) -> Result<Vec<u3
 fn add_interfaces(
     family: &Family,
     interfaces: &[u32],
-    first: &[bool],
+    marks: &Marks,
     walk: &mut Walk,
     order: &mut Vec<u32>,
 ) -> Result<(), AllocError>
     requires fits { IsFamily family.now }
     requires parents { AreParentsWithin family.now }
     requires few { length family.now ≤ 2 ^ 32 }
-    requires first { AreMarks family.now first.now }
+    requires known { (is : List ℕ) → HasPostorder family.now is }
+    requires marks { AreMarks family.now marks.now }
     requires entered { walk.old.entered.limit ≡ length family.now }
     requires left { walk.old.left.limit ≡ length family.now }
     requires interfaces { All (λ i. i < length family.now) interfaces.now }
@@ -144,11 +145,11 @@ fn add_interfaces(
     ensures added { OnOk result (AddsInterfaces family.now interfaces.now order.old.items order.new.items) }
     ensures within { OnOk result (All (λ c. c < length family.now) order.new.items) }
 {
-    if interfaces.is_empty() {
+    if !any_marked(interfaces, marks.above.as_slice()) {
         return Ok(());
     }
     walk.above(family, interfaces)?;
-    add_marked(walk.left(), first, order)
+    add_marked(walk.left(), marks.first.as_slice(), order)
 }
 
 /// Adds those members that are marked.
@@ -167,38 +168,4 @@ fn add_marked(seen: &Visited, marks: &[bool], numbers: &mut Vec<u32>) -> Result<
         }
     }
     Ok(())
-}
-
-/// By class: whether it is initialized first, which is asked of interfaces.
-fn initialized_first(alloc: Global, family: &Family) -> Result<Vec<bool>, AllocError>
-    ensures { IfOk result (λ marks. AreMarks family.now marks.items) }
-{
-    let count = family.classes().len();
-    let mut marks = Vec::with_capacity(alloc, count)?;
-    for class in 0..count {
-        marks.push(is_initialized_first(family, class as u32))?;
-    }
-    Ok(marks)
-}
-
-fn is_initialized_first(family: &Family, class: u32) -> bool
-    ensures { result ≡ is_initialized_first family.now class }
-{
-    match family.file(class) {
-        Some(file) => declares_default(file),
-        None => false,
-    }
-}
-
-/// Whether an interface declares a method that is neither abstract nor static.
-fn declares_default(file: &ClassFile) -> bool
-    ensures { result ≡ declares_default file.now }
-{
-    file.methods().iter().any(is_default_method)
-}
-
-fn is_default_method(method: &Member) -> bool
-    ensures { result ≡ is_default_method method.now }
-{
-    !(has_flag(method.access_flags, ABSTRACT) || has_flag(method.access_flags, STATIC))
 }

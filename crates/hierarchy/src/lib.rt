@@ -8,6 +8,7 @@ mod defaults;
 pub mod hierarchy;
 pub mod initialization;
 mod joined;
+mod marks;
 pub mod member;
 mod member_index;
 mod member_table;

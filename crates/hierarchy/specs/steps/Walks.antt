@@ -16,6 +16,10 @@ pub data ParentsBefore (family : Family) : List ℕ → List ℕ → Type 0 wher
       → ParentsBefore family cs rest
       → ParentsBefore family (c ∷ cs) (above ++ c ∷ rest)
 
+-- it ends
+abbrev pub HasPostorder : Family → List ℕ → Type 0
+HasPostorder family is = (all : List ℕ) × ParentsBefore family is all
+
 -- Some classes and all above them, each once and after its parents.
 pub record IsPostorderOf (family : Family) (from list : List ℕ) : Type 0 where
   pub all : List ℕ

@@ -1,6 +1,6 @@
 use Rattle.std.proofs.Common.{◌≡◌, ℕ, ◌<◌, length, get_or, false}
 use Rattle.hierarchy.specs.Initialization.{is_initialized_first}
-use Rattle.hierarchy.proofs.initialization.initialized_first.Given as goal
+use Rattle.hierarchy.proofs.marks.initialized_first.Given as goal
 
 abbrev pub invariant-loop-class : goal.invariant-loop-class
 invariant-loop-class l = record {
