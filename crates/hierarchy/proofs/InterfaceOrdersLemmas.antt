@@ -4,7 +4,8 @@ use Rattle.std.proofs.Common.{take, get_or, set, Option, refl, sym, ap, ◌∙�
 use Rattle.std.proofs.Common.{append-nil, append_assoc}
 use Rattle.std.specs.List.{All, Contains, filter}
 use Rattle.std.proofs.lemmas.Bool.{cases_lt, cases_eq}
-use Rattle.std.proofs.lemmas.List.{take_more, get_or-set_same, get_or-set_other}
+use Rattle.std.proofs.lemmas.Grind.{common_steps}
+use Rattle.std.proofs.lemmas.List.{take_more, length_push, get_or-set_same, get_or-set_other}
 use Rattle.std.proofs.lemmas.List.Elements.{filter_agree, filter-append, All-contains, Contains-push_cases}
 use Rattle.std.proofs.lemmas.Option.{slice_get_past}
 use Rattle.loading.specs.declared.given.GivenClass.{GivenClass}
@@ -64,6 +65,24 @@ marked_added family is seen old new marks fits marked are order added = record {
       (filter_agree (λ c. get_or marks c false) (is_initialized_first family) (λ i. marks_tell family marks i marked)
       seen ∙ ap (filter (is_initialized_first family)) order.first);
 }
+
+-- one more class is marked
+pub marked_next : (family : Family) (old new : List Bool) (b : Bool) (c : ℕ) → new ≡ old ++ b ∷ []
+    → length old ≡ c
+    → b ≡ is_initialized_first family c
+    → ((i : ℕ) → i < length old → get_or old i false ≡ is_initialized_first family i)
+    → (i : ℕ) → i < length new → get_or new i false ≡ is_initialized_first family i
+marked_next family old new b c push count is before i small = elim (cases_lt i (length old)) [
+  | inl less ↦ rw push (earlier less ∙ before i less)
+  | inr last ↦ (let at : i ≡ length old = omega (arith, ap length push, length_push old b) in
+      rw (push, at) (here ∙ is ∙ ap (is_initialized_first family) (sym count)))
+]
+  where
+    earlier : i < length old → get_or (old ++ b ∷ []) i false ≡ get_or old i false
+    earlier less = grind (arith, common_steps)
+
+    here : get_or (old ++ b ∷ []) (length old) false ≡ b
+    here = grind (arith, common_steps)
 
 -- ---- interfaces above which nothing is initialized
 

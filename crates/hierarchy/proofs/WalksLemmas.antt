@@ -1,11 +1,12 @@
 -- The steps of a walk up a family.
 use Rattle.std.proofs.Common.{◌≡◌, ℕ, zero, suc, ◌⊎◌, ◌↔◌, Bool, true, false, List, [], ◌∷◌, ◌++◌, length, map, reverse}
 use Rattle.std.proofs.Common.{Option, Some, None, refl, sym, ap, ◌∙◌, subst, inl, inr, arith}
-use Rattle.std.proofs.Common.{append-nil, append_assoc}
+use Rattle.std.proofs.Common.{append-nil, append_assoc, drop, drop-cons, get_or}
 use Rattle.std.proofs.Common.{◌+◌, ◌-◌, ◌*◌, ◌<◌, ◌≤◌}
 use Rattle.std.specs.List.{All, Contains}
 use Rattle.std.proofs.Math.Nat.{suc-mul}
-use Rattle.std.proofs.lemmas.List.{map-append, reverse-append, nil_from_length}
+use Rattle.std.proofs.Math.Seq.{drop-length}
+use Rattle.std.proofs.lemmas.List.{reverse-append}
 use Rattle.std.proofs.lemmas.List.{length-append, length-map, length-reverse, length_push}
 use Rattle.std.proofs.lemmas.List.Elements.{All-append, All-map, All-weaker, All-contains_itself, All-nil}
 use Rattle.std.proofs.lemmas.List.Elements.{Contains-append_left, Contains-append_right, Contains-append_cases}
@@ -34,25 +35,26 @@ use Rattle.hierarchy.proofs.WalksOrderLemmas.{search_again}
 pub reverse_push : (xs : List Visit) (x : Visit) → reverse (xs ++ x ∷ []) ≡ x ∷ reverse xs
 reverse_push xs x = reverse-append xs (x ∷ [])
 
-pub planned_one : (rest others : List ℕ) (c : ℕ) (old new all : List Visit) → rest ≡ others ++ c ∷ []
-    → new ≡ old ++ Enter c ∷ []
-    → map Enter rest ++ reverse old ≡ all → map Enter others ++ reverse new ≡ all
-planned_one rest others c old new all step push before =
-    ap (λ (xs : List Visit). map Enter others ++ xs) (ap reverse push ∙ reverse_push old (Enter c))
-    ∙ sym (ap (λ (xs : List Visit). xs ++ reverse old) (ap (map Enter) step ∙ map-append Enter others (c ∷ []))
-    ∙ append_assoc (map Enter others) (Enter c ∷ []) (reverse old))
-    ∙ before
+pub planned_none : (classes : List ℕ) (todo : List Visit)
+    → reverse todo ≡ map Enter (drop (length classes) classes) ++ reverse todo
+planned_none classes todo = rw (drop-length classes) refl
+
+pub planned_one : (classes : List ℕ) (i : ℕ) (old new all : List Visit) → 0 < i → i ≤ length classes
+    → new ≡ old ++ Enter (get_or classes (i - 1) 0) ∷ []
+    → reverse old ≡ map Enter (drop i classes) ++ all → reverse new ≡ map Enter (drop (i - 1) classes) ++ all
+planned_one classes i old new all some small push before =
+    let last : ℕ = get_or classes (i - 1) 0 in
+    let next_is : suc (i - 1) ≡ i = omega arith in
+    let split : drop (i - 1) classes ≡ last ∷ drop i classes =
+    drop-cons classes (i - 1) 0 (omega arith) ∙ ap (λ (k : ℕ). last ∷ drop k classes) next_is in
+    ap reverse push ∙ reverse_push old (Enter last) ∙ ap (λ (xs : List Visit). Enter last ∷ xs) before
+    ∙ ap (λ (xs : List ℕ). map Enter xs ++ all) (sym split)
 
 pub planned_after : (c : ℕ) (old new after : List Visit) (ps : List Visit) → new ≡ old ++ Leave c ∷ []
     → after ≡ ps ++ reverse new
     → after ≡ ps ++ Leave c ∷ reverse old
 planned_after c old new after ps push planned =
     planned ∙ ap (λ (xs : List Visit). ps ++ xs) (ap reverse push ∙ reverse_push old (Leave c))
-
-pub planned_all : (rest : List ℕ) (visits all : List Visit) → length rest ≡ 0
-    → map Enter rest ++ visits ≡ all → visits ≡ all
-planned_all rest visits all empty e =
-    ap (λ (xs : List ℕ). map Enter xs ++ visits) (sym (nil_from_length rest (omega arith))) ∙ e
 
 -- ---- what is planned is within a family, and there is less to do
 

@@ -201,8 +201,8 @@ fn plan_parents(todo: &mut Vec<Visit>, family: &Family, class: u32) -> Result<()
 fn plan(todo: &mut Vec<Visit>, classes: &[u32]) -> Result<(), AllocError>
     ensures { OnOk result (reverse todo.new.items ≡ map Visit.Enter classes.now ++ reverse todo.old.items) }
 {
-    for class in classes.iter().rev() {
-        todo.push(Visit::Enter(*class))?;
+    for index in (0..classes.len()).rev() {
+        todo.push(Visit::Enter(classes[index]))?;
     }
     Ok(())
 }

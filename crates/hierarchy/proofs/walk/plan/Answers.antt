@@ -1,18 +1,19 @@
-use Rattle.std.proofs.Common.{◌≡◌, ℕ, List, ◌++◌, map, reverse, ap}
+use Rattle.std.proofs.Common.{◌≡◌, ℕ, ◌++◌, drop, map, reverse, subst, arith}
 use Rattle.hierarchy.specs.declared.walk.Visit.TheVariants.{Enter}
-use Rattle.hierarchy.proofs.WalksLemmas.{planned_one, planned_all}
+use Rattle.hierarchy.proofs.WalksLemmas.{planned_none, planned_one}
 use Rattle.hierarchy.proofs.walk.plan.Goals as goal
 
-pub loop-class-init : goal.loop-class-init
-loop-class-init c =
-    let all : c.into_iter-class-iterator.result.iter.rest.now ≡ c.args.classes.now = cc in
-    ap (λ (xs : List ℕ). map Enter xs ++ reverse c.args.todo.now.items) all
+pub loop-index-init : goal.loop-index-init
+loop-index-init c = planned_none c.args.classes.now c.args.todo.now.items
 
-pub loop-class-preserved : goal.loop-class-preserved
-loop-class-preserved c =
-    planned_one c.loop-class.class-iterator.iter.rest.now c.next.new.self.iter.rest.now c.in-Some.class.now
-    c.loop-class.todo.items c.push.new.self.items _
-    c.in-Some.ensures.steps c.in_ok-push.ensures.items c.loop-class.invariant
+pub loop-index-preserved : goal.loop-index-preserved
+loop-index-preserved c =
+    planned_one c.args.classes.now c.loop-index.index c.loop-index.todo.items c.push.new.self.items
+    (reverse c.args.todo.now.items)
+    (omega arith) (omega arith) c.in_ok-push.ensures.items c.loop-index.invariant
 
 pub returns : goal.returns
-returns c = planned_all c.loop-class.class-iterator.iter.rest.now _ _ c.in-None.ensures.steps.0 c.loop-class.invariant
+returns c =
+    let none : c.loop-index.index ≡ 0 = omega arith in
+    subst (λ (i : ℕ). reverse c.loop-index.todo.items
+    ≡ map Enter (drop i c.args.classes.now) ++ reverse c.args.todo.now.items) none c.loop-index.invariant
