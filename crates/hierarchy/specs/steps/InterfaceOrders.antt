@@ -30,7 +30,7 @@ pub record TellIdle (family : Family) (marks : List Bool) : Type 0 where
   pub tell : (i : ℕ) → i < length family → is_interface_in family i ≡ true → slice_index_or marks i false ≡ false
       → AreIdle family (i ∷ [])
 
--- Both.
+-- The marks of a family are both.
 pub record AreMarks (family : Family) (marks : Marks) : Type 0 where
   pub first : TellFirst family marks.first.items
   pub above : TellIdle family marks.above.items

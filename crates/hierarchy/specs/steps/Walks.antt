@@ -16,7 +16,7 @@ pub data ParentsBefore (family : Family) : List ℕ → List ℕ → Type 0 wher
       → ParentsBefore family cs rest
       → ParentsBefore family (c ∷ cs) (above ++ c ∷ rest)
 
--- it ends
+-- the way up from some classes ends
 abbrev pub HasPostorder : Family → List ℕ → Type 0
 HasPostorder family is = (all : List ℕ) × ParentsBefore family is all
 
@@ -66,12 +66,13 @@ StandAbove family [] = Unit {0}
 StandAbove family (visit ∷ visits) =
     ((c : ℕ) → Contains visits (Leave c) → IsAncestor family c (class_of visit)) × StandAbove family visits
 
--- what stands above a class that was left
+-- all that stands above a class was left
 abbrev pub IsFinished : Family → List ℕ → ℕ → Type 0
 IsFinished family left c = (above : List ℕ) × ParentsBefore family (parents_in family c) above
     × ((a : ℕ) → Contains above a → Contains left a)
 
--- A walk from some classes, of which these visits are still to come.
+-- A walk from some classes, of which these visits are still to come. `whole` is what was left by now, again wherever a
+-- class that was left came again.
 pub record Walking (family : Family) (from : List ℕ) (visits : List Visit) (entered left : List ℕ) : Type 0 where
   pub fits : IsFamily family
   pub once : AreDistinct entered
@@ -89,7 +90,7 @@ pub record Walking (family : Family) (from : List ℕ) (visits : List Visit) (en
 
 -- ---- that it ends
 
--- how many parents the classes have together
+-- at least as many as the parents of any class
 abbrev pub parents_count : Family → ℕ
 parents_count [] = 0
 parents_count (c ∷ family) = length c.interfaces + 1 + parents_count family
