@@ -15,11 +15,11 @@ use Rattle.hierarchy.specs.declared.member.DeclaredMember.{DeclaredMember}
 
 -- ---- the first of a list that has something
 
-or_else_assoc : (a b c : Option DeclaredMember) → or_else (or_else a b) c ≡ or_else a (or_else b c)
+pub or_else_assoc : (a b c : Option DeclaredMember) → or_else (or_else a b) c ≡ or_else a (or_else b c)
 or_else_assoc None b c = refl
 or_else_assoc (Some x) b c = refl
 
-first_with-append : (own : ℕ → Option ℕ) (xs ys : List ℕ)
+pub first_with-append : (own : ℕ → Option ℕ) (xs ys : List ℕ)
     → first_with own (xs ++ ys) ≡ or_else (first_with own xs) (first_with own ys)
 first_with-append own [] ys = refl
 first_with-append own (x ∷ xs) ys =
@@ -91,11 +91,12 @@ pub ancestor_of_parent : {family : Family} {c p j : ℕ} → Contains (parents_i
 ancestor_of_parent h (parent k) = further (parent h) k
 ancestor_of_parent h (further a k) = further (ancestor_of_parent h a) k
 
-among_parents : {family : Family} {c j : ℕ} → IsAmongOrAbove family (parents_in family c) j → IsAncestor family c j
+pub among_parents : {family : Family} {c j : ℕ} → IsAmongOrAbove family (parents_in family c) j → IsAncestor family c j
 among_parents (inl h) = parent h
 among_parents (inr up) = ancestor_of_parent up.1 up.2
 
-further_on : (family : Family) (i j : ℕ) (is : List ℕ) → IsAmongOrAbove family is j → IsAmongOrAbove family (i ∷ is) j
+pub further_on : (family : Family) (i j : ℕ) (is : List ℕ) → IsAmongOrAbove family is j
+    → IsAmongOrAbove family (i ∷ is) j
 further_on family i j is (inl (k, small, e)) = inl (suc k, omega arith, e)
 further_on family i j is (inr (p, (k, small, e), a)) = inr (p, (suc k, omega arith, e), a)
 

@@ -1,69 +1,194 @@
--- Interfaces after their superinterfaces, each once.
-use Rattle.std.proofs.Common.{◌≡◌, ℕ, suc, Bool, false, List, [], ◌∷◌, ◌++◌, refl, sym, ap, ◌∙◌, arith}
-use Rattle.std.proofs.Common.{append_assoc}
-use Rattle.std.specs.List.{Contains, filter, flat_map}
-use Rattle.std.proofs.lemmas.List.Elements.{filter-append}
-use Rattle.loading.specs.Families.{Family, interfaces_in, is_interface_in, superclasses_in}
+-- What is initialized before a class, from a walk up its interfaces.
+use Rattle.std.proofs.Common.{◌≡◌, ℕ, zero, suc, ◌+◌, ◌<◌, ◌≤◌, Bool, true, false, cond, List, [], ◌∷◌, ◌++◌, length}
+use Rattle.std.proofs.Common.{take, get_or, set, Option, refl, sym, ap, ◌∙◌, subst, inl, inr, arith}
+use Rattle.std.proofs.Common.{append-nil, append_assoc}
+use Rattle.std.specs.List.{All, Contains, filter}
+use Rattle.std.proofs.lemmas.Bool.{cases_lt, cases_eq}
+use Rattle.std.proofs.lemmas.Grind.{common_steps}
+use Rattle.std.proofs.lemmas.List.{take_more, length_push, get_or-set_same, get_or-set_other}
+use Rattle.std.proofs.lemmas.List.Elements.{filter_agree, filter-append, All-contains, Contains-push_cases}
+use Rattle.std.proofs.lemmas.Option.{slice_get_past}
+use Rattle.loading.specs.declared.given.GivenClass.{GivenClass}
+use Rattle.loading.specs.Families.{Family, IsFamily, parents_in, interfaces_in, is_interface_in, superclasses_in}
+use Rattle.loading.specs.Families.{passes, file_of, IsAncestor, IsParentsFirst}
 use Rattle.hierarchy.specs.Search.{SuperinterfacesFirst, none, next, firsts}
-use Rattle.hierarchy.specs.Initialization.{is_initialized_first, IsInitializationOrder, class}
-use Rattle.hierarchy.specs.steps.InterfaceOrders.{IsInterfaceOrder}
-use Rattle.hierarchy.proofs.JoinedLemmas.{firsts-append_same, firsts-filter, firsts-firsts}
+use Rattle.hierarchy.specs.Initialization.{is_initialized_first, declares_default, IsInitializationOrder, class}
+use Rattle.hierarchy.specs.steps.InterfaceLists.{IsAmongOrAbove}
+use Rattle.hierarchy.specs.steps.InterfaceOrders.{AddsInterfaces, TellFirst, TellIdle, AreIdle}
+use Rattle.hierarchy.specs.steps.Walks.{ParentsBefore, IsPostorderOf, HasPostorder}
+use Rattle.hierarchy.specs.steps.Walks as walks
+use Rattle.hierarchy.proofs.InterfaceListsLemmas.{interface_parents, ancestor_parts}
+use Rattle.hierarchy.proofs.JoinedLemmas.{Contains-firsts}
+use Rattle.hierarchy.proofs.SearchRowLemmas.{interfaces_before}
+use Rattle.hierarchy.proofs.WalksOrderLemmas.{in_front, in_rest, cons_cases, none_in_empty, before_among}
 
--- some interfaces and those above them, each after its own superinterfaces, of which those stay that are initialized
--- first
-pub record AreBehind (family : Family) (is list : List ℕ) : Type 0 where
-  pub all : List ℕ
-  pub stand : SuperinterfacesFirst family is all
-  pub kept : firsts list ≡ filter (is_initialized_first family) (firsts all)
+-- ---- walks up interfaces
 
--- filters and first places of joined lists
-joined_kept : (p : ℕ → Bool) (xs ys zs ws : List ℕ) → firsts xs ≡ filter p (firsts zs)
-    → firsts ys ≡ filter p (firsts ws)
-    → firsts (xs ++ ys) ≡ filter p (firsts (zs ++ ws))
-joined_kept p xs ys zs ws e f =
-    firsts-append_same xs ys (filter p zs) (filter p ws) (e ∙ sym (firsts-filter p zs)) (f ∙ sym (firsts-filter p ws))
-    ∙ ap firsts (sym (filter-append p zs ws)) ∙ firsts-filter p (zs ++ ws)
+-- above interfaces stand interfaces alone
+pub superinterfaces_first : (family : Family) → IsFamily family → {is all : List ℕ} → ParentsBefore family is all
+    → ((i : ℕ) → Contains is i → is_interface_in family i ≡ true) → SuperinterfacesFirst family is all
+superinterfaces_first family fits walks.none are = none
+superinterfaces_first family fits (walks.next {c} {cs} {above = low} {rest} lower higher) are =
+    let parents : parents_in family c ≡ interfaces_in family c =
+    interface_parents family c fits (are c (in_front c cs)) in
+    let under : SuperinterfacesFirst family (parents_in family c) low =
+    superinterfaces_first family fits lower
+    (λ i h. fits.interfaces c i (subst (λ (xs : List ℕ). Contains xs i) parents h)) in
+    next (subst (λ (xs : List ℕ). SuperinterfacesFirst family xs low) parents under)
+    (superinterfaces_first family fits higher (λ i h. are i (in_rest c cs i h)))
 
-kept_firsts : (p : ℕ → Bool) (list xs : List ℕ) → list ≡ filter p (firsts xs) → firsts list ≡ filter p (firsts xs)
-kept_firsts p list xs e = ap firsts e ∙ firsts-filter p (firsts xs) ∙ ap (filter p) (firsts-firsts xs)
+get_or_past : (marks : List Bool) (i : ℕ) → length marks ≤ i → get_or marks i false ≡ false
+get_or_past [] i past = refl
+get_or_past (m ∷ marks) zero past = absurd (omega (arith, past))
+get_or_past (m ∷ marks) (suc i) past = get_or_past marks i (omega arith)
 
-pub interface_orders_joined : (family : Family) (row : ℕ → List ℕ) (is : List ℕ)
-    → ((i : ℕ) → Contains is i → IsInterfaceOrder family i (row i))
-    → AreBehind family is (flat_map row is)
-interface_orders_joined family row [] each = record { all = []; stand = none; kept = refl }
-interface_orders_joined family row (i ∷ is) each =
-    let own = each i (0, omega arith, refl) in
-    let rest = interface_orders_joined family row is (λ j h. each j (suc h.0, omega (arith, h.1), h.2)) in
-    let p = is_initialized_first family in
-    let joined : firsts (row i ++ flat_map row is) ≡ filter p (firsts ((own.above ++ i ∷ []) ++ rest.all)) =
-    joined_kept p (row i) (flat_map row is) (own.above ++ i ∷ []) rest.all
-    (kept_firsts p (row i) (own.above ++ i ∷ []) own.kept) rest.kept in
-    record {
-      all = own.above ++ i ∷ rest.all;
-      stand = next own.stand rest.stand;
-      kept = joined ∙ ap (λ (xs : List ℕ). filter p (firsts xs)) (append_assoc own.above (i ∷ []) rest.all);
-    }
+-- a number of no class is not initialized
+marks_tell : (family : Family) (marks : List Bool) (i : ℕ) → TellFirst family marks
+    → get_or marks i false ≡ is_initialized_first family i
+marks_tell family marks i are = elim (cases_lt i (length marks)) [
+  | inl small ↦ are.tell i small
+  | inr past ↦ get_or_past marks i past
+      ∙ sym (ap (λ (g : Option GivenClass). passes declares_default (file_of g))
+      (slice_get_past family i (omega (arith, are.count))))
+]
 
--- the list of an interface, from those of its direct superinterfaces and itself
-pub interface_order_with_itself : (family : Family) (row : ℕ → List ℕ) (i : ℕ) (own list : List ℕ)
-    → ((j : ℕ) → Contains (interfaces_in family i) j → IsInterfaceOrder family j (row j))
-    → own ≡ filter (is_initialized_first family) (i ∷ []) → list ≡ firsts (flat_map row (interfaces_in family i) ++ own)
-    → IsInterfaceOrder family i list
-interface_order_with_itself family row i own list each e f =
-    let joined = interface_orders_joined family row (interfaces_in family i) each in
-    let p = is_initialized_first family in
-    let alone : firsts own ≡ filter p (firsts (i ∷ [])) = kept_firsts p own (i ∷ []) e in
-    record {
-      above = joined.all;
-      stand = joined.stand;
-      kept = f ∙ joined_kept p (flat_map row (interfaces_in family i)) own joined.all (i ∷ []) joined.kept alone;
-    }
+pub marked_added : (family : Family) (is seen old new : List ℕ) (marks : List Bool) → IsFamily family
+    → TellFirst family marks
+    → ((i : ℕ) → Contains is i → is_interface_in family i ≡ true) → IsPostorderOf family is seen
+    → new ≡ old ++ filter (λ c. get_or marks c false) seen
+    → AddsInterfaces family is old new
+marked_added family is seen old new marks fits marked are order added = record {
+  all = order.all;
+  stand = superinterfaces_first family fits order.stand are;
+  kept = added
+      ∙ ap (λ (xs : List ℕ). old ++ xs)
+      (filter_agree (λ c. get_or marks c false) (is_initialized_first family) (λ i. marks_tell family marks i marked)
+      seen ∙ ap (filter (is_initialized_first family)) order.first);
+}
 
--- what is initialized before a class, from the lists of its direct superinterfaces
-pub class_order : (family : Family) (row : ℕ → List ℕ) (c : ℕ) (list : List ℕ) → is_interface_in family c ≡ false
-    → ((j : ℕ) → Contains (interfaces_in family c) j → IsInterfaceOrder family j (row j))
-    → list ≡ firsts (flat_map row (interfaces_in family c))
-    → IsInitializationOrder family c (superclasses_in family c ++ list)
-class_order family row c list is each e =
-    let joined = interface_orders_joined family row (interfaces_in family c) each in
-    rw (e ∙ joined.kept) (class is joined.stand)
+-- one more class is marked
+pub marked_next : (family : Family) (old new : List Bool) (b : Bool) (c : ℕ) → new ≡ old ++ b ∷ []
+    → length old ≡ c
+    → b ≡ is_initialized_first family c
+    → ((i : ℕ) → i < length old → get_or old i false ≡ is_initialized_first family i)
+    → (i : ℕ) → i < length new → get_or new i false ≡ is_initialized_first family i
+marked_next family old new b c push count is before i small = elim (cases_lt i (length old)) [
+  | inl less ↦ rw push (earlier less ∙ before i less)
+  | inr last ↦ (let at : i ≡ length old = omega (arith, ap length push, length_push old b) in
+      rw (push, at) (here ∙ is ∙ ap (is_initialized_first family) (sym count)))
+]
+  where
+    earlier : i < length old → get_or (old ++ b ∷ []) i false ≡ get_or old i false
+    earlier less = grind (arith, common_steps)
+
+    here : get_or (old ++ b ∷ []) (length old) false ≡ b
+    here = grind (arith, common_steps)
+
+-- ---- interfaces above which nothing is initialized
+
+none_kept : (p : ℕ → Bool) (xs : List ℕ) → ((x : ℕ) → Contains xs x → p x ≡ false) → filter p xs ≡ []
+none_kept p [] lacks = refl
+none_kept p (x ∷ xs) lacks =
+    rw (lacks x (in_front x xs)) (none_kept p xs (λ y h. lacks y (in_rest x xs y h)))
+
+-- of idle interfaces nothing is added
+pub none_added : (family : Family) (is old : List ℕ) → IsFamily family → HasPostorder family is
+    → ((i : ℕ) → Contains is i → is_interface_in family i ≡ true) → AreIdle family is → AddsInterfaces family is old old
+none_added family is old fits (all, stand) are idle = record {
+  all = all;
+  stand = superinterfaces_first family fits stand are;
+  kept = sym (ap (λ (xs : List ℕ). old ++ xs) (none_kept (is_initialized_first family) (firsts all)
+      (λ j h. idle j (before_among family stand j ((Contains-firsts all j).0 h)))) ∙ append-nil old);
+}
+
+idle_joined : (family : Family) (is : List ℕ) → ((i : ℕ) → Contains is i → AreIdle family (i ∷ []))
+    → AreIdle family is
+idle_joined family is each j (inl among) = each j among j (inl (in_front j []))
+idle_joined family is each j (inr (i, among, up)) = each i among j (inr (i, in_front i [], up))
+
+pub none_marked : (family : Family) (is : List ℕ) (marks : List Bool) → TellIdle family marks
+    → All (λ i. i < length family) is
+    → ((i : ℕ) → Contains is i → is_interface_in family i ≡ true) → All (λ i. get_or marks i false ≡ false) is
+    → AreIdle family is
+none_marked family is marks told within are unmarked =
+    idle_joined family is
+    (λ i h. told.tell i (All-contains (λ i. i < length family) is i within h) (are i h)
+    (All-contains (λ i. get_or marks i false ≡ false) is i unmarked h))
+
+idle_alone : (family : Family) (c : ℕ) → IsFamily family → is_interface_in family c ≡ true
+    → is_initialized_first family c ≡ false → AreIdle family (interfaces_in family c) → AreIdle family (c ∷ [])
+idle_alone family c fits is own over j (inl among) = elim (cons_cases c [] j among) [
+  | inl same ↦ rw (sym same) own
+  | inr more ↦ absurd (none_in_empty j more)
+]
+idle_alone family c fits is own over j (inr (i, among, up)) = elim (cons_cases c [] i among) [
+  | inl same ↦ over j (subst (λ (is : List ℕ). IsAmongOrAbove family is j) (interface_parents family c fits is)
+      (ancestor_parts (subst (λ (x : ℕ). IsAncestor family x j) (sym same) up)))
+  | inr more ↦ absurd (none_in_empty i more)
+]
+
+-- the marks of one more class, all of whose parents have theirs
+pub idle_next : (family : Family) (order : List ℕ) (marks : List Bool) (k : ℕ) (b : Bool) → IsFamily family
+    → IsParentsFirst family order
+    → k < length order → get_or order k 0 < length marks
+    → (b ≡ false → (is_initialized_first family (get_or order k 0) ≡ false)
+    × All (λ i. get_or marks i false ≡ false) (interfaces_in family (get_or order k 0)))
+    → ((c : ℕ) → Contains (take k order) c → is_interface_in family c ≡ true → get_or marks c false ≡ false
+    → AreIdle family (c ∷ []))
+    → (c : ℕ) → Contains (take (k + 1) order) c → is_interface_in family c ≡ true
+    → get_or (set marks (get_or order k 0) b) c false ≡ false
+    → AreIdle family (c ∷ [])
+idle_next family order marks k b fits first small below own before d h is unmarked =
+    elim (cases_eq d (get_or order k 0)) [
+      | inl same ↦ here same
+      | inr other ↦ before d (earlier other) is
+          (sym (get_or-set_other marks (get_or order k 0) d b false other) ∙ unmarked)
+    ]
+  where
+    earlier : (d ≡ get_or order k 0 → ⊥) → Contains (take k order) d
+    earlier other =
+        elim (Contains-push_cases (take k order) (get_or order k 0) d (rw (take_more order k 0 small) at h)) [
+          | inl past ↦ past
+          | inr same ↦ absurd (other (sym same))
+        ]
+
+    here : d ≡ get_or order k 0 → AreIdle family (d ∷ [])
+    here same =
+        let class : ℕ = get_or order k 0 in
+        let off : b ≡ false = sym (ap (λ (x : ℕ). get_or (set marks class b) x false) same
+        ∙ get_or-set_same marks class b false below) ∙ unmarked in
+        let known = own off in
+        subst (λ (x : ℕ). AreIdle family (x ∷ [])) (sym same)
+        (idle_alone family class fits (subst (λ (x : ℕ). is_interface_in family x ≡ true) same is) known.0
+        (idle_joined family (interfaces_in family class)
+        (λ i among. before i (interfaces_before family order k i small first among) (fits.interfaces class i among)
+        (All-contains (λ i. get_or marks i false ≡ false) (interfaces_in family class) i known.1 among))))
+
+-- what is initialized before a class
+pub class_order : (family : Family) (c : ℕ) (list : List ℕ) → is_interface_in family c ≡ false
+    → AddsInterfaces family (interfaces_in family c) (superclasses_in family c) list
+    → IsInitializationOrder family c list
+class_order family c list is adds = rw adds.kept (class is adds.stand)
+
+-- one more member of a list is looked at
+kept_more : (p : ℕ → Bool) (seen old now : List ℕ) (k x : ℕ) (b : Bool) → k < length seen → x ≡ get_or seen k 0
+    → p x ≡ b
+    → now ≡ old ++ filter p (take k seen) → now ++ cond b (x ∷ []) [] ≡ old ++ filter p (take (k + 1) seen)
+kept_more p seen old now k x b small read test before =
+    ap (λ (c : Bool). now ++ cond c (x ∷ []) []) (sym test)
+    ∙ ap (λ (xs : List ℕ). xs ++ filter p (x ∷ [])) before
+    ∙ append_assoc old (filter p (take k seen)) (filter p (x ∷ []))
+    ∙ ap (λ (xs : List ℕ). old ++ xs) (sym (filter-append p (take k seen) (x ∷ []))
+    ∙ ap (filter p) (ap (λ (y : ℕ). take k seen ++ y ∷ []) read ∙ sym (take_more seen k 0 small)))
+
+pub kept_one : (p : ℕ → Bool) (seen old now new : List ℕ) (k x : ℕ) → k < length seen → x ≡ get_or seen k 0
+    → p x ≡ true
+    → now ≡ old ++ filter p (take k seen) → new ≡ now ++ x ∷ [] → new ≡ old ++ filter p (take (k + 1) seen)
+kept_one p seen old now new k x small read test before push =
+    push ∙ kept_more p seen old now k x true small read test before
+
+pub kept_none : (p : ℕ → Bool) (seen old now new : List ℕ) (k x : ℕ) → k < length seen → x ≡ get_or seen k 0
+    → p x ≡ false
+    → now ≡ old ++ filter p (take k seen) → new ≡ now → new ≡ old ++ filter p (take (k + 1) seen)
+kept_none p seen old now new k x small read test before same =
+    same ∙ sym (append-nil now) ∙ kept_more p seen old now k x false small read test before

@@ -22,3 +22,7 @@ pub mod PoolTextsLemmas
 pub mod ReachesLemmas
 pub mod SweepsLemmas
 pub mod OrderWalkLemmas
+pub mod WalksOrderLemmas
+pub mod WalksLemmas
+pub mod AncestorsLemmas
+pub mod TopsLemmas

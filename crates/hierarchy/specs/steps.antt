@@ -5,6 +5,7 @@ pub mod InterfaceLists
 pub mod Joined
 pub mod HierarchyTables
 pub mod InterfaceOrders
+pub mod Walks
 pub mod GrowingTexts
 pub mod DepthFirst
 pub mod Reaches

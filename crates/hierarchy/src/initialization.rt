@@ -1,19 +1,18 @@
 //! What is initialized before each class (JVMS 5.5, step 7).
 
-ghost use Rattle.std.specs.Prelude.{◌≡◌, ℕ, ◌<◌, ◌≤◌, ◌^◌, true, [], ◌∷◌, length, IfOk, OnOk};
-ghost use Rattle.std.specs.List.{All, Contains, filter, flat_map};
+ghost use Rattle.std.specs.Prelude.{◌≡◌, ℕ, List, ◌<◌, ◌≤◌, ◌^◌, true, false, ◌++◌, length, IfOk, OnOk, slice_index_or};
+ghost use Rattle.std.specs.List.{All, Contains, filter};
 ghost use Rattle.graph.specs.Rows.{IsClosed};
 ghost use Rattle.loading.specs.Families.{IsFamily, AreParentsWithin, interfaces_in, superclasses_in, is_interface_in};
 ghost use Rattle.hierarchy.specs.Initialization.{IsInitializationOrder};
-ghost use Rattle.hierarchy.specs.steps.InterfaceOrders.{IsInterfaceOrder};
-ghost use Rattle.hierarchy.specs.Initialization.{is_initialized_first, declares_default, is_default_method};
+ghost use Rattle.hierarchy.specs.steps.InterfaceOrders.{AddsInterfaces, AreMarks};
+ghost use Rattle.hierarchy.specs.steps.Walks.{HasPostorder};
 ghost use Rattle.hierarchy.specs.Search.{row_in};
-ghost use Rattle.hierarchy.specs.steps.Joined.{GoesOn};
 
 use crate::class_lists::ClassLists;
-use crate::joined::{empty_lists, join, listed, listed_after};
-use classfile::flags::{ABSTRACT, STATIC, has_flag};
-use classfile::{ClassFile, Member};
+use crate::joined::empty_lists;
+use crate::marks::{Marks, any_marked};
+use crate::walk::Walk;
 use graph::Visited;
 use loading::family::Family;
 use loading::given::{ClassNumbers, Superclass};
@@ -30,39 +29,27 @@ pub fn initialization_orders(alloc: Global, family: &Family) -> Result<ClassList
     ensures orders { IfOk result (λ rows. (c : ℕ) → c < length family.now → IsInitializationOrder family.now c
         (row_in rows c)) }
 {
-    let mut seen = Visited::new(alloc, family.classes().len())?;
-    orders_of(alloc, family, &mut seen)
+    let marks = Marks::new(alloc, family)?;
+    let mut walk = Walk::new(alloc, family.classes().len())?;
+    orders_of(alloc, family, &marks, &mut walk)
 }
 
 /// The orders of the classes of a family.
-fn orders_of(alloc: Global, family: &Family, seen: &mut Visited) -> Result<ClassLists, AllocError>
-    requires { seen.old.limit ≡ length family.now }
-    ensures len { IfOk result (λ rows. length rows ≡ length family.now) }
-    ensures orders { IfOk result (λ rows. (c : ℕ) → c < length family.now → IsInitializationOrder family.now c
-        (row_in rows c)) }
-{
-    let interface_orders = orders_of_interfaces(alloc, family, seen)?;
-    orders_from(alloc, family, &interface_orders, seen)
-}
-
-/// The orders of the classes of a family, from the lists of its interfaces.
-fn orders_from(
+fn orders_of(
     alloc: Global,
     family: &Family,
-    interface_orders: &[ClassNumbers],
-    seen: &mut Visited,
+    marks: &Marks,
+    walk: &mut Walk,
 ) -> Result<ClassLists, AllocError>
-    requires limit { seen.old.limit ≡ length family.now }
-    requires len { length interface_orders.now ≡ length family.now }
-    requires closed { IsClosed interface_orders.now }
-    requires lists { (i : ℕ) → i < length family.now
-        → is_interface_in family.now i ≡ true → IsInterfaceOrder family.now i (row_in interface_orders.now i) }
+    requires marks { AreMarks family.now marks.now }
+    requires entered { walk.old.entered.limit ≡ length family.now }
+    requires left { walk.old.left.limit ≡ length family.now }
     ensures len { IfOk result (λ rows. length rows ≡ length family.now) }
     ensures orders { IfOk result (λ rows. (c : ℕ) → c < length family.now → IsInitializationOrder family.now c
         (row_in rows c)) }
 {
     let mut rows = empty_lists(alloc, family.classes().len())?;
-    fill_orders(alloc, family, interface_orders, seen, &mut rows)?;
+    fill_orders(alloc, family, marks, walk, &mut rows)?;
     Ok(ClassLists { rows })
 }
 
@@ -70,17 +57,15 @@ fn orders_from(
 fn fill_orders(
     alloc: Global,
     family: &Family,
-    interface_orders: &[ClassNumbers],
-    seen: &mut Visited,
+    marks: &Marks,
+    walk: &mut Walk,
     rows: &mut Vec<ClassNumbers>,
 ) -> Result<(), AllocError>
     requires fits { IsFamily family.now }
-    requires within { AreParentsWithin family.now }
-    requires limit { seen.old.limit ≡ length family.now }
-    requires interface_orders { length interface_orders.now ≡ length family.now }
-    requires interface_orders_closed { IsClosed interface_orders.now }
-    requires lists { (i : ℕ) → i < length family.now
-        → is_interface_in family.now i ≡ true → IsInterfaceOrder family.now i (row_in interface_orders.now i) }
+    requires parents { AreParentsWithin family.now }
+    requires marks { AreMarks family.now marks.now }
+    requires entered { walk.old.entered.limit ≡ length family.now }
+    requires left { walk.old.left.limit ≡ length family.now }
     requires len { length rows.old.items ≡ length family.now }
     requires closed { IsClosed rows.old.items }
     ensures len { OnOk result (length rows.new.items ≡ length family.now) }
@@ -90,110 +75,38 @@ fn fill_orders(
 {
     let order = family.parents_first();
     for class in order {
-        let row = order_of(alloc, family, *class, interface_orders, seen)?;
+        let row = order_of(alloc, family, *class, marks, walk)?;
         rows[*class as usize] = row;
     }
     Ok(())
 }
 
-/// By interface: itself and those above it, each after its own superinterfaces, of which those stay that are
-/// initialized first. Empty for a class.
-fn orders_of_interfaces(
-    alloc: Global,
-    family: &Family,
-    seen: &mut Visited,
-) -> Result<Vec<ClassNumbers>, AllocError>
-    requires { seen.old.limit ≡ length family.now }
-    ensures limit { OnOk result (seen.new.limit ≡ seen.old.limit) }
-    ensures len { IfOk result (λ lists. length lists.items ≡ length family.now) }
-    ensures closed { IfOk result (λ lists. IsClosed lists.items) }
-    ensures lists { IfOk result (λ lists. (i : ℕ) → i < length family.now
-        → is_interface_in family.now i ≡ true → IsInterfaceOrder family.now i (row_in lists.items i)) }
-{
-    let mut lists = empty_lists(alloc, family.classes().len())?;
-    fill_interface_orders(alloc, family, seen, &mut lists)?;
-    Ok(lists)
-}
-
-/// Gives each interface its list.
-fn fill_interface_orders(
-    alloc: Global,
-    family: &Family,
-    seen: &mut Visited,
-    lists: &mut Vec<ClassNumbers>,
-) -> Result<(), AllocError>
-    requires fits { IsFamily family.now }
-    requires limit { seen.old.limit ≡ length family.now }
-    requires len { length lists.old.items ≡ length family.now }
-    requires closed { IsClosed lists.old.items }
-    ensures limit { OnOk result (seen.new.limit ≡ seen.old.limit) }
-    ensures len { OnOk result (length lists.new.items ≡ length family.now) }
-    ensures closed { OnOk result (IsClosed lists.new.items) }
-    ensures lists { OnOk result ((i : ℕ) → i < length family.now
-        → is_interface_in family.now i ≡ true → IsInterfaceOrder family.now i (row_in lists.new.items i)) }
-{
-    let order = family.parents_first();
-    for class in order {
-        let list = interface_order_of(alloc, family, *class, lists, seen)?;
-        lists[*class as usize] = list;
-    }
-    Ok(())
-}
-
-/// The list of an interface from those of its direct superinterfaces. Empty for a class.
-fn interface_order_of(
-    alloc: Global,
-    family: &Family,
-    class: u32,
-    lists: &[ClassNumbers],
-    seen: &mut Visited,
-) -> Result<ClassNumbers, AllocError>
-    requires limit { seen.old.limit ≡ length lists.now }
-    requires few { length lists.now ≤ 2 ^ 32 }
-    requires len { length lists.now ≡ length family.now }
-    requires class { class < length lists.now }
-    requires closed { IsClosed lists.now }
-    requires lists { (i : ℕ) → Contains (interfaces_in family.now class) i
-        → IsInterfaceOrder family.now i (row_in lists.now i) }
-    ensures limit { OnOk result (seen.new.limit ≡ seen.old.limit) }
-    ensures list { IfOk result (λ list. is_interface_in family.now class ≡ true
-        → IsInterfaceOrder family.now class list) }
-    ensures within { IfOk result (All (λ c. c < length lists.now)) }
-{
-    if !family.is_interface(class) {
-        return Ok(ClassNumbers::new(Vec::new(alloc)));
-    }
-    seen.clear();
-    join_interface_orders(family.interfaces(class), lists, seen)?;
-    join_itself(family, class, seen)?;
-    listed(alloc, seen)
-}
-
-/// What is initialized before a class, from the lists of its direct superinterfaces.
+/// What is initialized before a class.
 fn order_of(
     alloc: Global,
     family: &Family,
     class: u32,
-    lists: &[ClassNumbers],
-    seen: &mut Visited,
+    marks: &Marks,
+    walk: &mut Walk,
 ) -> Result<ClassNumbers, AllocError>
-    requires limit { seen.old.limit ≡ length lists.now }
-    requires few { length lists.now ≤ 2 ^ 32 }
-    requires len { length lists.now ≡ length family.now }
-    requires closed { IsClosed lists.now }
-    requires lists { (i : ℕ) → Contains (interfaces_in family.now class) i
-        → IsInterfaceOrder family.now i (row_in lists.now i) }
-    ensures limit { OnOk result (seen.new.limit ≡ seen.old.limit) }
+    requires fits { IsFamily family.now }
+    requires parents { AreParentsWithin family.now }
+    requires few { length family.now ≤ 2 ^ 32 }
+    requires known { (is : List ℕ) → HasPostorder family.now is }
+    requires marks { AreMarks family.now marks.now }
+    requires entered { walk.old.entered.limit ≡ length family.now }
+    requires left { walk.old.left.limit ≡ length family.now }
+    ensures entered { walk.new.entered.limit ≡ walk.old.entered.limit }
+    ensures left { walk.new.left.limit ≡ walk.old.left.limit }
     ensures order { IfOk result (λ order. IsInitializationOrder family.now class order) }
-    ensures within { IfOk result (All (λ c. c < length lists.now)) }
+    ensures within { IfOk result (All (λ c. c < length family.now)) }
 {
     if family.is_interface(class) {
         return Ok(ClassNumbers::new(Vec::new(alloc)));
     }
-    seen.clear();
-    join_interface_orders(family.interfaces(class), lists, seen)?;
-    let superclass = superclass_alone(alloc, family, class)?;
-    listed_after(superclass, seen)
+    let mut order = superclass_alone(alloc, family, class)?;
+    add_interfaces(family, family.interfaces(class), marks, walk, &mut order)?;
+    Ok(ClassNumbers::new(order))
 }
 
 /// The superclass of a class, if it is given, and nothing else.
@@ -209,56 +122,50 @@ fn superclass_alone(alloc: Global, family: &Family, class: u32) -> Result<Vec<u3
     Ok(numbers)
 }
 
-/// Adds the lists of some interfaces.
-fn join_interface_orders(
+/// Adds, of some interfaces and those above them, those that are initialized first, each after its superinterfaces.
+fn add_interfaces(
+    family: &Family,
     interfaces: &[u32],
-    lists: &[ClassNumbers],
-    seen: &mut Visited,
+    marks: &Marks,
+    walk: &mut Walk,
+    order: &mut Vec<u32>,
 ) -> Result<(), AllocError>
-    requires limit { seen.old.limit ≡ length lists.now }
-    requires interfaces { All (λ i. i < length lists.now) interfaces.now }
-    requires closed { IsClosed lists.now }
-    ensures limit { seen.new.limit ≡ seen.old.limit }
-    ensures joined { OnOk result (GoesOn seen.old.items (flat_map (row_in lists.now) interfaces.now) seen.new.items) }
+    requires fits { IsFamily family.now }
+    requires parents { AreParentsWithin family.now }
+    requires few { length family.now ≤ 2 ^ 32 }
+    requires known { (is : List ℕ) → HasPostorder family.now is }
+    requires marks { AreMarks family.now marks.now }
+    requires entered { walk.old.entered.limit ≡ length family.now }
+    requires left { walk.old.left.limit ≡ length family.now }
+    requires interfaces { All (λ i. i < length family.now) interfaces.now }
+    requires are { (i : ℕ) → Contains interfaces.now i → is_interface_in family.now i ≡ true }
+    requires within { All (λ c. c < length family.now) order.old.items }
+    ensures entered { walk.new.entered.limit ≡ walk.old.entered.limit }
+    ensures left { walk.new.left.limit ≡ walk.old.left.limit }
+    ensures added { OnOk result (AddsInterfaces family.now interfaces.now order.old.items order.new.items) }
+    ensures within { OnOk result (All (λ c. c < length family.now) order.new.items) }
 {
-    for interface in interfaces {
-        join(lists[*interface as usize].as_slice(), seen)?;
-    }
-    Ok(())
-}
-
-/// Adds an interface if it is initialized first.
-fn join_itself(family: &Family, class: u32, seen: &mut Visited) -> Result<(), AllocError>
-    requires { class < seen.old.limit }
-    ensures limit { seen.new.limit ≡ seen.old.limit }
-    ensures joined { OnOk result
-        (GoesOn seen.old.items (filter (is_initialized_first family.now) (class ∷ [])) seen.new.items) }
-{
-    if !is_initialized_first(family, class) {
+    if !any_marked(interfaces, marks.above.as_slice()) {
         return Ok(());
     }
-    seen.add(class as usize)?;
-    Ok(())
+    walk.above(family, interfaces)?;
+    add_marked(walk.left(), marks.first.as_slice(), order)
 }
 
-fn is_initialized_first(family: &Family, class: u32) -> bool
-    ensures { result ≡ is_initialized_first family.now class }
+/// Adds those members that are marked.
+fn add_marked(seen: &Visited, marks: &[bool], numbers: &mut Vec<u32>) -> Result<(), AllocError>
+    requires limit { seen.now.limit ≡ length marks.now }
+    requires few { length marks.now ≤ 2 ^ 32 }
+    requires within { All (λ c. c < length marks.now) numbers.old.items }
+    ensures added { OnOk result (numbers.new.items
+        ≡ numbers.old.items ++ filter (λ c. slice_index_or marks.now c false) seen.now.items) }
+    ensures within { OnOk result (All (λ c. c < length marks.now) numbers.new.items) }
 {
-    match family.file(class) {
-        Some(file) => declares_default(file),
-        None => false,
+    for index in 0..seen.len() {
+        let class = seen.at(index);
+        if marks[class] {
+            numbers.push(class as u32)?;
+        }
     }
-}
-
-/// Whether an interface declares a method that is neither abstract nor static.
-fn declares_default(file: &ClassFile) -> bool
-    ensures { result ≡ declares_default file.now }
-{
-    file.methods().iter().any(is_default_method)
-}
-
-fn is_default_method(method: &Member) -> bool
-    ensures { result ≡ is_default_method method.now }
-{
-    !(has_flag(method.access_flags, ABSTRACT) || has_flag(method.access_flags, STATIC))
+    Ok(())
 }

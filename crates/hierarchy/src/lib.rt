@@ -2,12 +2,14 @@
 //! 5.4.3, 5.5; 6.5, invokevirtual).
 #![tactic(auto)]
 
+pub mod ancestors;
 pub mod class_lists;
 mod defaults;
 mod depth_first;
 pub mod hierarchy;
 pub mod initialization;
 mod joined;
+mod marks;
 pub mod member;
 mod member_index;
 mod member_table;
@@ -24,4 +26,5 @@ pub mod superinterfaces;
 pub mod texts;
 pub mod uniqueness;
 mod tops;
+mod walk;
 mod wanted;

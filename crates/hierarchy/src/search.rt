@@ -1,6 +1,6 @@
 //! Searches through superinterfaces and superclasses (JVMS 5.4.3.2 to 5.4.3.4).
 
-ghost use Rattle.std.specs.Prelude.{◌≡◌, [], ◌∷◌};
+ghost use Rattle.std.specs.Prelude.{◌≡◌, ◌≤◌, ◌^◌, [], ◌∷◌, IfOk};
 ghost use Rattle.hierarchy.specs.steps.HierarchyTables.{wanted_in};
 ghost use Rattle.built_in.specs.Keys.{NameAndType};
 ghost use Rattle.hierarchy.specs.steps.MemberIndexes.{IsLookup};
@@ -8,12 +8,15 @@ ghost use Rattle.hierarchy.specs.MemberLookup.{UpClasses};
 ghost use Rattle.hierarchy.specs.Search.{Search};
 ghost use Rattle.hierarchy.specs.steps.InterfaceLists.{first_with};
 
+use crate::ancestors::Ancestors;
 use crate::hierarchy::Hierarchy;
 use crate::member::{DeclaredMember, Method};
 use crate::member_index::MemberKey;
 use crate::wanted::Wanted;
 use built_in::method::BuiltInMethod;
+use graph::Visited;
 use loading::given::Superclass;
+use std::alloc::AllocError;
 
 impl Hierarchy {
     /// The first member of some kind in a class, its superinterfaces and its superclass, in this order.
@@ -36,6 +39,47 @@ impl Hierarchy {
             }
             at = self.given_superclass(at)?;
         }
+    }
+
+    /// The same by a walk to all that stands above the class, which `ancestors` gives its room.
+    ///
+    /// # Errors
+    /// Where memory runs out.
+    pub(crate) fn first_above(
+        &self,
+        ancestors: &mut Ancestors,
+        wanted: Wanted,
+        class: u32,
+        key: Option<MemberKey>,
+    ) -> Result<Option<DeclaredMember>, AllocError>
+        ensures { IfOk result (λ found. (name : NameAndType) → IsLookup self.now.texts name key
+            → Search self.now.family (wanted_in wanted self.now.family name) (class ∷ []) found) }
+    {
+        if let Some(index) = self.find(wanted, class, key) {
+            return Ok(Some(DeclaredMember { class, index }));
+        }
+        ancestors.find(self.family(), class)?;
+        Ok(self.first_among(wanted, ancestors.classes(), key))
+    }
+
+    /// The first of some classes, in the order in which they came, that has a member of some kind, and its place.
+    fn first_among(
+        &self,
+        wanted: Wanted,
+        classes: &Visited,
+        key: Option<MemberKey>,
+    ) -> Option<DeclaredMember>
+        requires { classes.now.limit ≤ 2 ^ 32 }
+        ensures { (name : NameAndType) → IsLookup self.now.texts name key
+            → result ≡ first_with (wanted_in wanted self.now.family name) classes.now.items }
+    {
+        for place in 0..classes.len() {
+            let class = classes.at(place) as u32;
+            if let Some(index) = self.find(wanted, class, key) {
+                return Some(DeclaredMember { class, index });
+            }
+        }
+        None
     }
 
     /// The first of some classes that has a member of some kind, and its place.

@@ -1,7 +1,10 @@
+use Rattle.std.proofs.Common.{◌≡◌, length}
 use Rattle.hierarchy.specs.Initialization.{IsInitializationOrder}
 use Rattle.hierarchy.proofs.SearchRowLemmas.{Filled}
 use Rattle.hierarchy.proofs.initialization.fill_orders.Given as goal
 
 abbrev pub invariant-loop-class : goal.invariant-loop-class
-invariant-loop-class l =
-    Filled (IsInitializationOrder l.family) l.family l.seen.limit l.order l.class-index l.rows.items
+invariant-loop-class l = record {
+  entered : l.walk.entered.limit ≡ length l.family;
+  filled : Filled (IsInitializationOrder l.family) l.family l.walk.left.limit l.order l.class-index l.rows.items;
+}

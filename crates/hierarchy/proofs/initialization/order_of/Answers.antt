@@ -1,9 +1,7 @@
-use Rattle.std.proofs.Common.{◌≡◌, ℕ, List, true, false, [], ◌++◌, sym, ap, subst, ◌∙◌}
-use Rattle.std.specs.List.{flat_map}
-use Rattle.std.proofs.lemmas.Result.{IfOk-weaker}
-use Rattle.loading.specs.Families.{interfaces_in, is_interface_in}
+use Rattle.std.proofs.Common.{◌≡◌, ℕ, List, true, false, sym, subst, ◌∙◌}
+use Rattle.loading.specs.Families.{is_interface_in, interfaces_in, superclasses_in}
+use Rattle.hierarchy.specs.steps.InterfaceOrders.{AddsInterfaces}
 use Rattle.hierarchy.specs.Initialization.{IsInitializationOrder, interface}
-use Rattle.hierarchy.specs.Search.{firsts, row_in}
 use Rattle.hierarchy.proofs.InterfaceOrdersLemmas.{class_order}
 use Rattle.hierarchy.proofs.initialization.order_of.Goals as goal
 
@@ -14,16 +12,16 @@ returns-then-is_interface-clause-order c =
     subst (λ (order : List ℕ). IsInitializationOrder c.args.family.now c.args.class order)
     (sym (c.new-then-is_interface.ensures ∙ c.new.ensures.items)) (interface is)
 
+pub add_interfaces-requires-clause-are : goal.add_interfaces-requires-clause-are
+add_interfaces-requires-clause-are c =
+    λ i h. c.requires.fits.interfaces c.args.class i (rw c.interfaces.ensures.value at h)
+
 pub returns-clause-order : goal.returns-clause-order
 returns-clause-order c =
     let family = c.args.family.now in
-    let members = c.join_interface_orders.new.seen.items in
-    let row : ℕ → List ℕ = row_in c.args.lists.now in
     let is : is_interface_in family c.args.class ≡ false = sym c.is_interface.ensures ∙ c.if-is_interface.false in
-    let joined : members ≡ firsts (flat_map row (interfaces_in family c.args.class)) =
-    rw c.interfaces.ensures.value at (c.in_ok-join_interface_orders.ensures.joined [] c.clear.ensures.items) in
-    let order = class_order family row c.args.class members is c.requires.lists joined in
-    IfOk-weaker c.listed_after.result (λ list. list ≡ c.in_ok-superclass.superclass.items ++ members)
-    (λ list. IsInitializationOrder family c.args.class list)
-    (λ list e. subst (λ (xs : List ℕ). IsInitializationOrder family c.args.class xs)
-    (sym (e ∙ ap (λ (xs : List ℕ). xs ++ members) c.in_ok-superclass.ensures.value)) order) c.listed_after.ensures.items
+    let adds : AddsInterfaces family (interfaces_in family c.args.class) (superclasses_in family c.args.class)
+    c.add_interfaces.new.order.items =
+    rw (c.interfaces.ensures.value, c.in_ok-order.ensures.value) at c.in_ok-add_interfaces.ensures.added in
+    subst (λ (order : List ℕ). IsInitializationOrder family c.args.class order) (sym c.new-2.ensures)
+    (class_order family c.args.class c.add_interfaces.new.order.items is adds)

@@ -1,0 +1,23 @@
+use Rattle.std.proofs.Common.{ℕ, Option, [], ◌∷◌, sym, subst}
+use Rattle.hierarchy.specs.steps.HierarchyTables.{wanted_in}
+use Rattle.loading.specs.Families.{Family, parents_in}
+use Rattle.hierarchy.specs.Search.{Search, here}
+use Rattle.hierarchy.specs.steps.Walks.{IsSearchOrder}
+use Rattle.hierarchy.specs.declared.member.DeclaredMember.{DeclaredMember}
+use Rattle.hierarchy.proofs.AncestorsLemmas.{search_above}
+use Rattle.hierarchy.proofs.hierarchy.Hierarchy.first_above.Goals as goal
+
+pub returns-in-Some : goal.returns-in-Some
+returns-in-Some c = λ name is. here (sym (c.in-Some.ensures name is))
+
+pub returns : goal.returns
+returns c = λ name is.
+    let family = c.args.self.now.family in
+    let own : ℕ → Option ℕ = wanted_in c.args.wanted family name in
+    let order : IsSearchOrder family (parents_in family c.args.class) c.classes.result.now.items =
+    rw c.classes.ensures.value
+    (subst (λ (f : Family). IsSearchOrder f (parents_in f c.args.class) c.find-2.new.self) c.family.ensures
+    c.in_ok-find.ensures) in
+    subst (λ (found : Option DeclaredMember). Search family own (c.args.class ∷ []) found)
+    (sym (c.first_among.ensures name is))
+    (search_above family own c.args.class c.classes.result.now.items (sym (c.in_default.ensures name is)) order)

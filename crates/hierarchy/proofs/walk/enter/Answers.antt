@@ -1,0 +1,64 @@
+use Rattle.std.proofs.Common.{◌≡◌, ◌<◌, length, ◌∷◌, ◌++◌, Bool, map, reverse, true, false, subst}
+use Rattle.std.proofs.lemmas.List.Elements.{All-cons}
+use Rattle.std.proofs.lemmas.Result.{on_ok_weaker}
+use Rattle.graph.specs.Seen.{Joins}
+use Rattle.loading.specs.Families.{parents_in}
+use Rattle.hierarchy.specs.steps.Walks.{class_of}
+use Rattle.hierarchy.specs.declared.walk.Visit.TheVariants.{Enter, Leave}
+use Rattle.hierarchy.proofs.WalksLemmas.{walk_enter, walk_again, planned_within, enter_nearer, planned_after}
+use Rattle.hierarchy.proofs.walk.enter.Goals as goal
+
+pub returns-then-not-branch-clause-walking : goal.returns-then-not-branch-clause-walking
+returns-then-not-branch-clause-walking c =
+    let joins : Joins false c.args.walk.now.entered.items c.args.class c.add.new.self.items =
+    subst (λ (b : Bool). Joins b c.args.walk.now.entered.items c.args.class c.add.new.self.items) c.if-not-branch.true
+    c.in_ok-add.ensures.ok in
+    λ from w. rw joins.1
+    (walk_again c.args.family.now from (reverse c.args.walk.now.todo.items) c.args.walk.now.entered.items
+    c.args.walk.now.left.items c.args.class joins.0 w)
+
+pub returns-clause-within : goal.returns-clause-within
+returns-clause-within c =
+    on_ok_weaker c.plan_parents.result
+    (λ (planned : reverse c.plan_parents.new.todo.items
+    ≡ map Enter (parents_in c.args.family.now c.args.class) ++ reverse c.push.new.self.items).
+    rw (planned_after c.args.class c.args.walk.now.todo.items c.push.new.self.items _ _ c.in_ok-push.ensures.items
+    planned)
+    (planned_within c.args.family.now c.args.class (Leave c.args.class ∷ reverse c.args.walk.now.todo.items)
+    c.requires.parents
+    (All-cons (λ visit. class_of visit < length c.args.family.now) (Leave c.args.class)
+    (reverse c.args.walk.now.todo.items) c.requires.class c.requires.within)))
+    c.plan_parents.ensures
+
+pub returns-clause-nearer : goal.returns-clause-nearer
+returns-clause-nearer c =
+    let joins : Joins true c.args.walk.now.entered.items c.args.class c.add.new.self.items =
+    subst (λ (b : Bool). Joins b c.args.walk.now.entered.items c.args.class c.add.new.self.items) c.if-not-branch.false
+    c.in_ok-add.ensures.ok in
+    on_ok_weaker c.plan_parents.result
+    (λ (planned : reverse c.plan_parents.new.todo.items
+    ≡ map Enter (parents_in c.args.family.now c.args.class) ++ reverse c.push.new.self.items).
+    rw c.add.ensures.limit
+    (enter_nearer c.args.family.now c.args.walk.now.entered.limit c.args.class c.args.walk.now.entered.items
+    c.add.new.self.items c.args.walk.now.todo.items c.plan_parents.new.todo.items joins.1
+    (rw c.add.ensures.limit at c.add.ensures.small)
+    (planned_after c.args.class c.args.walk.now.todo.items c.push.new.self.items _ _ c.in_ok-push.ensures.items
+    planned)))
+    c.plan_parents.ensures
+
+pub returns-clause-walking : goal.returns-clause-walking
+returns-clause-walking c =
+    let joins : Joins true c.args.walk.now.entered.items c.args.class c.add.new.self.items =
+    subst (λ (b : Bool). Joins b c.args.walk.now.entered.items c.args.class c.add.new.self.items) c.if-not-branch.false
+    c.in_ok-add.ensures.ok in
+    on_ok_weaker c.plan_parents.result
+    (λ (planned : reverse c.plan_parents.new.todo.items
+    ≡ map Enter (parents_in c.args.family.now c.args.class) ++ reverse c.push.new.self.items).
+    λ from w. rw (
+      planned_after c.args.class c.args.walk.now.todo.items c.push.new.self.items _ _
+          c.in_ok-push.ensures.items planned,
+      joins.1,
+    )
+    (walk_enter c.args.family.now from (reverse c.args.walk.now.todo.items) c.args.walk.now.entered.items
+    c.args.walk.now.left.items c.args.class joins.0 w))
+    c.plan_parents.ensures
