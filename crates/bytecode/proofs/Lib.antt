@@ -7,3 +7,8 @@ pub mod AscendingLemmas
 pub mod BodyLemmas
 pub mod SwitchesLemmas
 pub mod FirstCasesLemmas
+pub mod FormTableLemmas
+pub mod FormReadingsLemmas
+pub mod InstructionReadingsLemmas
+pub mod SwitchReadingsLemmas
+pub mod UniquenessLemmas
