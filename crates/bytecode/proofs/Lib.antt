@@ -11,4 +11,5 @@ pub mod FormTableLemmas
 pub mod FormReadingsLemmas
 pub mod InstructionReadingsLemmas
 pub mod SwitchReadingsLemmas
+pub mod CausesLemmas
 pub mod UniquenessLemmas
