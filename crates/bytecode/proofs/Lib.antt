@@ -12,4 +12,6 @@ pub mod FormReadingsLemmas
 pub mod InstructionReadingsLemmas
 pub mod SwitchReadingsLemmas
 pub mod CausesLemmas
+pub mod FormsKnownLemmas
+pub mod AllCausesLemmas
 pub mod UniquenessLemmas

@@ -25,4 +25,4 @@ pub use operand::{
 };
 pub use placed::Placed;
 pub use switch::{Case, LookupSwitch, TableSwitch};
-pub use uniqueness::{one_body, one_instruction};
+pub use uniqueness::{bad_by_causes, one_body, one_instruction};
