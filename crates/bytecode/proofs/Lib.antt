@@ -13,5 +13,7 @@ pub mod InstructionReadingsLemmas
 pub mod SwitchReadingsLemmas
 pub mod CausesLemmas
 pub mod FormsKnownLemmas
+pub mod DecidedLemmas
+pub mod DecidedSwitchesLemmas
 pub mod AllCausesLemmas
 pub mod UniquenessLemmas
