@@ -7,3 +7,13 @@ pub mod AscendingLemmas
 pub mod BodyLemmas
 pub mod SwitchesLemmas
 pub mod FirstCasesLemmas
+pub mod FormTableLemmas
+pub mod FormReadingsLemmas
+pub mod InstructionReadingsLemmas
+pub mod SwitchReadingsLemmas
+pub mod CausesLemmas
+pub mod FormsKnownLemmas
+pub mod DecidedLemmas
+pub mod DecidedSwitchesLemmas
+pub mod AllCausesLemmas
+pub mod UniquenessLemmas

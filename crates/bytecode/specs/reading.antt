@@ -4,3 +4,7 @@ pub mod Forms
 pub mod Places
 pub mod SweptTargets
 pub mod FirstCases
+pub mod Causes
+pub mod FormTable
+pub mod IsRead
+pub mod Readings

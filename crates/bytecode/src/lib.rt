@@ -14,6 +14,7 @@ mod reading;
 mod sweep;
 mod switch;
 mod table;
+mod uniqueness;
 mod wide;
 
 pub use body::{Body, decode};
@@ -24,3 +25,4 @@ pub use operand::{
 };
 pub use placed::Placed;
 pub use switch::{Case, LookupSwitch, TableSwitch};
+pub use uniqueness::{bad_by_causes, one_body, one_instruction};
