@@ -8,8 +8,7 @@ use Rattle.std.proofs.lemmas.List.Elements.{Contains-append_right, Contains-push
 use Rattle.std.proofs.lemmas.Option.{slice_get_read}
 use Rattle.built_in.specs.declared.class_id.BuiltIn.{BuiltIn}
 use Rattle.loading.specs.Families.{Family, IsParentsFirst, interfaces_in, superclasses_in, superclass_in, given_superclass}
-use Rattle.loading.specs.Families.{superclass_if}
-use Rattle.loading.specs.declared.given.GivenClass.{GivenClass}
+use Rattle.loading.specs.Families.{parents_in}
 use Rattle.loading.specs.declared.given.Superclass.TheVariants as super
 use Rattle.hierarchy.specs.steps.Tops.{IsTop}
 use Rattle.loading.proofs.PlaceLemmas.{contains_at}
@@ -59,3 +58,10 @@ tops_next family order tops k top small within came here c b has at = elim (case
       ])
       (sym (set_else tops (get_or order k 0) c top other) ∙ at)
 ]
+
+pub parent_of : (family : Family) (c d : ℕ) → superclass_in family c ≡ Some (super.Given d)
+    → Contains (parents_in family c) d
+parent_of family c d is =
+    let one : superclasses_in family c ≡ d ∷ [] = ap given_superclass is in
+    Contains-append_right (interfaces_in family c) (superclasses_in family c) d
+    (subst (λ l. Contains l d) (sym one) (contains_at (d ∷ []) 0 d refl))

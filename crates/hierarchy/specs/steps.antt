@@ -12,3 +12,4 @@ pub mod Reaches
 pub mod PoolTexts
 pub mod Sweeps
 pub mod Tops
+pub mod NearestMethods

@@ -13,6 +13,7 @@ mod marks;
 pub mod member;
 mod member_index;
 mod member_table;
+mod nearest;
 mod pool_texts;
 mod reach_table;
 mod reaches;

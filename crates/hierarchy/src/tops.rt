@@ -41,10 +41,17 @@ fn top_of(family: &Family, tops: &[BuiltIn], class: u32) -> BuiltIn
 {
     match family.superclass(class) {
         Some(Superclass::BuiltIn(class)) => class,
-        Some(Superclass::Given(above)) => match tops.get(above as usize) {
-            Some(top) => *top,
+        Some(Superclass::Given(above)) => match top_in(tops, above) {
+            Some(top) => top,
             None => BuiltIn::Object,
         },
         None => BuiltIn::Object,
     }
+}
+
+/// The built-in class of a number.
+pub(crate) fn top_in(tops: &[BuiltIn], class: u32) -> Option<BuiltIn>
+    ensures { result ≡ slice_get tops.now class }
+{
+    tops.get(class as usize).copied()
 }
