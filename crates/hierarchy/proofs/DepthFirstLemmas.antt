@@ -1,5 +1,5 @@
 -- Rows of classes that are depth first.
-use Rattle.std.proofs.Common.{◌≡◌, ℕ, zero, suc, ◌<◌, ◌≤◌, ◌⊎◌, Bool, true, false, List, [], ◌∷◌, ◌++◌, length, Option, Some}
+use Rattle.std.proofs.Common.{◌≡◌, ℕ, suc, ◌<◌, ◌≤◌, ◌⊎◌, Bool, true, false, List, [], ◌∷◌, ◌++◌, length, Option, Some}
 use Rattle.std.proofs.Common.{None, slice_get, refl, sym, ap, ◌∙◌, subst, inl, inr, eqb, arith, take, get_or, set, ◌+◌}
 use Rattle.std.specs.List.{All, Contains}
 use Rattle.std.proofs.lemmas.Bool.{eqb-true, eqb-false, cases_eq}
@@ -199,8 +199,12 @@ whole_order family placed first behind order holds short len all read =
     let is : order ≡ holds.classes = read holds.classes holds.is_row (omega (arith, short, len, holds.count)) in
     record {
       whole = λ c small. subst (λ l. Contains l c) (sym is) (holds.members c (all c small));
-      within = λ c has. omega (arith, len, row_within behind first holds.classes c holds.is_row
-          (subst (λ l. Contains l c) is has));
+      within = λ c has. omega (
+        arith,
+        len,
+        row_within behind first holds.classes c holds.is_row
+            (subst (λ l. Contains l c) is has),
+      );
       once = λ i j c at also. stand_once behind first holds.classes holds.is_row i j c
           (ap (λ l. slice_get l i) (sym is) ∙ at) (ap (λ l. slice_get l j) (sym is) ∙ also);
       ordered = subst (IsDepthFirst family None) (sym is) holds.ordered;

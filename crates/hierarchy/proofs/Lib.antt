@@ -26,3 +26,4 @@ pub mod WalksOrderLemmas
 pub mod WalksLemmas
 pub mod AncestorsLemmas
 pub mod TopsLemmas
+pub mod UpClassesLemmas

@@ -1,12 +1,12 @@
 -- Classes one after another in an order that is depth first.
-use Rattle.std.proofs.Common.{◌≡◌, ℕ, zero, suc, ◌+◌, ◌<◌, ◌≤◌, List, [], ◌∷◌, ◌++◌, length, Option, Some, None, slice_get}
-use Rattle.std.proofs.Common.{take, drop, get_or, refl, sym, ap, ◌∙◌, subst, inl, inr, arith}
+use Rattle.std.proofs.Common.{◌≡◌, ℕ, zero, suc, ◌+◌, ◌<◌, ◌≤◌, List, [], ◌∷◌, ◌++◌, length, Option, Some, slice_get}
+use Rattle.std.proofs.Common.{take, drop, get_or, sym, ap, ◌∙◌, subst, inl, inr, arith}
 use Rattle.std.specs.List.{Contains}
 use Rattle.std.proofs.lemmas.List.{take_more, length-take-le, drop_more}
 use Rattle.std.proofs.lemmas.List.Elements.{Contains-append_left, Contains-append_right, Contains-push_cases}
 use Rattle.loading.specs.Families.{Family, superclasses_in}
 use Rattle.loading.proofs.PlaceLemmas.{contains_at, place_in, last_at}
-use Rattle.hierarchy.specs.steps.DepthFirst.{IsAtOrAbove, same, up, MayFollow, root, below, IsDepthFirst, none, next}
+use Rattle.hierarchy.specs.steps.DepthFirst.{IsAtOrAbove, same, up, MayFollow, root, below, IsDepthFirst, next}
 use Rattle.hierarchy.specs.steps.DepthFirst.{StandOnce, ArePlaces}
 use Rattle.hierarchy.specs.steps.Reaches.{IsLast, StandsBehind}
 use Rattle.hierarchy.proofs.RowLemmas.{at_head}
@@ -65,13 +65,12 @@ stands_behind family order places p c before small once places_are all may last 
 pub last_next : (order : List ℕ) (p : ℕ) → p < length order → IsLast (take (p + 1) order) (Some (get_or order p 0))
 last_next order p small =
     let is : take (p + 1) order ≡ take p order ++ get_or order p 0 ∷ [] = take_more order p 0 small in
-    let count : length (take p order) ≡ p = length-take-le p order (omega (arith, small)) in
-    (
+    let count : length (take p order) ≡ p = length-take-le p order (omega (arith, small)) in (
       p,
       omega (arith, length-take-le (p + 1) order (omega (arith, small))),
       ap (λ l. slice_get l p) is
-      ∙ ap (slice_get (take p order ++ get_or order p 0 ∷ [])) (sym count)
-      ∙ last_at (take p order) (get_or order p 0),
+          ∙ ap (slice_get (take p order ++ get_or order p 0 ∷ [])) (sym count)
+          ∙ last_at (take p order) (get_or order p 0),
     )
 
 pub next_may : (family : Family) (before : Option ℕ) (order : List ℕ) (p : ℕ) → p < length order

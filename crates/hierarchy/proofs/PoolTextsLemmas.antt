@@ -1,8 +1,7 @@
 -- The texts of a class file by index, and their numbers.
-use Rattle.std.proofs.Common.{◌≡◌, ℕ, zero, suc, ◌+◌, ◌<◌, ◌≤◌, ◌⊎◌, List, [], ◌∷◌, ◌++◌, length, get_or, Some, None, slice_get, refl, sym}
+use Rattle.std.proofs.Common.{◌≡◌, ℕ, zero, suc, ◌+◌, ◌<◌, ◌≤◌, ◌⊎◌, List, [], ◌∷◌, ◌++◌, length, get_or, Some, slice_get, refl, sym}
 use Rattle.std.proofs.Common.{ap, ◌∙◌, unwrap_or, inl, inr, arith}
 use Rattle.std.proofs.lemmas.Option.{slice_get_past, slice_get_read}
-use Rattle.std.proofs.lemmas.List.{get_or_default}
 use Rattle.std.proofs.lemmas.Bool.{cases_lt}
 use Rattle.classfile.specs.ClassFile.{ClassFile}
 use Rattle.classfile.specs.Lookup.{utf8_in, utf8_of}

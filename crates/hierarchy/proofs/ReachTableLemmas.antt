@@ -1,12 +1,12 @@
 -- Rows of reaches: one more key, one more reach, and what reaches a place.
 use Rattle.std.proofs.Common.{◌≡◌, ℕ, zero, suc, ◌<◌, ◌≤◌, Bool, true, false, cond, List, [], ◌∷◌, ◌++◌, length, Option, Some}
-use Rattle.std.proofs.Common.{None, Vec, Global, slice_get, fold, ltb, leb, get_or, refl, sym, ap, ◌∙◌, subst, inl, inr, arith}
+use Rattle.std.proofs.Common.{None, Vec, Global, slice_get, fold, ltb, leb, get_or, refl, sym, ap, ◌∙◌, arith}
 use Rattle.std.proofs.lemmas.Bool.{ltb-true, lt-ltb, leb-true, leb-false, le-leb}
 use Rattle.std.proofs.lemmas.List.{get_or_default}
 use Rattle.std.proofs.lemmas.Option.{slice_get_within, slice_get_read, get_or_from_slice_get}
-use Rattle.loading.proofs.PlaceLemmas.{pushed_at, kept_at, last_at}
+use Rattle.loading.proofs.PlaceLemmas.{kept_at, last_at}
 use Rattle.hierarchy.specs.steps.MemberIndexes.{same_key}
-use Rattle.hierarchy.specs.steps.Reaches.{reaches_in, row_at, reach_after, reaching, GoUp, nearest_of, last_nearest}
+use Rattle.hierarchy.specs.steps.Reaches.{reaches_in, row_at, reach_after, reaching, GoUp, last_nearest}
 use Rattle.hierarchy.specs.declared.member_index.MemberKey.{MemberKey}
 use Rattle.hierarchy.specs.declared.member.DeclaredMember.{DeclaredMember}
 use Rattle.hierarchy.specs.declared.reach_table.Reach.{Reach}

@@ -1,23 +1,22 @@
 -- Rows of reaches as the members of classes are noted.
-use Rattle.std.proofs.Common.{◌≡◌, ℕ, zero, suc, ◌+◌, ◌<◌, ◌≤◌, ◌⊎◌, Bool, true, false, cond, List, [], ◌∷◌, ◌++◌, length}
+use Rattle.std.proofs.Common.{◌≡◌, ℕ, zero, suc, ◌+◌, ◌<◌, ◌⊎◌, Bool, true, false, cond, List, [], ◌∷◌, ◌++◌}
 use Rattle.std.proofs.Common.{Option, Some, None, slice_get, refl, sym, ap, ◌∙◌, subst, inl, inr, arith, option_to_list}
 use Rattle.std.specs.List.{position_from}
 use Rattle.std.specs.Str.{bytes_eq}
 use Rattle.std.proofs.lemmas.Slice.Eq.{bytes_eq-Decides}
-use Rattle.std.proofs.lemmas.Option.{slice_get_past}
 use Rattle.classfile.specs.ClassFile.{ClassFile}
 use Rattle.classfile.specs.declared.member.Member.{Member}
 use Rattle.built_in.specs.Keys.{NameAndType}
 use Rattle.loading.specs.Names.{text_at}
-use Rattle.loading.specs.Families.{Family, file_in, file_of, is_interface_in, superclass_in, superclasses_in, given_superclass}
+use Rattle.loading.specs.Families.{Family, file_in, is_interface_in, superclass_in, superclasses_in, given_superclass}
 use Rattle.loading.specs.Families.{IsFamily}
 use Rattle.loading.specs.declared.given.Superclass.{Superclass}
 use Rattle.loading.specs.declared.given.Superclass.TheVariants as super
 use Rattle.hierarchy.specs.MemberLookup.{is_named, keep_if, is_inherited, flags_in, method_in, field_of, method_of}
 use Rattle.hierarchy.specs.steps.HierarchyTables.{wanted_in}
 use Rattle.hierarchy.specs.steps.MemberIndexes.{AreNumbers}
-use Rattle.hierarchy.specs.steps.Reaches.{Members, AllGo, IsNoted, AllTell, reaches_of, Nearest, here, above, nowhere}
-use Rattle.hierarchy.specs.steps.Reaches.{NearestFrom, NearestAbove, IsLast, TellsAlone, Tells, Goes}
+use Rattle.hierarchy.specs.steps.Reaches.{Members, AllGo, IsNoted, reaches_of, Nearest, here, above, nowhere}
+use Rattle.hierarchy.specs.steps.Reaches.{NearestFrom, NearestAbove, IsLast, TellsAlone, Goes}
 use Rattle.hierarchy.specs.steps.Sweeps.{members_in}
 use Rattle.hierarchy.specs.declared.reach_table.ReachTable.{ReachTable}
 use Rattle.hierarchy.specs.declared.member_index.MemberKey.{MemberKey}
@@ -86,8 +85,7 @@ of_method family name d k e = by (file_in family d) refl e
     by : (o : Option ClassFile) → file_in family d ≡ o → method_of name o ≡ Some k → Declares wanted.Method family name d
     by None at found = absurd cc
     by (Some f) at found =
-        let member = first_passing (is_named f name) 0 f.methods k found in
-        (
+        let member = first_passing (is_named f name) 0 f.methods k found in (
           f,
           member.0,
           member.1,
@@ -103,8 +101,7 @@ declares wanted.Field family name d k e = by (file_in family d) refl e
     by : (o : Option ClassFile) → file_in family d ≡ o → field_of name o ≡ Some k → Declares wanted.Field family name d
     by None at found = absurd cc
     by (Some f) at found =
-        let member = first_passing (is_named f name) 0 f.fields k found in
-        (
+        let member = first_passing (is_named f name) 0 f.fields k found in (
           f,
           member.0,
           member.1,

@@ -13,3 +13,4 @@ pub mod PoolTexts
 pub mod Sweeps
 pub mod Tops
 pub mod NearestMethods
+pub mod WholeHierarchies

@@ -1,6 +1,10 @@
 //! A family with what its members are found by.
 
-ghost use Rattle.std.specs.Prelude.{◌≡◌, IfOk, option_map, option_to_list, slice_get};
+ghost use Rattle.std.specs.Prelude.{◌≡◌, ◌<◌, Some, length, IfOk, IsSome, option_map, option_to_list, slice_get};
+ghost use Rattle.built_in.specs.declared.class_id.BuiltIn.{BuiltIn as Top};
+ghost use Rattle.hierarchy.specs.steps.NearestMethods.{AreNearest, wanted_of};
+ghost use Rattle.hierarchy.specs.steps.Reaches.{Nearest};
+ghost use Rattle.hierarchy.specs.steps.Tops.{IsTop};
 ghost use Rattle.loading.specs.Families.{IsFamily, superclass_in, superclasses_in};
 ghost use Rattle.hierarchy.specs.steps.HierarchyTables.{wanted_in};
 ghost use Rattle.hierarchy.specs.steps.MemberTables.{IsTableOf};
@@ -11,9 +15,12 @@ ghost use Rattle.hierarchy.specs.Resolution.{instance_method_in};
 ghost use Rattle.hierarchy.specs.steps.InterfaceLists.{AreInterfaceLists, IsInterfaceList};
 
 use crate::class_lists::ClassLists;
+use crate::member::DeclaredMember;
 use crate::member_index::MemberKey;
 use crate::member_table::MemberTable;
+use crate::nearest::{MethodKind, NearestMethods};
 use crate::wanted::Wanted;
+use built_in::class_id::BuiltIn;
 use classfile::ClassFile;
 use classfile::flags::{PRIVATE, STATIC, has_flag};
 use loading::family::Family;
@@ -28,17 +35,18 @@ pub struct Hierarchy {
     family: Family,
     table: MemberTable,
     interfaces: ClassLists,
+    nearest: NearestMethods,
 }
 
 impl Model for Hierarchy {
     ghost use Rattle.hierarchy.specs.Hierarchies.{NumberedFamily};
-    ghost use Rattle.hierarchy.specs.steps.HierarchyTables.{IsHierarchy};
+    ghost use Rattle.hierarchy.specs.steps.WholeHierarchies.{IsHierarchy};
 
     ghost Value = { NumberedFamily };
 
     ghost view = { λ h. record { family = h.family; texts = h.table.texts } };
 
-    ghost invariant = { λ h. IsHierarchy h.family h.table h.interfaces };
+    ghost invariant = { λ h. IsHierarchy h.family h.table h.interfaces h.nearest };
 }
 
 impl Hierarchy {
@@ -50,12 +58,15 @@ impl Hierarchy {
         requires { AreInterfaceLists family interfaces }
         ensures { IfOk result (λ h. h.family ≡ family) }
     {
-        let table = MemberTable::of_classes(alloc, family.classes())?;
-        Ok(Hierarchy {
-            family,
-            table,
-            interfaces,
-        })
+        match tables_of(alloc, &family) {
+            Ok((table, nearest)) => Ok(Hierarchy {
+                family,
+                table,
+                interfaces,
+                nearest,
+            }),
+            Err(error) => Err(error),
+        }
     }
 
     /// The family of its classes.
@@ -91,6 +102,30 @@ impl Hierarchy {
         }
     }
 
+    /// The nearest class, from one upwards along given superclasses, that declares a method of a kind, and its place.
+    pub(crate) fn nearest(
+        &self,
+        kind: MethodKind,
+        class: u32,
+        key: Option<MemberKey>,
+    ) -> Option<DeclaredMember>
+        requires { class < length self.now.family }
+        ensures { (name : NameAndType) → IsLookup self.now.texts name key
+            → Nearest self.now.family (wanted_in (wanted_of kind) self.now.family name) class result }
+    {
+        let nearest = &self.nearest;
+        nearest.nearest(kind, class, key?)
+    }
+
+    /// The built-in class at the end of the chain of superclasses of a class.
+    pub(crate) fn top(&self, class: u32) -> Option<BuiltIn>
+        ensures top { (b : Top) → result ≡ Some b → IsTop self.now.family class b }
+        ensures within { (b : Top) → result ≡ Some b → class < length self.now.family }
+        ensures none { class < length self.now.family → IsSome result }
+    {
+        self.nearest.top(class)
+    }
+
     /// The superinterfaces of a class, without those of its superclass.
     pub(crate) fn superinterfaces(&self, class: u32) -> &[u32]
         ensures list { IsInterfaceList self.now.family class result.now }
@@ -122,6 +157,16 @@ impl Hierarchy {
     {
         find(&self.family, &self.table, wanted, class, key)
     }
+}
+
+/// The members of a family, and what the nearest methods are found by.
+fn tables_of(alloc: Global, family: &Family) -> Result<(MemberTable, NearestMethods), AllocError>
+    ensures table { IfOk result (λ tables. IsTableOf family.now tables.0) }
+    ensures nearest { IfOk result (λ tables. AreNearest family.now tables.0 tables.1) }
+{
+    let table = MemberTable::of_classes(alloc, family.classes())?;
+    let nearest = NearestMethods::of_family(alloc, family, &table)?;
+    Ok((table, nearest))
 }
 
 /// The place of a class's member of some kind.

@@ -11,6 +11,7 @@ ghost use Rattle.hierarchy.specs.Resolution.{AmongInterfaces, ResolvesMethod};
 use crate::hierarchy::Hierarchy;
 use crate::member::{DeclaredMember, Method};
 use crate::member_index::MemberKey;
+use crate::nearest::MethodKind;
 use crate::wanted::Wanted;
 use built_in::class_id::ClassId;
 use built_in::method::BuiltInMethod;
@@ -30,7 +31,7 @@ impl Hierarchy {
             }
             ClassId::Given(class) => self.resolve_in_class(class, name, descriptor, key),
             ClassId::BuiltIn(class) => self.up_classes(
-                Wanted::Method,
+                MethodKind::Any,
                 Superclass::BuiltIn(class),
                 name,
                 descriptor,
@@ -66,7 +67,7 @@ impl Hierarchy {
             (class_ids.Given class) result }
     {
         let from = Superclass::Given(class);
-        if let Some(method) = self.up_classes(Wanted::Method, from, name, descriptor, key) {
+        if let Some(method) = self.up_classes(MethodKind::Any, from, name, descriptor, key) {
             return Some(method);
         }
         self.among_interfaces(class, key)

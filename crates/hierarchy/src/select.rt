@@ -11,7 +11,7 @@ ghost use Rattle.hierarchy.specs.Resolution.{Selects, SelectsByKey};
 use crate::hierarchy::Hierarchy;
 use crate::member::{DeclaredMember, Method};
 use crate::member_index::MemberKey;
-use crate::wanted::Wanted;
+use crate::nearest::MethodKind;
 use built_in::class_id::ClassId;
 use built_in::method::BuiltInMethod;
 use classfile::flags::{PRIVATE, has_flag};
@@ -50,7 +50,7 @@ impl Hierarchy {
         match class {
             ClassId::Given(class) => self.select_in_class(class, name, descriptor, key),
             ClassId::BuiltIn(class) => self.up_classes(
-                Wanted::InstanceMethod,
+                MethodKind::Instance,
                 Superclass::BuiltIn(class),
                 name,
                 descriptor,
@@ -73,7 +73,7 @@ impl Hierarchy {
             (class_ids.Given class) result }
     {
         let from = Superclass::Given(class);
-        if let Some(method) = self.up_classes(Wanted::InstanceMethod, from, name, descriptor, key) {
+        if let Some(method) = self.up_classes(MethodKind::Instance, from, name, descriptor, key) {
             return Some(method);
         }
         let DeclaredMember { class, index } = self.the_default(class, key)?;

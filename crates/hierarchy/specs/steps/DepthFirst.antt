@@ -1,6 +1,6 @@
 -- An order of classes in which those below a class stand together, behind it (JVMS 4.1, super_class).
 use Rattle.std.specs.Prelude.{◌≡◌, ℕ, ◌==◌, List, [], ◌∷◌, Option, Some, None, slice_get}
-use Rattle.std.specs.Prelude.{slice_index_or, if◌then◌else◌, length, ◌≤◌, ◌<◌, ◌↔◌}
+use Rattle.std.specs.Prelude.{slice_index_or, if◌then◌else◌, length, ◌<◌}
 use Rattle.std.specs.List.{Contains}
 use Rattle.loading.specs.Families.{Family, superclasses_in}
 

@@ -7,6 +7,10 @@ use Rattle.hierarchy.specs.steps.Sweeps.{members_by}
 use Rattle.hierarchy.specs.steps.Tops.{AreTops}
 use Rattle.hierarchy.specs.declared.member_table.MemberTable.{MemberTable}
 use Rattle.hierarchy.specs.declared.nearest.NearestMethods.{NearestMethods}
+use Rattle.hierarchy.specs.declared.nearest.MethodKind.{MethodKind}
+use Rattle.hierarchy.specs.declared.nearest.MethodKind.TheVariants as kinds
+use Rattle.hierarchy.specs.declared.reach_table.ReachTable.{ReachTable}
+use Rattle.hierarchy.specs.declared.wanted.Wanted.{Wanted}
 use Rattle.hierarchy.specs.declared.wanted.Wanted.TheVariants as wanted
 
 -- They are those of a family.
@@ -18,3 +22,12 @@ pub record AreNearest (family : Family) (table : MemberTable) (nearest : Nearest
   pub tops : AreTops family nearest.tops.items
   pub methods : AllTell (members_by wanted.Method family table) order nearest.methods
   pub instance_methods : AllTell (members_by wanted.InstanceMethod family table) order nearest.instance_methods
+
+-- what a kind of methods is in a class
+abbrev pub wanted_of : MethodKind → Wanted
+wanted_of kinds.Any = wanted.Method
+wanted_of kinds.Instance = wanted.InstanceMethod
+
+abbrev pub rows_of : MethodKind → NearestMethods → ReachTable
+rows_of kinds.Any nearest = nearest.methods
+rows_of kinds.Instance nearest = nearest.instance_methods

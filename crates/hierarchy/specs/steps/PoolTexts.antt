@@ -1,5 +1,5 @@
 -- The texts of a class file by number.
-use Rattle.std.specs.Prelude.{◌≡◌, ℕ, List, [], Some, slice_get, slice_index_or}
+use Rattle.std.specs.Prelude.{◌≡◌, ℕ, List, Some, slice_get, slice_index_or}
 use Rattle.classfile.specs.ClassFile.{ClassFile}
 use Rattle.loading.specs.Names.{text_at}
 

@@ -1,5 +1,5 @@
 -- The built-in class above a given one (JVMS 4.1, super_class).
-use Rattle.std.specs.Prelude.{◌≡◌, ◌<◌, ℕ, List, Some, length, slice_get}
+use Rattle.std.specs.Prelude.{◌≡◌, ℕ, List, Some, length, slice_get}
 use Rattle.built_in.specs.declared.class_id.BuiltIn.{BuiltIn}
 use Rattle.loading.specs.Families.{Family, superclass_in}
 use Rattle.loading.specs.declared.given.Superclass.TheVariants as super

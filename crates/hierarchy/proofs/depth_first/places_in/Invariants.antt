@@ -1,4 +1,4 @@
-use Rattle.std.proofs.Common.{◌≡◌, ℕ, ◌<◌, length, take, slice_get, slice_index_or, Some}
+use Rattle.std.proofs.Common.{◌≡◌, ℕ, length, take, slice_get, slice_index_or, Some}
 use Rattle.std.specs.List.{Contains}
 use Rattle.hierarchy.proofs.depth_first.places_in.Given as goal
 

@@ -1,7 +1,6 @@
-use Rattle.std.proofs.Common.{sym, ap, ◌∙◌, [], ◌∷◌, ◌≡◌, subst, option_to_list, arith, rules}
+use Rattle.std.proofs.Common.{ap, ◌∙◌, [], ◌∷◌, ◌≡◌, subst, option_to_list, arith}
 use Rattle.std.specs.List.{All, Contains}
 use Rattle.loading.specs.Families.{superclasses_in}
-use Rattle.hierarchy.specs.steps.DepthFirst.{Holds}
 use Rattle.hierarchy.proofs.DepthFirstLemmas.{holds_behind, holds_first}
 use Rattle.hierarchy.proofs.depth_first.put.Goals as goal
 

@@ -1,4 +1,4 @@
-use Rattle.std.proofs.Common.{arith, ◌∙◌, get_or}
+use Rattle.std.proofs.Common.{arith, ◌∙◌}
 use Rattle.hierarchy.proofs.DepthFirstLemmas.{parents_came, came_next, came_whole}
 use Rattle.hierarchy.proofs.depth_first.put_all.Goals as goal
 

@@ -1,4 +1,4 @@
-use Rattle.std.proofs.Common.{arith, ◌∙◌, ap, Some, get_or, ◌++◌, ◌∷◌, [], ℕ, List, length, slice_get, subst, sym, ◌≡◌, ◌<◌, ◌+◌}
+use Rattle.std.proofs.Common.{arith, ◌∙◌, ap, Some, get_or, ◌∷◌, [], length, slice_get, ◌≡◌}
 use Rattle.std.proofs.lemmas.List.{length-append}
 use Rattle.loading.specs.Names.{text_at}
 use Rattle.hierarchy.proofs.PoolTextsLemmas.{text_there, numbers_next, numbers_whole}

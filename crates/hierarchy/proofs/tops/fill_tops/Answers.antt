@@ -1,4 +1,4 @@
-use Rattle.std.proofs.Common.{◌≡◌, ℕ, ◌<◌, length, get_or, take, arith, ◌∙◌, subst, sym}
+use Rattle.std.proofs.Common.{ℕ, ◌<◌, length, get_or, arith, ◌∙◌, subst, sym}
 use Rattle.std.specs.List.{Contains}
 use Rattle.std.proofs.lemmas.List.{length-set, take_all}
 use Rattle.std.proofs.lemmas.Option.{slice_get_within}

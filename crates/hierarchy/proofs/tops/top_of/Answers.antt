@@ -1,7 +1,6 @@
 use Rattle.std.proofs.Common.{◌≡◌, Some, None, sym, ap, ◌∙◌, subst}
 use Rattle.loading.specs.Families.{superclass_in}
 use Rattle.loading.specs.declared.given.Superclass.TheVariants as super
-use Rattle.built_in.specs.declared.class_id.BuiltIn.{BuiltIn}
 use Rattle.hierarchy.specs.steps.Tops.{IsTop, direct, further}
 use Rattle.hierarchy.proofs.TopsLemmas.{has_superclass}
 use Rattle.hierarchy.proofs.tops.top_of.Goals as goal

@@ -1,4 +1,4 @@
-use Rattle.std.proofs.Common.{ℕ, Option, [], ◌∷◌}
+use Rattle.std.proofs.Common.{Option, [], ◌∷◌}
 use Rattle.built_in.specs.Keys.{NameAndType}
 use Rattle.hierarchy.specs.steps.MemberIndexes.{IsLookup}
 use Rattle.hierarchy.specs.steps.HierarchyTables.{wanted_in}

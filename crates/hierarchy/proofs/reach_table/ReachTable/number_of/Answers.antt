@@ -1,4 +1,4 @@
-use Rattle.std.proofs.Common.{rules, refl, None, ◌≡◌}
+use Rattle.std.proofs.Common.{rules, None, ◌≡◌}
 use Rattle.indexmap.specs.IndexMap.{get}
 use Rattle.hierarchy.specs.steps.MemberIndexes.{same_key}
 use Rattle.hierarchy.specs.steps.Reaches.{number_in}

@@ -1,6 +1,4 @@
-use Rattle.std.proofs.Common.{◌≡◌, ◌⊎◌, ℕ, Option, Some, None, List, [], ◌∷◌, ◌++◌, take, sym, ap, ◌∙◌, subst, inl, inr, refl}
-use Rattle.hierarchy.specs.steps.HierarchyTables.{wanted_in}
-use Rattle.hierarchy.specs.steps.Reaches.{IsNoted, AllGo, AllTell, reaches_of}
+use Rattle.std.proofs.Common.{take}
 use Rattle.hierarchy.specs.steps.Sweeps.{members_of}
 use Rattle.hierarchy.proofs.SweepsLemmas.{entered}
 use Rattle.hierarchy.proofs.sweep.Sweep.enter.Goals as goal

@@ -1,12 +1,10 @@
-use Rattle.std.proofs.Common.{◌≡◌, ◌⊎◌, ◌<◌, ℕ, Option, Some, None, List, [], ◌∷◌, take, sym, ap, ◌∙◌, subst, inl, inr, refl}
+use Rattle.std.proofs.Common.{◌≡◌, ◌<◌, ℕ, Option, Some, List, [], ◌∷◌, take, sym, ◌∙◌, subst, inl, inr, refl}
 use Rattle.std.proofs.Common.{true, false}
-use Rattle.built_in.specs.Keys.{NameAndType}
 use Rattle.loading.specs.Families.{superclasses_in}
 use Rattle.hierarchy.specs.steps.HierarchyTables.{wanted_in}
-use Rattle.hierarchy.specs.steps.Reaches.{IsNoted, AllGo, NearestFrom, NearestAbove}
+use Rattle.hierarchy.specs.steps.Reaches.{NearestFrom}
 use Rattle.hierarchy.specs.steps.Sweeps.{members_of}
-use Rattle.hierarchy.specs.declared.member.DeclaredMember.{DeclaredMember}
-use Rattle.hierarchy.proofs.SweepsLemmas.{StandsBelow, below_first, below_next, falls_up, passes_up, above_from_list}
+use Rattle.hierarchy.proofs.SweepsLemmas.{below_first, below_next, falls_up, passes_up, above_from_list}
 use Rattle.hierarchy.proofs.SweepsLemmas.{all_go_then, noted_then, then_noted, left_at_end, only_one, height_from}
 use Rattle.hierarchy.proofs.sweep.Sweep.leave.Goals as goal
 

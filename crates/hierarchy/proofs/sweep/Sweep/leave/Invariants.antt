@@ -1,4 +1,4 @@
-use Rattle.std.proofs.Common.{ℕ, Option, ◌⊎◌, take}
+use Rattle.std.proofs.Common.{Option, ◌⊎◌, take}
 use Rattle.built_in.specs.Keys.{NameAndType}
 use Rattle.hierarchy.specs.steps.HierarchyTables.{wanted_in}
 use Rattle.hierarchy.specs.steps.Reaches.{IsReachTable, AllGo, IsNoted, NearestFrom}
