@@ -9,9 +9,8 @@ ghost use Rattle.machine.specs.Operations.{return_of, resolved_operation};
 use bytecode::Instruction;
 use frame_instructions::operand_kind::OperandKind;
 use program::class::Implementation;
-use program::program::Program;
 use program::runtime_constant::{FieldKind, FieldTarget, RuntimeConstant};
-use program::{BuiltInMethod, Method, Printed, Unresolved};
+use program::{BuiltInMethod, Method, Printed, Program, Unresolved};
 use vm_state::ends::FaultKind;
 
 /// What an instruction does that touches more than its frame, or names a constant of the run-time constant pool.

@@ -2,8 +2,7 @@
 
 use built_in::class_id::{ArrayType, BuiltIn, ClassId, ElementType};
 use classfile::ClassName;
-use program::program::Program;
-use program::{Field, Method, Unresolved};
+use program::{Field, Method, Program, Unresolved};
 use std::alloc::{AllocError, Global};
 
 /// The number of the given class of a name.

@@ -4,8 +4,7 @@ use crate::questions::{Question, Verb};
 use crate::{members, runs};
 use cases::{add_class_files, filled};
 use classfile::{ClassFault, ClassFile, read};
-use program::link;
-use program::program::Program;
+use program::{Program, link};
 use std::alloc::{AllocError, Global};
 
 /// Given are classes. The order of their files makes no difference, so both ends are tried.

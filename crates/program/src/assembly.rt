@@ -15,8 +15,8 @@ ghost use Rattle.hierarchy.specs.Texts.{AreDistinct};
 ghost use Rattle.hierarchy.specs.steps.GrowingTexts.{Grows};
 
 use crate::class::{Class, Methods, StaticFields};
+use crate::linked_program::Program;
 use crate::methods::{initializer_of, main_of, methods_of};
-use crate::program::Program;
 use crate::runtime_pool::Resolver;
 use crate::static_numbers::StaticNumbers;
 use crate::statics::statics_of;

@@ -4,9 +4,9 @@
 
 mod assembly;
 pub mod class;
+mod linked_program;
 mod lookup;
 mod methods;
-pub mod program;
 mod references;
 pub mod runtime_constant;
 mod runtime_pool;
@@ -16,5 +16,6 @@ mod statics;
 pub use assembly::link;
 pub use built_in::method::{BuiltInMethod, Printed};
 pub use hierarchy::member::{Field, Method, Unresolved};
+pub use linked_program::Program;
 pub use loading::fault::{BadParent, LinkFault};
 pub use loading::links_or_fails;
