@@ -25,6 +25,8 @@ use Rattle.program.specs.declared.runtime_constant.RuntimeConstant.{RuntimeConst
 use Rattle.program.specs.declared.runtime_constant.RuntimeConstant.TheVariants as runtime
 use Rattle.program.specs.declared.runtime_constant.FieldKind.{FieldKind}
 use Rattle.program.specs.declared.runtime_constant.FieldKind.TheVariants as kinds
+use Rattle.program.specs.declared.signature.ReturnKind.{ReturnKind}
+use Rattle.program.specs.declared.signature.ReturnKind.TheVariants as returns
 use Rattle.program.specs.declared.runtime_constant.FieldTarget.{FieldTarget}
 use Rattle.program.specs.declared.runtime_constant.FieldTarget.TheVariants as targets
 use Rattle.loading.specs.declared.given.GivenClass.{GivenClass}
@@ -54,6 +56,7 @@ use Rattle.frame_instructions.specs.Instructions.{local_of}
 use Rattle.machine.specs.Operations.{Operation, PutStatic, Return, Refused, int_constant, long_constant}
 use Rattle.machine.specs.Operations.{local_or, get_static, put_static, is_method, may_write, if_valued, get_target}
 use Rattle.machine.specs.Operations.{getstatic_of, put_target, putstatic_of, call_of, invokevirtual_of, return_of}
+use Rattle.machine.specs.Operations.{return_by}
 use Rattle.machine.specs.Operations.{resolved_operation, operation_of, operation_at}
 use Rattle.machine.specs.Linked.{program_of}
 use Rattle.machine.proofs.ListLemmas.{left_of_pair, right_of_pair, first_passes, kept_place, both_true}
@@ -115,11 +118,11 @@ module _ (w : OperandKind) (c k : ℕ) where
   no_invoke other e = cc
 
   no_return : (o : Option Implementation) → return_of o ≡ PutStatic w c k → ⊥
-  no_return (Some (implementations.Code code)) e = by code.returns_nothing e
+  no_return (Some (implementations.Code code)) e = by code.returns e
     where
-      by : (b : Bool) → cond b Return (Refused Fault) ≡ PutStatic w c k → ⊥
-      by true h = cc
-      by false h = cc
+      by : (kind : ReturnKind) → return_by kind ≡ PutStatic w c k → ⊥
+      by returns.Nothing h = cc
+      by (returns.Value kind) h = cc
   no_return other e = cc
 
   put_is : (d j : ℕ) (kind : FieldKind) → put_static d j kind ≡ PutStatic w c k → (has_value kind ≡ true) × (d ≡ c)

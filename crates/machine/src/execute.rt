@@ -74,7 +74,7 @@ fn catches(program: &Program, class: u32, method: u16) -> bool
     ensures { result ≡ catches_in (implementation_at program.now class method) }
 {
     match program.implementation(class, method) {
-        Some(Implementation::Code(code)) => code.has_handlers,
+        Some(Implementation::Code(code)) => !code.handlers.is_empty(),
         _ => false,
     }
 }

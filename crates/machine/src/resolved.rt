@@ -10,6 +10,7 @@ use bytecode::Instruction;
 use frame_instructions::operand_kind::OperandKind;
 use program::class::Implementation;
 use program::runtime_constant::{FieldKind, FieldTarget, RuntimeConstant};
+use program::signature::ReturnKind;
 use program::{BuiltInMethod, Method, Printed, Program, Unresolved};
 use vm_state::ends::FaultKind;
 
@@ -186,7 +187,10 @@ fn return_of(program: &Program, class: u32, method: u16) -> Resolved
     ensures { meaning result ≡ return_of (implementation_at program.now class method) }
 {
     match program.implementation(class, method) {
-        Some(Implementation::Code(code)) if code.returns_nothing => Resolved::Return,
+        Some(Implementation::Code(code)) => match code.returns {
+            ReturnKind::Nothing => Resolved::Return,
+            ReturnKind::Value(_) => FAULT,
+        },
         _ => FAULT,
     }
 }

@@ -4,3 +4,5 @@ pub mod Tables
 pub mod Programs
 pub mod steps
 pub mod Fields
+pub mod Signatures
+pub mod Handlers

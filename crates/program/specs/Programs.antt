@@ -1,12 +1,13 @@
 -- A linked program (JVMS 5.4): the given classes by number, and of each what the machine uses of it.
 use Rattle.std.specs.Prelude.{◌≡◌, ◌<◌, ℕ, Bool, true, false, not, ◌&&◌, ◌||◌, List, length, map, pos, Option, Some}
-use Rattle.std.specs.Prelude.{None, slice_get, codes, is_some, ◌==◌, nat_eq, if◌then◌else◌}
-use Rattle.std.specs.List.{AllZip, position_from, ends_with}
+use Rattle.std.specs.Prelude.{None, slice_get, codes, is_some, if◌then◌else◌}
+use Rattle.std.specs.List.{AllZip, position_from}
 use Rattle.std.specs.Str.{bytes_eq}
 use Rattle.classfile.specs.Flags.{has_flag}
 use Rattle.classfile.specs.ClassFile.{ClassFile}
 use Rattle.classfile.specs.Members.{code_among, value_among}
 use Rattle.classfile.specs.declared.member.Member.{Member}
+use Rattle.classfile.specs.Grammar.{IsMethodDescriptor}
 use Rattle.loading.specs.Names.{text_at}
 use Rattle.bytecode.specs.Body.{IsBody}
 use Rattle.classfile.specs.declared.code.Code.{Code as CodeAttribute}
@@ -26,6 +27,8 @@ use Rattle.loading.specs.Families.{Family}
 use Rattle.hierarchy.specs.Initialization.{IsInitializationOrder}
 use Rattle.program.specs.RuntimePool.{int_of_bits, long_of_halves, IsRuntimePool}
 use Rattle.program.specs.Fields.{statics_of, field_kind}
+use Rattle.program.specs.Handlers.{IsHandler}
+use Rattle.program.specs.Signatures.{return_kind, AreSignatures}
 use Rattle.hierarchy.specs.Texts.{AreDistinct}
 use Rattle.program.specs.Tables.{Tables, order_in}
 
@@ -84,10 +87,6 @@ static_field f m = record {
 
 -- ---- methods
 
--- the descriptor ends with `)V`
-abbrev pub returns_nothing : List ℕ → Bool
-returns_nothing descriptor = ends_with nat_eq descriptor (codes ")V")
-
 -- abstract; native or synchronized, which is left out; the flags of a class initialization method say nothing (JVMS
 -- 4.6)
 abbrev pub is_abstract_method : ClassFile → Member → Bool
@@ -98,28 +97,32 @@ is_left_out f m = not (is_initializer f m) && not (has_flag m.access_flags 1024)
     && (has_flag m.access_flags 256 || has_flag m.access_flags 32)
 
 -- what a method with code runs (JVMS 4.7.3)
-pub record IsMethodCode (f : ClassFile) (m : Member) (attribute : CodeAttribute) (code : MethodCode) : Type 0 where
+pub record IsMethodCode (family : Family) (f : ClassFile) (m : Member) (attribute : CodeAttribute) (code : MethodCode) :
+    Type 0 where
   pub max_stack : code.max_stack ≡ attribute.max_stack
   pub max_locals : code.max_locals ≡ attribute.max_locals
-  pub returns_nothing : code.returns_nothing ≡ returns_nothing (text_at f m.descriptor)
-  pub has_handlers : code.has_handlers ≡ not (length attribute.exceptions == 0)
+  -- the descriptor is a method descriptor in every class file (JVMS 4.6)
+  pub descriptor : code.descriptor ≡ m.descriptor
+  pub returns : (d : IsMethodDescriptor (text_at f m.descriptor)) → code.returns ≡ return_kind d.returned
+  pub handlers : AllZip (IsHandler family f) attribute.exceptions code.handlers
   pub body : IsBody attribute.code code.body
 
 -- How a method is implemented.
-pub data IsImplementation (f : ClassFile) (m : Member) : Implementation → Type 0 where
-  abstract : is_abstract_method f m ≡ true → IsImplementation f m implementations.Abstract
-  left_out : is_left_out f m ≡ true → IsImplementation f m implementations.Unsupported
+pub data IsImplementation (family : Family) (f : ClassFile) (m : Member) : Implementation → Type 0 where
+  abstract : is_abstract_method f m ≡ true → IsImplementation family f m implementations.Abstract
+  left_out : is_left_out f m ≡ true → IsImplementation family f m implementations.Unsupported
   no_code : is_abstract_method f m ≡ false → is_left_out f m ≡ false → code_among m.attributes ≡ None
-      → IsImplementation f m implementations.Abstract
+      → IsImplementation family f m implementations.Abstract
   code : {attribute : CodeAttribute} {code : MethodCode} → is_abstract_method f m ≡ false → is_left_out f m ≡ false
-      → code_among m.attributes ≡ Some attribute → IsMethodCode f m attribute code
-      → IsImplementation f m (implementations.Code code)
+      → code_among m.attributes ≡ Some attribute → IsMethodCode family f m attribute code
+      → IsImplementation family f m (implementations.Code code)
 
 -- ---- a whole class, and the program
 
 pub record IsClass (family : Family) (strings : List (List ℕ)) (f : ClassFile) (class : Class) : Type 0 where
   pub statics : class.statics ≡ map (static_field f) (statics_of f)
-  pub methods : AllZip (IsImplementation f) f.methods class.methods
+  pub signatures : AreSignatures f class.signatures
+  pub methods : AllZip (IsImplementation family f) f.methods class.methods
   pub initializer : class.initializer ≡ initializer_of f
   pub main : class.main ≡ main_of f
   pub runtime_pool : IsRuntimePool family strings f class.runtime_pool

@@ -1,2 +1,3 @@
 pub mod StaticNumbers
 pub mod ResolvedConstants
+pub mod ParsedSignatures

@@ -8,16 +8,20 @@ ghost use Rattle.loading.specs.Families.{IsFamilyOf};
 ghost use Rattle.loading.specs.Files.{LinkFails, Links};
 ghost use Rattle.program.specs.declared.class.Class.{Class as ClassTables};
 ghost use Rattle.program.specs.Fields.{statics_of};
+ghost use Rattle.program.specs.Signatures.{AreSignatures};
+ghost use Rattle.program.specs.steps.ResolvedConstants.{HoldsClasses};
 ghost use Rattle.program.specs.steps.StaticNumbers.{AreStaticNumbersOf};
 ghost use Rattle.hierarchy.specs.Initialization.{AreOrders};
 ghost use Rattle.program.specs.Programs.{AreClasses, IsClass, IsProgram, IsImplementation, static_field};
 ghost use Rattle.hierarchy.specs.Texts.{AreDistinct};
 ghost use Rattle.hierarchy.specs.steps.GrowingTexts.{Grows};
 
-use crate::class::{Class, Methods, StaticFields};
+use crate::class::{Class, Methods, RuntimePool, StaticFields};
+use crate::linked_file::LinkedFile;
 use crate::linked_program::Program;
 use crate::methods::{initializer_of, main_of, methods_of};
 use crate::runtime_pool::Resolver;
+use crate::signature::{Signatures, signatures_of};
 use crate::static_numbers::StaticNumbers;
 use crate::statics::statics_of;
 use classfile::ClassFile;
@@ -264,10 +268,11 @@ fn class_of(
     ensures grows { OnOk result (Grows strings.old strings.new) }
 {
     let runtime_pool = resolver.runtime_pool_of(alloc, strings, file)?;
-    match members_of(alloc, file) {
-        Ok((statics, methods)) => Ok(Class {
-            statics,
-            methods,
+    match members_of(alloc, resolver.hierarchy.family(), file, &runtime_pool) {
+        Ok(members) => Ok(Class {
+            statics: members.statics,
+            signatures: members.signatures,
+            methods: members.methods,
             initializer: initializer_of(file),
             main: main_of(file),
             runtime_pool,
@@ -277,11 +282,38 @@ fn class_of(
 }
 
 /// The static fields and the methods of a class.
-fn members_of(alloc: Global, file: &ClassFile) -> Result<(StaticFields, Methods), AllocError>
-    ensures statics { IfOk result (λ members. members.0 ≡ map (static_field file.now) (statics_of file.now)) }
-    ensures methods { IfOk result (λ members. AllZip (IsImplementation file.now) file.now.methods members.1) }
+#[derive(Drop)]
+struct MemberTables {
+    statics: StaticFields,
+    signatures: Signatures,
+    methods: Methods,
+}
+
+/// The static fields and the methods of a class with a run-time constant pool.
+fn members_of(
+    alloc: Global,
+    family: &Family,
+    file: &ClassFile,
+    runtime_pool: &RuntimePool,
+) -> Result<MemberTables, AllocError>
+    requires { HoldsClasses family.now file.now runtime_pool.now }
+    ensures statics { IfOk result (λ members. members.statics ≡ map (static_field file.now) (statics_of file.now)) }
+    ensures signatures { IfOk result (λ members. AreSignatures file.now members.signatures) }
+    ensures methods { IfOk result (λ members. AllZip (IsImplementation family.now file.now) file.now.methods
+        members.methods) }
 {
     let statics = statics_of(alloc, file)?;
-    let methods = methods_of(alloc, file)?;
-    Ok((statics, methods))
+    let signatures = signatures_of(alloc, file)?;
+    let linked = LinkedFile {
+        family,
+        file,
+        runtime_pool,
+        signatures: &signatures,
+    };
+    let methods = methods_of(alloc, &linked)?;
+    Ok(MemberTables {
+        statics,
+        signatures,
+        methods,
+    })
 }

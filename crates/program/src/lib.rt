@@ -4,12 +4,15 @@
 
 mod assembly;
 pub mod class;
+pub mod handler;
+mod linked_file;
 mod linked_program;
 mod lookup;
 mod methods;
 mod references;
 pub mod runtime_constant;
 mod runtime_pool;
+pub mod signature;
 mod static_numbers;
 mod statics;
 
