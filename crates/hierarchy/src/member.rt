@@ -13,7 +13,7 @@ pub enum Field {
 
 /// A field or a method that a given class declares.
 #[derive(Clone, Copy, PartialEq, Eq, Debug)]
-pub(crate) struct DeclaredMember {
+pub struct DeclaredMember {
     pub class: u32,
     /// Its place among the class's members of its kind.
     pub index: u16,

@@ -341,12 +341,14 @@ module _ (P : Tables) (is : IsProgram P) where
   static_at c k j f m file at static slot =
       let given = given_of (slice_get P.family c) f file in
       let class = right_of_pair (IsClassIn P) P.family P.classes c given.0 is.classes given.1 in
-      let statics : statics_in P c ≡ map (static_field f) (statics_of f) =
-      ap statics_if class.1 ∙ class.2.statics ∙ ap (λ (g : ClassFile). map (static_field g) (statics_of g)) given.2 in
+      let field = static_field f class.0.runtime_pool in
+      let statics : statics_in P c ≡ map field (statics_of f) =
+      ap statics_if class.1 ∙ class.2.statics
+      ∙ ap (λ (g : ClassFile). map (static_field g class.0.runtime_pool) (statics_of g)) given.2 in
       let kept : slice_get (statics_of f) k ≡ Some m =
       ap (slice_get (statics_of f)) slot ∙ kept_place (is_static_field f) f.fields j m at static in
-      let held : slice_get (statics_in P c) k ≡ Some (static_field f m) =
-      rw statics (mapped_at (static_field f) (statics_of f) k m kept) in
+      let held : slice_get (statics_in P c) k ≡ Some (field m) =
+      rw statics (mapped_at field (statics_of f) k m kept) in
       ap declared_final held
 
   -- the constant of an instruction that puts, and its Fieldref

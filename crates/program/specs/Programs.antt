@@ -11,8 +11,6 @@ use Rattle.classfile.specs.Grammar.{IsMethodDescriptor}
 use Rattle.loading.specs.Names.{text_at}
 use Rattle.bytecode.specs.Body.{IsBody}
 use Rattle.classfile.specs.declared.code.Code.{Code as CodeAttribute}
-use Rattle.classfile.specs.declared.constant.Constant.{Constant}
-use Rattle.classfile.specs.declared.constant.Constant.TheVariants as constants
 use Rattle.vm_state.specs.declared.value.Value.{Value}
 use Rattle.vm_state.specs.declared.value.Value.TheVariants as values
 use Rattle.vm_state.specs.declared.classes.StaticField.{StaticField}
@@ -20,13 +18,15 @@ use Rattle.program.specs.declared.class.Class.{Class}
 use Rattle.program.specs.declared.class.MethodCode.{MethodCode}
 use Rattle.program.specs.declared.class.Implementation.{Implementation}
 use Rattle.program.specs.declared.class.Implementation.TheVariants as implementations
+use Rattle.program.specs.declared.runtime_constant.RuntimeConstant.{RuntimeConstant}
+use Rattle.program.specs.declared.runtime_constant.RuntimeConstant.TheVariants as runtime
 use Rattle.program.specs.declared.runtime_constant.FieldKind.{FieldKind}
 use Rattle.program.specs.declared.runtime_constant.FieldKind.TheVariants as kinds
 use Rattle.loading.specs.declared.given.GivenClass.{GivenClass}
 use Rattle.loading.specs.Families.{Family}
 use Rattle.hierarchy.specs.Initialization.{IsInitializationOrder}
-use Rattle.program.specs.RuntimePool.{int_of_bits, long_of_halves, IsRuntimePool}
-use Rattle.program.specs.Fields.{statics_of, field_kind}
+use Rattle.program.specs.RuntimePool.{IsRuntimePool}
+use Rattle.program.specs.Fields.{statics_of, field_kind, narrowed}
 use Rattle.program.specs.Handlers.{IsHandler}
 use Rattle.program.specs.Signatures.{return_kind, AreSignatures}
 use Rattle.hierarchy.specs.Texts.{AreDistinct}
@@ -58,31 +58,26 @@ zero_of kinds.Long = values.Long (pos 0)
 zero_of kinds.Reference = values.Null
 zero_of _ = values.Int (pos 0)
 
-abbrev pub number_of_constant : Option Constant → Option Value
-number_of_constant (Some (constants.Integer bits)) = Some (values.Int (int_of_bits bits))
-number_of_constant (Some (constants.Long high low)) = Some (values.Long (long_of_halves high low))
-number_of_constant _ = None
+abbrev pub value_of_constant : FieldKind → Option RuntimeConstant → Option Value
+value_of_constant kind (Some (runtime.Int n)) = Some (values.Int (narrowed kind n))
+value_of_constant kind (Some (runtime.Long n)) = Some (values.Long n)
+value_of_constant kind (Some (runtime.String n)) = Some (values.Text n)
+value_of_constant kind _ = None
 
-abbrev pub constant_value_at : ClassFile → Option ℕ → Option Value
-constant_value_at f None = None
-constant_value_at f (Some index) = number_of_constant (slice_get f.constants index)
+abbrev pub constant_value_at : List RuntimeConstant → FieldKind → Option ℕ → Option Value
+constant_value_at pool kind None = None
+constant_value_at pool kind (Some index) = value_of_constant kind (slice_get pool index)
 
--- Those of other types than int and long come with their instructions.
-abbrev pub has_constant_value : FieldKind → Bool
-has_constant_value kinds.Int = true
-has_constant_value kinds.Long = true
-has_constant_value _ = false
+-- the ConstantValue of a final field (JVMS 4.7.2, 5.5), as the class's run-time constant pool has it
+abbrev pub constant_value_of : List RuntimeConstant → FieldKind → Member → Option Value
+constant_value_of pool kind m =
+    if has_flag m.access_flags 16 then constant_value_at pool kind (value_among m.attributes) else None
 
--- the ConstantValue of a final field (JVMS 4.7.2)
-abbrev pub constant_value_of : ClassFile → FieldKind → Member → Option Value
-constant_value_of f kind m = if has_constant_value kind
-    && has_flag m.access_flags 16 then constant_value_at f (value_among m.attributes) else None
-
-abbrev pub static_field : ClassFile → Member → StaticField
-static_field f m = record {
+abbrev pub static_field : ClassFile → List RuntimeConstant → Member → StaticField
+static_field f pool m = record {
   is_final = has_flag m.access_flags 16;
   zero = zero_of (field_kind (text_at f m.descriptor));
-  constant = constant_value_of f (field_kind (text_at f m.descriptor)) m;
+  constant = constant_value_of pool (field_kind (text_at f m.descriptor)) m;
 }
 
 -- ---- methods
@@ -120,7 +115,7 @@ pub data IsImplementation (family : Family) (f : ClassFile) (m : Member) : Imple
 -- ---- a whole class, and the program
 
 pub record IsClass (family : Family) (strings : List (List ℕ)) (f : ClassFile) (class : Class) : Type 0 where
-  pub statics : class.statics ≡ map (static_field f) (statics_of f)
+  pub statics : class.statics ≡ map (static_field f class.runtime_pool) (statics_of f)
   pub signatures : AreSignatures f class.signatures
   pub methods : AllZip (IsImplementation family f) f.methods class.methods
   pub initializer : class.initializer ≡ initializer_of f

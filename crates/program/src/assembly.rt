@@ -297,12 +297,13 @@ fn members_of(
     runtime_pool: &RuntimePool,
 ) -> Result<MemberTables, AllocError>
     requires { HoldsClasses family.now file.now runtime_pool.now }
-    ensures statics { IfOk result (λ members. members.statics ≡ map (static_field file.now) (statics_of file.now)) }
+    ensures statics { IfOk result (λ members. members.statics ≡ map (static_field file.now runtime_pool.now)
+        (statics_of file.now)) }
     ensures signatures { IfOk result (λ members. AreSignatures file.now members.signatures) }
     ensures methods { IfOk result (λ members. AllZip (IsImplementation family.now file.now) file.now.methods
         members.methods) }
 {
-    let statics = statics_of(alloc, file)?;
+    let statics = statics_of(alloc, file, runtime_pool)?;
     let signatures = signatures_of(alloc, file)?;
     let linked = LinkedFile {
         family,
