@@ -3,3 +3,4 @@ pub mod RuntimePoolGrowthLemmas
 pub mod StaticNumbersLemmas
 pub mod RuntimePoolLemmas
 pub mod SignatureLemmas
+pub mod StringsLemmas

@@ -6,3 +6,4 @@ pub mod steps
 pub mod Fields
 pub mod Signatures
 pub mod Handlers
+pub mod Strings

@@ -30,6 +30,7 @@ use Rattle.program.specs.Fields.{statics_of, field_kind, narrowed}
 use Rattle.program.specs.Handlers.{IsHandler}
 use Rattle.program.specs.Signatures.{return_kind, AreSignatures}
 use Rattle.hierarchy.specs.Texts.{AreDistinct}
+use Rattle.program.specs.Strings.{all_strings, AreFirsts}
 use Rattle.program.specs.Tables.{Tables, order_in}
 
 -- ---- the methods that the machine calls by itself
@@ -127,8 +128,9 @@ abbrev pub AreClasses : Family → List (List ℕ) → List Class → Type 0
 AreClasses family strings classes =
     AllZip (λ (given : GivenClass) (class : Class). IsClass family strings given.file class) family classes
 
--- The tables are those of their family: a class for each given one, and strings that differ from one another.
+-- The tables are those of their family: a class for each given one, and the strings of all, each once.
 pub record IsProgram (P : Tables) : Type 0 where
   pub orders : (c : ℕ) → c < length P.family → IsInitializationOrder P.family c (order_in P c)
   pub classes : AreClasses P.family P.strings P.classes
   pub distinct : AreDistinct P.strings
+  pub strings : AreFirsts (all_strings P.family) P.strings

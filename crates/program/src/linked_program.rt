@@ -1,6 +1,7 @@
 //! The linked program.
 
 ghost use Rattle.std.specs.Prelude.{◌≡◌, ◌≢◌, ◌<◌, ℕ, [], length, Option, Some, IfOk, MatchOption, option_copied};
+ghost use Rattle.std.specs.Prelude.{option_map, slice_get};
 ghost use Rattle.classfile.specs.Units.{units_text};
 ghost use Rattle.loading.specs.Families.{name_in};
 ghost use Rattle.hierarchy.specs.Initialization.{IsInitializationOrder};
@@ -103,6 +104,13 @@ impl Program {
     {
         let class = self.classes.get(class as usize)?;
         class.runtime_pool.at(index)
+    }
+
+    /// The text of a string, as class files spell it, by its number among the strings of the program.
+    pub fn string(&self, number: usize) -> Option<&[u8]>
+        ensures { option_map (λ text. text.now) result ≡ slice_get self.now.strings number }
+    {
+        self.strings.text(number)
     }
 
     /// The static fields of a class that have values, in order; none of a class that is not there.
