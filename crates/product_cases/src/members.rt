@@ -6,7 +6,7 @@ use program::{Field, Method, Program, Unresolved};
 use std::alloc::{AllocError, Global};
 
 /// The number of the given class of a name.
-fn number_of(alloc: Global, program: &Program, class: &str) -> Result<Option<u32>, AllocError> {
+pub fn number_of(alloc: Global, program: &Program, class: &str) -> Result<Option<u32>, AllocError> {
     let name = ClassName::from_text(alloc, class)?;
     program.number_of(alloc, &name)
 }
