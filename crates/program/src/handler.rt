@@ -10,7 +10,7 @@ use std::marker::Model;
 pub enum Catches {
     /// Whatever is thrown.
     Anything,
-    /// Objects of this class and of those below it. Nothing where the class that it names is neither given nor built in.
+    /// Objects of this class and of those below it. None where no class, given or built in, has the name.
     Class(Option<ClassId>),
 }
 

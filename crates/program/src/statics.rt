@@ -143,7 +143,8 @@ fn add_static(
     statics: &mut Vec<StaticField>,
 ) -> Result<(), AllocError>
     ensures { OnOk result (statics.new.items
-        ≡ statics.old.items ++ map (static_field file.now pool.now) (filter (is_static_field file.now) (field.now ∷ []))) }
+        ≡ statics.old.items
+        ++ map (static_field file.now pool.now) (filter (is_static_field file.now) (field.now ∷ []))) }
 {
     if is_static_field(file, field) {
         statics.push(static_field(file, pool, field))?;

@@ -11,5 +11,6 @@ returns-clause-held c =
 pub returns-clause-adds : goal.returns-clause-adds
 returns-clause-adds c =
     let old = c.args.strings.now in
-    let added = adds_text old c.add.new.self c.text_at.result.now c.in_ok-number.ensures.same c.in_ok-number.ensures.last in
+    let added = adds_text old c.add.new.self c.text_at.result.now c.in_ok-number.ensures.same
+    c.in_ok-number.ensures.last in
     rw c.in-String.is (subst (λ (x : List ℕ). Adds old (x ∷ []) c.add.new.self) c.text_at.ensures added)
