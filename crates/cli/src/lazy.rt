@@ -7,7 +7,7 @@ use crate::{Files, Lazy, Refusal, Status};
 use built_in::class_id::ClassId;
 use classfile::{ClassFile, ClassName};
 use init_engine::{Ending, Line, Seen, World};
-use program::program::Program;
+use program::Program;
 use std::alloc::{AllocError, Global};
 
 /// What a run has to tell.

@@ -4,7 +4,7 @@ ghost use Rattle.cli.specs.Status.{IsTold, code_of, is_end, is_return, run_statu
 ghost use Rattle.std.specs.List.{list_all};
 
 use init_engine::{Ending, World};
-use program::program::Program;
+use program::Program;
 
 /// How a command ended.
 #[derive(Clone, Copy, Debug, PartialEq, Eq)]

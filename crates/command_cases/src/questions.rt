@@ -7,7 +7,7 @@ use cli::{
     thread_lines,
 };
 use init_engine::Ending;
-use program::program::Program;
+use program::Program;
 use std::alloc::{AllocError, Global};
 use std::str::SplitWhitespace;
 use vm_state::ends::FaultKind;

@@ -142,7 +142,7 @@ impl Hierarchy {
     }
 
     /// The name and the descriptor of the method at a place of a class.
-    pub fn names(&self, class: u32, index: u16) -> Option<(&[u8], &[u8])>
+    pub(crate) fn names(&self, class: u32, index: u16) -> Option<(&[u8], &[u8])>
         ensures { option_map (λ x. record { name = x.0.now; descriptor = x.1.now }) result
             ≡ key_in self.now.family class index }
     {

@@ -73,6 +73,9 @@ impl Texts {
         ensures number { IfOk result (λ n. slice_get self.new n ≡ Some text.now) }
         ensures keeps { KeepsNumbers self.old self.new }
         ensures distinct { OnOk result (AreDistinct self.new) }
+        // A new text comes last.
+        ensures same { Contains self.old text.now → OnOk result (self.new ≡ self.old) }
+        ensures last { ¬ Contains self.old text.now → OnOk result (self.new ≡ self.old ++ text.now ∷ []) }
     {
         match self.number(text) {
             Some(number) => Ok(number),
@@ -87,6 +90,7 @@ impl Texts {
         ensures number { IfOk result (λ n. slice_get self.new n ≡ Some text.now) }
         ensures keeps { KeepsNumbers self.old self.new }
         ensures distinct { OnOk result (AreDistinct self.new) }
+        ensures last { OnOk result (self.new ≡ self.old ++ text.now ∷ []) }
     {
         let copy = Vec::from_slice(alloc, text)?;
         let (number, _) = self.texts.insert_full(copy)?;

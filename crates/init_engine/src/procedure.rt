@@ -12,7 +12,7 @@ ghost use Rattle.init_engine.specs.steps.Progress.{Stands, Steps, StaysPut, left
 
 use machine::entering::initializer_frame;
 use machine::{Effect, effect};
-use program::program::Program;
+use program::Program;
 use std::alloc::{AllocError, Global};
 use vm_state::classes::{ClassState, Usability};
 use vm_state::ends::{End, FaultKind};

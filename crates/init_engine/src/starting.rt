@@ -12,7 +12,7 @@ use crate::world::World;
 use built_in::class_id::{ArrayType, BuiltIn, ClassId, ElementType};
 use classfile::ClassName;
 use machine::entering::{blank_classes, start_frame};
-use program::program::Program;
+use program::Program;
 use std::alloc::{AllocError, Global};
 use vm_state::heap::Heap;
 use vm_state::object::{Monitor, Object, Slots};

@@ -2,7 +2,7 @@
 
 use crate::world::{Thread, World};
 use machine::waiting::has_to_wait;
-use program::program::Program;
+use program::Program;
 use vm_state::classes::Usability;
 use vm_state::initialization::{Frames, Level};
 use vm_state::shared::Shared;

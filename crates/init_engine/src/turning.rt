@@ -12,7 +12,7 @@ ghost use Rattle.init_engine.specs.steps.Rounds.{IsAsking, IsRound, IsStretch};
 use crate::schedule::Schedule;
 use crate::world::{Turn, World};
 use machine::step_table::StepTable;
-use program::program::Program;
+use program::Program;
 use std::alloc::{AllocError, Global};
 use vm_state::frame::Activity;
 

@@ -17,7 +17,7 @@ ghost use Rattle.init_engine.specs.Turns.{IsTurn, world_of};
 use crate::procedure::{Progress, step_thread};
 use machine::step_table::StepTable;
 use machine::stretch::run_frame;
-use program::program::Program;
+use program::Program;
 use std::alloc::{AllocError, Global};
 use std::marker::Model;
 use vm_state::ends::{End, Ending};

@@ -25,6 +25,8 @@ use Rattle.program.specs.declared.runtime_constant.RuntimeConstant.{RuntimeConst
 use Rattle.program.specs.declared.runtime_constant.RuntimeConstant.TheVariants as runtime
 use Rattle.program.specs.declared.runtime_constant.FieldKind.{FieldKind}
 use Rattle.program.specs.declared.runtime_constant.FieldKind.TheVariants as kinds
+use Rattle.program.specs.declared.signature.ReturnKind.{ReturnKind}
+use Rattle.program.specs.declared.signature.ReturnKind.TheVariants as returns
 use Rattle.program.specs.declared.runtime_constant.FieldTarget.{FieldTarget}
 use Rattle.program.specs.declared.runtime_constant.FieldTarget.TheVariants as targets
 use Rattle.loading.specs.declared.given.GivenClass.{GivenClass}
@@ -54,6 +56,7 @@ use Rattle.frame_instructions.specs.Instructions.{local_of}
 use Rattle.machine.specs.Operations.{Operation, PutStatic, Return, Refused, int_constant, long_constant}
 use Rattle.machine.specs.Operations.{local_or, get_static, put_static, is_method, may_write, if_valued, get_target}
 use Rattle.machine.specs.Operations.{getstatic_of, put_target, putstatic_of, call_of, invokevirtual_of, return_of}
+use Rattle.machine.specs.Operations.{return_by}
 use Rattle.machine.specs.Operations.{resolved_operation, operation_of, operation_at}
 use Rattle.machine.specs.Linked.{program_of}
 use Rattle.machine.proofs.ListLemmas.{left_of_pair, right_of_pair, first_passes, kept_place, both_true}
@@ -115,11 +118,11 @@ module _ (w : OperandKind) (c k : ℕ) where
   no_invoke other e = cc
 
   no_return : (o : Option Implementation) → return_of o ≡ PutStatic w c k → ⊥
-  no_return (Some (implementations.Code code)) e = by code.returns_nothing e
+  no_return (Some (implementations.Code code)) e = by code.returns e
     where
-      by : (b : Bool) → cond b Return (Refused Fault) ≡ PutStatic w c k → ⊥
-      by true h = cc
-      by false h = cc
+      by : (kind : ReturnKind) → return_by kind ≡ PutStatic w c k → ⊥
+      by returns.Nothing h = cc
+      by (returns.Value kind) h = cc
   no_return other e = cc
 
   put_is : (d j : ℕ) (kind : FieldKind) → put_static d j kind ≡ PutStatic w c k → (has_value kind ≡ true) × (d ≡ c)
@@ -338,12 +341,14 @@ module _ (P : Tables) (is : IsProgram P) where
   static_at c k j f m file at static slot =
       let given = given_of (slice_get P.family c) f file in
       let class = right_of_pair (IsClassIn P) P.family P.classes c given.0 is.classes given.1 in
-      let statics : statics_in P c ≡ map (static_field f) (statics_of f) =
-      ap statics_if class.1 ∙ class.2.statics ∙ ap (λ (g : ClassFile). map (static_field g) (statics_of g)) given.2 in
+      let field = static_field f class.0.runtime_pool in
+      let statics : statics_in P c ≡ map field (statics_of f) =
+      ap statics_if class.1 ∙ class.2.statics
+      ∙ ap (λ (g : ClassFile). map (static_field g class.0.runtime_pool) (statics_of g)) given.2 in
       let kept : slice_get (statics_of f) k ≡ Some m =
       ap (slice_get (statics_of f)) slot ∙ kept_place (is_static_field f) f.fields j m at static in
-      let held : slice_get (statics_in P c) k ≡ Some (static_field f m) =
-      rw statics (mapped_at (static_field f) (statics_of f) k m kept) in
+      let held : slice_get (statics_in P c) k ≡ Some (field m) =
+      rw statics (mapped_at field (statics_of f) k m kept) in
       ap declared_final held
 
   -- the constant of an instruction that puts, and its Fieldref

@@ -9,19 +9,19 @@ use Rattle.std.proofs.lemmas.Slice.Eq.{bytes_eq-Decides}
 use Rattle.classfile.specs.Flags.{has_flag}
 use Rattle.classfile.specs.ClassFile.{ClassFile}
 use Rattle.classfile.specs.Members.{code_among, value_among}
-use Rattle.classfile.specs.declared.constant.Constant.{Constant}
-use Rattle.classfile.specs.declared.constant.Constant.TheVariants as constants
 use Rattle.classfile.specs.declared.member.Member.{Member}
 use Rattle.vm_state.specs.declared.value.Value.{Value}
 use Rattle.vm_state.specs.Values.{name_of}
 use Rattle.semantics.specs.Lawful.{HoldsNoName}
 use Rattle.program.specs.declared.class.Class.{Class}
+use Rattle.program.specs.declared.runtime_constant.RuntimeConstant.{RuntimeConstant}
+use Rattle.program.specs.declared.runtime_constant.RuntimeConstant.TheVariants as runtime
 use Rattle.program.specs.declared.runtime_constant.FieldKind.{FieldKind}
 use Rattle.program.specs.declared.runtime_constant.FieldKind.TheVariants as kinds
 use Rattle.loading.specs.declared.given.GivenClass.{GivenClass}
 use Rattle.loading.specs.Names.{text_at}
 use Rattle.program.specs.Fields.{field_kind, statics_of}
-use Rattle.program.specs.Programs.{zero_of, number_of_constant, has_constant_value, constant_value_at}
+use Rattle.program.specs.Programs.{zero_of, value_of_constant, constant_value_at}
 use Rattle.program.specs.Programs.{constant_value_of, static_field, is_main, main_of, is_initializer}
 use Rattle.program.specs.Programs.{initializer_of, IsClass, IsProgram}
 use Rattle.program.specs.Tables.{Tables, statics_if, statics_in, main_if, main_in, initializer_if, initializer_in}
@@ -41,29 +41,33 @@ plain_zero kinds.Float = refl
 plain_zero kinds.Double = refl
 plain_zero kinds.Reference = refl
 
-plain_number : (o : Option Constant) (v : Value) → number_of_constant o ≡ Some v → name_of v ≡ None
-plain_number (Some (constants.Integer bits)) v e = ap name_of (sym (same_Some _ v e))
-plain_number (Some (constants.Long high low)) v e = ap name_of (sym (same_Some _ v e))
-plain_number (Some other) v e = absurd cc
-plain_number None v e = absurd cc
-
-plain_at : (f : ClassFile) (o : Option ℕ) (v : Value) → constant_value_at f o ≡ Some v → name_of v ≡ None
-plain_at f None v e = absurd cc
-plain_at f (Some index) v e = plain_number (slice_get f.constants index) v e
-
-plain_constant : (f : ClassFile) (kind : FieldKind) (m : Member) (v : Value) → constant_value_of f kind m ≡ Some v
+plain_value : (kind : FieldKind) (o : Option RuntimeConstant) (v : Value) → value_of_constant kind o ≡ Some v
     → name_of v ≡ None
-plain_constant f kind m v e = by (has_constant_value kind && has_flag m.access_flags 16) refl
+plain_value kind (Some (runtime.Int n)) v e = ap name_of (sym (same_Some _ v e))
+plain_value kind (Some (runtime.Long n)) v e = ap name_of (sym (same_Some _ v e))
+plain_value kind (Some (runtime.String n)) v e = ap name_of (sym (same_Some _ v e))
+plain_value kind (Some other) v e = absurd cc
+plain_value kind None v e = absurd cc
+
+plain_at : (pool : List RuntimeConstant) (kind : FieldKind) (o : Option ℕ) (v : Value)
+    → constant_value_at pool kind o ≡ Some v → name_of v ≡ None
+plain_at pool kind None v e = absurd cc
+plain_at pool kind (Some index) v e = plain_value kind (slice_get pool index) v e
+
+plain_constant : (pool : List RuntimeConstant) (kind : FieldKind) (m : Member) (v : Value)
+    → constant_value_of pool kind m ≡ Some v → name_of v ≡ None
+plain_constant pool kind m v e = by (has_flag m.access_flags 16) refl
   where
-    by : (b : Bool) → (has_constant_value kind && has_flag m.access_flags 16) ≡ b → name_of v ≡ None
-    by true final = plain_at f (value_among m.attributes) v (rw final at e)
+    by : (b : Bool) → has_flag m.access_flags 16 ≡ b → name_of v ≡ None
+    by true final = plain_at pool kind (value_among m.attributes) v (rw final at e)
     by false other = let none : None ≡ Some v = rw other at e in absurd cc
 
-all_plain : (f : ClassFile) (ms : List Member) → AllByRecursion HoldsNoName (map (static_field f) ms)
-all_plain f [] = tt
-all_plain f (m ∷ ms) = (
-  (plain_zero (field_kind (text_at f m.descriptor)), plain_constant f (field_kind (text_at f m.descriptor)) m),
-  all_plain f ms,
+all_plain : (f : ClassFile) (pool : List RuntimeConstant) (ms : List Member)
+    → AllByRecursion HoldsNoName (map (static_field f pool) ms)
+all_plain f pool [] = tt
+all_plain f pool (m ∷ ms) = (
+  (plain_zero (field_kind (text_at f m.descriptor)), plain_constant pool (field_kind (text_at f m.descriptor)) m),
+  all_plain f pool ms,
 )
 
 -- what a class of a linked program is made of
@@ -77,7 +81,8 @@ plain_statics P is c = by (slice_get P.classes c) refl
     by None there = tt
     by (Some class) there =
         let found = left_of_pair (IsClassIn P) P.family P.classes c class is.classes there in
-        subst (AllByRecursion HoldsNoName) (sym found.2.statics) (all_plain found.0.file (statics_of found.0.file))
+        subst (AllByRecursion HoldsNoName) (sym found.2.statics)
+        (all_plain found.0.file class.runtime_pool (statics_of found.0.file))
 
 -- ---- mains
 

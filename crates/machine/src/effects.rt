@@ -23,7 +23,7 @@ use crate::execute::execute;
 use crate::kinds::{Actor, Conclusion, Effect, Stop};
 use built_in::class_id::ClassId;
 use frame_instructions::numeric::advance;
-use program::program::Program;
+use program::Program;
 use std::alloc::{AllocError, Global};
 use vm_state::ends::{End, FaultKind};
 use vm_state::frame::{Frame, FrameList, Segment};

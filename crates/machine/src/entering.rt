@@ -3,8 +3,8 @@
 ghost use Rattle.std.specs.Prelude.{◌≡◌, IfOk, Some, OnOk};
 ghost use Rattle.machine.specs.Linked.{blank_areas, initializer_frame, start_frame};
 
+use program::Program;
 use program::class::Implementation;
-use program::program::Program;
 use std::alloc::{AllocError, Global};
 use vm_state::classes::Classes;
 use vm_state::frame::{Activity, Frame};

@@ -20,8 +20,8 @@ use built_in::class_id::{BuiltIn, ClassId};
 use frame_instructions::execute::execute_local;
 use frame_instructions::numeric::push;
 use frame_instructions::trap::Trap;
+use program::Program;
 use program::class::Implementation;
-use program::program::Program;
 use std::alloc::Global;
 use vm_state::ends::FaultKind;
 use vm_state::frame::{Activity, Frame};
@@ -74,7 +74,7 @@ fn catches(program: &Program, class: u32, method: u16) -> bool
     ensures { result ≡ catches_in (implementation_at program.now class method) }
 {
     match program.implementation(class, method) {
-        Some(Implementation::Code(code)) => code.has_handlers,
+        Some(Implementation::Code(code)) => !code.handlers.is_empty(),
         _ => false,
     }
 }

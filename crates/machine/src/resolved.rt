@@ -9,9 +9,9 @@ ghost use Rattle.machine.specs.Operations.{return_of, resolved_operation};
 use bytecode::Instruction;
 use frame_instructions::operand_kind::OperandKind;
 use program::class::Implementation;
-use program::program::Program;
 use program::runtime_constant::{FieldKind, FieldTarget, RuntimeConstant};
-use program::{BuiltInMethod, Method, Printed, Unresolved};
+use program::signature::ReturnKind;
+use program::{BuiltInMethod, Method, Printed, Program, Unresolved};
 use vm_state::ends::FaultKind;
 
 /// What an instruction does that touches more than its frame, or names a constant of the run-time constant pool.
@@ -187,7 +187,10 @@ fn return_of(program: &Program, class: u32, method: u16) -> Resolved
     ensures { meaning result ≡ return_of (implementation_at program.now class method) }
 {
     match program.implementation(class, method) {
-        Some(Implementation::Code(code)) if code.returns_nothing => Resolved::Return,
+        Some(Implementation::Code(code)) => match code.returns {
+            ReturnKind::Nothing => Resolved::Return,
+            ReturnKind::Value(_) => FAULT,
+        },
         _ => FAULT,
     }
 }

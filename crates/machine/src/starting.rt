@@ -11,8 +11,8 @@ ghost use Rattle.machine.specs.Accesses.{Gives, concluded};
 
 use crate::kinds::{Actor, Conclusion, Stop};
 use crate::store::Store;
+use program::Program;
 use program::class::{Implementation, MethodCode};
-use program::program::Program;
 use std::alloc::{AllocError, Global};
 use vm_state::ends::FaultKind;
 use vm_state::frame::{Activity, Frame};

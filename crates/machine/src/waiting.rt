@@ -1,7 +1,7 @@
 //! Whether a thread's next instruction waits for another thread.
 
 use crate::resolved::{Resolved, resolved_operation};
-use program::program::Program;
+use program::Program;
 use vm_state::classes::Usability;
 use vm_state::frame::{Activity, Frame};
 use vm_state::shared::Shared;

@@ -19,6 +19,7 @@ mod programs;
 mod questions;
 mod rewriting;
 mod runs;
+mod tables;
 
 use cases::{Subject, run_cases};
 use classfile::ClassFile;

@@ -2,12 +2,11 @@
 
 use built_in::class_id::{ArrayType, BuiltIn, ClassId, ElementType};
 use classfile::ClassName;
-use program::program::Program;
-use program::{Field, Method, Unresolved};
+use program::{Field, Method, Program, Unresolved};
 use std::alloc::{AllocError, Global};
 
 /// The number of the given class of a name.
-fn number_of(alloc: Global, program: &Program, class: &str) -> Result<Option<u32>, AllocError> {
+pub fn number_of(alloc: Global, program: &Program, class: &str) -> Result<Option<u32>, AllocError> {
     let name = ClassName::from_text(alloc, class)?;
     program.number_of(alloc, &name)
 }

@@ -1,11 +1,10 @@
 //! Classes, what linking them answers, and what is seen of their runs.
 
 use crate::questions::{Question, Verb};
-use crate::{members, runs};
+use crate::{members, runs, tables};
 use cases::{add_class_files, filled};
 use classfile::{ClassFault, ClassFile, read};
-use program::link;
-use program::program::Program;
+use program::{Program, link};
 use std::alloc::{AllocError, Global};
 
 /// Given are classes. The order of their files makes no difference, so both ends are tried.
@@ -111,6 +110,22 @@ fn of_classes_alone(
         Verb::Field => members::resolved_field(alloc, program, index),
         Verb::Method => members::resolved_method(alloc, program, index),
         Verb::Select => members::selected(alloc, program, class, index),
+        _ => of_tables(alloc, program, question),
+    }
+}
+
+fn of_tables(
+    alloc: Global,
+    program: &Program,
+    question: &Question<'_>,
+) -> Result<String, AllocError> {
+    let class = question.class;
+    match question.verb {
+        Verb::Strings => tables::strings(alloc, program),
+        Verb::Constant => tables::constant(alloc, program, question.index),
+        Verb::Methods => tables::methods(alloc, program, class),
+        Verb::Initializer => tables::initializer(alloc, program, class),
+        Verb::Statics => tables::statics(alloc, program, class),
         _ => String::from_str(alloc, "no question"),
     }
 }

@@ -20,6 +20,16 @@ pub enum Verb {
     Method,
     /// `select CLASS REFERENCE`: which method a call of that method runs on an object of the class.
     Select,
+    /// `strings`: the strings, by their numbers.
+    Strings,
+    /// `constant ENTRY`: what an entry of the pool of one more class stands for.
+    Constant,
+    /// `methods CLASS`: how its methods are implemented, with what they take and return and their handlers.
+    Methods,
+    /// `initializer CLASS`: the place of its class initialization method.
+    Initializer,
+    /// `statics CLASS`: what its static fields get before that runs.
+    Statics,
     /// `start 'CLASS' ..`: whether a run may start with these entries; `65*'M'` is 65 of them.
     Start,
     /// `run CLASS LIMIT`: a run by turns, as the number of its steps and what is seen of it.
@@ -48,6 +58,7 @@ impl<'a> Question<'a> {
         let (word, about) = asked.split_once(' ').unwrap_or((asked, ""));
         match word {
             "field" => asking(alloc, Verb::Field, "", about),
+            "constant" => asking(alloc, Verb::Constant, "", about),
             "method" => asking(alloc, Verb::Method, "", about),
             "select" => {
                 let (class, reference) = about.split_once(' ').unwrap_or((about, ""));
@@ -75,6 +86,10 @@ fn without_reference<'a>(word: &str, about: &'a str) -> Question<'a> {
         "numbers" => Question::plain(Verb::Numbers, about),
         "supers" => Question::plain(Verb::Supers, about),
         "init" => Question::plain(Verb::Init, about),
+        "strings" => Question::plain(Verb::Strings, about),
+        "methods" => Question::plain(Verb::Methods, about),
+        "initializer" => Question::plain(Verb::Initializer, about),
+        "statics" => Question::plain(Verb::Statics, about),
         "start" => Question::plain(Verb::Start, about),
         "run" => counted(Verb::Run, about),
         "step" => counted(Verb::Step, about),

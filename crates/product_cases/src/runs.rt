@@ -3,7 +3,7 @@
 use cases::modified_utf8;
 use classfile::ClassName;
 use init_engine::{Ending, Line, World, turns};
-use program::program::Program;
+use program::Program;
 use std::alloc::{AllocError, Global};
 use std::str::from_utf8;
 

@@ -44,6 +44,7 @@ pub class_kept : {family : Family} {old new : List (List ℕ)} {f : ClassFile} {
     → IsClass family new f class
 class_kept keeps was = record {
   statics = was.statics;
+  signatures = was.signatures;
   methods = was.methods;
   initializer = was.initializer;
   main = was.main;

@@ -1,15 +1,19 @@
 -- The constants of a run-time constant pool.
 use Rattle.std.proofs.Common.{◌≡◌, ◌≢◌, ℕ, refl, List, [], ◌∷◌, ◌++◌, length, Some, slice_get, sym, ◌∙◌, subst, ap, inl}
-use Rattle.std.proofs.Common.{inr}
+use Rattle.std.proofs.Common.{inr, zero, suc, Option, arith}
 use Rattle.std.proofs.lemmas.Option.{same_Some}
 use Rattle.classfile.specs.ClassFile.{ClassFile}
 use Rattle.classfile.specs.declared.constant.Constant.{Constant}
 use Rattle.classfile.specs.declared.constant.Constant.TheVariants as constants
 use Rattle.program.specs.declared.runtime_constant.RuntimeConstant.{RuntimeConstant}
 use Rattle.program.specs.declared.runtime_constant.RuntimeConstant.TheVariants as runtime
+use Rattle.built_in.specs.declared.class_id.ClassId.{ClassId}
+use Rattle.loading.specs.ClassIds.{StandsFor}
 use Rattle.loading.specs.Families.{Family}
+use Rattle.loading.specs.Names.{class_name_at}
 use Rattle.hierarchy.specs.steps.GrowingTexts.{KeepsNumbers}
-use Rattle.program.specs.RuntimePool.{IsRuntimeConstant}
+use Rattle.program.specs.RuntimePool.{IsRuntimeConstant, IsRuntimePool}
+use Rattle.program.specs.steps.ResolvedConstants.{HoldsClasses}
 use Rattle.program.proofs.RuntimePoolGrowthLemmas.{constant_kept}
 use Rattle.loading.proofs.PlaceLemmas.{pushed_at}
 
@@ -72,3 +76,41 @@ constants_next family old strings f pool new i constant held count keeps here is
           let same : other ≡ constant = same_Some other constant (sym at ∙ ap (slice_get f.constants) place ∙ here) in
           rw (place, same, ← last.1) is)
     ]
+
+class_by : (family : Family) (strings : List (List ℕ)) (f : ClassFile) (index : ℕ) (constant : Constant)
+    (held : RuntimeConstant) (x : Option ClassId) → IsRuntimeConstant family strings f index constant held
+    → held ≡ runtime.Class x → StandsFor family (class_name_at f index) x
+class_by family strings f index constant held x (IsRuntimeConstant.class {x = y} named) e =
+    let same : y ≡ x = cc in
+    subst (StandsFor family (class_name_at f index)) same named
+class_by family strings f index constant held x IsRuntimeConstant.int e = absurd cc
+class_by family strings f index constant held x IsRuntimeConstant.long e = absurd cc
+class_by family strings f index constant held x IsRuntimeConstant.float e = absurd cc
+class_by family strings f index constant held x IsRuntimeConstant.double e = absurd cc
+class_by family strings f index constant held x (IsRuntimeConstant.string at) e = absurd cc
+class_by family strings f index constant held x (IsRuntimeConstant.field r resolves) e = absurd cc
+class_by family strings f index constant held x (IsRuntimeConstant.method resolves) e = absurd cc
+class_by family strings f index constant held x (IsRuntimeConstant.interface_method resolves) e = absurd cc
+class_by family strings f index constant held x IsRuntimeConstant.utf8 e = absurd cc
+class_by family strings f index constant held x IsRuntimeConstant.unusable e = absurd cc
+class_by family strings f index constant held x IsRuntimeConstant.name_and_type e = absurd cc
+class_by family strings f index constant held x IsRuntimeConstant.method_handle e = absurd cc
+class_by family strings f index constant held x IsRuntimeConstant.method_type e = absurd cc
+class_by family strings f index constant held x IsRuntimeConstant.invoke_dynamic e = absurd cc
+
+entry_beside : (pool : List RuntimeConstant) (constants : List Constant) (index : ℕ) (held : RuntimeConstant)
+    → length pool ≡ length constants → slice_get pool index ≡ Some held
+    → (constant : Constant) × (slice_get constants index ≡ Some constant)
+entry_beside [] constants index held count at = absurd cc
+entry_beside (x ∷ pool) [] index held count at = absurd (omega (arith, count))
+entry_beside (x ∷ pool) (constant ∷ constants) zero held count at = (constant, refl)
+entry_beside (x ∷ pool) (constant ∷ constants) (suc index) held count at =
+    entry_beside pool constants index held (omega (arith, count)) at
+
+-- the classes of a run-time constant pool are those that its entries name
+pub holds_classes : (family : Family) (strings : List (List ℕ)) (f : ClassFile) (pool : List RuntimeConstant)
+    → IsRuntimePool family strings f pool → HoldsClasses family f pool
+holds_classes family strings f pool is index x at =
+    let entry = entry_beside pool f.constants index (runtime.Class x) is.count at in
+    class_by family strings f index entry.0 (runtime.Class x) x
+    (is.each index entry.0 (runtime.Class x) entry.1 at) refl

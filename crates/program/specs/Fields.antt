@@ -1,6 +1,7 @@
 -- Fields: how their values are stored, and which of them are static.
-use Rattle.std.specs.Prelude.{ℕ, Bool, true, false, ◌&&◌, List, Option, Some, None, Ok, Err}
+use Rattle.std.specs.Prelude.{ℕ, ℤ, pos, ◌%◌, ◌^◌, Bool, true, false, ◌&&◌, List, Option, Some, None, Ok, Err}
 use Rattle.std.specs.Prelude.{slice_get, codes, take, if◌then◌else◌}
+use Rattle.std.specs.Int.{w8, w16, w32, cast_signed, cast_unsigned}
 use Rattle.std.specs.List.{count_by, filter}
 use Rattle.std.specs.Str.{bytes_eq}
 use Rattle.std.specs.declared.result.Result.{Result}
@@ -33,6 +34,14 @@ abbrev pub has_value : FieldKind → Bool
 has_value kinds.Float = false
 has_value kinds.Double = false
 has_value _ = true
+
+-- what narrowing an int to a type gives (JVMS 2.11.4): its low bits, with a sign but for char; of a boolean one bit
+abbrev pub narrowed : FieldKind → ℤ → ℤ
+narrowed kinds.Boolean n = pos (cast_unsigned w32 n % 2)
+narrowed kinds.Byte n = cast_signed w8 (cast_unsigned w32 n % 2 ^ 8)
+narrowed kinds.Char n = pos (cast_unsigned w32 n % 2 ^ 16)
+narrowed kinds.Short n = cast_signed w16 (cast_unsigned w32 n % 2 ^ 16)
+narrowed _ n = n
 
 abbrev pub is_static_field : ClassFile → Member → Bool
 is_static_field f m = has_flag m.access_flags 8 && has_value (field_kind (text_at f m.descriptor))

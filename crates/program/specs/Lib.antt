@@ -4,3 +4,6 @@ pub mod Tables
 pub mod Programs
 pub mod steps
 pub mod Fields
+pub mod Signatures
+pub mod Handlers
+pub mod Strings

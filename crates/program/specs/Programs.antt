@@ -1,17 +1,16 @@
 -- A linked program (JVMS 5.4): the given classes by number, and of each what the machine uses of it.
 use Rattle.std.specs.Prelude.{◌≡◌, ◌<◌, ℕ, Bool, true, false, not, ◌&&◌, ◌||◌, List, length, map, pos, Option, Some}
-use Rattle.std.specs.Prelude.{None, slice_get, codes, is_some, ◌==◌, nat_eq, if◌then◌else◌}
-use Rattle.std.specs.List.{AllZip, position_from, ends_with}
+use Rattle.std.specs.Prelude.{None, slice_get, codes, is_some, if◌then◌else◌}
+use Rattle.std.specs.List.{AllZip, position_from}
 use Rattle.std.specs.Str.{bytes_eq}
 use Rattle.classfile.specs.Flags.{has_flag}
 use Rattle.classfile.specs.ClassFile.{ClassFile}
 use Rattle.classfile.specs.Members.{code_among, value_among}
 use Rattle.classfile.specs.declared.member.Member.{Member}
+use Rattle.classfile.specs.Grammar.{IsMethodDescriptor}
 use Rattle.loading.specs.Names.{text_at}
 use Rattle.bytecode.specs.Body.{IsBody}
 use Rattle.classfile.specs.declared.code.Code.{Code as CodeAttribute}
-use Rattle.classfile.specs.declared.constant.Constant.{Constant}
-use Rattle.classfile.specs.declared.constant.Constant.TheVariants as constants
 use Rattle.vm_state.specs.declared.value.Value.{Value}
 use Rattle.vm_state.specs.declared.value.Value.TheVariants as values
 use Rattle.vm_state.specs.declared.classes.StaticField.{StaticField}
@@ -19,14 +18,19 @@ use Rattle.program.specs.declared.class.Class.{Class}
 use Rattle.program.specs.declared.class.MethodCode.{MethodCode}
 use Rattle.program.specs.declared.class.Implementation.{Implementation}
 use Rattle.program.specs.declared.class.Implementation.TheVariants as implementations
+use Rattle.program.specs.declared.runtime_constant.RuntimeConstant.{RuntimeConstant}
+use Rattle.program.specs.declared.runtime_constant.RuntimeConstant.TheVariants as runtime
 use Rattle.program.specs.declared.runtime_constant.FieldKind.{FieldKind}
 use Rattle.program.specs.declared.runtime_constant.FieldKind.TheVariants as kinds
 use Rattle.loading.specs.declared.given.GivenClass.{GivenClass}
 use Rattle.loading.specs.Families.{Family}
 use Rattle.hierarchy.specs.Initialization.{IsInitializationOrder}
-use Rattle.program.specs.RuntimePool.{int_of_bits, long_of_halves, IsRuntimePool}
-use Rattle.program.specs.Fields.{statics_of, field_kind}
+use Rattle.program.specs.RuntimePool.{IsRuntimePool}
+use Rattle.program.specs.Fields.{statics_of, field_kind, narrowed}
+use Rattle.program.specs.Handlers.{IsHandler}
+use Rattle.program.specs.Signatures.{return_kind, AreSignatures}
 use Rattle.hierarchy.specs.Texts.{AreDistinct}
+use Rattle.program.specs.Strings.{all_strings, AreFirsts}
 use Rattle.program.specs.Tables.{Tables, order_in}
 
 -- ---- the methods that the machine calls by itself
@@ -55,38 +59,29 @@ zero_of kinds.Long = values.Long (pos 0)
 zero_of kinds.Reference = values.Null
 zero_of _ = values.Int (pos 0)
 
-abbrev pub number_of_constant : Option Constant → Option Value
-number_of_constant (Some (constants.Integer bits)) = Some (values.Int (int_of_bits bits))
-number_of_constant (Some (constants.Long high low)) = Some (values.Long (long_of_halves high low))
-number_of_constant _ = None
+abbrev pub value_of_constant : FieldKind → Option RuntimeConstant → Option Value
+value_of_constant kind (Some (runtime.Int n)) = Some (values.Int (narrowed kind n))
+value_of_constant kind (Some (runtime.Long n)) = Some (values.Long n)
+value_of_constant kind (Some (runtime.String n)) = Some (values.Text n)
+value_of_constant kind _ = None
 
-abbrev pub constant_value_at : ClassFile → Option ℕ → Option Value
-constant_value_at f None = None
-constant_value_at f (Some index) = number_of_constant (slice_get f.constants index)
+abbrev pub constant_value_at : List RuntimeConstant → FieldKind → Option ℕ → Option Value
+constant_value_at pool kind None = None
+constant_value_at pool kind (Some index) = value_of_constant kind (slice_get pool index)
 
--- Those of other types than int and long come with their instructions.
-abbrev pub has_constant_value : FieldKind → Bool
-has_constant_value kinds.Int = true
-has_constant_value kinds.Long = true
-has_constant_value _ = false
+-- the ConstantValue of a final field (JVMS 4.7.2, 5.5), as the class's run-time constant pool has it
+abbrev pub constant_value_of : List RuntimeConstant → FieldKind → Member → Option Value
+constant_value_of pool kind m =
+    if has_flag m.access_flags 16 then constant_value_at pool kind (value_among m.attributes) else None
 
--- the ConstantValue of a final field (JVMS 4.7.2)
-abbrev pub constant_value_of : ClassFile → FieldKind → Member → Option Value
-constant_value_of f kind m = if has_constant_value kind
-    && has_flag m.access_flags 16 then constant_value_at f (value_among m.attributes) else None
-
-abbrev pub static_field : ClassFile → Member → StaticField
-static_field f m = record {
+abbrev pub static_field : ClassFile → List RuntimeConstant → Member → StaticField
+static_field f pool m = record {
   is_final = has_flag m.access_flags 16;
   zero = zero_of (field_kind (text_at f m.descriptor));
-  constant = constant_value_of f (field_kind (text_at f m.descriptor)) m;
+  constant = constant_value_of pool (field_kind (text_at f m.descriptor)) m;
 }
 
 -- ---- methods
-
--- the descriptor ends with `)V`
-abbrev pub returns_nothing : List ℕ → Bool
-returns_nothing descriptor = ends_with nat_eq descriptor (codes ")V")
 
 -- abstract; native or synchronized, which is left out; the flags of a class initialization method say nothing (JVMS
 -- 4.6)
@@ -98,28 +93,32 @@ is_left_out f m = not (is_initializer f m) && not (has_flag m.access_flags 1024)
     && (has_flag m.access_flags 256 || has_flag m.access_flags 32)
 
 -- what a method with code runs (JVMS 4.7.3)
-pub record IsMethodCode (f : ClassFile) (m : Member) (attribute : CodeAttribute) (code : MethodCode) : Type 0 where
+pub record IsMethodCode (family : Family) (f : ClassFile) (m : Member) (attribute : CodeAttribute) (code : MethodCode) :
+    Type 0 where
   pub max_stack : code.max_stack ≡ attribute.max_stack
   pub max_locals : code.max_locals ≡ attribute.max_locals
-  pub returns_nothing : code.returns_nothing ≡ returns_nothing (text_at f m.descriptor)
-  pub has_handlers : code.has_handlers ≡ not (length attribute.exceptions == 0)
+  -- the descriptor is a method descriptor in every class file (JVMS 4.6)
+  pub descriptor : code.descriptor ≡ m.descriptor
+  pub returns : (d : IsMethodDescriptor (text_at f m.descriptor)) → code.returns ≡ return_kind d.returned
+  pub handlers : AllZip (IsHandler family f) attribute.exceptions code.handlers
   pub body : IsBody attribute.code code.body
 
 -- How a method is implemented.
-pub data IsImplementation (f : ClassFile) (m : Member) : Implementation → Type 0 where
-  abstract : is_abstract_method f m ≡ true → IsImplementation f m implementations.Abstract
-  left_out : is_left_out f m ≡ true → IsImplementation f m implementations.Unsupported
+pub data IsImplementation (family : Family) (f : ClassFile) (m : Member) : Implementation → Type 0 where
+  abstract : is_abstract_method f m ≡ true → IsImplementation family f m implementations.Abstract
+  left_out : is_left_out f m ≡ true → IsImplementation family f m implementations.Unsupported
   no_code : is_abstract_method f m ≡ false → is_left_out f m ≡ false → code_among m.attributes ≡ None
-      → IsImplementation f m implementations.Abstract
+      → IsImplementation family f m implementations.Abstract
   code : {attribute : CodeAttribute} {code : MethodCode} → is_abstract_method f m ≡ false → is_left_out f m ≡ false
-      → code_among m.attributes ≡ Some attribute → IsMethodCode f m attribute code
-      → IsImplementation f m (implementations.Code code)
+      → code_among m.attributes ≡ Some attribute → IsMethodCode family f m attribute code
+      → IsImplementation family f m (implementations.Code code)
 
 -- ---- a whole class, and the program
 
 pub record IsClass (family : Family) (strings : List (List ℕ)) (f : ClassFile) (class : Class) : Type 0 where
-  pub statics : class.statics ≡ map (static_field f) (statics_of f)
-  pub methods : AllZip (IsImplementation f) f.methods class.methods
+  pub statics : class.statics ≡ map (static_field f class.runtime_pool) (statics_of f)
+  pub signatures : AreSignatures f class.signatures
+  pub methods : AllZip (IsImplementation family f) f.methods class.methods
   pub initializer : class.initializer ≡ initializer_of f
   pub main : class.main ≡ main_of f
   pub runtime_pool : IsRuntimePool family strings f class.runtime_pool
@@ -129,8 +128,9 @@ abbrev pub AreClasses : Family → List (List ℕ) → List Class → Type 0
 AreClasses family strings classes =
     AllZip (λ (given : GivenClass) (class : Class). IsClass family strings given.file class) family classes
 
--- The tables are those of their family: a class for each given one, and strings that differ from one another.
+-- The tables are those of their family: a class for each given one, and the strings of all, each once.
 pub record IsProgram (P : Tables) : Type 0 where
   pub orders : (c : ℕ) → c < length P.family → IsInitializationOrder P.family c (order_in P c)
   pub classes : AreClasses P.family P.strings P.classes
   pub distinct : AreDistinct P.strings
+  pub strings : AreFirsts (all_strings P.family) P.strings

@@ -1,2 +1,4 @@
 pub mod StaticNumbers
 pub mod ResolvedConstants
+pub mod ParsedSignatures
+pub mod GrowingStrings

@@ -8,16 +8,22 @@ ghost use Rattle.loading.specs.Families.{IsFamilyOf};
 ghost use Rattle.loading.specs.Files.{LinkFails, Links};
 ghost use Rattle.program.specs.declared.class.Class.{Class as ClassTables};
 ghost use Rattle.program.specs.Fields.{statics_of};
+ghost use Rattle.program.specs.Signatures.{AreSignatures};
+ghost use Rattle.program.specs.steps.ResolvedConstants.{HoldsClasses};
 ghost use Rattle.program.specs.steps.StaticNumbers.{AreStaticNumbersOf};
 ghost use Rattle.hierarchy.specs.Initialization.{AreOrders};
 ghost use Rattle.program.specs.Programs.{AreClasses, IsClass, IsProgram, IsImplementation, static_field};
 ghost use Rattle.hierarchy.specs.Texts.{AreDistinct};
 ghost use Rattle.hierarchy.specs.steps.GrowingTexts.{Grows};
+ghost use Rattle.program.specs.Strings.{strings_of, all_strings, AreFirsts};
+ghost use Rattle.program.specs.steps.GrowingStrings.{Adds};
 
-use crate::class::{Class, Methods, StaticFields};
+use crate::class::{Class, Methods, RuntimePool, StaticFields};
+use crate::linked_file::LinkedFile;
+use crate::linked_program::Program;
 use crate::methods::{initializer_of, main_of, methods_of};
-use crate::program::Program;
 use crate::runtime_pool::Resolver;
+use crate::signature::{Signatures, signatures_of};
 use crate::static_numbers::StaticNumbers;
 use crate::statics::statics_of;
 use classfile::ClassFile;
@@ -119,6 +125,7 @@ fn tables_of(alloc: Global, hierarchy: &Hierarchy) -> Result<Tables, AllocError>
     ensures orders { IfOk result (λ tables. AreOrders hierarchy.now.family tables.orders) }
     ensures classes { IfOk result (λ tables. AreClasses hierarchy.now.family tables.strings tables.classes.items) }
     ensures distinct { IfOk result (λ tables. AreDistinct tables.strings) }
+    ensures strings { IfOk result (λ tables. AreFirsts (all_strings hierarchy.now.family) tables.strings) }
 {
     let orders = initialization_orders(alloc, hierarchy.family())?;
     with_classes(alloc, hierarchy, orders)
@@ -133,6 +140,7 @@ fn with_classes(
     ensures orders { IfOk result (λ tables. tables.orders ≡ orders) }
     ensures classes { IfOk result (λ tables. AreClasses hierarchy.now.family tables.strings tables.classes.items) }
     ensures distinct { IfOk result (λ tables. AreDistinct tables.strings) }
+    ensures strings { IfOk result (λ tables. AreFirsts (all_strings hierarchy.now.family) tables.strings) }
 {
     match class_tables(alloc, hierarchy) {
         Ok((classes, strings)) => Ok(Tables {
@@ -148,6 +156,7 @@ fn with_classes(
 fn class_tables(alloc: Global, hierarchy: &Hierarchy) -> Result<(Vec<Class>, Texts), AllocError>
     ensures classes { IfOk result (λ tables. AreClasses hierarchy.now.family tables.1 tables.0.items) }
     ensures distinct { IfOk result (λ tables. AreDistinct tables.1) }
+    ensures strings { IfOk result (λ tables. AreFirsts (all_strings hierarchy.now.family) tables.1) }
 {
     let mut strings = Texts::new(alloc);
     match classes_of(alloc, hierarchy, &mut strings) {
@@ -161,6 +170,7 @@ fn joined(hierarchy: Hierarchy, tables: Tables) -> Program
     requires orders { AreOrders hierarchy.family tables.orders }
     requires classes { AreClasses hierarchy.family tables.strings tables.classes.items }
     requires distinct { AreDistinct tables.strings }
+    requires strings { AreFirsts (all_strings hierarchy.family) tables.strings }
     ensures family { result.family ≡ hierarchy.family }
     ensures orders { result.orders ≡ tables.orders }
     ensures program { IsProgram result }
@@ -181,6 +191,7 @@ fn classes_of(
 ) -> Result<Vec<Class>, AllocError>
     ensures classes { IfOk result (λ classes. AreClasses hierarchy.now.family strings.new classes.items) }
     ensures grows { OnOk result (Grows strings.old strings.new) }
+    ensures adds { OnOk result (Adds strings.old (all_strings hierarchy.now.family) strings.new) }
 {
     let numbers = static_numbers_of(alloc, hierarchy.family().classes())?;
     let resolver = Resolver {
@@ -198,6 +209,7 @@ fn resolved_classes(
 ) -> Result<Vec<Class>, AllocError>
     ensures classes { IfOk result (λ classes. AreClasses resolver.now.hierarchy.now.family strings.new classes.items) }
     ensures grows { OnOk result (Grows strings.old strings.new) }
+    ensures adds { OnOk result (Adds strings.old (all_strings resolver.now.hierarchy.now.family) strings.new) }
 {
     let mut classes = Vec::new(alloc);
     add_classes(alloc, resolver, strings, &mut classes)?;
@@ -214,6 +226,7 @@ fn add_classes(
     requires { classes.old.items ≡ [] }
     ensures classes { OnOk result (AreClasses resolver.now.hierarchy.now.family strings.new classes.new.items) }
     ensures grows { OnOk result (Grows strings.old strings.new) }
+    ensures adds { OnOk result (Adds strings.old (all_strings resolver.now.hierarchy.now.family) strings.new) }
 {
     for given in resolver.hierarchy.family().classes() {
         add_class(alloc, resolver, strings, &given.file, classes)?;
@@ -233,6 +246,7 @@ fn add_class(
         ((class : ClassTables) × IsClass resolver.now.hierarchy.now.family strings.new file.now class
         × (classes.new.items ≡ classes.old.items ++ class ∷ [])) }
     ensures grows { OnOk result (Grows strings.old strings.new) }
+    ensures adds { OnOk result (Adds strings.old (strings_of file.now) strings.new) }
 {
     let class = class_of(alloc, resolver, strings, file)?;
     classes.push(class)?;
@@ -262,12 +276,14 @@ fn class_of(
 ) -> Result<Class, AllocError>
     ensures class { IfOk result (IsClass resolver.now.hierarchy.now.family strings.new file.now) }
     ensures grows { OnOk result (Grows strings.old strings.new) }
+    ensures adds { OnOk result (Adds strings.old (strings_of file.now) strings.new) }
 {
     let runtime_pool = resolver.runtime_pool_of(alloc, strings, file)?;
-    match members_of(alloc, file) {
-        Ok((statics, methods)) => Ok(Class {
-            statics,
-            methods,
+    match members_of(alloc, resolver.hierarchy.family(), file, &runtime_pool) {
+        Ok(members) => Ok(Class {
+            statics: members.statics,
+            signatures: members.signatures,
+            methods: members.methods,
             initializer: initializer_of(file),
             main: main_of(file),
             runtime_pool,
@@ -277,11 +293,39 @@ fn class_of(
 }
 
 /// The static fields and the methods of a class.
-fn members_of(alloc: Global, file: &ClassFile) -> Result<(StaticFields, Methods), AllocError>
-    ensures statics { IfOk result (λ members. members.0 ≡ map (static_field file.now) (statics_of file.now)) }
-    ensures methods { IfOk result (λ members. AllZip (IsImplementation file.now) file.now.methods members.1) }
+#[derive(Drop)]
+struct MemberTables {
+    statics: StaticFields,
+    signatures: Signatures,
+    methods: Methods,
+}
+
+/// The static fields and the methods of a class with a run-time constant pool.
+fn members_of(
+    alloc: Global,
+    family: &Family,
+    file: &ClassFile,
+    runtime_pool: &RuntimePool,
+) -> Result<MemberTables, AllocError>
+    requires { HoldsClasses family.now file.now runtime_pool.now }
+    ensures statics { IfOk result (λ members. members.statics ≡ map (static_field file.now runtime_pool.now)
+        (statics_of file.now)) }
+    ensures signatures { IfOk result (λ members. AreSignatures file.now members.signatures) }
+    ensures methods { IfOk result (λ members. AllZip (IsImplementation family.now file.now) file.now.methods
+        members.methods) }
 {
-    let statics = statics_of(alloc, file)?;
-    let methods = methods_of(alloc, file)?;
-    Ok((statics, methods))
+    let statics = statics_of(alloc, file, runtime_pool)?;
+    let signatures = signatures_of(alloc, file)?;
+    let linked = LinkedFile {
+        family,
+        file,
+        runtime_pool,
+        signatures: &signatures,
+    };
+    let methods = methods_of(alloc, &linked)?;
+    Ok(MemberTables {
+        statics,
+        signatures,
+        methods,
+    })
 }

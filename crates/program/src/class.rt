@@ -1,8 +1,10 @@
 //! What the machine uses of a given class.
 
-ghost use Rattle.std.specs.Prelude.{◌≡◌};
+ghost use Rattle.std.specs.Prelude.{◌≡◌, slice_get};
 
+use crate::handler::Handlers;
 use crate::runtime_constant::RuntimeConstant;
+use crate::signature::{ReturnKind, Signatures};
 use bytecode::Body;
 use std::marker::Model;
 use vm_state::classes::StaticField;
@@ -12,10 +14,11 @@ use vm_state::classes::StaticField;
 pub struct MethodCode {
     pub max_stack: u16,
     pub max_locals: u16,
-    /// Whether its descriptor ends with `)V` (JVMS 4.3.3).
-    pub returns_nothing: bool,
-    /// Whether its exception table has an entry.
-    pub has_handlers: bool,
+    /// The index of its descriptor, at which its class has its signature.
+    pub descriptor: u16,
+    pub returns: ReturnKind,
+    /// Its exception table.
+    pub handlers: Handlers,
     pub body: Body,
 }
 
@@ -82,10 +85,21 @@ impl Model for RuntimePool {
     ghost view = { λ s. s.constants.items };
 }
 
+impl RuntimePool {
+    /// The constant at an index.
+    pub(crate) fn at(&self, index: u16) -> Option<RuntimeConstant>
+        ensures { result ≡ slice_get self.now index }
+    {
+        self.constants.get(usize::from(index)).copied()
+    }
+}
+
 /// A given class, as the machine uses it.
 #[derive(Drop)]
 pub struct Class {
     pub statics: StaticFields,
+    /// What the method descriptors of its constant pool say.
+    pub signatures: Signatures,
     pub methods: Methods,
     /// Its class initialization method (JVMS 2.9), by its place among the methods.
     pub initializer: Option<u16>,

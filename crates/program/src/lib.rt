@@ -4,17 +4,21 @@
 
 mod assembly;
 pub mod class;
+pub mod handler;
+mod linked_file;
+mod linked_program;
 mod lookup;
 mod methods;
-pub mod program;
 mod references;
 pub mod runtime_constant;
 mod runtime_pool;
+pub mod signature;
 mod static_numbers;
 mod statics;
 
 pub use assembly::link;
 pub use built_in::method::{BuiltInMethod, Printed};
 pub use hierarchy::member::{Field, Method, Unresolved};
+pub use linked_program::Program;
 pub use loading::fault::{BadParent, LinkFault};
 pub use loading::links_or_fails;

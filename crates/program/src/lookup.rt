@@ -4,7 +4,7 @@ ghost use Rattle.hierarchy.specs.Initialization.{AreSuperclasses};
 ghost use Rattle.program.specs.References.{ResolvesFieldOf, ResolvesMethodOf};
 ghost use Rattle.hierarchy.specs.Resolution.{Selects};
 
-use crate::program::Program;
+use crate::linked_program::Program;
 use crate::references::{resolve_field_at, resolve_method_at};
 use built_in::class_id::ClassId;
 use hierarchy::member::{Field, Method, Unresolved};

@@ -3,11 +3,13 @@
 ghost use Rattle.std.specs.Prelude.{◌≡◌, IfOk};
 ghost use Rattle.std.specs.List.{AllZip, position_from};
 ghost use Rattle.loading.specs.Names.{text_at};
-ghost use Rattle.program.specs.Programs.{is_initializer, initializer_of, is_main, main_of, returns_nothing};
+ghost use Rattle.program.specs.Programs.{is_initializer, initializer_of, is_main, main_of};
 ghost use Rattle.program.specs.Programs.{is_abstract_method, is_left_out};
 ghost use Rattle.program.specs.Programs.{IsMethodCode, IsImplementation};
+ghost use Rattle.program.specs.steps.ResolvedConstants.{HoldsClasses};
 
 use crate::class::{Implementation, MethodCode, Methods};
+use crate::linked_file::LinkedFile;
 use bytecode::decode;
 use classfile::flags::{ABSTRACT, NATIVE, STATIC, SYNCHRONIZED, has_flag};
 use classfile::{ClassFile, Member};
@@ -60,13 +62,6 @@ pub(crate) fn main_of(file: &ClassFile) -> Option<u16>
     None
 }
 
-/// Whether a descriptor ends with `)V`.
-fn returns_nothing(descriptor: &[u8]) -> bool
-    ensures { result ≡ returns_nothing descriptor.now }
-{
-    descriptor.ends_with(b")V")
-}
-
 fn is_abstract(file: &ClassFile, method: &Member) -> bool
     ensures { result ≡ is_abstract_method file.now method.now }
 {
@@ -83,51 +78,58 @@ fn is_left_out(file: &ClassFile, method: &Member) -> bool
         && (has_flag(flags, NATIVE) || has_flag(flags, SYNCHRONIZED))
 }
 
+/// What a method with code runs.
 fn code_of(
     alloc: Global,
-    file: &ClassFile,
+    linked: &LinkedFile<'_>,
     method: &Member,
     attribute: &classfile::Code,
 ) -> Result<MethodCode, AllocError>
-    ensures { IfOk result (IsMethodCode file.now method.now attribute.now) }
+    requires { HoldsClasses linked.now.family.now linked.now.file.now linked.now.runtime_pool.now }
+    ensures { IfOk result (IsMethodCode linked.now.family.now linked.now.file.now method.now attribute.now) }
 {
     let body = decode(alloc, attribute)?;
+    let handlers = linked.handlers_of(alloc, attribute.exceptions.as_slice())?;
     Ok(MethodCode {
         max_stack: attribute.max_stack,
         max_locals: attribute.max_locals,
-        returns_nothing: returns_nothing(text_at(file, method.descriptor)),
-        has_handlers: !attribute.exceptions.as_slice().is_empty(),
+        descriptor: method.descriptor,
+        returns: linked.returns_of(method),
+        handlers,
         body,
     })
 }
 
 fn implementation_of(
     alloc: Global,
-    file: &ClassFile,
+    linked: &LinkedFile<'_>,
     method: &Member,
 ) -> Result<Implementation, AllocError>
-    ensures { IfOk result (IsImplementation file.now method.now) }
+    requires { HoldsClasses linked.now.family.now linked.now.file.now linked.now.runtime_pool.now }
+    ensures { IfOk result (IsImplementation linked.now.family.now linked.now.file.now method.now) }
 {
-    if is_abstract(file, method) {
+    if is_abstract(linked.file, method) {
         return Ok(Implementation::Abstract);
     }
-    if is_left_out(file, method) {
+    if is_left_out(linked.file, method) {
         return Ok(Implementation::Unsupported);
     }
     let Some(code) = method.code() else {
         return Ok(Implementation::Abstract);
     };
-    Ok(Implementation::Code(code_of(alloc, file, method, code)?))
+    Ok(Implementation::Code(code_of(alloc, linked, method, code)?))
 }
 
 /// How the methods of a class are implemented, in the order of its file.
-pub(crate) fn methods_of(alloc: Global, file: &ClassFile) -> Result<Methods, AllocError>
-    ensures { IfOk result (AllZip (IsImplementation file.now) file.now.methods) }
+pub(crate) fn methods_of(alloc: Global, linked: &LinkedFile<'_>) -> Result<Methods, AllocError>
+    requires { HoldsClasses linked.now.family.now linked.now.file.now linked.now.runtime_pool.now }
+    ensures { IfOk result
+        (AllZip (IsImplementation linked.now.family.now linked.now.file.now) linked.now.file.now.methods) }
 {
     let mut implementations = Vec::new(alloc);
-    let methods = file.methods();
+    let methods = linked.file.methods();
     for method in methods {
-        implementations.push(implementation_of(alloc, file, method)?)?;
+        implementations.push(implementation_of(alloc, linked, method)?)?;
     }
     Ok(Methods {
         methods: implementations,

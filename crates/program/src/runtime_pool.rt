@@ -12,6 +12,8 @@ ghost use Rattle.program.specs.RuntimePool.{IsRuntimeConstant, IsRuntimePool};
 ghost use Rattle.program.specs.steps.ResolvedConstants.{IsTargetAt, IsResolved};
 ghost use Rattle.loading.specs.Names.{class_name_at};
 ghost use Rattle.hierarchy.specs.steps.GrowingTexts.{Grows};
+ghost use Rattle.program.specs.Strings.{string_of, strings_of};
+ghost use Rattle.program.specs.steps.GrowingStrings.{Adds};
 
 use crate::class::RuntimePool;
 use crate::references::{descriptor_at, resolve_field_at, resolve_method_at};
@@ -165,6 +167,7 @@ impl<'a> Resolver<'a> {
         ensures held { IfOk result
             (IsRuntimeConstant self.now.hierarchy.now.family strings.new file.now index constant.now) }
         ensures grows { OnOk result (Grows strings.old strings.new) }
+        ensures adds { OnOk result (Adds strings.old (string_of file.now constant.now) strings.new) }
     {
         let Constant::String { text } = constant else {
             return Ok(self.resolved(file, index, constant));
@@ -182,6 +185,7 @@ impl<'a> Resolver<'a> {
     ) -> Result<RuntimePool, AllocError>
         ensures pool { IfOk result (IsRuntimePool self.now.hierarchy.now.family strings.new file.now) }
         ensures grows { OnOk result (Grows strings.old strings.new) }
+        ensures adds { OnOk result (Adds strings.old (strings_of file.now) strings.new) }
     {
         let mut pool = Vec::with_capacity(alloc, file.constants().len())?;
         self.add_constants(alloc, strings, file, &mut pool)?;
@@ -199,6 +203,7 @@ impl<'a> Resolver<'a> {
         requires { pool.old.items ≡ [] }
         ensures pool { OnOk result (IsRuntimePool self.now.hierarchy.now.family strings.new file.now pool.new.items) }
         ensures grows { OnOk result (Grows strings.old strings.new) }
+        ensures adds { OnOk result (Adds strings.old (strings_of file.now) strings.new) }
     {
         let constants = file.constants();
         for (index, constant) in constants.iter().enumerate() {
@@ -221,6 +226,7 @@ impl<'a> Resolver<'a> {
             × IsRuntimeConstant self.now.hierarchy.now.family strings.new file.now index constant.now held
             × (pool.new.items ≡ pool.old.items ++ held ∷ [])) }
         ensures grows { OnOk result (Grows strings.old strings.new) }
+        ensures adds { OnOk result (Adds strings.old (string_of file.now constant.now) strings.new) }
     {
         let held = self.runtime_constant_of(alloc, strings, file, index, constant)?;
         pool.push(held)?;

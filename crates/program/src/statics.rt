@@ -2,16 +2,15 @@
 
 ghost use Rattle.std.specs.Prelude.{◌≡◌, [], ◌∷◌, ◌++◌, map, IfOk, OnOk, Some};
 ghost use Rattle.std.specs.List.{filter};
-ghost use Rattle.program.specs.Fields.{field_kind, has_value, is_static_field, statics_of};
+ghost use Rattle.program.specs.Fields.{field_kind, has_value, narrowed, is_static_field, statics_of};
 ghost use Rattle.loading.specs.Names.{text_at};
-ghost use Rattle.program.specs.Programs.{zero_of, constant_value_at, has_constant_value, constant_value_of};
+ghost use Rattle.program.specs.Programs.{zero_of, constant_value_at, constant_value_of};
 ghost use Rattle.program.specs.Programs.{static_field};
 
-use crate::class::StaticFields;
-use crate::runtime_constant::FieldKind;
-use crate::runtime_pool::{int_of_bits, long_of_halves};
+use crate::class::{RuntimePool, StaticFields};
+use crate::runtime_constant::{FieldKind, RuntimeConstant};
 use classfile::flags::{FINAL, STATIC, has_flag};
-use classfile::{ClassFile, Constant, Member};
+use classfile::{ClassFile, Member};
 use loading::names::text_at;
 use std::alloc::{AllocError, Global};
 use vm_state::classes::StaticField;
@@ -60,62 +59,78 @@ fn zero_of(kind: FieldKind) -> Value
     }
 }
 
-/// The value of a numeric constant.
-fn constant_value_at(file: &ClassFile, index: u16) -> Option<Value>
-    ensures { result ≡ constant_value_at file.now (Some index) }
+/// What narrowing an int to the type of a field gives (JVMS 2.11.4).
+fn narrowed(kind: FieldKind, number: i32) -> i32
+    ensures { result ≡ narrowed kind number }
 {
-    match file.constant(index) {
-        Some(Constant::Integer { bits }) => Some(Value::Int(int_of_bits(*bits))),
-        Some(Constant::Long { high, low }) => Some(Value::Long(long_of_halves(*high, *low))),
+    let bits = number.cast_unsigned();
+    match kind {
+        FieldKind::Boolean => (bits % 2) as i32,
+        FieldKind::Byte => ((bits % 256) as u8).cast_signed() as i32,
+        FieldKind::Char => (bits % 65536) as i32,
+        FieldKind::Short => ((bits % 65536) as u16).cast_signed() as i32,
+        _ => number,
+    }
+}
+
+/// The value that the constant at an index of a run-time constant pool gives a field.
+fn constant_value_at(pool: &RuntimePool, kind: FieldKind, index: u16) -> Option<Value>
+    ensures { result ≡ constant_value_at pool.now kind (Some index) }
+{
+    match pool.at(index) {
+        Some(RuntimeConstant::Int(number)) => Some(Value::Int(narrowed(kind, number))),
+        Some(RuntimeConstant::Long(number)) => Some(Value::Long(number)),
+        Some(RuntimeConstant::String(number)) => Some(Value::Text(number)),
         _ => None,
     }
 }
 
-/// Whether the ConstantValue of a field of a kind is set before its class's initializer runs.
-fn has_constant_value(kind: FieldKind) -> bool
-    ensures { result ≡ has_constant_value kind }
+/// The ConstantValue of a final field (JVMS 4.7.2), which is of the field's type in every class file.
+fn constant_value_of(pool: &RuntimePool, kind: FieldKind, field: &Member) -> Option<Value>
+    ensures { result ≡ constant_value_of pool.now kind field.now }
 {
-    matches!(kind, FieldKind::Int | FieldKind::Long)
-}
-
-/// The ConstantValue of a final int or long field (JVMS 4.7.2).
-fn constant_value_of(file: &ClassFile, kind: FieldKind, field: &Member) -> Option<Value>
-    ensures { result ≡ constant_value_of file.now kind field.now }
-{
-    if !has_constant_value(kind) || !has_flag(field.access_flags, FINAL) {
+    if !has_flag(field.access_flags, FINAL) {
         return None;
     }
-    constant_value_at(file, field.constant_value()?)
+    constant_value_at(pool, kind, field.constant_value()?)
 }
 
-fn static_field(file: &ClassFile, field: &Member) -> StaticField
-    ensures { result ≡ static_field file.now field.now }
+fn static_field(file: &ClassFile, pool: &RuntimePool, field: &Member) -> StaticField
+    ensures { result ≡ static_field file.now pool.now field.now }
 {
     let kind = field_kind(text_at(file, field.descriptor));
     StaticField {
         is_final: has_flag(field.access_flags, FINAL),
         zero: zero_of(kind),
-        constant: constant_value_of(file, kind, field),
+        constant: constant_value_of(pool, kind, field),
     }
 }
 
 /// The static fields of a class that have values, in the order of its file.
-pub(crate) fn statics_of(alloc: Global, file: &ClassFile) -> Result<StaticFields, AllocError>
-    ensures { IfOk result (λ statics. statics ≡ map (static_field file.now) (statics_of file.now)) }
+pub(crate) fn statics_of(
+    alloc: Global,
+    file: &ClassFile,
+    pool: &RuntimePool,
+) -> Result<StaticFields, AllocError>
+    ensures { IfOk result (λ statics. statics ≡ map (static_field file.now pool.now) (statics_of file.now)) }
 {
     let mut statics = Vec::new(alloc);
-    add_statics(file, &mut statics)?;
+    add_statics(file, pool, &mut statics)?;
     Ok(StaticFields { fields: statics })
 }
 
 /// Adds the static fields of a class that have values.
-fn add_statics(file: &ClassFile, statics: &mut Vec<StaticField>) -> Result<(), AllocError>
+fn add_statics(
+    file: &ClassFile,
+    pool: &RuntimePool,
+    statics: &mut Vec<StaticField>,
+) -> Result<(), AllocError>
     requires { statics.old.items ≡ [] }
-    ensures { OnOk result (statics.new.items ≡ map (static_field file.now) (statics_of file.now)) }
+    ensures { OnOk result (statics.new.items ≡ map (static_field file.now pool.now) (statics_of file.now)) }
 {
     let fields = file.fields();
     for field in fields {
-        add_static(file, field, statics)?;
+        add_static(file, pool, field, statics)?;
     }
     Ok(())
 }
@@ -123,14 +138,16 @@ fn add_statics(file: &ClassFile, statics: &mut Vec<StaticField>) -> Result<(), A
 /// Adds a field, if it is static and has a value.
 fn add_static(
     file: &ClassFile,
+    pool: &RuntimePool,
     field: &Member,
     statics: &mut Vec<StaticField>,
 ) -> Result<(), AllocError>
     ensures { OnOk result (statics.new.items
-        ≡ statics.old.items ++ map (static_field file.now) (filter (is_static_field file.now) (field.now ∷ []))) }
+        ≡ statics.old.items
+        ++ map (static_field file.now pool.now) (filter (is_static_field file.now) (field.now ∷ []))) }
 {
     if is_static_field(file, field) {
-        statics.push(static_field(file, field))?;
+        statics.push(static_field(file, pool, field))?;
     }
     Ok(())
 }

@@ -1,14 +1,18 @@
 -- Constants of run-time constant pools as they are resolved one by one.
-use Rattle.std.specs.Prelude.{◌≡◌, ◌≢◌, ℕ, List}
+use Rattle.std.specs.Prelude.{◌≡◌, ◌≢◌, ℕ, List, Option, Some, slice_get}
 use Rattle.std.specs.declared.result.Result.{Result}
 use Rattle.classfile.specs.ClassFile.{ClassFile}
 use Rattle.classfile.specs.declared.constant.Constant.{Constant}
 use Rattle.classfile.specs.declared.constant.Constant.TheVariants as constants
+use Rattle.built_in.specs.declared.class_id.ClassId.{ClassId}
 use Rattle.program.specs.declared.runtime_constant.RuntimeConstant.{RuntimeConstant}
+use Rattle.program.specs.declared.runtime_constant.RuntimeConstant.TheVariants as runtime
 use Rattle.program.specs.declared.runtime_constant.FieldTarget.{FieldTarget}
 use Rattle.hierarchy.specs.declared.member.Field.{Field}
 use Rattle.hierarchy.specs.declared.member.Unresolved.{Unresolved}
 use Rattle.loading.specs.Families.{Family}
+use Rattle.loading.specs.ClassIds.{StandsFor}
+use Rattle.loading.specs.Names.{class_name_at}
 use Rattle.program.specs.References.{ResolvesFieldAt}
 use Rattle.program.specs.Fields.{targeted}
 use Rattle.program.specs.RuntimePool.{IsRuntimeConstant}
@@ -22,3 +26,8 @@ IsTargetAt family f index target = (r : Result Field Unresolved) × ResolvesFiel
 abbrev pub IsResolved : Family → ClassFile → ℕ → Constant → RuntimeConstant → Type 0
 IsResolved family f index constant held = (strings : List (List ℕ)) → ((utf8 : ℕ) → constant ≢ constants.String utf8)
     → IsRuntimeConstant family strings f index constant held
+
+-- each class of a run-time constant pool is the one that its entry names
+abbrev pub HoldsClasses : Family → ClassFile → List RuntimeConstant → Type 0
+HoldsClasses family f pool = (index : ℕ) (x : Option ClassId) → slice_get pool index ≡ Some (runtime.Class x)
+    → StandsFor family (class_name_at f index) x

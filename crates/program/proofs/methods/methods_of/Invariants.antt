@@ -4,4 +4,6 @@ use Rattle.program.specs.Programs.{IsImplementation}
 use Rattle.program.proofs.methods.methods_of.Given as goal
 
 abbrev pub invariant-loop-method : goal.invariant-loop-method
-invariant-loop-method l = AllZip (IsImplementation l.file) (take l.method-index l.methods) l.implementations.items
+invariant-loop-method l =
+    AllZip (IsImplementation l.linked.family.now l.linked.file.now) (take l.method-index l.methods)
+    l.implementations.items

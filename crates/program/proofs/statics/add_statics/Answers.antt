@@ -23,7 +23,8 @@ pub loop-field-preserved : goal.loop-field-preserved
 loop-field-preserved c =
     let file = c.args.file.now in
     let within : c.loop-field.field-index < length c.fields-fields.result.now = omega arith in
-    kept_next (static_field file) (is_static_field file) c.fields-fields.result.now c.loop-field.field-index
+    kept_next (static_field file c.args.pool.now) (is_static_field file) c.fields-fields.result.now
+    c.loop-field.field-index
     c.field-item.result
     c.loop-field.statics.items c.add_static.new.statics.items within c.field-item.is c.in_ok-add_static.ensures
     ∙ c.loop-field.invariant

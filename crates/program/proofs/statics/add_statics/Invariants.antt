@@ -6,5 +6,5 @@ use Rattle.program.proofs.statics.add_statics.Given as goal
 
 abbrev pub invariant-loop-field : goal.invariant-loop-field
 invariant-loop-field l =
-    l.statics.items ++ map (static_field l.file) (filter (is_static_field l.file) (drop l.field-index l.fields))
-    ≡ map (static_field l.file) (statics_of l.file)
+    l.statics.items ++ map (static_field l.file l.pool) (filter (is_static_field l.file) (drop l.field-index l.fields))
+    ≡ map (static_field l.file l.pool) (statics_of l.file)

@@ -55,3 +55,13 @@ returns-clause-distinct c =
     let after = texts_after items old c.insert_full.new.self.keys c.in_ok-copy.copy text c.in_ok-copy.ensures.items
     apart c.in_ok-number.ensures.keys in
     subst AreDistinct (sym after) (distinct_push (map items old) text apart c.self.invariant)
+
+pub returns-clause-last : goal.returns-clause-last
+returns-clause-last c =
+    let items = λ (v : Vec ℕ Global). v.items in
+    let old = c.self.inside.texts.keys in
+    let text = c.args.text.now in
+    let apart : ¬ Contains (map items old) text = subst (λ ts. ¬ Contains ts text) (sym c.self.view_is) c.requires in
+    let after = texts_after items old c.insert_full.new.self.keys c.in_ok-copy.copy text c.in_ok-copy.ensures.items
+    apart c.in_ok-number.ensures.keys in
+    after ∙ ap (λ ts. ts ++ text ∷ []) c.self.view_is

@@ -1,8 +1,12 @@
-use Rattle.std.proofs.Common.{◌≡◌, ◌<◌, List, length, Some, slice_get, refl, ap, subst, arith}
-use Rattle.std.proofs.lemmas.List.{length_push}
+use Rattle.std.proofs.Common.{◌≡◌, ◌<◌, ◌≤◌, List, length, Some, slice_get, refl, ap, subst, arith}
+use Rattle.std.proofs.lemmas.List.{length_push, take_all}
+use Rattle.std.specs.List.{flat_map}
+use Rattle.program.specs.Strings.{string_of}
+use Rattle.program.specs.steps.GrowingStrings.{Adds}
 use Rattle.classfile.specs.declared.constant.Constant.{Constant}
 use Rattle.program.proofs.RuntimePoolGrowthLemmas.{grows_twice}
 use Rattle.program.proofs.RuntimePoolLemmas.{constants_next}
+use Rattle.program.proofs.StringsLemmas.{adds_next, adds_nothing}
 use Rattle.program.proofs.ZipLemmas.{item_at}
 use Rattle.program.proofs.runtime_pool.Resolver.add_constants.Goals as goal
 
@@ -24,6 +28,9 @@ loop-index-preserved c =
           added.0 c.loop-index.invariant.count c.in_ok-add_constant.ensures.grows.keeps here added.1
           c.loop-index.invariant.pool added.2;
       grows = grows_twice c.loop-index.invariant.grows c.in_ok-add_constant.ensures.grows;
+      adds = adds_next (string_of f) c.constants-constants.result.now i constant c.args.strings.now c.loop-index.strings
+          c.add_constant.new.strings within c.index-constants-index.is c.loop-index.invariant.adds
+          c.in_ok-add_constant.ensures.adds;
     }
 
 pub loop-index-init : goal.loop-index-init
@@ -31,6 +38,7 @@ loop-index-init c = record {
   count = rw c.requires refl;
   pool = rw c.requires (λ index constant held at also. absurd cc);
   grows = record { keeps = λ i text at. at; distinct = λ apart. apart };
+  adds = adds_nothing c.args.strings.now;
 }
 
 pub returns-clause-pool : goal.returns-clause-pool
@@ -38,6 +46,16 @@ returns-clause-pool c = record {
   count = omega (arith, c.loop-index.invariant.count, ap length c.constants-constants.ensures.value);
   each = c.loop-index.invariant.pool;
 }
+
+pub returns-clause-adds : goal.returns-clause-adds
+returns-clause-adds c =
+    let f = c.args.file.now in
+    let constants = c.constants-constants.result.now in
+    let whole : length constants ≤ c.loop-index.index = omega arith in
+    let all : Adds c.args.strings.now (flat_map (string_of f) constants) c.loop-index.strings =
+    rw (take_all c.loop-index.index constants whole) at c.loop-index.invariant.adds in
+    subst (λ (xs : List Constant). Adds c.args.strings.now (flat_map (string_of f) xs) c.loop-index.strings)
+    c.constants-constants.ensures.value all
 
 pub returns-clause-grows : goal.returns-clause-grows
 returns-clause-grows c = c.loop-index.invariant.grows

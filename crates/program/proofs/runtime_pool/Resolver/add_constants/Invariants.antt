@@ -1,5 +1,8 @@
-use Rattle.std.proofs.Common.{◌≡◌, length}
+use Rattle.std.proofs.Common.{◌≡◌, length, take}
+use Rattle.std.specs.List.{flat_map}
 use Rattle.hierarchy.specs.steps.GrowingTexts.{Grows}
+use Rattle.program.specs.Strings.{string_of}
+use Rattle.program.specs.steps.GrowingStrings.{Adds}
 use Rattle.program.proofs.RuntimePoolLemmas.{AreRuntimeConstants}
 use Rattle.program.proofs.runtime_pool.Resolver.add_constants.Given as goal
 
@@ -8,4 +11,5 @@ invariant-loop-index l = record {
   count : length l.pool.items ≡ l.index;
   pool : AreRuntimeConstants l.self.hierarchy.now.family l.strings l.file l.pool.items;
   grows : Grows l.initial.strings l.strings;
+  adds : Adds l.initial.strings (flat_map (string_of l.file) (take l.index l.constants)) l.strings;
 }

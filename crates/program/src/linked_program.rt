@@ -1,15 +1,17 @@
 //! The linked program.
 
 ghost use Rattle.std.specs.Prelude.{◌≡◌, ◌≢◌, ◌<◌, ℕ, [], length, Option, Some, IfOk, MatchOption, option_copied};
+ghost use Rattle.std.specs.Prelude.{option_map, slice_get};
 ghost use Rattle.classfile.specs.Units.{units_text};
 ghost use Rattle.loading.specs.Families.{name_in};
 ghost use Rattle.hierarchy.specs.Initialization.{IsInitializationOrder};
 ghost use Rattle.program.specs.Programs.{IsProgram};
 ghost use Rattle.program.specs.Tables.{Tables, instruction_at, implementation_at, constant_at, statics_in, order_in};
-ghost use Rattle.program.specs.Tables.{initializer_in, main_in};
+ghost use Rattle.program.specs.Tables.{initializer_in, main_in, signature_at};
 
 use crate::class::{Class, Implementation};
 use crate::runtime_constant::RuntimeConstant;
+use crate::signature::Signature;
 use built_in::class_id::{ArrayType, ClassId, ElementType};
 use bytecode::Instruction;
 use classfile::{ClassName, printed};
@@ -88,16 +90,27 @@ impl Program {
         }
     }
 
+    /// What the methods of a class take and return whose descriptor stands at an index of its constant pool.
+    pub fn signature(&self, class: u32, descriptor: u16) -> Option<&Signature>
+        ensures { option_copied result ≡ signature_at self.now class descriptor }
+    {
+        let class = self.classes.get(class as usize)?;
+        class.signatures.at(descriptor)
+    }
+
     /// The constant at an index of a class's run-time constant pool.
     pub fn constant(&self, class: u32, index: u16) -> Option<RuntimeConstant>
         ensures { result ≡ constant_at self.now class index }
     {
         let class = self.classes.get(class as usize)?;
-        class
-            .runtime_pool
-            .constants
-            .get(usize::from(index))
-            .copied()
+        class.runtime_pool.at(index)
+    }
+
+    /// The text of a string, as class files spell it, by its number among the strings of the program.
+    pub fn string(&self, number: usize) -> Option<&[u8]>
+        ensures { option_map (λ text. text.now) result ≡ slice_get self.now.strings number }
+    {
+        self.strings.text(number)
     }
 
     /// The static fields of a class that have values, in order; none of a class that is not there.
