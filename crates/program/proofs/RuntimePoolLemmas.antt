@@ -12,8 +12,11 @@ use Rattle.loading.specs.ClassIds.{StandsFor}
 use Rattle.loading.specs.Families.{Family}
 use Rattle.loading.specs.Names.{class_name_at}
 use Rattle.hierarchy.specs.steps.GrowingTexts.{KeepsNumbers}
+use Rattle.std.specs.Prelude.{unwrap_or}
+use Rattle.classfile.specs.Lookup.{class_name_in, class_name_of}
+use Rattle.program.specs.References.{FieldOfConstant, MethodOfConstant}
 use Rattle.program.specs.RuntimePool.{IsRuntimeConstant, IsRuntimePool}
-use Rattle.program.specs.steps.ResolvedConstants.{HoldsClasses}
+use Rattle.program.specs.steps.ResolvedConstants.{HoldsClasses, AreRuntimeConstants}
 use Rattle.program.proofs.RuntimePoolGrowthLemmas.{constant_kept}
 use Rattle.loading.proofs.PlaceLemmas.{pushed_at}
 
@@ -53,12 +56,6 @@ other_constant family strings f index (constants.MethodType descriptor) i l m d 
     absurd (y descriptor refl)
 other_constant family strings f index (constants.InvokeDynamic bootstrap n) i l m d k r s t h y u =
     IsRuntimeConstant.invoke_dynamic
-
--- each of these entries has its run-time constant
-abbrev pub AreRuntimeConstants : Family → List (List ℕ) → ClassFile → List RuntimeConstant → Type 0
-AreRuntimeConstants family strings f pool = (index : ℕ) (constant : Constant) (held : RuntimeConstant)
-    → slice_get f.constants index ≡ Some constant
-    → slice_get pool index ≡ Some held → IsRuntimeConstant family strings f index constant held
 
 -- one more entry has its run-time constant
 pub constants_next : (family : Family) (old strings : List (List ℕ)) (f : ClassFile) (pool new : List RuntimeConstant)
@@ -114,3 +111,32 @@ holds_classes family strings f pool is index x at =
     let entry = entry_beside pool f.constants index (runtime.Class x) is.count at in
     class_by family strings f index entry.0 (runtime.Class x) x
     (is.each index entry.0 (runtime.Class x) entry.1 at) refl
+
+class_name_same : (f : ClassFile) (i j : ℕ) → slice_get f.constants i ≡ slice_get f.constants j
+    → class_name_at f i ≡ class_name_at f j
+unfolding class_name_of
+class_name_same f i j e = ap (λ o. unwrap_or (class_name_in f.constants o) []) e
+
+-- equal entries stand for the same
+pub same_entry : (family : Family) (strings : List (List ℕ)) (f : ClassFile) (i j : ℕ) (constant : Constant)
+    (held : RuntimeConstant) → slice_get f.constants i ≡ slice_get f.constants j
+    → IsRuntimeConstant family strings f i constant held → IsRuntimeConstant family strings f j constant held
+same_entry family strings f i j constant held e IsRuntimeConstant.int = IsRuntimeConstant.int
+same_entry family strings f i j constant held e IsRuntimeConstant.long = IsRuntimeConstant.long
+same_entry family strings f i j constant held e IsRuntimeConstant.float = IsRuntimeConstant.float
+same_entry family strings f i j constant held e IsRuntimeConstant.double = IsRuntimeConstant.double
+same_entry family strings f i j constant held e (IsRuntimeConstant.string at) = IsRuntimeConstant.string at
+same_entry family strings f i j constant held e (IsRuntimeConstant.class {x = x} named) =
+    IsRuntimeConstant.class (subst (λ n. StandsFor family n x) (class_name_same f i j e) named)
+same_entry family strings f i j constant held e (IsRuntimeConstant.field r resolves) =
+    IsRuntimeConstant.field r (subst (λ o. FieldOfConstant family f o r) e resolves)
+same_entry family strings f i j constant held e (IsRuntimeConstant.method {r = r} resolves) =
+    IsRuntimeConstant.method (subst (λ o. MethodOfConstant family f o r) e resolves)
+same_entry family strings f i j constant held e (IsRuntimeConstant.interface_method {r = r} resolves) =
+    IsRuntimeConstant.interface_method (subst (λ o. MethodOfConstant family f o r) e resolves)
+same_entry family strings f i j constant held e IsRuntimeConstant.utf8 = IsRuntimeConstant.utf8
+same_entry family strings f i j constant held e IsRuntimeConstant.unusable = IsRuntimeConstant.unusable
+same_entry family strings f i j constant held e IsRuntimeConstant.name_and_type = IsRuntimeConstant.name_and_type
+same_entry family strings f i j constant held e IsRuntimeConstant.method_handle = IsRuntimeConstant.method_handle
+same_entry family strings f i j constant held e IsRuntimeConstant.method_type = IsRuntimeConstant.method_type
+same_entry family strings f i j constant held e IsRuntimeConstant.invoke_dynamic = IsRuntimeConstant.invoke_dynamic

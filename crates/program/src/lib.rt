@@ -4,6 +4,7 @@
 
 mod assembly;
 pub mod class;
+mod equal_entries;
 pub mod handler;
 mod linked_file;
 mod linked_program;

@@ -1,6 +1,6 @@
 //! The run-time constant pool of a class (JVMS 5.1).
 
-ghost use Rattle.std.specs.Prelude.{◌≡◌, ◌<◌, [], ◌∷◌, ◌++◌, length, Some, IfOk, OnOk, if◌then◌else◌};
+ghost use Rattle.std.specs.Prelude.{◌≡◌, ◌<◌, [], ◌∷◌, ◌++◌, length, Some, IfOk, OnOk, slice_get, if◌then◌else◌};
 ghost use Rattle.loading.specs.ClassIds.{StandsFor};
 ghost use Rattle.program.specs.RuntimePool.{int_of_bits, long_of_halves};
 ghost use Rattle.program.specs.Fields.{static_number_of, static_of, final_of, target_in, target_of};
@@ -9,13 +9,14 @@ ghost use Rattle.program.specs.declared.runtime_constant.RuntimeConstant.{Runtim
 ghost use Rattle.program.specs.declared.runtime_constant.FieldTarget.TheVariants as targets;
 ghost use Rattle.loading.specs.Families.{file_in};
 ghost use Rattle.program.specs.RuntimePool.{IsRuntimeConstant, IsRuntimePool};
-ghost use Rattle.program.specs.steps.ResolvedConstants.{IsTargetAt, IsResolved};
+ghost use Rattle.program.specs.steps.ResolvedConstants.{IsTargetAt, IsResolved, AreRuntimeConstants};
 ghost use Rattle.loading.specs.Names.{class_name_at};
 ghost use Rattle.hierarchy.specs.steps.GrowingTexts.{Grows};
 ghost use Rattle.program.specs.Strings.{string_of, strings_of};
 ghost use Rattle.program.specs.steps.GrowingStrings.{Adds};
 
 use crate::class::RuntimePool;
+use crate::equal_entries::Earlier;
 use crate::references::{descriptor_at, resolve_field_at, resolve_method_at};
 use crate::runtime_constant::{FieldTarget, RuntimeConstant};
 use crate::static_numbers::StaticNumbers;
@@ -205,9 +206,18 @@ impl<'a> Resolver<'a> {
         ensures grows { OnOk result (Grows strings.old strings.new) }
         ensures adds { OnOk result (Adds strings.old (strings_of file.now) strings.new) }
     {
+        let mut earlier = Earlier::new(alloc);
         let constants = file.constants();
         for (index, constant) in constants.iter().enumerate() {
-            self.add_constant(alloc, strings, file, index as u16, constant, pool)?;
+            self.add_constant(
+                alloc,
+                strings,
+                file,
+                index as u16,
+                constant,
+                &mut earlier,
+                pool,
+            )?;
         }
         Ok(())
     }
@@ -220,15 +230,23 @@ impl<'a> Resolver<'a> {
         file: &ClassFile,
         index: u16,
         constant: &Constant,
+        earlier: &mut Earlier,
         pool: &mut Vec<RuntimeConstant>,
     ) -> Result<(), AllocError>
+        requires here { slice_get file.now.constants index ≡ Some constant.now }
+        requires pool { AreRuntimeConstants self.now.hierarchy.now.family strings.old file.now pool.old.items }
         ensures held { OnOk result ((held : Held)
             × IsRuntimeConstant self.now.hierarchy.now.family strings.new file.now index constant.now held
             × (pool.new.items ≡ pool.old.items ++ held ∷ [])) }
         ensures grows { OnOk result (Grows strings.old strings.new) }
         ensures adds { OnOk result (Adds strings.old (string_of file.now constant.now) strings.new) }
     {
+        if let Some(held) = earlier.held(file, constant, pool) {
+            pool.push(held)?;
+            return Ok(());
+        }
         let held = self.runtime_constant_of(alloc, strings, file, index, constant)?;
+        earlier.note(constant, index)?;
         pool.push(held)?;
         Ok(())
     }

@@ -31,3 +31,9 @@ IsResolved family f index constant held = (strings : List (List ℕ)) → ((utf8
 abbrev pub HoldsClasses : Family → ClassFile → List RuntimeConstant → Type 0
 HoldsClasses family f pool = (index : ℕ) (x : Option ClassId) → slice_get pool index ≡ Some (runtime.Class x)
     → StandsFor family (class_name_at f index) x
+
+-- each of these entries has its run-time constant
+abbrev pub AreRuntimeConstants : Family → List (List ℕ) → ClassFile → List RuntimeConstant → Type 0
+AreRuntimeConstants family strings f pool = (index : ℕ) (constant : Constant) (held : RuntimeConstant)
+    → slice_get f.constants index ≡ Some constant
+    → slice_get pool index ≡ Some held → IsRuntimeConstant family strings f index constant held

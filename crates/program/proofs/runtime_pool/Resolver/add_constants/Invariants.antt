@@ -3,7 +3,7 @@ use Rattle.std.specs.List.{flat_map}
 use Rattle.hierarchy.specs.steps.GrowingTexts.{Grows}
 use Rattle.program.specs.Strings.{string_of}
 use Rattle.program.specs.steps.GrowingStrings.{Adds}
-use Rattle.program.proofs.RuntimePoolLemmas.{AreRuntimeConstants}
+use Rattle.program.specs.steps.ResolvedConstants.{AreRuntimeConstants}
 use Rattle.program.proofs.runtime_pool.Resolver.add_constants.Given as goal
 
 abbrev pub invariant-loop-index : goal.invariant-loop-index

@@ -1,0 +1,131 @@
+//! Equal entries of a constant pool, so that each is resolved once (JVMS 4.4.1, 4.4.2).
+
+ghost use Rattle.std.specs.Prelude.{◌≡◌, ◌≢◌, ℕ, [], Some, IsTrue, IfSome, slice_get};
+ghost use Rattle.classfile.specs.declared.constant.Constant.TheVariants as constants;
+ghost use Rattle.program.specs.Strings.{string_of};
+
+use crate::runtime_constant::RuntimeConstant;
+use classfile::{ClassFile, Constant};
+use std::alloc::{AllocError, Global};
+use std::collections::BTreeMap;
+
+/// Where entries that name a class, or a member by its class and its name and type, stood last.
+#[derive(Drop)]
+pub(crate) struct Earlier {
+    classes: BTreeMap<u16, u16>,
+    members: BTreeMap<(u16, u16), u16>,
+}
+
+impl Earlier {
+    /// No entries.
+    pub(crate) fn new(alloc: Global) -> Self {
+        Earlier {
+            classes: BTreeMap::new(alloc),
+            members: BTreeMap::new(alloc),
+        }
+    }
+
+    /// The index of an earlier entry that names the same.
+    fn index(&self, constant: &Constant) -> Option<u16> {
+        match constant {
+            Constant::Class { name } => self.classes.get(name).copied(),
+            Constant::Fieldref {
+                class,
+                name_and_type,
+            }
+            | Constant::Methodref {
+                class,
+                name_and_type,
+            }
+            | Constant::InterfaceMethodref {
+                class,
+                name_and_type,
+            } => self.members.get(&(*class, *name_and_type)).copied(),
+            _ => None,
+        }
+    }
+
+    /// Notes where an entry stands, if it names a class or a member.
+    pub(crate) fn note(&mut self, constant: &Constant, index: u16) -> Result<(), AllocError> {
+        match constant {
+            Constant::Class { name } => {
+                self.classes.insert(*name, index)?;
+            }
+            Constant::Fieldref {
+                class,
+                name_and_type,
+            }
+            | Constant::Methodref {
+                class,
+                name_and_type,
+            }
+            | Constant::InterfaceMethodref {
+                class,
+                name_and_type,
+            } => {
+                self.members.insert((*class, *name_and_type), index)?;
+            }
+            _ => {}
+        }
+        Ok(())
+    }
+
+    /// What an earlier entry that is equal stands for.
+    pub(crate) fn held(
+        &self,
+        file: &ClassFile,
+        constant: &Constant,
+        pool: &[RuntimeConstant],
+    ) -> Option<RuntimeConstant>
+        ensures equal { IfSome result (λ held. (i : ℕ) × (slice_get file.now.constants i ≡ Some constant.now)
+            × (slice_get pool.now i ≡ Some held)) }
+        ensures no_string { IfSome result (λ held. string_of file.now constant.now ≡ []) }
+    {
+        let index = self.index(constant)?;
+        if !is_equal(file.constant(index)?, constant) {
+            return None;
+        }
+        pool.get(usize::from(index)).copied()
+    }
+}
+
+/// Whether two entries name the same class, or are references of one kind to the same member.
+fn is_equal(constant: &Constant, other: &Constant) -> bool
+    ensures equal { IsTrue result → constant.now ≡ other.now }
+    ensures no_string { IsTrue result → (utf8 : ℕ) → other.now ≢ constants.String utf8 }
+{
+    match (constant, other) {
+        (Constant::Class { name }, Constant::Class { name: same }) => name == same,
+        (
+            Constant::Fieldref {
+                class,
+                name_and_type,
+            },
+            Constant::Fieldref {
+                class: same_class,
+                name_and_type: same,
+            },
+        ) => class == same_class && name_and_type == same,
+        (
+            Constant::Methodref {
+                class,
+                name_and_type,
+            },
+            Constant::Methodref {
+                class: same_class,
+                name_and_type: same,
+            },
+        ) => class == same_class && name_and_type == same,
+        (
+            Constant::InterfaceMethodref {
+                class,
+                name_and_type,
+            },
+            Constant::InterfaceMethodref {
+                class: same_class,
+                name_and_type: same,
+            },
+        ) => class == same_class && name_and_type == same,
+        _ => false,
+    }
+}
