@@ -199,8 +199,12 @@ whole_order family placed first behind order holds short len all read =
     let is : order ≡ holds.classes = read holds.classes holds.is_row (omega (arith, short, len, holds.count)) in
     record {
       whole = λ c small. subst (λ l. Contains l c) (sym is) (holds.members c (all c small));
-      within = λ c has. omega (arith, len, row_within behind first holds.classes c holds.is_row
-          (subst (λ l. Contains l c) is has));
+      within = λ c has. omega (
+        arith,
+        len,
+        row_within behind first holds.classes c holds.is_row
+            (subst (λ l. Contains l c) is has),
+      );
       ordered = subst (IsDepthFirst family None) (sym is) holds.ordered;
     }
 

@@ -17,8 +17,7 @@ reads_one behind at (x ∷ xs) old new c after row is found pushed =
     let heads : Some x ≡ Some c = sym row.0 ∙ is in
     let head : x ≡ c = cc in
     let nexts : Some row.1 ≡ Some after = sym row.2 ∙ ap (slice_get behind) head ∙ found in
-    let next : row.1 ≡ after = cc in
-    (
+    let next : row.1 ≡ after = cc in (
       xs,
       subst (λ f. IsRow behind f xs) next row.3,
       ap (λ l. l ++ xs) pushed ∙ append_assoc old (c ∷ []) xs ∙ ap (λ y. old ++ y ∷ xs) (sym head),

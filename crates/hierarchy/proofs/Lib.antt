@@ -6,6 +6,8 @@ pub mod FamiliesChainLemmas
 pub mod SearchLemmas
 pub mod MemberLookupLemmas
 pub mod InterfaceListsAncestorLemmas
+pub mod MarkLemmas
+pub mod MarkedLemmas
 pub mod DefaultsTestLemmas
 pub mod DefaultsLemmas
 pub mod JoinedLemmas

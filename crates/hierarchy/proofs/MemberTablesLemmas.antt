@@ -90,8 +90,13 @@ pub table_with : (old new : MemberTable) (family : Family) (given : GivenClass) 
 table_with old new family given numbers fields methods fs ms keeps distinct here pushed by_fields by_methods is = record {
   distinct = distinct;
   first = keeps 0 [] is.first;
-  count = omega (arith, ap length pushed, length-append old.pools.items (numbers ∷ []), is.count,
-      length-append family (given ∷ []));
+  count = omega (
+    arith,
+    ap length pushed,
+    length-append old.pools.items (numbers ∷ []),
+    is.count,
+    length-append family (given ∷ []),
+  );
   pools = λ c f n of there. pools_next old.texts new.texts family given old.pools.items numbers keeps is.count here
       is.pools c f n of (ap (λ l. slice_get l c) (sym pushed) ∙ there);
   fields = index_same new.texts _ (λ c q. field_in (family ++ given ∷ []) q c) (place_of new.fields)

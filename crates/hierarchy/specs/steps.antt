@@ -9,3 +9,4 @@ pub mod GrowingTexts
 pub mod DepthFirst
 pub mod Reaches
 pub mod PoolTexts
+pub mod Marked

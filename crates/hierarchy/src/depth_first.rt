@@ -62,12 +62,7 @@ pub(crate) fn given_superclass(family: &Family, class: u32) -> Option<u32>
 }
 
 /// Puts a class behind its superclass, or first if that is not given, unless it is there.
-fn put(
-    family: &Family,
-    class: u32,
-    placed: &mut Visited,
-    row: &mut Row,
-) -> Result<(), AllocError>
+fn put(family: &Family, class: u32, placed: &mut Visited, row: &mut Row) -> Result<(), AllocError>
     requires class { class < length family.now }
     requires limit { placed.old.limit ≡ length family.now }
     requires len { length row.old.behind.items ≡ length family.now }
@@ -131,11 +126,7 @@ fn add_classes(row: &Row, classes: &mut Vec<u32>) -> Result<(), AllocError>
 }
 
 /// Adds a class of a row, if there is one, and answers the one behind it.
-fn add_class(
-    row: &Row,
-    at: Option<u32>,
-    classes: &mut Vec<u32>,
-) -> Result<Option<u32>, AllocError>
+fn add_class(row: &Row, at: Option<u32>, classes: &mut Vec<u32>) -> Result<Option<u32>, AllocError>
     ensures { IfOk result (λ after. (cs : List ℕ) → IsRow row.now.behind.items at cs
         → (rest : List ℕ) × IsRow row.now.behind.items after rest
         × (classes.new.items ++ rest ≡ classes.old.items ++ cs)

@@ -8,6 +8,7 @@ mod depth_first;
 pub mod hierarchy;
 pub mod initialization;
 mod joined;
+mod marked;
 pub mod member;
 mod member_index;
 mod member_table;

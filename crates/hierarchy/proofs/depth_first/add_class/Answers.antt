@@ -12,11 +12,11 @@ pub returns-in-None : goal.returns-in-None
 returns-in-None c = λ cs row.
     reads_none c.args.row.now.behind.items c.args.at cs c.args.classes.now.items row
     (λ d after is at.
-        let one : Some c.in-Some.class ≡ Some d = sym c.in-Some.is ∙ is in
-        let same : c.in-Some.class ≡ d = cc in
-        let clash : None ≡ Some after =
-        sym c.in-None.is ∙ c.after.ensures ∙ ap (slice_get c.args.row.now.behind.items) same ∙ at in
-        cc)
+    let one : Some c.in-Some.class ≡ Some d = sym c.in-Some.is ∙ is in
+    let same : c.in-Some.class ≡ d = cc in
+    let clash : None ≡ Some after =
+    sym c.in-None.is ∙ c.after.ensures ∙ ap (slice_get c.args.row.now.behind.items) same ∙ at in
+    cc)
 
 pub returns-in_default : goal.returns-in_default
 returns-in_default c = λ cs row.

@@ -18,11 +18,11 @@ returns c = λ family count is.
     c.fields.ensures.value c.methods.ensures.value c.in_ok-pool.ensures.keeps (c.in_ok-pool.ensures.distinct is.distinct)
     c.in_ok-pool.ensures.numbers c.in_ok-push.ensures.items
     (λ texts f declared numbers distinct was.
-        subst (λ (n : ℕ). IsIndex texts (declared_after declared n f c.fields.result.now)
-        (place_of c.add_members.new.index)) (sym count)
-        (c.in_ok-add_members.ensures texts f declared numbers distinct was))
+    subst (λ (n : ℕ). IsIndex texts (declared_after declared n f c.fields.result.now)
+    (place_of c.add_members.new.index)) (sym count)
+    (c.in_ok-add_members.ensures texts f declared numbers distinct was))
     (λ texts f declared numbers distinct was.
-        subst (λ (n : ℕ). IsIndex texts (declared_after declared n f c.methods.result.now)
-        (place_of c.add_members-2.new.index)) (sym count)
-        (c.in_ok-add_members-2.ensures texts f declared numbers distinct was))
+    subst (λ (n : ℕ). IsIndex texts (declared_after declared n f c.methods.result.now)
+    (place_of c.add_members-2.new.index)) (sym count)
+    (c.in_ok-add_members-2.ensures texts f declared numbers distinct was))
     is

@@ -4,8 +4,7 @@ use Rattle.hierarchy.proofs.depth_first.Row.put_first.Goals as goal
 
 pub returns-clause-row : goal.returns-clause-row
 returns-clause-row c = λ cs row out.
-    let behind = c.args.self.now.behind.items in
-    (
+    let behind = c.args.self.now.behind.items in (
       refl,
       c.args.self.now.first,
       set_here behind c.args.class c.args.self.now.first c.requires,
