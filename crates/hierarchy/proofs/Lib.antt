@@ -8,7 +8,6 @@ pub mod MemberLookupLemmas
 pub mod InterfaceListsAncestorLemmas
 pub mod MarkLemmas
 pub mod MarkedLemmas
-pub mod DefaultsTestLemmas
 pub mod DefaultsLemmas
 pub mod JoinedLemmas
 pub mod InterfaceListsLemmas

@@ -1,12 +1,11 @@
 -- Marks of classes beside the members that they mark.
-use Rattle.std.proofs.Common.{◌≡◌, ◌↔◌, ℕ, ◌+◌, ◌<◌, ◌≤◌, Bool, true, false, List, [], ◌∷◌, ◌++◌, length, take, get_or, set}
+use Rattle.std.proofs.Common.{◌≡◌, ◌↔◌, ℕ, ◌+◌, ◌<◌, Bool, true, false, List, [], ◌∷◌, ◌++◌, length, take, get_or, set}
 use Rattle.std.proofs.Common.{replicate, refl, sym, ap, subst, arith, ◌∙◌}
 use Rattle.std.specs.List.{Contains}
 use Rattle.std.specs.Prelude.{IsTrue, count_by}
 use Rattle.std.proofs.lemmas.Grind.{common_steps}
 use Rattle.std.proofs.lemmas.List.{length-take-le, take_more_set, length-set, length_push}
 use Rattle.graph.specs.Seen.{Joins}
-use Rattle.graph.specs.steps.Marks.{IsVisited}
 use Rattle.graph.proofs.MarksLemmas.{visited_push, visited_small, marked_is_member, member_is_marked}
 use Rattle.hierarchy.specs.steps.Marked.{IsMarked}
 

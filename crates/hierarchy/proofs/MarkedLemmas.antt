@@ -1,6 +1,6 @@
 -- Classes to which their ancestors are added.
-use Rattle.std.proofs.Common.{◌≡◌, ℕ, ◌+◌, ◌<◌, ◌≤◌, ◌↔◌, ◌⊎◌, Bool, true, false, List, [], ◌∷◌, ◌++◌, length, take}
-use Rattle.std.proofs.Common.{slice_index, slice_index_or, replicate, inl, inr, refl, sym, subst, arith}
+use Rattle.std.proofs.Common.{◌≡◌, ℕ, ◌+◌, ◌<◌, ◌≤◌, ◌↔◌, ◌⊎◌, Bool, List, [], ◌∷◌, ◌++◌, length}
+use Rattle.std.proofs.Common.{slice_index, slice_index_or, inl, inr, refl, subst, arith}
 use Rattle.std.specs.List.{All, Contains}
 use Rattle.std.proofs.lemmas.Grind.{common_steps}
 use Rattle.std.proofs.lemmas.List.Elements.{All-contains, All-weaker, All-nil, Contains-get_or, Contains-append_left}
@@ -110,6 +110,14 @@ climbing_done family from items next h s m =
     back a b start (parent edge) = closed a b start edge
     back a b start (further {d = d} path edge) = closed d b (back a d start path) edge
 
+-- an ancestor is a parent or above one
+pub by_parent : (family : Family) (c m : ℕ) → IsAncestor family c m → IsAmongOrAbove family (parents_in family c) m
+by_parent family c m (parent edge) = inl edge
+by_parent family c m (further {d = d} path edge) = elim (by_parent family c d path) [
+  | inl low ↦ inr (d, low, parent edge)
+  | inr high ↦ inr (high.0, high.1, further high.2 edge)
+]
+
 -- what is among the parents of a class or above them is above the class
 pub above_parents : (family : Family) (c : ℕ) (first all : List ℕ) → Adds [] (parents_in family c) first
     → ((m : ℕ) → Contains all m ↔ IsAmongOrAbove family first m) → (m : ℕ) → Contains all m ↔ IsAncestor family c m
@@ -118,7 +126,7 @@ above_parents family c first all a members m = (
     | inl low ↦ up m low
     | inr high ↦ ancestor_through (up high.0 high.1) high.2
   ],
-  λ above. (members m).1 (elim (by_parent m above) [
+  λ above. (members m).1 (elim (by_parent family c m above) [
     | inl edge ↦ inl (All-contains (Contains first) (parents_in family c) m a.added edge)
     | inr more ↦ inr (more.0, All-contains (Contains first) (parents_in family c) more.0 a.added more.1, more.2)
   ]),
@@ -126,10 +134,3 @@ above_parents family c first all a members m = (
   where
     up : (x : ℕ) → Contains first x → IsAncestor family c x
     up x has = elim (a.only x has) [ inl none ↦ absurd (omega (arith, none.1)) | inr edge ↦ parent edge ]
-
-    by_parent : (m : ℕ) → IsAncestor family c m → IsAmongOrAbove family (parents_in family c) m
-    by_parent m (parent edge) = inl edge
-    by_parent m (further {d = d} path edge) = elim (by_parent d path) [
-      | inl low ↦ inr (d, low, parent edge)
-      | inr high ↦ inr (high.0, high.1, further high.2 edge)
-    ]

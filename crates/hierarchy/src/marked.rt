@@ -4,7 +4,7 @@ ghost use Rattle.std.specs.Prelude.{◌≡◌, ℕ, ◌<◌, ◌≤◌, ◌↔�
 ghost use Rattle.std.specs.List.{All, Contains};
 ghost use Rattle.graph.specs.Seen.{Joins};
 ghost use Rattle.graph.specs.steps.Adds.{Adds};
-ghost use Rattle.loading.specs.Families.{IsAncestor, parents_in};
+ghost use Rattle.loading.specs.Families.{IsAncestor, IsFamily, parents_in};
 ghost use Rattle.hierarchy.specs.steps.InterfaceLists.{IsAmongOrAbove};
 
 use loading::family::Family;
@@ -45,7 +45,8 @@ impl Marked {
 
     /// All ancestors of a class.
     pub(crate) fn ancestors(family: &Family, class: u32) -> Marked
-        ensures { (m : ℕ) → Contains result m ↔ IsAncestor family.now class m }
+        ensures members { (m : ℕ) → Contains result m ↔ IsAncestor family.now class m }
+        ensures fits { IsFamily family.now }
     {
         let mut marked = Marked::none();
         marked.add_parents(family, class);
@@ -97,7 +98,8 @@ impl Marked {
 
     /// Adds the given parents of a class.
     pub(crate) fn add_parents(&mut self, family: &Family, class: u32)
-        ensures { Adds self.old (parents_in family.now class) self.new }
+        ensures adds { Adds self.old (parents_in family.now class) self.new }
+        ensures fits { IsFamily family.now }
     {
         let count = family.classes().len();
         prove!(count < 65_536);

@@ -1,4 +1,4 @@
-use Rattle.std.proofs.Common.{◌≡◌, ◌<◌, length, sym, true, refl, arith}
+use Rattle.std.proofs.Common.{◌<◌, length, sym, true, refl, arith}
 use Rattle.hierarchy.proofs.MarkLemmas.{has_room, marked_more, mark_tells, joins_free}
 use Rattle.hierarchy.proofs.marked.Marked.add.Goals as goal
 

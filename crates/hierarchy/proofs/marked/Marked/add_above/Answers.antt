@@ -13,7 +13,7 @@ loop-next-preserved c =
     let here : c.from-class.result ≡ slice_index items next =
     c.from-class.ensures ∙ ap (λ (l : List ℕ). slice_index l next) c.members-in-loop-next.ensures.value in
     climbing_next family c.args.self.now items c.add_parents.new.self next few c.loop-next.invariant
-    (subst (λ (v : ℕ). Adds items (parents_in family v) c.add_parents.new.self) here c.add_parents.ensures)
+    (subst (λ (v : ℕ). Adds items (parents_in family v) c.add_parents.new.self) here c.add_parents.ensures.adds)
 
 pub returns : goal.returns
 returns c =

@@ -1,7 +1,6 @@
-use Rattle.std.proofs.Common.{◌≡◌, ◌<◌, ◌∙◌, ℕ, List, [], ◌∷◌, ◌++◌, Some, length, sym, ap, subst, arith}
+use Rattle.std.proofs.Common.{◌≡◌, ◌∙◌, ℕ, List, [], ◌∷◌, Some, sym, ap, subst, arith}
 use Rattle.graph.specs.steps.Adds.{Adds}
 use Rattle.loading.specs.Families.{interfaces_in, superclasses_in, given_superclass}
-use Rattle.loading.specs.declared.given.Superclass.TheVariants as super
 use Rattle.hierarchy.proofs.MarkedLemmas.{adds_one, adds_both}
 use Rattle.hierarchy.proofs.marked.Marked.add_parents.Goals as goal
 
@@ -12,12 +11,12 @@ add_all-requires c = λ k d small.
 
 pub add-requires : goal.add-requires
 add-requires c =
-    let below = c.superclass.ensures.within c.in-Some-Given.above (c.in-Some-Given.is ∙ ap Some c.in-Some-Given.field-0-is)
-    in
+    let arm = c.in-Some-Given in
+    let below = c.superclass.ensures.within arm.above (arm.is ∙ ap Some arm.field-0-is) in
     omega (arith, below, c.classes-count.ensures.few)
 
-pub returns-in-Some-Given : goal.returns-in-Some-Given
-returns-in-Some-Given c =
+pub returns-in-Some-Given-clause-adds : goal.returns-in-Some-Given-clause-adds
+returns-in-Some-Given-clause-adds c =
     let family = c.args.family.now in
     let class = c.args.class in
     let super : superclasses_in family class ≡ c.in-Some-Given.above ∷ [] =

@@ -1,4 +1,3 @@
-use Rattle.std.proofs.Common.{[], ◌∷◌, replicate}
 use Rattle.hierarchy.proofs.MarkLemmas.{marked_none}
 use Rattle.hierarchy.proofs.marked.Marked.none.Goals as goal
 
