@@ -7,11 +7,11 @@ use Rattle.std.proofs.lemmas.Bool.{eqb-true, eq-eqb}
 use Rattle.std.proofs.lemmas.List.Elements.{Contains-append_left, Contains-push, Contains-push_cases}
 use Rattle.std.proofs.lemmas.List.Elements.{All-contains}
 use Rattle.built_in.specs.Keys.{NameAndType}
-use Rattle.loading.specs.Families.{Family, IsFamily, IsAncestor, parent, further, parents_in}
+use Rattle.loading.specs.Families.{Family, IsFamily, IsAncestor, parent, further, parents_in, is_interface_in}
 use Rattle.graph.specs.steps.Adds.{Adds}
 use Rattle.hierarchy.specs.steps.InterfaceLists.{IsAmongOrAbove}
 use Rattle.hierarchy.specs.MemberLookup.{interface_method_in, IsDefault, IsTheDefault, HasNoDefault, flags_in}
-use Rattle.hierarchy.specs.MemberLookup.{is_abstract}
+use Rattle.hierarchy.specs.MemberLookup.{is_abstract, is_inherited, keep_if, method_in, method_with}
 use Rattle.hierarchy.specs.steps.Defaults.{AreFound, nothing, one, several, found_with, found_after, only_of}
 use Rattle.hierarchy.specs.steps.Defaults.{HasMethod, IsFree, AreCovered, AreParentsOf}
 use Rattle.hierarchy.specs.declared.defaults.Found.{Found}
@@ -129,6 +129,19 @@ covered_by family key seen parents covered are all m = (
 )
 
 -- ---- all superinterfaces
+
+-- where no class has the method
+pub no_method : (family : Family) (key : NameAndType) (c : ℕ) → ((i : ℕ) → method_in family key i ≡ None)
+    → HasNoDefault family key c
+no_method family key c none = λ i k the. by (is_interface_in family i) i k (the.0.0.0.1)
+  where
+    by : (b : Bool) (i k : ℕ) → cond b (method_with is_inherited family key i) None ≡ Some k → ⊥
+    by true i k e =
+        let nothing : method_with is_inherited family key i ≡ None =
+        ap (keep_if is_inherited (flags_in family i)) (none i) in
+        let clash : None ≡ Some k = sym nothing ∙ e in
+        cc
+    by false i k e = cc
 
 -- a class without parents has none
 pub no_ancestor : (family : Family) (c j : ℕ) → (0 < length (parents_in family c) → ⊥) → ¬ IsAncestor family c j

@@ -58,6 +58,9 @@ impl Hierarchy {
             → MatchOption result (HasNoDefault self.now.family name class)
             (λ x. IsTheDefault self.now.family name class x.class x.index) }
     {
+        if self.is_unknown(key) {
+            return None;
+        }
         if self.has_parents(class) {
             return self.default_above(class, key);
         }

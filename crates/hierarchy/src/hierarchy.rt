@@ -1,11 +1,12 @@
 //! A family with what its members are found by.
 
-ghost use Rattle.std.specs.Prelude.{◌≡◌, IfOk, option_map, option_to_list, slice_get};
+ghost use Rattle.std.specs.Prelude.{◌≡◌, ℕ, IfOk, IsTrue, option_map, option_to_list, slice_get};
+ghost use Rattle.std.specs.Option.{is_none};
 ghost use Rattle.loading.specs.Families.{IsFamily, superclass_in, superclasses_in};
 ghost use Rattle.hierarchy.specs.steps.HierarchyTables.{wanted_in};
 ghost use Rattle.built_in.specs.Keys.{NameAndType};
 ghost use Rattle.hierarchy.specs.steps.MemberIndexes.{IsLookup};
-ghost use Rattle.hierarchy.specs.MemberLookup.{flags_in, member_flags, is_inherited, key_in, key_of};
+ghost use Rattle.hierarchy.specs.MemberLookup.{flags_in, member_flags, is_inherited, key_in, key_of, method_in};
 ghost use Rattle.hierarchy.specs.Resolution.{instance_method_in};
 ghost use Rattle.hierarchy.specs.steps.InterfaceLists.{AreInterfaceLists, IsInterfaceList};
 
@@ -134,6 +135,16 @@ impl Hierarchy {
                 }
             }
         }
+    }
+
+    /// Whether there are no numbers, so that no given class has such a method.
+    pub(crate) fn is_unknown(&self, key: Option<MemberKey>) -> bool
+        ensures value { result ≡ is_none key }
+        ensures methods { (name : NameAndType) (class : ℕ) → IsLookup self.now.texts name key → IsTrue result
+            → method_in self.now.family name class ≡ None }
+    {
+        let _ = &self.table;
+        key.is_none()
     }
 
     /// The place of a class's method that is neither private nor static.

@@ -1,7 +1,13 @@
-use Rattle.hierarchy.proofs.DefaultsLemmas.{no_default}
+use Rattle.std.proofs.Common.{refl}
+use Rattle.hierarchy.proofs.DefaultsLemmas.{no_default, no_method}
 use Rattle.hierarchy.proofs.hierarchy.Hierarchy.the_default.Goals as goal
 
 pub returns : goal.returns
 returns c = λ name is.
     no_default c.args.self.now.family name c.args.class
     (λ some. (let yes = c.has_parents.ensures.1 some in let no = c.if-has_parents.false in cc))
+
+pub returns-then-is_unknown : goal.returns-then-is_unknown
+returns-then-is_unknown c = λ name is.
+    no_method c.args.self.now.family name c.args.class
+    (λ i. c.if-is_unknown.ensures.methods name i is refl)
