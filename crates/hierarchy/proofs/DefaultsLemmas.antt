@@ -1,170 +1,220 @@
--- The defaults among superinterfaces, as they are found one after another.
-use Rattle.std.proofs.Common.{◌≡◌, ◌≢◌, ℕ, zero, suc, ◌<◌, ◌⊎◌, true, false, List, [], ◌∷◌, ◌++◌, get_or, Some, None}
-use Rattle.std.proofs.Common.{MatchOption, refl, sym, ap, ◌∙◌, subst, inl, inr, arith}
-use Rattle.std.specs.List.{All, Contains}
-use Rattle.std.proofs.lemmas.List.Elements.{Contains-get_or, Contains-append_right, Contains-push_cases}
+-- The one default among superinterfaces, as methods are found one after another.
+use Rattle.std.proofs.Common.{◌≡◌, ◌↔◌, ◌<◌, length, ℕ, Bool, true, false, cond, eqb, List, [], ◌∷◌, ◌++◌, Option}
+use Rattle.std.proofs.Common.{Some, None}
+use Rattle.std.proofs.Common.{MatchOption, refl, sym, ap, ◌∙◌, subst, inl, inr, arith, is_some}
+use Rattle.std.specs.List.{Contains}
+use Rattle.std.proofs.lemmas.Bool.{eqb-true, eq-eqb}
+use Rattle.std.proofs.lemmas.List.Elements.{Contains-append_left, Contains-push, Contains-push_cases}
+use Rattle.std.proofs.lemmas.List.Elements.{All-contains}
 use Rattle.built_in.specs.Keys.{NameAndType}
-use Rattle.loading.specs.Families.{Family, IsFamily, IsAncestor, parent, is_interface_in, interfaces_in}
-use Rattle.loading.specs.Families.{superclasses_in}
-use Rattle.hierarchy.specs.steps.InterfaceLists.{IsInterfaceList}
+use Rattle.loading.specs.Families.{Family, IsFamily, IsAncestor, parent, further, parents_in, is_interface_in}
+use Rattle.graph.specs.steps.Adds.{Adds}
+use Rattle.hierarchy.specs.steps.InterfaceLists.{IsAmongOrAbove}
 use Rattle.hierarchy.specs.MemberLookup.{interface_method_in, IsDefault, IsTheDefault, HasNoDefault, flags_in}
-use Rattle.hierarchy.specs.MemberLookup.{is_abstract}
-use Rattle.hierarchy.specs.steps.Defaults.{IsOverriding, AreDefaults, nothing, one, several, only_of}
-use Rattle.hierarchy.specs.declared.defaults.Defaults.{Defaults}
-use Rattle.hierarchy.specs.declared.defaults.Defaults.TheVariants as defaults
-use Rattle.hierarchy.proofs.InterfaceListsAncestorLemmas.{above_interfaces, ways_up, ancestor_through}
-use Rattle.loading.proofs.PlaceLemmas.{contains_at}
-use Rattle.hierarchy.proofs.DefaultsTestLemmas.{is_an_interface}
+use Rattle.hierarchy.specs.MemberLookup.{is_abstract, is_inherited, keep_if, method_in, method_with}
+use Rattle.hierarchy.specs.steps.Defaults.{AreFound, nothing, one, several, found_with, found_after, only_of}
+use Rattle.hierarchy.specs.steps.Defaults.{HasMethod, IsFree, AreCovered, AreParentsOf}
+use Rattle.hierarchy.specs.declared.defaults.Found.{Found}
+use Rattle.hierarchy.specs.declared.defaults.Found.TheVariants as found
+use Rattle.hierarchy.proofs.InterfaceListsAncestorLemmas.{ancestor_through}
+use Rattle.hierarchy.proofs.MarkedLemmas.{by_parent}
 
--- ---- a superinterface with the method
+-- ---- one more class
 
--- it is a default if nothing overrides it and it has code
-pub is_default : (family : Family) (key : NameAndType) (c i k : ℕ) → IsAncestor family c i
-    → interface_method_in family key i ≡ Some k
-    → is_abstract (flags_in family i k) ≡ false → ((j : ℕ) → IsAncestor family c j → ¬ IsOverriding family key i j)
-    → IsDefault family key c i k
-is_default family key c i k up has code free =
-    (((up, has), λ j l other below. free j other.0 ((l, other.1), below)), code)
+module _ (Is : ℕ → ℕ → Type 0) (seen : List ℕ) (x : ℕ) where
+  still : (i : ℕ) → Contains seen i → Contains (seen ++ x ∷ []) i
+  still i has = Contains-append_left seen (x ∷ []) i has
 
-pub not_overridden : (family : Family) (key : NameAndType) (c i j : ℕ) → IsAncestor family c j
-    → IsOverriding family key i j
-    → (k : ℕ) → ¬ IsDefault family key c i k
-not_overridden family key c i j up over k default = default.0.1 j over.0.0 (up, over.0.1) over.1
+  none_there : ((k : ℕ) → ¬ Is x k) → (j l : ℕ) → Contains (seen ++ x ∷ []) j → Is j l → Contains seen j
+  none_there none j l has is = elim (Contains-push_cases seen x j has) [
+    | inl before ↦ before
+    | inr last ↦ absurd (none l (subst (λ (n : ℕ). Is n l) (sym last) is))
+  ]
 
-pub not_abstract : (family : Family) (key : NameAndType) (c i k : ℕ) → interface_method_in family key i ≡ Some k
-    → is_abstract (flags_in family i k) ≡ true → (l : ℕ) → ¬ IsDefault family key c i l
-not_abstract family key c i k has abstract l default =
-    let same : Some k ≡ Some l = sym has ∙ default.0.0.1 in
-    let k_is : k ≡ l = cc in
-    let clash : true ≡ false = sym abstract ∙ ap (λ (n : ℕ). is_abstract (flags_in family i n)) k_is ∙ default.1 in
-    cc
+  no_more : (before : Found) → ((k : ℕ) → ¬ Is x k) → AreFound Is seen before → AreFound Is (seen ++ x ∷ []) before
+  no_more found.Nothing none (nothing free) = nothing (λ i k has is. free i k (none_there none i k has is) is)
+  no_more (found.One i k) none (one among p only) =
+      one (still i among) p (λ j l has is. only j l (none_there none j l has is) is)
+  no_more found.Several none (several {i = i} {j = j} a p b q differ) = several (still i a) p (still j b) q differ
 
-pub without_method : (family : Family) (key : NameAndType) (c i : ℕ) → interface_method_in family key i ≡ None → (l : ℕ)
-    → ¬ IsDefault family key c i l
-without_method family key c i none l default = let clash : None ≡ Some l = sym none ∙ default.0.0.1 in cc
+  with_one : (before : Found) (k : ℕ) → Is x k → AreFound Is seen before
+      → AreFound Is (seen ++ x ∷ []) (found_with before x k)
+  with_one found.Nothing k is (nothing free) =
+      one (Contains-push seen x) is (λ j l has other. elim (Contains-push_cases seen x j has) [
+        | inl before ↦ absurd (free j l before other)
+        | inr last ↦ sym last
+      ])
+  with_one (found.One i l) k is (one among p only) = by (eqb i x) refl
+    where
+      by : (b : Bool) → eqb i x ≡ b → AreFound Is (seen ++ x ∷ []) (cond b (found.One i l) found.Several)
+      by true e = one (still i among) p (λ j m has other. elim (Contains-push_cases seen x j has) [
+        | inl before ↦ only j m before other
+        | inr last ↦ sym last ∙ sym (eqb-true i x e)
+      ])
+      by false e = several (still i among) p (Contains-push seen x) is
+          (λ (same : i ≡ x). (let clash : true ≡ false = sym (eq-eqb i x same) ∙ e in cc))
+  with_one found.Several k is (several {i = i} {j = j} a p b q differ) = several (still i a) p (still j b) q differ
 
--- ---- one more superinterface
+  pub one_more : (before : Found) (index : Option ℕ) → MatchOption index ((k : ℕ) → ¬ Is x k) (Is x)
+      → AreFound Is seen before → AreFound Is (seen ++ x ∷ []) (found_after before x index)
+  one_more before None none are = no_more before none are
+  one_more before (Some k) is are = with_one before k is are
 
-module _ (family : Family) (key : NameAndType) (c : ℕ) (seen : List ℕ) (x : ℕ) where
-  pub several_stay : AreDefaults family key c seen defaults.Several
-      → AreDefaults family key c (seen ++ x ∷ []) defaults.Several
-  several_stay (several p q differ) = several p q differ
+-- before the first one
+pub none_yet : (Is : ℕ → ℕ → Type 0) → AreFound Is [] found.Nothing
+none_yet Is = nothing (λ i k has. absurd (omega (arith, has.1)))
 
-  pub one_again : (k : ℕ) → AreDefaults family key c seen (defaults.One x k)
-      → AreDefaults family key c (seen ++ x ∷ []) (defaults.One x k)
-  one_again k (one p only) = one p (λ j l has default. elim (Contains-push_cases seen x j has) [
-    | inl before ↦ only j l before default
-    | inr last ↦ sym last
-  ])
+-- a class has the method at the place where it is found, or nowhere
+pub at_place : (family : Family) (key : NameAndType) (i : ℕ) (index : Option ℕ)
+    → index ≡ interface_method_in family key i
+    → MatchOption index ((k : ℕ) → ¬ HasMethod family key i k) (HasMethod family key i)
+at_place family key i None e = λ k has. (let clash : None ≡ Some k = e ∙ has in cc)
+at_place family key i (Some k) e = sym e
 
-  pub no_more : (found : Defaults) → ((k : ℕ) → ¬ IsDefault family key c x k) → AreDefaults family key c seen found
-      → AreDefaults family key c (seen ++ x ∷ []) found
-  no_more defaults.Nothing none (nothing free) = nothing (λ i k has default. elim (Contains-push_cases seen x i has) [
-    | inl before ↦ free i k before default
-    | inr last ↦ none k (subst (λ (n : ℕ). IsDefault family key c n k) (sym last) default)
-  ])
-  no_more (defaults.One i k) none (one p only) = one p (λ j l has default. elim (Contains-push_cases seen x j has) [
-    | inl before ↦ only j l before default
-    | inr last ↦ absurd (none l (subst (λ (n : ℕ). IsDefault family key c n l) (sym last) default))
-  ])
-  no_more defaults.Several none (several p q differ) = several p q differ
+pub some_by : (o : Option ℕ) → is_some o ≡ true → (l : ℕ) × (o ≡ Some l)
+some_by None e = absurd cc
+some_by (Some l) e = (l, refl)
 
-  pub first_one : (k : ℕ) → AreDefaults family key c seen defaults.Nothing → IsDefault family key c x k
-      → AreDefaults family key c (seen ++ x ∷ []) (defaults.One x k)
-  first_one k (nothing free) default = one default (λ j l has other. elim (Contains-push_cases seen x j has) [
-    | inl before ↦ absurd (free j l before other)
-    | inr last ↦ sym last
-  ])
+pub none_by : (o : Option ℕ) → is_some o ≡ false → o ≡ None
+none_by None e = refl
+none_by (Some l) e = absurd cc
 
-  pub second_one : (i k l : ℕ) → AreDefaults family key c seen (defaults.One i k) → i ≢ x → IsDefault family key c x l
-      → AreDefaults family key c (seen ++ x ∷ []) defaults.Several
-  second_one i k l (one p only) differ default = several p default differ
+-- ---- what stands above the candidates
+
+module _ (family : Family) (key : NameAndType) (seen : List ℕ) where
+  pub parents_with : (x l : ℕ) (old new : List ℕ) → HasMethod family key x l → AreParentsOf family key seen old
+      → Adds old (parents_in family x) new → AreParentsOf family key (seen ++ x ∷ []) new
+  parents_with x l old new has are a m = (
+    λ among. elim (a.only m among) [
+      | inl before ↦ (let at = (are m).0 before in (at.0, Contains-append_left seen (x ∷ []) at.0 at.1, at.2, at.3))
+      | inr edge ↦ (x, Contains-push seen x, (l, has), edge)
+    ],
+    λ at. elim (Contains-push_cases seen x at.0 at.1) [
+      | inl before ↦ a.keeps m ((are m).1 (at.0, before, at.2, at.3))
+      | inr last ↦
+          All-contains (Contains new) (parents_in family x) m a.added
+          (subst (λ (j : ℕ). Contains (parents_in family j) m) (sym last) at.3)
+    ],
+  )
+
+  pub parents_without : (x : ℕ) (old : List ℕ) → interface_method_in family key x ≡ None
+      → AreParentsOf family key seen old → AreParentsOf family key (seen ++ x ∷ []) old
+  parents_without x old none are m = (
+    λ among. (let at = (are m).0 among in (at.0, Contains-append_left seen (x ∷ []) at.0 at.1, at.2, at.3)),
+    λ at. elim (Contains-push_cases seen x at.0 at.1) [
+      | inl before ↦ (are m).1 (at.0, before, at.2, at.3)
+      | inr last ↦
+          let clash : None ≡ Some at.2.0 = sym none ∙ ap (interface_method_in family key) last ∙ at.2.1 in
+          absurd cc
+    ],
+  )
+
+pub no_parents : (family : Family) (key : NameAndType) → AreParentsOf family key [] []
+no_parents family key m = (λ among. absurd (omega (arith, among.1)), λ at. absurd (omega (arith, at.1.1)))
+
+-- the parents of the candidates and all above them
+pub covered_by : (family : Family) (key : NameAndType) (seen parents covered : List ℕ)
+    → AreParentsOf family key seen parents → ((m : ℕ) → Contains covered m ↔ IsAmongOrAbove family parents m)
+    → AreCovered family key seen covered
+covered_by family key seen parents covered are all m = (
+  λ among. elim ((all m).0 among) [
+    | inl low ↦ (let at = (are m).0 low in (at.0, at.1, (at.2, parent at.3)))
+    | inr high ↦
+        let at = (are high.0).0 high.1 in (at.0, at.1, (at.2, ancestor_through (parent at.3) high.2))
+  ],
+  λ at. (all m).1 (elim (by_parent family at.0 m at.2.1) [
+    | inl edge ↦ inl ((are m).1 (at.0, at.1, at.2.0, edge))
+    | inr more ↦ inr (more.0, (are more.0).1 (at.0, at.1, at.2.0, more.1), more.2)
+  ]),
+)
 
 -- ---- all superinterfaces
 
-module _ (family : Family) (key : NameAndType) (c : ℕ) (seen : List ℕ)
-    (all : (j : ℕ) → IsAncestor family c j → is_interface_in family j ≡ true → Contains seen j) where
-  default_is_seen : (j l : ℕ) → IsDefault family key c j l → Contains seen j
-  default_is_seen j l default = all j default.0.0.0 (is_an_interface family key j l default.0.0.1)
+-- where no class has the method
+pub no_method : (family : Family) (key : NameAndType) (c : ℕ) → ((i : ℕ) → method_in family key i ≡ None)
+    → HasNoDefault family key c
+no_method family key c none = λ i k the. by (is_interface_in family i) i k (the.0.0.0.1)
+  where
+    by : (b : Bool) (i k : ℕ) → cond b (method_with is_inherited family key i) None ≡ Some k → ⊥
+    by true i k e =
+        let nothing : method_with is_inherited family key i ≡ None =
+        ap (keep_if is_inherited (flags_in family i)) (none i) in
+        let clash : None ≡ Some k = sym nothing ∙ e in
+        cc
+    by false i k e = cc
 
-  pub when_all_seen : (found : Defaults) → AreDefaults family key c seen found
-      → MatchOption (only_of found) (HasNoDefault family key c) (λ x. IsTheDefault family key c x.class x.index)
-  when_all_seen defaults.Nothing (nothing free) = λ i k the. free i k (default_is_seen i k the.0) the.0
-  when_all_seen (defaults.One i k) (one p only) = (
-    p,
+-- a class without parents has none
+pub no_ancestor : (family : Family) (c j : ℕ) → (0 < length (parents_in family c) → ⊥) → ¬ IsAncestor family c j
+no_ancestor family c j none (parent has) = none (omega (arith, has.1))
+no_ancestor family c j none (further {d = d} up has) = no_ancestor family c d none up
+
+pub no_default : (family : Family) (key : NameAndType) (c : ℕ) → (0 < length (parents_in family c) → ⊥)
+    → HasNoDefault family key c
+no_default family key c none = λ i k the. no_ancestor family c i none the.0.0.0.0
+
+module _ (family : Family) (key : NameAndType) (c : ℕ) (seen : List ℕ)
+    (ancestors : (m : ℕ) → Contains seen m ↔ IsAncestor family c m) where
+  -- no candidate at all
+  pub none_is_default : AreFound (HasMethod family key) seen found.Nothing → HasNoDefault family key c
+  none_is_default (nothing free) = λ i k the. free i k ((ancestors i).1 the.0.0.0.0) the.0.0.0.1
+
+  -- the only candidate
+  pub only_is_default : (i k : ℕ) → IsFamily family → is_abstract (flags_in family i k) ≡ false
+      → AreFound (HasMethod family key) seen (found.One i k) → IsTheDefault family key c i k
+  only_is_default i k fits code (one among has only) = (
+    (
+      (
+        ((ancestors i).0 among, has),
+        λ j l other below. fits.acyclic i
+            (subst (λ (x : ℕ). IsAncestor family x i) (only j l ((ancestors j).1 other.0) other.1) below),
+      ),
+      code,
+    ),
     λ j l default.
-        let same : j ≡ i = only j l (default_is_seen j l default) default in
-        let places : Some l ≡ Some k = sym default.0.0.1 ∙ ap (interface_method_in family key) same ∙ p.0.0.1 in
+        let same : j ≡ i = only j l ((ancestors j).1 default.0.0.0) default.0.0.1 in
+        let places : Some l ≡ Some k = sym default.0.0.1 ∙ ap (interface_method_in family key) same ∙ has in
         (same, cc),
   )
-  when_all_seen defaults.Several (several {i = i} {j = j} {k = k} {l = l} p q differ) = λ m n the.
-      differ ((the.1 i k p).0 ∙ sym (the.1 j l q).0)
 
--- ---- from class to class
+  pub only_is_abstract : (i k : ℕ) → is_abstract (flags_in family i k) ≡ true
+      → AreFound (HasMethod family key) seen (found.One i k) → HasNoDefault family key c
+  only_is_abstract i k abstract (one among has only) = λ j l the.
+      let same : j ≡ i = only j l ((ancestors j).1 the.0.0.0.0) the.0.0.0.1 in
+      let places : Some l ≡ Some k = sym the.0.0.0.1 ∙ ap (interface_method_in family key) same ∙ has in
+      let place : l ≡ k = cc in
+      let clash : true ≡ false = sym abstract ∙ ap (λ (n : ℕ). is_abstract (flags_in family n k)) (sym same)
+      ∙ ap (λ (n : ℕ). is_abstract (flags_in family j n)) (sym place) ∙ the.0.1 in
+      cc
 
-pub all_in_list : (family : Family) (at : ℕ) (list : List ℕ) (c : ℕ) → IsInterfaceList family at list
-    → ((j : ℕ) → IsAncestor family at j → IsAncestor family c j) → All (IsAncestor family c) list
-all_in_list family at list c is above = λ k d within.
-    above (get_or list k d)
-    (above_interfaces family at (get_or list k d)
-    ((is.members (get_or list k d)).0 (Contains-get_or list k d within)))
+  module _ (covered : List ℕ) (are : AreCovered family key seen covered) where
+    free_is_default : (i k : ℕ) → Contains seen i → IsFree family key covered i k → IsDefault family key c i k
+    free_is_default i k among free = (
+      (
+        ((ancestors i).0 among, free.0),
+        λ j l other below. free.2 ((are i).1 (j, (ancestors j).1 other.0, ((l, other.1), below))),
+      ),
+      free.1,
+    )
 
--- an ancestor that is an interface is in a class's list, or above its superclass
-pub in_list_or_above : (family : Family) (at : ℕ) (list : List ℕ) (j : ℕ) → IsFamily family
-    → IsInterfaceList family at list → IsAncestor family at j
-    → is_interface_in family j ≡ true → Contains list j
-    ⊎ ((e : ℕ) × Contains (superclasses_in family at) e × IsAncestor family e j)
-in_list_or_above family at list j fits is up interface =
-    elim (ways_up up) [
-      | inl low ↦ inl ((is.members j).1 low)
-      | inr high ↦ inr (
-        high.0,
-        high.1,
-        elim high.2 [
-          | inl same ↦
-              let clash : true ≡ false = sym interface ∙ ap (is_interface_in family) same
-              ∙ fits.classes at high.0 high.1 in
-              absurd cc
-          | inr above ↦ above
-        ],
-      )
-    ]
+    default_is_free : (i k : ℕ) → IsDefault family key c i k → IsFree family key covered i k
+    default_is_free i k default = (
+      default.0.0.1,
+      default.1,
+      λ among.
+          let over = (are i).0 among in
+          default.0.1 over.0 over.2.0.0 ((ancestors over.0).0 over.1, over.2.0.1) over.2.1,
+    )
 
-only_element : (x y : ℕ) → Contains (x ∷ []) y → x ≡ y
-only_element x y has = by has.0 has.1 has.2
-  where
-    by : (k : ℕ) → k < 1 → get_or (x ∷ []) k y ≡ y → x ≡ y
-    by zero h e = e
-    by (suc k) h e = absurd (omega arith)
-
-module _ (family : Family) (at : ℕ) (list : List ℕ) (fits : IsFamily family) (is : IsInterfaceList family at list) where
-  -- where there is a given superclass
-  pub next_up : (above j : ℕ) → superclasses_in family at ≡ above ∷ [] → IsAncestor family at j
-      → is_interface_in family j ≡ true
-      → Contains list j ⊎ IsAncestor family above j
-  next_up above j parents up interface =
-      elim (in_list_or_above family at list j fits is up interface) [
-        | inl low ↦ inl low
-        | inr high ↦
-            let same = only_element above high.0 (subst (λ (l : List ℕ). Contains l high.0) parents high.1) in
-            inr (subst (λ (x : ℕ). IsAncestor family x j) (sym same) high.2)
-      ]
-
-  -- and where there is none
-  pub last_up : (j : ℕ) → superclasses_in family at ≡ [] → IsAncestor family at j → is_interface_in family j ≡ true
-      → Contains list j
-  last_up j none up interface =
-      elim (in_list_or_above family at list j fits is up interface) [
-        | inl low ↦ low
-        | inr high ↦
-            let has : Contains [] high.0 = subst (λ (l : List ℕ). Contains l high.0) none high.1 in
-            absurd (omega (arith, has.1))
-      ]
-
--- what is above the superclass is above the class
-pub above_superclass : (family : Family) (c d j : ℕ) → superclasses_in family c ≡ d ∷ [] → IsAncestor family d j
-    → IsAncestor family c j
-above_superclass family c d j parents up =
-    let super = parent (Contains-append_right (interfaces_in family c) (superclasses_in family c) d
-    (subst (λ (l : List ℕ). Contains l d) (sym parents) (contains_at (d ∷ []) 0 d refl))) in
-    ancestor_through super up
+    pub when_all_seen : (all : Found) → AreFound (IsFree family key covered) seen all
+        → MatchOption (only_of all) (HasNoDefault family key c) (λ x. IsTheDefault family key c x.class x.index)
+    when_all_seen found.Nothing (nothing free) = λ i k the.
+        free i k ((ancestors i).1 the.0.0.0.0) (default_is_free i k the.0)
+    when_all_seen (found.One i k) (one among p only) = (
+      free_is_default i k among p,
+      λ j l default.
+          let same : j ≡ i = only j l ((ancestors j).1 default.0.0.0) (default_is_free j l default) in
+          let places : Some l ≡ Some k = sym default.0.0.1 ∙ ap (interface_method_in family key) same ∙ p.0 in
+          (same, cc),
+    )
+    when_all_seen found.Several (several {i = i} {j = j} {k = k} {l = l} a p b q differ) = λ m n the.
+        differ ((the.1 i k (free_is_default i k a p)).0 ∙ sym (the.1 j l (free_is_default j l b q)).0)

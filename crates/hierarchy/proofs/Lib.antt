@@ -6,7 +6,8 @@ pub mod FamiliesChainLemmas
 pub mod SearchLemmas
 pub mod MemberLookupLemmas
 pub mod InterfaceListsAncestorLemmas
-pub mod DefaultsTestLemmas
+pub mod MarkLemmas
+pub mod MarkedLemmas
 pub mod DefaultsLemmas
 pub mod JoinedLemmas
 pub mod InterfaceListsLemmas

@@ -14,3 +14,4 @@ pub mod Sweeps
 pub mod Tops
 pub mod NearestMethods
 pub mod WholeHierarchies
+pub mod Marked

@@ -1,6 +1,8 @@
 //! A family with what its members are found by.
 
-ghost use Rattle.std.specs.Prelude.{◌≡◌, ◌<◌, Some, length, IfOk, IsSome, option_map, option_to_list, slice_get};
+ghost use Rattle.std.specs.Prelude.{◌≡◌, ◌<◌, ℕ, Some, None, length, IfOk, IsSome, IsTrue, option_map, slice_get};
+ghost use Rattle.std.specs.Prelude.{option_to_list};
+ghost use Rattle.std.specs.Option.{is_none};
 ghost use Rattle.built_in.specs.declared.class_id.BuiltIn.{BuiltIn as Top};
 ghost use Rattle.hierarchy.specs.steps.NearestMethods.{AreNearest, wanted_of};
 ghost use Rattle.hierarchy.specs.steps.Reaches.{Nearest};
@@ -10,7 +12,7 @@ ghost use Rattle.hierarchy.specs.steps.HierarchyTables.{wanted_in};
 ghost use Rattle.hierarchy.specs.steps.MemberTables.{IsTableOf};
 ghost use Rattle.built_in.specs.Keys.{NameAndType};
 ghost use Rattle.hierarchy.specs.steps.MemberIndexes.{IsLookup};
-ghost use Rattle.hierarchy.specs.MemberLookup.{flags_in, member_flags, is_inherited, key_in, key_of};
+ghost use Rattle.hierarchy.specs.MemberLookup.{flags_in, member_flags, is_inherited, key_in, key_of, method_in};
 ghost use Rattle.hierarchy.specs.Resolution.{instance_method_in};
 ghost use Rattle.hierarchy.specs.steps.InterfaceLists.{AreInterfaceLists, IsInterfaceList};
 
@@ -148,6 +150,16 @@ impl Hierarchy {
     {
         let file = self.family.file(class)?;
         names_at(file, index)
+    }
+
+    /// Whether there are no numbers, so that no given class has such a method.
+    pub(crate) fn is_unknown(&self, key: Option<MemberKey>) -> bool
+        ensures value { result ≡ is_none key }
+        ensures methods { (name : NameAndType) (class : ℕ) → IsLookup self.now.texts name key → IsTrue result
+            → method_in self.now.family name class ≡ None }
+    {
+        let _ = &self.table;
+        key.is_none()
     }
 
     /// The place of a class's member of some kind.

@@ -9,6 +9,7 @@ mod depth_first;
 pub mod hierarchy;
 pub mod initialization;
 mod joined;
+mod marked;
 mod marks;
 pub mod member;
 mod member_index;

@@ -1,27 +1,58 @@
 -- What was found so far in a search for the one default (JVMS 5.4.3.3).
-use Rattle.std.specs.Prelude.{◌≡◌, ◌≢◌, ℕ, List, Option, Some, None}
+use Rattle.std.specs.Prelude.{◌≡◌, ◌≢◌, ◌↔◌, ◌==◌, ℕ, false, List, Option, Some, None, if◌then◌else◌}
 use Rattle.std.specs.List.{Contains}
 use Rattle.built_in.specs.Keys.{NameAndType}
-use Rattle.loading.specs.Families.{Family, IsAncestor}
-use Rattle.hierarchy.specs.MemberLookup.{interface_method_in, IsDefault}
-use Rattle.hierarchy.specs.declared.defaults.Defaults.{Defaults}
-use Rattle.hierarchy.specs.declared.defaults.Defaults.TheVariants as defaults
+use Rattle.loading.specs.Families.{Family, IsAncestor, parents_in}
+use Rattle.hierarchy.specs.MemberLookup.{interface_method_in, is_abstract, flags_in}
+use Rattle.hierarchy.specs.declared.defaults.Found.{Found}
+use Rattle.hierarchy.specs.declared.defaults.Found.TheVariants as found
 use Rattle.hierarchy.specs.declared.member.DeclaredMember.{DeclaredMember}
+
+-- Those of some classes with a method of some kind: none, one with its method's place, or several.
+pub data AreFound (Is : ℕ → ℕ → Type 0) (seen : List ℕ) : Found → Type 0 where
+  nothing : ((i k : ℕ) → Contains seen i → ¬ Is i k) → AreFound Is seen found.Nothing
+  one : {i k : ℕ} → Contains seen i → Is i k → ((j l : ℕ) → Contains seen j → Is j l → j ≡ i)
+      → AreFound Is seen (found.One i k)
+  several : {i j k l : ℕ} → Contains seen i → Is i k → Contains seen j → Is j l → i ≢ j
+      → AreFound Is seen found.Several
+
+-- one more method was found
+abbrev pub found_with : Found → ℕ → ℕ → Found
+found_with found.Nothing class index = found.One class index
+found_with (found.One i k) class index = if i == class then found.One i k else found.Several
+found_with found.Several class index = found.Several
+
+abbrev pub found_after : Found → ℕ → Option ℕ → Found
+found_after before class None = before
+found_after before class (Some index) = found_with before class index
+
+abbrev pub only_of : Found → Option DeclaredMember
+only_of found.Nothing = None
+only_of (found.One i k) = Some (record { class = i; index = k })
+only_of found.Several = None
+
+-- ---- methods of interfaces
+
+-- an interface has the method at this place
+abbrev pub HasMethod : Family → NameAndType → ℕ → ℕ → Type 0
+HasMethod family key i k = interface_method_in family key i ≡ Some k
 
 -- an interface is below another one and has the method
 abbrev pub IsOverriding : Family → NameAndType → ℕ → ℕ → Type 0
-IsOverriding family key i j = ((l : ℕ) × (interface_method_in family key j ≡ Some l)) × IsAncestor family j i
+IsOverriding family key i j = ((l : ℕ) × HasMethod family key j l) × IsAncestor family j i
 
--- The defaults of a class among some interfaces.
-pub data AreDefaults (family : Family) (key : NameAndType) (c : ℕ) (seen : List ℕ) : Defaults → Type 0 where
-  nothing : ((i k : ℕ) → Contains seen i → ¬ IsDefault family key c i k)
-      → AreDefaults family key c seen defaults.Nothing
-  one : {i k : ℕ} → IsDefault family key c i k → ((j l : ℕ) → Contains seen j → IsDefault family key c j l → j ≡ i)
-      → AreDefaults family key c seen (defaults.One i k)
-  several : {i j k l : ℕ} → IsDefault family key c i k → IsDefault family key c j l → i ≢ j
-      → AreDefaults family key c seen defaults.Several
+-- what stands above one of some classes that has the method
+abbrev pub AreCovered : Family → NameAndType → List ℕ → List ℕ → Type 0
+AreCovered family key classes covered =
+    (m : ℕ) → Contains covered m ↔ ((j : ℕ) × Contains classes j × IsOverriding family key m j)
 
-abbrev pub only_of : Defaults → Option DeclaredMember
-only_of defaults.Nothing = None
-only_of (defaults.One i k) = Some (record { class = i; index = k })
-only_of defaults.Several = None
+-- and its parents alone
+abbrev pub AreParentsOf : Family → NameAndType → List ℕ → List ℕ → Type 0
+AreParentsOf family key classes parents =
+    (m : ℕ) → Contains parents m
+    ↔ ((j : ℕ) × Contains classes j × ((l : ℕ) × HasMethod family key j l) × Contains (parents_in family j) m)
+
+-- a method that is not abstract, of an interface that is not covered
+abbrev pub IsFree : Family → NameAndType → List ℕ → ℕ → ℕ → Type 0
+IsFree family key covered i k =
+    HasMethod family key i k × (is_abstract (flags_in family i k) ≡ false) × (¬ Contains covered i)

@@ -1,0 +1,15 @@
+use Rattle.std.proofs.Common.{◌↔◌, ℕ, subst}
+use Rattle.std.specs.List.{Contains}
+use Rattle.loading.specs.Families.{Family}
+use Rattle.hierarchy.specs.steps.InterfaceLists.{IsAmongOrAbove}
+use Rattle.hierarchy.proofs.DefaultsLemmas.{covered_by}
+use Rattle.hierarchy.proofs.hierarchy.Hierarchy.above_candidates.Goals as goal
+
+pub returns : goal.returns
+returns c = λ name is.
+    let parents = c.parents_of_candidates-covered.result in
+    let covered = c.add_above.new.self in
+    covered_by c.args.self.now.family name c.args.classes.now parents covered
+    (c.parents_of_candidates-covered.ensures name is)
+    (subst (λ (f : Family). (m : ℕ) → Contains covered m ↔ IsAmongOrAbove f parents m) c.family.ensures
+    c.add_above.ensures)
