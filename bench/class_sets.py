@@ -89,7 +89,53 @@ def interface_chain(count):
     return [interface("I%d" % number, ["I%d" % (number - 1)] if number else []) for number in range(count)]
 
 
-KINDS = {kind.__name__: kind for kind in (small, chain, chain_of_references, interface_chain)}
+def references(pool, tag, owner, names, count):
+    """So many references to members of a class, as entries of their own, by these names in turn."""
+    class_entry = pool.named(7, owner)
+    for number in range(count):
+        entry = struct.pack(">BHH", tag, class_entry, pool.name_and_type(names[number % len(names)], "()V"))
+        pool.add_again(entry)
+
+
+def many_defaults(count):
+    """An interface below so many others, all with the same default method, and ten times as many equal references."""
+    tops = ["I%d" % number for number in range(count)]
+
+    def members(pool):
+        references(pool, 10, "Main", ["run"], 10 * count)
+        return [], []
+    files = [interface(top) for top in tops]
+    files.append(interface("Low", tops))
+    files.append(class_file("Main", OBJECT, ["Low"], members=members))
+    return files
+
+
+def long_name(count):
+    """One class with so many equal references to a method of a name of 65,000 bytes that nobody has."""
+    def members(pool):
+        references(pool, 10, "Main", ["a" * 65000], count)
+        return [], []
+    return [class_file("Main", members=members)]
+
+
+def far_references(count):
+    """A chain of so many classes, and one below it with as many references to methods of the first, all distinct."""
+    names = ["m%d" % number for number in range(count)]
+
+    def first(pool):
+        return [], [method(pool, 0x1, name, "()V", b"\xb1") for name in names]
+
+    def last(pool):
+        references(pool, 10, "Last", names, count)
+        return [], []
+    files = [class_file("C%d" % number, "C%d" % (number - 1) if number else OBJECT, members=None if number else first)
+             for number in range(count)]
+    files.append(class_file("Last", "C%d" % (count - 1), members=last))
+    return files
+
+
+KINDS = {kind.__name__: kind for kind in (small, chain, chain_of_references, interface_chain, many_defaults, long_name,
+                                         far_references)}
 
 
 def main():
