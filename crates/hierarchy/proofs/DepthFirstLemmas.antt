@@ -220,7 +220,8 @@ pub places_next : (order places : List ℕ) (count i : ℕ) → i < length order
 places_next order places count i small within len there c has = elim (cases_eq c (get_or order i 0)) [
   | inl equal ↦ (let below : get_or order i 0 < length places = omega (arith, within i 0 small, len) in
       let is : get_or (set places (get_or order i 0) i) c 0 ≡ i =
-      ap (λ d. get_or (set places (get_or order i 0) i) d 0) equal ∙ get_or-set_same places (get_or order i 0) i 0 below in
+      ap (λ d. get_or (set places (get_or order i 0) i) d 0) equal
+      ∙ get_or-set_same places (get_or order i 0) i 0 below in
       ap (slice_get order) is
       ∙ slice_get_read order (length order) i c refl small
       (equal ∙ get_or_default order i 0 c small))

@@ -87,31 +87,32 @@ pub table_with : (old new : MemberTable) (family : Family) (given : GivenClass) 
     → AreDistinct texts → IsIndex texts declared (place_of old.methods)
     → IsIndex texts (declared_after declared (length family) f methods) (place_of new.methods))
     → IsTableOf family old → IsTableOf (family ++ given ∷ []) new
-table_with old new family given numbers fields methods fs ms keeps distinct here pushed by_fields by_methods is = record {
-  distinct = distinct;
-  first = keeps 0 [] is.first;
-  count = omega (
-    arith,
-    ap length pushed,
-    length-append old.pools.items (numbers ∷ []),
-    is.count,
-    length-append family (given ∷ []),
-  );
-  pools = λ c f n of there. pools_next old.texts new.texts family given old.pools.items numbers keeps is.count here
-      is.pools c f n of (ap (λ l. slice_get l c) (sym pushed) ∙ there);
-  fields = index_same new.texts _ (λ c q. field_in (family ++ given ∷ []) q c) (place_of new.fields)
-      (one_class field_of (λ f. f.fields) (λ q. refl) (λ q f. refl) family given)
-      (subst (λ (l : List Member). IsIndex new.texts
-      (declared_after (λ c q. field_in family q c) (length family) given.file l) (place_of new.fields)) fs
-      (by_fields new.texts given.file _ here distinct
-      (grown old.texts new.texts _ (place_of old.fields) is.fields keeps distinct)));
-  methods = index_same new.texts _ (λ c q. method_in (family ++ given ∷ []) q c) (place_of new.methods)
-      (one_class method_of (λ f. f.methods) (λ q. refl) (λ q f. refl) family given)
-      (subst (λ (l : List Member). IsIndex new.texts
-      (declared_after (λ c q. method_in family q c) (length family) given.file l) (place_of new.methods)) ms
-      (by_methods new.texts given.file _ here distinct
-      (grown old.texts new.texts _ (place_of old.methods) is.methods keeps distinct)));
-}
+table_with old new family given numbers fields methods fs ms keeps distinct here pushed by_fields by_methods is =
+    record {
+      distinct = distinct;
+      first = keeps 0 [] is.first;
+      count = omega (
+        arith,
+        ap length pushed,
+        length-append old.pools.items (numbers ∷ []),
+        is.count,
+        length-append family (given ∷ []),
+      );
+      pools = λ c f n of there. pools_next old.texts new.texts family given old.pools.items numbers keeps is.count here
+          is.pools c f n of (ap (λ l. slice_get l c) (sym pushed) ∙ there);
+      fields = index_same new.texts _ (λ c q. field_in (family ++ given ∷ []) q c) (place_of new.fields)
+          (one_class field_of (λ f. f.fields) (λ q. refl) (λ q f. refl) family given)
+          (subst (λ (l : List Member). IsIndex new.texts
+          (declared_after (λ c q. field_in family q c) (length family) given.file l) (place_of new.fields)) fs
+          (by_fields new.texts given.file _ here distinct
+          (grown old.texts new.texts _ (place_of old.fields) is.fields keeps distinct)));
+      methods = index_same new.texts _ (λ c q. method_in (family ++ given ∷ []) q c) (place_of new.methods)
+          (one_class method_of (λ f. f.methods) (λ q. refl) (λ q f. refl) family given)
+          (subst (λ (l : List Member). IsIndex new.texts
+          (declared_after (λ c q. method_in family q c) (length family) given.file l) (place_of new.methods)) ms
+          (by_methods new.texts given.file _ here distinct
+          (grown old.texts new.texts _ (place_of old.methods) is.methods keeps distinct)));
+    }
 
 -- ---- a table of no classes
 

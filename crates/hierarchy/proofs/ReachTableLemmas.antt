@@ -1,5 +1,6 @@
 -- Rows of reaches: one more key, one more reach, and what reaches a place.
-use Rattle.std.proofs.Common.{◌≡◌, ℕ, zero, suc, ◌<◌, ◌≤◌, Bool, true, false, cond, List, [], ◌∷◌, ◌++◌, length, Option, Some}
+use Rattle.std.proofs.Common.{◌≡◌, ℕ, zero, suc, ◌<◌, ◌≤◌, Bool, true, false, cond, List, [], ◌∷◌, ◌++◌, length}
+use Rattle.std.proofs.Common.{Option, Some}
 use Rattle.std.proofs.Common.{None, Vec, Global, slice_get, fold, ltb, leb, get_or, refl, sym, ap, ◌∙◌, arith}
 use Rattle.std.proofs.lemmas.Bool.{ltb-true, lt-ltb, leb-true, leb-false, le-leb}
 use Rattle.std.proofs.lemmas.List.{get_or_default}
@@ -115,7 +116,8 @@ pub reaching_is : (row : List Reach) (place count : ℕ) → count ≤ length ro
     → last_nearest row count ≡ reaching row place
 reaching_is row place count small up beyond =
     sym (reaching_from row place count None small
-    (λ i a less at. leb-true a.from place (ap (λ (r : Reach). leb r.from place) (sym (get_or_from_slice_get row i a a at))
+    (λ i a less at. leb-true a.from place (ap (λ (r : Reach). leb r.from place)
+    (sym (get_or_from_slice_get row i a a at))
     ∙ up i a (omega arith) less))
     (λ i a more at. leb-false a.from place
     (ap (λ (r : Reach). leb r.from place) (sym (get_or_from_slice_get row i a a at))
@@ -130,6 +132,7 @@ pub parted : (row : List Reach) (place : ℕ) → GoUp row → (i j : ℕ) (d : 
 parted row place up i j d before small e =
     let later = leb-true (get_or row j d).from place e in
     let lower = up i j (get_or row i d) (get_or row j d) before
-    (slice_get_read row (length row) i (get_or row i d) refl (omega (arith, before, small)) (get_or_default row i d (get_or row i d) (omega (arith, before, small))))
+    (slice_get_read row (length row) i (get_or row i d) refl (omega (arith, before, small))
+    (get_or_default row i d (get_or row i d) (omega (arith, before, small))))
     (slice_get_read row (length row) j (get_or row j d) refl small (get_or_default row j d (get_or row j d) small)) in
     le-leb (get_or row i d).from place (omega (arith, later, lower))

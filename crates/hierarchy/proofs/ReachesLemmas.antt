@@ -86,7 +86,8 @@ module _ (family : Family) (own : ℕ → Option ℕ) (classes : List ℕ) where
   pub goes_then : (c : ℕ) (old mid new : List Reach) → Goes family own classes c old mid
       → Goes family own classes c mid new → Goes family own classes c old new
   goes_then c old mid new (inl same) (inl other) = inl (other ∙ same)
-  goes_then c old mid new (inl same) (inr moves) = inr (λ tells. moves (subst (Tells family own classes) (sym same) tells))
+  goes_then c old mid new (inl same) (inr moves) = inr (λ tells. moves
+      (subst (Tells family own classes) (sym same) tells))
   goes_then c old mid new (inr moves) (inl same) =
       inr (λ tells. subst (TellsAlone family own (classes ++ c ∷ [])) (sym same) (moves tells))
   goes_then c old mid new (inr moves) (inr further) =
@@ -140,9 +141,11 @@ module _ (family : Family) (own : ℕ → Option ℕ) (classes : List ℕ) where
       told q d at = elim (pushed_at classes c d q at) [
         | inl early ↦ alone.tells.told q d early
         | inr end ↦ (let further : reaching row q ≡ reaching row last =
-            beyond row q last (λ i a held. omega (arith, alone.none_beyond i a held, count)) (omega (arith, end.0, count)) in
+            beyond row q last (λ i a held. omega (arith, alone.none_beyond i a held, count))
+            (omega (arith, end.0, count)) in
             subst (λ e. Nearest family own e (reaching row q)) end.1
-            (subst (λ n. Nearest family own c n) (sym further) (same (reaching row last) (alone.tells.told last v there))))
+            (subst (λ n. Nearest family own c n) (sym further)
+            (same (reaching row last) (alone.tells.told last v there))))
       ]
         where
           beyond_from : (before : Option DeclaredMember) (xs : List Reach) (p m : ℕ)

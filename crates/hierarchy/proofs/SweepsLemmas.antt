@@ -68,7 +68,8 @@ named_by f m = record { name = text_at f m.name; descriptor = text_at f m.descri
 
 name_is : (f : ClassFile) (name : NameAndType) (m : Member) → is_named f name m ≡ true → named_by f m ≡ name
 name_is f name m e =
-    let parts = both_true (bytes_eq (text_at f m.name) name.name) (bytes_eq (text_at f m.descriptor) name.descriptor) e in
+    let parts = both_true (bytes_eq (text_at f m.name) name.name)
+    (bytes_eq (text_at f m.descriptor) name.descriptor) e in
     let n = (bytes_eq-Decides (text_at f m.name) name.name).0 parts.0 in
     let d = (bytes_eq-Decides (text_at f m.descriptor) name.descriptor).0 parts.1 in
     λ i. record { name = n i; descriptor = d i }
@@ -82,7 +83,8 @@ of_method : (family : Family) (name : NameAndType) (d k : ℕ) → method_in fam
     → Declares wanted.Method family name d
 of_method family name d k e = by (file_in family d) refl e
   where
-    by : (o : Option ClassFile) → file_in family d ≡ o → method_of name o ≡ Some k → Declares wanted.Method family name d
+    by : (o : Option ClassFile) → file_in family d ≡ o → method_of name o ≡ Some k
+        → Declares wanted.Method family name d
     by None at found = absurd cc
     by (Some f) at found =
         let member = first_passing (is_named f name) 0 f.methods k found in (
@@ -205,7 +207,8 @@ module _ (family : Family) (own : ℕ → Option ℕ) where
 abbrev pub StandsBelow : Family → ℕ → Option ℕ → Type 0
 StandsBelow family c at = (d : ℕ) → superclasses_in family c ≡ d ∷ [] → (v : ℕ) × (at ≡ Some v) × IsAtOrAbove family v d
 
-pub below_first : (family : Family) (before : Option ℕ) (c : ℕ) → MayFollow family before c → StandsBelow family c before
+pub below_first : (family : Family) (before : Option ℕ) (c : ℕ) → MayFollow family before c
+    → StandsBelow family c before
 below_first family before c (root is) d has = let clash : [] ≡ d ∷ [] = sym is ∙ has in absurd cc
 below_first family (Some b) c (below {d = e} is way) d has =
     let both : e ∷ [] ≡ d ∷ [] = sym is ∙ has in
@@ -255,7 +258,8 @@ pub entered : (m : Members) (classes : List ℕ) (before : Option ℕ) (c : ℕ)
     → IsLast classes before → MayFollow m.family before c → (name : NameAndType) (k : MemberKey)
     → AreNumbers m.texts name k → AllGo m classes c old mid → AllGo m classes c mid new
     → IsNoted m classes c old mid name
-    ⊎ ((r : Option DeclaredMember) → NearestFrom m.family (m.own name) before r → NearestAbove m.family (m.own name) c r)
+    ⊎ ((r : Option DeclaredMember) → NearestFrom m.family (m.own name) before r
+    → NearestAbove m.family (m.own name) c r)
     → IsNoted m classes c mid new name ⊎ (m.own name c ≡ None)
     → TellsAlone m.family (m.own name) classes (reaches_of old k)
     → TellsAlone m.family (m.own name) (classes ++ c ∷ []) (reaches_of new k)

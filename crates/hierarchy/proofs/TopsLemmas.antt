@@ -7,7 +7,8 @@ use Rattle.std.proofs.lemmas.List.{take_more, get_or_default}
 use Rattle.std.proofs.lemmas.List.Elements.{Contains-append_right, Contains-push_cases}
 use Rattle.std.proofs.lemmas.Option.{slice_get_read}
 use Rattle.built_in.specs.declared.class_id.BuiltIn.{BuiltIn}
-use Rattle.loading.specs.Families.{Family, IsParentsFirst, interfaces_in, superclasses_in, superclass_in, given_superclass}
+use Rattle.loading.specs.Families.{Family, IsParentsFirst, interfaces_in, superclasses_in, superclass_in}
+use Rattle.loading.specs.Families.{given_superclass}
 use Rattle.loading.specs.Families.{parents_in}
 use Rattle.loading.specs.declared.given.Superclass.TheVariants as super
 use Rattle.hierarchy.specs.steps.Tops.{IsTop}
@@ -34,7 +35,8 @@ above_known family order tops k first small count came d is within =
     let class : ℕ = get_or order k 0 in
     let one : superclasses_in family class ≡ d ∷ [] = ap given_superclass is in
     let before : Contains (take k order) d =
-    first.after k class d (slice_get_read order (length order) k class refl small (get_or_default order k 0 class small))
+    first.after k class d (slice_get_read order (length order) k class refl small
+    (get_or_default order k 0 class small))
     (Contains-append_right (interfaces_in family class) (superclasses_in family class) d
     (subst (λ l. Contains l d) (sym one) (contains_at (d ∷ []) 0 d refl))) in
     let top = there_is tops d (omega (arith, within, count)) in
@@ -44,7 +46,8 @@ pub tops_next : (family : Family) (order : List ℕ) (tops : List BuiltIn) (k : 
     → get_or order k 0 < length tops
     → ((c : ℕ) (b : BuiltIn) → Contains (take k order) c → slice_get tops c ≡ Some b → IsTop family c b)
     → IsTop family (get_or order k 0) top
-    → (c : ℕ) (b : BuiltIn) → Contains (take (k + 1) order) c → slice_get (slice_set tops (get_or order k 0) top) c ≡ Some b
+    → (c : ℕ) (b : BuiltIn) → Contains (take (k + 1) order) c
+    → slice_get (slice_set tops (get_or order k 0) top) c ≡ Some b
     → IsTop family c b
 tops_next family order tops k top small within came here c b has at = elim (cases_eq (get_or order k 0) c) [
   | inl equal ↦ (let is : Some top ≡ Some b = sym (set_here tops (get_or order k 0) top within)

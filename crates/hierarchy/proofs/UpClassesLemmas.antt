@@ -1,5 +1,6 @@
 -- Methods along superclasses, by the nearest class that declares one.
-use Rattle.std.proofs.Common.{◌≡◌, ℕ, zero, suc, ◌<◌, ◌≤◌, [], ◌∷◌, length, Option, Some, None, refl, sym, ap, ◌∙◌, subst}
+use Rattle.std.proofs.Common.{◌≡◌, ℕ, zero, suc, ◌<◌, ◌≤◌, [], ◌∷◌, length, Option, Some, None, refl, sym, ap, ◌∙◌}
+use Rattle.std.proofs.Common.{subst}
 use Rattle.std.proofs.Common.{arith, IsSome}
 use Rattle.built_in.specs.Keys.{NameAndType}
 use Rattle.built_in.specs.declared.class_id.BuiltIn.{BuiltIn}
@@ -84,7 +85,8 @@ none_declared family table kinds.Any name fits lacks c = by (method_in family na
     by (Some k) at = absurd (lacks (fits.methods.numbered c name k at))
 none_declared family table kinds.Instance name fits lacks c = by (method_in family name c) refl
   where
-    by : (o : Option ℕ) → method_in family name c ≡ o → keep_if is_inherited (flags_in family c) (method_in family name c) ≡ None
+    by : (o : Option ℕ) → method_in family name c ≡ o → keep_if is_inherited (flags_in family c)
+        (method_in family name c) ≡ None
     by None at = ap (keep_if is_inherited (flags_in family c)) at
     by (Some k) at = absurd (lacks (fits.methods.numbered c name k at))
 

@@ -1,6 +1,7 @@
 //! Classes in an order in which those below a class stand together, right behind it.
 
-ghost use Rattle.std.specs.Prelude.{◌≡◌, ℕ, ◌<◌, ◌≤◌, ◌∷◌, ◌++◌, [], Some, None, List, length, IfOk, OnOk, suc, pred, slice_get, option_to_list};
+ghost use Rattle.std.specs.Prelude.{◌≡◌, ℕ, ◌<◌, ◌≤◌, ◌∷◌, ◌++◌, [], Some, None, List, length, IfOk, OnOk, suc, pred};
+ghost use Rattle.std.specs.Prelude.{slice_get, option_to_list};
 ghost use Rattle.std.specs.List.{All, Contains};
 ghost use Rattle.loading.specs.Families.{superclasses_in};
 ghost use Rattle.hierarchy.specs.steps.DepthFirst.{IsRow, put_behind, Holds, IsWholeOrder, ArePlaces};

@@ -1,6 +1,7 @@
 //! The table of all members of a family.
 
-ghost use Rattle.std.specs.Prelude.{◌≡◌, ◌≤◌, ◌^◌, ℕ, List, Option, [], ◌∷◌, ◌++◌, IfOk, OnOk, length, slice_get, Some, option_copied};
+ghost use Rattle.std.specs.Prelude.{◌≡◌, ◌≤◌, ◌^◌, ℕ, List, Option, [], ◌∷◌, ◌++◌, IfOk, OnOk, length, slice_get};
+ghost use Rattle.std.specs.Prelude.{Some, option_copied};
 ghost use Rattle.loading.specs.Families.{Family};
 ghost use Rattle.built_in.specs.Keys.{NameAndType};
 ghost use Rattle.loading.specs.Names.{text_at};

@@ -1,6 +1,7 @@
 //! The texts of a class file's constant pool by number, so that each is looked at once.
 
-ghost use Rattle.std.specs.Prelude.{◌≡◌, ◌≤◌, [], Some, List, ℕ, length, slice_get, slice_index_or, unwrap_or, IfOk, OnOk};
+ghost use Rattle.std.specs.Prelude.{◌≡◌, ◌≤◌, [], Some, List, ℕ, length, slice_get, slice_index_or, unwrap_or, IfOk};
+ghost use Rattle.std.specs.Prelude.{OnOk};
 ghost use Rattle.classfile.specs.ClassFile.{ClassFile as File};
 ghost use Rattle.classfile.specs.Lookup.{utf8_in};
 ghost use Rattle.loading.specs.Names.{text_at};

@@ -4,7 +4,8 @@
 //! descriptor, where the nearest class that declares such a member changes: at a class that declares one, and where
 //! the classes below one end.
 
-ghost use Rattle.std.specs.Prelude.{◌≡◌, ◌⊎◌, ◌↔◌, IsTrue, ℕ, ◌<◌, ◌++◌, ◌∷◌, [], List, Option, Some, None, take, IfOk, OnOk, slice_get, slice_index_or};
+ghost use Rattle.std.specs.Prelude.{◌≡◌, ◌⊎◌, ◌↔◌, IsTrue, ℕ, ◌<◌, ◌++◌, ◌∷◌, [], List, Option, Some, None, take};
+ghost use Rattle.std.specs.Prelude.{IfOk, OnOk, slice_get, slice_index_or};
 ghost use Rattle.std.specs.List.{Contains};
 ghost use Rattle.classfile.specs.ClassFile.{ClassFile as File};
 ghost use Rattle.classfile.specs.declared.member.Member.{Member as Declared};
@@ -74,7 +75,8 @@ impl Sweep<'_> {
     ) -> Result<(), AllocError>
         requires fits { IsTableOf self.now.family.now self.now.table.now }
         requires rows { IsReachTable rows.old }
-        requires stands { StandsBehind self.now.family.now self.now.places.now (take place self.now.order.now) class place }
+        requires stands { StandsBehind self.now.family.now self.now.places.now
+            (take place self.now.order.now) class place }
         ensures rows { OnOk result (IsReachTable rows.new) }
         ensures go { OnOk result (AllGo (members_of self.now) (take place self.now.order.now) class rows.old rows.new) }
         ensures noted { OnOk result ((name : NameAndType) → AreNumbers self.now.table.now.texts name key
@@ -116,7 +118,8 @@ impl Sweep<'_> {
     ) -> Result<(), AllocError>
         requires fits { IsTableOf self.now.family.now self.now.table.now }
         requires rows { IsReachTable rows.old }
-        requires stands { StandsBehind self.now.family.now self.now.places.now (take place self.now.order.now) class place }
+        requires stands { StandsBehind self.now.family.now self.now.places.now
+            (take place self.now.order.now) class place }
         ensures rows { OnOk result (IsReachTable rows.new) }
         ensures go { OnOk result (AllGo (members_of self.now) (take place self.now.order.now) class rows.old rows.new) }
         ensures noted { OnOk result ((f : File) → AreTextNumbers self.now.table.now.texts f pool.now
@@ -140,10 +143,12 @@ impl Sweep<'_> {
     ) -> Result<(), AllocError>
         requires fits { IsTableOf self.now.family.now self.now.table.now }
         requires rows { IsReachTable rows.old }
-        requires stands { StandsBehind self.now.family.now self.now.places.now (take place self.now.order.now) class place }
+        requires stands { StandsBehind self.now.family.now self.now.places.now
+            (take place self.now.order.now) class place }
         ensures rows { OnOk result (IsReachTable rows.new) }
         ensures go { OnOk result (AllGo (members_of self.now) (take place self.now.order.now) class rows.old rows.new) }
-        ensures noted { OnOk result ((f : File) (i : ℕ) (m : Declared) → AreTextNumbers self.now.table.now.texts f pool.now
+        ensures noted { OnOk result ((f : File) (i : ℕ) (m : Declared)
+            → AreTextNumbers self.now.table.now.texts f pool.now
             → slice_get members.now i ≡ Some m
             → IsNoted (members_of self.now) (take place self.now.order.now) class rows.old rows.new
             (record { name = text_at f m.name; descriptor = text_at f m.descriptor })) }
@@ -165,7 +170,8 @@ impl Sweep<'_> {
     ) -> Result<(), AllocError>
         requires fits { IsTableOf self.now.family.now self.now.table.now }
         requires rows { IsReachTable rows.old }
-        requires stands { StandsBehind self.now.family.now self.now.places.now (take place self.now.order.now) class place }
+        requires stands { StandsBehind self.now.family.now self.now.places.now
+            (take place self.now.order.now) class place }
         ensures rows { OnOk result (IsReachTable rows.new) }
         ensures go { OnOk result (AllGo (members_of self.now) (take place self.now.order.now) class rows.old rows.new) }
         ensures noted { OnOk result ((name : NameAndType)
@@ -191,7 +197,8 @@ impl Sweep<'_> {
         requires family { IsFamily self.now.family.now }
         requires fits { IsTableOf self.now.family.now self.now.table.now }
         requires rows { IsReachTable rows.old }
-        requires stands { StandsBehind self.now.family.now self.now.places.now (take place self.now.order.now) class place }
+        requires stands { StandsBehind self.now.family.now self.now.places.now
+            (take place self.now.order.now) class place }
         requires may { MayFollow self.now.family.now before class }
         ensures rows { OnOk result (IsReachTable rows.new) }
         ensures go { OnOk result (AllGo (members_of self.now) (take place self.now.order.now) class rows.old rows.new) }
@@ -227,7 +234,8 @@ impl Sweep<'_> {
         requires family { IsFamily self.now.family.now }
         requires fits { IsTableOf self.now.family.now self.now.table.now }
         requires rows { IsReachTable rows.old }
-        requires stands { StandsBehind self.now.family.now self.now.places.now (take place self.now.order.now) class place }
+        requires stands { StandsBehind self.now.family.now self.now.places.now
+            (take place self.now.order.now) class place }
         requires may { MayFollow self.now.family.now before class }
         requires last { IsLast (take place self.now.order.now) before }
         ensures rows { OnOk result (IsReachTable rows.new) }

@@ -7,7 +7,8 @@ use Rattle.loading.specs.declared.given.Superclass.TheVariants as super
 -- the built-in class at the end of a class's chain of superclasses
 pub data IsTop (family : Family) : ℕ → BuiltIn → Type 0 where
   direct : {c : ℕ} {b : BuiltIn} → superclass_in family c ≡ Some (super.BuiltIn b) → IsTop family c b
-  further : {c d : ℕ} {b : BuiltIn} → superclass_in family c ≡ Some (super.Given d) → IsTop family d b → IsTop family c b
+  further : {c d : ℕ} {b : BuiltIn} → superclass_in family c ≡ Some (super.Given d) → IsTop family d b
+      → IsTop family c b
 
 -- by class
 pub record AreTops (family : Family) (tops : List BuiltIn) : Type 0 where

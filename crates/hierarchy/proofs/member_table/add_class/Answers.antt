@@ -15,7 +15,8 @@ returns c = λ family count is.
       methods = c.add_members-2.new.index;
     } in
     table_with c.args.table.now new family given c.in_ok-pool.pool c.fields.result.now c.methods.result.now
-    c.fields.ensures.value c.methods.ensures.value c.in_ok-pool.ensures.keeps (c.in_ok-pool.ensures.distinct is.distinct)
+    c.fields.ensures.value c.methods.ensures.value c.in_ok-pool.ensures.keeps
+    (c.in_ok-pool.ensures.distinct is.distinct)
     c.in_ok-pool.ensures.numbers c.in_ok-push.ensures.items
     (λ texts f declared numbers distinct was.
     subst (λ (n : ℕ). IsIndex texts (declared_after declared n f c.fields.result.now)

@@ -17,7 +17,8 @@ loop-class-preserved c =
     omega (arith, c.parents_first-order.ensures.within k 0 (omega arith), c.loop-class.invariant.len) in
     let top : IsTop family class c.top_of-top.result = c.top_of-top.ensures
     (λ d is. rw c.deref.ensures.value (above_known family order tops k c.parents_first-order.ensures (omega arith)
-    c.loop-class.invariant.len c.loop-class.invariant.came d is (c.requires.within class d (parent_of family class d is)))) in
+    c.loop-class.invariant.len c.loop-class.invariant.came d is
+    (c.requires.within class d (parent_of family class d is)))) in
     record {
       len = length-set tops class c.top_of-top.result ∙ c.loop-class.invariant.len;
       came = tops_next family order tops k c.top_of-top.result (omega arith) small c.loop-class.invariant.came top;

@@ -4,7 +4,8 @@ use Rattle.built_in.specs.Keys.{NameAndType}
 use Rattle.hierarchy.specs.steps.HierarchyTables.{wanted_in}
 use Rattle.hierarchy.specs.steps.NearestMethods.{wanted_of}
 use Rattle.hierarchy.specs.steps.Reaches.{Nearest}
-use Rattle.hierarchy.proofs.UpClassesLemmas.{found_along, built_in_along, no_class_along, no_class_declares, is_some_not_none}
+use Rattle.hierarchy.proofs.UpClassesLemmas.{found_along, built_in_along, no_class_along, no_class_declares}
+use Rattle.hierarchy.proofs.UpClassesLemmas.{is_some_not_none}
 use Rattle.hierarchy.proofs.hierarchy.Hierarchy.up_given.Goals as goal
 
 pub returns-in_default : goal.returns-in_default

@@ -12,9 +12,11 @@ returns-clause-table c =
     let rows = c.args.self.now.rows.items in
     let none : find c.args.key ≡ None = search rules in
     record {
-      within = numbers_within find after rows c.push.new.self.items c.args.key c.new.result none (search (rules, c.in_ok-insert.ensures.updates.0))
+      within = numbers_within find after rows c.push.new.self.items c.args.key c.new.result none
+          (search (rules, c.in_ok-insert.ensures.updates.0))
           c.in_ok-push.ensures.items c.requires.within;
-      apart = numbers_apart find after rows c.push.new.self.items c.args.key c.new.result none (search (rules, c.in_ok-insert.ensures.updates.0))
+      apart = numbers_apart find after rows c.push.new.self.items c.args.key c.new.result none
+          (search (rules, c.in_ok-insert.ensures.updates.0))
           c.in_ok-push.ensures.items c.requires.within c.requires.apart;
     }
 

@@ -33,7 +33,8 @@ loop-place-preserved c =
           (c.in_ok-enter.ensures.tell before.tell);
       last = last_next s.order.now p (omega arith);
       all = subst (HasAllAbove s.family.now) (sym is)
-          (all_above_next s.family.now (take p s.order.now) c.loop-place.before (get_or s.order.now p 0) before.all may.0
+          (all_above_next s.family.now (take p s.order.now) c.loop-place.before
+          (get_or s.order.now p 0) before.all may.0
           before.last);
       ordered = may.1;
     }
