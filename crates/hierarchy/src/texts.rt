@@ -86,7 +86,6 @@ impl Texts {
     /// The number of a new text.
     fn push(&mut self, alloc: Global, text: &[u8]) -> Result<usize, AllocError>
         requires { ¬ Contains self.old text.now }
-        ensures after { OnOk result (self.new ≡ self.old ++ text.now ∷ []) }
         ensures number { IfOk result (λ n. slice_get self.new n ≡ Some text.now) }
         ensures keeps { KeepsNumbers self.old self.new }
         ensures distinct { OnOk result (AreDistinct self.new) }

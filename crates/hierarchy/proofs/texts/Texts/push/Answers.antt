@@ -36,16 +36,6 @@ returns-clause-keeps c =
     subst (KeepsNumbers c.args.self.now) (sym after)
     (subst (λ ts. KeepsNumbers ts (map items old ++ text ∷ [])) c.self.view_is (keeps_push (map items old) text))
 
-pub returns-clause-after : goal.returns-clause-after
-returns-clause-after c =
-    let items = λ (v : Vec ℕ Global). v.items in
-    let old = c.self.inside.texts.keys in
-    let text = c.args.text.now in
-    let apart : ¬ Contains (map items old) text = subst (λ ts. ¬ Contains ts text) (sym c.self.view_is) c.requires in
-    texts_after items old c.insert_full.new.self.keys c.in_ok-copy.copy text c.in_ok-copy.ensures.items apart
-    c.in_ok-number.ensures.keys
-    ∙ ap (λ ts. ts ++ text ∷ []) c.self.view_is
-
 pub returns-clause-distinct : goal.returns-clause-distinct
 returns-clause-distinct c =
     let items = λ (v : Vec ℕ Global). v.items in
