@@ -5,7 +5,7 @@ use Rattle.std.specs.List.{Contains}
 use Rattle.loading.specs.Families.{Family, parents_in, superclasses_in}
 use Rattle.loading.proofs.FamiliesParentLemmas.{no_interfaces, no_superclasses}
 use Rattle.hierarchy.specs.Search.{Search, nothing, above}
-use Rattle.hierarchy.specs.steps.InterfaceLists.{first_with, IsAmongOrAbove}
+use Rattle.hierarchy.specs.steps.Above.{first_with, IsAmongOrAbove}
 use Rattle.hierarchy.specs.steps.Walks.{IsSearchOrder}
 use Rattle.hierarchy.proofs.WalksOrderLemmas.{none_in_empty}
 

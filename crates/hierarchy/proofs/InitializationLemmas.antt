@@ -14,7 +14,7 @@ use Rattle.loading.specs.declared.given.Superclass.TheVariants as super
 use Rattle.loading.specs.Families.{Family, IsFamily, IsAncestor, parent, further, parents_in, interfaces_in}
 use Rattle.loading.specs.Families.{superclasses_in, superclass_in, given_superclass, AreParentsWithin}
 use Rattle.hierarchy.specs.Initialization.{AreSuperclasses, none, next, nearest_superclasses, given_superclasses}
-use Rattle.hierarchy.proofs.InterfaceListsLemmas.{ancestor_of_parent}
+use Rattle.hierarchy.proofs.AboveLemmas.{ancestor_of_parent}
 use Rattle.loading.proofs.FamiliesParentLemmas.{no_superclasses}
 use Rattle.hierarchy.proofs.UniquenessLemmas.{same_superclasses}
 

@@ -13,12 +13,12 @@ use Rattle.loading.specs.Families.{Family, IsFamily, parents_in, interfaces_in, 
 use Rattle.loading.specs.Families.{passes, file_of, IsAncestor, IsParentsFirst}
 use Rattle.hierarchy.specs.Search.{SuperinterfacesFirst, none, next, firsts}
 use Rattle.hierarchy.specs.Initialization.{is_initialized_first, declares_default, IsInitializationOrder, class}
-use Rattle.hierarchy.specs.steps.InterfaceLists.{IsAmongOrAbove}
+use Rattle.hierarchy.specs.steps.Above.{IsAmongOrAbove}
 use Rattle.hierarchy.specs.steps.InterfaceOrders.{AddsInterfaces, TellFirst, TellIdle, AreIdle}
 use Rattle.hierarchy.specs.steps.Walks.{ParentsBefore, IsPostorderOf, HasPostorder}
 use Rattle.hierarchy.specs.steps.Walks as walks
-use Rattle.hierarchy.proofs.InterfaceListsLemmas.{interface_parents, ancestor_parts}
-use Rattle.hierarchy.proofs.JoinedLemmas.{Contains-firsts}
+use Rattle.hierarchy.proofs.AboveLemmas.{interface_parents, ancestor_parts}
+use Rattle.hierarchy.proofs.FirstsLemmas.{Contains-firsts}
 use Rattle.hierarchy.proofs.SearchRowLemmas.{interfaces_before}
 use Rattle.hierarchy.proofs.WalksOrderLemmas.{in_front, in_rest, cons_cases, none_in_empty, before_among}
 

@@ -5,12 +5,11 @@ pub mod MemberTablesLemmas
 pub mod FamiliesChainLemmas
 pub mod SearchLemmas
 pub mod MemberLookupLemmas
-pub mod InterfaceListsAncestorLemmas
+pub mod AboveLemmas
 pub mod MarkLemmas
 pub mod MarkedLemmas
 pub mod DefaultsLemmas
-pub mod JoinedLemmas
-pub mod InterfaceListsLemmas
+pub mod FirstsLemmas
 pub mod InterfaceOrdersLemmas
 pub mod UniquenessLemmas
 pub mod InitializationLemmas

@@ -9,8 +9,8 @@ use Rattle.loading.specs.Families.{Family, IsAncestor, parent, further, parents_
 use Rattle.graph.specs.Seen.{Joins}
 use Rattle.graph.specs.steps.Adds.{Adds}
 use Rattle.graph.proofs.AddsLemmas.{adds_more}
-use Rattle.hierarchy.specs.steps.InterfaceLists.{IsAmongOrAbove}
-use Rattle.hierarchy.proofs.InterfaceListsAncestorLemmas.{ancestor_through}
+use Rattle.hierarchy.specs.steps.Above.{IsAmongOrAbove}
+use Rattle.hierarchy.proofs.AboveLemmas.{ancestor_through}
 
 -- ---- classes added one after another
 

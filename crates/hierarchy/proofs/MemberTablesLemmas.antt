@@ -1,6 +1,6 @@
 -- The table of members, class after class.
 use Rattle.std.proofs.Common.{◌≡◌, ℕ, Bool, true, false, cond, eqb, List, [], ◌∷◌, ◌++◌, length, Option, Some, None}
-use Rattle.std.proofs.Common.{slice_get, get_or, inl, inr, refl, sym, ap, ◌∙◌, subst, arith}
+use Rattle.std.proofs.Common.{zero, suc, slice_get, get_or, inl, inr, refl, sym, ap, ◌∙◌, subst, arith}
 use Rattle.std.specs.List.{position_from}
 use Rattle.std.proofs.lemmas.Bool.{eqb-true, eqb-false}
 use Rattle.std.proofs.lemmas.Option.{slice_get_past, slice_get_within}
@@ -10,6 +10,9 @@ use Rattle.classfile.specs.declared.member.Member.{Member}
 use Rattle.built_in.specs.Keys.{NameAndType}
 use Rattle.loading.specs.Names.{text_at}
 use Rattle.loading.specs.Families.{Family, file_of, file_in}
+use Rattle.hierarchy.specs.MemberNames.{named_in}
+use Rattle.hierarchy.specs.declared.member_name.MemberName.{MemberName}
+use Rattle.hierarchy.specs.steps.MemberIndexes.{AreNumbers}
 use Rattle.hierarchy.specs.MemberLookup.{is_named, field_in, method_in, field_of, method_of}
 use Rattle.hierarchy.specs.Texts.{AreDistinct}
 use Rattle.hierarchy.specs.steps.GrowingTexts.{KeepsNumbers}
@@ -137,3 +140,34 @@ table_of_none table distinct first none fields methods = record {
   fields = none_found table.texts _ table.fields (λ c q. refl) fields;
   methods = none_found table.texts _ table.methods (λ c q. refl) methods;
 }
+
+-- ---- what members are called
+
+beside : {A B : Type 0} (xs : List A) (ys : List B) (i : ℕ) (x : A) → length xs ≡ length ys → slice_get xs i ≡ Some x
+    → (y : B) × (slice_get ys i ≡ Some y)
+beside [] ys i x count at = absurd cc
+beside (z ∷ xs) [] i x count at = absurd (omega (arith, count))
+beside (z ∷ xs) (y ∷ ys) zero x count at = (y, refl)
+beside (z ∷ xs) (y ∷ ys) (suc i) x count at = beside xs ys i x (omega (arith, count)) at
+
+module _ (family : Family) (table : MemberTable) (m : MemberName) (fits : IsTableOf family table) where
+  pub numbers_there : (numbers : List ℕ) (key : MemberKey) → Some numbers ≡ slice_get table.pools.items m.class
+      → ((texts : List (List ℕ)) (f : ClassFile) → AreTextNumbers texts f numbers
+      → AreNumbers texts (record { name = text_at f m.name; descriptor = text_at f m.descriptor }) key)
+      → AreNumbers table.texts (named_in family m) key
+  numbers_there numbers key at are =
+      let given = beside table.pools.items family m.class numbers fits.count (sym at) in
+      let file : file_in family m.class ≡ Some given.0.file = ap file_of given.1 in
+      rw file (are table.texts given.0.file (fits.pools m.class given.0.file numbers file (sym at)))
+
+  pub numbers_nowhere : None ≡ slice_get table.pools.items m.class
+      → AreNumbers table.texts (named_in family m) (record { name = 0; descriptor = 0 })
+  numbers_nowhere none = by (slice_get family m.class) refl
+    where
+      by : (o : Option GivenClass) → slice_get family m.class ≡ o
+          → AreNumbers table.texts (named_in family m) (record { name = 0; descriptor = 0 })
+      by None at = let no_file : file_in family m.class ≡ None = ap file_of at in
+          rw no_file (record { name = fits.first; descriptor = fits.first })
+      by (Some given) at =
+          let pool = beside family table.pools.items m.class given (sym fits.count) at in
+          absurd (cc (none, pool.1))

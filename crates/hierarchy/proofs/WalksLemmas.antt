@@ -18,14 +18,14 @@ use Rattle.loading.specs.Families.{AreParentsWithin, given_superclass}
 use Rattle.loading.specs.declared.given.Superclass.{Superclass}
 use Rattle.loading.specs.declared.given.Superclass.TheVariants as super
 use Rattle.hierarchy.specs.Search.{Search, nothing, here, above}
-use Rattle.hierarchy.specs.steps.InterfaceLists.{first_with, with_place, or_else, IsAmongOrAbove}
+use Rattle.hierarchy.specs.steps.Above.{first_with, with_place, or_else, IsAmongOrAbove}
 use Rattle.hierarchy.specs.steps.Walks.{ParentsBefore, none, next, Leaves, done, enter, leave, ParentsCome, StandAbove}
 use Rattle.hierarchy.specs.steps.Walks.{IsFinished, Walking, IsPostorderOf, IsSearchOrder, to_enter, class_of}
 use Rattle.hierarchy.specs.steps.Walks.{parents_count, work_left}
 use Rattle.hierarchy.specs.declared.member.DeclaredMember.{DeclaredMember}
 use Rattle.hierarchy.specs.declared.walk.Visit.{Visit}
 use Rattle.hierarchy.specs.declared.walk.Visit.TheVariants.{Enter, Leave}
-use Rattle.hierarchy.proofs.JoinedLemmas.{Contains-firsts, firsts_joins}
+use Rattle.hierarchy.proofs.FirstsLemmas.{Contains-firsts, firsts_joins}
 use Rattle.hierarchy.proofs.WalksOrderLemmas.{none_in_empty, in_front, in_rest, cons_cases, cons_more, cons_within}
 use Rattle.hierarchy.proofs.WalksOrderLemmas.{firsts_known, among_before, before_among, or_else_none, first_with-push}
 use Rattle.hierarchy.proofs.WalksOrderLemmas.{search_again}

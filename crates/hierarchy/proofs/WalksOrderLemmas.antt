@@ -11,13 +11,13 @@ use Rattle.std.proofs.lemmas.Option.{slice_get_read}
 use Rattle.std.proofs.lemmas.List.Elements.{Contains-append_left, Contains-append_right, Contains-append_cases}
 use Rattle.loading.specs.Families.{Family, IsAncestor, parent, further, parents_in}
 use Rattle.hierarchy.specs.Search.{Search, here, above, firsts}
-use Rattle.hierarchy.specs.steps.InterfaceLists.{first_with, with_place, or_else, IsAmongOrAbove}
+use Rattle.hierarchy.specs.steps.Above.{first_with, with_place, or_else, IsAmongOrAbove}
 use Rattle.hierarchy.specs.steps.Walks.{ParentsBefore, none, next, HasPostorder}
 use Rattle.loading.specs.Families.{IsParentsFirst, superclasses_in}
 use Rattle.loading.proofs.FamiliesParentLemmas.{no_interfaces, no_superclasses}
 use Rattle.hierarchy.specs.declared.member.DeclaredMember.{DeclaredMember}
-use Rattle.hierarchy.proofs.InterfaceListsLemmas.{or_else_assoc, first_with-append, among_parents, further_on}
-use Rattle.hierarchy.proofs.JoinedLemmas.{Contains-firsts, firsts_joins}
+use Rattle.hierarchy.proofs.AboveLemmas.{or_else_assoc, first_with-append, among_parents, further_on}
+use Rattle.hierarchy.proofs.FirstsLemmas.{Contains-firsts, firsts_joins}
 
 -- ---- members of lists
 

@@ -1,5 +1,6 @@
 pub mod Search
 pub mod MemberLookup
+pub mod MemberNames
 pub mod Resolution
 pub mod Initialization
 pub mod Texts

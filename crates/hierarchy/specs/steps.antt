@@ -1,8 +1,8 @@
 pub mod MemberIndexes
 pub mod MemberTables
 pub mod Defaults
-pub mod InterfaceLists
-pub mod Joined
+pub mod Above
+pub mod Sought
 pub mod HierarchyTables
 pub mod InterfaceOrders
 pub mod Walks

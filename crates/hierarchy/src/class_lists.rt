@@ -1,10 +1,11 @@
 //! Lists of classes by class.
 
-ghost use Rattle.std.specs.Prelude.{◌≡◌, ◌<◌, length};
+ghost use Rattle.std.specs.Prelude.{◌≡◌, ◌<◌, [], length, replicate, IfOk, OnOk};
 ghost use Rattle.std.specs.List.{All};
 ghost use Rattle.hierarchy.specs.Search.{row_in};
 
 use loading::given::ClassNumbers;
+use std::alloc::{AllocError, Global};
 use std::marker::Model;
 
 /// For each class of a family a list of its classes.
@@ -35,4 +36,28 @@ impl ClassLists {
             None => &[],
         }
     }
+}
+
+/// An empty list for each of so many classes.
+pub(crate) fn empty_lists(alloc: Global, count: usize) -> Result<Vec<ClassNumbers>, AllocError>
+    ensures { IfOk result (λ lists. lists.items ≡ replicate count []) }
+{
+    let mut lists = Vec::with_capacity(alloc, count)?;
+    add_empty_lists(alloc, count, &mut lists)?;
+    Ok(lists)
+}
+
+/// Adds an empty list for each of so many classes.
+fn add_empty_lists(
+    alloc: Global,
+    count: usize,
+    lists: &mut Vec<ClassNumbers>,
+) -> Result<(), AllocError>
+    requires { lists.old.items ≡ [] }
+    ensures { OnOk result (lists.new.items ≡ replicate count []) }
+{
+    for _ in 0..count {
+        lists.push(ClassNumbers::new(Vec::new(alloc)))?;
+    }
+    Ok(())
 }

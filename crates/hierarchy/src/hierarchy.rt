@@ -13,12 +13,13 @@ ghost use Rattle.hierarchy.specs.steps.MemberTables.{IsTableOf};
 ghost use Rattle.built_in.specs.Keys.{NameAndType};
 ghost use Rattle.hierarchy.specs.steps.MemberIndexes.{IsLookup};
 ghost use Rattle.hierarchy.specs.MemberLookup.{flags_in, member_flags, is_inherited, key_in, key_of, method_in};
+ghost use Rattle.hierarchy.specs.MemberNames.{text_in, named_in};
+ghost use Rattle.hierarchy.specs.steps.MemberIndexes.{AreNumbers};
 ghost use Rattle.hierarchy.specs.Resolution.{instance_method_in};
-ghost use Rattle.hierarchy.specs.steps.InterfaceLists.{AreInterfaceLists, IsInterfaceList};
 
-use crate::class_lists::ClassLists;
 use crate::member::DeclaredMember;
 use crate::member_index::MemberKey;
+use crate::member_name::MemberName;
 use crate::member_table::MemberTable;
 use crate::nearest::{MethodKind, NearestMethods};
 use crate::wanted::Wanted;
@@ -36,7 +37,6 @@ use std::marker::Model;
 pub struct Hierarchy {
     family: Family,
     table: MemberTable,
-    interfaces: ClassLists,
     nearest: NearestMethods,
 }
 
@@ -48,23 +48,21 @@ impl Model for Hierarchy {
 
     ghost view = { λ h. record { family = h.family; texts = h.table.texts } };
 
-    ghost invariant = { λ h. IsHierarchy h.family h.table h.interfaces h.nearest };
+    ghost invariant = { λ h. IsHierarchy h.family h.table h.nearest };
 }
 
 impl Hierarchy {
-    /// Puts a family and the lists of its classes' superinterfaces together.
+    /// A family with what its members are found by.
     ///
     /// # Errors
     /// Where memory runs out.
-    pub fn new(alloc: Global, family: Family, interfaces: ClassLists) -> Result<Self, AllocError>
-        requires { AreInterfaceLists family interfaces }
+    pub fn new(alloc: Global, family: Family) -> Result<Self, AllocError>
         ensures { IfOk result (λ h. h.family ≡ family) }
     {
         match tables_of(alloc, &family) {
             Ok((table, nearest)) => Ok(Hierarchy {
                 family,
                 table,
-                interfaces,
                 nearest,
             }),
             Err(error) => Err(error),
@@ -128,14 +126,6 @@ impl Hierarchy {
         self.nearest.top(class)
     }
 
-    /// The superinterfaces of a class, without those of its superclass.
-    pub(crate) fn superinterfaces(&self, class: u32) -> &[u32]
-        ensures list { IsInterfaceList self.now.family class result.now }
-        ensures fits { IsFamily self.now.family }
-    {
-        self.interfaces.of_class(class)
-    }
-
     /// The access flags of the method at a place of a class, or no flags.
     pub(crate) fn flags(&self, class: u32, index: u16) -> u16
         ensures { result ≡ flags_in self.now.family class index }
@@ -143,13 +133,35 @@ impl Hierarchy {
         flags_in(&self.family, class, index)
     }
 
-    /// The name and the descriptor of the method at a place of a class.
-    pub(crate) fn names(&self, class: u32, index: u16) -> Option<(&[u8], &[u8])>
-        ensures { option_map (λ x. record { name = x.0.now; descriptor = x.1.now }) result
-            ≡ key_in self.now.family class index }
+    /// What the method at a place of a class is called.
+    pub(crate) fn name_of(&self, class: u32, index: u16) -> Option<MemberName>
+        ensures { option_map (named_in self.now.family) result ≡ key_in self.now.family class index }
     {
         let file = self.family.file(class)?;
-        names_at(file, index)
+        let method = file.methods().get(usize::from(index))?;
+        Some(MemberName {
+            class,
+            name: method.name,
+            descriptor: method.descriptor,
+        })
+    }
+
+    /// The text at an index of a class's constant pool, or no bytes.
+    pub(crate) fn text(&self, class: u32, index: u16) -> &[u8]
+        ensures { result.now ≡ text_in self.now.family class index }
+    {
+        match self.family.file(class) {
+            Some(file) => text_at(file, index),
+            None => &[],
+        }
+    }
+
+    /// The numbers of what a member is called.
+    pub(crate) fn key(&self, member: MemberName) -> MemberKey
+        ensures { AreNumbers self.now.texts (named_in self.now.family member) result }
+    {
+        let table = &self.table;
+        table.key(member)
     }
 
     /// Whether there are no numbers, so that no given class has such a method.
@@ -242,16 +254,6 @@ fn flags_at(file: &ClassFile, index: u16) -> u16
         Some(method) => method.access_flags,
         None => 0,
     }
-}
-
-/// The name and the descriptor of the method at a place of a class file.
-fn names_at(file: &ClassFile, index: u16) -> Option<(&[u8], &[u8])>
-    ensures { option_map (λ x. record { name = x.0.now; descriptor = x.1.now }) result
-        ≡ key_of file.now (slice_get file.now.methods index) }
-{
-    let method = file.methods().get(usize::from(index))?;
-    let name = text_at(file, method.name);
-    Some((name, text_at(file, method.descriptor)))
 }
 
 /// Whether a method of these flags is neither private nor static.

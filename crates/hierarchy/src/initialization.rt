@@ -9,8 +9,7 @@ ghost use Rattle.hierarchy.specs.steps.InterfaceOrders.{AddsInterfaces, AreMarks
 ghost use Rattle.hierarchy.specs.steps.Walks.{HasPostorder};
 ghost use Rattle.hierarchy.specs.Search.{row_in};
 
-use crate::class_lists::ClassLists;
-use crate::joined::empty_lists;
+use crate::class_lists::{ClassLists, empty_lists};
 use crate::marks::{Marks, any_marked};
 use crate::walk::Walk;
 use graph::Visited;

@@ -5,7 +5,7 @@ ghost use Rattle.std.specs.List.{All, Contains};
 ghost use Rattle.graph.specs.Seen.{Joins};
 ghost use Rattle.graph.specs.steps.Adds.{Adds};
 ghost use Rattle.loading.specs.Families.{IsAncestor, IsFamily, parents_in};
-ghost use Rattle.hierarchy.specs.steps.InterfaceLists.{IsAmongOrAbove};
+ghost use Rattle.hierarchy.specs.steps.Above.{IsAmongOrAbove};
 
 use loading::family::Family;
 use loading::given::Superclass;

@@ -14,6 +14,14 @@ pub(crate) struct MemberKey {
     pub(crate) descriptor: usize,
 }
 
+impl MemberKey {
+    /// The empty text has the number 0.
+    pub(crate) const EMPTY: MemberKey = MemberKey {
+        name: 0,
+        descriptor: 0,
+    };
+}
+
 /// A class and what one of its members is called.
 #[derive(Clone, Copy, PartialEq, Eq, Hash, Debug)]
 pub(crate) struct ClassMember {

@@ -11,8 +11,11 @@ ghost use Rattle.classfile.specs.ClassFile.{ClassFile as File};
 ghost use Rattle.hierarchy.specs.steps.MemberIndexes.{place_of, IsIndex, Notes, IsLookup, declared_after};
 ghost use Rattle.hierarchy.specs.MemberLookup.{field_in, method_in};
 ghost use Rattle.hierarchy.specs.steps.MemberTables.{IsTableOf};
+ghost use Rattle.hierarchy.specs.steps.MemberIndexes.{AreNumbers};
+ghost use Rattle.hierarchy.specs.MemberNames.{named_in};
 
 use crate::member_index::{MemberIndex, MemberKey};
+use crate::member_name::MemberName;
 use crate::pool_texts::PoolTexts;
 use crate::texts::Texts;
 use classfile::Member;
@@ -93,6 +96,17 @@ impl MemberTable {
         let name = self.texts.number(name)?;
         let descriptor = self.texts.number(descriptor)?;
         Some(MemberKey { name, descriptor })
+    }
+
+    /// The numbers of what a member is called. A number of no class has no texts.
+    pub(crate) fn key(&self, member: MemberName) -> MemberKey
+        ensures { (family : Family) → IsTableOf family self.now
+            → AreNumbers self.now.texts (named_in family member) result }
+    {
+        match self.pool(member.class) {
+            Some(pool) => pool.key(member.name, member.descriptor),
+            None => MemberKey::EMPTY,
+        }
     }
 
     /// The numbers of the texts of a class's file.

@@ -1,54 +1,81 @@
 //! Resolution of fields (JVMS 5.4.3.2).
 
-ghost use Rattle.std.specs.Prelude.{◌≡◌, ◌↔◌, IsTrue};
+ghost use Rattle.std.specs.Prelude.{◌≡◌, ◌↔◌, IsTrue, IfOk};
 ghost use Rattle.built_in.specs.declared.class_id.ClassId.TheVariants as class_ids;
 ghost use Rattle.built_in.specs.Methods.{out_key};
 ghost use Rattle.loading.specs.Families.{Family as Classes};
+ghost use Rattle.built_in.specs.Keys.{NameAndType};
+ghost use Rattle.hierarchy.specs.MemberNames.{named_in};
 ghost use Rattle.hierarchy.specs.Resolution.{ResolvesField};
+ghost use Rattle.hierarchy.specs.steps.MemberIndexes.{AreNumbers};
+ghost use Rattle.hierarchy.specs.steps.Sought.{sought_name};
 
+use crate::ancestors::Ancestors;
 use crate::hierarchy::Hierarchy;
 use crate::member::{DeclaredMember, Field};
+use crate::member_index::MemberKey;
+use crate::member_name::MemberName;
+use crate::sought::Sought;
 use crate::wanted::Wanted;
 use built_in::class_id::{BuiltIn, ClassId};
+use std::alloc::AllocError;
 
 impl Hierarchy {
-    /// The field that a class, a name and a descriptor stand for: of the class, of its superinterfaces or of its
-    /// superclass, the first of them that has one.
-    pub fn resolve_field(&self, class: ClassId, name: &[u8], descriptor: &[u8]) -> Option<Field>
-        ensures { ResolvesField self.now.family (record { name = name.now; descriptor = descriptor.now }) class result }
+    /// The field that a class and the name and descriptor of a reference stand for: of the class, of its superinterfaces
+    /// or of its superclass, the first of them that has one. What stands above the class is found in the room of
+    /// `ancestors`.
+    ///
+    /// # Errors
+    /// Where memory runs out.
+    pub fn resolve_field(
+        &self,
+        ancestors: &mut Ancestors,
+        class: ClassId,
+        member: MemberName,
+    ) -> Result<Option<Field>, AllocError>
+        ensures { IfOk result (ResolvesField self.now.family (named_in self.now.family member) class) }
     {
         match class {
-            ClassId::Given(class) => self.given_field(class, name, descriptor),
-            ClassId::BuiltIn(class) => built_in_field(class, name, descriptor),
-            ClassId::Array(_) => None,
+            ClassId::Given(class) => {
+                let field = self.given_field(ancestors, class, self.key(member))?;
+                Ok(field)
+            }
+            ClassId::BuiltIn(class) => Ok(built_in_field(class, self.sought(member))),
+            ClassId::Array(_) => Ok(None),
         }
     }
 
     /// The same of a given class.
-    fn given_field(&self, class: u32, name: &[u8], descriptor: &[u8]) -> Option<Field>
-        ensures { ResolvesField self.now.family (record { name = name.now; descriptor = descriptor.now })
-            (class_ids.Given class) result }
+    fn given_field(
+        &self,
+        ancestors: &mut Ancestors,
+        class: u32,
+        key: MemberKey,
+    ) -> Result<Option<Field>, AllocError>
+        ensures { IfOk result (λ field. (name : NameAndType) → AreNumbers self.now.texts name key
+            → ResolvesField self.now.family name (class_ids.Given class) field) }
     {
-        let key = self.key_of(name, descriptor);
-        let DeclaredMember { class, index } = self.search(Wanted::Field, class, key)?;
-        Some(Field::Given { class, index })
+        let first = self.first_above(ancestors, Wanted::Field, class, Some(key))?;
+        match first {
+            Some(DeclaredMember { class, index }) => Ok(Some(Field::Given { class, index })),
+            None => Ok(None),
+        }
     }
 }
 
 /// The same of a built-in class.
-fn built_in_field(class: BuiltIn, name: &[u8], descriptor: &[u8]) -> Option<Field>
-    ensures { (family : Classes) → ResolvesField family (record { name = name.now; descriptor = descriptor.now })
-        (class_ids.BuiltIn class) result }
+fn built_in_field(class: BuiltIn, sought: Sought<'_>) -> Option<Field>
+    ensures { (family : Classes) → ResolvesField family (sought_name sought.entry) (class_ids.BuiltIn class) result }
 {
     match class {
-        BuiltIn::System => is_out(name, descriptor).then_some(Field::Out),
+        BuiltIn::System => is_out(sought).then_some(Field::Out),
         _ => None,
     }
 }
 
 /// Whether these are the name and the descriptor of `System.out`.
-fn is_out(name: &[u8], descriptor: &[u8]) -> bool
-    ensures { IsTrue result ↔ (record { name = name.now; descriptor = descriptor.now } ≡ out_key) }
+fn is_out(sought: Sought<'_>) -> bool
+    ensures { IsTrue result ↔ (sought_name sought.entry ≡ out_key) }
 {
-    name == b"out".as_slice() && descriptor == b"Ljava/io/PrintStream;".as_slice()
+    sought.name == b"out".as_slice() && sought.descriptor == b"Ljava/io/PrintStream;".as_slice()
 }

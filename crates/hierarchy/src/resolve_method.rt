@@ -1,97 +1,119 @@
 //! Resolution of methods (JVMS 5.4.3.3, 5.4.3.4).
 
-ghost use Rattle.std.specs.Prelude.{◌≡◌, true, false};
-ghost use Rattle.built_in.specs.declared.class_id.ArrayType.{ArrayType};
+ghost use Rattle.std.specs.Prelude.{◌≡◌, true, false, IfOk};
 ghost use Rattle.built_in.specs.declared.class_id.ClassId.TheVariants as class_ids;
-ghost use Rattle.loading.specs.Families.{Family as Classes, is_interface_in};
+ghost use Rattle.loading.specs.Families.{is_interface_in};
 ghost use Rattle.built_in.specs.Keys.{NameAndType};
+ghost use Rattle.hierarchy.specs.MemberNames.{named_in};
 ghost use Rattle.hierarchy.specs.steps.MemberIndexes.{IsLookup};
+ghost use Rattle.hierarchy.specs.steps.Sought.{sought_name};
 ghost use Rattle.hierarchy.specs.Resolution.{AmongInterfaces, ResolvesMethod};
 
+use crate::ancestors::Ancestors;
 use crate::hierarchy::Hierarchy;
 use crate::member::{DeclaredMember, Method};
 use crate::member_index::MemberKey;
+use crate::member_name::MemberName;
 use crate::nearest::MethodKind;
+use crate::search::{array_method, built_in_method};
+use crate::sought::Sought;
 use crate::wanted::Wanted;
 use built_in::class_id::ClassId;
-use built_in::method::BuiltInMethod;
 use loading::given::Superclass;
+use std::alloc::AllocError;
 
 impl Hierarchy {
-    /// The method that a class, a name and a descriptor stand for: of the class or the first superclass that has one,
-    /// and then of the superinterfaces. An interface is asked itself, and then its superinterfaces.
-    pub fn resolve_method(&self, class: ClassId, name: &[u8], descriptor: &[u8]) -> Option<Method>
-        ensures { ResolvesMethod self.now.family (record { name = name.now; descriptor = descriptor.now }) class
-            result }
+    /// The method that a class and the name and descriptor of a reference stand for: of the class or the first
+    /// superclass that has one, and then of the superinterfaces. An interface is asked itself, and then its
+    /// superinterfaces. What stands above the class is found in the room of `ancestors`.
+    ///
+    /// # Errors
+    /// Where memory runs out.
+    pub fn resolve_method(
+        &self,
+        ancestors: &mut Ancestors,
+        class: ClassId,
+        member: MemberName,
+    ) -> Result<Option<Method>, AllocError>
+        ensures { IfOk result (ResolvesMethod self.now.family (named_in self.now.family member) class) }
     {
-        let key = self.key_of(name, descriptor);
+        self.resolve_sought(ancestors, class, self.sought(member))
+    }
+
+    /// The same by what is looked for.
+    fn resolve_sought(
+        &self,
+        ancestors: &mut Ancestors,
+        class: ClassId,
+        sought: Sought<'_>,
+    ) -> Result<Option<Method>, AllocError>
+        requires { IsLookup self.now.texts (sought_name sought) sought.key }
+        ensures { IfOk result (ResolvesMethod self.now.family (sought_name sought.entry) class) }
+    {
         match class {
             ClassId::Given(class) if self.family().is_interface(class) => {
-                self.resolve_in_interface(class, key)
+                self.resolve_in_interface(ancestors, class, sought.key)
             }
-            ClassId::Given(class) => self.resolve_in_class(class, name, descriptor, key),
-            ClassId::BuiltIn(class) => self.up_classes(
-                MethodKind::Any,
-                Superclass::BuiltIn(class),
-                name,
-                descriptor,
-                key,
-            ),
-            ClassId::Array(_) => resolve_in_array(name, descriptor),
+            ClassId::Given(class) => self.resolve_in_class(ancestors, class, sought),
+            ClassId::BuiltIn(class) => Ok(built_in_method(class, sought)),
+            ClassId::Array(_) => Ok(array_method(sought)),
         }
     }
 
     /// The same of an interface.
-    fn resolve_in_interface(&self, class: u32, key: Option<MemberKey>) -> Option<Method>
+    fn resolve_in_interface(
+        &self,
+        ancestors: &mut Ancestors,
+        class: u32,
+        key: Option<MemberKey>,
+    ) -> Result<Option<Method>, AllocError>
         requires { is_interface_in self.now.family class ≡ true }
-        ensures { (name : NameAndType) → IsLookup self.now.texts name key
-            → ResolvesMethod self.now.family name (class_ids.Given class) result }
+        ensures { IfOk result (λ method. (name : NameAndType) → IsLookup self.now.texts name key
+            → ResolvesMethod self.now.family name (class_ids.Given class) method) }
     {
         if let Some(index) = self.find(Wanted::Method, class, key) {
-            return Some(Method::Given { class, index });
+            return Ok(Some(Method::Given { class, index }));
         }
-        self.among_interfaces(class, key)
+        let method = self.among_interfaces(ancestors, class, key)?;
+        Ok(method)
     }
 
     /// The same of a class that is no interface.
     fn resolve_in_class(
         &self,
+        ancestors: &mut Ancestors,
         class: u32,
-        name: &[u8],
-        descriptor: &[u8],
-        key: Option<MemberKey>,
-    ) -> Option<Method>
+        sought: Sought<'_>,
+    ) -> Result<Option<Method>, AllocError>
         requires class { is_interface_in self.now.family class ≡ false }
-        requires lookup { IsLookup self.now.texts (record { name = name.now; descriptor = descriptor.now }) key }
-        ensures { ResolvesMethod self.now.family (record { name = name.now; descriptor = descriptor.now })
-            (class_ids.Given class) result }
+        requires lookup { IsLookup self.now.texts (sought_name sought) sought.key }
+        ensures { IfOk result (ResolvesMethod self.now.family (sought_name sought.entry) (class_ids.Given class)) }
     {
         let from = Superclass::Given(class);
-        if let Some(method) = self.up_classes(MethodKind::Any, from, name, descriptor, key) {
-            return Some(method);
+        if let Some(method) = self.up_classes(MethodKind::Any, from, sought) {
+            return Ok(Some(method));
         }
-        self.among_interfaces(class, key)
+        let method = self.among_interfaces(ancestors, class, sought.key)?;
+        Ok(method)
     }
 
     /// The superinterface method of a class: the one default, or else the first that there is.
-    fn among_interfaces(&self, class: u32, key: Option<MemberKey>) -> Option<Method>
-        ensures { (name : NameAndType) → IsLookup self.now.texts name key
-            → AmongInterfaces self.now.family name class result }
+    fn among_interfaces(
+        &self,
+        ancestors: &mut Ancestors,
+        class: u32,
+        key: Option<MemberKey>,
+    ) -> Result<Option<Method>, AllocError>
+        ensures { IfOk result (λ method. (name : NameAndType) → IsLookup self.now.texts name key
+            → AmongInterfaces self.now.family name class method) }
     {
         if let Some(DeclaredMember { class, index }) = self.the_default(class, key) {
-            return Some(Method::Given { class, index });
+            return Ok(Some(Method::Given { class, index }));
         }
-        let DeclaredMember { class, index } = self.search(Wanted::InterfaceMethod, class, key)?;
-        Some(Method::Given { class, index })
+        let first = self.first_above(ancestors, Wanted::InterfaceMethod, class, key)?;
+        match first {
+            Some(DeclaredMember { class, index }) => Ok(Some(Method::Given { class, index })),
+            None => Ok(None),
+        }
     }
-}
-
-/// The same of an array class.
-fn resolve_in_array(name: &[u8], descriptor: &[u8]) -> Option<Method>
-    ensures { (family : Classes) (array : ArrayType)
-        → ResolvesMethod family (record { name = name.now; descriptor = descriptor.now })
-        (class_ids.Array array) result }
-{
-    let method = BuiltInMethod::of_array(name, descriptor)?;
-    Some(Method::BuiltIn(method))
 }

@@ -5,17 +5,22 @@ ghost use Rattle.hierarchy.specs.steps.HierarchyTables.{wanted_in};
 ghost use Rattle.built_in.specs.Keys.{NameAndType};
 ghost use Rattle.hierarchy.specs.steps.MemberIndexes.{IsLookup};
 ghost use Rattle.hierarchy.specs.MemberLookup.{UpClasses};
+ghost use Rattle.built_in.specs.declared.class_id.ArrayType.{ArrayType};
+ghost use Rattle.built_in.specs.declared.class_id.ClassId.TheVariants as class_ids;
+ghost use Rattle.hierarchy.specs.Resolution.{ResolvesMethod, SelectsByKey};
 ghost use Rattle.hierarchy.specs.Search.{Search};
 ghost use Rattle.hierarchy.specs.steps.NearestMethods.{wanted_of};
+ghost use Rattle.hierarchy.specs.steps.Sought.{sought_name};
 ghost use Rattle.loading.specs.Families.{Family as Classes};
 ghost use Rattle.loading.specs.declared.given.Superclass.TheVariants as super;
-ghost use Rattle.hierarchy.specs.steps.InterfaceLists.{first_with};
+ghost use Rattle.hierarchy.specs.steps.Above.{first_with};
 
 use crate::ancestors::Ancestors;
 use crate::hierarchy::Hierarchy;
 use crate::member::{DeclaredMember, Method};
 use crate::member_index::MemberKey;
 use crate::nearest::MethodKind;
+use crate::sought::Sought;
 use crate::wanted::Wanted;
 use built_in::class_id::BuiltIn;
 use built_in::method::BuiltInMethod;
@@ -24,29 +29,8 @@ use loading::given::Superclass;
 use std::alloc::AllocError;
 
 impl Hierarchy {
-    /// The first member of some kind in a class, its superinterfaces and its superclass, in this order.
-    pub(crate) fn search(
-        &self,
-        wanted: Wanted,
-        class: u32,
-        key: Option<MemberKey>,
-    ) -> Option<DeclaredMember>
-        ensures { (name : NameAndType) → IsLookup self.now.texts name key
-            → Search self.now.family (wanted_in wanted self.now.family name) (class ∷ []) result }
-    {
-        let mut at = class;
-        loop {
-            if let Some(index) = self.find(wanted, at, key) {
-                return Some(DeclaredMember { class: at, index });
-            }
-            if let Some(found) = self.first_in(wanted, self.superinterfaces(at), key) {
-                return Some(found);
-            }
-            at = self.given_superclass(at)?;
-        }
-    }
-
-    /// The same by a walk to all that stands above the class, which `ancestors` gives its room.
+    /// The first member of some kind in a class, its superinterfaces and its superclass, in this order. What stands
+    /// above the class is found in the room of `ancestors`.
     ///
     /// # Errors
     /// Where memory runs out.
@@ -87,76 +71,55 @@ impl Hierarchy {
         None
     }
 
-    /// The first of some classes that has a member of some kind, and its place.
-    fn first_in(
-        &self,
-        wanted: Wanted,
-        classes: &[u32],
-        key: Option<MemberKey>,
-    ) -> Option<DeclaredMember>
-        ensures { (name : NameAndType) → IsLookup self.now.texts name key
-            → result ≡ first_with (wanted_in wanted self.now.family name) classes.now }
-    {
-        for class in classes {
-            if let Some(index) = self.find(wanted, *class, key) {
-                return Some(DeclaredMember {
-                    class: *class,
-                    index,
-                });
-            }
-        }
-        None
-    }
-
     /// The first method of some kind from a class up; at the end stand those of the built-in classes.
     pub(crate) fn up_classes(
         &self,
         kind: MethodKind,
         from: Superclass,
-        name: &[u8],
-        descriptor: &[u8],
-        key: Option<MemberKey>,
+        sought: Sought<'_>,
     ) -> Option<Method>
-        requires { IsLookup self.now.texts (record { name = name.now; descriptor = descriptor.now }) key }
-        ensures { let name_and_type : NameAndType = record { name = name.now; descriptor = descriptor.now } in
-            UpClasses self.now.family (wanted_in (wanted_of kind) self.now.family name_and_type) name_and_type from
-            result }
+        requires { IsLookup self.now.texts (sought_name sought) sought.key }
+        ensures { UpClasses self.now.family (wanted_in (wanted_of kind) self.now.family (sought_name sought.entry))
+            (sought_name sought.entry) from result }
     {
         match from {
-            Superclass::Given(class) => self.up_given(kind, class, name, descriptor, key),
-            Superclass::BuiltIn(class) => built_in_method(class, name, descriptor),
+            Superclass::Given(class) => self.up_given(kind, class, sought),
+            Superclass::BuiltIn(class) => built_in_method(class, sought),
         }
     }
 
     /// The same from a given class up.
-    fn up_given(
-        &self,
-        kind: MethodKind,
-        class: u32,
-        name: &[u8],
-        descriptor: &[u8],
-        key: Option<MemberKey>,
-    ) -> Option<Method>
-        requires { IsLookup self.now.texts (record { name = name.now; descriptor = descriptor.now }) key }
-        ensures { let name_and_type : NameAndType = record { name = name.now; descriptor = descriptor.now } in
-            UpClasses self.now.family (wanted_in (wanted_of kind) self.now.family name_and_type) name_and_type
-            (super.Given class) result }
+    fn up_given(&self, kind: MethodKind, class: u32, sought: Sought<'_>) -> Option<Method>
+        requires { IsLookup self.now.texts (sought_name sought) sought.key }
+        ensures { UpClasses self.now.family (wanted_in (wanted_of kind) self.now.family (sought_name sought.entry))
+            (sought_name sought.entry) (super.Given class) result }
     {
         let Some(top) = self.top(class) else {
             return None;
         };
-        match self.nearest(kind, class, key) {
+        match self.nearest(kind, class, sought.key) {
             Some(DeclaredMember { class, index }) => Some(Method::Given { class, index }),
-            None => built_in_method(top, name, descriptor),
+            None => built_in_method(top, sought),
         }
     }
 }
 
 /// The method of a built-in class, its own or one that it has from above.
-fn built_in_method(class: BuiltIn, name: &[u8], descriptor: &[u8]) -> Option<Method>
+pub(crate) fn built_in_method(class: BuiltIn, sought: Sought<'_>) -> Option<Method>
     ensures { (family : Classes) (own : ℕ → Option ℕ)
-        → UpClasses family own (record { name = name.now; descriptor = descriptor.now }) (super.BuiltIn class) result }
+        → UpClasses family own (sought_name sought.entry) (super.BuiltIn class) result }
 {
-    let method = BuiltInMethod::of_class(class, name, descriptor)?;
+    let method = BuiltInMethod::of_class(class, sought.name, sought.descriptor)?;
+    Some(Method::BuiltIn(method))
+}
+
+/// The method of an array class.
+pub(crate) fn array_method(sought: Sought<'_>) -> Option<Method>
+    ensures resolved { (family : Classes) (array : ArrayType)
+        → ResolvesMethod family (sought_name sought.entry) (class_ids.Array array) result }
+    ensures selected { (family : Classes) (array : ArrayType)
+        → SelectsByKey family (sought_name sought.entry) (class_ids.Array array) result }
+{
+    let method = BuiltInMethod::of_array(sought.name, sought.descriptor)?;
     Some(Method::BuiltIn(method))
 }

@@ -2,3 +2,4 @@ pub mod StaticNumbers
 pub mod ResolvedConstants
 pub mod ParsedSignatures
 pub mod GrowingStrings
+pub mod NamedClasses

@@ -1,25 +1,21 @@
 //! References of class files, resolved (JVMS 5.4.3).
 
-ghost use Rattle.std.specs.Prelude.{◌≡◌};
+ghost use Rattle.std.specs.Prelude.{◌≡◌, IfOk};
+ghost use Rattle.loading.specs.ClassIds.{StandsFor};
+ghost use Rattle.loading.specs.Names.{class_name_at};
+ghost use Rattle.hierarchy.specs.MemberNames.{named_in};
 ghost use Rattle.program.specs.References.{key_at, is_interface_id, wants_interface, FindsField, FindsMethod};
 ghost use Rattle.program.specs.References.{ResolvesFieldAt, ResolvesMethodAt};
 
+use crate::resolver::Resolver;
 use built_in::class_id::ClassId;
 use classfile::{ClassFile, Constant};
+use hierarchy::ancestors::Ancestors;
 use hierarchy::hierarchy::Hierarchy;
 use hierarchy::member::{Field, Method, Unresolved};
-use loading::class_named;
-use loading::names::{class_name_at, text_at};
-
-/// The name that the NameAndType at an index gives, or no bytes.
-fn name_at(file: &ClassFile, index: u16) -> &[u8]
-    ensures { result.now ≡ (key_at file.now index).name }
-{
-    match file.constant(index) {
-        Some(Constant::NameAndType { name, .. }) => text_at(file, *name),
-        _ => &[],
-    }
-}
+use hierarchy::member_name::MemberName;
+use loading::names::text_at;
+use std::alloc::AllocError;
 
 /// The descriptor that the NameAndType at an index gives, or no bytes.
 pub(crate) fn descriptor_at(file: &ClassFile, index: u16) -> &[u8]
@@ -59,102 +55,117 @@ fn is_interface(hierarchy: &Hierarchy, class: ClassId) -> bool
     }
 }
 
-/// The field of this name and descriptor that the class of a name has.
-fn find_field(
-    hierarchy: &Hierarchy,
-    class: &[u8],
-    name: &[u8],
-    descriptor: &[u8],
-) -> Result<Field, Unresolved>
-    ensures { FindsField hierarchy.now.family class.now (record { name = name.now; descriptor = descriptor.now })
-        result }
-{
-    let Some(class) = class_named(hierarchy.family(), class) else {
-        return Err(Unresolved::Missing);
-    };
-    match hierarchy.resolve_field(class, name, descriptor) {
-        Some(field) => Ok(field),
-        None => Err(Unresolved::Missing),
+impl Resolver<'_> {
+    /// The class that the Class at an index names.
+    pub(crate) fn class_at(&self, index: u16) -> Option<ClassId>
+        ensures { StandsFor self.now.hierarchy.now.family (class_name_at self.now.file.now index) result }
+    {
+        self.named
+            .class_at(self.hierarchy.family(), self.file, index)
     }
-}
 
-/// The method of this name and descriptor that the class of a name has, which is an interface exactly where the
-/// reference says so.
-fn find_method(
-    hierarchy: &Hierarchy,
-    owner: MethodOwner,
-    class: &[u8],
-    name: &[u8],
-    descriptor: &[u8],
-) -> Result<Method, Unresolved>
-    ensures { FindsMethod hierarchy.now.family owner class.now (record { name = name.now; descriptor = descriptor.now })
-        result }
-{
-    let Some(class) = class_named(hierarchy.family(), class) else {
-        return Err(Unresolved::Missing);
-    };
-    let of_interface = owner.wants_interface();
-    if is_interface(hierarchy, class) != of_interface {
-        return Err(Unresolved::Incompatible);
+    /// The member that the NameAndType at an index names.
+    fn member_at(&self, index: u16) -> MemberName
+        ensures { named_in self.now.hierarchy.now.family result ≡ key_at self.now.file.now index }
+    {
+        // A number of no class has no texts.
+        let _classes = self.hierarchy.family().classes();
+        match self.file.constant(index) {
+            Some(Constant::NameAndType { name, descriptor }) => MemberName {
+                class: self.class,
+                name: *name,
+                descriptor: *descriptor,
+            },
+            _ => MemberName::NONE,
+        }
     }
-    match hierarchy.resolve_method(class, name, descriptor) {
-        Some(method) => Ok(method),
-        None => Err(Unresolved::Missing),
-    }
-}
 
-/// What the Fieldref at an index of a class file resolves to.
-pub(crate) fn resolve_field_at(
-    hierarchy: &Hierarchy,
-    file: &ClassFile,
-    index: u16,
-) -> Result<Field, Unresolved>
-    ensures { ResolvesFieldAt hierarchy.now.family file.now index result }
-{
-    match file.constant(index) {
-        Some(
-            Constant::Fieldref {
-                class,
-                name_and_type,
-            },
-        ) => find_field(
-            hierarchy,
-            class_name_at(file, *class),
-            name_at(file, *name_and_type),
-            descriptor_at(file, *name_and_type),
-        ),
-        _ => Err(Unresolved::NoReference),
+    /// The field that the class at an index has, by its name and descriptor.
+    fn find_field(
+        &self,
+        ancestors: &mut Ancestors,
+        class: u16,
+        member: MemberName,
+    ) -> Result<Result<Field, Unresolved>, AllocError>
+        ensures { IfOk result (FindsField self.now.hierarchy.now.family (class_name_at self.now.file.now class)
+            (named_in self.now.hierarchy.now.family member)) }
+    {
+        let Some(class) = self.class_at(class) else {
+            return Ok(Err(Unresolved::Missing));
+        };
+        match self.hierarchy.resolve_field(ancestors, class, member)? {
+            Some(field) => Ok(Ok(field)),
+            None => Ok(Err(Unresolved::Missing)),
+        }
     }
-}
 
-/// What the Methodref or InterfaceMethodref at an index of a class file resolves to.
-pub(crate) fn resolve_method_at(
-    hierarchy: &Hierarchy,
-    file: &ClassFile,
-    index: u16,
-) -> Result<Method, Unresolved>
-    ensures { ResolvesMethodAt hierarchy.now.family file.now index result }
-{
-    let (owner, class, name_and_type) = match file.constant(index) {
-        Some(
-            Constant::Methodref {
-                class,
-                name_and_type,
-            },
-        ) => (MethodOwner::Class, *class, *name_and_type),
-        Some(
-            Constant::InterfaceMethodref {
-                class,
-                name_and_type,
-            },
-        ) => (MethodOwner::Interface, *class, *name_and_type),
-        _ => return Err(Unresolved::NoReference),
-    };
-    find_method(
-        hierarchy,
-        owner,
-        class_name_at(file, class),
-        name_at(file, name_and_type),
-        descriptor_at(file, name_and_type),
-    )
+    /// The method that the class at an index has, by its name and descriptor. The class is an interface exactly where
+    /// the reference says so.
+    fn find_method(
+        &self,
+        ancestors: &mut Ancestors,
+        owner: MethodOwner,
+        class: u16,
+        member: MemberName,
+    ) -> Result<Result<Method, Unresolved>, AllocError>
+        ensures { IfOk result (FindsMethod self.now.hierarchy.now.family owner
+            (class_name_at self.now.file.now class) (named_in self.now.hierarchy.now.family member)) }
+    {
+        let Some(class) = self.class_at(class) else {
+            return Ok(Err(Unresolved::Missing));
+        };
+        let of_interface = owner.wants_interface();
+        if is_interface(self.hierarchy, class) != of_interface {
+            return Ok(Err(Unresolved::Incompatible));
+        }
+        match self.hierarchy.resolve_method(ancestors, class, member)? {
+            Some(method) => Ok(Ok(method)),
+            None => Ok(Err(Unresolved::Missing)),
+        }
+    }
+
+    /// What the Fieldref at an index resolves to.
+    pub(crate) fn resolve_field_at(
+        &self,
+        ancestors: &mut Ancestors,
+        index: u16,
+    ) -> Result<Result<Field, Unresolved>, AllocError>
+        ensures { IfOk result (ResolvesFieldAt self.now.hierarchy.now.family self.now.file.now index) }
+    {
+        match self.file.constant(index) {
+            Some(
+                Constant::Fieldref {
+                    class,
+                    name_and_type,
+                },
+            ) => self.find_field(ancestors, *class, self.member_at(*name_and_type)),
+            _ => Ok(Err(Unresolved::NoReference)),
+        }
+    }
+
+    /// What the Methodref or InterfaceMethodref at an index resolves to.
+    pub(crate) fn resolve_method_at(
+        &self,
+        ancestors: &mut Ancestors,
+        index: u16,
+    ) -> Result<Result<Method, Unresolved>, AllocError>
+        ensures { IfOk result (ResolvesMethodAt self.now.hierarchy.now.family self.now.file.now index) }
+    {
+        let (owner, class, name_and_type) = match self.file.constant(index) {
+            Some(
+                Constant::Methodref {
+                    class,
+                    name_and_type,
+                },
+            ) => (MethodOwner::Class, *class, *name_and_type),
+            Some(
+                Constant::InterfaceMethodref {
+                    class,
+                    name_and_type,
+                },
+            ) => (MethodOwner::Interface, *class, *name_and_type),
+            _ => return Ok(Err(Unresolved::NoReference)),
+        };
+        self.find_method(ancestors, owner, class, self.member_at(name_and_type))
+    }
 }

@@ -1,44 +1,32 @@
 //! The run-time constant pool of a class (JVMS 5.1).
 
 ghost use Rattle.std.specs.Prelude.{◌≡◌, ◌<◌, [], ◌∷◌, ◌++◌, length, Some, IfOk, OnOk, slice_get, if◌then◌else◌};
-ghost use Rattle.loading.specs.ClassIds.{StandsFor};
 ghost use Rattle.program.specs.RuntimePool.{int_of_bits, long_of_halves};
 ghost use Rattle.program.specs.Fields.{static_number_of, static_of, final_of, target_in, target_of};
-ghost use Rattle.program.specs.steps.StaticNumbers.{AreStaticNumbersOf, static_number_in};
+ghost use Rattle.program.specs.steps.StaticNumbers.{static_number_in};
 ghost use Rattle.program.specs.declared.runtime_constant.RuntimeConstant.{RuntimeConstant as Held};
 ghost use Rattle.program.specs.declared.runtime_constant.FieldTarget.TheVariants as targets;
 ghost use Rattle.loading.specs.Families.{file_in};
 ghost use Rattle.program.specs.RuntimePool.{IsRuntimeConstant, IsRuntimePool};
-ghost use Rattle.program.specs.steps.ResolvedConstants.{IsTargetAt, IsResolved, AreRuntimeConstants};
-ghost use Rattle.loading.specs.Names.{class_name_at};
+ghost use Rattle.program.specs.steps.ResolvedConstants.{IsTargetAt, IsResolved, IsPlain, IsFieldConstant};
+ghost use Rattle.program.specs.steps.ResolvedConstants.{AreRuntimeConstants};
 ghost use Rattle.hierarchy.specs.steps.GrowingTexts.{Grows};
 ghost use Rattle.program.specs.Strings.{string_of, strings_of};
 ghost use Rattle.program.specs.steps.GrowingStrings.{Adds};
 
 use crate::class::RuntimePool;
 use crate::equal_entries::Earlier;
-use crate::references::{descriptor_at, resolve_field_at, resolve_method_at};
+use crate::references::descriptor_at;
+use crate::resolver::Resolver;
 use crate::runtime_constant::{FieldTarget, RuntimeConstant};
-use crate::static_numbers::StaticNumbers;
 use crate::statics::field_kind;
-use built_in::class_id::ClassId;
 use classfile::flags::{FINAL, STATIC, has_flag};
 use classfile::{ClassFile, Constant, Member};
-use hierarchy::hierarchy::Hierarchy;
+use hierarchy::ancestors::Ancestors;
 use hierarchy::member::{Field, Unresolved};
 use hierarchy::texts::Texts;
-use loading::class_named;
-use loading::names::{class_name_at, text_at};
+use loading::names::text_at;
 use std::alloc::{AllocError, Global};
-
-/// What the references of a class are resolved with.
-#[derive(Drop)]
-pub(crate) struct Resolver<'a> {
-    pub(crate) hierarchy: &'a Hierarchy,
-    /// By class: the numbers of its static fields.
-    pub(crate) numbers: &'a [StaticNumbers],
-    pub(crate) ghost fits: { AreStaticNumbersOf hierarchy.now.family numbers.now },
-}
 
 /// The int of these bits (JVMS 4.4.4).
 pub(crate) fn int_of_bits(bits: u32) -> i32
@@ -82,7 +70,7 @@ fn target_of_field(field: &Member, class: u32, index: u16, number: u32) -> Field
     }
 }
 
-impl<'a> Resolver<'a> {
+impl Resolver<'_> {
     /// A field as instructions use it.
     fn target_of(&self, field: Field) -> FieldTarget
         ensures { result ≡ target_of self.now.hierarchy.now.family field }
@@ -114,66 +102,92 @@ impl<'a> Resolver<'a> {
     }
 
     /// A field that a reference resolves to, as instructions use it.
-    fn field_at(&self, file: &ClassFile, index: u16) -> Result<FieldTarget, Unresolved>
-        ensures { IsTargetAt self.now.hierarchy.now.family file.now index result }
+    fn field_at(
+        &self,
+        ancestors: &mut Ancestors,
+        index: u16,
+    ) -> Result<Result<FieldTarget, Unresolved>, AllocError>
+        ensures { IfOk result (IsTargetAt self.now.hierarchy.now.family self.now.file.now index) }
     {
-        match resolve_field_at(self.hierarchy, file, index) {
-            Ok(field) => Ok(self.target_of(field)),
-            Err(fault) => Err(fault),
+        match self.resolve_field_at(ancestors, index)? {
+            Ok(field) => Ok(Ok(self.target_of(field))),
+            Err(fault) => Ok(Err(fault)),
         }
     }
 
+    /// A field reference as instructions use it.
+    fn field_constant(
+        &self,
+        ancestors: &mut Ancestors,
+        index: u16,
+        name_and_type: u16,
+    ) -> Result<RuntimeConstant, AllocError>
+        ensures { IfOk result (IsFieldConstant self.now.hierarchy.now.family self.now.file.now index name_and_type) }
+    {
+        let kind = field_kind(descriptor_at(self.file, name_and_type));
+        Ok(RuntimeConstant::Field(
+            kind,
+            self.field_at(ancestors, index)?,
+        ))
+    }
+
     /// What an entry of a class file's constant pool stands for, other than a string.
-    fn resolved(&self, file: &ClassFile, index: u16, constant: &Constant) -> RuntimeConstant
-        ensures { IsResolved self.now.hierarchy.now.family file.now index constant.now result }
+    fn resolved(
+        &self,
+        ancestors: &mut Ancestors,
+        index: u16,
+        constant: &Constant,
+    ) -> Result<RuntimeConstant, AllocError>
+        ensures { IfOk result (IsResolved self.now.hierarchy.now.family self.now.file.now index constant.now) }
+    {
+        match constant {
+            Constant::Fieldref { name_and_type, .. } => {
+                self.field_constant(ancestors, index, *name_and_type)
+            }
+            Constant::Methodref { .. } => Ok(RuntimeConstant::Method(
+                self.resolve_method_at(ancestors, index)?,
+            )),
+            Constant::InterfaceMethodref { .. } => Ok(RuntimeConstant::InterfaceMethod(
+                self.resolve_method_at(ancestors, index)?,
+            )),
+            _ => Ok(self.plain(index, constant)),
+        }
+    }
+
+    /// The same of an entry that is no reference to a member either.
+    fn plain(&self, index: u16, constant: &Constant) -> RuntimeConstant
+        ensures { IsPlain self.now.hierarchy.now.family self.now.file.now index constant.now result }
     {
         match constant {
             Constant::Integer { bits } => RuntimeConstant::Int(int_of_bits(*bits)),
             Constant::Long { high, low } => RuntimeConstant::Long(long_of_halves(*high, *low)),
             Constant::Float { .. } => RuntimeConstant::Float,
             Constant::Double { .. } => RuntimeConstant::Double,
-            Constant::Class { .. } => RuntimeConstant::Class(self.class_at(file, index)),
-            Constant::Fieldref { name_and_type, .. } => RuntimeConstant::Field(
-                field_kind(descriptor_at(file, *name_and_type)),
-                self.field_at(file, index),
-            ),
-            Constant::Methodref { .. } => {
-                RuntimeConstant::Method(resolve_method_at(self.hierarchy, file, index))
-            }
-            Constant::InterfaceMethodref { .. } => {
-                RuntimeConstant::InterfaceMethod(resolve_method_at(self.hierarchy, file, index))
-            }
+            Constant::Class { .. } => RuntimeConstant::Class(self.class_at(index)),
             Constant::MethodHandle { .. } => RuntimeConstant::MethodHandle,
             Constant::MethodType { .. } => RuntimeConstant::MethodType,
             _ => RuntimeConstant::Other,
         }
     }
 
-    /// The class that the Class at an index names.
-    fn class_at(&self, file: &ClassFile, index: u16) -> Option<ClassId>
-        ensures { StandsFor self.now.hierarchy.now.family (class_name_at file.now index) result }
-    {
-        class_named(self.hierarchy.family(), class_name_at(file, index))
-    }
-
     /// What an entry of a class file's constant pool stands for. A string gets a number if it had none.
     fn runtime_constant_of(
         &self,
         alloc: Global,
+        ancestors: &mut Ancestors,
         strings: &mut Texts,
-        file: &ClassFile,
         index: u16,
         constant: &Constant,
     ) -> Result<RuntimeConstant, AllocError>
         ensures held { IfOk result
-            (IsRuntimeConstant self.now.hierarchy.now.family strings.new file.now index constant.now) }
+            (IsRuntimeConstant self.now.hierarchy.now.family strings.new self.now.file.now index constant.now) }
         ensures grows { OnOk result (Grows strings.old strings.new) }
-        ensures adds { OnOk result (Adds strings.old (string_of file.now constant.now) strings.new) }
+        ensures adds { OnOk result (Adds strings.old (string_of self.now.file.now constant.now) strings.new) }
     {
         let Constant::String { text } = constant else {
-            return Ok(self.resolved(file, index, constant));
+            return self.resolved(ancestors, index, constant);
         };
-        let number = strings.add(alloc, text_at(file, *text))?;
+        let number = strings.add(alloc, text_at(self.file, *text))?;
         Ok(RuntimeConstant::String(number))
     }
 
@@ -181,15 +195,15 @@ impl<'a> Resolver<'a> {
     pub(crate) fn runtime_pool_of(
         &self,
         alloc: Global,
+        ancestors: &mut Ancestors,
         strings: &mut Texts,
-        file: &ClassFile,
     ) -> Result<RuntimePool, AllocError>
-        ensures pool { IfOk result (IsRuntimePool self.now.hierarchy.now.family strings.new file.now) }
+        ensures pool { IfOk result (IsRuntimePool self.now.hierarchy.now.family strings.new self.now.file.now) }
         ensures grows { OnOk result (Grows strings.old strings.new) }
-        ensures adds { OnOk result (Adds strings.old (strings_of file.now) strings.new) }
+        ensures adds { OnOk result (Adds strings.old (strings_of self.now.file.now) strings.new) }
     {
-        let mut pool = Vec::with_capacity(alloc, file.constants().len())?;
-        self.add_constants(alloc, strings, file, &mut pool)?;
+        let mut pool = Vec::with_capacity(alloc, self.file.constants().len())?;
+        self.add_constants(alloc, ancestors, strings, &mut pool)?;
         Ok(RuntimePool { constants: pool })
     }
 
@@ -197,22 +211,22 @@ impl<'a> Resolver<'a> {
     fn add_constants(
         &self,
         alloc: Global,
+        ancestors: &mut Ancestors,
         strings: &mut Texts,
-        file: &ClassFile,
         pool: &mut Vec<RuntimeConstant>,
     ) -> Result<(), AllocError>
         requires { pool.old.items ≡ [] }
-        ensures pool { OnOk result (IsRuntimePool self.now.hierarchy.now.family strings.new file.now pool.new.items) }
+        ensures pool { OnOk result (IsRuntimePool self.now.hierarchy.now.family strings.new self.now.file.now pool.new.items) }
         ensures grows { OnOk result (Grows strings.old strings.new) }
-        ensures adds { OnOk result (Adds strings.old (strings_of file.now) strings.new) }
+        ensures adds { OnOk result (Adds strings.old (strings_of self.now.file.now) strings.new) }
     {
         let mut earlier = Earlier::new(alloc);
-        let constants = file.constants();
+        let constants = self.file.constants();
         for (index, constant) in constants.iter().enumerate() {
             self.add_constant(
                 alloc,
+                ancestors,
                 strings,
-                file,
                 index as u16,
                 constant,
                 &mut earlier,
@@ -226,26 +240,26 @@ impl<'a> Resolver<'a> {
     fn add_constant(
         &self,
         alloc: Global,
+        ancestors: &mut Ancestors,
         strings: &mut Texts,
-        file: &ClassFile,
         index: u16,
         constant: &Constant,
         earlier: &mut Earlier,
         pool: &mut Vec<RuntimeConstant>,
     ) -> Result<(), AllocError>
-        requires here { slice_get file.now.constants index ≡ Some constant.now }
-        requires pool { AreRuntimeConstants self.now.hierarchy.now.family strings.old file.now pool.old.items }
+        requires here { slice_get self.now.file.now.constants index ≡ Some constant.now }
+        requires pool { AreRuntimeConstants self.now.hierarchy.now.family strings.old self.now.file.now pool.old.items }
         ensures held { OnOk result ((held : Held)
-            × IsRuntimeConstant self.now.hierarchy.now.family strings.new file.now index constant.now held
+            × IsRuntimeConstant self.now.hierarchy.now.family strings.new self.now.file.now index constant.now held
             × (pool.new.items ≡ pool.old.items ++ held ∷ [])) }
         ensures grows { OnOk result (Grows strings.old strings.new) }
-        ensures adds { OnOk result (Adds strings.old (string_of file.now constant.now) strings.new) }
+        ensures adds { OnOk result (Adds strings.old (string_of self.now.file.now constant.now) strings.new) }
     {
-        if let Some(held) = earlier.held(file, constant, pool) {
+        if let Some(held) = earlier.held(self.file, constant, pool) {
             pool.push(held)?;
             return Ok(());
         }
-        let held = self.runtime_constant_of(alloc, strings, file, index, constant)?;
+        let held = self.runtime_constant_of(alloc, ancestors, strings, index, constant)?;
         earlier.note(constant, index)?;
         pool.push(held)?;
         Ok(())

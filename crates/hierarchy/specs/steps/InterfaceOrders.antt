@@ -4,7 +4,7 @@ use Rattle.std.specs.List.{filter}
 use Rattle.loading.specs.Families.{Family, is_interface_in}
 use Rattle.hierarchy.specs.Search.{SuperinterfacesFirst, firsts}
 use Rattle.hierarchy.specs.Initialization.{is_initialized_first}
-use Rattle.hierarchy.specs.steps.InterfaceLists.{IsAmongOrAbove}
+use Rattle.hierarchy.specs.steps.Above.{IsAmongOrAbove}
 use Rattle.hierarchy.specs.declared.marks.Marks.{Marks}
 
 -- To a list were added, of some interfaces and those above them, those that declare a default method, each once and

@@ -4,7 +4,7 @@ use Rattle.std.specs.List.{Contains}
 use Rattle.graph.specs.Seen.{AreDistinct}
 use Rattle.loading.specs.Families.{Family, IsFamily, IsAncestor, parents_in}
 use Rattle.hierarchy.specs.Search.{Search, firsts}
-use Rattle.hierarchy.specs.steps.InterfaceLists.{or_else, first_with, IsAmongOrAbove}
+use Rattle.hierarchy.specs.steps.Above.{or_else, first_with, IsAmongOrAbove}
 use Rattle.hierarchy.specs.declared.member.DeclaredMember.{DeclaredMember}
 use Rattle.hierarchy.specs.declared.walk.Visit.{Visit}
 use Rattle.hierarchy.specs.declared.walk.Visit.TheVariants.{Enter, Leave}

@@ -13,8 +13,8 @@ use Rattle.hierarchy.specs.declared.member.Unresolved.{Unresolved}
 use Rattle.loading.specs.Families.{Family}
 use Rattle.loading.specs.ClassIds.{StandsFor}
 use Rattle.loading.specs.Names.{class_name_at}
-use Rattle.program.specs.References.{ResolvesFieldAt}
-use Rattle.program.specs.Fields.{targeted}
+use Rattle.program.specs.References.{key_at, ResolvesFieldAt}
+use Rattle.program.specs.Fields.{field_kind, targeted}
 use Rattle.program.specs.RuntimePool.{IsRuntimeConstant}
 
 -- what the field that the Fieldref at an index resolves to is for instructions
@@ -26,6 +26,18 @@ IsTargetAt family f index target = (r : Result Field Unresolved) × ResolvesFiel
 abbrev pub IsResolved : Family → ClassFile → ℕ → Constant → RuntimeConstant → Type 0
 IsResolved family f index constant held = (strings : List (List ℕ)) → ((utf8 : ℕ) → constant ≢ constants.String utf8)
     → IsRuntimeConstant family strings f index constant held
+
+-- nor is one that is no reference to a member either
+abbrev pub IsPlain : Family → ClassFile → ℕ → Constant → RuntimeConstant → Type 0
+IsPlain family f index constant held = (strings : List (List ℕ)) → ((utf8 : ℕ) → constant ≢ constants.String utf8)
+    → ((c n : ℕ) → constant ≢ constants.Fieldref c n) → ((c n : ℕ) → constant ≢ constants.Methodref c n)
+    → ((c n : ℕ) → constant ≢ constants.InterfaceMethodref c n)
+    → IsRuntimeConstant family strings f index constant held
+
+-- what a Fieldref at an index is for instructions, by the index of its name and type
+abbrev pub IsFieldConstant : Family → ClassFile → ℕ → ℕ → RuntimeConstant → Type 0
+IsFieldConstant family f index n held = (r : Result Field Unresolved) × ResolvesFieldAt family f index r
+    × (held ≡ runtime.Field (field_kind (key_at f n).descriptor) (targeted family r))
 
 -- each class of a run-time constant pool is the one that its entry names
 abbrev pub HoldsClasses : Family → ClassFile → List RuntimeConstant → Type 0

@@ -9,6 +9,7 @@ use Rattle.built_in.specs.Keys.{NameAndType}
 use Rattle.hierarchy.specs.Resolution.{ResolvesField}
 use Rattle.hierarchy.specs.declared.member.Field.{Field}
 use Rattle.hierarchy.specs.declared.member.Field.TheVariants.{Out}
+use Rattle.hierarchy.specs.steps.Sought.{sought_name}
 use Rattle.hierarchy.proofs.resolve_field.built_in_field.Goals as goal
 
 -- a field of System
@@ -22,7 +23,7 @@ returns-in_default c = λ family. ResolvesField.built_in c.in_default.not-System
 
 pub returns-in-System : goal.returns-in-System
 returns-in-System c = λ family.
-    let key : NameAndType = record { name = c.args.name.now; descriptor = c.args.descriptor.now } in
+    let key = sought_name c.args.sought in
     subst (λ (b : BuiltIn). ResolvesField family key (class_ids.BuiltIn b) c.then_some.result) (sym c.in-System.is)
     (subst (λ (r : Option Field). ResolvesField family key (class_ids.BuiltIn System) r) (sym c.then_some.ensures)
     (of_system family key c.is_out.result c.is_out.ensures))

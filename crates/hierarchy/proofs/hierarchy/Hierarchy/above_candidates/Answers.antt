@@ -1,7 +1,7 @@
 use Rattle.std.proofs.Common.{◌↔◌, ℕ, subst}
 use Rattle.std.specs.List.{Contains}
 use Rattle.loading.specs.Families.{Family}
-use Rattle.hierarchy.specs.steps.InterfaceLists.{IsAmongOrAbove}
+use Rattle.hierarchy.specs.steps.Above.{IsAmongOrAbove}
 use Rattle.hierarchy.proofs.DefaultsLemmas.{covered_by}
 use Rattle.hierarchy.proofs.hierarchy.Hierarchy.above_candidates.Goals as goal
 

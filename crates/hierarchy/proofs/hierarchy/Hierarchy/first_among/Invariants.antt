@@ -2,7 +2,7 @@ use Rattle.std.proofs.Common.{◌≡◌, drop}
 use Rattle.built_in.specs.Keys.{NameAndType}
 use Rattle.hierarchy.specs.steps.MemberIndexes.{IsLookup}
 use Rattle.hierarchy.specs.steps.HierarchyTables.{wanted_in}
-use Rattle.hierarchy.specs.steps.InterfaceLists.{first_with}
+use Rattle.hierarchy.specs.steps.Above.{first_with}
 use Rattle.hierarchy.proofs.hierarchy.Hierarchy.first_among.Given as goal
 
 abbrev pub invariant-loop-place : goal.invariant-loop-place

@@ -1,18 +1,18 @@
-use Rattle.std.proofs.Common.{Option, sym, subst}
-use Rattle.built_in.specs.declared.class_id.ClassId.TheVariants as class_ids
-use Rattle.built_in.specs.Keys.{NameAndType}
-use Rattle.hierarchy.specs.Resolution.{ResolvesField, found, missing}
-use Rattle.hierarchy.specs.declared.member.Field.{Field}
+use Rattle.std.proofs.Common.{Option, [], ◌∷◌, subst}
+use Rattle.hierarchy.specs.MemberLookup.{field_in}
+use Rattle.hierarchy.specs.Resolution.{found, missing}
+use Rattle.hierarchy.specs.Search.{Search}
+use Rattle.hierarchy.specs.declared.member.DeclaredMember.{DeclaredMember}
 use Rattle.hierarchy.proofs.hierarchy.Hierarchy.given_field.Goals as goal
 
-pub returns-in_err-class : goal.returns-in_err-class
-returns-in_err-class c =
-    let key : NameAndType = record { name = c.args.name.now; descriptor = c.args.descriptor.now } in
-    subst (λ (r : Option Field). ResolvesField c.args.self.now.family key (class_ids.Given c.args.class) r)
-    (sym c.from_residual.ensures)
-    (missing (c.in_err-class.ensures key c.key_of-key.ensures))
+pub returns-in-Some : goal.returns-in-Some
+returns-in-Some c = λ name is.
+    let family = c.args.self.now.family in
+    found (subst (λ (r : Option DeclaredMember). Search family (field_in family name) (c.args.class ∷ []) r)
+    c.in-Some.is (c.in_ok-first.ensures name is))
 
-pub returns : goal.returns
-returns c =
-    let key : NameAndType = record { name = c.args.name.now; descriptor = c.args.descriptor.now } in
-    found (c.in_ok-class.ensures key c.key_of-key.ensures)
+pub returns-in-None : goal.returns-in-None
+returns-in-None c = λ name is.
+    let family = c.args.self.now.family in
+    missing (subst (λ (r : Option DeclaredMember). Search family (field_in family name) (c.args.class ∷ []) r)
+    c.in-None.is (c.in_ok-first.ensures name is))

@@ -7,4 +7,4 @@ returns-in-Some c = λ name is. ResolvesMethod.of_interface c.requires (sym (c.i
 
 pub returns : goal.returns
 returns c = λ name is.
-    ResolvesMethod.above_interface c.requires (sym (c.in_default.ensures name is)) (c.among_interfaces.ensures name is)
+    ResolvesMethod.above_interface c.requires (sym (c.in_default.ensures name is)) (c.in_ok-method.ensures name is)

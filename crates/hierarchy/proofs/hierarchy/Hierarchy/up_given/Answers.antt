@@ -1,16 +1,16 @@
 use Rattle.std.proofs.Common.{◌≤◌, length, subst, inl, inr}
 use Rattle.std.proofs.lemmas.Bool.{cases_lt}
-use Rattle.built_in.specs.Keys.{NameAndType}
 use Rattle.hierarchy.specs.steps.HierarchyTables.{wanted_in}
 use Rattle.hierarchy.specs.steps.NearestMethods.{wanted_of}
 use Rattle.hierarchy.specs.steps.Reaches.{Nearest}
 use Rattle.hierarchy.proofs.UpClassesLemmas.{found_along, built_in_along, no_class_along, no_class_declares}
 use Rattle.hierarchy.proofs.UpClassesLemmas.{is_some_not_none}
+use Rattle.hierarchy.specs.steps.Sought.{sought_name}
 use Rattle.hierarchy.proofs.hierarchy.Hierarchy.up_given.Goals as goal
 
 pub returns-in_default : goal.returns-in_default
 returns-in_default c =
-    let key : NameAndType = record { name = c.args.name.now; descriptor = c.args.descriptor.now } in
+    let key = sought_name c.args.sought in
     let family = c.args.self.now.family in
     let past : length family ≤ c.args.class = elim (cases_lt c.args.class (length family)) [
       | inl small ↦ absurd (is_some_not_none c.top.result (c.top.ensures.none small) c.in_default.is)
@@ -21,7 +21,7 @@ returns-in_default c =
 
 pub returns-in-Some-nearest : goal.returns-in-Some-nearest
 returns-in-Some-nearest c =
-    let key : NameAndType = record { name = c.args.name.now; descriptor = c.args.descriptor.now } in
+    let key = sought_name c.args.sought in
     let family = c.args.self.now.family in
     let own = wanted_in (wanted_of c.args.kind) family key in
     found_along family own key c.args.class c.in-Some-nearest.field-0
@@ -29,7 +29,7 @@ returns-in-Some-nearest c =
 
 pub returns-in-None : goal.returns-in-None
 returns-in-None c =
-    let key : NameAndType = record { name = c.args.name.now; descriptor = c.args.descriptor.now } in
+    let key = sought_name c.args.sought in
     let family = c.args.self.now.family in
     let own = wanted_in (wanted_of c.args.kind) family key in
     built_in_along family own key c.args.class c.in-Some.top c.built_in_method.result

@@ -1,0 +1,50 @@
+//! What a member is looked for by.
+
+ghost use Rattle.std.specs.Prelude.{◌≡◌};
+ghost use Rattle.built_in.specs.declared.method.BuiltInMethod.{BuiltInMethod as Member};
+ghost use Rattle.built_in.specs.Methods.{key_of_member};
+ghost use Rattle.hierarchy.specs.MemberNames.{named_in};
+ghost use Rattle.hierarchy.specs.steps.MemberIndexes.{IsLookup};
+ghost use Rattle.hierarchy.specs.steps.Sought.{sought_name};
+
+use crate::hierarchy::Hierarchy;
+use crate::member_index::MemberKey;
+use crate::member_name::MemberName;
+use built_in::method::BuiltInMethod;
+
+/// A name and a descriptor, as texts for built-in classes and by their numbers for given ones.
+#[derive(Clone, Copy, Debug)]
+pub(crate) struct Sought<'a> {
+    pub(crate) name: &'a [u8],
+    pub(crate) descriptor: &'a [u8],
+    /// None where no given class has a member of this name and descriptor.
+    pub(crate) key: Option<MemberKey>,
+}
+
+impl Hierarchy {
+    /// What a class file calls a member.
+    pub(crate) fn sought(&self, member: MemberName) -> Sought<'_>
+        ensures name { sought_name result ≡ named_in self.now.family member }
+        ensures lookup { IsLookup self.now.texts (sought_name result) result.key }
+    {
+        Sought {
+            name: self.text(member.class, member.name),
+            descriptor: self.text(member.class, member.descriptor),
+            key: Some(self.key(member)),
+        }
+    }
+
+    /// What a member of a built-in class is called.
+    pub(crate) fn sought_built_in(&self, member: BuiltInMethod) -> Sought<'static>
+        ensures name { sought_name result ≡ key_of_member member }
+        ensures lookup { IsLookup self.now.texts (sought_name result) result.key }
+    {
+        let name = member.name().as_bytes();
+        let descriptor = member.descriptor().as_bytes();
+        Sought {
+            name,
+            descriptor,
+            key: self.key_of(name, descriptor),
+        }
+    }
+}

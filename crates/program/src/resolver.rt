@@ -1,0 +1,33 @@
+//! What the references of a class are resolved with.
+
+ghost use Rattle.std.specs.Prelude.{◌≡◌, Some};
+ghost use Rattle.loading.specs.Families.{file_in};
+ghost use Rattle.program.specs.steps.NamedClasses.{AreNamed};
+ghost use Rattle.program.specs.steps.StaticNumbers.{AreStaticNumbersOf};
+
+use crate::named_classes::NamedClasses;
+use crate::static_numbers::StaticNumbers;
+use classfile::ClassFile;
+use hierarchy::hierarchy::Hierarchy;
+
+/// What the references of all classes are resolved with.
+#[derive(Drop)]
+pub(crate) struct Linker<'a> {
+    pub(crate) hierarchy: &'a Hierarchy,
+    /// By class: the numbers of its static fields.
+    pub(crate) numbers: &'a [StaticNumbers],
+    pub(crate) ghost fits: { AreStaticNumbersOf hierarchy.now.family numbers.now },
+}
+
+/// What the references of one class are resolved with.
+#[derive(Drop)]
+pub(crate) struct Resolver<'a> {
+    pub(crate) hierarchy: &'a Hierarchy,
+    pub(crate) numbers: &'a [StaticNumbers],
+    pub(crate) class: u32,
+    pub(crate) file: &'a ClassFile,
+    pub(crate) named: &'a NamedClasses,
+    pub(crate) ghost fits: { AreStaticNumbersOf hierarchy.now.family numbers.now },
+    pub(crate) ghost is_class: { file_in hierarchy.now.family class ≡ Some file.now },
+    pub(crate) ghost named_fit: { AreNamed hierarchy.now.family file.now named.now },
+}
