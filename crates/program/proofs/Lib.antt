@@ -4,3 +4,5 @@ pub mod StaticNumbersLemmas
 pub mod RuntimePoolLemmas
 pub mod SignatureLemmas
 pub mod StringsLemmas
+pub mod PoolFieldsLemmas
+pub mod NamedClassesLemmas

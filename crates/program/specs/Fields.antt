@@ -65,7 +65,7 @@ static_of (Some m) = has_flag m.access_flags 8
 abbrev pub target_in : Option ClassFile → ℕ → ℕ → FieldTarget
 target_in None c k = targets.Instance c k
 target_in (Some f) c k = if static_of (slice_get f.fields k) then targets.Static c (static_number_of f k)
-    (final_of (slice_get f.fields k))
+    (final_of (slice_get f.fields k)) k
     else targets.Instance c k
 
 -- a field as instructions use it

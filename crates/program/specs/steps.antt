@@ -3,3 +3,4 @@ pub mod ResolvedConstants
 pub mod ParsedSignatures
 pub mod GrowingStrings
 pub mod NamedClasses
+pub mod PoolFields

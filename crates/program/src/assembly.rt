@@ -1,10 +1,10 @@
 //! Puts a program together from class files (JVMS 5.4).
 
-ghost use Rattle.std.specs.Prelude.{◌≡◌, ◌⊎◌, [], ◌∷◌, ◌++◌, map, Err, IfOk, IfErr, OnOk, IsOk};
+ghost use Rattle.std.specs.Prelude.{◌≡◌, ◌⊎◌, [], ◌∷◌, ◌++◌, map, Some, Err, IfOk, IfErr, OnOk, IsOk};
 ghost use Rattle.std.specs.List.{AllZip};
 ghost use Rattle.loading.specs.declared.fault.LinkFault.{LinkFault as Fault};
 ghost use Rattle.loading.specs.declared.fault.LinkFault.TheVariants.{Memory};
-ghost use Rattle.loading.specs.Families.{IsFamilyOf};
+ghost use Rattle.loading.specs.Families.{IsFamilyOf, file_in};
 ghost use Rattle.loading.specs.Files.{LinkFails, Links};
 ghost use Rattle.program.specs.declared.class.Class.{Class as ClassTables};
 ghost use Rattle.program.specs.Fields.{statics_of};
@@ -15,6 +15,7 @@ ghost use Rattle.hierarchy.specs.Initialization.{AreOrders};
 ghost use Rattle.program.specs.Programs.{AreClasses, IsClass, IsProgram, IsImplementation, static_field};
 ghost use Rattle.hierarchy.specs.Texts.{AreDistinct};
 ghost use Rattle.hierarchy.specs.steps.GrowingTexts.{Grows};
+ghost use Rattle.program.specs.RuntimePool.{IsRuntimePool};
 ghost use Rattle.program.specs.Strings.{strings_of, all_strings, AreFirsts};
 ghost use Rattle.program.specs.steps.GrowingStrings.{Adds};
 
@@ -22,15 +23,16 @@ use crate::class::{Class, Methods, RuntimePool, StaticFields};
 use crate::linked_file::LinkedFile;
 use crate::linked_program::Program;
 use crate::methods::{initializer_of, main_of, methods_of};
-use crate::runtime_pool::Resolver;
+use crate::named_classes::NamedClasses;
+use crate::resolver::{Linker, Resolver};
 use crate::signature::{Signatures, signatures_of};
 use crate::static_numbers::StaticNumbers;
 use crate::statics::statics_of;
 use classfile::ClassFile;
+use hierarchy::ancestors::Ancestors;
 use hierarchy::class_lists::ClassLists;
 use hierarchy::hierarchy::Hierarchy;
 use hierarchy::initialization::initialization_orders;
-use hierarchy::superinterfaces::superinterface_lists;
 use hierarchy::texts::Texts;
 use loading::family::Family;
 use loading::family_of;
@@ -83,7 +85,7 @@ fn program_of(alloc: Global, family: Family) -> Result<Program, AllocError>
     ensures program { IfOk result IsProgram }
     ensures orders { IfOk result (λ program. AreOrders program.family program.orders) }
 {
-    match hierarchy_of(alloc, family) {
+    match Hierarchy::new(alloc, family) {
         Ok(hierarchy) => with_tables(alloc, hierarchy),
         Err(error) => Err(error),
     }
@@ -102,14 +104,6 @@ fn with_tables(alloc: Global, hierarchy: Hierarchy) -> Result<Program, AllocErro
             Err(error)
         }
     }
-}
-
-/// A family with the lists of its classes' superinterfaces.
-fn hierarchy_of(alloc: Global, family: Family) -> Result<Hierarchy, AllocError>
-    ensures { IfOk result (λ hierarchy. hierarchy.family ≡ family) }
-{
-    let interfaces = superinterface_lists(alloc, &family)?;
-    Hierarchy::new(alloc, family, interfaces)
 }
 
 /// What a program has beside its classes' parents and members.
@@ -194,42 +188,53 @@ fn classes_of(
     ensures adds { OnOk result (Adds strings.old (all_strings hierarchy.now.family) strings.new) }
 {
     let numbers = static_numbers_of(alloc, hierarchy.family().classes())?;
-    let resolver = Resolver {
+    let linker = Linker {
         hierarchy,
         numbers: numbers.as_slice(),
     };
-    resolved_classes(alloc, &resolver, strings)
+    linked_classes(alloc, &linker, strings)
 }
 
 /// The same with what references are resolved with.
-fn resolved_classes(
+fn linked_classes(
     alloc: Global,
-    resolver: &Resolver<'_>,
+    linker: &Linker<'_>,
     strings: &mut Texts,
 ) -> Result<Vec<Class>, AllocError>
-    ensures classes { IfOk result (λ classes. AreClasses resolver.now.hierarchy.now.family strings.new classes.items) }
+    ensures classes { IfOk result (λ classes. AreClasses linker.now.hierarchy.now.family strings.new classes.items) }
     ensures grows { OnOk result (Grows strings.old strings.new) }
-    ensures adds { OnOk result (Adds strings.old (all_strings resolver.now.hierarchy.now.family) strings.new) }
+    ensures adds { OnOk result (Adds strings.old (all_strings linker.now.hierarchy.now.family) strings.new) }
 {
+    let mut ancestors = Ancestors::new(alloc)?;
     let mut classes = Vec::new(alloc);
-    add_classes(alloc, resolver, strings, &mut classes)?;
+    add_classes(alloc, linker, &mut ancestors, strings, &mut classes)?;
     Ok(classes)
 }
 
 /// Adds what the machine uses of each class.
 fn add_classes(
     alloc: Global,
-    resolver: &Resolver<'_>,
+    linker: &Linker<'_>,
+    ancestors: &mut Ancestors,
     strings: &mut Texts,
     classes: &mut Vec<Class>,
 ) -> Result<(), AllocError>
     requires { classes.old.items ≡ [] }
-    ensures classes { OnOk result (AreClasses resolver.now.hierarchy.now.family strings.new classes.new.items) }
+    ensures classes { OnOk result (AreClasses linker.now.hierarchy.now.family strings.new classes.new.items) }
     ensures grows { OnOk result (Grows strings.old strings.new) }
-    ensures adds { OnOk result (Adds strings.old (all_strings resolver.now.hierarchy.now.family) strings.new) }
+    ensures adds { OnOk result (Adds strings.old (all_strings linker.now.hierarchy.now.family) strings.new) }
 {
-    for given in resolver.hierarchy.family().classes() {
-        add_class(alloc, resolver, strings, &given.file, classes)?;
+    let family = linker.hierarchy.family().classes();
+    for (number, given) in family.iter().enumerate() {
+        add_class(
+            alloc,
+            linker,
+            ancestors,
+            strings,
+            number as u32,
+            &given.file,
+            classes,
+        )?;
     }
     Ok(())
 }
@@ -237,18 +242,21 @@ fn add_classes(
 /// Adds what the machine uses of one more class.
 fn add_class(
     alloc: Global,
-    resolver: &Resolver<'_>,
+    linker: &Linker<'_>,
+    ancestors: &mut Ancestors,
     strings: &mut Texts,
+    number: u32,
     file: &ClassFile,
     classes: &mut Vec<Class>,
 ) -> Result<(), AllocError>
+    requires { file_in linker.now.hierarchy.now.family number ≡ Some file.now }
     ensures class { OnOk result
-        ((class : ClassTables) × IsClass resolver.now.hierarchy.now.family strings.new file.now class
+        ((class : ClassTables) × IsClass linker.now.hierarchy.now.family strings.new file.now class
         × (classes.new.items ≡ classes.old.items ++ class ∷ [])) }
     ensures grows { OnOk result (Grows strings.old strings.new) }
     ensures adds { OnOk result (Adds strings.old (strings_of file.now) strings.new) }
 {
-    let class = class_of(alloc, resolver, strings, file)?;
+    let class = class_of(alloc, linker, ancestors, strings, number, file)?;
     classes.push(class)?;
     Ok(())
 }
@@ -270,16 +278,19 @@ fn static_numbers_of(
 /// What the machine uses of a class.
 fn class_of(
     alloc: Global,
-    resolver: &Resolver<'_>,
+    linker: &Linker<'_>,
+    ancestors: &mut Ancestors,
     strings: &mut Texts,
+    number: u32,
     file: &ClassFile,
 ) -> Result<Class, AllocError>
-    ensures class { IfOk result (IsClass resolver.now.hierarchy.now.family strings.new file.now) }
+    requires { file_in linker.now.hierarchy.now.family number ≡ Some file.now }
+    ensures class { IfOk result (IsClass linker.now.hierarchy.now.family strings.new file.now) }
     ensures grows { OnOk result (Grows strings.old strings.new) }
     ensures adds { OnOk result (Adds strings.old (strings_of file.now) strings.new) }
 {
-    let runtime_pool = resolver.runtime_pool_of(alloc, strings, file)?;
-    match members_of(alloc, resolver.hierarchy.family(), file, &runtime_pool) {
+    let runtime_pool = runtime_pool_of(alloc, linker, ancestors, strings, number, file)?;
+    match members_of(alloc, linker.hierarchy.family(), file, &runtime_pool) {
         Ok(members) => Ok(Class {
             statics: members.statics,
             signatures: members.signatures,
@@ -290,6 +301,31 @@ fn class_of(
         }),
         Err(error) => Err(error),
     }
+}
+
+/// The run-time constant pool of a class.
+fn runtime_pool_of(
+    alloc: Global,
+    linker: &Linker<'_>,
+    ancestors: &mut Ancestors,
+    strings: &mut Texts,
+    number: u32,
+    file: &ClassFile,
+) -> Result<RuntimePool, AllocError>
+    requires { file_in linker.now.hierarchy.now.family number ≡ Some file.now }
+    ensures pool { IfOk result (IsRuntimePool linker.now.hierarchy.now.family strings.new file.now) }
+    ensures grows { OnOk result (Grows strings.old strings.new) }
+    ensures adds { OnOk result (Adds strings.old (strings_of file.now) strings.new) }
+{
+    let named = NamedClasses::of_file(alloc, linker.hierarchy.family(), file)?;
+    let resolver = Resolver {
+        hierarchy: linker.hierarchy,
+        numbers: linker.numbers,
+        class: number,
+        file,
+        named: &named,
+    };
+    resolver.runtime_pool_of(alloc, ancestors, strings)
 }
 
 /// The static fields and the methods of a class.

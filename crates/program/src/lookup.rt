@@ -1,11 +1,13 @@
 //! What a program answers about the parents and the members of its classes (JVMS 4.1, 5.4.3; 6.5, invokevirtual).
 
+ghost use Rattle.std.specs.Prelude.{◌≡◌};
 ghost use Rattle.hierarchy.specs.Initialization.{AreSuperclasses};
 ghost use Rattle.program.specs.References.{ResolvesFieldOf, ResolvesMethodOf};
 ghost use Rattle.hierarchy.specs.Resolution.{Selects};
+ghost use Rattle.program.specs.steps.PoolFields.{found_field, pool_field, pool_method};
 
 use crate::linked_program::Program;
-use crate::references::{resolve_field_at, resolve_method_at};
+use crate::runtime_constant::{FieldTarget, RuntimeConstant};
 use built_in::class_id::ClassId;
 use hierarchy::member::{Field, Method, Unresolved};
 use hierarchy::superclasses::Superclasses;
@@ -26,10 +28,8 @@ impl Program {
     pub fn resolve_field(&self, class: u32, index: u16) -> Result<Field, Unresolved>
         ensures { ResolvesFieldOf self.now.family class index result }
     {
-        match self.hierarchy.family().file(class) {
-            Some(file) => resolve_field_at(&self.hierarchy, file, index),
-            None => Err(Unresolved::NoReference),
-        }
+        let _classes = self.classes();
+        pool_field(self.constant(class, index))
     }
 
     /// The method that the Methodref or InterfaceMethodref at an index of a class's constant pool resolves to (JVMS
@@ -42,10 +42,8 @@ impl Program {
     pub fn resolve_method(&self, class: u32, index: u16) -> Result<Method, Unresolved>
         ensures { ResolvesMethodOf self.now.family class index result }
     {
-        match self.hierarchy.family().file(class) {
-            Some(file) => resolve_method_at(&self.hierarchy, file, index),
-            None => Err(Unresolved::NoReference),
-        }
+        let _classes = self.classes();
+        pool_method(self.constant(class, index))
     }
 
     /// The method that a call of a resolved method runs on an object of a class, if there is one. A private one is
@@ -54,5 +52,39 @@ impl Program {
         ensures { Selects self.now.family class method result }
     {
         self.hierarchy.select(class, method)
+    }
+}
+
+/// What a constant says of a field.
+fn pool_field(constant: Option<RuntimeConstant>) -> Result<Field, Unresolved>
+    ensures { result ≡ pool_field constant }
+{
+    match constant {
+        Some(RuntimeConstant::Field(_, target)) => field_of(target),
+        _ => Err(Unresolved::NoReference),
+    }
+}
+
+/// What a constant says of a method.
+fn pool_method(constant: Option<RuntimeConstant>) -> Result<Method, Unresolved>
+    ensures { result ≡ pool_method constant }
+{
+    match constant {
+        Some(RuntimeConstant::Method(method)) => method,
+        Some(RuntimeConstant::InterfaceMethod(method)) => method,
+        _ => Err(Unresolved::NoReference),
+    }
+}
+
+/// The field that is meant.
+fn field_of(target: Result<FieldTarget, Unresolved>) -> Result<Field, Unresolved>
+    ensures { result ≡ found_field target }
+{
+    match target {
+        Ok(FieldTarget::Static { class, index, .. } | FieldTarget::Instance { class, index }) => {
+            Ok(Field::Given { class, index })
+        }
+        Ok(FieldTarget::Out) => Ok(Field::Out),
+        Err(fault) => Err(fault),
     }
 }

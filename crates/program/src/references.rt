@@ -60,8 +60,7 @@ impl Resolver<'_> {
     pub(crate) fn class_at(&self, index: u16) -> Option<ClassId>
         ensures { StandsFor self.now.hierarchy.now.family (class_name_at self.now.file.now index) result }
     {
-        self.named
-            .class_at(self.hierarchy.family(), self.file, index)
+        self.named.class_at(index)
     }
 
     /// The member that the NameAndType at an index names.
@@ -93,7 +92,8 @@ impl Resolver<'_> {
         let Some(class) = self.class_at(class) else {
             return Ok(Err(Unresolved::Missing));
         };
-        match self.hierarchy.resolve_field(ancestors, class, member)? {
+        let found = self.hierarchy.resolve_field(ancestors, class, member)?;
+        match found {
             Some(field) => Ok(Ok(field)),
             None => Ok(Err(Unresolved::Missing)),
         }
@@ -118,7 +118,8 @@ impl Resolver<'_> {
         if is_interface(self.hierarchy, class) != of_interface {
             return Ok(Err(Unresolved::Incompatible));
         }
-        match self.hierarchy.resolve_method(ancestors, class, member)? {
+        let found = self.hierarchy.resolve_method(ancestors, class, member)?;
+        match found {
             Some(method) => Ok(Ok(method)),
             None => Ok(Err(Unresolved::Missing)),
         }

@@ -2,7 +2,6 @@
 
 ghost use Rattle.std.specs.Prelude.{◌≡◌, Some};
 ghost use Rattle.loading.specs.Families.{file_in};
-ghost use Rattle.program.specs.steps.NamedClasses.{AreNamed};
 ghost use Rattle.program.specs.steps.StaticNumbers.{AreStaticNumbersOf};
 
 use crate::named_classes::NamedClasses;
@@ -26,8 +25,9 @@ pub(crate) struct Resolver<'a> {
     pub(crate) numbers: &'a [StaticNumbers],
     pub(crate) class: u32,
     pub(crate) file: &'a ClassFile,
-    pub(crate) named: &'a NamedClasses,
+    pub(crate) named: &'a NamedClasses<'a>,
     pub(crate) ghost fits: { AreStaticNumbersOf hierarchy.now.family numbers.now },
     pub(crate) ghost is_class: { file_in hierarchy.now.family class ≡ Some file.now },
-    pub(crate) ghost named_fit: { AreNamed hierarchy.now.family file.now named.now },
+    pub(crate) ghost names_family: { named.now.family ≡ hierarchy.now.family },
+    pub(crate) ghost names_file: { named.now.file ≡ file.now },
 }

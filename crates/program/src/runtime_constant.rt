@@ -28,8 +28,10 @@ pub enum FieldTarget {
         /// Its number among the class's static fields that have values.
         number: u32,
         is_final: bool,
+        /// Its place among the fields that the class declares.
+        index: u16,
     },
-    /// A field of instances.
+    /// A field of instances, by its place among the fields that the class declares.
     Instance {
         class: u32,
         index: u16,

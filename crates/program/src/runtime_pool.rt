@@ -56,7 +56,7 @@ fn target_in(file: &ClassFile, class: u32, index: u16, number: u32) -> FieldTarg
 
 /// A field as instructions use it, from its number.
 fn target_of_field(field: &Member, class: u32, index: u16, number: u32) -> FieldTarget
-    ensures { result ≡ (if static_of (Some field.now) then targets.Static class number (final_of (Some field.now))
+    ensures { result ≡ (if static_of (Some field.now) then targets.Static class number (final_of (Some field.now)) index
         else targets.Instance class index) }
 {
     if has_flag(field.access_flags, STATIC) {
@@ -64,6 +64,7 @@ fn target_of_field(field: &Member, class: u32, index: u16, number: u32) -> Field
             class,
             number,
             is_final: has_flag(field.access_flags, FINAL),
+            index,
         }
     } else {
         FieldTarget::Instance { class, index }
@@ -109,7 +110,8 @@ impl Resolver<'_> {
     ) -> Result<Result<FieldTarget, Unresolved>, AllocError>
         ensures { IfOk result (IsTargetAt self.now.hierarchy.now.family self.now.file.now index) }
     {
-        match self.resolve_field_at(ancestors, index)? {
+        let resolved = self.resolve_field_at(ancestors, index)?;
+        match resolved {
             Ok(field) => Ok(Ok(self.target_of(field))),
             Err(fault) => Ok(Err(fault)),
         }
@@ -125,10 +127,8 @@ impl Resolver<'_> {
         ensures { IfOk result (IsFieldConstant self.now.hierarchy.now.family self.now.file.now index name_and_type) }
     {
         let kind = field_kind(descriptor_at(self.file, name_and_type));
-        Ok(RuntimeConstant::Field(
-            kind,
-            self.field_at(ancestors, index)?,
-        ))
+        let target = self.field_at(ancestors, index)?;
+        Ok(RuntimeConstant::Field(kind, target))
     }
 
     /// What an entry of a class file's constant pool stands for, other than a string.
@@ -142,14 +142,17 @@ impl Resolver<'_> {
     {
         match constant {
             Constant::Fieldref { name_and_type, .. } => {
-                self.field_constant(ancestors, index, *name_and_type)
+                let held = self.field_constant(ancestors, index, *name_and_type)?;
+                Ok(held)
             }
-            Constant::Methodref { .. } => Ok(RuntimeConstant::Method(
-                self.resolve_method_at(ancestors, index)?,
-            )),
-            Constant::InterfaceMethodref { .. } => Ok(RuntimeConstant::InterfaceMethod(
-                self.resolve_method_at(ancestors, index)?,
-            )),
+            Constant::Methodref { .. } => {
+                let method = self.resolve_method_at(ancestors, index)?;
+                Ok(RuntimeConstant::Method(method))
+            }
+            Constant::InterfaceMethodref { .. } => {
+                let method = self.resolve_method_at(ancestors, index)?;
+                Ok(RuntimeConstant::InterfaceMethod(method))
+            }
             _ => Ok(self.plain(index, constant)),
         }
     }
@@ -185,7 +188,8 @@ impl Resolver<'_> {
         ensures adds { OnOk result (Adds strings.old (string_of self.now.file.now constant.now) strings.new) }
     {
         let Constant::String { text } = constant else {
-            return self.resolved(ancestors, index, constant);
+            let held = self.resolved(ancestors, index, constant)?;
+            return Ok(held);
         };
         let number = strings.add(alloc, text_at(self.file, *text))?;
         Ok(RuntimeConstant::String(number))

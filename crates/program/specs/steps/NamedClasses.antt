@@ -7,13 +7,20 @@ use Rattle.built_in.specs.declared.class_id.ClassId.{ClassId}
 use Rattle.loading.specs.ClassIds.{StandsFor}
 use Rattle.loading.specs.Families.{Family}
 use Rattle.loading.specs.Names.{text_at}
-use Rattle.program.specs.declared.named_classes.NamedClasses.{NamedClasses}
+
+-- A class file, and the family whose classes it names.
+pub record NamingFile : Type 0 where
+  pub family : Family
+  pub file : ClassFile
+
+abbrev pub ClassMap : Type 0
+ClassMap = BTreeMap ℕ (Option ClassId)
 
 -- what the text at an index was found to stand for
-unfoldable pub found : NamedClasses → ℕ → Option (Option ClassId)
-found named name = get nat_cmp named.classes name
+unfoldable pub found : ClassMap → ℕ → Option (Option ClassId)
+found classes name = get nat_cmp classes name
 
 -- each is what its text stands for
-abbrev pub AreNamed : Family → ClassFile → NamedClasses → Type 0
-AreNamed family f named = (name : ℕ) (x : Option ClassId) → found named name ≡ Some x
+abbrev pub AreNamed : Family → ClassFile → ClassMap → Type 0
+AreNamed family f classes = (name : ℕ) (x : Option ClassId) → found classes name ≡ Some x
     → StandsFor family (text_at f name) x

@@ -8,11 +8,11 @@ use Rattle.program.specs.Strings.{all_strings}
 use Rattle.program.specs.steps.GrowingStrings.{Adds}
 use Rattle.program.proofs.assembly.add_classes.Given as goal
 
-abbrev pub invariant-loop-given : goal.invariant-loop-given
-invariant-loop-given l = record {
-  classes : AllZip (λ (given : GivenClass) (class : Class). IsClass l.resolver.hierarchy.now.family l.strings given.file
+abbrev pub invariant-loop-number : goal.invariant-loop-number
+invariant-loop-number l = record {
+  classes : AllZip (λ (given : GivenClass) (class : Class). IsClass l.linker.hierarchy.now.family l.strings given.file
       class)
-      (take l.given-index l.resolver.hierarchy.now.family) l.classes.items;
+      (take l.number l.linker.hierarchy.now.family) l.classes.items;
   grows : Grows l.initial.strings l.strings;
-  adds : Adds l.initial.strings (all_strings (take l.given-index l.resolver.hierarchy.now.family)) l.strings;
+  adds : Adds l.initial.strings (all_strings (take l.number l.linker.hierarchy.now.family)) l.strings;
 }

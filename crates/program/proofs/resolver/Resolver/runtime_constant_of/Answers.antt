@@ -2,7 +2,7 @@ use Rattle.std.proofs.Common.{ℕ, List, [], ◌∷◌, Some, ap, subst, ◌∙�
 use Rattle.program.specs.RuntimePool.{IsRuntimeConstant}
 use Rattle.program.specs.steps.GrowingStrings.{Adds}
 use Rattle.program.proofs.StringsLemmas.{adds_text}
-use Rattle.program.proofs.runtime_pool.Resolver.runtime_constant_of.Goals as goal
+use Rattle.program.proofs.resolver.Resolver.runtime_constant_of.Goals as goal
 
 pub returns-clause-held : goal.returns-clause-held
 returns-clause-held c =

@@ -4,12 +4,12 @@ use Rattle.hierarchy.specs.steps.GrowingTexts.{Grows}
 use Rattle.program.specs.Strings.{string_of}
 use Rattle.program.specs.steps.GrowingStrings.{Adds}
 use Rattle.program.specs.steps.ResolvedConstants.{AreRuntimeConstants}
-use Rattle.program.proofs.runtime_pool.Resolver.add_constants.Given as goal
+use Rattle.program.proofs.resolver.Resolver.add_constants.Given as goal
 
 abbrev pub invariant-loop-index : goal.invariant-loop-index
 invariant-loop-index l = record {
   count : length l.pool.items ≡ l.index;
-  pool : AreRuntimeConstants l.self.hierarchy.now.family l.strings l.file l.pool.items;
+  pool : AreRuntimeConstants l.self.hierarchy.now.family l.strings l.self.file.now l.pool.items;
   grows : Grows l.initial.strings l.strings;
-  adds : Adds l.initial.strings (flat_map (string_of l.file) (take l.index l.constants)) l.strings;
+  adds : Adds l.initial.strings (flat_map (string_of l.self.file.now) (take l.index l.constants)) l.strings;
 }

@@ -1,7 +1,10 @@
-use Rattle.std.proofs.Common.{◌≡◌, Bool, true, false, not, refl}
+use Rattle.std.proofs.Common.{◌≡◌, Bool, true, false, not, refl, Option, subst}
 use Rattle.std.proofs.Math.Bool.{beq}
+use Rattle.hierarchy.specs.MemberNames.{named_in}
+use Rattle.hierarchy.specs.Resolution.{ResolvesMethod}
+use Rattle.hierarchy.specs.declared.member.Method.{Method}
 use Rattle.program.specs.References.{FindsMethod}
-use Rattle.program.proofs.references.find_method.Goals as goal
+use Rattle.program.proofs.resolver.Resolver.find_method.Goals as goal
 
 differ : (a b : Bool) → not (beq a b) ≡ true → a ≡ b → ⊥
 differ true true h same = absurd cc
@@ -16,24 +19,28 @@ agree false true h = absurd cc
 agree false false h = refl
 
 pub returns-in_default : goal.returns-in_default
-returns-in_default c = FindsMethod.unknown (rw c.family.ensures at c.in_default.ensures)
+returns-in_default c = FindsMethod.unknown c.in_default.ensures
 
 pub returns-then-is_interface-of_interface : goal.returns-then-is_interface-of_interface
 returns-then-is_interface-of_interface c =
-    FindsMethod.incompatible (rw c.family.ensures at c.in-Some.ensures)
+    FindsMethod.incompatible c.in-Some.ensures
     (differ _ _
     (rw (c.is_interface.ensures, c.wants_interface-of_interface.ensures) at c.if-is_interface-of_interface.true))
 
-pub returns-in-Some-resolve_method : goal.returns-in-Some-resolve_method
-returns-in-Some-resolve_method c =
-    FindsMethod.found (rw c.family.ensures at c.in-Some.ensures)
+pub returns-in-Some-found : goal.returns-in-Some-found
+returns-in-Some-found c =
+    let family = c.args.self.now.hierarchy.now.family in
+    FindsMethod.found c.in-Some.ensures
     (agree _ _
     (rw (c.is_interface.ensures, c.wants_interface-of_interface.ensures) at c.if-is_interface-of_interface.false))
-    c.in-Some-resolve_method.ensures
+    (subst (λ (r : Option Method). ResolvesMethod family (named_in family c.args.member) c.in-Some.class r)
+    c.in-Some-found.is c.in_ok-found.ensures)
 
 pub returns-in-None : goal.returns-in-None
 returns-in-None c =
-    FindsMethod.missing (rw c.family.ensures at c.in-Some.ensures)
+    let family = c.args.self.now.hierarchy.now.family in
+    FindsMethod.missing c.in-Some.ensures
     (agree _ _
     (rw (c.is_interface.ensures, c.wants_interface-of_interface.ensures) at c.if-is_interface-of_interface.false))
-    c.in-None.ensures
+    (subst (λ (r : Option Method). ResolvesMethod family (named_in family c.args.member) c.in-Some.class r)
+    c.in-None.is c.in_ok-found.ensures)

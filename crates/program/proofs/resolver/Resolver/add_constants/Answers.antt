@@ -8,12 +8,12 @@ use Rattle.program.proofs.RuntimePoolGrowthLemmas.{grows_twice}
 use Rattle.program.proofs.RuntimePoolLemmas.{constants_next}
 use Rattle.program.proofs.StringsLemmas.{adds_next, adds_nothing}
 use Rattle.program.proofs.ZipLemmas.{item_at}
-use Rattle.program.proofs.runtime_pool.Resolver.add_constants.Goals as goal
+use Rattle.program.proofs.resolver.Resolver.add_constants.Goals as goal
 
 pub loop-index-preserved : goal.loop-index-preserved
 loop-index-preserved c =
     let i = c.loop-index.index in
-    let f = c.args.file.now in
+    let f = c.args.self.now.file.now in
     let constant = c.index-constants-index.result in
     let pool = c.loop-index.pool.items in
     let within : i < length c.constants-constants.result.now = omega arith in
@@ -49,7 +49,7 @@ returns-clause-pool c = record {
 
 pub returns-clause-adds : goal.returns-clause-adds
 returns-clause-adds c =
-    let f = c.args.file.now in
+    let f = c.args.self.now.file.now in
     let constants = c.constants-constants.result.now in
     let whole : length constants ≤ c.loop-index.index = omega arith in
     let all : Adds c.args.strings.now (flat_map (string_of f) constants) c.loop-index.strings =

@@ -1,0 +1,11 @@
+use Rattle.std.proofs.Common.{subst}
+use Rattle.loading.specs.ClassIds.{StandsFor}
+use Rattle.program.proofs.NamedClassesLemmas.{named_more}
+use Rattle.program.proofs.named_classes.note.Goals as goal
+
+pub returns : goal.returns
+returns c =
+    named_more c.args.family.now c.args.file.now c.args.classes.now c.insert.new.classes c.in-Class.name
+    c.class_named-class.result c.requires
+    (subst (λ n. StandsFor c.args.family.now n c.class_named-class.result) c.text_at.ensures c.class_named-class.ensures)
+    c.in_ok-insert.ensures
