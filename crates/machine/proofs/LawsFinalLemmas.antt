@@ -87,7 +87,7 @@ module _ (w : OperandKind) (c k : ℕ) where
   no_getstatic (Some (runtime.Field kind target)) e = by target (valued kind (get_target kind target) e)
     where
       by : (t : Result FieldTarget Unresolved) → get_target kind t ≡ PutStatic w c k → ⊥
-      by (Ok (targets.Static d j final)) h = no_get d j kind h
+      by (Ok (targets.Static d j final place)) h = no_get d j kind h
       by (Ok (targets.Instance d j)) h = cc
       by (Ok targets.Out) h = cc
       by (Err unresolved.Missing) h = cc
@@ -136,30 +136,33 @@ module _ (w : OperandKind) (c k : ℕ) where
     record IsPut (e : Option RuntimeConstant) : Type 0 where
       kind : FieldKind
       final : Bool
+      place : ℕ
       valued : has_value kind ≡ true
-      constant : e ≡ Some (runtime.Field kind (Ok (targets.Static c k final)))
+      constant : e ≡ Some (runtime.Field kind (Ok (targets.Static c k final place)))
       may : may_write P d m c final ≡ true
 
     put_constant : (e : Option RuntimeConstant) → putstatic_of P d m e ≡ PutStatic w c k → IsPut e
     put_constant (Some (runtime.Field kind target)) e = by target (valued kind (put_target P d m kind target) e)
       where
-        written : (x j : ℕ) (final b : Bool) → may_write P d m x final ≡ b
+        written : (x j : ℕ) (final b : Bool) (place : ℕ) → may_write P d m x final ≡ b
             → cond b (put_static x j kind) (Refused Fault) ≡ PutStatic w c k
-            → IsPut (Some (runtime.Field kind (Ok (targets.Static x j final))))
-        written x j final true may h =
+            → IsPut (Some (runtime.Field kind (Ok (targets.Static x j final place))))
+        written x j final true place may h =
             let put = put_is x j kind h in
             record {
               kind = kind;
               final = final;
+              place = place;
               valued = put.0;
               constant = rw (put.1, put.2) refl;
               may = subst (λ (n : ℕ). may_write P d m n final ≡ true) put.1 may;
             }
-        written x j final false may h = absurd cc
+        written x j final false place may h = absurd cc
 
         by : (t : Result FieldTarget Unresolved) → put_target P d m kind t ≡ PutStatic w c k
             → IsPut (Some (runtime.Field kind t))
-        by (Ok (targets.Static x j final)) h = written x j final (may_write P d m x final) refl h
+        by (Ok (targets.Static x j final place)) h =
+            written x j final (may_write P d m x final) place refl h
         by (Ok (targets.Instance x j)) h = absurd cc
         by (Ok targets.Out) h = absurd cc
         by (Err unresolved.Missing) h = absurd cc
@@ -246,17 +249,17 @@ record IsStatic (family : Family) (c k : ℕ) (final : Bool) (r : Result Field U
 abbrev IsOk : FieldTarget → FieldTarget → Type 0
 IsOk a b = ◌≡◌ {A = Result FieldTarget Unresolved} (Ok a) (Ok b)
 
-static_target : (family : Family) (c k : ℕ) (final : Bool) (r : Result Field Unresolved)
-    → targeted family r ≡ Ok (targets.Static c k final)
+static_target : (family : Family) (c k : ℕ) (final : Bool) (place : ℕ) (r : Result Field Unresolved)
+    → targeted family r ≡ Ok (targets.Static c k final place)
     → IsStatic family c k final r
-static_target family c k final (Err x) e = absurd cc
-static_target family c k final (Ok fields.Out) e = absurd cc
-static_target family c k final (Ok (fields.Given x j)) e = by_file (file_in family x) refl e
+static_target family c k final place (Err x) e = absurd cc
+static_target family c k final place (Ok fields.Out) e = absurd cc
+static_target family c k final place (Ok (fields.Given x j)) e = by_file (file_in family x) refl e
   where
     by_flag : (f : ClassFile) (m : Member) (b : Bool) → file_in family x ≡ Some f → slice_get f.fields j ≡ Some m
         → has_flag m.access_flags 8 ≡ b
-        → IsOk (cond b (targets.Static x (static_number_of f j) (has_flag m.access_flags 16)) (targets.Instance x j))
-        (targets.Static c k final)
+        → IsOk (cond b (targets.Static x (static_number_of f j) (has_flag m.access_flags 16) j) (targets.Instance x j))
+        (targets.Static c k final place)
         → IsStatic family c k final (Ok (fields.Given x j))
     by_flag f m true file at static h =
         let class : x ≡ c = cc in
@@ -274,13 +277,13 @@ static_target family c k final (Ok (fields.Given x j)) e = by_file (file_in fami
     by_flag f m false file at static h = absurd cc
 
     by_member : (f : ClassFile) (o : Option Member) → file_in family x ≡ Some f → slice_get f.fields j ≡ o
-        → IsOk (cond (static_of o) (targets.Static x (static_number_of f j) (final_of o)) (targets.Instance x j))
-        (targets.Static c k final)
+        → IsOk (cond (static_of o) (targets.Static x (static_number_of f j) (final_of o) j) (targets.Instance x j))
+        (targets.Static c k final place)
         → IsStatic family c k final (Ok (fields.Given x j))
     by_member f None file at h = absurd cc
     by_member f (Some m) file at h = by_flag f m (has_flag m.access_flags 8) file at refl h
 
-    by_file : (o : Option ClassFile) → file_in family x ≡ o → IsOk (target_in o x j) (targets.Static c k final)
+    by_file : (o : Option ClassFile) → file_in family x ≡ o → IsOk (target_in o x j) (targets.Static c k final place)
         → IsStatic family c k final (Ok (fields.Given x j))
     by_file None file h = absurd cc
     by_file (Some f) file h = by_member f (slice_get f.fields j) file refl h
@@ -377,8 +380,9 @@ module _ (P : Tables) (is : IsProgram P) where
       → (d ≡ c) × (initializer_in P c ≡ Some m)
   finals_written w d m place c k e final =
       let put = put_at w c k P d m place e in
-      let source = (constant_at_put d put.0 put.1.kind (Ok (targets.Static c k put.1.final)) put.1.constant).2 in
-      let static = static_target P.family c k put.1.final source.result source.target_is in
+      let target = Ok (targets.Static c k put.1.final put.1.place) in
+      let source = (constant_at_put d put.0 put.1.kind target put.1.constant).2 in
+      let static = static_target P.family c k put.1.final put.1.place source.result source.target_is in
       let declared = finds_field c static.place static.result source.finds in
       let named : field_of source.key (Some static.file) ≡ Some static.place =
       ap (field_of source.key) (sym static.stands) ∙ declared in

@@ -137,6 +137,7 @@ fn put_target(
                 class: owner,
                 number,
                 is_final,
+                ..
             },
         ) => {
             if !may_write(program, class, method, owner, is_final) {
