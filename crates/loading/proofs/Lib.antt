@@ -5,6 +5,7 @@ pub mod NamesLemmas
 pub mod LinkingPlaceLemmas
 pub mod FilesTwiceLemmas
 pub mod LinkingInterfaceLemmas
+pub mod FoundNamesLemmas
 pub mod FilesParentLemmas
 pub mod FilesTakenLemmas
 pub mod InterfaceFaultsLemmas

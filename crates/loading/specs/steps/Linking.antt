@@ -88,11 +88,6 @@ pub record AreInterfaces (files : List ClassFile) (f : ClassFile) (numbers : Lis
   pub names : map Some (interfaces_of f) ≡ map (name_at files) numbers
   pub each : All (λ i. is_interface_at files i ≡ true) numbers
 
--- the name is that of no interface
-pub data IsBadInterface (files : List ClassFile) (name : List ℕ) : BadParent → Type 0 where
-  is_unknown : IsUnknown files name → IsBadInterface files name bad.UnknownInterface
-  is_no_interface : IsGivenClass files name ⊎ IsBuiltIn name → IsBadInterface files name bad.NoInterface
-
 pub data HasBadInterface (files : List ClassFile) (f : ClassFile) : BadParent → Type 0 where
   one_unknown : {name : List ℕ} → Contains (interfaces_of f) name → IsUnknown files name
       → HasBadInterface files f bad.UnknownInterface
