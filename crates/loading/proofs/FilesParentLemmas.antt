@@ -51,7 +51,7 @@ given_name files d name e =
     let h = file_at files d name e in
     (h.file, ((given_at files d h.file h.at).0, h.is), ap (passes is_interface) h.at)
 
-named_given : (files : List ClassFile) (d : ℕ) (name : List ℕ) → name_at files d ≡ Some name → IsGiven files name
+pub named_given : (files : List ClassFile) (d : ℕ) (name : List ℕ) → name_at files d ≡ Some name → IsGiven files name
 named_given files d name e = (let h = given_name files d name e in (h.0, h.1))
 
 pub interface_file : (files : List ClassFile) (d : ℕ) (name : List ℕ) → name_at files d ≡ Some name

@@ -1,5 +1,6 @@
 -- What names of superinterfaces were found to stand for.
-use Rattle.std.proofs.Common.{◌≡◌, ◌≢◌, ℕ, ◌<◌, ◌≤◌, ◌⊎◌, inl, inr, true, false, eqb, List, [], ◌∷◌, length, get_or, set, replicate}
+use Rattle.std.proofs.Common.{◌≡◌, ◌≢◌, ℕ, ◌<◌, ◌≤◌, ◌⊎◌, inl, inr, true, false, eqb, List, [], ◌∷◌, length, get_or}
+use Rattle.std.proofs.Common.{set, replicate}
 use Rattle.std.proofs.Common.{Option, Some, None, slice_get, refl, sym, ap, ◌∙◌, unwrap_or, arith}
 use Rattle.std.proofs.lemmas.Bool.{cases_lt}
 use Rattle.std.proofs.lemmas.Bool.Decides.{eqb_tells}
@@ -42,7 +43,8 @@ pub named_there : (f : ClassFile) (pool : List Constant) (i index : ℕ) (c : Co
     → class_name_at f index ≡ text_at f (name_index c)
 unfolding class_name_of
 named_there f pool i index c fits same at within read =
-    let there = constant_there f pool i index (Some c) same at (slice_get_read pool (length pool) i c refl within read) in
+    let here = slice_get_read pool (length pool) i c refl within read in
+    let there = constant_there f pool i index (Some c) same at here in
     ap (λ o. unwrap_or (class_name_in f.constants o) []) there ∙ name_in f c (no_text f fits)
 
 pub nothing_there : (f : ClassFile) (pool : List Constant) (i index : ℕ) → IsClassFile f → pool ≡ f.constants

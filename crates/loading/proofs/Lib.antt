@@ -2,6 +2,7 @@ pub mod PlaceLemmas
 pub mod FamiliesParentLemmas
 pub mod OptionLemmas
 pub mod NamesLemmas
+pub mod OwnNamesLemmas
 pub mod LinkingPlaceLemmas
 pub mod FilesTwiceLemmas
 pub mod LinkingInterfaceLemmas
@@ -19,3 +20,5 @@ pub mod FilesMovedLemmas
 pub mod LinkingFileLemmas
 pub mod FamiliesLemmas
 pub mod ClassIdsLemmas
+pub mod BuiltInNamesLemmas
+pub mod UniquenessLemmas

@@ -1,5 +1,6 @@
 -- The names of a class's parents, one by one.
-use Rattle.std.proofs.Common.{◌≡◌, ℕ, ◌+◌, ◌<◌, ◌≤◌, true, false, List, [], ◌∷◌, ◌++◌, length, get_or, take, map, Option}
+use Rattle.std.proofs.Common.{◌≡◌, ℕ, ◌+◌, ◌<◌, ◌≤◌, true, false, List, [], ◌∷◌, ◌++◌, length, get_or, take, map}
+use Rattle.std.proofs.Common.{Option}
 use Rattle.std.proofs.Common.{Some, None, slice_get, slice_index_or, refl, sym, ap, subst, ◌∙◌, eqb, arith}
 use Rattle.std.specs.List.{All, Contains}
 use Rattle.std.proofs.lemmas.Bool.{ne_eqb}
@@ -50,7 +51,8 @@ interface_in f indices k name same within is =
 
 -- the classes of the names so far
 abbrev pub AreNamedSoFar : List ClassFile → ClassFile → ℕ → List Superclass → Type 0
-AreNamedSoFar files f n classes = map Some (map (class_name_at f) (take n f.interfaces)) ≡ map (name_among files) classes
+AreNamedSoFar files f n classes = map Some (map (class_name_at f) (take n f.interfaces))
+    ≡ map (name_among files) classes
 
 pub one_more : (files : List ClassFile) (f : ClassFile) (n : ℕ) (classes new : List Superclass) (class : Superclass)
     → n < length f.interfaces → AreNamedSoFar files f n classes → new ≡ classes ++ class ∷ []
