@@ -13,6 +13,8 @@ pub mod JoinedLemmas
 pub mod InterfaceListsLemmas
 pub mod InterfaceOrdersLemmas
 pub mod UniquenessLemmas
+pub mod BuiltInMembersLemmas
+pub mod ResolutionUniqueLemmas
 pub mod InitializationLemmas
 pub mod SearchRowLemmas
 pub mod RowLemmas
