@@ -134,8 +134,14 @@ def far_references(count):
     return files
 
 
+def equal_interfaces(count):
+    """A class that names one interface so many times among its superinterfaces, by a name of 65,000 bytes."""
+    name = "a" * 65000
+    return [interface(name), class_file("Main", interfaces=[name] * count)]
+
+
 KINDS = {kind.__name__: kind for kind in (small, chain, chain_of_references, interface_chain, many_defaults, long_name,
-                                         far_references)}
+                                         far_references, equal_interfaces)}
 
 
 def main():

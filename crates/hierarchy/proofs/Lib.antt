@@ -12,6 +12,8 @@ pub mod DefaultsLemmas
 pub mod FirstsLemmas
 pub mod InterfaceOrdersLemmas
 pub mod UniquenessLemmas
+pub mod BuiltInMembersLemmas
+pub mod ResolutionUniqueLemmas
 pub mod InitializationLemmas
 pub mod SearchRowLemmas
 pub mod RowLemmas

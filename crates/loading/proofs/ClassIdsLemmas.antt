@@ -3,6 +3,7 @@ use Rattle.std.proofs.Common.{◌≡◌, ◌≢◌, ℕ, zero, suc, ◌≤◌, L
 use Rattle.std.proofs.Common.{Option, Some, None}
 use Rattle.std.proofs.Common.{arith, refl, sym, ap, ◌∙◌, option_map}
 use Rattle.std.proofs.lemmas.Grind.{common_steps}
+use Rattle.classfile.specs.Class.{IsNoArray}
 use Rattle.built_in.specs.declared.class_id.ArrayType.{ArrayType}
 use Rattle.built_in.specs.declared.class_id.ClassId.TheVariants as class
 use Rattle.built_in.specs.declared.class_id.ElementType.{ElementType}
@@ -10,10 +11,6 @@ use Rattle.built_in.specs.declared.class_id.ElementType.TheVariants as element
 use Rattle.built_in.specs.ClassNames.{name_of_built_in}
 use Rattle.loading.specs.Families.{Family, name_in}
 use Rattle.loading.specs.ClassIds.{object_type, element_text, IsNamed}
-
--- a text does not begin with `[`
-abbrev pub IsNoArray : List ℕ → Type 0
-IsNoArray text = (rest : List ℕ) → text ≢ 91 ∷ rest
 
 other_letter : (first : ℕ) (others text : List ℕ) → (first ≡ 91 → ⊥) → Some (first ∷ others) ≡ Some text
     → IsNoArray text
@@ -23,7 +20,7 @@ given_is_no_array : (o : Option (List ℕ)) (text : List ℕ) → option_map obj
 given_is_no_array None text e = absurd cc
 given_is_no_array (Some name) text e = other_letter 76 (name ++ 59 ∷ []) text (λ n. omega arith) e
 
-element_is_no_array : (family : Family) (e : ElementType) (text : List ℕ) → element_text family e ≡ Some text
+pub element_is_no_array : (family : Family) (e : ElementType) (text : List ℕ) → element_text family e ≡ Some text
     → IsNoArray text
 element_is_no_array family element.Boolean text h = other_letter 90 [] text (λ n. omega arith) h
 element_is_no_array family element.Byte text h = other_letter 66 [] text (λ n. omega arith) h
@@ -37,8 +34,8 @@ element_is_no_array family (element.Given c) text h = given_is_no_array (name_in
 element_is_no_array family (element.BuiltIn b) text h =
     other_letter 76 (name_of_built_in b ++ 59 ∷ []) text (λ n. omega arith) h
 
-same_count : (m n : ℕ) (s t : List ℕ) → IsNoArray s → IsNoArray t → replicate m 91 ++ s ≡ replicate n 91 ++ t → (m ≡ n)
-    × (s ≡ t)
+pub same_count : (m n : ℕ) (s t : List ℕ) → IsNoArray s → IsNoArray t → replicate m 91 ++ s ≡ replicate n 91 ++ t
+    → (m ≡ n) × (s ≡ t)
 same_count zero zero s t p q e = (refl, e)
 same_count zero (suc n) s t p q e = absurd (p (replicate n 91 ++ t) e)
 same_count (suc m) zero s t p q e = absurd (q (replicate m 91 ++ s) (sym e))

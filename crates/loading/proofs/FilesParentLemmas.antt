@@ -23,7 +23,7 @@ use Rattle.loading.specs.Files.{HasBadParent, HasLeastBadParent, bad_parent_numb
 use Rattle.loading.specs.Files.{no_superclass, unknown_superclass, no_class, not_object, unknown_interface}
 use Rattle.loading.specs.Files.{no_interface}
 use Rattle.loading.specs.steps.Linking.{none_named, unknown_class, not_extended, not_below_object, one_unknown}
-use Rattle.loading.specs.steps.Linking.{one_no_interface, IsBadInterface, is_unknown, is_no_interface}
+use Rattle.loading.specs.steps.Linking.{one_no_interface}
 use Rattle.loading.specs.steps.Linking.{name_at, is_interface_at, name_among, is_closed, may_be_extended, Ascend}
 use Rattle.loading.specs.steps.Linking.{AreNamed, is_object, IsSuperclass, HasBadSuperclass, AreInterfaces}
 use Rattle.loading.specs.steps.Linking.{HasBadInterface, AreParents}
@@ -51,7 +51,7 @@ given_name files d name e =
     let h = file_at files d name e in
     (h.file, ((given_at files d h.file h.at).0, h.is), ap (passes is_interface) h.at)
 
-named_given : (files : List ClassFile) (d : ℕ) (name : List ℕ) → name_at files d ≡ Some name → IsGiven files name
+pub named_given : (files : List ClassFile) (d : ℕ) (name : List ℕ) → name_at files d ≡ Some name → IsGiven files name
 named_given files d name e = (let h = given_name files d name e in (h.0, h.1))
 
 pub interface_file : (files : List ClassFile) (d : ℕ) (name : List ℕ) → name_at files d ≡ Some name
@@ -319,17 +319,6 @@ least_interface files f class bad.NoSuperclass n is h = elim h [ ]
 least_interface files f class bad.UnknownSuperclass n is h = elim h [ ]
 least_interface files f class bad.NoClass n is h = elim h [ ]
 least_interface files f class bad.NotObject n is h = elim h [ ]
-
--- a bad name among known ones
-pub bad_interface : (files : List ClassFile) (f : ClassFile) (name : List ℕ) (kind : BadParent)
-    → All (λ other. IsUnknown files other → ⊥) (interfaces_of f)
-    → Contains (interfaces_of f) name → IsBadInterface files name kind → HasBadInterface files f kind
-bad_interface files f name bad.UnknownInterface known in' (is_unknown unknown) = one_unknown in' unknown
-bad_interface files f name bad.NoInterface known in' (is_no_interface other) = one_no_interface known in' other
-bad_interface files f name bad.NoSuperclass known in' h = elim h [ ]
-bad_interface files f name bad.UnknownSuperclass known in' h = elim h [ ]
-bad_interface files f name bad.NoClass known in' h = elim h [ ]
-bad_interface files f name bad.NotObject known in' h = elim h [ ]
 
 -- a class with parents has none that is bad
 pub no_bad_parent : (files : List ClassFile) (f : ClassFile) (parents : Parents) → AreNamed files

@@ -2,9 +2,11 @@ pub mod PlaceLemmas
 pub mod FamiliesParentLemmas
 pub mod OptionLemmas
 pub mod NamesLemmas
+pub mod OwnNamesLemmas
 pub mod LinkingPlaceLemmas
 pub mod FilesTwiceLemmas
 pub mod LinkingInterfaceLemmas
+pub mod FoundNamesLemmas
 pub mod FilesParentLemmas
 pub mod FilesTakenLemmas
 pub mod InterfaceFaultsLemmas
@@ -18,3 +20,5 @@ pub mod FilesMovedLemmas
 pub mod LinkingFileLemmas
 pub mod FamiliesLemmas
 pub mod ClassIdsLemmas
+pub mod BuiltInNamesLemmas
+pub mod UniquenessLemmas

@@ -7,7 +7,10 @@ use Rattle.std.proofs.lemmas.List.{length-map}
 use Rattle.std.proofs.lemmas.List.Elements.{All-contains, Contains-append_cases}
 use Rattle.std.proofs.lemmas.Option.{slice_get-map, slice_get_within, slice_get-get_or}
 use Rattle.classfile.specs.ClassFile.{ClassFile}
+use Rattle.classfile.specs.Class.{IsNoArray}
+use Rattle.built_in.specs.declared.class_id.BuiltIn.{BuiltIn}
 use Rattle.built_in.specs.declared.class_id.BuiltIn.TheVariants as builtins
+use Rattle.built_in.specs.ClassNames.{name_of_built_in}
 use Rattle.loading.specs.declared.given.GivenClass.{GivenClass}
 use Rattle.loading.specs.declared.given.Superclass.{Superclass}
 use Rattle.loading.specs.declared.given.Superclass.TheVariants as super
@@ -19,7 +22,8 @@ use Rattle.loading.specs.Families.{given_superclass}
 use Rattle.loading.specs.steps.Linking.{name_at, is_interface_at, name_among, may_be_extended, is_object, AreNamed}
 use Rattle.loading.specs.steps.Linking.{AreParents, AreLinked, file_of_class, parents_of_class, numbers_of_class}
 use Rattle.loading.specs.steps.Linking.{class_of_parts}
-use Rattle.loading.proofs.FilesParentLemmas.{file_at}
+use Rattle.loading.proofs.PlaceLemmas.{contains_at}
+use Rattle.loading.proofs.FilesParentLemmas.{file_at, named_given}
 use Rattle.loading.proofs.ZipLemmas.{pair_at}
 
 -- ---- files of classes
@@ -148,6 +152,8 @@ pub made_is_linked : (files : List ClassFile) (family : Family) → AreNamed fil
     → AreLinked family
 made_is_linked files family named m = record {
   ascending = ascending;
+  free = free;
+  plain = plain;
   superclass_names = λ k d within. (
       let p = m.parents k (get_or family k d) (slice_get-get_or family k d within) in
       p.superclass.named ∙ sym p.superclass.among
@@ -169,6 +175,16 @@ made_is_linked files family named m = record {
         let g = file_at files j b (sym (name_in_files files family m.same j) ∙ at-b) in
         let low : Precedes (name_of f.file) (name_of g.file) = named.ascending.order i j f.file g.file less f.at g.at in
         rw (f.is, g.is) at low
+
+    free : (c : ℕ) (b : BuiltIn) → name_in family c ≡ Some (name_of_built_in b) → ⊥
+    free c b at =
+        named.free (name_of_built_in b)
+        (named_given files c (name_of_built_in b) (sym (name_in_files files family m.same c) ∙ at), (b, refl))
+
+    plain : (c : ℕ) (name : List ℕ) → name_in family c ≡ Some name → IsNoArray name
+    plain c name at =
+        let f = file_at files c name (sym (name_in_files files family m.same c) ∙ at) in
+        subst (λ (z : List ℕ). IsNoArray z) f.is (named.plain f.file (contains_at files c f.file f.at))
 
     classes : (c d : ℕ) → Contains (superclasses_in family c) d → is_interface_in family d ≡ false
     classes c d has = by_case (slice_get family c) refl

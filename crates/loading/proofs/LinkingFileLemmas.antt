@@ -70,6 +70,8 @@ no_bad files parents named all name (g, (in-g, is-g), kind, has) =
 pub family_fits : (family : Family) → AreLinked family → ((c : ℕ) → IsAncestor family c c → ⊥) → IsFamily family
 family_fits family l acyclic = record {
   ascending = l.ascending;
+  free = l.free;
+  plain = l.plain;
   superclass_names = l.superclass_names;
   interface_names = l.interface_names;
   acyclic = acyclic;

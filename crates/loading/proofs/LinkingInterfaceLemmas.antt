@@ -1,14 +1,25 @@
 -- The names of a class's parents, one by one.
-use Rattle.std.proofs.Common.{◌≡◌, ℕ, ◌+◌, ◌<◌, ◌≤◌, true, false, List, [], ◌∷◌, ◌++◌, length, get_or, take, map, Some}
-use Rattle.std.proofs.Common.{None, ◌⊎◌, inl, inr, refl, sym, ap, subst, ◌∙◌, eqb, arith}
+use Rattle.std.proofs.Common.{◌≡◌, ℕ, ◌+◌, ◌<◌, ◌≤◌, true, false, List, [], ◌∷◌, ◌++◌, length, get_or, take, map}
+use Rattle.std.proofs.Common.{Option}
+use Rattle.std.proofs.Common.{Some, None, slice_get, slice_index_or, refl, sym, ap, subst, ◌∙◌, eqb, arith}
 use Rattle.std.specs.List.{All, Contains}
 use Rattle.std.proofs.lemmas.Bool.{ne_eqb}
 use Rattle.std.proofs.lemmas.List.{length-map, take_all, take_more, get_or-map, map-append}
 use Rattle.std.proofs.lemmas.List.Elements.{All-push}
+use Rattle.std.proofs.lemmas.Option.{same_Some, slice_get_within, slice_get-get_or}
 use Rattle.classfile.specs.ClassFile.{ClassFile}
+use Rattle.loading.specs.declared.given.Superclass.{Superclass}
+use Rattle.loading.specs.declared.given.Superclass.TheVariants as super
+use Rattle.loading.specs.declared.parents.InterfaceFault.{InterfaceFault}
+use Rattle.loading.specs.declared.parents.InterfaceFault.TheVariants.{Memory, Bad}
 use Rattle.loading.specs.Names.{class_name_at, superclass_of, interfaces_of}
 use Rattle.loading.specs.Files.{IsUnknown}
-use Rattle.loading.specs.steps.Linking.{name_at, is_interface_at, AreInterfaces}
+use Rattle.loading.specs.steps.Linking.{name_at, is_interface_at, name_among, AreInterfaces, HasBadInterface}
+use Rattle.loading.specs.steps.Linking.{one_no_interface}
+use Rattle.loading.specs.steps.FoundNames.{AreTheirNumbers}
+use Rattle.loading.specs.steps.InterfaceFaults.{FailsFor, FailsAmong}
+use Rattle.loading.proofs.PlaceLemmas.{mapped_at, place_in, contains_at}
+use Rattle.loading.proofs.FilesParentLemmas.{named_known}
 
 pub no_superclass : (f : ClassFile) → f.super_class ≡ 0 → superclass_of f ≡ None
 no_superclass f e = rw e refl
@@ -38,56 +49,95 @@ interface_in f indices k name same within is =
     ∙ ap (λ (z : List ℕ). class_name_at f (get_or z k 0)) same in
     subst (λ (z : List ℕ). Contains (interfaces_of f) z) (sym read) (interface_at f k (omega (arith, ap length same)))
 
--- each of the names so far is known
-abbrev pub KnownBefore : List ClassFile → ClassFile → ℕ → Type 0
-KnownBefore files f n = (k : ℕ) → k < n → IsUnknown files (class_name_at f (get_or f.interfaces k 0)) → ⊥
+-- the classes of the names so far
+abbrev pub AreNamedSoFar : List ClassFile → ClassFile → ℕ → List Superclass → Type 0
+AreNamedSoFar files f n classes = map Some (map (class_name_at f) (take n f.interfaces))
+    ≡ map (name_among files) classes
 
-pub known_more : (files : List ClassFile) (f : ClassFile) (indices : List ℕ) (n : ℕ) (name : List ℕ)
-    → indices ≡ f.interfaces
-    → name ≡ class_name_at f (get_or indices n 0) → (IsUnknown files name → ⊥) → KnownBefore files f n
-    → KnownBefore files f (n + 1)
-known_more files f indices n name same is known before k below unknown = elim (less_or k n) [
-  | inl less ↦ before k less unknown
-  | inr more ↦
-      let here : k ≡ n = omega arith in
-      let read : class_name_at f (get_or f.interfaces k 0) ≡ name =
-      ap (λ (j : ℕ). class_name_at f (get_or f.interfaces j 0)) here
-      ∙ ap (λ (z : List ℕ). class_name_at f (get_or z n 0)) (sym same) ∙ sym is in
-      known (subst (λ (z : List ℕ). IsUnknown files z) read unknown)
-]
+pub one_more : (files : List ClassFile) (f : ClassFile) (n : ℕ) (classes new : List Superclass) (class : Superclass)
+    → n < length f.interfaces → AreNamedSoFar files f n classes → new ≡ classes ++ class ∷ []
+    → name_among files class ≡ Some (class_name_at f (get_or f.interfaces n 0)) → AreNamedSoFar files f (n + 1) new
+one_more files f n classes new class within so_far pushed name =
+    rw (pushed, take_more f.interfaces n 0 within) (simp (map-append) joined)
   where
-    less_or : (m n : ℕ) → (m < n) ⊎ (n ≤ m)
-    less_or m n = grind arith
+    joined : map Some (map (class_name_at f) (take n f.interfaces)) ++ Some (class_name_at f (get_or f.interfaces n 0))
+        ∷ [] ≡ map (name_among files) classes ++ name_among files class ∷ []
+    joined = rw (so_far, name) refl
 
-pub all_known : (files : List ClassFile) (f : ClassFile) (n : ℕ) → length f.interfaces ≤ n → KnownBefore files f n
-    → All (λ name. IsUnknown files name → ⊥) (interfaces_of f)
-all_known files f n all known k d within unknown =
-    let small : k < length f.interfaces = omega (arith, length-map f.interfaces (class_name_at f)) in
-    let read : get_or (interfaces_of f) k d ≡ class_name_at f (get_or f.interfaces k 0) =
-    get_or-map (class_name_at f) f.interfaces k 0 d small in
-    known k (omega arith) (rw read at unknown)
+pub all_named : (files : List ClassFile) (f : ClassFile) (n : ℕ) (classes : List Superclass) → length f.interfaces ≤ n
+    → AreNamedSoFar files f n classes → map Some (interfaces_of f) ≡ map (name_among files) classes
+all_named files f n classes all so_far =
+    ap (λ (z : List ℕ). map Some (map (class_name_at f) z)) (sym (take_all n f.interfaces all)) ∙ so_far
 
--- the numbers so far
-pub record AreSoFar (files : List ClassFile) (f : ClassFile) (n : ℕ) (numbers : List ℕ) : Type 0 where
-  pub names : map Some (map (class_name_at f) (take n f.interfaces)) ≡ map (name_at files) numbers
-  pub each : All (λ i. is_interface_at files i ≡ true) numbers
+-- ---- their numbers
 
-pub one_more : (files : List ClassFile) (f : ClassFile) (n : ℕ) (numbers new : List ℕ) (i : ℕ) → n < length f.interfaces
-    → AreSoFar files f n numbers
-    → new ≡ numbers ++ i ∷ [] → name_at files i ≡ Some (class_name_at f (get_or f.interfaces n 0))
-    → is_interface_at files i ≡ true → AreSoFar files f (n + 1) new
-one_more files f n numbers new i within so_far pushed name kind = record {
-  names = rw (pushed, take_more f.interfaces n 0 within) (simp (map-append) joined);
+pub one_number : (files : List ClassFile) (classes : List Superclass) (n : ℕ) (class : Superclass)
+    (numbers new : List ℕ) (i : ℕ) → n < length classes → class ≡ get_or classes n class
+    → AreTheirNumbers files (take n classes) numbers
+    → new ≡ numbers ++ i ∷ [] → name_among files class ≡ name_at files i
+    → is_interface_at files i ≡ true → AreTheirNumbers files (take (n + 1) classes) new
+one_number files classes n class numbers new i within is so_far pushed name kind = record {
+  names = rw (pushed, front) (simp (map-append) joined);
   each = rw pushed (All-push (λ j. is_interface_at files j ≡ true) numbers i so_far.each kind);
 }
   where
-    joined : map Some (map (class_name_at f) (take n f.interfaces)) ++ Some (class_name_at f (get_or f.interfaces n 0))
-        ∷ [] ≡ map (name_at files) numbers ++ name_at files i ∷ []
+    front : take (n + 1) classes ≡ take n classes ++ class ∷ []
+    front = take_more classes n class within ∙ ap (λ (z : Superclass). take n classes ++ z ∷ []) (sym is)
+
+    joined : map (name_among files) (take n classes) ++ name_among files class ∷ []
+        ≡ map (name_at files) numbers ++ name_at files i ∷ []
     joined = rw (so_far.names, name) refl
 
-pub all_interfaces : (files : List ClassFile) (f : ClassFile) (n : ℕ) (numbers : List ℕ) → length f.interfaces ≤ n
-    → AreSoFar files f n numbers → AreInterfaces files f numbers
-all_interfaces files f n numbers all so_far = record {
-  names = ap (λ (z : List ℕ). map Some (map (class_name_at f) z)) (sym (take_all n f.interfaces all)) ∙ so_far.names;
-  each = so_far.each;
-}
+pub all_numbers : (files : List ClassFile) (classes : List Superclass) (n : ℕ) (numbers : List ℕ)
+    → length classes ≤ n → AreTheirNumbers files (take n classes) numbers → AreTheirNumbers files classes numbers
+all_numbers files classes n numbers all so_far =
+    subst (λ (z : List Superclass). AreTheirNumbers files z numbers) (take_all n classes all) so_far
+
+pub are_interfaces : (files : List ClassFile) (f : ClassFile) (classes : List Superclass) (numbers : List ℕ)
+    → map Some (interfaces_of f) ≡ map (name_among files) classes → AreTheirNumbers files classes numbers
+    → AreInterfaces files f numbers
+are_interfaces files f classes numbers named are = record { names = named ∙ are.names; each = are.each }
+
+-- ---- one that is no interface
+
+-- the name of the class at a place
+name_there : (files : List ClassFile) (names : List (List ℕ)) (classes : List Superclass) (k : ℕ) (class : Superclass)
+    (name : List ℕ) → map Some names ≡ map (name_among files) classes → slice_get names k ≡ Some name
+    → slice_get classes k ≡ Some class → name_among files class ≡ Some name
+name_there files names classes k class name named at-name at-class =
+    let wrap : List ℕ → Option (List ℕ) = λ z. Some z in
+    same_Some (name_among files class) (Some name)
+    (sym (mapped_at (name_among files) classes k class at-class)
+    ∙ ap (λ (z : List (Option (List ℕ))). slice_get z k) (sym named) ∙ mapped_at wrap names k name at-name)
+
+same_length : (files : List ClassFile) (names : List (List ℕ)) (classes : List Superclass)
+    → map Some names ≡ map (name_among files) classes → length names ≡ length classes
+same_length files names classes named =
+    let wrap : List ℕ → Option (List ℕ) = λ z. Some z in
+    sym (length-map names wrap) ∙ ap length named ∙ length-map classes (name_among files)
+
+-- each of these names is known
+each_known : (files : List ClassFile) (names : List (List ℕ)) (classes : List Superclass)
+    → map Some names ≡ map (name_among files) classes → All (λ name. IsUnknown files name → ⊥) names
+each_known files names classes named k d within unknown =
+    let small : k < length classes = omega (arith, same_length files names classes named) in
+    let class = slice_index_or classes k (super.Given 0) in
+    named_known files class (get_or names k d)
+    (name_there files names classes k class (get_or names k d) named (slice_get-get_or names k d within)
+    (slice_get-get_or classes k (super.Given 0) small)) unknown
+
+pub fails_among : (files : List ClassFile) (f : ClassFile) (classes : List Superclass) (fault : InterfaceFault)
+    → map Some (interfaces_of f) ≡ map (name_among files) classes → FailsAmong files classes fault
+    → FailsFor files f fault
+fails_among files f classes Memory named fails = tt
+fails_among files f classes (Bad kind) named (is, (class, among, other)) =
+    let place = place_in classes class among in
+    let k = place.0 in
+    let within : k < length (interfaces_of f) =
+    omega (arith, slice_get_within classes k class place.1, same_length files (interfaces_of f) classes named) in
+    let name = get_or (interfaces_of f) k [] in
+    let at-name = slice_get-get_or (interfaces_of f) k [] within in
+    subst (HasBadInterface files f) (sym is)
+    (one_no_interface (each_known files (interfaces_of f) classes named)
+    (contains_at (interfaces_of f) k name at-name)
+    (other name (name_there files (interfaces_of f) classes k class name named at-name place.1)))

@@ -1,9 +1,12 @@
 -- Given classes by number, in the order of their names, each with its parents by number (JVMS 5.3.5).
-use Rattle.std.specs.Prelude.{◌≡◌, ℕ, ◌<◌, ◌↔◌, Bool, true, false, List, [], ◌∷◌, ◌++◌, length, map, Option, Some, None}
+use Rattle.std.specs.Prelude.{◌≡◌, ◌≢◌, ℕ, ◌<◌, ◌↔◌, Bool, true, false, List, [], ◌∷◌, ◌++◌, length, map, Option, Some}
+use Rattle.std.specs.Prelude.{None}
 use Rattle.std.specs.Prelude.{slice_get, take, option_map}
 use Rattle.std.specs.List.{All, Contains}
 use Rattle.classfile.specs.ClassFile.{ClassFile}
+use Rattle.classfile.specs.Class.{IsNoArray}
 use Rattle.built_in.specs.ClassNames.{name_of_built_in}
+use Rattle.built_in.specs.declared.class_id.BuiltIn.{BuiltIn}
 use Rattle.built_in.specs.declared.class_id.BuiltIn.TheVariants as builtins
 use Rattle.loading.specs.declared.given.GivenClass.{GivenClass}
 use Rattle.loading.specs.declared.given.Superclass.{Superclass}
@@ -75,6 +78,9 @@ superclass_name family (super.BuiltIn class) = Some (name_of_built_in class)
 pub record IsFamily (family : Family) : Type 0 where
   pub ascending : (i j : ℕ) (a b : List ℕ) → i < j → name_in family i ≡ Some a → name_in family j ≡ Some b
       → Precedes a b
+  -- none has the name of a built-in class, or one that begins as those of array classes do (JVMS 4.1, this_class)
+  pub free : (c : ℕ) (b : BuiltIn) → name_in family c ≢ Some (name_of_built_in b)
+  pub plain : (c : ℕ) (name : List ℕ) → name_in family c ≡ Some name → IsNoArray name
   pub superclass_names : All (λ (c : GivenClass). superclass_of c.file ≡ superclass_name family c.superclass) family
   pub interface_names : All (λ (c : GivenClass). map Some (interfaces_of c.file) ≡ map (name_in family) c.interfaces)
       family

@@ -1,3 +1,4 @@
 pub mod Linking
+pub mod FoundNames
 pub mod InterfaceFaults
 pub mod BaseTypes

@@ -11,6 +11,7 @@ pub mod names;
 mod naming;
 mod parents;
 mod sorting;
+pub mod uniqueness;
 
 pub use linking::{family_of, links_or_fails};
 pub use naming::class_named;

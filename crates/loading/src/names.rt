@@ -1,6 +1,7 @@
 //! The names that a class file gives (JVMS 4.1, 4.2.1).
 
 ghost use Rattle.std.specs.Prelude.{◌≡◌, IfOk};
+ghost use Rattle.classfile.specs.Class.{IsNoArray};
 ghost use Rattle.classfile.specs.Units.{units_text, IsModifiedUtf8};
 ghost use Rattle.loading.specs.Names.{class_name_at, text_at, name_of, is_interface};
 
@@ -26,11 +27,14 @@ pub fn text_at(file: &ClassFile, index: u16) -> &[u8]
     file.utf8(index).unwrap_or(&[])
 }
 
-/// The bytes of the class's own name.
+/// The bytes of the class's own name, which is no array's.
 pub fn name_of(file: &ClassFile) -> &[u8]
     ensures value { result.now ≡ name_of file.now }
     ensures modified { IsModifiedUtf8 result.now }
+    ensures plain { IsNoArray result.now }
 {
+    // What holds of every class file that was read.
+    let _constants = file.constants();
     class_name_at(file, file.this_class())
 }
 

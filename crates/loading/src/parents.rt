@@ -1,23 +1,22 @@
 //! The parents of a class by number, or what is wrong with them (JVMS 5.3.5).
 
-ghost use Rattle.std.specs.Prelude.{◌≡◌, ◌⊎◌, [], true, false, Some, IfOk, IfErr, MatchOption, MatchResult};
-ghost use Rattle.std.specs.List.{All};
+ghost use Rattle.std.specs.Prelude.{◌≡◌, ◌⊎◌, true, Some, map, slice_index_or, IfOk, IfErr, MatchOption, MatchResult};
 ghost use Rattle.loading.specs.declared.fault.LinkFault.TheVariants.{Memory};
-ghost use Rattle.loading.specs.declared.fault.BadParent.TheVariants as bad;
 ghost use Rattle.loading.specs.declared.parents.InterfaceFault.TheVariants as interface_fault;
-ghost use Rattle.loading.specs.Names.{interfaces_of};
+ghost use Rattle.loading.specs.Names.{class_name_at, text_at, interfaces_of};
 ghost use Rattle.loading.specs.Files.{WithinLimit, IsGiven, IsUnknown, HasLeastBadParent};
 ghost use Rattle.loading.specs.steps.Linking.{name_at, is_interface_at, name_among, may_be_extended, is_object, Ascend};
 ghost use Rattle.loading.specs.steps.Linking.{AreNamed};
 ghost use Rattle.loading.specs.steps.Linking.{IsSuperclass, HasBadSuperclass, AreInterfaces};
-ghost use Rattle.loading.specs.steps.Linking.{IsBadInterface, HasBadInterface, AreParents, IsParentFault};
-ghost use Rattle.loading.specs.steps.InterfaceFaults.{FailsFor, IsLeastFor};
+ghost use Rattle.loading.specs.steps.Linking.{AreParents, IsParentFault};
+ghost use Rattle.loading.specs.steps.FoundNames.{name_index, AreFound, IsNoInterface, AreTheirNumbers};
+ghost use Rattle.loading.specs.steps.InterfaceFaults.{FailsFor, FailsAmong, IsLeastFor};
 
 use crate::fault::{BadParent, LinkFault};
 use crate::given::{ClassNumbers, Superclass};
 use crate::names::{class_name_at, copy_of_name, is_interface, name_of};
 use built_in::class_id::BuiltIn;
-use classfile::ClassFile;
+use classfile::{ClassFile, Constant};
 use std::alloc::{AllocError, AllocFailed, Global};
 
 /// The parents of a class.
@@ -128,41 +127,113 @@ fn superclass_of(files: &[ClassFile], file: &ClassFile) -> Result<Superclass, Ba
     Ok(class)
 }
 
-/// The interface of a name by its number, or what is wrong with it.
-fn interface_named(files: &[ClassFile], name: &[u8]) -> Result<u32, BadParent>
-    requires few { WithinLimit files.now }
-    requires ascending { Ascend files.now }
-    ensures { MatchResult result
-        (λ i. (name_at files.now i ≡ Some name.now) × (is_interface_at files.now i ≡ true))
-        (IsBadInterface files.now name.now) }
+/// The index of the name of a Class, or 0.
+fn name_index(constant: &Constant) -> u16
+    ensures { result ≡ name_index constant.now }
 {
-    match class_among(files, name) {
-        None => Err(BadParent::UnknownInterface),
-        Some(Superclass::BuiltIn(_)) => Err(BadParent::NoInterface),
-        Some(Superclass::Given(number)) => {
-            if is_interface_at(files, number) {
-                Ok(number)
-            } else {
-                Err(BadParent::NoInterface)
-            }
-        }
+    match constant {
+        Constant::Class { name } => *name,
+        _ => 0,
     }
 }
 
-/// Whether each direct superinterface's name is that of a class.
-fn knows_interfaces(files: &[ClassFile], file: &ClassFile) -> bool
+/// The index of the name of the Class at an index, or 0.
+fn name_index_at(file: &ClassFile, index: u16) -> u16
+    ensures { class_name_at file.now index ≡ text_at file.now result }
+{
+    match file.constants().get(usize::from(index)) {
+        Some(constant) => name_index(constant),
+        None => 0,
+    }
+}
+
+/// The class that was found of the name at an index.
+fn found_at(found: &[Option<Superclass>], name: usize) -> Option<Superclass>
+    ensures { result ≡ slice_index_or found.now name None }
+{
+    match found.get(name) {
+        Some(class) => *class,
+        None => None,
+    }
+}
+
+/// The class of the name of the Class at an index. It is kept by the name's index, so that no name is looked up twice.
+fn class_at(
+    files: &[ClassFile],
+    file: &ClassFile,
+    index: u16,
+    found: &mut Vec<Option<Superclass>>,
+) -> Option<Superclass>
     requires few { WithinLimit files.now }
     requires ascending { Ascend files.now }
-    ensures known { result ≡ true → All (λ name. ¬ IsUnknown files.now name) (interfaces_of file.now) }
-    ensures unknown { result ≡ false → HasBadInterface files.now file.now bad.UnknownInterface }
+    requires found { AreFound files.now file.now found.old.items }
+    ensures class { MatchOption result (IsUnknown files.now (class_name_at file.now index))
+        (λ class. name_among files.now class ≡ Some (class_name_at file.now index)) }
+    ensures found { AreFound files.now file.now found.new.items }
+{
+    let name = usize::from(name_index_at(file, index));
+    if let Some(class) = found_at(found, name) {
+        return Some(class);
+    }
+    let class = class_among(files, class_name_at(file, index))?;
+    if name < found.len() {
+        found[name] = Some(class);
+    }
+    Some(class)
+}
+
+/// The classes of the names of the direct superinterfaces, in the file's order, unless one is unknown.
+fn named_classes(
+    alloc: Global,
+    files: &[ClassFile],
+    file: &ClassFile,
+) -> Result<Vec<Superclass>, InterfaceFault>
+    requires few { WithinLimit files.now }
+    requires ascending { Ascend files.now }
+    ensures { MatchResult result
+        (λ classes. map Some (interfaces_of file.now) ≡ map (name_among files.now) classes.items)
+        (FailsFor files.now file.now) }
 {
     let indices = file.interfaces();
+    let mut found = vec![in alloc; None; file.constants().len()]?;
+    let mut classes = Vec::with_capacity(alloc, indices.len())?;
     for index in indices {
-        if class_among(files, class_name_at(file, *index)).is_none() {
-            return false;
+        match class_at(files, file, *index, &mut found) {
+            Some(class) => classes.push(class)?,
+            None => return Err(InterfaceFault::Bad(BadParent::UnknownInterface)),
         }
     }
-    true
+    Ok(classes)
+}
+
+/// The number of a class, if it is a given interface.
+fn interface_number(files: &[ClassFile], class: Superclass) -> Option<u32>
+    ensures { MatchOption result (IsNoInterface files.now class)
+        (λ i. (name_among files.now class ≡ name_at files.now i) × (is_interface_at files.now i ≡ true)) }
+{
+    match class {
+        Superclass::Given(number) if is_interface_at(files, number) => Some(number),
+        _ => None,
+    }
+}
+
+/// The numbers of classes that are all given interfaces.
+fn interface_numbers(
+    alloc: Global,
+    files: &[ClassFile],
+    classes: &[Superclass],
+) -> Result<Vec<u32>, InterfaceFault>
+    ensures { MatchResult result (λ numbers. AreTheirNumbers files.now classes.now numbers.items)
+        (FailsAmong files.now classes.now) }
+{
+    let mut numbers = Vec::with_capacity(alloc, classes.len())?;
+    for class in classes {
+        match interface_number(files, *class) {
+            Some(number) => numbers.push(number)?,
+            None => return Err(InterfaceFault::Bad(BadParent::NoInterface)),
+        }
+    }
+    Ok(numbers)
 }
 
 /// The direct superinterfaces of a class, or the first kind of what is wrong with them.
@@ -175,38 +246,14 @@ fn interfaces_of(
     requires ascending { Ascend files.now }
     ensures { MatchResult result (AreInterfaces files.now file.now) (FailsFor files.now file.now) }
 {
-    if !knows_interfaces(files, file) {
-        return Err(InterfaceFault::Bad(BadParent::UnknownInterface));
-    }
-    let mut numbers = Vec::with_capacity(alloc, file.interfaces().len())?;
-    match add_interfaces(files, file, &mut numbers) {
-        Ok(()) => Ok(ClassNumbers { numbers }),
+    let classes = match named_classes(alloc, files, file) {
+        Ok(classes) => classes,
+        Err(fault) => return Err(fault),
+    };
+    match interface_numbers(alloc, files, classes.as_slice()) {
+        Ok(numbers) => Ok(ClassNumbers { numbers }),
         Err(fault) => Err(fault),
     }
-}
-
-/// Adds the numbers of the direct superinterfaces of a class whose names are all known, up to the first that is no
-/// interface's.
-fn add_interfaces(
-    files: &[ClassFile],
-    file: &ClassFile,
-    numbers: &mut Vec<u32>,
-) -> Result<(), InterfaceFault>
-    requires few { WithinLimit files.now }
-    requires ascending { Ascend files.now }
-    requires known { All (λ name. ¬ IsUnknown files.now name) (interfaces_of file.now) }
-    requires empty { numbers.old.items ≡ [] }
-    ensures { MatchResult result (λ _. AreInterfaces files.now file.now numbers.new.items)
-        (FailsFor files.now file.now) }
-{
-    let indices = file.interfaces();
-    for index in indices {
-        match interface_named(files, class_name_at(file, *index)) {
-            Ok(number) => numbers.push(number)?,
-            Err(kind) => return Err(InterfaceFault::Bad(kind)),
-        }
-    }
-    Ok(())
 }
 
 /// The fault of a class with a bad parent of this kind, the least that it has.

@@ -6,7 +6,7 @@ ghost use Rattle.std.specs.Ordering.{nat_cmp};
 ghost use Rattle.std.specs.List.Sorted.{IsPermutation};
 ghost use Rattle.loading.specs.Names.{name_of};
 ghost use Rattle.loading.specs.Files.{IsTwice, IsTaken, IsLeast, No};
-ghost use Rattle.loading.specs.steps.Linking.{AreSorted, Ascend};
+ghost use Rattle.loading.specs.steps.Linking.{AreSorted, Ascend, ArePlain};
 
 use crate::names::name_of;
 use built_in::class_id::BuiltIn;
@@ -43,10 +43,11 @@ pub(crate) fn first_twice(files: &[ClassFile]) -> Option<&ClassFile>
     None
 }
 
-/// The file of the least name that is a built-in class's.
+/// The file of the least name that is a built-in class's. Where there is none, no name is an array's either.
 pub(crate) fn first_taken(files: &[ClassFile]) -> Option<&ClassFile>
     requires { Ascend files.now }
-    ensures { MatchOption result (No (IsTaken files.now)) (λ f. IsLeast (IsTaken files.now) (name_of f.now)) }
+    ensures { MatchOption result (No (IsTaken files.now) × ArePlain files.now)
+        (λ f. IsLeast (IsTaken files.now) (name_of f.now)) }
 {
     for file in files {
         if BuiltIn::named(name_of(file)).is_some() {

@@ -1,8 +1,10 @@
 -- The steps from class files to a family: files in the order of their names, and their parents by number.
-use Rattle.std.specs.Prelude.{◌≡◌, ℕ, ◌<◌, ◌++◌, ◌⊎◌, Bool, true, false, not, List, map, Option, Some, None, slice_get}
+use Rattle.std.specs.Prelude.{◌≡◌, ◌≢◌, ℕ, ◌<◌, ◌++◌, ◌⊎◌, Bool, true, false, not, List, map, Option, Some, None}
+use Rattle.std.specs.Prelude.{slice_get}
 use Rattle.std.specs.Prelude.{option_map, length}
 use Rattle.std.specs.List.{All, Contains}
 use Rattle.classfile.specs.ClassFile.{ClassFile}
+use Rattle.classfile.specs.Class.{IsNoArray}
 use Rattle.classfile.specs.Units.{units_text}
 use Rattle.graph.specs.Rows.{Rows, successors_of}
 use Rattle.built_in.specs.declared.class_id.BuiltIn.{BuiltIn}
@@ -44,10 +46,15 @@ pub record Ascend (files : List ClassFile) : Type 0 where
   pub order : (i j : ℕ) (f g : ClassFile) → i < j → slice_get files i ≡ Some f → slice_get files j ≡ Some g
       → Precedes (name_of f) (name_of g)
 
+-- none has an array's name
+abbrev pub ArePlain : List ClassFile → Type 0
+ArePlain files = (f : ClassFile) → Contains files f → IsNoArray (name_of f)
+
 -- and none has the name of a built-in class
 pub record AreNamed (files : List ClassFile) : Type 0 where
   pub ascending : Ascend files
   pub free : No (IsTaken files)
+  pub plain : ArePlain files
 
 -- ---- parents by number (JVMS 5.3.5)
 
@@ -88,11 +95,6 @@ pub record AreInterfaces (files : List ClassFile) (f : ClassFile) (numbers : Lis
   pub names : map Some (interfaces_of f) ≡ map (name_at files) numbers
   pub each : All (λ i. is_interface_at files i ≡ true) numbers
 
--- the name is that of no interface
-pub data IsBadInterface (files : List ClassFile) (name : List ℕ) : BadParent → Type 0 where
-  is_unknown : IsUnknown files name → IsBadInterface files name bad.UnknownInterface
-  is_no_interface : IsGivenClass files name ⊎ IsBuiltIn name → IsBadInterface files name bad.NoInterface
-
 pub data HasBadInterface (files : List ClassFile) (f : ClassFile) : BadParent → Type 0 where
   one_unknown : {name : List ℕ} → Contains (interfaces_of f) name → IsUnknown files name
       → HasBadInterface files f bad.UnknownInterface
@@ -128,6 +130,8 @@ numbers_of_class c = c.interfaces ++ given_superclass (Some c.superclass)
 pub record AreLinked (family : Family) : Type 0 where
   pub ascending : (i j : ℕ) (a b : List ℕ) → i < j → name_in family i ≡ Some a → name_in family j ≡ Some b
       → Precedes a b
+  pub free : (c : ℕ) (b : BuiltIn) → name_in family c ≢ Some (name_of_built_in b)
+  pub plain : (c : ℕ) (name : List ℕ) → name_in family c ≡ Some name → IsNoArray name
   pub superclass_names : All (λ (c : GivenClass). superclass_of c.file ≡ superclass_name family c.superclass) family
   pub interface_names : All (λ (c : GivenClass). map Some (interfaces_of c.file) ≡ map (name_in family) c.interfaces)
       family

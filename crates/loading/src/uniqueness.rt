@@ -1,0 +1,12 @@
+//! What is said of names has one answer.
+
+ghost use Rattle.std.specs.Prelude.{◌≡◌, ℕ, List, Option};
+ghost use Rattle.built_in.specs.declared.class_id.ClassId.{ClassId};
+ghost use Rattle.loading.specs.Families.{Family, IsFamily};
+ghost use Rattle.loading.specs.ClassIds.{StandsFor};
+
+/// A name stands for one class, or for none (JVMS 4.4.1, 5.3).
+pub fn one_class_of_a_name()
+    ensures { (family : Family) → IsFamily family → (name : List ℕ) (a b : Option ClassId)
+        → StandsFor family name a → StandsFor family name b → a ≡ b }
+{}
