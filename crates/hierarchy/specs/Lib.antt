@@ -3,5 +3,6 @@ pub mod MemberLookup
 pub mod Resolution
 pub mod Initialization
 pub mod Texts
+pub mod Seeds
 pub mod Hierarchies
 pub mod steps
