@@ -22,6 +22,7 @@ use crate::member_index::MemberKey;
 use crate::member_name::MemberName;
 use crate::member_table::MemberTable;
 use crate::nearest::{MethodKind, NearestMethods};
+use crate::seed::Seed;
 use crate::wanted::Wanted;
 use built_in::class_id::BuiltIn;
 use classfile::ClassFile;
@@ -74,6 +75,11 @@ impl Hierarchy {
         ensures { result.now ≡ self.now.family }
     {
         &self.family
+    }
+
+    /// The seed of its classes, which tables of what stands in their files are to hash with.
+    pub fn seed(&self) -> Seed {
+        self.table.seed()
     }
 
     /// The numbers of a name and a descriptor. Without numbers no given class has such a member.

@@ -21,6 +21,7 @@ mod reaches;
 mod resolve_field;
 mod resolve_method;
 mod search;
+pub mod seed;
 mod select;
 mod sought;
 pub mod superclasses;

@@ -4,6 +4,7 @@ ghost use Rattle.std.specs.Prelude.{◌≡◌, ℕ, None, OnOk};
 ghost use Rattle.hierarchy.specs.steps.MemberIndexes.{place_of, place_after};
 ghost use Rattle.hierarchy.specs.declared.member_index.MemberKey.{MemberKey as Key};
 
+use crate::seed::Seed;
 use indexmap::IndexMap;
 use std::alloc::{AllocError, Global};
 
@@ -32,16 +33,16 @@ pub(crate) struct ClassMember {
 /// The places of members among those that their classes declare.
 #[derive(Drop)]
 pub(crate) struct MemberIndex {
-    places: IndexMap<ClassMember, u16>,
+    places: IndexMap<ClassMember, u16, Seed>,
 }
 
 impl MemberIndex {
     /// No members.
-    pub(crate) fn new(alloc: Global) -> Self
+    pub(crate) fn new(alloc: Global, seed: Seed) -> Self
         ensures { (class : ℕ) (key : Key) → place_of result class key ≡ None }
     {
         MemberIndex {
-            places: IndexMap::new(alloc),
+            places: IndexMap::with_hasher(alloc, seed),
         }
     }
 

@@ -17,6 +17,7 @@ ghost use Rattle.hierarchy.specs.MemberNames.{named_in};
 use crate::member_index::{MemberIndex, MemberKey};
 use crate::member_name::MemberName;
 use crate::pool_texts::PoolTexts;
+use crate::seed::Seed;
 use crate::texts::Texts;
 use classfile::Member;
 use loading::given::GivenClass;
@@ -71,22 +72,28 @@ impl MemberTable {
     pub(crate) fn of_classes(alloc: Global, classes: &[GivenClass]) -> Result<Self, AllocError>
         ensures { IfOk result (IsTableOf classes.now) }
     {
-        let mut table = MemberTable::new(alloc)?;
+        let seed = Seed::of_classes(alloc, classes)?;
+        let mut table = MemberTable::new(alloc, seed)?;
         add_classes(alloc, &mut table, classes)?;
         Ok(table)
     }
 
     /// The table of no classes.
-    fn new(alloc: Global) -> Result<Self, AllocError>
+    fn new(alloc: Global, seed: Seed) -> Result<Self, AllocError>
         ensures { IfOk result (IsTableOf []) }
     {
-        let texts = Texts::with_empty(alloc)?;
+        let texts = Texts::with_empty(alloc, seed)?;
         Ok(MemberTable {
             texts,
             pools: Vec::new(alloc),
-            fields: MemberIndex::new(alloc),
-            methods: MemberIndex::new(alloc),
+            fields: MemberIndex::new(alloc, seed),
+            methods: MemberIndex::new(alloc, seed),
         })
+    }
+
+    /// The seed of its classes.
+    pub(crate) fn seed(&self) -> Seed {
+        self.texts.seed()
     }
 
     /// The numbers of a name and a descriptor, if both have some.

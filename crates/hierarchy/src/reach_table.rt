@@ -7,6 +7,7 @@ ghost use Rattle.hierarchy.specs.steps.Reaches.{reaches_of, number_in, IsReachTa
 
 use crate::member::DeclaredMember;
 use crate::member_index::MemberKey;
+use crate::seed::Seed;
 use indexmap::IndexMap;
 use std::alloc::{AllocError, Global};
 
@@ -20,18 +21,18 @@ pub(crate) struct Reach {
 /// For each name and descriptor its reaches, in the order of their places.
 #[derive(Drop)]
 pub(crate) struct ReachTable {
-    numbers: IndexMap<MemberKey, usize>,
+    numbers: IndexMap<MemberKey, usize, Seed>,
     rows: Vec<Vec<Reach>>,
 }
 
 impl ReachTable {
     /// No reaches.
-    pub(crate) fn new(alloc: Global) -> Self
+    pub(crate) fn new(alloc: Global, seed: Seed) -> Self
         ensures table { IsReachTable result }
         ensures empty { (key : Key) → reaches_of result key ≡ [] }
     {
         ReachTable {
-            numbers: IndexMap::new(alloc),
+            numbers: IndexMap::with_hasher(alloc, seed),
             rows: Vec::new(alloc),
         }
     }

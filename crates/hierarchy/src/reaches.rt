@@ -294,7 +294,7 @@ pub(crate) fn reaches_of(
     ensures { IfOk result (AllTell (members_by wanted family.now table.now) order.now) }
 {
     let _classes = family.classes();
-    let mut rows = ReachTable::new(alloc);
+    let mut rows = ReachTable::new(alloc, table.seed());
     let sweep = Sweep {
         family,
         table,

@@ -5,6 +5,7 @@ ghost use Rattle.std.specs.List.{Contains};
 ghost use Rattle.hierarchy.specs.Texts.{AreDistinct};
 ghost use Rattle.hierarchy.specs.steps.GrowingTexts.{KeepsNumbers};
 
+use crate::seed::Seed;
 use indexmap::IndexSet;
 use std::alloc::{AllocError, Global};
 use std::marker::Model;
@@ -12,7 +13,7 @@ use std::marker::Model;
 /// Texts in the order in which they came, each once. A text's number is its place.
 #[derive(Drop)]
 pub struct Texts {
-    texts: IndexSet<Vec<u8>>,
+    texts: IndexSet<Vec<u8>, Seed>,
 }
 
 impl Model for Texts {
@@ -27,12 +28,12 @@ impl Model for Texts {
 }
 
 impl Texts {
-    /// No texts.
-    pub fn new(alloc: Global) -> Self
+    /// No texts, to be found by a seed.
+    pub fn new(alloc: Global, seed: Seed) -> Self
         ensures { result ≡ [] }
     {
         Texts {
-            texts: IndexSet::new(alloc),
+            texts: IndexSet::with_hasher(alloc, seed),
         }
     }
 
@@ -40,13 +41,18 @@ impl Texts {
     ///
     /// # Errors
     /// Where memory runs out.
-    pub(crate) fn with_empty(alloc: Global) -> Result<Self, AllocError>
+    pub(crate) fn with_empty(alloc: Global, seed: Seed) -> Result<Self, AllocError>
         ensures first { IfOk result (λ texts. slice_get texts 0 ≡ Some []) }
         ensures distinct { IfOk result AreDistinct }
     {
-        let mut texts = Texts::new(alloc);
+        let mut texts = Texts::new(alloc, seed);
         texts.push(alloc, &[])?;
         Ok(texts)
+    }
+
+    /// What they are found by.
+    pub(crate) fn seed(&self) -> Seed {
+        *self.texts.hasher()
     }
 
     /// The number of a text, if it has one.

@@ -152,7 +152,7 @@ fn class_tables(alloc: Global, hierarchy: &Hierarchy) -> Result<(Vec<Class>, Tex
     ensures distinct { IfOk result (λ tables. AreDistinct tables.1) }
     ensures strings { IfOk result (λ tables. AreFirsts (all_strings hierarchy.now.family) tables.1) }
 {
-    let mut strings = Texts::new(alloc);
+    let mut strings = Texts::new(alloc, hierarchy.seed());
     match classes_of(alloc, hierarchy, &mut strings) {
         Ok(classes) => Ok((classes, strings)),
         Err(error) => Err(error),
