@@ -130,18 +130,10 @@ covered_by family key seen parents covered are all m = (
 
 -- ---- all superinterfaces
 
--- where no class has the method
-pub no_method : (family : Family) (key : NameAndType) (c : ℕ) → ((i : ℕ) → method_in family key i ≡ None)
+-- where no interface has the method
+pub no_method : (family : Family) (key : NameAndType) (c : ℕ) → ((i : ℕ) → interface_method_in family key i ≡ None)
     → HasNoDefault family key c
-no_method family key c none = λ i k the. by (is_interface_in family i) i k (the.0.0.0.1)
-  where
-    by : (b : Bool) (i k : ℕ) → cond b (method_with is_inherited family key i) None ≡ Some k → ⊥
-    by true i k e =
-        let nothing : method_with is_inherited family key i ≡ None =
-        ap (keep_if is_inherited (flags_in family i)) (none i) in
-        let clash : None ≡ Some k = sym nothing ∙ e in
-        cc
-    by false i k e = cc
+no_method family key c none = λ i k the. let clash : None ≡ Some k = sym (none i) ∙ the.0.0.0.1 in cc
 
 -- a class without parents has none
 pub no_ancestor : (family : Family) (c j : ℕ) → (0 < length (parents_in family c) → ⊥) → ¬ IsAncestor family c j

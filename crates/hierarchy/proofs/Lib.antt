@@ -29,3 +29,4 @@ pub mod WalksLemmas
 pub mod AncestorsLemmas
 pub mod TopsLemmas
 pub mod UpClassesLemmas
+pub mod AlongSuperclassesLemmas

@@ -7,12 +7,12 @@ use Rattle.std.proofs.lemmas.Slice.Eq.{bytes_eq-Decides}
 use Rattle.classfile.specs.ClassFile.{ClassFile}
 use Rattle.classfile.specs.declared.member.Member.{Member}
 use Rattle.built_in.specs.Keys.{NameAndType}
-use Rattle.loading.specs.Names.{text_at}
+use Rattle.loading.specs.Names.{text_at, is_interface}
 use Rattle.loading.specs.Families.{Family, file_in, is_interface_in, superclass_in, superclasses_in, given_superclass}
-use Rattle.loading.specs.Families.{IsFamily}
+use Rattle.loading.specs.Families.{IsFamily, passes}
 use Rattle.loading.specs.declared.given.Superclass.{Superclass}
 use Rattle.loading.specs.declared.given.Superclass.TheVariants as super
-use Rattle.hierarchy.specs.MemberLookup.{is_named, keep_if, is_inherited, flags_in, method_in, field_of, method_of}
+use Rattle.hierarchy.specs.MemberLookup.{is_named, keep_if, is_inherited, flags_in, method_in, field_in, field_of, method_of}
 use Rattle.hierarchy.specs.steps.HierarchyTables.{wanted_in}
 use Rattle.hierarchy.specs.steps.MemberIndexes.{AreNumbers}
 use Rattle.hierarchy.specs.steps.Reaches.{Members, AllGo, IsNoted, reaches_of, Nearest, here, above, nowhere}
@@ -79,53 +79,70 @@ abbrev pub Declares : Wanted → Family → NameAndType → ℕ → Type 0
 Declares kind family name d = (f : ClassFile) × (i : ℕ) × (m : Member) × (file_in family d ≡ Some f)
     × (slice_get (members_in kind family d) i ≡ Some m) × (named_by f m ≡ name)
 
-of_method : (family : Family) (name : NameAndType) (d k : ℕ) → method_in family name d ≡ Some k
-    → Declares wanted.Method family name d
-of_method family name d k e = by (file_in family d) refl e
-  where
-    by : (o : Option ClassFile) → file_in family d ≡ o → method_of name o ≡ Some k
-        → Declares wanted.Method family name d
-    by None at found = absurd cc
-    by (Some f) at found =
-        let member = first_passing (is_named f name) 0 f.methods k found in (
-          f,
-          member.0,
-          member.1,
-          at,
-          rw at member.2,
-          name_is f name member.1 member.3,
-        )
+module _ (family : Family) (name : NameAndType) (d k : ℕ) where
+  -- found among some members of its file
+  among : (kind : Wanted) (members : ClassFile → List Member) (f : ClassFile) → file_in family d ≡ Some f
+      → members_in kind family d ≡ members f → position_from (is_named f name) 0 (members f) ≡ Some k
+      → Declares kind family name d
+  among kind members f at are found =
+      let member = first_passing (is_named f name) 0 (members f) k found in (
+        f,
+        member.0,
+        member.1,
+        at,
+        rw are member.2,
+        name_is f name member.1 member.3,
+      )
+
+  of_field : (kind : Wanted) → ((f : ClassFile) → file_in family d ≡ Some f → members_in kind family d ≡ f.fields)
+      → field_in family name d ≡ Some k → Declares kind family name d
+  of_field kind are found = by (file_in family d) refl found
+    where
+      by : (o : Option ClassFile) → file_in family d ≡ o → field_of name o ≡ Some k → Declares kind family name d
+      by None at e = absurd cc
+      by (Some f) at e = among kind (λ f. f.fields) f at (are f at) e
+
+  of_method : (kind : Wanted) → ((f : ClassFile) → file_in family d ≡ Some f → members_in kind family d ≡ f.methods)
+      → method_in family name d ≡ Some k → Declares kind family name d
+  of_method kind are found = by (file_in family d) refl found
+    where
+      by : (o : Option ClassFile) → file_in family d ≡ o → method_of name o ≡ Some k → Declares kind family name d
+      by None at e = absurd cc
+      by (Some f) at e = among kind (λ f. f.methods) f at (are f at) e
+
+if_some : (b : Bool) (o : Option ℕ) (k : ℕ) → cond b o None ≡ Some k → (b ≡ true) × (o ≡ Some k)
+if_some true o k e = (refl, e)
+if_some false o k e = absurd cc
+
+kept : (test : ℕ → Bool) (flags : ℕ → ℕ) (o : Option ℕ) (k : ℕ) → keep_if test flags o ≡ Some k
+    → (j : ℕ) × (o ≡ Some j)
+kept test flags None k e = absurd cc
+kept test flags (Some j) k e = (j, refl)
+
+-- the members of an interface
+if_interface : {A : Type 0} (family : Family) (d : ℕ) (f : ClassFile) (xs ys : List A) → is_interface_in family d ≡ true
+    → file_in family d ≡ Some f → cond (is_interface f) xs ys ≡ xs
+if_interface family d f xs ys is at =
+    let here : is_interface f ≡ true = sym (ap (passes is_interface) at) ∙ is in
+    rw here refl
 
 pub declares : (kind : Wanted) (family : Family) (name : NameAndType) (d k : ℕ) → wanted_in kind family name d ≡ Some k
     → Declares kind family name d
-declares wanted.Field family name d k e = by (file_in family d) refl e
-  where
-    by : (o : Option ClassFile) → file_in family d ≡ o → field_of name o ≡ Some k → Declares wanted.Field family name d
-    by None at found = absurd cc
-    by (Some f) at found =
-        let member = first_passing (is_named f name) 0 f.fields k found in (
-          f,
-          member.0,
-          member.1,
-          at,
-          rw at member.2,
-          name_is f name member.1 member.3,
-        )
-declares wanted.Method family name d k e = of_method family name d k e
-declares wanted.InstanceMethod family name d k e = by (method_in family name d) refl e
-  where
-    by : (o : Option ℕ) → method_in family name d ≡ o → keep_if is_inherited (flags_in family d) o ≡ Some k
-        → Declares wanted.InstanceMethod family name d
-    by None at found = absurd cc
-    by (Some j) at found = let r = of_method family name d j at in (r.0, r.1, r.2, r.3, r.4, r.5)
-declares wanted.InterfaceMethod family name d k e = by (is_interface_in family d) (method_in family name d) refl e
-  where
-    by : (b : Bool) (o : Option ℕ) → method_in family name d ≡ o
-        → cond b (keep_if is_inherited (flags_in family d) o) None ≡ Some k
-        → Declares wanted.InterfaceMethod family name d
-    by false o at found = absurd cc
-    by true None at found = absurd cc
-    by true (Some j) at found = let r = of_method family name d j at in (r.0, r.1, r.2, r.3, r.4, r.5)
+declares wanted.Field family name d k e = of_field family name d k wanted.Field (λ f at. rw at refl) e
+declares wanted.InterfaceField family name d k e =
+    let parts = if_some (is_interface_in family d) (field_in family name d) k e in
+    of_field family name d k wanted.InterfaceField
+    (λ f at. rw at (if_interface family d f f.fields [] parts.0 at)) parts.1
+declares wanted.Method family name d k e = of_method family name d k wanted.Method (λ f at. rw at refl) e
+declares wanted.InstanceMethod family name d k e =
+    let there = kept is_inherited (flags_in family d) (method_in family name d) k e in
+    of_method family name d there.0 wanted.InstanceMethod (λ f at. rw at refl) there.1
+declares wanted.InterfaceMethod family name d k e =
+    let parts = if_some (is_interface_in family d)
+    (keep_if is_inherited (flags_in family d) (method_in family name d)) k e in
+    let there = kept is_inherited (flags_in family d) (method_in family name d) k parts.1 in
+    of_method family name d there.0 wanted.InterfaceMethod
+    (λ f at. rw at (if_interface family d f f.methods [] parts.0 at)) there.1
 
 -- ---- from one class to the next
 

@@ -1,7 +1,7 @@
 -- Methods along superclasses, by the nearest class that declares one.
 use Rattle.std.proofs.Common.{◌≡◌, ℕ, zero, suc, ◌<◌, ◌≤◌, [], ◌∷◌, length, Option, Some, None, refl, sym, ap, ◌∙◌}
 use Rattle.std.proofs.Common.{subst}
-use Rattle.std.proofs.Common.{arith, IsSome}
+use Rattle.std.proofs.Common.{arith, IsSome, inl, inr, Bool, true, false, cond, List, slice_index_or}
 use Rattle.built_in.specs.Keys.{NameAndType}
 use Rattle.built_in.specs.declared.class_id.BuiltIn.{BuiltIn}
 use Rattle.loading.specs.Families.{Family, superclass_in, superclasses_in, given_superclass}
@@ -14,14 +14,22 @@ use Rattle.hierarchy.specs.declared.member.Method.TheVariants as method
 use Rattle.hierarchy.specs.steps.Reaches.{Nearest, here, above, nowhere}
 use Rattle.std.specs.List.{Contains}
 use Rattle.std.proofs.lemmas.Option.{slice_get_past}
-use Rattle.loading.specs.Families.{IsFamily, superclass_if, file_of}
-use Rattle.hierarchy.specs.MemberLookup.{method_in, method_of, keep_if, is_inherited, flags_in}
+use Rattle.loading.specs.Families.{IsFamily, superclass_if, file_of, file_in, is_interface_in}
+use Rattle.hierarchy.specs.MemberLookup.{field_in, field_of, method_in, method_of, keep_if, is_inherited, flags_in}
 use Rattle.hierarchy.specs.steps.HierarchyTables.{wanted_in}
 use Rattle.hierarchy.specs.steps.MemberTables.{IsTableOf}
-use Rattle.hierarchy.specs.steps.NearestMethods.{wanted_of}
 use Rattle.hierarchy.specs.declared.member_table.MemberTable.{MemberTable}
-use Rattle.hierarchy.specs.declared.nearest.MethodKind.{MethodKind}
-use Rattle.hierarchy.specs.declared.nearest.MethodKind.TheVariants as kinds
+use Rattle.hierarchy.specs.declared.wanted.Wanted.{Wanted}
+use Rattle.hierarchy.specs.declared.wanted.Wanted.TheVariants as wanted
+use Rattle.hierarchy.specs.declared.member_index.MemberKey.{MemberKey}
+use Rattle.hierarchy.specs.declared.nearest.NearestMembers.{NearestMembers}
+use Rattle.hierarchy.specs.declared.reach_table.Reach.{Reach}
+use Rattle.hierarchy.specs.steps.MemberIndexes.{AreNumbers}
+use Rattle.hierarchy.specs.steps.NearestMembers.{AreNearest, AllAreTold, rows_of}
+use Rattle.hierarchy.specs.steps.Sweeps.{members_by}
+use Rattle.hierarchy.specs.declared.nearest.Reaches.{Reaches}
+use Rattle.hierarchy.specs.steps.Reaches.{AllTell, reaches_of, reaching}
+use Rattle.std.proofs.lemmas.Bool.{cases_lt}
 use Rattle.hierarchy.proofs.FamiliesChainLemmas.{height, falls_given}
 use Rattle.hierarchy.specs.steps.Tops.{IsTop, direct, further}
 
@@ -74,27 +82,72 @@ nearest_none family own fits none (suc n) c low =
         let is : superclasses_in family c ≡ d ∷ [] = ap given_superclass at in
         above (none c) is (rest d (omega (arith, falls_given family c d fits is, low)))
 
--- no class has a member whose name or descriptor has no number
-pub none_declared : (family : Family) (table : MemberTable) (kind : MethodKind) (name : NameAndType)
-    → IsTableOf family table → ¬ (Contains table.texts name.name × Contains table.texts name.descriptor) → (c : ℕ)
-    → wanted_in (wanted_of kind) family name c ≡ None
-none_declared family table kinds.Any name fits lacks c = by (method_in family name c) refl
-  where
-    by : (o : Option ℕ) → method_in family name c ≡ o → method_in family name c ≡ None
-    by None at = at
-    by (Some k) at = absurd (lacks (fits.methods.numbered c name k at))
-none_declared family table kinds.Instance name fits lacks c = by (method_in family name c) refl
-  where
-    by : (o : Option ℕ) → method_in family name c ≡ o → keep_if is_inherited (flags_in family c)
-        (method_in family name c) ≡ None
-    by None at = ap (keep_if is_inherited (flags_in family c)) at
-    by (Some k) at = absurd (lacks (fits.methods.numbered c name k at))
+-- ---- what no class declares
 
-pub no_class_declares : (family : Family) (kind : MethodKind) (name : NameAndType) (c : ℕ) → length family ≤ c
-    → wanted_in (wanted_of kind) family name c ≡ None
-no_class_declares family kinds.Any name c past = ap (λ o. method_of name (file_of o)) (slice_get_past family c past)
-no_class_declares family kinds.Instance name c past =
-    ap (keep_if is_inherited (flags_in family c)) (ap (λ o. method_of name (file_of o)) (slice_get_past family c past))
+if_none : (b : Bool) (o : Option ℕ) → o ≡ None → cond b o None ≡ None
+if_none true o none = none
+if_none false o none = refl
+
+-- where there are neither such fields nor such methods there is none of any kind
+no_member : (family : Family) (kind : Wanted) (name : NameAndType) (c : ℕ) → field_in family name c ≡ None
+    → method_in family name c ≡ None → wanted_in kind family name c ≡ None
+no_member family wanted.Field name c field method = field
+no_member family wanted.InterfaceField name c field method =
+    if_none (is_interface_in family c) (field_in family name c) field
+no_member family wanted.Method name c field method = method
+no_member family wanted.InstanceMethod name c field method = ap (keep_if is_inherited (flags_in family c)) method
+no_member family wanted.InterfaceMethod name c field method =
+    if_none (is_interface_in family c) (keep_if is_inherited (flags_in family c) (method_in family name c))
+    (ap (keep_if is_inherited (flags_in family c)) method)
+
+-- no class has a member whose name or descriptor has no number
+pub none_declared : (family : Family) (table : MemberTable) (kind : Wanted) (name : NameAndType)
+    → IsTableOf family table → ¬ (Contains table.texts name.name × Contains table.texts name.descriptor) → (c : ℕ)
+    → wanted_in kind family name c ≡ None
+none_declared family table kind name fits lacks c =
+    no_member family kind name c (by (field_in family name c) refl (fits.fields.numbered c name))
+    (by (method_in family name c) refl (fits.methods.numbered c name))
+  where
+    by : {o : Option ℕ} (p : Option ℕ) → o ≡ p
+        → ((k : ℕ) → o ≡ Some k → Contains table.texts name.name × Contains table.texts name.descriptor) → o ≡ None
+    by None at numbered = at
+    by (Some k) at numbered = absurd (lacks (numbered k at))
+
+pub no_class_declares : (family : Family) (kind : Wanted) (name : NameAndType) (c : ℕ) → length family ≤ c
+    → wanted_in kind family name c ≡ None
+no_class_declares family kind name c past =
+    let file : file_in family c ≡ None = ap file_of (slice_get_past family c past) in
+    no_member family kind name c (ap (field_of name) file) (ap (method_of name) file)
+
+lacks_own : {family : Family} {own : ℕ → Option ℕ} {c : ℕ} → Nearest family own c None → own c ≡ None
+lacks_own (above none is rest) = none
+lacks_own (nowhere none is) = none
+
+-- what has no reaches is declared by no class
+pub nothing_told : (family : Family) (table : MemberTable) (nearest : NearestMembers) (kind : Wanted)
+    (name : NameAndType) (key : MemberKey) (c : ℕ) → AreNearest family table nearest
+    → AreNumbers table.texts name key → reaches_of (rows_of kind nearest.reaches) key ≡ []
+    → wanted_in kind family name c ≡ None
+nothing_told family table nearest kind name key c are numbers none = elim (cases_lt c (length family)) [
+  | inl small ↦ (let place : ℕ = slice_index_or nearest.places.items c 0 in
+      let told = (are.told kind key name numbers).tells.told place c (are.places c (are.whole.whole c small)) in
+      lacks_own (subst (λ (row : List Reach). Nearest family (wanted_in kind family name) c (reaching row place)) none
+      told))
+  | inr past ↦ no_class_declares family kind name c (omega (arith, past))
+]
+
+pub all_told : (family : Family) (table : MemberTable) (order : List ℕ) (r : Reaches)
+    → AllTell (members_by wanted.Field family table) order r.fields
+    → AllTell (members_by wanted.InterfaceField family table) order r.interface_fields
+    → AllTell (members_by wanted.Method family table) order r.methods
+    → AllTell (members_by wanted.InstanceMethod family table) order r.instance_methods
+    → AllTell (members_by wanted.InterfaceMethod family table) order r.interface_methods
+    → AllAreTold family table order r
+all_told family table order r f g m n i wanted.Field = f
+all_told family table order r f g m n i wanted.InterfaceField = g
+all_told family table order r f g m n i wanted.Method = m
+all_told family table order r f g m n i wanted.InstanceMethod = n
+all_told family table order r f g m n i wanted.InterfaceMethod = i
 
 pub is_some_not_none : {A : Type 0} (o : Option A) → IsSome o → o ≡ None → ⊥
 is_some_not_none None has none = cc

@@ -12,6 +12,6 @@ pub mod Reaches
 pub mod PoolTexts
 pub mod Sweeps
 pub mod Tops
-pub mod NearestMethods
+pub mod NearestMembers
 pub mod WholeHierarchies
 pub mod Marked

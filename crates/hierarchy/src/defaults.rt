@@ -58,7 +58,7 @@ impl Hierarchy {
             → MatchOption result (HasNoDefault self.now.family name class)
             (λ x. IsTheDefault self.now.family name class x.class x.index) }
     {
-        if self.is_unknown(key) {
+        if self.is_undeclared(Wanted::InterfaceMethod, key) {
             return None;
         }
         if self.has_parents(class) {

@@ -4,7 +4,7 @@ ghost use Rattle.std.specs.Prelude.{◌≡◌, ◌<◌, ℕ, Some, None, length,
 ghost use Rattle.std.specs.Prelude.{option_to_list};
 ghost use Rattle.std.specs.Option.{is_none};
 ghost use Rattle.built_in.specs.declared.class_id.BuiltIn.{BuiltIn as Top};
-ghost use Rattle.hierarchy.specs.steps.NearestMethods.{AreNearest, wanted_of};
+ghost use Rattle.hierarchy.specs.steps.NearestMembers.{AreNearest};
 ghost use Rattle.hierarchy.specs.steps.Reaches.{Nearest};
 ghost use Rattle.hierarchy.specs.steps.Tops.{IsTop};
 ghost use Rattle.loading.specs.Families.{IsFamily, superclass_in, superclasses_in};
@@ -21,7 +21,7 @@ use crate::member::DeclaredMember;
 use crate::member_index::MemberKey;
 use crate::member_name::MemberName;
 use crate::member_table::MemberTable;
-use crate::nearest::{MethodKind, NearestMethods};
+use crate::nearest::NearestMembers;
 use crate::seed::Seed;
 use crate::wanted::Wanted;
 use built_in::class_id::BuiltIn;
@@ -38,7 +38,7 @@ use std::marker::Model;
 pub struct Hierarchy {
     family: Family,
     table: MemberTable,
-    nearest: NearestMethods,
+    nearest: NearestMembers,
 }
 
 impl Model for Hierarchy {
@@ -108,19 +108,19 @@ impl Hierarchy {
         }
     }
 
-    /// The nearest class, from one upwards along given superclasses, that declares a method of a kind, and its place.
+    /// The nearest class, from one upwards along given superclasses, that declares a member of a kind, and its place.
     pub(crate) fn nearest(
         &self,
-        kind: MethodKind,
+        wanted: Wanted,
         class: u32,
         key: Option<MemberKey>,
     ) -> Option<DeclaredMember>
         requires { class < length self.now.family }
         ensures { (name : NameAndType) → IsLookup self.now.texts name key
-            → Nearest self.now.family (wanted_in (wanted_of kind) self.now.family name) class result }
+            → Nearest self.now.family (wanted_in wanted self.now.family name) class result }
     {
         let nearest = &self.nearest;
-        nearest.nearest(kind, class, key?)
+        nearest.nearest(wanted, class, key?)
     }
 
     /// The built-in class at the end of the chain of superclasses of a class.
@@ -170,14 +170,16 @@ impl Hierarchy {
         table.key(member)
     }
 
-    /// Whether there are no numbers, so that no given class has such a method.
-    pub(crate) fn is_unknown(&self, key: Option<MemberKey>) -> bool
-        ensures value { result ≡ is_none key }
-        ensures methods { (name : NameAndType) (class : ℕ) → IsLookup self.now.texts name key → IsTrue result
-            → method_in self.now.family name class ≡ None }
+    /// Whether no given class declares a member of a kind. Answered by one look-up.
+    pub(crate) fn is_undeclared(&self, wanted: Wanted, key: Option<MemberKey>) -> bool
+        ensures { (name : NameAndType) (class : ℕ) → IsLookup self.now.texts name key → IsTrue result
+            → wanted_in wanted self.now.family name class ≡ None }
     {
-        let _ = &self.table;
-        key.is_none()
+        let nearest = &self.nearest;
+        match key {
+            Some(key) => nearest.is_undeclared(wanted, key),
+            None => true,
+        }
     }
 
     /// The place of a class's member of some kind.
@@ -190,12 +192,12 @@ impl Hierarchy {
 }
 
 /// The members of a family, and what the nearest methods are found by.
-fn tables_of(alloc: Global, family: &Family) -> Result<(MemberTable, NearestMethods), AllocError>
+fn tables_of(alloc: Global, family: &Family) -> Result<(MemberTable, NearestMembers), AllocError>
     ensures table { IfOk result (λ tables. IsTableOf family.now tables.0) }
     ensures nearest { IfOk result (λ tables. AreNearest family.now tables.0 tables.1) }
 {
     let table = MemberTable::of_classes(alloc, family.classes())?;
-    let nearest = NearestMethods::of_family(alloc, family, &table)?;
+    let nearest = NearestMembers::of_family(alloc, family, &table)?;
     Ok((table, nearest))
 }
 
@@ -213,6 +215,13 @@ pub(crate) fn find(
 {
     match wanted {
         Wanted::Field => table.field(class, key),
+        Wanted::InterfaceField => {
+            if family.is_interface(class) {
+                table.field(class, key)
+            } else {
+                None
+            }
+        }
         Wanted::Method => table.method(class, key),
         Wanted::InstanceMethod => instance_method(family, table, class, key),
         Wanted::InterfaceMethod => {

@@ -1,14 +1,15 @@
-//! The nearest methods along superclasses, found by numbers (JVMS 5.4.3.3; 6.5, invokevirtual).
+//! The nearest members along superclasses, found by numbers (JVMS 5.4.3.2, 5.4.3.3; 6.5, invokevirtual).
 
-ghost use Rattle.std.specs.Prelude.{◌≡◌, ◌<◌, length, slice_get, IfOk};
+ghost use Rattle.std.specs.Prelude.{◌≡◌, ◌<◌, ℕ, None, IsTrue, length, slice_get, IfOk};
 ghost use Rattle.built_in.specs.Keys.{NameAndType};
 ghost use Rattle.hierarchy.specs.steps.MemberIndexes.{AreNumbers};
 ghost use Rattle.hierarchy.specs.steps.MemberTables.{IsTableOf};
 ghost use Rattle.loading.specs.Families.{Family as Classes};
 ghost use Rattle.hierarchy.specs.declared.member_table.MemberTable.{MemberTable as Table};
 ghost use Rattle.hierarchy.specs.steps.HierarchyTables.{wanted_in};
+ghost use Rattle.hierarchy.specs.steps.DepthFirst.{IsWholeOrder, ArePlaces};
 ghost use Rattle.hierarchy.specs.steps.Reaches.{Nearest};
-ghost use Rattle.hierarchy.specs.steps.NearestMethods.{AreNearest, rows_of, wanted_of};
+ghost use Rattle.hierarchy.specs.steps.NearestMembers.{AreNearest, AllAreTold, rows_of};
 
 use crate::depth_first::{depth_first, places_in};
 use crate::member::DeclaredMember;
@@ -22,19 +23,30 @@ use built_in::class_id::BuiltIn;
 use loading::family::Family;
 use std::alloc::{AllocError, Global};
 
-/// What the nearest methods along superclasses are found by.
+/// What the nearest members along superclasses are found by.
 #[derive(Drop)]
-pub(crate) struct NearestMethods {
+pub(crate) struct NearestMembers {
     /// By class: its place in an order in which those below a class stand together.
     places: Vec<usize>,
     /// By class: the built-in class at the end of its chain of superclasses.
     tops: Vec<BuiltIn>,
+    reaches: Reaches,
+}
+
+/// How far the nearest members reach, by kind.
+#[derive(Drop)]
+pub(crate) struct Reaches {
+    fields: ReachTable,
+    /// Of the fields of interfaces.
+    interface_fields: ReachTable,
     methods: ReachTable,
     /// Of the methods that are neither private nor static.
     instance_methods: ReachTable,
+    /// The same of interfaces.
+    interface_methods: ReachTable,
 }
 
-impl NearestMethods {
+impl NearestMembers {
     /// Those of a family.
     pub(crate) fn of_family(
         alloc: Global,
@@ -48,56 +60,79 @@ impl NearestMethods {
         let order = order.as_slice();
         let places = places_in(alloc, order, family.classes().len())?;
         let tops = tops_of(alloc, family)?;
-        let methods = reaches_of(alloc, family, table, Wanted::Method, order, &places)?;
-        let instance_methods = reaches_of(
-            alloc,
-            family,
-            table,
-            Wanted::InstanceMethod,
-            order,
-            &places,
-        )?;
-        Ok(NearestMethods {
+        let reaches = Reaches::along(alloc, family, table, order, &places)?;
+        Ok(NearestMembers {
             places,
             tops,
-            methods,
-            instance_methods,
+            reaches,
         })
     }
 }
 
-/// A kind of methods that the nearest is looked for along superclasses.
-#[derive(Clone, Copy, Debug)]
-pub(crate) enum MethodKind {
-    Any,
-    /// Neither private nor static.
-    Instance,
-}
-
-impl NearestMethods {
-    /// The rows of a kind of methods.
-    fn rows(&self, kind: MethodKind) -> &ReachTable
-        ensures { result.now ≡ rows_of kind self.now }
+impl Reaches {
+    /// Those of a family's classes in an order.
+    fn along(
+        alloc: Global,
+        family: &Family,
+        table: &MemberTable,
+        order: &[u32],
+        places: &[usize],
+    ) -> Result<Self, AllocError>
+        requires fits { IsTableOf family.now table.now }
+        requires order { IsWholeOrder family.now order.now }
+        requires places { ArePlaces order.now places.now }
+        ensures { IfOk result (AllAreTold family.now table.now order.now) }
     {
-        match kind {
-            MethodKind::Any => &self.methods,
-            MethodKind::Instance => &self.instance_methods,
-        }
+        let fields = reaches_of(alloc, family, table, Wanted::Field, order, places)?;
+        let interface_fields = reaches_of(alloc, family, table, Wanted::InterfaceField, order, places)?;
+        let methods = reaches_of(alloc, family, table, Wanted::Method, order, places)?;
+        let instance_methods = reaches_of(alloc, family, table, Wanted::InstanceMethod, order, places)?;
+        let interface_methods = reaches_of(alloc, family, table, Wanted::InterfaceMethod, order, places)?;
+        Ok(Reaches {
+            fields,
+            interface_fields,
+            methods,
+            instance_methods,
+            interface_methods,
+        })
     }
 
-    /// The nearest class, from one upwards, that declares a method of a kind.
+    /// The rows of a kind of members.
+    fn rows(&self, wanted: Wanted) -> &ReachTable
+        ensures { result.now ≡ rows_of wanted self.now }
+    {
+        match wanted {
+            Wanted::Field => &self.fields,
+            Wanted::InterfaceField => &self.interface_fields,
+            Wanted::Method => &self.methods,
+            Wanted::InstanceMethod => &self.instance_methods,
+            Wanted::InterfaceMethod => &self.interface_methods,
+        }
+    }
+}
+
+impl NearestMembers {
+    /// Whether no class declares a member of a kind.
+    pub(crate) fn is_undeclared(&self, wanted: Wanted, key: MemberKey) -> bool
+        ensures { (family : Classes) (table : Table) (name : NameAndType) (class : ℕ) → AreNearest family table self.now
+            → AreNumbers table.texts name key → IsTrue result → wanted_in wanted family name class ≡ None }
+    {
+        self.reaches.rows(wanted).lacks(key)
+    }
+
+    /// The nearest class, from one upwards, that declares a member of a kind.
     pub(crate) fn nearest(
         &self,
-        kind: MethodKind,
+        wanted: Wanted,
         class: u32,
         key: MemberKey,
     ) -> Option<DeclaredMember>
         ensures { (family : Classes) (table : Table) (name : NameAndType) → AreNearest family table self.now
             → AreNumbers table.texts name key → class < length family
-            → Nearest family (wanted_in (wanted_of kind) family name) class result }
+            → Nearest family (wanted_in wanted family name) class result }
     {
         let place = *self.places.get(class as usize)?;
-        self.rows(kind).reaching(key, place)
+        self.reaches.rows(wanted).reaching(key, place)
     }
 
     /// The built-in class above a class.

@@ -1,6 +1,6 @@
 //! Rows of reaches by name and descriptor.
 
-ghost use Rattle.std.specs.Prelude.{◌≡◌, ◌++◌, ◌∷◌, [], Some, IfOk, OnOk, if◌then◌else◌};
+ghost use Rattle.std.specs.Prelude.{◌≡◌, ◌++◌, ◌∷◌, [], Some, IsTrue, IfOk, OnOk, if◌then◌else◌};
 ghost use Rattle.hierarchy.specs.declared.member_index.MemberKey.{MemberKey as Key};
 ghost use Rattle.hierarchy.specs.steps.MemberIndexes.{same_key};
 ghost use Rattle.hierarchy.specs.steps.Reaches.{reaches_of, number_in, IsReachTable, GoUp, reaching, last_nearest};
@@ -81,6 +81,13 @@ impl ReachTable {
         let number = self.number_of(alloc, key)?;
         self.rows[number].push(reach)?;
         Ok(())
+    }
+
+    /// Whether a key has no reaches.
+    pub(crate) fn lacks(&self, key: MemberKey) -> bool
+        ensures { IsTrue result → reaches_of self.now key ≡ [] }
+    {
+        self.row(key).is_empty()
     }
 
     /// What reaches a place.

@@ -21,7 +21,7 @@ ghost use Rattle.loading.specs.Families.{IsFamily};
 ghost use Rattle.hierarchy.specs.declared.member.DeclaredMember.{DeclaredMember as Found};
 ghost use Rattle.hierarchy.specs.steps.HierarchyTables.{wanted_in};
 ghost use Rattle.hierarchy.specs.steps.MemberTables.{IsTableOf};
-ghost use Rattle.hierarchy.specs.steps.Sweeps.{members_of, members_in, members_by};
+ghost use Rattle.hierarchy.specs.steps.Sweeps.{members_of, members_of_file, members_in, members_by};
 
 use crate::depth_first::given_superclass;
 use crate::hierarchy::find;
@@ -32,8 +32,9 @@ use crate::pool_texts::PoolTexts;
 use crate::reach_table::{Reach, ReachTable};
 use crate::sweep::Sweep;
 use crate::wanted::Wanted;
-use classfile::Member;
+use classfile::{ClassFile, Member};
 use loading::family::Family;
+use loading::names::is_interface;
 use std::alloc::{AllocError, Global};
 
 impl Sweep<'_> {
@@ -92,16 +93,37 @@ impl Sweep<'_> {
     }
 }
 
+/// The members of a class file of the kind that counts.
+fn members_of_file(wanted: Wanted, file: &ClassFile) -> &[Member]
+    ensures { result.now ≡ members_of_file wanted (Some file.now) }
+{
+    match wanted {
+        Wanted::Field => file.fields(),
+        Wanted::Method | Wanted::InstanceMethod => file.methods(),
+        Wanted::InterfaceField => {
+            if is_interface(file) {
+                file.fields()
+            } else {
+                &[]
+            }
+        }
+        Wanted::InterfaceMethod => {
+            if is_interface(file) {
+                file.methods()
+            } else {
+                &[]
+            }
+        }
+    }
+}
+
 impl Sweep<'_> {
     /// The members of a class of the kind that counts.
     fn members(&self, class: u32) -> &[Member]
         ensures { result.now ≡ members_in self.now.wanted self.now.family.now class }
     {
         match self.family.file(class) {
-            Some(file) => match self.wanted {
-                Wanted::Field => file.fields(),
-                Wanted::Method | Wanted::InstanceMethod | Wanted::InterfaceMethod => file.methods(),
-            },
+            Some(file) => members_of_file(self.wanted, file),
             None => &[],
         }
     }

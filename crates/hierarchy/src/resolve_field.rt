@@ -55,7 +55,7 @@ impl Hierarchy {
         ensures { IfOk result (λ field. (name : NameAndType) → AreNumbers self.now.texts name key
             → ResolvesField self.now.family name (class_ids.Given class) field) }
     {
-        let first = self.first_above(ancestors, Wanted::Field, class, Some(key))?;
+        let first = self.first_field(ancestors, class, Some(key))?;
         match first {
             Some(DeclaredMember { class, index }) => Ok(Some(Field::Given { class, index })),
             None => Ok(None),

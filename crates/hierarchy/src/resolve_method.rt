@@ -14,7 +14,6 @@ use crate::hierarchy::Hierarchy;
 use crate::member::{DeclaredMember, Method};
 use crate::member_index::MemberKey;
 use crate::member_name::MemberName;
-use crate::nearest::MethodKind;
 use crate::search::{array_method, built_in_method};
 use crate::sought::Sought;
 use crate::wanted::Wanted;
@@ -90,7 +89,7 @@ impl Hierarchy {
         ensures { IfOk result (ResolvesMethod self.now.family (sought_name sought.entry) (class_ids.Given class)) }
     {
         let from = Superclass::Given(class);
-        if let Some(method) = self.up_classes(MethodKind::Any, from, sought) {
+        if let Some(method) = self.up_classes(Wanted::Method, from, sought) {
             return Ok(Some(method));
         }
         let method = self.among_interfaces(ancestors, class, sought.key)?;

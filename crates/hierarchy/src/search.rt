@@ -1,15 +1,14 @@
 //! Searches through superinterfaces and superclasses (JVMS 5.4.3.2 to 5.4.3.4).
 
-ghost use Rattle.std.specs.Prelude.{◌≡◌, ◌≤◌, ◌^◌, [], ◌∷◌, ℕ, Option, IfOk};
-ghost use Rattle.hierarchy.specs.steps.HierarchyTables.{wanted_in};
+ghost use Rattle.std.specs.Prelude.{◌≡◌, ◌≤◌, ◌^◌, [], ◌∷◌, ℕ, Option, None, IfOk};
+ghost use Rattle.hierarchy.specs.steps.HierarchyTables.{wanted_in, interface_field_in};
 ghost use Rattle.built_in.specs.Keys.{NameAndType};
 ghost use Rattle.hierarchy.specs.steps.MemberIndexes.{IsLookup};
-ghost use Rattle.hierarchy.specs.MemberLookup.{UpClasses};
+ghost use Rattle.hierarchy.specs.MemberLookup.{UpClasses, field_in};
 ghost use Rattle.built_in.specs.declared.class_id.ArrayType.{ArrayType};
 ghost use Rattle.built_in.specs.declared.class_id.ClassId.TheVariants as class_ids;
 ghost use Rattle.hierarchy.specs.Resolution.{ResolvesMethod, SelectsByKey};
 ghost use Rattle.hierarchy.specs.Search.{Search};
-ghost use Rattle.hierarchy.specs.steps.NearestMethods.{wanted_of};
 ghost use Rattle.hierarchy.specs.steps.Sought.{sought_name};
 ghost use Rattle.loading.specs.Families.{Family as Classes};
 ghost use Rattle.loading.specs.declared.given.Superclass.TheVariants as super;
@@ -19,7 +18,6 @@ use crate::ancestors::Ancestors;
 use crate::hierarchy::Hierarchy;
 use crate::member::{DeclaredMember, Method};
 use crate::member_index::MemberKey;
-use crate::nearest::MethodKind;
 use crate::sought::Sought;
 use crate::wanted::Wanted;
 use built_in::class_id::BuiltIn;
@@ -44,11 +42,47 @@ impl Hierarchy {
         ensures { IfOk result (λ found. (name : NameAndType) → IsLookup self.now.texts name key
             → Search self.now.family (wanted_in wanted self.now.family name) (class ∷ []) found) }
     {
+        let _order = self.family().parents_first();
+        if self.is_undeclared(wanted, key) {
+            return Ok(None);
+        }
         if let Some(index) = self.find(wanted, class, key) {
             return Ok(Some(DeclaredMember { class, index }));
         }
         ancestors.find(self.family(), class)?;
         Ok(self.first_among(wanted, ancestors.classes(), key))
+    }
+
+    /// The first field in a class, its superinterfaces and its superclass. Where no interface declares such a field it
+    /// is the nearest along superclasses.
+    pub(crate) fn first_field(
+        &self,
+        ancestors: &mut Ancestors,
+        class: u32,
+        key: Option<MemberKey>,
+    ) -> Result<Option<DeclaredMember>, AllocError>
+        ensures { IfOk result (λ found. (name : NameAndType) → IsLookup self.now.texts name key
+            → Search self.now.family (field_in self.now.family name) (class ∷ []) found) }
+    {
+        if self.is_undeclared(Wanted::InterfaceField, key) {
+            return Ok(self.first_along(class, key));
+        }
+        let found = self.first_above(ancestors, Wanted::Field, class, key)?;
+        Ok(found)
+    }
+
+    /// The first field in a class and its superclasses, where no interface declares such a field.
+    fn first_along(&self, class: u32, key: Option<MemberKey>) -> Option<DeclaredMember>
+        ensures { (name : NameAndType) → IsLookup self.now.texts name key
+            → ((i : ℕ) → interface_field_in self.now.family name i ≡ None)
+            → Search self.now.family (field_in self.now.family name) (class ∷ []) result }
+    {
+        let _classes = self.family().classes();
+        let _order = self.family().parents_first();
+        if self.top(class).is_some() {
+            return self.nearest(Wanted::Field, class, key);
+        }
+        None
     }
 
     /// The first of some classes, in the order in which they came, that has a member of some kind, and its place.
@@ -74,30 +108,30 @@ impl Hierarchy {
     /// The first method of some kind from a class up; at the end stand those of the built-in classes.
     pub(crate) fn up_classes(
         &self,
-        kind: MethodKind,
+        wanted: Wanted,
         from: Superclass,
         sought: Sought<'_>,
     ) -> Option<Method>
         requires { IsLookup self.now.texts (sought_name sought) sought.key }
-        ensures { UpClasses self.now.family (wanted_in (wanted_of kind) self.now.family (sought_name sought.entry))
+        ensures { UpClasses self.now.family (wanted_in wanted self.now.family (sought_name sought.entry))
             (sought_name sought.entry) from result }
     {
         match from {
-            Superclass::Given(class) => self.up_given(kind, class, sought),
+            Superclass::Given(class) => self.up_given(wanted, class, sought),
             Superclass::BuiltIn(class) => built_in_method(class, sought),
         }
     }
 
     /// The same from a given class up.
-    fn up_given(&self, kind: MethodKind, class: u32, sought: Sought<'_>) -> Option<Method>
+    fn up_given(&self, wanted: Wanted, class: u32, sought: Sought<'_>) -> Option<Method>
         requires { IsLookup self.now.texts (sought_name sought) sought.key }
-        ensures { UpClasses self.now.family (wanted_in (wanted_of kind) self.now.family (sought_name sought.entry))
+        ensures { UpClasses self.now.family (wanted_in wanted self.now.family (sought_name sought.entry))
             (sought_name sought.entry) (super.Given class) result }
     {
         let Some(top) = self.top(class) else {
             return None;
         };
-        match self.nearest(kind, class, sought.key) {
+        match self.nearest(wanted, class, sought.key) {
             Some(DeclaredMember { class, index }) => Some(Method::Given { class, index }),
             None => built_in_method(top, sought),
         }

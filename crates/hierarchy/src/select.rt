@@ -9,9 +9,9 @@ ghost use Rattle.hierarchy.specs.steps.Sought.{sought_name};
 
 use crate::hierarchy::Hierarchy;
 use crate::member::{DeclaredMember, Method};
-use crate::nearest::MethodKind;
 use crate::search::{array_method, built_in_method};
 use crate::sought::Sought;
+use crate::wanted::Wanted;
 use built_in::class_id::ClassId;
 use classfile::flags::{PRIVATE, has_flag};
 use loading::given::Superclass;
@@ -55,7 +55,7 @@ impl Hierarchy {
         ensures { SelectsByKey self.now.family (sought_name sought.entry) (class_ids.Given class) result }
     {
         let from = Superclass::Given(class);
-        if let Some(method) = self.up_classes(MethodKind::Instance, from, sought) {
+        if let Some(method) = self.up_classes(Wanted::InstanceMethod, from, sought) {
             return Some(method);
         }
         let DeclaredMember { class, index } = self.the_default(class, sought.key)?;

@@ -4,6 +4,8 @@
 #[derive(Clone, Copy, Debug)]
 pub(crate) enum Wanted {
     Field,
+    /// A field of an interface.
+    InterfaceField,
     Method,
     /// A method that is neither private nor static.
     InstanceMethod,

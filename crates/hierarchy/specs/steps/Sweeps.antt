@@ -1,5 +1,6 @@
 -- What the nearest classes are noted with.
-use Rattle.std.specs.Prelude.{ℕ, List, [], Option, Some, None}
+use Rattle.std.specs.Prelude.{ℕ, List, [], Option, Some, None, if◌then◌else◌}
+use Rattle.loading.specs.Names.{is_interface}
 use Rattle.classfile.specs.ClassFile.{ClassFile}
 use Rattle.classfile.specs.declared.member.Member.{Member}
 use Rattle.loading.specs.Families.{Family, file_in}
@@ -22,7 +23,8 @@ members_of_file kind None = []
 members_of_file wanted.Field (Some f) = f.fields
 members_of_file wanted.Method (Some f) = f.methods
 members_of_file wanted.InstanceMethod (Some f) = f.methods
-members_of_file wanted.InterfaceMethod (Some f) = f.methods
+members_of_file wanted.InterfaceField (Some f) = if is_interface f then f.fields else []
+members_of_file wanted.InterfaceMethod (Some f) = if is_interface f then f.methods else []
 
 -- the members of a class of the kind that counts
 abbrev pub members_in : Wanted → Family → ℕ → List Member

@@ -1,11 +1,19 @@
-use Rattle.std.proofs.Common.{ℕ, Option, [], ◌∷◌, sym, subst}
+use Rattle.std.proofs.Common.{ℕ, Option, None, [], ◌∷◌, sym, subst}
 use Rattle.hierarchy.specs.steps.HierarchyTables.{wanted_in}
 use Rattle.loading.specs.Families.{Family, parents_in}
 use Rattle.hierarchy.specs.Search.{Search, here}
 use Rattle.hierarchy.specs.steps.Walks.{IsSearchOrder}
 use Rattle.hierarchy.specs.declared.member.DeclaredMember.{DeclaredMember}
+use Rattle.hierarchy.proofs.AlongSuperclassesLemmas.{found_nowhere}
 use Rattle.hierarchy.proofs.AncestorsLemmas.{search_above}
 use Rattle.hierarchy.proofs.hierarchy.Hierarchy.first_above.Goals as goal
+
+pub returns-then-is_undeclared : goal.returns-then-is_undeclared
+returns-then-is_undeclared c = λ name is.
+    let family = c.args.self.now.family in
+    subst (λ (f : Family). Search f (wanted_in c.args.wanted family name) (c.args.class ∷ []) None) c.family.ensures
+    (found_nowhere c.family.result.now (wanted_in c.args.wanted family name) c.parents_first-_order.result.now
+    c.parents_first-_order.ensures (c.args.class ∷ []) (λ i. c.is_undeclared.ensures name i is c.if-is_undeclared.true))
 
 pub returns-in-Some : goal.returns-in-Some
 returns-in-Some c = λ name is. here (sym (c.in-Some.ensures name is))

@@ -2,7 +2,6 @@ use Rattle.std.proofs.Common.{◌<◌, suc, Some, None, Option, length, sym, sub
 use Rattle.hierarchy.specs.Hierarchies.{NumberedFamily}
 use Rattle.hierarchy.specs.steps.HierarchyTables.{wanted_in}
 use Rattle.hierarchy.specs.steps.MemberIndexes.{IsLookup}
-use Rattle.hierarchy.specs.steps.NearestMethods.{wanted_of}
 use Rattle.hierarchy.specs.steps.Reaches.{Nearest}
 use Rattle.hierarchy.specs.declared.member_index.MemberKey.{MemberKey}
 use Rattle.hierarchy.proofs.FamiliesChainLemmas.{height}
@@ -13,13 +12,13 @@ pub returns-in_err-key : goal.returns-in_err-key
 returns-in_err-key c = λ name is.
     let family = c.self.inside.family in
     let class = c.args.class in
-    let own = wanted_in (wanted_of c.args.kind) family name in
+    let own = wanted_in c.args.wanted family name in
     let lacks = subst (λ (k : Option MemberKey). IsLookup c.args.self.now.texts name k) c.in_err-key.was is in
     subst (λ (n : NumberedFamily). IsLookup n.texts name None
-    → Nearest n.family (wanted_in (wanted_of c.args.kind) n.family name) class c.from_residual.result) c.self.view_is
+    → Nearest n.family (wanted_in c.args.wanted n.family name) class c.from_residual.result) c.self.view_is
     (λ none. subst (Nearest family own class) (sym c.from_residual.ensures)
     (nearest_none family own c.self.invariant.fits
-    (none_declared family c.self.inside.table c.args.kind name c.self.invariant.table_fits none)
+    (none_declared family c.self.inside.table c.args.wanted name c.self.invariant.table_fits none)
     (suc (height family class)) class (omega arith))) lacks
 
 pub returns : goal.returns
@@ -27,7 +26,7 @@ returns c = λ name is.
     let class = c.args.class in
     let are = subst (λ (k : Option MemberKey). IsLookup c.args.self.now.texts name k) c.in_ok-key.was is in
     subst (λ (n : NumberedFamily). IsLookup n.texts name (Some c.in_ok-key.field-0) → class < length n.family
-    → Nearest n.family (wanted_in (wanted_of c.args.kind) n.family name) class c.nearest.result) c.self.view_is
+    → Nearest n.family (wanted_in c.args.wanted n.family name) class c.nearest.result) c.self.view_is
     (λ numbers small. c.nearest.ensures c.self.inside.family c.self.inside.table name c.self.invariant.nearest_fit
     numbers
     small) are c.requires

@@ -1,7 +1,7 @@
 use Rattle.std.proofs.Common.{length, sym, ap, ◌∙◌, subst, get_or, arith}
 use Rattle.std.proofs.lemmas.List.Elements.{Contains-get_or}
 use Rattle.hierarchy.specs.steps.DepthFirst.{IsWholeOrder}
-use Rattle.hierarchy.proofs.nearest.NearestMethods.of_family.Goals as goal
+use Rattle.hierarchy.proofs.nearest.NearestMembers.of_family.Goals as goal
 
 pub places_in-requires : goal.places_in-requires
 places_in-requires c = λ k d small.
@@ -21,6 +21,5 @@ returns c = record {
   places = c.in_ok-places.ensures.places;
   count = c.in_ok-places.ensures.len ∙ ap length c.classes.ensures.value;
   tops = c.in_ok-tops.ensures;
-  methods = c.in_ok-methods.ensures;
-  instance_methods = c.in_ok-instance_methods.ensures;
+  told = c.in_ok-reaches.ensures;
 }
