@@ -11,7 +11,6 @@ use Rattle.std.proofs.Math.Seq.{drop-append_seam, take-append_seam}
 use Rattle.classfile.specs.Grammar.{IsBaseType, IsElementType, IsFieldDescriptor, IsMethodDescriptor}
 use Rattle.classfile.specs.ClassFile.{ClassFile}
 use Rattle.classfile.specs.declared.constant.Constant.{Constant}
-use Rattle.classfile.specs.declared.constant.Constant.TheVariants as constants
 use Rattle.classfile.specs.Lookup.{utf8_in, utf8_of}
 use Rattle.program.specs.declared.runtime_constant.FieldKind.{FieldKind}
 use Rattle.program.specs.declared.signature.ReturnKind.{ReturnKind}
@@ -222,13 +221,8 @@ all_read text kinds rest ends were types tail each e =
 no_descriptor : IsMethodDescriptor [] → ⊥
 no_descriptor d = let e = d.spelled in cc
 
-pub no_signature : IsSignatureOf [] None
+no_signature : IsSignatureOf [] None
 no_signature = record { descriptor = λ d. absurd (no_descriptor d); other = λ none. refl }
-
--- an entry that is no Utf8 says nothing
-pub no_text : (constant : Constant) → ((text : List ℕ) → constant ≢ constants.Utf8 text) → IsEntry constant None
-no_text (constants.Utf8 text) plain = absurd (plain text refl)
-no_text other plain = no_signature
 
 entries_are : (pool : List Constant) (entries : List (Option Signature)) → AllZip IsEntry pool entries → (index : ℕ)
     → IsSignatureOf (unwrap_or (utf8_in (slice_get pool index)) []) (signature_in entries index)
