@@ -118,6 +118,16 @@ def long_name(count):
     return [class_file("Main", members=members)]
 
 
+def equal_strings(count):
+    """One class with so many String entries that name one text of as many bytes."""
+    def members(pool):
+        entry = struct.pack(">BH", 8, pool.text("a" * count))
+        for _ in range(count):
+            pool.add_again(entry)
+        return [], []
+    return [class_file("Main", members=members)]
+
+
 def far_references(count):
     """A chain of so many classes, and one below it with as many references to methods of the first, all distinct."""
     names = ["m%d" % number for number in range(count)]
@@ -141,7 +151,7 @@ def equal_interfaces(count):
 
 
 KINDS = {kind.__name__: kind for kind in (small, chain, chain_of_references, interface_chain, many_defaults, long_name,
-                                         far_references, equal_interfaces)}
+                                         equal_strings, far_references, equal_interfaces)}
 
 
 def main():

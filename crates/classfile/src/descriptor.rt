@@ -1,6 +1,7 @@
 //! Descriptors of fields and methods, read byte by byte.
 
-ghost use Rattle.std.specs.Prelude.{◌≡◌, ◌==◌, if◌then◌else◌};
+ghost use Rattle.std.specs.Prelude.{◌≡◌, ◌↔◌, ◌==◌, IsTrue, if◌then◌else◌};
+ghost use Rattle.classfile.specs.Grammar.{IsMethodDescriptor};
 ghost use Rattle.classfile.specs.reading.Descriptors.{is_base, step, scan, is_field, is_method, is_class_name};
 ghost use Rattle.classfile.specs.reading.Descriptors.{lacks_semicolon};
 
@@ -121,6 +122,13 @@ pub(crate) fn is_method(bytes: &[u8]) -> bool
     ensures { result ≡ is_method bytes.now }
 {
     scan(Place::Open, bytes)
+}
+
+/// Whether a text is a method descriptor (JVMS 4.3.3).
+pub fn is_method_descriptor(text: &[u8]) -> bool
+    ensures { IsTrue result ↔ IsMethodDescriptor text.now }
+{
+    is_method(text)
 }
 
 fn lacks_semicolon(bytes: &[u8]) -> bool

@@ -32,6 +32,7 @@ pub use class_file::{ClassFile, read, text_or_fault};
 pub use code::Code;
 pub use code_bytes::CodeBytes;
 pub use constant::Constant;
+pub use descriptor::is_method_descriptor;
 pub use exceptions::{ExceptionHandler, ExceptionTable};
 pub use fault::ClassFault;
 pub use member::{Member, Members};

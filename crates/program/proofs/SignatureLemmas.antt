@@ -6,15 +6,16 @@ use Rattle.std.specs.Prelude.{position}
 use Rattle.std.specs.List.{flat_map, All, AllZip, position_or_len}
 use Rattle.std.proofs.lemmas.Bool.{lt-ltb, ne_eqb}
 use Rattle.std.proofs.lemmas.List.{length-append, length-replicate, append-nil}
+use Rattle.std.proofs.lemmas.Slice.Zip.{AllZip-long}
 use Rattle.std.proofs.Math.Seq.{drop-append_seam, take-append_seam}
 use Rattle.classfile.specs.Grammar.{IsBaseType, IsElementType, IsFieldDescriptor, IsMethodDescriptor}
 use Rattle.classfile.specs.ClassFile.{ClassFile}
 use Rattle.classfile.specs.declared.constant.Constant.{Constant}
-use Rattle.classfile.specs.declared.constant.Constant.TheVariants as constants
 use Rattle.classfile.specs.Lookup.{utf8_in, utf8_of}
 use Rattle.program.specs.declared.runtime_constant.FieldKind.{FieldKind}
+use Rattle.program.specs.declared.signature.ReturnKind.{ReturnKind}
 use Rattle.program.specs.declared.signature.Signature.{Signature}
-use Rattle.program.specs.Signatures.{signature_of, signature_in, AreSignatures}
+use Rattle.program.specs.Signatures.{signature_of, signature_in, return_kind, IsSignatureOf, AreSignatures}
 use Rattle.program.specs.Fields.{field_kind}
 use Rattle.program.specs.steps.ParsedSignatures.{dimensions, element_length, type_length, ends_parameters}
 use Rattle.program.specs.steps.ParsedSignatures.{after_place, AreParameters, IsEntry}
@@ -220,20 +221,80 @@ all_read text kinds rest ends were types tail each e =
 no_descriptor : IsMethodDescriptor [] → ⊥
 no_descriptor d = let e = d.spelled in cc
 
-entry_is : (constant : Constant) (entry : Option Signature) → IsEntry constant entry
-    → (d : IsMethodDescriptor (unwrap_or (utf8_in (Some constant)) [])) → entry ≡ Some (signature_of d)
-entry_is (constants.Utf8 text) entry is d = is text refl d
-entry_is other entry is d = absurd (no_descriptor d)
+no_signature : IsSignatureOf [] None
+no_signature = record { descriptor = λ d. absurd (no_descriptor d); other = λ none. refl }
 
 entries_are : (pool : List Constant) (entries : List (Option Signature)) → AllZip IsEntry pool entries → (index : ℕ)
-    → (d : IsMethodDescriptor (unwrap_or (utf8_in (slice_get pool index)) []))
-    → signature_in entries index ≡ Some (signature_of d)
-entries_are [] entries all index d = absurd (no_descriptor d)
-entries_are (constant ∷ pool) [] all index d = absurd all
-entries_are (constant ∷ pool) (entry ∷ entries) all zero d = entry_is constant entry all.0 d
-entries_are (constant ∷ pool) (entry ∷ entries) all (suc index) d = entries_are pool entries all.1 index d
+    → IsSignatureOf (unwrap_or (utf8_in (slice_get pool index)) []) (signature_in entries index)
+entries_are [] [] all index = no_signature
+entries_are [] (entry ∷ entries) all index = absurd all
+entries_are (constant ∷ pool) [] all index = absurd all
+entries_are (constant ∷ pool) (entry ∷ entries) all zero = all.0
+entries_are (constant ∷ pool) (entry ∷ entries) all (suc index) = entries_are pool entries all.1 index
 
 pub are_signatures : (f : ClassFile) (entries : List (Option Signature)) → AllZip IsEntry f.constants entries
     → AreSignatures f entries
 unfolding utf8_of
-are_signatures f entries all index d = entries_are f.constants entries all index d
+are_signatures f entries all = record {
+  count = AllZip-long IsEntry f.constants entries all;
+  each = entries_are f.constants entries all;
+}
+
+-- ---- one reading
+
+-- of two types that a text begins with, both are of one length
+same_first : (p q after rest : List ℕ) → IsFieldDescriptor p → IsFieldDescriptor q → p ++ after ≡ q ++ rest
+    → (p ≡ q) × (after ≡ rest)
+same_first p q after rest first second e =
+    let count : length p ≡ length q =
+    sym (type_at p after first) ∙ ap type_length e ∙ type_at q rest second in (
+      sym (take-append_seam p after) ∙ ap (take (length p)) e ∙ ap (λ (k : ℕ). take k (q ++ rest)) count
+          ∙ take-append_seam q rest,
+      sym (drop-append_seam p after) ∙ ap (drop (length p)) e ∙ ap (λ (k : ℕ). drop k (q ++ rest)) count
+          ∙ drop-append_seam q rest,
+    )
+
+-- no type begins where the parameters end
+no_type : (q tail rest : List ℕ) → IsFieldDescriptor q → 41 ∷ tail ≡ q ++ rest → ⊥
+no_type q tail rest is e =
+    let begins = field_begins q is in
+    let text : 41 ∷ tail ≡ begins.0 ∷ (begins.1 ++ rest) = e ∙ ap (λ (z : List ℕ). z ++ rest) begins.2 in
+    let same : 41 ≡ begins.0 = cc in
+    begins.3 (sym same)
+
+same_types : (ps qs : List (List ℕ)) (tail other : List ℕ) → All IsFieldDescriptor ps → All IsFieldDescriptor qs
+    → flat_map (λ p. p) ps ++ 41 ∷ tail ≡ flat_map (λ p. p) qs ++ 41 ∷ other → (ps ≡ qs) × (tail ≡ other)
+same_types [] [] tail other first second e = (refl, cc)
+same_types [] (q ∷ qs) tail other first second e =
+    absurd (no_type q tail (flat_map (λ p. p) qs ++ 41 ∷ other) (second 0 q (omega arith))
+    (e ∙ append_assoc q (flat_map (λ p. p) qs) (41 ∷ other)))
+same_types (p ∷ ps) [] tail other first second e =
+    absurd (no_type p other (flat_map (λ p. p) ps ++ 41 ∷ tail) (first 0 p (omega arith))
+    (sym e ∙ append_assoc p (flat_map (λ p. p) ps) (41 ∷ tail)))
+same_types (p ∷ ps) (q ∷ qs) tail other first second e =
+    let after : List ℕ = flat_map (λ p. p) ps ++ 41 ∷ tail in
+    let rest : List ℕ = flat_map (λ p. p) qs ++ 41 ∷ other in
+    let text : p ++ after ≡ q ++ rest = sym (append_assoc p (flat_map (λ p. p) ps) (41 ∷ tail)) ∙ e
+    ∙ append_assoc q (flat_map (λ p. p) qs) (41 ∷ other) in
+    let here = same_first p q after rest (first 0 p (omega arith)) (second 0 q (omega arith)) text in
+    let more = same_types ps qs tail other (λ k d lt. first (suc k) d (omega (arith, lt)))
+    (λ k d lt. second (suc k) d (omega (arith, lt))) here.1 in
+    (ap (λ (z : List ℕ). z ∷ ps) here.0 ∙ ap (λ (zs : List (List ℕ)). q ∷ zs) more.0, more.1)
+
+pub same_parts : (text : List ℕ) (a b : IsMethodDescriptor text)
+    → (a.parameters ≡ b.parameters) × (a.returned ≡ b.returned)
+same_parts text a b =
+    let whole : 40 ∷ (flat_map (λ p. p) a.parameters ++ 41 ∷ a.returned)
+    ≡ 40 ∷ (flat_map (λ p. p) b.parameters ++ 41 ∷ b.returned) = sym a.spelled ∙ b.spelled in
+    let inner : flat_map (λ p. p) a.parameters ++ 41 ∷ a.returned
+    ≡ flat_map (λ p. p) b.parameters ++ 41 ∷ b.returned = cc in
+    same_types a.parameters b.parameters a.returned b.returned a.are_fields b.are_fields inner
+
+pub same_signature : (text : List ℕ) (a b : IsMethodDescriptor text) → signature_of a ≡ signature_of b
+same_signature text a b =
+    let parts = same_parts text a b in
+    let with_parameters : List FieldKind → Signature =
+    λ kinds. record { parameters = kinds; returns = return_kind a.returned } in
+    let with_returns : ReturnKind → Signature =
+    λ kind. record { parameters = map field_kind b.parameters; returns = kind } in
+    ap with_parameters (ap (map field_kind) parts.0) ∙ ap with_returns (ap return_kind parts.1)

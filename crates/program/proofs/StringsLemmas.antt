@@ -1,5 +1,5 @@
 -- Texts, each once, where they stand first.
-use Rattle.std.proofs.Common.{◌≡◌, ◌≢◌, ℕ, ◌+◌, ◌<◌, Bool, true, false, List, [], ◌∷◌, ◌++◌, length, take, get_or, refl}
+use Rattle.std.proofs.Common.{◌≡◌, ℕ, ◌+◌, ◌<◌, Bool, true, false, List, [], ◌∷◌, ◌++◌, length, take, get_or, refl}
 use Rattle.std.proofs.Common.{sym, ap, subst, ◌∙◌, append_assoc, append-nil, inl, inr}
 use Rattle.std.specs.Bool.{Decides}
 use Rattle.std.specs.List.{Contains, flat_map, list_any}
@@ -11,7 +11,11 @@ use Rattle.std.proofs.lemmas.List.Elements.{Decides-contains, Contains-append_le
 use Rattle.std.proofs.lemmas.Slice.Eq.{bytes_eq-Decides}
 use Rattle.classfile.specs.ClassFile.{ClassFile}
 use Rattle.classfile.specs.declared.constant.Constant.{Constant}
-use Rattle.classfile.specs.declared.constant.Constant.TheVariants as constants
+use Rattle.loading.specs.Families.{Family}
+use Rattle.loading.specs.Names.{text_at}
+use Rattle.loading.proofs.PlaceLemmas.{contains_at}
+use Rattle.program.specs.declared.runtime_constant.RuntimeConstant.{RuntimeConstant}
+use Rattle.program.specs.RuntimePool.{IsRuntimeConstant}
 use Rattle.program.specs.Strings.{AreFirsts, string_of}
 use Rattle.program.specs.steps.GrowingStrings.{Adds}
 
@@ -76,8 +80,11 @@ adds_next f xs i x a b c within is first second =
     ∙ ap (λ (ys : List (List ℕ)). flat_map f (take i xs) ++ ys) here in
     subst (λ (m : List (List ℕ)). Adds a m c) (sym more) (adds_twice a b c (flat_map f (take i xs)) (f x) first second)
 
--- an entry that is no String has no text
-pub no_string : (f : ClassFile) (constant : Constant) → ((utf8 : ℕ) → constant ≢ constants.String utf8)
-    → string_of f constant ≡ []
-no_string f (constants.String utf8) other = absurd (other utf8 refl)
-no_string f constant other = refl
+-- a constant that stands already adds no text
+pub adds_held : {family : Family} {strings : List (List ℕ)} {f : ClassFile} {index : ℕ} {constant : Constant}
+    {held : RuntimeConstant} → IsRuntimeConstant family strings f index constant held
+    → Adds strings (string_of f constant) strings
+adds_held {strings = strings} {f = f} (IsRuntimeConstant.string {utf8 = utf8} {n = n} at) =
+    adds_text strings strings (text_at f utf8) (λ among. refl)
+    (λ fresh. absurd (fresh (contains_at strings n (text_at f utf8) at)))
+adds_held {strings = strings} is = adds_nothing strings

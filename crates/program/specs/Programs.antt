@@ -7,7 +7,6 @@ use Rattle.classfile.specs.Flags.{has_flag}
 use Rattle.classfile.specs.ClassFile.{ClassFile}
 use Rattle.classfile.specs.Members.{code_among, value_among}
 use Rattle.classfile.specs.declared.member.Member.{Member}
-use Rattle.classfile.specs.Grammar.{IsMethodDescriptor}
 use Rattle.loading.specs.Names.{text_at}
 use Rattle.bytecode.specs.Body.{IsBody}
 use Rattle.classfile.specs.declared.code.Code.{Code as CodeAttribute}
@@ -28,7 +27,7 @@ use Rattle.hierarchy.specs.Initialization.{IsInitializationOrder}
 use Rattle.program.specs.RuntimePool.{IsRuntimePool}
 use Rattle.program.specs.Fields.{statics_of, field_kind, narrowed}
 use Rattle.program.specs.Handlers.{IsHandler}
-use Rattle.program.specs.Signatures.{return_kind, AreSignatures}
+use Rattle.program.specs.Signatures.{IsReturnKindOf, AreSignatures}
 use Rattle.hierarchy.specs.Texts.{AreDistinct}
 use Rattle.program.specs.Strings.{all_strings, AreFirsts}
 use Rattle.program.specs.Tables.{Tables, order_in}
@@ -97,9 +96,8 @@ pub record IsMethodCode (family : Family) (f : ClassFile) (m : Member) (attribut
     Type 0 where
   pub max_stack : code.max_stack ≡ attribute.max_stack
   pub max_locals : code.max_locals ≡ attribute.max_locals
-  -- the descriptor is a method descriptor in every class file (JVMS 4.6)
   pub descriptor : code.descriptor ≡ m.descriptor
-  pub returns : (d : IsMethodDescriptor (text_at f m.descriptor)) → code.returns ≡ return_kind d.returned
+  pub returns : IsReturnKindOf (text_at f m.descriptor) code.returns
   pub handlers : AllZip (IsHandler family f) attribute.exceptions code.handlers
   pub body : IsBody attribute.code code.body
 

@@ -1,5 +1,5 @@
 -- What methods take and return, by their descriptors (JVMS 4.3.3).
-use Rattle.std.specs.Prelude.{◌≡◌, ℕ, List, map, codes, Option, Some, None, slice_get, if◌then◌else◌}
+use Rattle.std.specs.Prelude.{◌≡◌, ℕ, List, length, map, codes, Option, Some, None, slice_get, if◌then◌else◌}
 use Rattle.std.specs.Str.{bytes_eq}
 use Rattle.classfile.specs.ClassFile.{ClassFile}
 use Rattle.classfile.specs.Grammar.{IsMethodDescriptor}
@@ -17,6 +17,17 @@ return_kind text = if bytes_eq text (codes "V") then returns.Nothing else return
 abbrev pub signature_of : {text : List ℕ} → IsMethodDescriptor text → Signature
 signature_of d = record { parameters = map field_kind d.parameters; returns = return_kind d.returned }
 
+-- what a text says: a signature where it is a method descriptor, and none where it is not
+pub record IsSignatureOf (text : List ℕ) (signature : Option Signature) : Type 0 where
+  pub descriptor : (d : IsMethodDescriptor text) → signature ≡ Some (signature_of d)
+  pub other : ¬ IsMethodDescriptor text → signature ≡ None
+
+-- what a method of this descriptor returns; a text that is no method descriptor, which no method has (JVMS 4.6), says
+-- nothing
+pub record IsReturnKindOf (text : List ℕ) (kind : ReturnKind) : Type 0 where
+  pub descriptor : (d : IsMethodDescriptor text) → kind ≡ return_kind d.returned
+  pub other : ¬ IsMethodDescriptor text → kind ≡ returns.Nothing
+
 abbrev pub signature_if : Option (Option Signature) → Option Signature
 signature_if None = None
 signature_if (Some entry) = entry
@@ -25,7 +36,7 @@ signature_if (Some entry) = entry
 abbrev pub signature_in : List (Option Signature) → ℕ → Option Signature
 signature_in signatures index = signature_if (slice_get signatures index)
 
--- At the index of each method descriptor stands what it says.
-abbrev pub AreSignatures : ClassFile → List (Option Signature) → Type 0
-AreSignatures f signatures = (index : ℕ) (d : IsMethodDescriptor (text_at f index))
-    → signature_in signatures index ≡ Some (signature_of d)
+-- The signatures that a class file's constant pool says, one place for each of its entries.
+pub record AreSignatures (f : ClassFile) (signatures : List (Option Signature)) : Type 0 where
+  pub count : length signatures ≡ length f.constants
+  pub each : (index : ℕ) → IsSignatureOf (text_at f index) (signature_in signatures index)

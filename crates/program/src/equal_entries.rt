@@ -1,18 +1,17 @@
-//! Equal entries of a constant pool, so that each is resolved once (JVMS 4.4.1, 4.4.2).
+//! Equal entries of a constant pool, so that each is resolved once (JVMS 4.4.1, 4.4.2, 4.4.3).
 
-ghost use Rattle.std.specs.Prelude.{◌≡◌, ◌≢◌, ℕ, [], Some, IsTrue, IfSome, slice_get};
-ghost use Rattle.classfile.specs.declared.constant.Constant.TheVariants as constants;
-ghost use Rattle.program.specs.Strings.{string_of};
+ghost use Rattle.std.specs.Prelude.{◌≡◌, ℕ, Some, IsTrue, IfSome, slice_get};
 
 use crate::runtime_constant::RuntimeConstant;
 use classfile::{ClassFile, Constant};
 use std::alloc::{AllocError, Global};
 use std::collections::BTreeMap;
 
-/// Where entries that name a class, or a member by its class and its name and type, stood last.
+/// Where entries that name a class, a string, or a member by its class and its name and type, stood last.
 #[derive(Drop)]
 pub(crate) struct Earlier {
     classes: BTreeMap<u16, u16>,
+    strings: BTreeMap<u16, u16>,
     members: BTreeMap<(u16, u16), u16>,
 }
 
@@ -21,6 +20,7 @@ impl Earlier {
     pub(crate) fn new(alloc: Global) -> Self {
         Earlier {
             classes: BTreeMap::new(alloc),
+            strings: BTreeMap::new(alloc),
             members: BTreeMap::new(alloc),
         }
     }
@@ -29,6 +29,7 @@ impl Earlier {
     fn index(&self, constant: &Constant) -> Option<u16> {
         match constant {
             Constant::Class { name } => self.classes.get(name).copied(),
+            Constant::String { text } => self.strings.get(text).copied(),
             Constant::Fieldref {
                 class,
                 name_and_type,
@@ -45,11 +46,14 @@ impl Earlier {
         }
     }
 
-    /// Notes where an entry stands, if it names a class or a member.
+    /// Notes where an entry stands, if it names a class, a string or a member.
     pub(crate) fn note(&mut self, constant: &Constant, index: u16) -> Result<(), AllocError> {
         match constant {
             Constant::Class { name } => {
                 self.classes.insert(*name, index)?;
+            }
+            Constant::String { text } => {
+                self.strings.insert(*text, index)?;
             }
             Constant::Fieldref {
                 class,
@@ -77,9 +81,8 @@ impl Earlier {
         constant: &Constant,
         pool: &[RuntimeConstant],
     ) -> Option<RuntimeConstant>
-        ensures equal { IfSome result (λ held. (i : ℕ) × (slice_get file.now.constants i ≡ Some constant.now)
+        ensures { IfSome result (λ held. (i : ℕ) × (slice_get file.now.constants i ≡ Some constant.now)
             × (slice_get pool.now i ≡ Some held)) }
-        ensures no_string { IfSome result (λ held. string_of file.now constant.now ≡ []) }
     {
         let index = self.index(constant)?;
         if !is_equal(file.constant(index)?, constant) {
@@ -89,13 +92,13 @@ impl Earlier {
     }
 }
 
-/// Whether two entries name the same class, or are references of one kind to the same member.
+/// Whether two entries name the same class or string, or are references of one kind to the same member.
 fn is_equal(constant: &Constant, other: &Constant) -> bool
-    ensures equal { IsTrue result → constant.now ≡ other.now }
-    ensures no_string { IsTrue result → (utf8 : ℕ) → other.now ≢ constants.String utf8 }
+    ensures { IsTrue result → constant.now ≡ other.now }
 {
     match (constant, other) {
         (Constant::Class { name }, Constant::Class { name: same }) => name == same,
+        (Constant::String { text }, Constant::String { text: same }) => text == same,
         (
             Constant::Fieldref {
                 class,

@@ -2,11 +2,10 @@
 
 ghost use Rattle.std.specs.Prelude.{◌≡◌, IfOk};
 ghost use Rattle.std.specs.List.{AllZip};
-ghost use Rattle.classfile.specs.Grammar.{IsMethodDescriptor};
 ghost use Rattle.loading.specs.ClassIds.{StandsFor};
 ghost use Rattle.loading.specs.Names.{class_name_at, text_at};
 ghost use Rattle.program.specs.Handlers.{IsCaught, IsHandler};
-ghost use Rattle.program.specs.Signatures.{return_kind, AreSignatures};
+ghost use Rattle.program.specs.Signatures.{IsReturnKindOf, AreSignatures};
 ghost use Rattle.program.specs.steps.ResolvedConstants.{HoldsClasses};
 
 use crate::class::RuntimePool;
@@ -33,8 +32,7 @@ pub(crate) struct LinkedFile<'a> {
 impl<'a> LinkedFile<'a> {
     /// What a method returns (JVMS 4.3.3).
     pub(crate) fn returns_of(&self, method: &Member) -> ReturnKind
-        ensures { (d : IsMethodDescriptor (text_at self.now.file.now method.now.descriptor))
-            → result ≡ return_kind d.returned }
+        ensures { IsReturnKindOf (text_at self.now.file.now method.now.descriptor) result }
     {
         match self.signatures.at(method.descriptor) {
             Some(signature) => signature.returns,

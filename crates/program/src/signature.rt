@@ -1,13 +1,14 @@
 //! What methods take and return (JVMS 4.3.3).
 
-ghost use Rattle.std.specs.Prelude.{◌≡◌, ◌==◌, ◌<◌, ◌≤◌, not, length, drop, IfOk, option_copied, position};
-ghost use Rattle.program.specs.Signatures.{return_kind, signature_in, AreSignatures};
+ghost use Rattle.std.specs.Prelude.{◌≡◌, ◌==◌, ◌<◌, ◌≤◌, ℕ, List, not, length, drop, IfOk, option_copied, position};
+ghost use Rattle.classfile.specs.Grammar.{IsMethodDescriptor};
+ghost use Rattle.program.specs.Signatures.{return_kind, signature_in, signature_of, IsSignatureOf, AreSignatures};
 ghost use Rattle.program.specs.steps.ParsedSignatures.{dimensions, name_length, element_length, type_length};
-ghost use Rattle.program.specs.steps.ParsedSignatures.{ends_parameters, AreParameters, IsSignatureOf, IsEntry};
+ghost use Rattle.program.specs.steps.ParsedSignatures.{ends_parameters, AreParameters, IsParsed, IsEntry};
 
 use crate::runtime_constant::FieldKind;
 use crate::statics::field_kind;
-use classfile::{ClassFile, Constant};
+use classfile::{ClassFile, Constant, is_method_descriptor};
 use std::alloc::{AllocError, Global};
 use std::marker::Model;
 
@@ -158,8 +159,8 @@ fn after_first(text: &[u8]) -> &[u8]
 }
 
 /// What a method descriptor says.
-fn signature_of(alloc: Global, text: &[u8]) -> Result<Signature, AllocError>
-    ensures { IfOk result (IsSignatureOf text.now) }
+fn parsed(alloc: Global, text: &[u8]) -> Result<Signature, AllocError>
+    ensures { IfOk result (IsParsed text.now) }
 {
     let (parameters, rest) = parameters_of(alloc, after_first(text))?;
     Ok(Signature {
@@ -168,14 +169,22 @@ fn signature_of(alloc: Global, text: &[u8]) -> Result<Signature, AllocError>
     })
 }
 
-/// What an entry of a constant pool says, if it may be a method descriptor.
+/// What a text says, if it is a method descriptor.
+fn signature_of(alloc: Global, text: &[u8]) -> Result<Option<Signature>, AllocError>
+    ensures { IfOk result (IsSignatureOf text.now) }
+{
+    if !is_method_descriptor(text) {
+        return Ok(None);
+    }
+    Ok(Some(parsed(alloc, text)?))
+}
+
+/// What an entry of a constant pool says, if it is a method descriptor.
 fn signature_in(alloc: Global, constant: &Constant) -> Result<Option<Signature>, AllocError>
     ensures { IfOk result (IsEntry constant.now) }
 {
     match constant {
-        Constant::Utf8 { text } if text.bytes().starts_with(b"(") => {
-            Ok(Some(signature_of(alloc, text.bytes())?))
-        }
+        Constant::Utf8 { text } => signature_of(alloc, text.bytes()),
         _ => Ok(None),
     }
 }
@@ -203,3 +212,10 @@ impl Signatures {
         }
     }
 }
+
+/// A text is a method descriptor in one way, so it says one signature (JVMS 4.3.3).
+pub fn one_signature()
+    ensures parts { (text : List ℕ) (a b : IsMethodDescriptor text)
+        → (a.parameters ≡ b.parameters) × (a.returned ≡ b.returned) }
+    ensures signature { (text : List ℕ) (a b : IsMethodDescriptor text) → signature_of a ≡ signature_of b }
+{}

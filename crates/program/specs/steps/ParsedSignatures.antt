@@ -3,12 +3,12 @@ use Rattle.std.specs.Prelude.{◌≡◌, ℕ, ◌+◌, Bool, true, not, List, []
 use Rattle.std.specs.Prelude.{◌==◌, if◌then◌else◌, unwrap_or, position}
 use Rattle.std.specs.List.{All, flat_map}
 use Rattle.classfile.specs.declared.constant.Constant.{Constant}
-use Rattle.classfile.specs.declared.constant.Constant.TheVariants as constants
 use Rattle.classfile.specs.Grammar.{IsFieldDescriptor, IsMethodDescriptor}
+use Rattle.classfile.specs.Lookup.{utf8_in}
 use Rattle.program.specs.declared.runtime_constant.FieldKind.{FieldKind}
 use Rattle.program.specs.declared.signature.Signature.{Signature}
 use Rattle.program.specs.Fields.{field_kind}
-use Rattle.program.specs.Signatures.{signature_of}
+use Rattle.program.specs.Signatures.{signature_of, IsSignatureOf}
 
 -- how many `[` stand first
 abbrev pub dimensions : List ℕ → ℕ
@@ -38,10 +38,10 @@ abbrev pub AreParameters : List ℕ → List FieldKind → List ℕ → Type 0
 AreParameters text kinds rest = (types : List (List ℕ)) (tail : List ℕ) → All IsFieldDescriptor types
     → text ≡ flat_map (λ p. p) types ++ 41 ∷ tail → (kinds ≡ map field_kind types) × (rest ≡ 41 ∷ tail)
 
-abbrev pub IsSignatureOf : List ℕ → Signature → Type 0
-IsSignatureOf text signature = (d : IsMethodDescriptor text) → signature ≡ signature_of d
+-- what was read of a text, if that is a method descriptor
+abbrev pub IsParsed : List ℕ → Signature → Type 0
+IsParsed text signature = (d : IsMethodDescriptor text) → signature ≡ signature_of d
 
 -- an entry of a constant pool
 abbrev pub IsEntry : Constant → Option Signature → Type 0
-IsEntry constant entry = (text : List ℕ) → constant ≡ constants.Utf8 text → (d : IsMethodDescriptor text)
-    → entry ≡ Some (signature_of d)
+IsEntry constant entry = IsSignatureOf (unwrap_or (utf8_in (Some constant)) []) entry
