@@ -79,10 +79,10 @@ impl Hierarchy {
     {
         let _classes = self.family().classes();
         let _order = self.family().parents_first();
-        if self.top(class).is_some() {
-            return self.nearest(Wanted::Field, class, key);
+        match self.top(class) {
+            Some(_) => self.nearest(Wanted::Field, class, key),
+            None => None,
         }
-        None
     }
 
     /// The first of some classes, in the order in which they came, that has a member of some kind, and its place.

@@ -12,8 +12,8 @@ pub returns-then-is_undeclared : goal.returns-then-is_undeclared
 returns-then-is_undeclared c = λ name is.
     let family = c.args.self.now.family in
     subst (λ (f : Family). Search f (wanted_in c.args.wanted family name) (c.args.class ∷ []) None) c.family.ensures
-    (found_nowhere c.family.result.now (wanted_in c.args.wanted family name) c.parents_first-_order.result.now
-    c.parents_first-_order.ensures (c.args.class ∷ []) (λ i. c.is_undeclared.ensures name i is c.if-is_undeclared.true))
+    (found_nowhere c.family.result.now (wanted_in c.args.wanted family name) c.parents_first-order.result.now
+    c.parents_first-order.ensures (c.args.class ∷ []) (λ i. c.is_undeclared.ensures name i is c.if-is_undeclared.true))
 
 pub returns-in-Some : goal.returns-in-Some
 returns-in-Some c = λ name is. here (sym (c.in-Some.ensures name is))
@@ -24,7 +24,7 @@ returns c = λ name is.
     let own : ℕ → Option ℕ = wanted_in c.args.wanted family name in
     let order : IsSearchOrder family (parents_in family c.args.class) c.classes.result.now.items =
     rw c.classes.ensures.value
-    (subst (λ (f : Family). IsSearchOrder f (parents_in f c.args.class) c.find-2.new.self) c.family.ensures
+    (subst (λ (f : Family). IsSearchOrder f (parents_in f c.args.class) c.find-2.new.self) c.family-2.ensures
     c.in_ok-find.ensures) in
     subst (λ (found : Option DeclaredMember). Search family own (c.args.class ∷ []) found)
     (sym (c.first_among.ensures name is))

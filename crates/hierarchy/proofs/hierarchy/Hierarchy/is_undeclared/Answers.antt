@@ -1,4 +1,4 @@
-use Rattle.std.proofs.Common.{◌≡◌, IsTrue, Some, None, Option, ap, subst}
+use Rattle.std.proofs.Common.{◌≡◌, IsTrue, Some, None, Option, subst}
 use Rattle.hierarchy.specs.Hierarchies.{NumberedFamily}
 use Rattle.hierarchy.specs.steps.HierarchyTables.{wanted_in}
 use Rattle.hierarchy.specs.steps.MemberIndexes.{IsLookup}
@@ -19,4 +19,5 @@ returns-in-None c = λ name class is yes.
     let lacks = subst (λ (k : Option MemberKey). IsLookup c.args.self.now.texts name k) c.in-None.is is in
     subst (λ (n : NumberedFamily). IsLookup n.texts name None → wanted_in c.args.wanted n.family name class ≡ None)
     c.self.view_is
-    (none_declared c.self.inside.family c.self.inside.table c.args.wanted name c.self.invariant.table_fits) lacks class
+    (λ none. none_declared c.self.inside.family c.self.inside.table c.args.wanted name c.self.invariant.table_fits none
+    class) lacks
