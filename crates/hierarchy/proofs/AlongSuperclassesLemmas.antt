@@ -1,8 +1,7 @@
 -- Searches that find nothing in interfaces.
-use Rattle.std.proofs.Common.{◌≡◌, ℕ, true, List, [], ◌∷◌, ◌++◌, Option, Some, None, append-nil, append_assoc, sym, ap}
-use Rattle.std.proofs.Common.{subst, refl, zero, suc, arith, ◌∙◌}
+use Rattle.std.proofs.Common.{◌≡◌, ℕ, true, List, [], ◌∷◌, ◌++◌, Option, None, append-nil, append_assoc, sym}
+use Rattle.std.proofs.Common.{subst, refl, suc, arith}
 use Rattle.std.specs.List.{Contains}
-use Rattle.std.proofs.lemmas.List.Elements.{Contains-append_left}
 use Rattle.loading.specs.Families.{Family, IsFamily, parents_in, interfaces_in, superclasses_in, is_interface_in}
 use Rattle.loading.specs.Families.{IsParentsFirst}
 use Rattle.hierarchy.specs.Search.{Search}

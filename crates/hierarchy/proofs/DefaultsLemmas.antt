@@ -7,11 +7,11 @@ use Rattle.std.proofs.lemmas.Bool.{eqb-true, eq-eqb}
 use Rattle.std.proofs.lemmas.List.Elements.{Contains-append_left, Contains-push, Contains-push_cases}
 use Rattle.std.proofs.lemmas.List.Elements.{All-contains}
 use Rattle.built_in.specs.Keys.{NameAndType}
-use Rattle.loading.specs.Families.{Family, IsFamily, IsAncestor, parent, further, parents_in, is_interface_in}
+use Rattle.loading.specs.Families.{Family, IsFamily, IsAncestor, parent, further, parents_in}
 use Rattle.graph.specs.steps.Adds.{Adds}
 use Rattle.hierarchy.specs.steps.Above.{IsAmongOrAbove}
 use Rattle.hierarchy.specs.MemberLookup.{interface_method_in, IsDefault, IsTheDefault, HasNoDefault, flags_in}
-use Rattle.hierarchy.specs.MemberLookup.{is_abstract, is_inherited, keep_if, method_in, method_with}
+use Rattle.hierarchy.specs.MemberLookup.{is_abstract}
 use Rattle.hierarchy.specs.steps.Defaults.{AreFound, nothing, one, several, found_with, found_after, only_of}
 use Rattle.hierarchy.specs.steps.Defaults.{HasMethod, IsFree, AreCovered, AreParentsOf}
 use Rattle.hierarchy.specs.declared.defaults.Found.{Found}

@@ -1,7 +1,7 @@
 -- Methods along superclasses, by the nearest class that declares one.
 use Rattle.std.proofs.Common.{◌≡◌, ℕ, zero, suc, ◌<◌, ◌≤◌, [], ◌∷◌, length, Option, Some, None, refl, sym, ap, ◌∙◌}
 use Rattle.std.proofs.Common.{subst}
-use Rattle.std.proofs.Common.{arith, slice_get, IsSome, inl, inr, Bool, true, false, cond, List, slice_index_or}
+use Rattle.std.proofs.Common.{arith, IsSome, inl, inr, Bool, true, false, cond, List, slice_index_or}
 use Rattle.built_in.specs.Keys.{NameAndType}
 use Rattle.built_in.specs.declared.class_id.BuiltIn.{BuiltIn}
 use Rattle.loading.specs.Families.{Family, superclass_in, superclasses_in, given_superclass}
@@ -136,15 +136,10 @@ nothing_told family table nearest kind name key c are numbers none = elim (cases
   | inr past ↦ no_class_declares family kind name c (omega (arith, past))
 ]
 
-index_is : (xs : List ℕ) (i x : ℕ) → slice_get xs i ≡ Some x → slice_index_or xs i 0 ≡ x
-index_is [] i x at = absurd cc
-index_is (y ∷ ys) zero x at = cc
-index_is (y ∷ ys) (suc i) x at = index_is ys i x at
-
 -- what reaches the place of a class is nearest to it
 pub nearest_told : (family : Family) (table : MemberTable) (nearest : NearestMembers) (kind : Wanted)
     (name : NameAndType) (key : MemberKey) (c place : ℕ) (r : Option DeclaredMember) → AreNearest family table nearest
-    → AreNumbers table.texts name key → c < length family → slice_get nearest.places.items c ≡ Some place
+    → AreNumbers table.texts name key → c < length family → slice_index_or nearest.places.items c 0 ≡ place
     → (GoUp (reaches_of (rows_of kind nearest.reaches) key)
     → r ≡ reaching (reaches_of (rows_of kind nearest.reaches) key) place)
     → Nearest family (wanted_in kind family name) c r
@@ -153,7 +148,7 @@ nearest_told family table nearest kind name key c place r are numbers small at i
     let tells = (are.told kind key name numbers).tells in
     let told = tells.told (slice_index_or nearest.places.items c 0) c (are.places c (are.whole.whole c small)) in
     subst (Nearest family (wanted_in kind family name) c)
-    (ap (reaching row) (index_is nearest.places.items c place at) ∙ sym (is tells.up)) told
+    (ap (reaching row) at ∙ sym (is tells.up)) told
 
 pub all_told : (family : Family) (table : MemberTable) (order : List ℕ) (r : Reaches)
     → AllTell (members_by wanted.Field family table) order r.fields

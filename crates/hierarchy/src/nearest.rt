@@ -84,10 +84,31 @@ impl Reaches {
         ensures { IfOk result (AllAreTold family.now table.now order.now) }
     {
         let fields = reaches_of(alloc, family, table, Wanted::Field, order, places)?;
-        let interface_fields = reaches_of(alloc, family, table, Wanted::InterfaceField, order, places)?;
+        let interface_fields = reaches_of(
+            alloc,
+            family,
+            table,
+            Wanted::InterfaceField,
+            order,
+            places,
+        )?;
         let methods = reaches_of(alloc, family, table, Wanted::Method, order, places)?;
-        let instance_methods = reaches_of(alloc, family, table, Wanted::InstanceMethod, order, places)?;
-        let interface_methods = reaches_of(alloc, family, table, Wanted::InterfaceMethod, order, places)?;
+        let instance_methods = reaches_of(
+            alloc,
+            family,
+            table,
+            Wanted::InstanceMethod,
+            order,
+            places,
+        )?;
+        let interface_methods = reaches_of(
+            alloc,
+            family,
+            table,
+            Wanted::InterfaceMethod,
+            order,
+            places,
+        )?;
         Ok(Reaches {
             fields,
             interface_fields,

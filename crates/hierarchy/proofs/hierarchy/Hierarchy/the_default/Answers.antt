@@ -1,4 +1,3 @@
-use Rattle.std.proofs.Common.{refl}
 use Rattle.hierarchy.proofs.DefaultsLemmas.{no_default, no_method}
 use Rattle.hierarchy.proofs.hierarchy.Hierarchy.the_default.Goals as goal
 
