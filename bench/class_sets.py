@@ -144,6 +144,54 @@ def far_references(count):
     return files
 
 
+def far_fields(count):
+    """The same with fields."""
+    names = ["f%d" % number for number in range(count)]
+
+    def first(pool):
+        return [member(0x0, pool.text(name), pool.text("I")) for name in names], []
+
+    def last(pool):
+        owner = pool.named(7, "Last")
+        for name in names:
+            pool.pair(9, owner, pool.name_and_type(name, "I"))
+        return [], []
+    files = [class_file("C%d" % number, "C%d" % (number - 1) if number else OBJECT, members=None if number else first)
+             for number in range(count)]
+    files.append(class_file("Last", "C%d" % (count - 1), members=last))
+    return files
+
+
+def overloads(count):
+    """One class with references to so many methods of its own that have one name of 65,000 bytes."""
+    def members(pool):
+        owner = pool.named(7, "Main")
+        methods = []
+        for number in range(count):
+            descriptor = "(LC%d;)V" % number
+            pool.pair(10, owner, pool.name_and_type("a" * 65000, descriptor))
+            methods.append(method(pool, 0x1, "a" * 65000, descriptor, b"\xb1"))
+        return [], methods
+    return [class_file("Main", members=members)]
+
+
+def below_interfaces(count):
+    """A class below so many interfaces, with a reference to the method that each of them declares."""
+    tops = ["I%d" % number for number in range(count)]
+
+    def declaring(number):
+        def members(pool):
+            return [], [method(pool, 0x401, "m%d" % number, "()V")]
+        return members
+
+    def below(pool):
+        references(pool, 10, "Main", ["m%d" % number for number in range(count)], count)
+        return [], []
+    files = [class_file(top, OBJECT, (), 0x601, declaring(number)) for number, top in enumerate(tops)]
+    files.append(class_file("Main", OBJECT, tops, members=below))
+    return files
+
+
 def equal_interfaces(count):
     """A class that names one interface so many times among its superinterfaces, by a name of 65,000 bytes."""
     name = "a" * 65000
@@ -151,7 +199,8 @@ def equal_interfaces(count):
 
 
 KINDS = {kind.__name__: kind for kind in (small, chain, chain_of_references, interface_chain, many_defaults, long_name,
-                                         equal_strings, far_references, equal_interfaces)}
+                                         equal_strings, far_references, equal_interfaces, far_fields, overloads,
+                                         below_interfaces)}
 
 
 def main():
