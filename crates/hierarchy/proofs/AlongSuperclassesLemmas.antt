@@ -47,7 +47,8 @@ module _ (family : Family) (own : ℕ → Option ℕ) (order : List ℕ) (first 
         (subst (λ (l : List ℕ). Contains l j) (interface_parents family i fits here) has)))
         (no_interface_has _ _ rest (λ j has. are j (suc has.0, omega (arith, has.1), has.2))))
 
-    past_interfaces : (c : ℕ) (r : Option DeclaredMember) → own c ≡ None → Search family own (superclasses_in family c) r
+    past_interfaces : (c : ℕ) (r : Option DeclaredMember) → own c ≡ None
+        → Search family own (superclasses_in family c) r
         → Search family own (c ∷ []) r
     past_interfaces c r empty up =
         let ends = postorder_ends family order first (interfaces_in family c) in

@@ -12,7 +12,8 @@ use Rattle.loading.specs.Families.{Family, file_in, is_interface_in, superclass_
 use Rattle.loading.specs.Families.{IsFamily, passes}
 use Rattle.loading.specs.declared.given.Superclass.{Superclass}
 use Rattle.loading.specs.declared.given.Superclass.TheVariants as super
-use Rattle.hierarchy.specs.MemberLookup.{is_named, keep_if, is_inherited, flags_in, method_in, field_in, field_of, method_of}
+use Rattle.hierarchy.specs.MemberLookup.{is_named, keep_if, is_inherited, flags_in}
+use Rattle.hierarchy.specs.MemberLookup.{field_in, field_of, method_in, method_of}
 use Rattle.hierarchy.specs.steps.HierarchyTables.{wanted_in}
 use Rattle.hierarchy.specs.steps.MemberIndexes.{AreNumbers}
 use Rattle.hierarchy.specs.steps.Reaches.{Members, AllGo, IsNoted, reaches_of, Nearest, here, above, nowhere}

@@ -21,9 +21,9 @@ use built_in::class_id::{BuiltIn, ClassId};
 use std::alloc::AllocError;
 
 impl Hierarchy {
-    /// The field that a class and the name and descriptor of a reference stand for: of the class, of its superinterfaces
-    /// or of its superclass, the first of them that has one. What stands above the class is found in the room of
-    /// `ancestors`.
+    /// The field that a class and the name and descriptor of a reference stand for: of the class, of its
+    /// superinterfaces or of its superclass, the first of them that has one. What stands above the class is found in
+    /// the room of `ancestors`.
     ///
     /// # Errors
     /// Where memory runs out.

@@ -220,7 +220,8 @@ impl Resolver<'_> {
         pool: &mut Vec<RuntimeConstant>,
     ) -> Result<(), AllocError>
         requires { pool.old.items ≡ [] }
-        ensures pool { OnOk result (IsRuntimePool self.now.hierarchy.now.family strings.new self.now.file.now pool.new.items) }
+        ensures pool { OnOk result
+            (IsRuntimePool self.now.hierarchy.now.family strings.new self.now.file.now pool.new.items) }
         ensures grows { OnOk result (Grows strings.old strings.new) }
         ensures adds { OnOk result (Adds strings.old (strings_of self.now.file.now) strings.new) }
     {

@@ -7,5 +7,6 @@ pub returns : goal.returns
 returns c =
     named_more c.args.family.now c.args.file.now c.args.classes.now c.insert.new.classes c.in-Class.name
     c.class_named-class.result c.requires
-    (subst (λ n. StandsFor c.args.family.now n c.class_named-class.result) c.text_at.ensures c.class_named-class.ensures)
+    (subst (λ n. StandsFor c.args.family.now n c.class_named-class.result) c.text_at.ensures
+    c.class_named-class.ensures)
     c.in_ok-insert.ensures

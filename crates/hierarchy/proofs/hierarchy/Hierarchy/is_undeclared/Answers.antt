@@ -11,8 +11,8 @@ returns-in-Some c = λ name class is.
     let numbers = subst (λ (k : Option MemberKey). IsLookup c.args.self.now.texts name k) c.in-Some.is is in
     subst (λ (n : NumberedFamily). IsLookup n.texts name (Some c.in-Some.key) → IsTrue c.is_undeclared.result
     → wanted_in c.args.wanted n.family name class ≡ None) c.self.view_is
-    (λ are none. c.is_undeclared.ensures c.self.inside.family c.self.inside.table name class c.self.invariant.nearest_fit
-    are none) numbers
+    (λ are none. c.is_undeclared.ensures c.self.inside.family c.self.inside.table name class
+    c.self.invariant.nearest_fit are none) numbers
 
 pub returns-in-None : goal.returns-in-None
 returns-in-None c = λ name class is yes.

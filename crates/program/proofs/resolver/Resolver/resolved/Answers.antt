@@ -9,7 +9,8 @@ returns-in_ok-held-in-Fieldref c = λ strings plain.
     constant_is _ strings _ _ _ _ _ _ c.in-Fieldref.is held.2 (IsRuntimeConstant.field held.0 held.1)
 
 pub returns-in_ok-method-in-Methodref : goal.returns-in_ok-method-in-Methodref
-returns-in_ok-method-in-Methodref c = λ strings plain. rw c.in-Methodref.is (IsRuntimeConstant.method c.in_ok-method-in-Methodref.ensures)
+returns-in_ok-method-in-Methodref c = λ strings plain.
+    rw c.in-Methodref.is (IsRuntimeConstant.method c.in_ok-method-in-Methodref.ensures)
 
 pub returns-in_ok-method-in-InterfaceMethodref : goal.returns-in_ok-method-in-InterfaceMethodref
 returns-in_ok-method-in-InterfaceMethodref c = λ strings plain.
