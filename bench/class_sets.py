@@ -89,6 +89,11 @@ def interface_chain(count):
     return [interface("I%d" % number, ["I%d" % (number - 1)] if number else []) for number in range(count)]
 
 
+def long_orders(count):
+    """A chain of so many interfaces, all initialized before each of as many classes that implement the last one."""
+    return interface_chain(count) + [class_file("C%d" % number, OBJECT, ["I%d" % (count - 1)]) for number in range(count)]
+
+
 def references(pool, tag, owner, names, count):
     """So many references to members of a class, as entries of their own, by these names in turn."""
     class_entry = pool.named(7, owner)
@@ -200,7 +205,7 @@ def equal_interfaces(count):
 
 KINDS = {kind.__name__: kind for kind in (small, chain, chain_of_references, interface_chain, many_defaults, long_name,
                                          equal_strings, far_references, equal_interfaces, far_fields, overloads,
-                                         below_interfaces)}
+                                         below_interfaces, long_orders)}
 
 
 def main():
