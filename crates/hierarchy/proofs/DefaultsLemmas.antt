@@ -13,7 +13,7 @@ use Rattle.hierarchy.specs.steps.Above.{IsAmongOrAbove}
 use Rattle.hierarchy.specs.MemberLookup.{interface_method_in, IsDefault, IsTheDefault, HasNoDefault, flags_in}
 use Rattle.hierarchy.specs.MemberLookup.{is_abstract}
 use Rattle.hierarchy.specs.steps.Defaults.{AreFound, nothing, one, several, found_with, found_after, only_of}
-use Rattle.hierarchy.specs.steps.Defaults.{HasMethod, IsFree, AreCovered, AreParentsOf}
+use Rattle.hierarchy.specs.steps.Defaults.{HasMethod, IsFree, AreCovered, AreParentsOf, Among}
 use Rattle.hierarchy.specs.declared.defaults.Found.{Found}
 use Rattle.hierarchy.specs.declared.defaults.Found.TheVariants as found
 use Rattle.hierarchy.proofs.AboveLemmas.{ancestor_through}
@@ -81,9 +81,9 @@ none_by (Some l) e = absurd cc
 
 -- ---- what stands above the candidates
 
-module _ (family : Family) (key : NameAndType) (seen : List ℕ) where
-  pub parents_with : (x l : ℕ) (old new : List ℕ) → HasMethod family key x l → AreParentsOf family key seen old
-      → Adds old (parents_in family x) new → AreParentsOf family key (seen ++ x ∷ []) new
+module _ (family : Family) (Is : ℕ → ℕ → Type 0) (seen : List ℕ) where
+  pub parents_with : (x l : ℕ) (old new : List ℕ) → Is x l → AreParentsOf family Is seen old
+      → Adds old (parents_in family x) new → AreParentsOf family Is (seen ++ x ∷ []) new
   parents_with x l old new has are a m = (
     λ among. elim (a.only m among) [
       | inl before ↦ (let at = (are m).0 before in (at.0, Contains-append_left seen (x ∷ []) at.0 at.1, at.2, at.3))
@@ -97,24 +97,22 @@ module _ (family : Family) (key : NameAndType) (seen : List ℕ) where
     ],
   )
 
-  pub parents_without : (x : ℕ) (old : List ℕ) → interface_method_in family key x ≡ None
-      → AreParentsOf family key seen old → AreParentsOf family key (seen ++ x ∷ []) old
+  pub parents_without : (x : ℕ) (old : List ℕ) → ((l : ℕ) → ¬ Is x l) → AreParentsOf family Is seen old
+      → AreParentsOf family Is (seen ++ x ∷ []) old
   parents_without x old none are m = (
     λ among. (let at = (are m).0 among in (at.0, Contains-append_left seen (x ∷ []) at.0 at.1, at.2, at.3)),
     λ at. elim (Contains-push_cases seen x at.0 at.1) [
       | inl before ↦ (are m).1 (at.0, before, at.2, at.3)
-      | inr last ↦
-          let clash : None ≡ Some at.2.0 = sym none ∙ ap (interface_method_in family key) last ∙ at.2.1 in
-          absurd cc
+      | inr last ↦ absurd (none at.2.0 (subst (λ (j : ℕ). Is j at.2.0) (sym last) at.2.1))
     ],
   )
 
-pub no_parents : (family : Family) (key : NameAndType) → AreParentsOf family key [] []
-no_parents family key m = (λ among. absurd (omega (arith, among.1)), λ at. absurd (omega (arith, at.1.1)))
+pub no_parents : (family : Family) (Is : ℕ → ℕ → Type 0) → AreParentsOf family Is [] []
+no_parents family Is m = (λ among. absurd (omega (arith, among.1)), λ at. absurd (omega (arith, at.1.1)))
 
 -- the parents of the candidates and all above them
 pub covered_by : (family : Family) (key : NameAndType) (seen parents covered : List ℕ)
-    → AreParentsOf family key seen parents → ((m : ℕ) → Contains covered m ↔ IsAmongOrAbove family parents m)
+    → AreParentsOf family (HasMethod family key) seen parents → ((m : ℕ) → Contains covered m ↔ IsAmongOrAbove family parents m)
     → AreCovered family key seen covered
 covered_by family key seen parents covered are all m = (
   λ among. elim ((all m).0 among) [
@@ -127,6 +125,27 @@ covered_by family key seen parents covered are all m = (
     | inr more ↦ inr (more.0, (are more.0).1 (at.0, at.1, at.2.0, more.1), more.2)
   ]),
 )
+
+-- ---- among some classes, when all that may have a method were asked
+
+module _ (Is : ℕ → ℕ → Type 0) (among : List ℕ) where
+  pub among_at : (x : ℕ) (index : Option ℕ) → Contains among x → MatchOption index ((k : ℕ) → ¬ Is x k) (Is x)
+      → MatchOption index ((k : ℕ) → ¬ Among Is among x k) (Among Is among x)
+  among_at x None has none = λ k both. none k both.1
+  among_at x (Some k) has is = (has, is)
+
+  module _ (asked : List ℕ) (whole : (i k : ℕ) → Is i k → Contains asked i) where
+    pub found_among : (found : Found) → AreFound (Among Is among) asked found → AreFound Is among found
+    found_among found.Nothing (nothing free) = nothing (λ i k has is. free i k (whole i k is) (has, is))
+    found_among (found.One i k) (one a p only) = one p.0 p.1 (λ j l has is. only j l (whole j l is) (has, is))
+    found_among found.Several (several a p b q differ) = several p.0 p.1 q.0 q.1 differ
+
+    pub parents_among : (family : Family) (parents : List ℕ) → AreParentsOf family (Among Is among) asked parents
+        → AreParentsOf family Is among parents
+    parents_among family parents are m = (
+      λ has. (let at = (are m).0 has in (at.0, at.2.1.0, (at.2.0, at.2.1.1), at.3)),
+      λ at. (are m).1 (at.0, whole at.0 at.2.0 at.2.1, (at.2.0, (at.1, at.2.1)), at.3),
+    )
 
 -- ---- all superinterfaces
 

@@ -212,16 +212,14 @@ whole_order family placed first behind order holds short len all read =
 
 -- ---- places
 
-pub places_next : (order places : List ℕ) (count i : ℕ) → i < length order → All (λ c. c < count) order
-    → length places ≡ count
+pub places_next : (order places : List ℕ) (i : ℕ) → i < length order → get_or order i 0 < length places
     → ((c : ℕ) → Contains (take i order) c → slice_get order (get_or places c 0) ≡ Some c)
     → (c : ℕ) → Contains (take (i + 1) order) c
     → slice_get order (get_or (set places (get_or order i 0) i) c 0) ≡ Some c
-places_next order places count i small within len there c has = elim (cases_eq c (get_or order i 0)) [
-  | inl equal ↦ (let below : get_or order i 0 < length places = omega (arith, within i 0 small, len) in
-      let is : get_or (set places (get_or order i 0) i) c 0 ≡ i =
+places_next order places i small within there c has = elim (cases_eq c (get_or order i 0)) [
+  | inl equal ↦ (let is : get_or (set places (get_or order i 0) i) c 0 ≡ i =
       ap (λ d. get_or (set places (get_or order i 0) i) d 0) equal
-      ∙ get_or-set_same places (get_or order i 0) i 0 below in
+      ∙ get_or-set_same places (get_or order i 0) i 0 within in
       ap (slice_get order) is
       ∙ slice_get_read order (length order) i c refl small
       (equal ∙ get_or_default order i 0 c small))

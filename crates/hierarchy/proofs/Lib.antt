@@ -29,4 +29,6 @@ pub mod WalksLemmas
 pub mod AncestorsLemmas
 pub mod TopsLemmas
 pub mod UpClassesLemmas
+pub mod NotedLemmas
+pub mod FirstAboveLemmas
 pub mod AlongSuperclassesLemmas

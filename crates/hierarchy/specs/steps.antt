@@ -15,3 +15,4 @@ pub mod Tops
 pub mod NearestMembers
 pub mod WholeHierarchies
 pub mod Marked
+pub mod Ancestors

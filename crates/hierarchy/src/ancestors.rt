@@ -1,9 +1,13 @@
 //! What stands above a class (JVMS 5.4.3.2 to 5.4.3.4).
 
-ghost use Rattle.std.specs.Prelude.{◌≡◌, [], IfOk, OnOk};
+ghost use Rattle.std.specs.Prelude.{◌≡◌, ◌↔◌, None, Some, length, IsTrue, IfOk, OnOk, MatchOption, slice_get, slice_index_or};
+ghost use Rattle.std.specs.List.{Contains};
 ghost use Rattle.loading.specs.Families.{parents_in};
+ghost use Rattle.hierarchy.specs.steps.Ancestors.{AreOf};
+ghost use Rattle.hierarchy.specs.steps.DepthFirst.{ArePlaces};
 ghost use Rattle.hierarchy.specs.steps.Walks.{IsSearchOrder};
 
+use crate::member::DeclaredMember;
 use crate::walk::Walk;
 use graph::Visited;
 use loading::family::Family;
@@ -14,20 +18,32 @@ use std::marker::Model;
 const MOST_CLASSES: usize = 65_535;
 
 /// All above a class: its superinterfaces, its superclass and what stands above these, each once, in the order in which
-/// searches come to them. The room is used again for the next class.
+/// searches come to them. They are kept until those of another class are asked for.
 #[derive(Drop)]
-pub struct Ancestors {
+pub(crate) struct Ancestors {
+    /// The class that they were found of.
+    class: Option<u32>,
     walk: Walk,
+    /// By class: where it stands among them, if it is one of them.
+    places: Vec<u32>,
+}
+
+/// A member of one of them, and where its class stands among them, counted from 0.
+#[derive(Clone, Copy, Debug)]
+pub(crate) struct Standing {
+    pub(crate) place: u32,
+    pub(crate) member: DeclaredMember,
 }
 
 impl Model for Ancestors {
-    ghost use Rattle.std.specs.Prelude.{◌≡◌, List, ℕ};
+    ghost use Rattle.std.specs.Prelude.{◌≡◌, length};
+    ghost use Rattle.hierarchy.specs.steps.Ancestors.{AncestorList, HasRoom};
 
-    ghost Value = { List ℕ };
+    ghost Value = { AncestorList };
 
-    ghost view = { λ s. s.walk.entered.items };
+    ghost view = { λ s. record { class = s.class; items = s.walk.entered.items } };
 
-    ghost invariant = { λ s. (s.walk.entered.limit ≡ 65535) × (s.walk.left.limit ≡ 65535) };
+    ghost invariant = { λ s. HasRoom s.walk s.places.items };
 }
 
 impl Ancestors {
@@ -35,32 +51,99 @@ impl Ancestors {
     ///
     /// # Errors
     /// Where memory runs out.
-    pub fn new(alloc: Global) -> Result<Ancestors, AllocError>
-        ensures { IfOk result (λ ancestors. ancestors ≡ []) }
+    pub(crate) fn new(alloc: Global) -> Result<Ancestors, AllocError>
+        ensures { IfOk result (λ ancestors. ancestors.class ≡ None) }
     {
         let walk = Walk::new(alloc, MOST_CLASSES)?;
-        Ok(Ancestors { walk })
+        let places = vec![in alloc; 0; MOST_CLASSES]?;
+        Ok(Ancestors {
+            class: None,
+            walk,
+            places,
+        })
     }
 
-    /// Finds those of a class. A number of no class has none.
+    /// Finds those of a class, if they are not those that were found last. A number of no class has none.
     ///
     /// # Errors
     /// Where memory runs out.
     pub(crate) fn find(&mut self, family: &Family, class: u32) -> Result<(), AllocError>
-        ensures { OnOk result (IsSearchOrder family.now (parents_in family.now class) self.new) }
+        requires { AreOf family.now self.old }
+        ensures known { AreOf family.now self.new }
+        ensures order { OnOk result (IsSearchOrder family.now (parents_in family.now class) self.new.items) }
+    {
+        if self.is_of(class) {
+            return Ok(());
+        }
+        self.class = None;
+        self.walk_above(family, class)?;
+        self.class = Some(class);
+        Ok(())
+    }
+
+    /// Whether they are those of a class.
+    fn is_of(&self, class: u32) -> bool
+        ensures { IsTrue result ↔ (self.now.class ≡ Some class) }
+    {
+        match self.class {
+            Some(known) => known == class,
+            None => false,
+        }
+    }
+
+    /// Finds those of a class by a walk.
+    fn walk_above(&mut self, family: &Family, class: u32) -> Result<(), AllocError>
+        requires { self.old.class ≡ None }
+        ensures class { self.new.class ≡ None }
+        ensures order { OnOk result (IsSearchOrder family.now (parents_in family.now class) self.new.items) }
     {
         if class as usize >= family.classes().len() {
             self.walk.forget();
             return Ok(());
         }
-        self.walk.above_class(family, class)
+        match self.walk.above_class(family, class) {
+            Ok(()) => {
+                note_places(self.walk.entered(), &mut self.places);
+                Ok(())
+            }
+            Err(error) => {
+                self.walk.forget();
+                Err(error)
+            }
+        }
     }
 
-    /// Those that were found last.
-    pub(crate) fn classes(&self) -> &Visited
-        ensures value { result.now.items ≡ self.now }
-        ensures few { result.now.limit ≡ 65535 }
+    /// Where a class stands among them, counted from 0.
+    pub(crate) fn place(&self, class: u32) -> Option<u32>
+        ensures { MatchOption result (¬ Contains self.now.items class)
+            (λ place. slice_get self.now.items place ≡ Some class) }
     {
-        self.walk.entered()
+        if self.walk.entered().has(class as usize) {
+            Some(place_in(&self.places, class))
+        } else {
+            None
+        }
+    }
+}
+
+/// The place that was noted for a class.
+fn place_in(places: &[u32], class: u32) -> u32
+    ensures { result ≡ slice_index_or places.now class 0 }
+{
+    match places.get(class as usize) {
+        Some(place) => *place,
+        None => 0,
+    }
+}
+
+/// Notes where each class stands in a list.
+fn note_places(classes: &Visited, places: &mut Vec<u32>)
+    requires limit { classes.now.limit ≡ 65535 }
+    requires len { length places.old.items ≡ 65535 }
+    ensures len { length places.new.items ≡ 65535 }
+    ensures places { ArePlaces classes.now.items places.new.items }
+{
+    for place in 0..classes.len() {
+        places[classes.at(place)] = place as u32;
     }
 }

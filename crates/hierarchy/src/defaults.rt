@@ -1,18 +1,23 @@
-//! The one default among superinterface methods (JVMS 5.4.3.3), in a time linear in the ancestors of the class.
+//! The one default among superinterface methods (JVMS 5.4.3.3). The interfaces that declare a method are noted beside
+//! its name and descriptor, so that what is asked of the ancestors of a class is whether they are among these.
 
 ghost use Rattle.std.specs.Prelude.{◌≡◌, ◌↔◌, ◌<◌, ◌++◌, ◌∷◌, [], ℕ, List, length, IsTrue, MatchOption};
 ghost use Rattle.std.specs.List.{Contains};
 ghost use Rattle.hierarchy.specs.steps.Defaults.{AreFound, found_after, only_of};
-ghost use Rattle.hierarchy.specs.steps.Defaults.{HasMethod, IsFree, AreCovered, AreParentsOf};
+ghost use Rattle.hierarchy.specs.steps.Defaults.{HasMethod, IsFree, AreCovered, AreParentsOf, classes_of};
+ghost use Rattle.hierarchy.specs.steps.Defaults.{Among};
+ghost use Rattle.hierarchy.specs.steps.Reaches.{class_noted};
 ghost use Rattle.loading.specs.Families.{IsAncestor, parents_in};
 ghost use Rattle.built_in.specs.Keys.{NameAndType};
 ghost use Rattle.hierarchy.specs.steps.MemberIndexes.{IsLookup};
 ghost use Rattle.hierarchy.specs.MemberLookup.{is_abstract, IsTheDefault, HasNoDefault};
 
+use crate::above::Above;
 use crate::hierarchy::Hierarchy;
 use crate::marked::Marked;
 use crate::member::DeclaredMember;
 use crate::member_index::MemberKey;
+use crate::reach_table::Reach;
 use crate::wanted::Wanted;
 use classfile::flags::{ABSTRACT, has_flag};
 
@@ -75,14 +80,31 @@ impl Hierarchy {
         !interfaces.is_empty() || self.given_superclass(class).is_some()
     }
 
-    /// The one default of a class, by way of all its ancestors.
+    /// The one default of a class, by marks of all its ancestors.
     fn default_above(&self, class: u32, key: Option<MemberKey>) -> Option<DeclaredMember>
         ensures { (name : NameAndType) → IsLookup self.now.texts name key
             → MatchOption result (HasNoDefault self.now.family name class)
             (λ x. IsTheDefault self.now.family name class x.class x.index) }
     {
-        let above = Marked::ancestors(self.family(), class);
-        match self.candidates(above.members(), key) {
+        let marked = Marked::ancestors(self.family(), class);
+        self.default_among(class, Above::Marked(&marked), key)
+    }
+
+    /// The one default of a class with these ancestors. Those that have the method are among the classes that were
+    /// noted for it.
+    pub(crate) fn default_among(
+        &self,
+        class: u32,
+        above: Above<'_>,
+        key: Option<MemberKey>,
+    ) -> Option<DeclaredMember>
+        requires { (m : ℕ) → Contains (classes_of above) m ↔ IsAncestor self.now.family class m }
+        ensures { (name : NameAndType) → IsLookup self.now.texts name key
+            → MatchOption result (HasNoDefault self.now.family name class)
+            (λ x. IsTheDefault self.now.family name class x.class x.index) }
+    {
+        let _classes = self.family().classes();
+        match self.candidates(above, key) {
             Found::Nothing => None,
             Found::One {
                 class: interface,
@@ -96,83 +118,138 @@ impl Hierarchy {
                     index,
                 })
             }
-            Found::Several => self.default_of_several(class, above.members(), key),
+            Found::Several => {
+                let covered = self.above_candidates(above, key);
+                self.defaults(above, &covered, key).only()
+            }
         }
     }
 
-    /// The interfaces among some classes that have the method.
-    fn candidates(&self, classes: &[u16], key: Option<MemberKey>) -> Found
+    /// The ancestors that have the method.
+    fn candidates(&self, above: Above<'_>, key: Option<MemberKey>) -> Found
         ensures { (name : NameAndType) → IsLookup self.now.texts name key
-            → AreFound (HasMethod self.now.family name) classes.now result }
+            → AreFound (HasMethod self.now.family name) (classes_of above.entry) result }
     {
         let mut found = Found::Nothing;
-        for class in classes {
-            let class = u32::from(*class);
-            found = found.and(class, self.find(Wanted::InterfaceMethod, class, key));
+        let row = self.noted(Wanted::InterfaceMethod, key);
+        for reach in row {
+            found = self.with_candidate(above, key, found, reach);
         }
         found
     }
 
-    /// The one default of a class with these ancestors, of which several have the method.
-    fn default_of_several(
+    /// What was found, with a class that was noted, if it is an ancestor that has the method.
+    fn with_candidate(
         &self,
-        class: u32,
-        above: &[u16],
+        above: Above<'_>,
         key: Option<MemberKey>,
-    ) -> Option<DeclaredMember>
-        requires { (m : ℕ) → Contains above.now m ↔ IsAncestor self.now.family class m }
-        ensures { (name : NameAndType) → IsLookup self.now.texts name key
-            → MatchOption result (HasNoDefault self.now.family name class)
-            (λ x. IsTheDefault self.now.family name class x.class x.index) }
+        found: Found,
+        reach: &Reach,
+    ) -> Found
+        ensures { (name : NameAndType) (asked : List ℕ) → IsLookup self.now.texts name key
+            → AreFound (Among (HasMethod self.now.family name) (classes_of above.entry)) asked found
+            → AreFound (Among (HasMethod self.now.family name) (classes_of above.entry)) (asked ++ class_noted reach.now.nearest)
+            result }
     {
-        let covered = self.above_candidates(above, key);
-        self.defaults(above, &covered, key).only()
+        match reach.nearest {
+            Some(member) => found.and(member.class, self.candidate(above, key, member.class)),
+            None => found,
+        }
     }
 
-    /// The classes that stand above one of these that has the method.
-    fn above_candidates(&self, classes: &[u16], key: Option<MemberKey>) -> Marked
+    /// The place of a class's method, if it is an ancestor.
+    fn candidate(&self, above: Above<'_>, key: Option<MemberKey>, class: u32) -> Option<u16>
         ensures { (name : NameAndType) → IsLookup self.now.texts name key
-            → AreCovered self.now.family name classes.now result }
+            → MatchOption result
+            ((k : ℕ) → ¬ Among (HasMethod self.now.family name) (classes_of above.entry) class k)
+            (λ k. Among (HasMethod self.now.family name) (classes_of above.entry) class k) }
     {
-        let mut covered = self.parents_of_candidates(classes, key);
+        if above.has(class) {
+            self.find(Wanted::InterfaceMethod, class, key)
+        } else {
+            None
+        }
+    }
+
+    /// The classes that stand above an ancestor that has the method.
+    fn above_candidates(&self, above: Above<'_>, key: Option<MemberKey>) -> Marked
+        ensures { (name : NameAndType) → IsLookup self.now.texts name key
+            → AreCovered self.now.family name (classes_of above.entry) result }
+    {
+        let mut covered = self.parents_of_candidates(above, key);
         covered.add_above(self.family());
         covered
     }
 
-    /// The parents of those of some classes that have the method.
-    fn parents_of_candidates(&self, classes: &[u16], key: Option<MemberKey>) -> Marked
+    /// The parents of the ancestors that have the method.
+    fn parents_of_candidates(&self, above: Above<'_>, key: Option<MemberKey>) -> Marked
         ensures { (name : NameAndType) → IsLookup self.now.texts name key
-            → AreParentsOf self.now.family name classes.now result }
+            → AreParentsOf self.now.family (HasMethod self.now.family name) (classes_of above.entry) result }
     {
         let mut parents = Marked::none();
-        for class in classes {
-            self.add_parents_of(u32::from(*class), key, &mut parents);
+        let row = self.noted(Wanted::InterfaceMethod, key);
+        for reach in row {
+            self.add_parents_of(above, key, reach, &mut parents);
         }
         parents
     }
 
-    /// Adds the parents of a class, if it has the method.
-    fn add_parents_of(&self, class: u32, key: Option<MemberKey>, parents: &mut Marked)
-        ensures { (name : NameAndType) (seen : List ℕ) → IsLookup self.now.texts name key
-            → AreParentsOf self.now.family name seen parents.old
-            → AreParentsOf self.now.family name (seen ++ class ∷ []) parents.new }
+    /// Adds the parents of a class that was noted, if it is an ancestor that has the method.
+    fn add_parents_of(
+        &self,
+        above: Above<'_>,
+        key: Option<MemberKey>,
+        reach: &Reach,
+        parents: &mut Marked,
+    )
+        ensures { (name : NameAndType) (asked : List ℕ) → IsLookup self.now.texts name key
+            → AreParentsOf self.now.family (Among (HasMethod self.now.family name) (classes_of above.entry)) asked parents.old
+            → AreParentsOf self.now.family (Among (HasMethod self.now.family name) (classes_of above.entry)) (asked ++ class_noted reach.now.nearest) parents.new }
     {
-        if self.find(Wanted::InterfaceMethod, class, key).is_some() {
-            parents.add_parents(self.family(), class);
+        let Some(member) = reach.nearest else {
+            return;
+        };
+        if self.candidate(above, key, member.class).is_some() {
+            parents.add_parents(self.family(), member.class);
         }
     }
 
-    /// The defaults among some classes: those that are not covered.
-    fn defaults(&self, classes: &[u16], covered: &Marked, key: Option<MemberKey>) -> Found
+    /// The defaults among the ancestors: those that are not covered.
+    fn defaults(&self, above: Above<'_>, covered: &Marked, key: Option<MemberKey>) -> Found
         ensures { (name : NameAndType) → IsLookup self.now.texts name key
-            → AreFound (IsFree self.now.family name covered.now) classes.now result }
+            → AreFound (IsFree self.now.family name covered.now) (classes_of above.entry) result }
     {
         let mut found = Found::Nothing;
-        for class in classes {
-            let class = u32::from(*class);
-            found = found.and(class, self.default_in(class, covered, key));
+        let row = self.noted(Wanted::InterfaceMethod, key);
+        for reach in row {
+            found = self.with_default(above, covered, key, found, reach);
         }
         found
+    }
+
+    /// What was found, with a class that was noted, if it is an ancestor with a default that is not covered.
+    fn with_default(
+        &self,
+        above: Above<'_>,
+        covered: &Marked,
+        key: Option<MemberKey>,
+        found: Found,
+        reach: &Reach,
+    ) -> Found
+        ensures { (name : NameAndType) (asked : List ℕ) → IsLookup self.now.texts name key
+            → AreFound (Among (IsFree self.now.family name covered.now) (classes_of above.entry)) asked found
+            → AreFound (Among (IsFree self.now.family name covered.now) (classes_of above.entry))
+            (asked ++ class_noted reach.now.nearest) result }
+    {
+        let Some(member) = reach.nearest else {
+            return found;
+        };
+        if above.has(member.class) {
+            let index = self.default_in(member.class, covered, key);
+            found.and(member.class, index)
+        } else {
+            found
+        }
     }
 
     /// The place of a class's method, if the class is not covered and the method not abstract.

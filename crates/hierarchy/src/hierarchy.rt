@@ -5,7 +5,8 @@ ghost use Rattle.std.specs.Prelude.{option_to_list};
 ghost use Rattle.std.specs.Option.{is_none};
 ghost use Rattle.built_in.specs.declared.class_id.BuiltIn.{BuiltIn as Top};
 ghost use Rattle.hierarchy.specs.steps.NearestMembers.{AreNearest};
-ghost use Rattle.hierarchy.specs.steps.Reaches.{Nearest};
+ghost use Rattle.std.specs.List.{Contains};
+ghost use Rattle.hierarchy.specs.steps.Reaches.{Nearest, classes_noted};
 ghost use Rattle.hierarchy.specs.steps.Tops.{IsTop};
 ghost use Rattle.loading.specs.Families.{IsFamily, superclass_in, superclasses_in};
 ghost use Rattle.hierarchy.specs.steps.HierarchyTables.{wanted_in};
@@ -22,6 +23,7 @@ use crate::member_index::MemberKey;
 use crate::member_name::MemberName;
 use crate::member_table::MemberTable;
 use crate::nearest::NearestMembers;
+use crate::reach_table::Reach;
 use crate::seed::Seed;
 use crate::wanted::Wanted;
 use built_in::class_id::BuiltIn;
@@ -121,6 +123,18 @@ impl Hierarchy {
     {
         let nearest = &self.nearest;
         nearest.nearest(wanted, class, key?)
+    }
+
+    /// What was noted of a kind of members by name and descriptor. Each class that declares such a member is named there.
+    pub(crate) fn noted(&self, wanted: Wanted, key: Option<MemberKey>) -> &[Reach]
+        ensures { (name : NameAndType) (class k : ℕ) → IsLookup self.now.texts name key
+            → wanted_in wanted self.now.family name class ≡ Some k → Contains (classes_noted result.now) class }
+    {
+        let nearest = &self.nearest;
+        match key {
+            Some(key) => nearest.noted(wanted, key),
+            None => &[],
+        }
     }
 
     /// The built-in class at the end of the chain of superclasses of a class.

@@ -2,7 +2,8 @@
 //! 5.4.3, 5.5; 6.5, invokevirtual).
 #![tactic(auto)]
 
-pub mod ancestors;
+mod above;
+mod ancestors;
 pub mod class_lists;
 mod defaults;
 mod depth_first;
@@ -13,6 +14,7 @@ mod marks;
 pub mod member;
 mod member_index;
 pub mod member_name;
+pub mod member_resolver;
 mod member_table;
 mod nearest;
 mod pool_texts;

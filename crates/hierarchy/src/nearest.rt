@@ -1,6 +1,6 @@
 //! The nearest members along superclasses, found by numbers (JVMS 5.4.3.2, 5.4.3.3; 6.5, invokevirtual).
 
-ghost use Rattle.std.specs.Prelude.{◌≡◌, ◌<◌, ℕ, None, IsTrue, length, slice_get, IfOk};
+ghost use Rattle.std.specs.Prelude.{◌≡◌, ◌<◌, ℕ, None, Some, IsTrue, length, slice_get, IfOk};
 ghost use Rattle.built_in.specs.Keys.{NameAndType};
 ghost use Rattle.hierarchy.specs.steps.MemberIndexes.{AreNumbers};
 ghost use Rattle.hierarchy.specs.steps.MemberTables.{IsTableOf};
@@ -8,14 +8,15 @@ ghost use Rattle.loading.specs.Families.{Family as Classes};
 ghost use Rattle.hierarchy.specs.declared.member_table.MemberTable.{MemberTable as Table};
 ghost use Rattle.hierarchy.specs.steps.HierarchyTables.{wanted_in};
 ghost use Rattle.hierarchy.specs.steps.DepthFirst.{IsWholeOrder, ArePlaces};
-ghost use Rattle.hierarchy.specs.steps.Reaches.{Nearest};
+ghost use Rattle.std.specs.List.{Contains};
+ghost use Rattle.hierarchy.specs.steps.Reaches.{Nearest, classes_noted};
 ghost use Rattle.hierarchy.specs.steps.NearestMembers.{AreNearest, AllAreTold, rows_of};
 
 use crate::depth_first::{depth_first, places_in};
 use crate::member::DeclaredMember;
 use crate::member_index::MemberKey;
 use crate::member_table::MemberTable;
-use crate::reach_table::ReachTable;
+use crate::reach_table::{Reach, ReachTable};
 use crate::reaches::reaches_of;
 use crate::tops::{top_in, tops_of};
 use crate::wanted::Wanted;
@@ -139,6 +140,15 @@ impl NearestMembers {
             → AreNumbers table.texts name key → IsTrue result → wanted_in wanted family name class ≡ None }
     {
         self.reaches.rows(wanted).lacks(key)
+    }
+
+    /// The reaches of a kind of members that were noted for a key. Each class that declares such a member is among them.
+    pub(crate) fn noted(&self, wanted: Wanted, key: MemberKey) -> &[Reach]
+        ensures { (family : Classes) (table : Table) (name : NameAndType) (class k : ℕ)
+            → AreNearest family table self.now → AreNumbers table.texts name key
+            → wanted_in wanted family name class ≡ Some k → Contains (classes_noted result.now) class }
+    {
+        self.reaches.rows(wanted).row(key)
     }
 
     /// The nearest class, from one upwards, that declares a member of a kind.

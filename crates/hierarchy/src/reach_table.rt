@@ -38,7 +38,7 @@ impl ReachTable {
     }
 
     /// The reaches of a key.
-    fn row(&self, key: MemberKey) -> &[Reach]
+    pub(crate) fn row(&self, key: MemberKey) -> &[Reach]
         ensures { result.now ≡ reaches_of self.now key }
     {
         let Some(number) = self.numbers.get(&key) else {

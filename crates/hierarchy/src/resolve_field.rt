@@ -6,6 +6,7 @@ ghost use Rattle.built_in.specs.Methods.{out_key};
 ghost use Rattle.loading.specs.Families.{Family as Classes};
 ghost use Rattle.built_in.specs.Keys.{NameAndType};
 ghost use Rattle.hierarchy.specs.MemberNames.{named_in};
+ghost use Rattle.hierarchy.specs.steps.Ancestors.{AreOf};
 ghost use Rattle.hierarchy.specs.Resolution.{ResolvesField};
 ghost use Rattle.hierarchy.specs.steps.MemberIndexes.{AreNumbers};
 ghost use Rattle.hierarchy.specs.steps.Sought.{sought_name};
@@ -22,18 +23,17 @@ use std::alloc::AllocError;
 
 impl Hierarchy {
     /// The field that a class and the name and descriptor of a reference stand for: of the class, of its
-    /// superinterfaces or of its superclass, the first of them that has one. What stands above the class is found in
-    /// the room of `ancestors`.
-    ///
-    /// # Errors
-    /// Where memory runs out.
-    pub fn resolve_field(
+    /// superinterfaces or of its superclass, the first of them that has one. What stands above the class is kept in
+    /// `ancestors`.
+    pub(crate) fn resolve_field(
         &self,
         ancestors: &mut Ancestors,
         class: ClassId,
         member: MemberName,
     ) -> Result<Option<Field>, AllocError>
-        ensures { IfOk result (ResolvesField self.now.family (named_in self.now.family member) class) }
+        requires known { AreOf self.now.family ancestors.old }
+        ensures known { AreOf self.now.family ancestors.new }
+        ensures field { IfOk result (ResolvesField self.now.family (named_in self.now.family member) class) }
     {
         match class {
             ClassId::Given(class) => {
@@ -52,7 +52,9 @@ impl Hierarchy {
         class: u32,
         key: MemberKey,
     ) -> Result<Option<Field>, AllocError>
-        ensures { IfOk result (λ field. (name : NameAndType) → AreNumbers self.now.texts name key
+        requires known { AreOf self.now.family ancestors.old }
+        ensures known { AreOf self.now.family ancestors.new }
+        ensures field { IfOk result (λ field. (name : NameAndType) → AreNumbers self.now.texts name key
             → ResolvesField self.now.family name (class_ids.Given class) field) }
     {
         let first = self.first_field(ancestors, class, Some(key))?;

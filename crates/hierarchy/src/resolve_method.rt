@@ -5,10 +5,12 @@ ghost use Rattle.built_in.specs.declared.class_id.ClassId.TheVariants as class_i
 ghost use Rattle.loading.specs.Families.{is_interface_in};
 ghost use Rattle.built_in.specs.Keys.{NameAndType};
 ghost use Rattle.hierarchy.specs.MemberNames.{named_in};
+ghost use Rattle.hierarchy.specs.steps.Ancestors.{AreOf};
 ghost use Rattle.hierarchy.specs.steps.MemberIndexes.{IsLookup};
 ghost use Rattle.hierarchy.specs.steps.Sought.{sought_name};
 ghost use Rattle.hierarchy.specs.Resolution.{AmongInterfaces, ResolvesMethod};
 
+use crate::above::Above;
 use crate::ancestors::Ancestors;
 use crate::hierarchy::Hierarchy;
 use crate::member::{DeclaredMember, Method};
@@ -24,17 +26,16 @@ use std::alloc::AllocError;
 impl Hierarchy {
     /// The method that a class and the name and descriptor of a reference stand for: of the class or the first
     /// superclass that has one, and then of the superinterfaces. An interface is asked itself, and then its
-    /// superinterfaces. What stands above the class is found in the room of `ancestors`.
-    ///
-    /// # Errors
-    /// Where memory runs out.
-    pub fn resolve_method(
+    /// superinterfaces. What stands above the class is kept in `ancestors`.
+    pub(crate) fn resolve_method(
         &self,
         ancestors: &mut Ancestors,
         class: ClassId,
         member: MemberName,
     ) -> Result<Option<Method>, AllocError>
-        ensures { IfOk result (ResolvesMethod self.now.family (named_in self.now.family member) class) }
+        requires known { AreOf self.now.family ancestors.old }
+        ensures known { AreOf self.now.family ancestors.new }
+        ensures method { IfOk result (ResolvesMethod self.now.family (named_in self.now.family member) class) }
     {
         self.resolve_sought(ancestors, class, self.sought(member))
     }
@@ -46,8 +47,10 @@ impl Hierarchy {
         class: ClassId,
         sought: Sought<'_>,
     ) -> Result<Option<Method>, AllocError>
-        requires { IsLookup self.now.texts (sought_name sought) sought.key }
-        ensures { IfOk result (ResolvesMethod self.now.family (sought_name sought.entry) class) }
+        requires known { AreOf self.now.family ancestors.old }
+        requires lookup { IsLookup self.now.texts (sought_name sought) sought.key }
+        ensures known { AreOf self.now.family ancestors.new }
+        ensures method { IfOk result (ResolvesMethod self.now.family (sought_name sought.entry) class) }
     {
         match class {
             ClassId::Given(class) if self.family().is_interface(class) => {
@@ -66,8 +69,10 @@ impl Hierarchy {
         class: u32,
         key: Option<MemberKey>,
     ) -> Result<Option<Method>, AllocError>
-        requires { is_interface_in self.now.family class ≡ true }
-        ensures { IfOk result (λ method. (name : NameAndType) → IsLookup self.now.texts name key
+        requires known { AreOf self.now.family ancestors.old }
+        requires class { is_interface_in self.now.family class ≡ true }
+        ensures known { AreOf self.now.family ancestors.new }
+        ensures method { IfOk result (λ method. (name : NameAndType) → IsLookup self.now.texts name key
             → ResolvesMethod self.now.family name (class_ids.Given class) method) }
     {
         if let Some(index) = self.find(Wanted::Method, class, key) {
@@ -84,9 +89,11 @@ impl Hierarchy {
         class: u32,
         sought: Sought<'_>,
     ) -> Result<Option<Method>, AllocError>
+        requires known { AreOf self.now.family ancestors.old }
         requires class { is_interface_in self.now.family class ≡ false }
         requires lookup { IsLookup self.now.texts (sought_name sought) sought.key }
-        ensures { IfOk result (ResolvesMethod self.now.family (sought_name sought.entry) (class_ids.Given class)) }
+        ensures known { AreOf self.now.family ancestors.new }
+        ensures method { IfOk result (ResolvesMethod self.now.family (sought_name sought.entry) (class_ids.Given class)) }
     {
         let from = Superclass::Given(class);
         if let Some(method) = self.up_classes(Wanted::Method, from, sought) {
@@ -103,10 +110,18 @@ impl Hierarchy {
         class: u32,
         key: Option<MemberKey>,
     ) -> Result<Option<Method>, AllocError>
-        ensures { IfOk result (λ method. (name : NameAndType) → IsLookup self.now.texts name key
+        requires known { AreOf self.now.family ancestors.old }
+        ensures known { AreOf self.now.family ancestors.new }
+        ensures method { IfOk result (λ method. (name : NameAndType) → IsLookup self.now.texts name key
             → AmongInterfaces self.now.family name class method) }
     {
-        if let Some(DeclaredMember { class, index }) = self.the_default(class, key) {
+        let _order = self.family().parents_first();
+        if self.is_undeclared(Wanted::InterfaceMethod, key) {
+            return Ok(None);
+        }
+        ancestors.find(self.family(), class)?;
+        let above = Above::Walked(ancestors);
+        if let Some(DeclaredMember { class, index }) = self.default_among(class, above, key) {
             return Ok(Some(Method::Given { class, index }));
         }
         let first = self.first_above(ancestors, Wanted::InterfaceMethod, class, key)?;

@@ -1,6 +1,11 @@
 //! Searches through superinterfaces and superclasses (JVMS 5.4.3.2 to 5.4.3.4).
 
-ghost use Rattle.std.specs.Prelude.{◌≡◌, ◌≤◌, ◌^◌, [], ◌∷◌, ℕ, Option, None, IfOk};
+ghost use Rattle.std.specs.Prelude.{◌≡◌, ◌<◌, ◌≤◌, [], ◌∷◌, ◌++◌, ℕ, List, Option, None, Some, IfOk};
+ghost use Rattle.std.specs.Bool.{MatchBool};
+ghost use Rattle.hierarchy.specs.declared.ancestors.Standing.{Standing as Found};
+ghost use Rattle.graph.specs.Seen.{AreDistinct};
+ghost use Rattle.hierarchy.specs.steps.Ancestors.{AreOf, IsFirst};
+ghost use Rattle.hierarchy.specs.steps.Reaches.{class_noted};
 ghost use Rattle.hierarchy.specs.steps.HierarchyTables.{wanted_in, interface_field_in};
 ghost use Rattle.built_in.specs.Keys.{NameAndType};
 ghost use Rattle.hierarchy.specs.steps.MemberIndexes.{IsLookup};
@@ -14,24 +19,21 @@ ghost use Rattle.loading.specs.Families.{Family as Classes};
 ghost use Rattle.loading.specs.declared.given.Superclass.TheVariants as super;
 ghost use Rattle.hierarchy.specs.steps.Above.{first_with};
 
-use crate::ancestors::Ancestors;
+use crate::ancestors::{Ancestors, Standing};
 use crate::hierarchy::Hierarchy;
 use crate::member::{DeclaredMember, Method};
 use crate::member_index::MemberKey;
+use crate::reach_table::Reach;
 use crate::sought::Sought;
 use crate::wanted::Wanted;
 use built_in::class_id::BuiltIn;
 use built_in::method::BuiltInMethod;
-use graph::Visited;
 use loading::given::Superclass;
 use std::alloc::AllocError;
 
 impl Hierarchy {
     /// The first member of some kind in a class, its superinterfaces and its superclass, in this order. What stands
-    /// above the class is found in the room of `ancestors`.
-    ///
-    /// # Errors
-    /// Where memory runs out.
+    /// above the class is kept in `ancestors`.
     pub(crate) fn first_above(
         &self,
         ancestors: &mut Ancestors,
@@ -39,7 +41,9 @@ impl Hierarchy {
         class: u32,
         key: Option<MemberKey>,
     ) -> Result<Option<DeclaredMember>, AllocError>
-        ensures { IfOk result (λ found. (name : NameAndType) → IsLookup self.now.texts name key
+        requires known { AreOf self.now.family ancestors.old }
+        ensures known { AreOf self.now.family ancestors.new }
+        ensures found { IfOk result (λ found. (name : NameAndType) → IsLookup self.now.texts name key
             → Search self.now.family (wanted_in wanted self.now.family name) (class ∷ []) found) }
     {
         let _order = self.family().parents_first();
@@ -50,7 +54,7 @@ impl Hierarchy {
             return Ok(Some(DeclaredMember { class, index }));
         }
         ancestors.find(self.family(), class)?;
-        Ok(self.first_among(wanted, ancestors.classes(), key))
+        Ok(self.first_among(wanted, ancestors, key))
     }
 
     /// The first field in a class, its superinterfaces and its superclass. Where no interface declares such a field it
@@ -61,7 +65,9 @@ impl Hierarchy {
         class: u32,
         key: Option<MemberKey>,
     ) -> Result<Option<DeclaredMember>, AllocError>
-        ensures { IfOk result (λ found. (name : NameAndType) → IsLookup self.now.texts name key
+        requires known { AreOf self.now.family ancestors.old }
+        ensures known { AreOf self.now.family ancestors.new }
+        ensures found { IfOk result (λ found. (name : NameAndType) → IsLookup self.now.texts name key
             → Search self.now.family (field_in self.now.family name) (class ∷ []) found) }
     {
         if self.is_undeclared(Wanted::InterfaceField, key) {
@@ -85,24 +91,59 @@ impl Hierarchy {
         }
     }
 
-    /// The first of some classes, in the order in which they came, that has a member of some kind, and its place.
+    /// The first ancestor that has a member of some kind, and its place. All that declare one were noted, so each of
+    /// these is asked where it stands.
     fn first_among(
         &self,
         wanted: Wanted,
-        classes: &Visited,
+        ancestors: &Ancestors,
         key: Option<MemberKey>,
     ) -> Option<DeclaredMember>
-        requires { classes.now.limit ≤ 2 ^ 32 }
-        ensures { (name : NameAndType) → IsLookup self.now.texts name key
-            → result ≡ first_with (wanted_in wanted self.now.family name) classes.now.items }
+        ensures { (name : NameAndType) → IsLookup self.now.texts name key → AreDistinct ancestors.now.items
+            → result ≡ first_with (wanted_in wanted self.now.family name) ancestors.now.items }
     {
-        for place in 0..classes.len() {
-            let class = classes.at(place) as u32;
-            if let Some(index) = self.find(wanted, class, key) {
-                return Some(DeclaredMember { class, index });
-            }
+        let mut first = None;
+        let row = self.noted(wanted, key);
+        for reach in row {
+            first = self.nearer(wanted, ancestors, key, first, reach);
         }
-        None
+        match first {
+            Some(standing) => Some(standing.member),
+            None => None,
+        }
+    }
+
+    /// The first of what was found, and of the class that was noted, if it is an ancestor that has such a member.
+    fn nearer(
+        &self,
+        wanted: Wanted,
+        ancestors: &Ancestors,
+        key: Option<MemberKey>,
+        first: Option<Standing>,
+        reach: &Reach,
+    ) -> Option<Standing>
+        ensures { (name : NameAndType) (asked : List ℕ) → IsLookup self.now.texts name key
+            → AreDistinct ancestors.now.items
+            → IsFirst (wanted_in wanted self.now.family name) ancestors.now.items asked first
+            → IsFirst (wanted_in wanted self.now.family name) ancestors.now.items (asked ++ class_noted reach.now.nearest) result }
+    {
+        let Some(member) = reach.nearest else {
+            return first;
+        };
+        let class = member.class;
+        let Some(place) = ancestors.place(class) else {
+            return first;
+        };
+        if stands_before(first, place) {
+            return first;
+        }
+        match self.find(wanted, class, key) {
+            Some(index) => Some(Standing {
+                place,
+                member: DeclaredMember { class, index },
+            }),
+            None => first,
+        }
     }
 
     /// The first method of some kind from a class up; at the end stand those of the built-in classes.
@@ -135,6 +176,17 @@ impl Hierarchy {
             Some(DeclaredMember { class, index }) => Some(Method::Given { class, index }),
             None => built_in_method(top, sought),
         }
+    }
+}
+
+/// Whether something was found at a place or before it.
+fn stands_before(first: Option<Standing>, place: u32) -> bool
+    ensures { MatchBool result ((s : Found) × (first ≡ Some s) × (s.place ≤ place))
+        ((s : Found) → first ≡ Some s → place < s.place) }
+{
+    match first {
+        Some(standing) => standing.place <= place,
+        None => false,
     }
 }
 

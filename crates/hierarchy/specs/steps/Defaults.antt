@@ -4,6 +4,8 @@ use Rattle.std.specs.List.{Contains}
 use Rattle.built_in.specs.Keys.{NameAndType}
 use Rattle.loading.specs.Families.{Family, IsAncestor, parents_in}
 use Rattle.hierarchy.specs.MemberLookup.{interface_method_in, is_abstract, flags_in}
+use Rattle.hierarchy.specs.declared.above.Above.{Above}
+use Rattle.hierarchy.specs.declared.above.Above.TheVariants as above
 use Rattle.hierarchy.specs.declared.defaults.Found.{Found}
 use Rattle.hierarchy.specs.declared.defaults.Found.TheVariants as found
 use Rattle.hierarchy.specs.declared.member.DeclaredMember.{DeclaredMember}
@@ -31,6 +33,12 @@ only_of found.Nothing = None
 only_of (found.One i k) = Some (record { class = i; index = k })
 only_of found.Several = None
 
+-- ---- what stands above a class
+
+abbrev pub classes_of : Above → List ℕ
+classes_of (above.Walked ancestors) = ancestors.now.items
+classes_of (above.Marked marked) = marked.now
+
 -- ---- methods of interfaces
 
 -- an interface has the method at this place
@@ -46,13 +54,17 @@ abbrev pub AreCovered : Family → NameAndType → List ℕ → List ℕ → Typ
 AreCovered family key classes covered =
     (m : ℕ) → Contains covered m ↔ ((j : ℕ) × Contains classes j × IsOverriding family key m j)
 
--- and its parents alone
-abbrev pub AreParentsOf : Family → NameAndType → List ℕ → List ℕ → Type 0
-AreParentsOf family key classes parents =
+-- the parents of those of some classes with a method of some kind
+abbrev pub AreParentsOf : Family → (ℕ → ℕ → Type 0) → List ℕ → List ℕ → Type 0
+AreParentsOf family Is classes parents =
     (m : ℕ) → Contains parents m
-    ↔ ((j : ℕ) × Contains classes j × ((l : ℕ) × HasMethod family key j l) × Contains (parents_in family j) m)
+    ↔ ((j : ℕ) × Contains classes j × ((l : ℕ) × Is j l) × Contains (parents_in family j) m)
 
 -- a method that is not abstract, of an interface that is not covered
 abbrev pub IsFree : Family → NameAndType → List ℕ → ℕ → ℕ → Type 0
 IsFree family key covered i k =
     HasMethod family key i k × (is_abstract (flags_in family i k) ≡ false) × (¬ Contains covered i)
+
+-- a method of some kind of one of some classes
+abbrev pub Among : (ℕ → ℕ → Type 0) → List ℕ → ℕ → ℕ → Type 0
+Among Is classes i k = Contains classes i × Is i k

@@ -42,6 +42,16 @@ pub record IsReachTable (table : ReachTable) : Type 0 where
   pub within : (key : MemberKey) (n : ℕ) → number_in table key ≡ Some n → n < length table.rows.items
   pub apart : (a b : MemberKey) (n : ℕ) → number_in table a ≡ Some n → number_in table b ≡ Some n → a ≡ b
 
+-- the class that was noted, if any was
+abbrev pub class_noted : Option DeclaredMember → List ℕ
+class_noted None = []
+class_noted (Some member) = member.class ∷ []
+
+-- the classes that a row names
+abbrev pub classes_noted : List Reach → List ℕ
+classes_noted [] = []
+classes_noted (reach ∷ row) = class_noted reach.nearest ++ classes_noted row
+
 -- ---- what they tell
 
 -- what reaches a place: what was noted last up to this place

@@ -8,8 +8,9 @@ pub loop-place-preserved : goal.loop-place-preserved
 loop-place-preserved c = record {
   len = length-set c.loop-place.places.items (get_or c.args.order.now c.loop-place.place 0) c.loop-place.place
       ∙ c.loop-place.invariant.len;
-  there = places_next c.args.order.now c.loop-place.places.items c.args.count c.loop-place.place (omega arith)
-      c.requires c.loop-place.invariant.len c.loop-place.invariant.there;
+  there = places_next c.args.order.now c.loop-place.places.items c.loop-place.place (omega arith)
+      (omega (arith, c.requires c.loop-place.place 0 (omega arith), c.loop-place.invariant.len))
+      c.loop-place.invariant.there;
 }
 
 pub returns-clause-places : goal.returns-clause-places

@@ -1,19 +1,51 @@
-use Rattle.std.proofs.Common.{sym, subst, ◌∙◌}
+use Rattle.std.proofs.Common.{◌≡◌, ◌↔◌, ℕ, ◌∷◌, ◌++◌, [], List, Option, Some, None, take, sym, subst, ◌∙◌, ap, true, false}
+use Rattle.std.proofs.Common.{append-nil, rules, MatchOption}
+use Rattle.std.specs.List.{Contains}
+use Rattle.std.proofs.lemmas.List.{take_all}
+use Rattle.loading.specs.Families.{Family, IsFamily, IsAncestor, parents_in}
 use Rattle.graph.specs.steps.Adds.{Adds}
-use Rattle.loading.specs.Families.{Family, parents_in}
-use Rattle.hierarchy.proofs.DefaultsLemmas.{parents_with, parents_without, some_by, none_by}
+use Rattle.hierarchy.specs.MemberLookup.{is_abstract, flags_in}
+use Rattle.hierarchy.specs.steps.Above.{IsAmongOrAbove}
+use Rattle.hierarchy.specs.steps.Defaults.{AreFound, Among, HasMethod, IsFree, AreParentsOf, AreCovered, classes_of}
+use Rattle.hierarchy.specs.steps.Defaults.{found_after}
+use Rattle.hierarchy.specs.steps.Reaches.{class_noted, classes_noted}
+use Rattle.hierarchy.specs.declared.member.DeclaredMember.{DeclaredMember}
+use Rattle.hierarchy.specs.declared.reach_table.Reach.{Reach}
+use Rattle.hierarchy.proofs.DefaultsLemmas.{one_more, none_yet, no_parents, among_at, found_among, parents_among}
+use Rattle.hierarchy.proofs.DefaultsLemmas.{parents_with, parents_without, covered_by, some_by, none_by, at_place}
+use Rattle.hierarchy.proofs.DefaultsLemmas.{none_is_default, only_is_default, only_is_abstract, when_all_seen}
+use Rattle.hierarchy.proofs.NotedLemmas.{noted_next}
 use Rattle.hierarchy.proofs.hierarchy.Hierarchy.add_parents_of.Goals as goal
 
-pub returns-then-is_some : goal.returns-then-is_some
-returns-then-is_some c = λ name seen is before.
+pub returns-in_default : goal.returns-in_default
+returns-in_default c = λ name asked is are.
     let family = c.args.self.now.family in
-    let found = some_by c.find.result (sym c.is_some.ensures ∙ c.if-is_some.true) in
-    parents_with family name seen c.args.class found.0 c.args.parents.now c.add_parents.new.self
-    (sym (c.find.ensures name is) ∙ found.1) before
-    (subst (λ (f : Family). Adds c.args.parents.now (parents_in f c.args.class) c.add_parents.new.self) c.family.ensures
-    c.add_parents.ensures.adds)
+    let Is : ℕ → ℕ → Type 0 = Among (HasMethod family name) (classes_of c.args.above) in
+    subst (λ (o : Option DeclaredMember). AreParentsOf family Is (asked ++ class_noted o) c.args.parents.now)
+    (sym c.in_default.is)
+    (subst (λ (l : List ℕ). AreParentsOf family Is l c.args.parents.now) (sym (append-nil asked)) are)
+
+pub returns-then-is_some : goal.returns-then-is_some
+returns-then-is_some c = λ name asked is are.
+    let family = c.args.self.now.family in
+    let Is : ℕ → ℕ → Type 0 = Among (HasMethod family name) (classes_of c.args.above) in
+    let class = c.in-Some.member.class in
+    let new = c.add_parents.new.self in
+    let found = some_by c.candidate.result (sym c.is_some.ensures ∙ c.if-is_some.true) in
+    let holds : Is class found.0 =
+    subst (λ (o : Option ℕ). MatchOption o ((k : ℕ) → ¬ Is class k) (Is class)) found.1 (c.candidate.ensures name is) in
+    subst (λ (o : Option DeclaredMember). AreParentsOf family Is (asked ++ class_noted o) new) (sym c.in-Some.is)
+    (parents_with family Is asked class found.0 c.args.parents.now new holds are
+    (subst (λ (f : Family). Adds c.args.parents.now (parents_in f class) new) c.family.ensures
+    c.add_parents.ensures.adds))
 
 pub returns-else-is_some : goal.returns-else-is_some
-returns-else-is_some c = λ name seen is before.
-    parents_without c.args.self.now.family name seen c.args.class c.args.parents.now
-    (sym (c.find.ensures name is) ∙ none_by c.find.result (sym c.is_some.ensures ∙ c.if-is_some.false)) before
+returns-else-is_some c = λ name asked is are.
+    let family = c.args.self.now.family in
+    let Is : ℕ → ℕ → Type 0 = Among (HasMethod family name) (classes_of c.args.above) in
+    let class = c.in-Some.member.class in
+    let none : (k : ℕ) → ¬ Is class k =
+    subst (λ (o : Option ℕ). MatchOption o ((k : ℕ) → ¬ Is class k) (Is class))
+    (none_by c.candidate.result (sym c.is_some.ensures ∙ c.if-is_some.false)) (c.candidate.ensures name is) in
+    subst (λ (o : Option DeclaredMember). AreParentsOf family Is (asked ++ class_noted o) c.args.parents.now)
+    (sym c.in-Some.is) (parents_without family Is asked class c.args.parents.now none are)

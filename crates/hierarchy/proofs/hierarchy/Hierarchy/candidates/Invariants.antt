@@ -1,9 +1,11 @@
 use Rattle.std.proofs.Common.{take}
 use Rattle.built_in.specs.Keys.{NameAndType}
 use Rattle.hierarchy.specs.steps.MemberIndexes.{IsLookup}
-use Rattle.hierarchy.specs.steps.Defaults.{AreFound, HasMethod}
+use Rattle.hierarchy.specs.steps.Reaches.{classes_noted}
+use Rattle.hierarchy.specs.steps.Defaults.{AreFound, Among, HasMethod, classes_of}
 use Rattle.hierarchy.proofs.hierarchy.Hierarchy.candidates.Given as goal
 
-abbrev pub invariant-loop-class : goal.invariant-loop-class
-invariant-loop-class l = (name : NameAndType) → IsLookup l.self.texts name l.key
-    → AreFound (HasMethod l.self.family name) (take l.class-index l.classes) l.found
+abbrev pub invariant-loop-reach : goal.invariant-loop-reach
+invariant-loop-reach l = (name : NameAndType) → IsLookup l.self.texts name l.key
+    → AreFound (Among (HasMethod l.self.family name) (classes_of l.above)) (classes_noted (take l.reach-index l.row))
+    l.found

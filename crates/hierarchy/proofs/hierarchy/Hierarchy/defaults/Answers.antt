@@ -1,25 +1,39 @@
-use Rattle.std.proofs.Common.{ℕ, ◌∷◌, ◌++◌, [], List, take, sym, subst, ◌∙◌, ap}
-use Rattle.std.proofs.lemmas.List.{take_all, take_more}
-use Rattle.hierarchy.specs.steps.Defaults.{AreFound, IsFree, found_after}
-use Rattle.hierarchy.proofs.DefaultsLemmas.{none_yet, one_more}
+use Rattle.std.proofs.Common.{◌≡◌, ◌↔◌, ℕ, ◌∷◌, ◌++◌, [], List, Option, Some, None, take, sym, subst, ◌∙◌, ap, true, false}
+use Rattle.std.proofs.Common.{append-nil, rules}
+use Rattle.std.specs.List.{Contains}
+use Rattle.std.proofs.lemmas.List.{take_all}
+use Rattle.loading.specs.Families.{Family, IsFamily, IsAncestor, parents_in}
+use Rattle.graph.specs.steps.Adds.{Adds}
+use Rattle.hierarchy.specs.MemberLookup.{is_abstract, flags_in}
+use Rattle.hierarchy.specs.steps.Above.{IsAmongOrAbove}
+use Rattle.hierarchy.specs.steps.Defaults.{AreFound, Among, HasMethod, IsFree, AreParentsOf, AreCovered, classes_of}
+use Rattle.hierarchy.specs.steps.Defaults.{found_after}
+use Rattle.hierarchy.specs.steps.Reaches.{class_noted, classes_noted}
+use Rattle.hierarchy.specs.declared.member.DeclaredMember.{DeclaredMember}
+use Rattle.hierarchy.specs.declared.reach_table.Reach.{Reach}
+use Rattle.hierarchy.proofs.DefaultsLemmas.{one_more, none_yet, no_parents, among_at, found_among, parents_among}
+use Rattle.hierarchy.proofs.DefaultsLemmas.{parents_with, parents_without, covered_by, some_by, none_by, at_place}
+use Rattle.hierarchy.proofs.DefaultsLemmas.{none_is_default, only_is_default, only_is_abstract, when_all_seen}
+use Rattle.hierarchy.proofs.NotedLemmas.{noted_next}
 use Rattle.hierarchy.proofs.hierarchy.Hierarchy.defaults.Goals as goal
 
-pub loop-class-init : goal.loop-class-init
-loop-class-init c = λ name is. none_yet (IsFree c.args.self.now.family name c.args.covered.now)
+pub loop-reach-init : goal.loop-reach-init
+loop-reach-init c = λ name is. none_yet (Among (IsFree c.args.self.now.family name c.args.covered.now) (classes_of c.args.above))
 
-pub loop-class-preserved : goal.loop-class-preserved
-loop-class-preserved c = λ name is.
-    let Is : ℕ → ℕ → Type 0 = IsFree c.args.self.now.family name c.args.covered.now in
-    let classes = c.args.classes.now in
-    let seen = take c.loop-class.class-index classes in
-    let more = sym (take_more classes c.loop-class.class-index 0 c.loop-class-test.true
-    ∙ ap (λ (x : ℕ). seen ++ x ∷ []) (sym c.from-class.ensures)) in
-    let after = found_after c.loop-class.found c.from-class.result c.default_in.result in
-    rw c.and-found.ensures (subst (λ (l : List ℕ). AreFound Is l after) more
-    (one_more Is seen c.from-class.result c.loop-class.found c.default_in.result
-    (c.default_in.ensures name is) (c.loop-class.invariant name is)))
+pub loop-reach-preserved : goal.loop-reach-preserved
+loop-reach-preserved c = λ name is.
+    let Is : ℕ → ℕ → Type 0 = Among (IsFree c.args.self.now.family name c.args.covered.now) (classes_of c.args.above) in
+    let row : List Reach = c.noted-row.result.now in
+    let seen = classes_noted (take c.loop-reach.reach-index row) in
+    subst (λ (l : List ℕ). AreFound Is l c.with_default-found.result)
+    (noted_next row c.loop-reach.reach-index c.loop-reach-test.true)
+    (c.with_default-found.ensures name seen is (c.loop-reach.invariant name is))
 
 pub returns : goal.returns
 returns c = λ name is.
-    subst (λ (l : List ℕ). AreFound (IsFree c.args.self.now.family name c.args.covered.now) l c.loop-class.found)
-    (take_all c.loop-class.class-index c.args.classes.now c.loop-class-test.false) (c.loop-class.invariant name is)
+    let Is : ℕ → ℕ → Type 0 = IsFree c.args.self.now.family name c.args.covered.now in
+    let among : List ℕ = classes_of c.args.above in
+    let row : List Reach = c.noted-row.result.now in
+    found_among Is among (classes_noted row) (λ i k has. c.noted-row.ensures name i k is has.0) c.loop-reach.found
+    (subst (λ (l : List Reach). AreFound (Among Is among) (classes_noted l) c.loop-reach.found)
+    (take_all c.loop-reach.reach-index row c.loop-reach-test.false) (c.loop-reach.invariant name is))

@@ -5,14 +5,14 @@ use Rattle.hierarchy.specs.Search.{Search}
 use Rattle.hierarchy.specs.declared.member.DeclaredMember.{DeclaredMember}
 use Rattle.hierarchy.proofs.hierarchy.Hierarchy.given_field.Goals as goal
 
-pub returns-in-Some : goal.returns-in-Some
-returns-in-Some c = λ name is.
+pub returns-in-Some-clause-field : goal.returns-in-Some-clause-field
+returns-in-Some-clause-field c = λ name is.
     let family = c.args.self.now.family in
     found (subst (λ (r : Option DeclaredMember). Search family (field_in family name) (c.args.class ∷ []) r)
-    c.in-Some.is (c.in_ok-first.ensures name is))
+    c.in-Some.is (c.in_ok-first.ensures.found name is))
 
-pub returns-in-None : goal.returns-in-None
-returns-in-None c = λ name is.
+pub returns-in-None-clause-field : goal.returns-in-None-clause-field
+returns-in-None-clause-field c = λ name is.
     let family = c.args.self.now.family in
     missing (subst (λ (r : Option DeclaredMember). Search family (field_in family name) (c.args.class ∷ []) r)
-    c.in-None.is (c.in_ok-first.ensures name is))
+    c.in-None.is (c.in_ok-first.ensures.found name is))

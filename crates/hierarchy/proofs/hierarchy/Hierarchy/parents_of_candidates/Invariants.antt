@@ -1,9 +1,11 @@
 use Rattle.std.proofs.Common.{take}
 use Rattle.built_in.specs.Keys.{NameAndType}
 use Rattle.hierarchy.specs.steps.MemberIndexes.{IsLookup}
-use Rattle.hierarchy.specs.steps.Defaults.{AreParentsOf}
+use Rattle.hierarchy.specs.steps.Reaches.{classes_noted}
+use Rattle.hierarchy.specs.steps.Defaults.{AreParentsOf, Among, HasMethod, classes_of}
 use Rattle.hierarchy.proofs.hierarchy.Hierarchy.parents_of_candidates.Given as goal
 
-abbrev pub invariant-loop-class : goal.invariant-loop-class
-invariant-loop-class l = (name : NameAndType) → IsLookup l.self.texts name l.key
-    → AreParentsOf l.self.family name (take l.class-index l.classes) l.parents
+abbrev pub invariant-loop-reach : goal.invariant-loop-reach
+invariant-loop-reach l = (name : NameAndType) → IsLookup l.self.texts name l.key
+    → AreParentsOf l.self.family (Among (HasMethod l.self.family name) (classes_of l.above))
+    (classes_noted (take l.reach-index l.row)) l.parents

@@ -1,0 +1,10 @@
+use Rattle.std.proofs.Common.{◌≤◌, length, subst}
+use Rattle.loading.specs.Families.{Family}
+use Rattle.hierarchy.proofs.AncestorsLemmas.{none_above}
+use Rattle.hierarchy.proofs.ancestors.Ancestors.walk_above.Goals as goal
+
+pub returns-then-class-classes-clause-order : goal.returns-then-class-classes-clause-order
+returns-then-class-classes-clause-order c =
+    let past : length c.args.family.now ≤ c.args.class =
+    subst (λ (f : Family). length f ≤ c.args.class) c.classes.ensures.value c.if-class-classes.true in
+    none_above c.args.family.now c.args.class c.forget.new.self.entered.items past c.forget.ensures.entered

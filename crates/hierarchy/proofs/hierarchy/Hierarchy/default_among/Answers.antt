@@ -1,0 +1,45 @@
+use Rattle.std.proofs.Common.{◌≡◌, ◌↔◌, ℕ, ◌∷◌, ◌++◌, [], List, Option, Some, None, take, sym, subst, ◌∙◌, ap, true, false}
+use Rattle.std.proofs.Common.{append-nil, rules}
+use Rattle.std.specs.List.{Contains}
+use Rattle.std.proofs.lemmas.List.{take_all}
+use Rattle.loading.specs.Families.{Family, IsFamily, IsAncestor, parents_in}
+use Rattle.graph.specs.steps.Adds.{Adds}
+use Rattle.hierarchy.specs.MemberLookup.{is_abstract, flags_in}
+use Rattle.hierarchy.specs.steps.Above.{IsAmongOrAbove}
+use Rattle.hierarchy.specs.steps.Defaults.{AreFound, Among, HasMethod, IsFree, AreParentsOf, AreCovered, classes_of}
+use Rattle.hierarchy.specs.steps.Defaults.{found_after}
+use Rattle.hierarchy.specs.steps.Reaches.{class_noted, classes_noted}
+use Rattle.hierarchy.specs.declared.member.DeclaredMember.{DeclaredMember}
+use Rattle.hierarchy.specs.declared.reach_table.Reach.{Reach}
+use Rattle.hierarchy.proofs.DefaultsLemmas.{one_more, none_yet, no_parents, among_at, found_among, parents_among}
+use Rattle.hierarchy.proofs.DefaultsLemmas.{parents_with, parents_without, covered_by, some_by, none_by, at_place}
+use Rattle.hierarchy.proofs.DefaultsLemmas.{none_is_default, only_is_default, only_is_abstract, when_all_seen}
+use Rattle.hierarchy.proofs.NotedLemmas.{noted_next}
+use Rattle.hierarchy.proofs.hierarchy.Hierarchy.default_among.Goals as goal
+
+pub returns-in-Nothing : goal.returns-in-Nothing
+returns-in-Nothing c = λ name is.
+    none_is_default c.args.self.now.family name c.args.class (classes_of c.args.above) c.requires
+    (c.in-Nothing.ensures name is)
+
+pub returns-then-is_abstract : goal.returns-then-is_abstract
+returns-then-is_abstract c = λ name is.
+    let family = c.args.self.now.family in
+    let abstract : is_abstract (flags_in family c.in-One.interface c.in-One.index) ≡ true =
+    ap is_abstract (sym c.flags.ensures) ∙ sym c.is_abstract.ensures ∙ c.if-is_abstract.true in
+    only_is_abstract family name c.args.class (classes_of c.args.above) c.requires c.in-One.interface c.in-One.index
+    abstract (c.in-One.ensures name is)
+
+pub returns-else-is_abstract : goal.returns-else-is_abstract
+returns-else-is_abstract c = λ name is.
+    let family = c.args.self.now.family in
+    let code : is_abstract (flags_in family c.in-One.interface c.in-One.index) ≡ false =
+    ap is_abstract (sym c.flags.ensures) ∙ sym c.is_abstract.ensures ∙ c.if-is_abstract.false in
+    only_is_default family name c.args.class (classes_of c.args.above) c.requires c.in-One.interface c.in-One.index
+    (subst IsFamily c.family.ensures c.classes-classes.ensures.fits) code (c.in-One.ensures name is)
+
+pub returns-in-Several : goal.returns-in-Several
+returns-in-Several c = λ name is.
+    rw c.only.ensures (when_all_seen c.args.self.now.family name c.args.class (classes_of c.args.above) c.requires
+    c.above_candidates-covered.result (c.above_candidates-covered.ensures name is) c.defaults.result
+    (c.defaults.ensures name is))

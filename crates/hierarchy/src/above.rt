@@ -1,0 +1,27 @@
+//! What stands above a class, as a set.
+
+ghost use Rattle.std.specs.Prelude.{◌↔◌, IsTrue};
+ghost use Rattle.std.specs.List.{Contains};
+ghost use Rattle.hierarchy.specs.steps.Defaults.{classes_of};
+
+use crate::ancestors::Ancestors;
+use crate::marked::Marked;
+
+/// What stands above a class: found by a walk, whose room was there, or by marks, which take none from the heap.
+#[derive(Clone, Copy)]
+pub(crate) enum Above<'a> {
+    Walked(&'a Ancestors),
+    Marked(&'a Marked),
+}
+
+impl Above<'_> {
+    /// Whether a class is one of them.
+    pub(crate) fn has(self, class: u32) -> bool
+        ensures { IsTrue result ↔ Contains (classes_of self.entry) class }
+    {
+        match self {
+            Above::Walked(ancestors) => ancestors.place(class).is_some(),
+            Above::Marked(marked) => marked.has(class),
+        }
+    }
+}
