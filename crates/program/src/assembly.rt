@@ -29,10 +29,10 @@ use crate::signature::{Signatures, signatures_of};
 use crate::static_numbers::StaticNumbers;
 use crate::statics::statics_of;
 use classfile::ClassFile;
-use hierarchy::ancestors::Ancestors;
 use hierarchy::class_lists::ClassLists;
 use hierarchy::hierarchy::Hierarchy;
 use hierarchy::initialization::initialization_orders;
+use hierarchy::member_resolver::MemberResolver;
 use hierarchy::texts::Texts;
 use loading::family::Family;
 use loading::family_of;
@@ -205,9 +205,9 @@ fn linked_classes(
     ensures grows { OnOk result (Grows strings.old strings.new) }
     ensures adds { OnOk result (Adds strings.old (all_strings linker.now.hierarchy.now.family) strings.new) }
 {
-    let mut ancestors = Ancestors::new(alloc)?;
+    let mut members = MemberResolver::new(alloc, linker.hierarchy)?;
     let mut classes = Vec::new(alloc);
-    add_classes(alloc, linker, &mut ancestors, strings, &mut classes)?;
+    add_classes(alloc, linker, &mut members, strings, &mut classes)?;
     Ok(classes)
 }
 
@@ -215,21 +215,23 @@ fn linked_classes(
 fn add_classes(
     alloc: Global,
     linker: &Linker<'_>,
-    ancestors: &mut Ancestors,
+    members: &mut MemberResolver<'_>,
     strings: &mut Texts,
     classes: &mut Vec<Class>,
 ) -> Result<(), AllocError>
-    requires { classes.old.items ≡ [] }
+    requires members { members.old ≡ linker.now.hierarchy.now }
+    requires empty { classes.old.items ≡ [] }
     ensures classes { OnOk result (AreClasses linker.now.hierarchy.now.family strings.new classes.new.items) }
     ensures grows { OnOk result (Grows strings.old strings.new) }
     ensures adds { OnOk result (Adds strings.old (all_strings linker.now.hierarchy.now.family) strings.new) }
+    ensures kept { members.new ≡ members.old }
 {
     let family = linker.hierarchy.family().classes();
     for (number, given) in family.iter().enumerate() {
         add_class(
             alloc,
             linker,
-            ancestors,
+            members,
             strings,
             number as u32,
             &given.file,
@@ -243,20 +245,22 @@ fn add_classes(
 fn add_class(
     alloc: Global,
     linker: &Linker<'_>,
-    ancestors: &mut Ancestors,
+    members: &mut MemberResolver<'_>,
     strings: &mut Texts,
     number: u32,
     file: &ClassFile,
     classes: &mut Vec<Class>,
 ) -> Result<(), AllocError>
-    requires { file_in linker.now.hierarchy.now.family number ≡ Some file.now }
+    requires members { members.old ≡ linker.now.hierarchy.now }
+    requires file { file_in linker.now.hierarchy.now.family number ≡ Some file.now }
     ensures class { OnOk result
         ((class : ClassTables) × IsClass linker.now.hierarchy.now.family strings.new file.now class
         × (classes.new.items ≡ classes.old.items ++ class ∷ [])) }
     ensures grows { OnOk result (Grows strings.old strings.new) }
     ensures adds { OnOk result (Adds strings.old (strings_of file.now) strings.new) }
+    ensures kept { members.new ≡ members.old }
 {
-    let class = class_of(alloc, linker, ancestors, strings, number, file)?;
+    let class = class_of(alloc, linker, members, strings, number, file)?;
     classes.push(class)?;
     Ok(())
 }
@@ -279,17 +283,19 @@ fn static_numbers_of(
 fn class_of(
     alloc: Global,
     linker: &Linker<'_>,
-    ancestors: &mut Ancestors,
+    members: &mut MemberResolver<'_>,
     strings: &mut Texts,
     number: u32,
     file: &ClassFile,
 ) -> Result<Class, AllocError>
-    requires { file_in linker.now.hierarchy.now.family number ≡ Some file.now }
+    requires members { members.old ≡ linker.now.hierarchy.now }
+    requires file { file_in linker.now.hierarchy.now.family number ≡ Some file.now }
     ensures class { IfOk result (IsClass linker.now.hierarchy.now.family strings.new file.now) }
     ensures grows { OnOk result (Grows strings.old strings.new) }
     ensures adds { OnOk result (Adds strings.old (strings_of file.now) strings.new) }
+    ensures kept { members.new ≡ members.old }
 {
-    let runtime_pool = runtime_pool_of(alloc, linker, ancestors, strings, number, file)?;
+    let runtime_pool = runtime_pool_of(alloc, linker, members, strings, number, file)?;
     match members_of(alloc, linker.hierarchy.family(), file, &runtime_pool) {
         Ok(members) => Ok(Class {
             statics: members.statics,
@@ -307,15 +313,17 @@ fn class_of(
 fn runtime_pool_of(
     alloc: Global,
     linker: &Linker<'_>,
-    ancestors: &mut Ancestors,
+    members: &mut MemberResolver<'_>,
     strings: &mut Texts,
     number: u32,
     file: &ClassFile,
 ) -> Result<RuntimePool, AllocError>
-    requires { file_in linker.now.hierarchy.now.family number ≡ Some file.now }
+    requires members { members.old ≡ linker.now.hierarchy.now }
+    requires file { file_in linker.now.hierarchy.now.family number ≡ Some file.now }
     ensures pool { IfOk result (IsRuntimePool linker.now.hierarchy.now.family strings.new file.now) }
     ensures grows { OnOk result (Grows strings.old strings.new) }
     ensures adds { OnOk result (Adds strings.old (strings_of file.now) strings.new) }
+    ensures kept { members.new ≡ members.old }
 {
     let named = NamedClasses::of_file(alloc, linker.hierarchy.family(), file)?;
     let resolver = Resolver {
@@ -325,7 +333,7 @@ fn runtime_pool_of(
         file,
         named: &named,
     };
-    resolver.runtime_pool_of(alloc, ancestors, strings)
+    resolver.runtime_pool_of(alloc, members, strings)
 }
 
 /// The static fields and the methods of a class.

@@ -10,10 +10,10 @@ ghost use Rattle.program.specs.References.{ResolvesFieldAt, ResolvesMethodAt};
 use crate::resolver::Resolver;
 use built_in::class_id::ClassId;
 use classfile::{ClassFile, Constant};
-use hierarchy::ancestors::Ancestors;
 use hierarchy::hierarchy::Hierarchy;
 use hierarchy::member::{Field, Method, Unresolved};
 use hierarchy::member_name::MemberName;
+use hierarchy::member_resolver::MemberResolver;
 use loading::names::text_at;
 use std::alloc::AllocError;
 
@@ -82,17 +82,19 @@ impl Resolver<'_> {
     /// The field that the class at an index has, by its name and descriptor.
     fn find_field(
         &self,
-        ancestors: &mut Ancestors,
+        members: &mut MemberResolver<'_>,
         class: u16,
         member: MemberName,
     ) -> Result<Result<Field, Unresolved>, AllocError>
-        ensures { IfOk result (FindsField self.now.hierarchy.now.family (class_name_at self.now.file.now class)
+        requires members { members.old ≡ self.now.hierarchy.now }
+        ensures field { IfOk result (FindsField self.now.hierarchy.now.family (class_name_at self.now.file.now class)
             (named_in self.now.hierarchy.now.family member)) }
+        ensures kept { members.new ≡ members.old }
     {
         let Some(class) = self.class_at(class) else {
             return Ok(Err(Unresolved::Missing));
         };
-        let found = self.hierarchy.resolve_field(ancestors, class, member)?;
+        let found = members.resolve_field(class, member)?;
         match found {
             Some(field) => Ok(Ok(field)),
             None => Ok(Err(Unresolved::Missing)),
@@ -103,13 +105,15 @@ impl Resolver<'_> {
     /// the reference says so.
     fn find_method(
         &self,
-        ancestors: &mut Ancestors,
+        members: &mut MemberResolver<'_>,
         owner: MethodOwner,
         class: u16,
         member: MemberName,
     ) -> Result<Result<Method, Unresolved>, AllocError>
-        ensures { IfOk result (FindsMethod self.now.hierarchy.now.family owner
+        requires members { members.old ≡ self.now.hierarchy.now }
+        ensures method { IfOk result (FindsMethod self.now.hierarchy.now.family owner
             (class_name_at self.now.file.now class) (named_in self.now.hierarchy.now.family member)) }
+        ensures kept { members.new ≡ members.old }
     {
         let Some(class) = self.class_at(class) else {
             return Ok(Err(Unresolved::Missing));
@@ -118,7 +122,7 @@ impl Resolver<'_> {
         if is_interface(self.hierarchy, class) != of_interface {
             return Ok(Err(Unresolved::Incompatible));
         }
-        let found = self.hierarchy.resolve_method(ancestors, class, member)?;
+        let found = members.resolve_method(class, member)?;
         match found {
             Some(method) => Ok(Ok(method)),
             None => Ok(Err(Unresolved::Missing)),
@@ -128,10 +132,12 @@ impl Resolver<'_> {
     /// What the Fieldref at an index resolves to.
     pub(crate) fn resolve_field_at(
         &self,
-        ancestors: &mut Ancestors,
+        members: &mut MemberResolver<'_>,
         index: u16,
     ) -> Result<Result<Field, Unresolved>, AllocError>
-        ensures { IfOk result (ResolvesFieldAt self.now.hierarchy.now.family self.now.file.now index) }
+        requires members { members.old ≡ self.now.hierarchy.now }
+        ensures field { IfOk result (ResolvesFieldAt self.now.hierarchy.now.family self.now.file.now index) }
+        ensures kept { members.new ≡ members.old }
     {
         match self.file.constant(index) {
             Some(
@@ -139,7 +145,7 @@ impl Resolver<'_> {
                     class,
                     name_and_type,
                 },
-            ) => self.find_field(ancestors, *class, self.member_at(*name_and_type)),
+            ) => self.find_field(members, *class, self.member_at(*name_and_type)),
             _ => Ok(Err(Unresolved::NoReference)),
         }
     }
@@ -147,10 +153,12 @@ impl Resolver<'_> {
     /// What the Methodref or InterfaceMethodref at an index resolves to.
     pub(crate) fn resolve_method_at(
         &self,
-        ancestors: &mut Ancestors,
+        members: &mut MemberResolver<'_>,
         index: u16,
     ) -> Result<Result<Method, Unresolved>, AllocError>
-        ensures { IfOk result (ResolvesMethodAt self.now.hierarchy.now.family self.now.file.now index) }
+        requires members { members.old ≡ self.now.hierarchy.now }
+        ensures method { IfOk result (ResolvesMethodAt self.now.hierarchy.now.family self.now.file.now index) }
+        ensures kept { members.new ≡ members.old }
     {
         let (owner, class, name_and_type) = match self.file.constant(index) {
             Some(
@@ -167,6 +175,6 @@ impl Resolver<'_> {
             ) => (MethodOwner::Interface, *class, *name_and_type),
             _ => return Ok(Err(Unresolved::NoReference)),
         };
-        self.find_method(ancestors, owner, class, self.member_at(name_and_type))
+        self.find_method(members, owner, class, self.member_at(name_and_type))
     }
 }

@@ -22,8 +22,8 @@ use crate::runtime_constant::{FieldTarget, RuntimeConstant};
 use crate::statics::field_kind;
 use classfile::flags::{FINAL, STATIC, has_flag};
 use classfile::{ClassFile, Constant, Member};
-use hierarchy::ancestors::Ancestors;
 use hierarchy::member::{Field, Unresolved};
+use hierarchy::member_resolver::MemberResolver;
 use hierarchy::texts::Texts;
 use loading::names::text_at;
 use std::alloc::{AllocError, Global};
@@ -105,12 +105,14 @@ impl Resolver<'_> {
     /// A field that a reference resolves to, as instructions use it.
     fn field_at(
         &self,
-        ancestors: &mut Ancestors,
+        members: &mut MemberResolver<'_>,
         index: u16,
     ) -> Result<Result<FieldTarget, Unresolved>, AllocError>
-        ensures { IfOk result (IsTargetAt self.now.hierarchy.now.family self.now.file.now index) }
+        requires members { members.old ≡ self.now.hierarchy.now }
+        ensures target { IfOk result (IsTargetAt self.now.hierarchy.now.family self.now.file.now index) }
+        ensures kept { members.new ≡ members.old }
     {
-        let resolved = self.resolve_field_at(ancestors, index)?;
+        let resolved = self.resolve_field_at(members, index)?;
         match resolved {
             Ok(field) => Ok(Ok(self.target_of(field))),
             Err(fault) => Ok(Err(fault)),
@@ -120,37 +122,41 @@ impl Resolver<'_> {
     /// A field reference as instructions use it.
     fn field_constant(
         &self,
-        ancestors: &mut Ancestors,
+        members: &mut MemberResolver<'_>,
         index: u16,
         name_and_type: u16,
     ) -> Result<RuntimeConstant, AllocError>
-        ensures { IfOk result (IsFieldConstant self.now.hierarchy.now.family self.now.file.now index name_and_type) }
+        requires members { members.old ≡ self.now.hierarchy.now }
+        ensures held { IfOk result (IsFieldConstant self.now.hierarchy.now.family self.now.file.now index name_and_type) }
+        ensures kept { members.new ≡ members.old }
     {
         let kind = field_kind(descriptor_at(self.file, name_and_type));
-        let target = self.field_at(ancestors, index)?;
+        let target = self.field_at(members, index)?;
         Ok(RuntimeConstant::Field(kind, target))
     }
 
     /// What an entry of a class file's constant pool stands for, other than a string.
     fn resolved(
         &self,
-        ancestors: &mut Ancestors,
+        members: &mut MemberResolver<'_>,
         index: u16,
         constant: &Constant,
     ) -> Result<RuntimeConstant, AllocError>
-        ensures { IfOk result (IsResolved self.now.hierarchy.now.family self.now.file.now index constant.now) }
+        requires members { members.old ≡ self.now.hierarchy.now }
+        ensures held { IfOk result (IsResolved self.now.hierarchy.now.family self.now.file.now index constant.now) }
+        ensures kept { members.new ≡ members.old }
     {
         match constant {
             Constant::Fieldref { name_and_type, .. } => {
-                let held = self.field_constant(ancestors, index, *name_and_type)?;
+                let held = self.field_constant(members, index, *name_and_type)?;
                 Ok(held)
             }
             Constant::Methodref { .. } => {
-                let method = self.resolve_method_at(ancestors, index)?;
+                let method = self.resolve_method_at(members, index)?;
                 Ok(RuntimeConstant::Method(method))
             }
             Constant::InterfaceMethodref { .. } => {
-                let method = self.resolve_method_at(ancestors, index)?;
+                let method = self.resolve_method_at(members, index)?;
                 Ok(RuntimeConstant::InterfaceMethod(method))
             }
             _ => Ok(self.plain(index, constant)),
@@ -177,18 +183,20 @@ impl Resolver<'_> {
     fn runtime_constant_of(
         &self,
         alloc: Global,
-        ancestors: &mut Ancestors,
+        members: &mut MemberResolver<'_>,
         strings: &mut Texts,
         index: u16,
         constant: &Constant,
     ) -> Result<RuntimeConstant, AllocError>
+        requires members { members.old ≡ self.now.hierarchy.now }
         ensures held { IfOk result
             (IsRuntimeConstant self.now.hierarchy.now.family strings.new self.now.file.now index constant.now) }
         ensures grows { OnOk result (Grows strings.old strings.new) }
         ensures adds { OnOk result (Adds strings.old (string_of self.now.file.now constant.now) strings.new) }
+        ensures kept { members.new ≡ members.old }
     {
         let Constant::String { text } = constant else {
-            let held = self.resolved(ancestors, index, constant)?;
+            let held = self.resolved(members, index, constant)?;
             return Ok(held);
         };
         let number = strings.add(alloc, text_at(self.file, *text))?;
@@ -199,15 +207,17 @@ impl Resolver<'_> {
     pub(crate) fn runtime_pool_of(
         &self,
         alloc: Global,
-        ancestors: &mut Ancestors,
+        members: &mut MemberResolver<'_>,
         strings: &mut Texts,
     ) -> Result<RuntimePool, AllocError>
+        requires members { members.old ≡ self.now.hierarchy.now }
         ensures pool { IfOk result (IsRuntimePool self.now.hierarchy.now.family strings.new self.now.file.now) }
         ensures grows { OnOk result (Grows strings.old strings.new) }
         ensures adds { OnOk result (Adds strings.old (strings_of self.now.file.now) strings.new) }
+        ensures kept { members.new ≡ members.old }
     {
         let mut pool = Vec::with_capacity(alloc, self.file.constants().len())?;
-        self.add_constants(alloc, ancestors, strings, &mut pool)?;
+        self.add_constants(alloc, members, strings, &mut pool)?;
         Ok(RuntimePool { constants: pool })
     }
 
@@ -215,22 +225,24 @@ impl Resolver<'_> {
     fn add_constants(
         &self,
         alloc: Global,
-        ancestors: &mut Ancestors,
+        members: &mut MemberResolver<'_>,
         strings: &mut Texts,
         pool: &mut Vec<RuntimeConstant>,
     ) -> Result<(), AllocError>
-        requires { pool.old.items ≡ [] }
+        requires members { members.old ≡ self.now.hierarchy.now }
+        requires empty { pool.old.items ≡ [] }
         ensures pool { OnOk result
             (IsRuntimePool self.now.hierarchy.now.family strings.new self.now.file.now pool.new.items) }
         ensures grows { OnOk result (Grows strings.old strings.new) }
         ensures adds { OnOk result (Adds strings.old (strings_of self.now.file.now) strings.new) }
+        ensures kept { members.new ≡ members.old }
     {
         let mut earlier = Earlier::new(alloc);
         let constants = self.file.constants();
         for (index, constant) in constants.iter().enumerate() {
             self.add_constant(
                 alloc,
-                ancestors,
+                members,
                 strings,
                 index as u16,
                 constant,
@@ -245,13 +257,14 @@ impl Resolver<'_> {
     fn add_constant(
         &self,
         alloc: Global,
-        ancestors: &mut Ancestors,
+        members: &mut MemberResolver<'_>,
         strings: &mut Texts,
         index: u16,
         constant: &Constant,
         earlier: &mut Earlier,
         pool: &mut Vec<RuntimeConstant>,
     ) -> Result<(), AllocError>
+        requires members { members.old ≡ self.now.hierarchy.now }
         requires here { slice_get self.now.file.now.constants index ≡ Some constant.now }
         requires pool { AreRuntimeConstants self.now.hierarchy.now.family strings.old self.now.file.now pool.old.items }
         ensures held { OnOk result ((held : Held)
@@ -259,12 +272,13 @@ impl Resolver<'_> {
             × (pool.new.items ≡ pool.old.items ++ held ∷ [])) }
         ensures grows { OnOk result (Grows strings.old strings.new) }
         ensures adds { OnOk result (Adds strings.old (string_of self.now.file.now constant.now) strings.new) }
+        ensures kept { members.new ≡ members.old }
     {
         if let Some(held) = earlier.held(self.file, constant, pool) {
             pool.push(held)?;
             return Ok(());
         }
-        let held = self.runtime_constant_of(alloc, ancestors, strings, index, constant)?;
+        let held = self.runtime_constant_of(alloc, members, strings, index, constant)?;
         earlier.note(constant, index)?;
         pool.push(held)?;
         Ok(())

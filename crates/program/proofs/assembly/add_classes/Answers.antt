@@ -1,4 +1,4 @@
-use Rattle.std.proofs.Common.{◌≡◌, ◌<◌, ◌≤◌, List, Some, length, take, get_or, slice_get, ap, subst, ◌∙◌, arith}
+use Rattle.std.proofs.Common.{◌≡◌, ◌<◌, ◌≤◌, List, Some, length, take, get_or, slice_get, refl, ap, subst, ◌∙◌, arith}
 use Rattle.std.proofs.lemmas.List.{take_all}
 use Rattle.program.specs.declared.class.Class.{Class}
 use Rattle.loading.specs.declared.given.GivenClass.{GivenClass}
@@ -23,6 +23,7 @@ loop-number-preserved c =
     ∙ ap (λ (xs : List GivenClass). get_or xs i given) (c.classes-family.ensures.value ∙ c.family.ensures) in
     let added = c.in_ok-add_class.ensures.class in
     record {
+      members = c.in_ok-add_class.ensures.kept ∙ c.loop-number.invariant.members;
       classes = one_more (λ (given : GivenClass) (class : Class). IsClass family strings given.file class) family
           c.loop-number.classes.items
           c.add_class.new.classes.items i given added.0 within item
@@ -36,7 +37,8 @@ loop-number-preserved c =
 
 pub loop-number-init : goal.loop-number-init
 loop-number-init c = record {
-  classes = rw c.requires tt;
+  members = refl;
+  classes = rw c.requires.empty tt;
   grows = record { keeps = λ i text at. at; distinct = λ apart. apart };
   adds = adds_nothing c.args.strings.now;
 }
@@ -58,8 +60,8 @@ returns-clause-adds c =
 pub returns-clause-grows : goal.returns-clause-grows
 returns-clause-grows c = c.loop-number.invariant.grows
 
-pub add_class-requires : goal.add_class-requires
-add_class-requires c =
+pub add_class-requires-clause-file : goal.add_class-requires-clause-file
+add_class-requires-clause-file c =
     let family = c.args.linker.now.hierarchy.now.family in
     let given = c.index-family-number.result in
     let is : c.classes-family.result.now ≡ family = c.classes-family.ensures.value ∙ c.family.ensures in

@@ -1,4 +1,4 @@
-use Rattle.std.proofs.Common.{take}
+use Rattle.std.proofs.Common.{◌≡◌, take}
 use Rattle.std.specs.List.{AllZip}
 use Rattle.program.specs.declared.class.Class.{Class}
 use Rattle.loading.specs.declared.given.GivenClass.{GivenClass}
@@ -10,6 +10,7 @@ use Rattle.program.proofs.assembly.add_classes.Given as goal
 
 abbrev pub invariant-loop-number : goal.invariant-loop-number
 invariant-loop-number l = record {
+  members : l.members ≡ l.initial.members;
   classes : AllZip (λ (given : GivenClass) (class : Class). IsClass l.linker.hierarchy.now.family l.strings given.file
       class)
       (take l.number l.linker.hierarchy.now.family) l.classes.items;

@@ -1,4 +1,4 @@
-use Rattle.std.proofs.Common.{◌≡◌, ◌<◌, ◌≤◌, List, length, Some, slice_get, refl, ap, subst, arith}
+use Rattle.std.proofs.Common.{◌≡◌, ◌<◌, ◌≤◌, List, length, Some, slice_get, refl, ap, subst, ◌∙◌, arith}
 use Rattle.std.proofs.lemmas.List.{length_push, take_all}
 use Rattle.std.specs.List.{flat_map}
 use Rattle.program.specs.Strings.{string_of}
@@ -22,6 +22,7 @@ loop-index-preserved c =
     (item_at c.constants-constants.result.now i constant within c.index-constants-index.is) in
     let added = c.in_ok-add_constant.ensures.held in
     record {
+      members = c.in_ok-add_constant.ensures.kept ∙ c.loop-index.invariant.members;
       count = omega (arith, ap length added.2, length_push pool added.0);
       pool = constants_next c.args.self.now.hierarchy.now.family c.loop-index.strings
           c.add_constant.new.strings f pool c.add_constant.new.pool.items i constant
@@ -35,8 +36,9 @@ loop-index-preserved c =
 
 pub loop-index-init : goal.loop-index-init
 loop-index-init c = record {
-  count = rw c.requires refl;
-  pool = rw c.requires (λ index constant held at also. absurd cc);
+  members = refl;
+  count = rw c.requires.empty refl;
+  pool = rw c.requires.empty (λ index constant held at also. absurd cc);
   grows = record { keeps = λ i text at. at; distinct = λ apart. apart };
   adds = adds_nothing c.args.strings.now;
 }

@@ -8,6 +8,7 @@ use Rattle.program.proofs.resolver.Resolver.add_constants.Given as goal
 
 abbrev pub invariant-loop-index : goal.invariant-loop-index
 invariant-loop-index l = record {
+  members : l.members ≡ l.initial.members;
   count : length l.pool.items ≡ l.index;
   pool : AreRuntimeConstants l.self.hierarchy.now.family l.strings l.self.file.now l.pool.items;
   grows : Grows l.initial.strings l.strings;

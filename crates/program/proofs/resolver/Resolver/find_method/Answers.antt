@@ -1,5 +1,6 @@
 use Rattle.std.proofs.Common.{◌≡◌, Bool, true, false, not, refl, Option, subst}
 use Rattle.std.proofs.Math.Bool.{beq}
+use Rattle.hierarchy.specs.Hierarchies.{NumberedFamily}
 use Rattle.hierarchy.specs.MemberNames.{named_in}
 use Rattle.hierarchy.specs.Resolution.{ResolvesMethod}
 use Rattle.hierarchy.specs.declared.member.Method.{Method}
@@ -18,29 +19,33 @@ agree true false h = absurd cc
 agree false true h = absurd cc
 agree false false h = refl
 
-pub returns-in_default : goal.returns-in_default
-returns-in_default c = FindsMethod.unknown c.in_default.ensures
+pub returns-in_default-clause-method : goal.returns-in_default-clause-method
+returns-in_default-clause-method c = FindsMethod.unknown c.in_default.ensures
 
-pub returns-then-is_interface-of_interface : goal.returns-then-is_interface-of_interface
-returns-then-is_interface-of_interface c =
+pub returns-then-is_interface-of_interface-clause-method : goal.returns-then-is_interface-of_interface-clause-method
+returns-then-is_interface-of_interface-clause-method c =
     FindsMethod.incompatible c.in-Some.ensures
     (differ _ _
     (rw (c.is_interface.ensures, c.wants_interface-of_interface.ensures) at c.if-is_interface-of_interface.true))
 
-pub returns-in-Some-found : goal.returns-in-Some-found
-returns-in-Some-found c =
+pub returns-in-Some-found-clause-method : goal.returns-in-Some-found-clause-method
+returns-in-Some-found-clause-method c =
     let family = c.args.self.now.hierarchy.now.family in
     FindsMethod.found c.in-Some.ensures
     (agree _ _
     (rw (c.is_interface.ensures, c.wants_interface-of_interface.ensures) at c.if-is_interface-of_interface.false))
     (subst (λ (r : Option Method). ResolvesMethod family (named_in family c.args.member) c.in-Some.class r)
-    c.in-Some-found.is c.in_ok-found.ensures)
+    c.in-Some-found.is
+    (subst (λ (n : NumberedFamily). ResolvesMethod n.family (named_in n.family c.args.member) c.in-Some.class
+    c.in_ok-found.found) c.requires.members c.in_ok-found.ensures.method))
 
-pub returns-in-None : goal.returns-in-None
-returns-in-None c =
+pub returns-in-None-clause-method : goal.returns-in-None-clause-method
+returns-in-None-clause-method c =
     let family = c.args.self.now.hierarchy.now.family in
     FindsMethod.missing c.in-Some.ensures
     (agree _ _
     (rw (c.is_interface.ensures, c.wants_interface-of_interface.ensures) at c.if-is_interface-of_interface.false))
     (subst (λ (r : Option Method). ResolvesMethod family (named_in family c.args.member) c.in-Some.class r)
-    c.in-None.is c.in_ok-found.ensures)
+    c.in-None.is
+    (subst (λ (n : NumberedFamily). ResolvesMethod n.family (named_in n.family c.args.member) c.in-Some.class
+    c.in_ok-found.found) c.requires.members c.in_ok-found.ensures.method))

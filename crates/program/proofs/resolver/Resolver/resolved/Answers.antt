@@ -3,20 +3,20 @@ use Rattle.program.proofs.RuntimePoolLemmas.{constant_is}
 use Rattle.program.specs.RuntimePool.{IsRuntimeConstant}
 use Rattle.program.proofs.resolver.Resolver.resolved.Goals as goal
 
-pub returns-in_ok-held-in-Fieldref : goal.returns-in_ok-held-in-Fieldref
-returns-in_ok-held-in-Fieldref c = λ strings plain.
-    let held = c.in_ok-held-in-Fieldref.ensures in
+pub returns-in_ok-held-in-Fieldref-clause-held : goal.returns-in_ok-held-in-Fieldref-clause-held
+returns-in_ok-held-in-Fieldref-clause-held c = λ strings plain.
+    let held = c.in_ok-held-in-Fieldref.ensures.held in
     constant_is _ strings _ _ _ _ _ _ c.in-Fieldref.is held.2 (IsRuntimeConstant.field held.0 held.1)
 
-pub returns-in_ok-method-in-Methodref : goal.returns-in_ok-method-in-Methodref
-returns-in_ok-method-in-Methodref c = λ strings plain.
-    rw c.in-Methodref.is (IsRuntimeConstant.method c.in_ok-method-in-Methodref.ensures)
+pub returns-in_ok-method-in-Methodref-clause-held : goal.returns-in_ok-method-in-Methodref-clause-held
+returns-in_ok-method-in-Methodref-clause-held c = λ strings plain.
+    rw c.in-Methodref.is (IsRuntimeConstant.method c.in_ok-method-in-Methodref.ensures.method)
 
-pub returns-in_ok-method-in-InterfaceMethodref : goal.returns-in_ok-method-in-InterfaceMethodref
-returns-in_ok-method-in-InterfaceMethodref c = λ strings plain.
-    rw c.in-InterfaceMethodref.is (IsRuntimeConstant.interface_method c.in_ok-method-in-InterfaceMethodref.ensures)
+pub returns-in_ok-method-in-InterfaceMethodref-clause-held : goal.returns-in_ok-method-in-InterfaceMethodref-clause-held
+returns-in_ok-method-in-InterfaceMethodref-clause-held c = λ strings plain.
+    rw c.in-InterfaceMethodref.is (IsRuntimeConstant.interface_method c.in_ok-method-in-InterfaceMethodref.ensures.method)
 
-pub returns-in_default : goal.returns-in_default
-returns-in_default c = λ strings plain.
+pub returns-in_default-clause-held : goal.returns-in_default-clause-held
+returns-in_default-clause-held c = λ strings plain.
     c.plain.ensures strings plain c.in_default.not-Fieldref c.in_default.not-Methodref
     c.in_default.not-InterfaceMethodref
