@@ -44,5 +44,6 @@ ancestors_are family c items order m =
 -- what has a place is one of them
 pub has_by_place : (items : List ℕ) (c : ℕ) (place : Option ℕ) (b : Bool) → b ≡ is_some place
     → MatchOption place (¬ Contains items c) (λ p. slice_get items p ≡ Some c) → IsTrue b ↔ Contains items c
-has_by_place items c None b is out = (λ t. absurd (let clash : true ≡ false = sym t ∙ is in cc), λ has. absurd (out has))
+has_by_place items c None b is out =
+    (λ t. absurd (let clash : true ≡ false = sym t ∙ is in cc), λ has. absurd (out has))
 has_by_place items c (Some p) b is at = (λ t. contains_at items p c at, λ has. is)

@@ -112,7 +112,8 @@ no_parents family Is m = (λ among. absurd (omega (arith, among.1)), λ at. absu
 
 -- the parents of the candidates and all above them
 pub covered_by : (family : Family) (key : NameAndType) (seen parents covered : List ℕ)
-    → AreParentsOf family (HasMethod family key) seen parents → ((m : ℕ) → Contains covered m ↔ IsAmongOrAbove family parents m)
+    → AreParentsOf family (HasMethod family key) seen parents
+    → ((m : ℕ) → Contains covered m ↔ IsAmongOrAbove family parents m)
     → AreCovered family key seen covered
 covered_by family key seen parents covered are all m = (
   λ among. elim ((all m).0 among) [

@@ -1,5 +1,5 @@
 -- The first of the classes above another one that has something, found by asking where each that has it stands.
-use Rattle.std.proofs.Common.{◌≡◌, ◌<◌, ◌≤◌, ◌+◌, ℕ, zero, suc, Bool, true, false, eqb, List, [], ◌∷◌, ◌++◌}
+use Rattle.std.proofs.Common.{◌≡◌, ◌<◌, ◌≤◌, ◌+◌, ℕ, zero, suc, true, eqb, List, [], ◌∷◌, ◌++◌}
 use Rattle.std.proofs.Common.{Option, Some, None, slice_get, refl, sym, ap, ◌∙◌, subst, inl, inr, arith}
 use Rattle.std.specs.List.{Contains}
 use Rattle.std.proofs.lemmas.Bool.{eq-eqb}
@@ -8,10 +8,9 @@ use Rattle.std.proofs.lemmas.List.Sums.{sum_by-cons}
 use Rattle.graph.specs.Seen.{AreDistinct, count_of}
 use Rattle.graph.proofs.SeenLemmas.{one_if, one_if_same, count_of-contains}
 use Rattle.loading.proofs.PlaceLemmas.{contains_at}
-use Rattle.hierarchy.specs.steps.Above.{first_with, with_place, or_else}
+use Rattle.hierarchy.specs.steps.Above.{first_with}
 use Rattle.hierarchy.specs.steps.Ancestors.{Stands, IsFirst}
 use Rattle.hierarchy.specs.declared.ancestors.Standing.{Standing}
-use Rattle.hierarchy.specs.declared.member.DeclaredMember.{DeclaredMember}
 
 -- ---- where a number stands
 

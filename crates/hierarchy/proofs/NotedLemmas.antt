@@ -79,8 +79,8 @@ noted_told family table nearest kind name key c k are numbers has = elim (cases_
         | inr among ↦ among
       ])
   | inr past ↦
-      absurd (let lacks : wanted_in kind family name c ≡ None = no_class_declares family kind name c (omega (arith, past))
-      in
+      absurd (let lacks : wanted_in kind family name c ≡ None =
+      no_class_declares family kind name c (omega (arith, past)) in
       let clash : None ≡ Some k = sym lacks ∙ has in
       cc)
 ]

@@ -1,6 +1,7 @@
 //! What stands above a class (JVMS 5.4.3.2 to 5.4.3.4).
 
-ghost use Rattle.std.specs.Prelude.{◌≡◌, ◌↔◌, None, Some, length, IsTrue, IfOk, OnOk, MatchOption, slice_get, slice_index_or};
+ghost use Rattle.std.specs.Prelude.{◌≡◌, ◌↔◌, None, Some, length, IsTrue, IfOk, OnOk, MatchOption};
+ghost use Rattle.std.specs.Prelude.{slice_get, slice_index_or};
 ghost use Rattle.std.specs.List.{Contains};
 ghost use Rattle.loading.specs.Families.{parents_in};
 ghost use Rattle.hierarchy.specs.steps.Ancestors.{AreOf};

@@ -148,8 +148,8 @@ impl Hierarchy {
     ) -> Found
         ensures { (name : NameAndType) (asked : List ℕ) → IsLookup self.now.texts name key
             → AreFound (Among (HasMethod self.now.family name) (classes_of above.entry)) asked found
-            → AreFound (Among (HasMethod self.now.family name) (classes_of above.entry)) (asked ++ class_noted reach.now.nearest)
-            result }
+            → AreFound (Among (HasMethod self.now.family name) (classes_of above.entry))
+            (asked ++ class_noted reach.now.nearest) result }
     {
         match reach.nearest {
             Some(member) => found.and(member.class, self.candidate(above, key, member.class)),
@@ -203,8 +203,10 @@ impl Hierarchy {
         parents: &mut Marked,
     )
         ensures { (name : NameAndType) (asked : List ℕ) → IsLookup self.now.texts name key
-            → AreParentsOf self.now.family (Among (HasMethod self.now.family name) (classes_of above.entry)) asked parents.old
-            → AreParentsOf self.now.family (Among (HasMethod self.now.family name) (classes_of above.entry)) (asked ++ class_noted reach.now.nearest) parents.new }
+            → AreParentsOf self.now.family (Among (HasMethod self.now.family name) (classes_of above.entry)) asked
+            parents.old
+            → AreParentsOf self.now.family (Among (HasMethod self.now.family name) (classes_of above.entry))
+            (asked ++ class_noted reach.now.nearest) parents.new }
     {
         let Some(member) = reach.nearest else {
             return;

@@ -125,7 +125,8 @@ impl Hierarchy {
         nearest.nearest(wanted, class, key?)
     }
 
-    /// What was noted of a kind of members by name and descriptor. Each class that declares such a member is named there.
+    /// What was noted of a kind of members by name and descriptor. Each class that declares such a member is named
+    /// there.
     pub(crate) fn noted(&self, wanted: Wanted, key: Option<MemberKey>) -> &[Reach]
         ensures { (name : NameAndType) (class k : ℕ) → IsLookup self.now.texts name key
             → wanted_in wanted self.now.family name class ≡ Some k → Contains (classes_noted result.now) class }

@@ -142,7 +142,8 @@ impl NearestMembers {
         self.reaches.rows(wanted).lacks(key)
     }
 
-    /// The reaches of a kind of members that were noted for a key. Each class that declares such a member is among them.
+    /// The reaches of a kind of members that were noted for a key. Each class that declares such a member is named
+    /// there.
     pub(crate) fn noted(&self, wanted: Wanted, key: MemberKey) -> &[Reach]
         ensures { (family : Classes) (table : Table) (name : NameAndType) (class k : ℕ)
             → AreNearest family table self.now → AreNumbers table.texts name key

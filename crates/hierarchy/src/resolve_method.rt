@@ -93,7 +93,8 @@ impl Hierarchy {
         requires class { is_interface_in self.now.family class ≡ false }
         requires lookup { IsLookup self.now.texts (sought_name sought) sought.key }
         ensures known { AreOf self.now.family ancestors.new }
-        ensures method { IfOk result (ResolvesMethod self.now.family (sought_name sought.entry) (class_ids.Given class)) }
+        ensures method { IfOk result
+            (ResolvesMethod self.now.family (sought_name sought.entry) (class_ids.Given class)) }
     {
         let from = Superclass::Given(class);
         if let Some(method) = self.up_classes(Wanted::Method, from, sought) {

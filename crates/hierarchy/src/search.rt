@@ -125,7 +125,8 @@ impl Hierarchy {
         ensures { (name : NameAndType) (asked : List ℕ) → IsLookup self.now.texts name key
             → AreDistinct ancestors.now.items
             → IsFirst (wanted_in wanted self.now.family name) ancestors.now.items asked first
-            → IsFirst (wanted_in wanted self.now.family name) ancestors.now.items (asked ++ class_noted reach.now.nearest) result }
+            → IsFirst (wanted_in wanted self.now.family name) ancestors.now.items
+            (asked ++ class_noted reach.now.nearest) result }
     {
         let Some(member) = reach.nearest else {
             return first;

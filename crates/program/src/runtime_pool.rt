@@ -127,7 +127,8 @@ impl Resolver<'_> {
         name_and_type: u16,
     ) -> Result<RuntimeConstant, AllocError>
         requires members { members.old ≡ self.now.hierarchy.now }
-        ensures held { IfOk result (IsFieldConstant self.now.hierarchy.now.family self.now.file.now index name_and_type) }
+        ensures held { IfOk result
+            (IsFieldConstant self.now.hierarchy.now.family self.now.file.now index name_and_type) }
         ensures kept { members.new ≡ members.old }
     {
         let kind = field_kind(descriptor_at(self.file, name_and_type));

@@ -1,5 +1,5 @@
 -- What stands above a class, kept until another class is asked for.
-use Rattle.std.specs.Prelude.{◌≡◌, ℕ, ◌≤◌, ◌<◌, List, Option, Some, None, length, slice_get}
+use Rattle.std.specs.Prelude.{◌≡◌, ℕ, ◌≤◌, List, Option, Some, length, slice_get}
 use Rattle.std.specs.List.{Contains}
 use Rattle.loading.specs.Families.{Family, parents_in}
 use Rattle.hierarchy.specs.steps.DepthFirst.{ArePlaces}

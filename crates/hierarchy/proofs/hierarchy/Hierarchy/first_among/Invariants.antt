@@ -9,4 +9,5 @@ use Rattle.hierarchy.proofs.hierarchy.Hierarchy.first_among.Given as goal
 
 abbrev pub invariant-loop-reach : goal.invariant-loop-reach
 invariant-loop-reach l = (name : NameAndType) → IsLookup l.self.texts name l.key → AreDistinct l.ancestors.items
-    → IsFirst (wanted_in l.wanted l.self.family name) l.ancestors.items (classes_noted (take l.reach-index l.row)) l.first
+    → IsFirst (wanted_in l.wanted l.self.family name) l.ancestors.items (classes_noted (take l.reach-index l.row))
+    l.first

@@ -8,4 +8,5 @@ returns-in-Some-clause-method c = ResolvesMethod.of_class c.requires.class c.in-
 pub returns-clause-method : goal.returns-clause-method
 returns-clause-method c =
     let key = sought_name c.args.sought in
-    ResolvesMethod.above_class c.requires.class c.in_default.ensures (c.in_ok-method.ensures.method key c.requires.lookup)
+    ResolvesMethod.above_class c.requires.class c.in_default.ensures
+    (c.in_ok-method.ensures.method key c.requires.lookup)

@@ -1,25 +1,15 @@
-use Rattle.std.proofs.Common.{◌≡◌, ◌↔◌, ℕ, ◌∷◌, ◌++◌, [], List, Option, Some, None, take, sym, subst, ◌∙◌, ap, true, false}
-use Rattle.std.proofs.Common.{append-nil, rules}
-use Rattle.std.specs.List.{Contains}
-use Rattle.std.proofs.lemmas.List.{take_all}
-use Rattle.loading.specs.Families.{Family, IsFamily, IsAncestor, parents_in}
-use Rattle.graph.specs.steps.Adds.{Adds}
-use Rattle.hierarchy.specs.MemberLookup.{is_abstract, flags_in}
-use Rattle.hierarchy.specs.steps.Above.{IsAmongOrAbove}
-use Rattle.hierarchy.specs.steps.Defaults.{AreFound, Among, HasMethod, IsFree, AreParentsOf, AreCovered, classes_of}
-use Rattle.hierarchy.specs.steps.Defaults.{found_after}
-use Rattle.hierarchy.specs.steps.Reaches.{class_noted, classes_noted}
+use Rattle.std.proofs.Common.{ℕ, ◌++◌, List, Option, None, sym, subst}
+use Rattle.std.proofs.Common.{append-nil}
+use Rattle.hierarchy.specs.steps.Defaults.{AreFound, Among, IsFree, classes_of}
+use Rattle.hierarchy.specs.steps.Reaches.{class_noted}
 use Rattle.hierarchy.specs.declared.member.DeclaredMember.{DeclaredMember}
-use Rattle.hierarchy.specs.declared.reach_table.Reach.{Reach}
-use Rattle.hierarchy.proofs.DefaultsLemmas.{one_more, none_yet, no_parents, among_at, found_among, parents_among}
-use Rattle.hierarchy.proofs.DefaultsLemmas.{parents_with, parents_without, covered_by, some_by, none_by, at_place}
-use Rattle.hierarchy.proofs.DefaultsLemmas.{none_is_default, only_is_default, only_is_abstract, when_all_seen}
-use Rattle.hierarchy.proofs.NotedLemmas.{noted_next}
+use Rattle.hierarchy.proofs.DefaultsLemmas.{one_more, among_at}
 use Rattle.hierarchy.proofs.hierarchy.Hierarchy.with_default.Goals as goal
 
 pub returns-in_default : goal.returns-in_default
 returns-in_default c = λ name asked is are.
-    let Is : ℕ → ℕ → Type 0 = Among (IsFree c.args.self.now.family name c.args.covered.now) (classes_of c.args.above) in
+    let Is : ℕ → ℕ → Type 0 =
+    Among (IsFree c.args.self.now.family name c.args.covered.now) (classes_of c.args.above) in
     subst (λ (o : Option DeclaredMember). AreFound Is (asked ++ class_noted o) c.args.found) (sym c.in_default.is)
     (subst (λ (l : List ℕ). AreFound Is l c.args.found) (sym (append-nil asked)) are)
 

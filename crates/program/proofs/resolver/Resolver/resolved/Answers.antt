@@ -14,7 +14,8 @@ returns-in_ok-method-in-Methodref-clause-held c = λ strings plain.
 
 pub returns-in_ok-method-in-InterfaceMethodref-clause-held : goal.returns-in_ok-method-in-InterfaceMethodref-clause-held
 returns-in_ok-method-in-InterfaceMethodref-clause-held c = λ strings plain.
-    rw c.in-InterfaceMethodref.is (IsRuntimeConstant.interface_method c.in_ok-method-in-InterfaceMethodref.ensures.method)
+    rw c.in-InterfaceMethodref.is
+    (IsRuntimeConstant.interface_method c.in_ok-method-in-InterfaceMethodref.ensures.method)
 
 pub returns-in_default-clause-held : goal.returns-in_default-clause-held
 returns-in_default-clause-held c = λ strings plain.
