@@ -2,6 +2,7 @@ use Rattle.std.proofs.Common.{ℕ, Option, List, Some, ◌++◌, sym, subst}
 use Rattle.hierarchy.specs.steps.Ancestors.{IsFirst}
 use Rattle.hierarchy.specs.steps.HierarchyTables.{wanted_in}
 use Rattle.hierarchy.specs.steps.Reaches.{class_noted}
+use Rattle.hierarchy.specs.declared.ancestors.Standing.{Standing}
 use Rattle.hierarchy.specs.declared.member.DeclaredMember.{DeclaredMember}
 use Rattle.hierarchy.proofs.FirstAboveLemmas.{first_without, first_lacking, first_before, first_moves}
 use Rattle.hierarchy.proofs.hierarchy.Hierarchy.nearer.Goals as goal
