@@ -197,6 +197,42 @@ def below_interfaces(count):
     return files
 
 
+def bare_chain(count):
+    """Abstract interfaces each below the one before, each with a method of its own."""
+    def declaring(number):
+        def members(pool):
+            return [], [method(pool, 0x401, "m%d" % number, "()V")]
+        return members
+    return [class_file("I%d" % number, OBJECT, ["I%d" % (number - 1)] if number else (), 0x601, declaring(number))
+            for number in range(count)]
+
+
+def many_below(count):
+    """So many classes below the last of a chain of as many interfaces, each named by a reference to the first one's method."""
+    top = "I%d" % (count - 1)
+
+    def naming(name):
+        def members(pool):
+            references(pool, 10, name, ["m0"], 1)
+            return [], []
+        return members
+    return bare_chain(count) + [class_file("C%d" % number, OBJECT, [top], members=naming("C%d" % number))
+                                for number in range(count)]
+
+
+def alternating(count):
+    """Sixteen classes below the last of a chain of interfaces, and references to its methods that go from class to class."""
+    top = "I%d" % (count - 1)
+    names = ["C%d" % number for number in range(16)]
+
+    def members(pool):
+        for number in range(count):
+            for name in names:
+                pool.add_again(struct.pack(">BHH", 10, pool.named(7, name), pool.name_and_type("m%d" % number, "()V")))
+        return [], []
+    return bare_chain(count) + [class_file(name, OBJECT, [top]) for name in names] + [class_file("Main", members=members)]
+
+
 def equal_interfaces(count):
     """A class that names one interface so many times among its superinterfaces, by a name of 65,000 bytes."""
     name = "a" * 65000
@@ -205,7 +241,7 @@ def equal_interfaces(count):
 
 KINDS = {kind.__name__: kind for kind in (small, chain, chain_of_references, interface_chain, many_defaults, long_name,
                                          equal_strings, far_references, equal_interfaces, far_fields, overloads,
-                                         below_interfaces, long_orders)}
+                                         below_interfaces, many_below, alternating, long_orders)}
 
 
 def main():
