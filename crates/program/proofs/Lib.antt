@@ -6,3 +6,4 @@ pub mod SignatureLemmas
 pub mod StringsLemmas
 pub mod PoolFieldsLemmas
 pub mod NamedClassesLemmas
+pub mod AheadLemmas

@@ -4,3 +4,4 @@ pub mod ParsedSignatures
 pub mod GrowingStrings
 pub mod NamedClasses
 pub mod PoolFields
+pub mod Ahead

@@ -19,6 +19,7 @@ ghost use Rattle.program.specs.RuntimePool.{IsRuntimePool};
 ghost use Rattle.program.specs.Strings.{strings_of, all_strings, AreFirsts};
 ghost use Rattle.program.specs.steps.GrowingStrings.{Adds};
 
+use crate::ahead::MembersAhead;
 use crate::class::{Class, Methods, RuntimePool, StaticFields};
 use crate::linked_file::LinkedFile;
 use crate::linked_program::Program;
@@ -326,12 +327,23 @@ fn runtime_pool_of(
     ensures kept { members.new ≡ members.old }
 {
     let named = NamedClasses::of_file(alloc, linker.hierarchy.family(), file)?;
+    let none = MembersAhead::none(alloc, linker.hierarchy.family(), file);
+    let first = Resolver {
+        hierarchy: linker.hierarchy,
+        numbers: linker.numbers,
+        class: number,
+        file,
+        named: &named,
+        ahead: &none,
+    };
+    let ahead = first.members_ahead(alloc, members)?;
     let resolver = Resolver {
         hierarchy: linker.hierarchy,
         numbers: linker.numbers,
         class: number,
         file,
         named: &named,
+        ahead: &ahead,
     };
     resolver.runtime_pool_of(alloc, members, strings)
 }

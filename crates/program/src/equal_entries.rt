@@ -92,6 +92,17 @@ impl Earlier {
     }
 }
 
+/// Whether the entry at an index, if there is one, names the same as another.
+pub(crate) fn are_equal(file: &ClassFile, index: Option<u16>, other: &Constant) -> bool {
+    let Some(index) = index else {
+        return false;
+    };
+    match file.constant(index) {
+        Some(constant) => is_equal(constant, other),
+        None => false,
+    }
+}
+
 /// Whether two entries name the same class or string, or are references of one kind to the same member.
 fn is_equal(constant: &Constant, other: &Constant) -> bool
     ensures { IsTrue result → constant.now ≡ other.now }

@@ -2,6 +2,7 @@
 //! (JVMS SE 8, chapter 5).
 #![tactic(auto)]
 
+mod ahead;
 mod assembly;
 pub mod class;
 mod equal_entries;

@@ -4,6 +4,7 @@ ghost use Rattle.std.specs.Prelude.{◌≡◌, Some};
 ghost use Rattle.loading.specs.Families.{file_in};
 ghost use Rattle.program.specs.steps.StaticNumbers.{AreStaticNumbersOf};
 
+use crate::ahead::MembersAhead;
 use crate::named_classes::NamedClasses;
 use crate::static_numbers::StaticNumbers;
 use classfile::ClassFile;
@@ -26,8 +27,11 @@ pub(crate) struct Resolver<'a> {
     pub(crate) class: u32,
     pub(crate) file: &'a ClassFile,
     pub(crate) named: &'a NamedClasses<'a>,
+    pub(crate) ahead: &'a MembersAhead<'a>,
     pub(crate) ghost fits: { AreStaticNumbersOf hierarchy.now.family numbers.now },
     pub(crate) ghost is_class: { file_in hierarchy.now.family class ≡ Some file.now },
     pub(crate) ghost names_family: { named.now.family ≡ hierarchy.now.family },
     pub(crate) ghost names_file: { named.now.file ≡ file.now },
+    pub(crate) ghost ahead_family: { ahead.now.family ≡ hierarchy.now.family },
+    pub(crate) ghost ahead_file: { ahead.now.file ≡ file.now },
 }

@@ -144,6 +144,24 @@ impl Resolver<'_> {
         constant: &Constant,
     ) -> Result<RuntimeConstant, AllocError>
         requires members { members.old ≡ self.now.hierarchy.now }
+        requires here { slice_get self.now.file.now.constants index ≡ Some constant.now }
+        ensures held { IfOk result (IsResolved self.now.hierarchy.now.family self.now.file.now index constant.now) }
+        ensures kept { members.new ≡ members.old }
+    {
+        match self.ahead.found(index) {
+            Some(held) => Ok(held),
+            None => self.resolved_now(members, index, constant),
+        }
+    }
+
+    /// The same where it was not found before.
+    pub(crate) fn resolved_now(
+        &self,
+        members: &mut MemberResolver<'_>,
+        index: u16,
+        constant: &Constant,
+    ) -> Result<RuntimeConstant, AllocError>
+        requires members { members.old ≡ self.now.hierarchy.now }
         ensures held { IfOk result (IsResolved self.now.hierarchy.now.family self.now.file.now index constant.now) }
         ensures kept { members.new ≡ members.old }
     {
@@ -190,6 +208,7 @@ impl Resolver<'_> {
         constant: &Constant,
     ) -> Result<RuntimeConstant, AllocError>
         requires members { members.old ≡ self.now.hierarchy.now }
+        requires here { slice_get self.now.file.now.constants index ≡ Some constant.now }
         ensures held { IfOk result
             (IsRuntimeConstant self.now.hierarchy.now.family strings.new self.now.file.now index constant.now) }
         ensures grows { OnOk result (Grows strings.old strings.new) }

@@ -1,7 +1,7 @@
 use Rattle.std.proofs.Common.{}
 use Rattle.program.proofs.RuntimePoolLemmas.{constant_is}
 use Rattle.program.specs.RuntimePool.{IsRuntimeConstant}
-use Rattle.program.proofs.resolver.Resolver.resolved.Goals as goal
+use Rattle.program.proofs.resolver.Resolver.resolved_now.Goals as goal
 
 pub returns-in_ok-held-in-Fieldref-clause-held : goal.returns-in_ok-held-in-Fieldref-clause-held
 returns-in_ok-held-in-Fieldref-clause-held c = λ strings plain.
