@@ -6,7 +6,7 @@ ghost use Rattle.program.specs.declared.runtime_constant.RuntimeConstant.{Runtim
 ghost use Rattle.program.specs.steps.ResolvedConstants.{IsResolved};
 ghost use Rattle.program.specs.steps.Ahead.{ahead_at, AreAhead};
 
-use crate::equal_entries::are_equal;
+use crate::equal_entries::{are_equal, member_named};
 use crate::resolver::Resolver;
 use crate::runtime_constant::RuntimeConstant;
 use classfile::{ClassFile, Constant};
@@ -27,25 +27,12 @@ struct Reference {
 
 /// The reference to a member that an entry is, if it is one.
 fn reference_of(constant: &Constant, index: u16) -> Option<Reference> {
-    match constant {
-        Constant::Fieldref {
-            class,
-            name_and_type,
-        }
-        | Constant::Methodref {
-            class,
-            name_and_type,
-        }
-        | Constant::InterfaceMethodref {
-            class,
-            name_and_type,
-        } => Some(Reference {
-            class: *class,
-            name_and_type: *name_and_type,
-            index,
-        }),
-        _ => None,
-    }
+    let (class, name_and_type) = member_named(constant)?;
+    Some(Reference {
+        class,
+        name_and_type,
+        index,
+    })
 }
 
 /// By class, then by name and type, so that equal references stand next to one another.

@@ -30,19 +30,7 @@ impl Earlier {
         match constant {
             Constant::Class { name } => self.classes.get(name).copied(),
             Constant::String { text } => self.strings.get(text).copied(),
-            Constant::Fieldref {
-                class,
-                name_and_type,
-            }
-            | Constant::Methodref {
-                class,
-                name_and_type,
-            }
-            | Constant::InterfaceMethodref {
-                class,
-                name_and_type,
-            } => self.members.get(&(*class, *name_and_type)).copied(),
-            _ => None,
+            _ => self.members.get(&member_named(constant)?).copied(),
         }
     }
 
@@ -55,21 +43,11 @@ impl Earlier {
             Constant::String { text } => {
                 self.strings.insert(*text, index)?;
             }
-            Constant::Fieldref {
-                class,
-                name_and_type,
+            _ => {
+                if let Some(member) = member_named(constant) {
+                    self.members.insert(member, index)?;
+                }
             }
-            | Constant::Methodref {
-                class,
-                name_and_type,
-            }
-            | Constant::InterfaceMethodref {
-                class,
-                name_and_type,
-            } => {
-                self.members.insert((*class, *name_and_type), index)?;
-            }
-            _ => {}
         }
         Ok(())
     }
@@ -89,6 +67,25 @@ impl Earlier {
             return None;
         }
         pool.get(usize::from(index)).copied()
+    }
+}
+
+/// The class and the name and type that a reference to a member names, by their indices.
+pub(crate) fn member_named(constant: &Constant) -> Option<(u16, u16)> {
+    match constant {
+        Constant::Fieldref {
+            class,
+            name_and_type,
+        }
+        | Constant::Methodref {
+            class,
+            name_and_type,
+        }
+        | Constant::InterfaceMethodref {
+            class,
+            name_and_type,
+        } => Some((*class, *name_and_type)),
+        _ => None,
     }
 }
 
