@@ -1,3 +1,4 @@
 pub mod ClassNames
 pub mod Keys
 pub mod Methods
+pub mod Subclasses

@@ -3,6 +3,7 @@
 ghost use Rattle.std.specs.Prelude.{◌≡◌, ◌≢◌, MatchOption};
 ghost use Rattle.built_in.specs.declared.class_id.BuiltIn.{BuiltIn as Class};
 ghost use Rattle.built_in.specs.ClassNames.{name_of_built_in};
+ghost use Rattle.built_in.specs.Subclasses.{superclasses_of_built_in, is_built_in_below};
 
 /// A class: a given one, one that is built in, or an array class.
 #[derive(Clone, Copy, PartialEq, Eq, Debug)]
@@ -59,6 +60,36 @@ const ALL: [BuiltIn; 20] = [
     BuiltIn::ExceptionInInitializerError,
     BuiltIn::NoClassDefFoundError,
     BuiltIn::PrintStream,
+];
+
+const FROM_OBJECT: [BuiltIn; 1] = [BuiltIn::Object];
+
+const FROM_THROWABLE: [BuiltIn; 2] = [BuiltIn::Throwable, BuiltIn::Object];
+
+const FROM_EXCEPTION: [BuiltIn; 3] = [BuiltIn::Exception, BuiltIn::Throwable, BuiltIn::Object];
+
+const FROM_RUNTIME_EXCEPTION: [BuiltIn; 4] = [
+    BuiltIn::RuntimeException,
+    BuiltIn::Exception,
+    BuiltIn::Throwable,
+    BuiltIn::Object,
+];
+
+const FROM_INDEX_OUT_OF_BOUNDS: [BuiltIn; 5] = [
+    BuiltIn::IndexOutOfBoundsException,
+    BuiltIn::RuntimeException,
+    BuiltIn::Exception,
+    BuiltIn::Throwable,
+    BuiltIn::Object,
+];
+
+const FROM_ERROR: [BuiltIn; 3] = [BuiltIn::Error, BuiltIn::Throwable, BuiltIn::Object];
+
+const FROM_LINKAGE_ERROR: [BuiltIn; 4] = [
+    BuiltIn::LinkageError,
+    BuiltIn::Error,
+    BuiltIn::Throwable,
+    BuiltIn::Object,
 ];
 
 /// An array class (JVMS 4.3.2): so many dimensions of an element type.
@@ -120,6 +151,41 @@ impl BuiltIn {
             BuiltIn::ExceptionInInitializerError => "java/lang/ExceptionInInitializerError",
             BuiltIn::NoClassDefFoundError => "java/lang/NoClassDefFoundError",
             BuiltIn::PrintStream => "java/io/PrintStream",
+        }
+    }
+
+    /// Whether it is another class, or below it.
+    pub fn is_below(self, other: BuiltIn) -> bool
+        ensures { result ≡ is_built_in_below self other }
+    {
+        self == other || self.superclasses().contains(&other)
+    }
+
+    /// Its superclasses, the nearest first.
+    fn superclasses(self) -> &'static [BuiltIn]
+        ensures { result.now ≡ superclasses_of_built_in self }
+    {
+        match self {
+            BuiltIn::Object => &[],
+            BuiltIn::String
+            | BuiltIn::System
+            | BuiltIn::Enum
+            | BuiltIn::Throwable
+            | BuiltIn::PrintStream => &FROM_OBJECT,
+            BuiltIn::Exception | BuiltIn::Error => &FROM_THROWABLE,
+            BuiltIn::RuntimeException => &FROM_EXCEPTION,
+            BuiltIn::ArithmeticException
+            | BuiltIn::NullPointerException
+            | BuiltIn::ClassCastException
+            | BuiltIn::ArrayStoreException
+            | BuiltIn::NegativeArraySizeException
+            | BuiltIn::IllegalMonitorStateException
+            | BuiltIn::IndexOutOfBoundsException => &FROM_RUNTIME_EXCEPTION,
+            BuiltIn::ArrayIndexOutOfBoundsException => &FROM_INDEX_OUT_OF_BOUNDS,
+            BuiltIn::LinkageError => &FROM_ERROR,
+            BuiltIn::ExceptionInInitializerError | BuiltIn::NoClassDefFoundError => {
+                &FROM_LINKAGE_ERROR
+            }
         }
     }
 }

@@ -4,7 +4,7 @@ pub mod Lawful
 pub mod ConstantLawful
 pub mod ConstantsLawful
 pub mod UnitsLemmas
-pub mod FirstUnitLemmas
+pub mod PrintingLemmas
 pub mod SizesLemmas
 pub mod BoolLemmas
 pub mod LookupTestsLemmas

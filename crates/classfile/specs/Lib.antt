@@ -10,6 +10,7 @@ pub mod Lookup
 pub mod Members
 pub mod Names
 pub mod Pool
+pub mod Printing
 pub mod Spelling
 pub mod Text
 pub mod Units

@@ -1,10 +1,10 @@
 //! Modified UTF-8 (JVMS 4.4.7).
 
-ghost use Rattle.std.specs.Prelude.{◌≡◌, ◌++◌, ◌+◌, ◌*◌, ◌%◌, ◌<◌, ◌≤◌, ◌∷◌, length, true, []};
+ghost use Rattle.std.specs.Prelude.{◌≡◌, ◌++◌, ◌<◌, ◌≤◌, ◌∷◌, length, true, []};
 ghost use Rattle.std.specs.Prelude.{IfOk, OnOk, IfSome, MatchOption};
 ghost use Rattle.classfile.specs.reading.Modified.{is_one, is_two, is_three, all_one, is_modified};
 ghost use Rattle.classfile.specs.Units.{unit_text, units_text, IsModifiedUtf8};
-ghost use Rattle.classfile.specs.reading.Modified.{IsSpelledFirst};
+ghost use Rattle.classfile.specs.Printing.{unit_of_two, unit_of_three, units_of};
 
 use std::alloc::{AllocError, Global};
 use std::marker::Model;
@@ -79,11 +79,23 @@ fn push_unit(bytes: &mut Vec<u8>, unit: u16) -> Result<(), AllocError>
     }
 }
 
+/// The units of bytes that are modified UTF-8. Of other bytes there is a list of units too.
+pub(crate) fn units_of(alloc: Global, bytes: &[u8]) -> Result<Vec<u16>, AllocError>
+    ensures { IfOk result (λ units. units.items ≡ units_of bytes.now) }
+{
+    let mut units = Vec::new(alloc);
+    let mut left = bytes;
+    while let Some((unit, rest)) = first_unit(left) {
+        units.push(unit)?;
+        left = rest;
+    }
+    Ok(units)
+}
+
 /// The first unit of bytes that are modified UTF-8, and what follows it.
-pub(crate) fn first_unit(bytes: &[u8]) -> Option<(u16, &[u8])>
+fn first_unit(bytes: &[u8]) -> Option<(u16, &[u8])>
     ensures shorter { IfSome result (λ x. length x.1.now < length bytes.now) }
-    ensures spelled { is_modified bytes.now ≡ true
-        → MatchOption result (bytes.now ≡ []) (λ x. IsSpelledFirst x.0 x.1.now bytes.now) }
+    ensures read { MatchOption result (units_of bytes.now ≡ []) (λ x. units_of bytes.now ≡ x.0 ∷ units_of x.1.now) }
 {
     let (first, rest) = bytes.split_first()?;
     if *first < 192 {
@@ -96,8 +108,8 @@ pub(crate) fn first_unit(bytes: &[u8]) -> Option<(u16, &[u8])>
 fn longer_unit(first: u8, bytes: &[u8]) -> Option<(u16, &[u8])>
     requires { 192 ≤ first }
     ensures shorter { IfSome result (λ x. length x.1.now < length bytes.now) }
-    ensures spelled { is_modified (first ∷ bytes.now) ≡ true
-        → MatchOption result ⊥ (λ x. IsSpelledFirst x.0 x.1.now (first ∷ bytes.now)) }
+    ensures read { MatchOption result (units_of (first ∷ bytes.now) ≡ [])
+        (λ x. units_of (first ∷ bytes.now) ≡ x.0 ∷ units_of x.1.now) }
 {
     let (second, rest) = bytes.split_first()?;
     if first < 224 {
@@ -109,14 +121,14 @@ fn longer_unit(first: u8, bytes: &[u8]) -> Option<(u16, &[u8])>
 
 /// The unit that two bytes spell.
 fn unit_of_two(first: u8, second: u8) -> u16
-    ensures { result ≡ first % 32 * 64 + second % 64 }
+    ensures { result ≡ unit_of_two first second }
 {
     u16::from(first % 32) * 64 + u16::from(second % 64)
 }
 
 /// The unit that three bytes spell.
 fn unit_of_three(first: u8, second: u8, third: u8) -> u16
-    ensures { result ≡ first % 16 * 4096 + second % 64 * 64 + third % 64 }
+    ensures { result ≡ unit_of_three first second third }
 {
     u16::from(first % 16) * 4096 + u16::from(second % 64) * 64 + u16::from(third % 64)
 }

@@ -1,12 +1,15 @@
 //! Names of classes.
 
-ghost use Rattle.std.specs.Prelude.{◌≡◌, IfOk};
+ghost use Rattle.std.specs.Prelude.{◌≡◌, ◌∷◌, [], Some, IfOk};
 ghost use Rattle.std.specs.List.{flat_map};
 ghost use Rattle.std.specs.Str.{chars};
 ghost use Rattle.std.specs.Char.Escape.{encode_utf16};
+ghost use Rattle.std.specs.String.{string_bytes};
 ghost use Rattle.classfile.specs.Units.{units_text, IsModifiedUtf8};
+ghost use Rattle.classfile.specs.Printing.{printed_units, units_of};
 
-use crate::modified::{ModifiedUtf8, first_unit};
+use crate::modified::{ModifiedUtf8, units_of};
+use crate::printing::first_character;
 use std::alloc::{AllocError, Global};
 use std::fmt::{self, Display, Formatter, Write};
 use std::marker::Model;
@@ -50,12 +53,7 @@ impl ClassName {
     pub fn from_modified_utf8(alloc: Global, bytes: &[u8]) -> Result<ClassName, AllocError>
         ensures { IsModifiedUtf8 bytes.now → IfOk result (λ name. units_text name ≡ bytes.now) }
     {
-        let mut units = Vec::new(alloc);
-        let mut left = bytes;
-        while let Some((unit, rest)) = first_unit(left) {
-            units.push(unit)?;
-            left = rest;
-        }
+        let units = units_of(alloc, bytes)?;
         Ok(ClassName { units })
     }
 
@@ -78,21 +76,42 @@ impl ClassName {
     }
 }
 
-/// Surrogate pairs are joined, and a lone surrogate is `?`.
+/// In UTF-8. Surrogate pairs are joined, and a lone surrogate is `?`.
 impl Display for ClassName {
+    ghost output = { λ name. Some (printed_units name) };
+
     fn fmt<W: Write>(&self, formatter: &mut Formatter<W>) -> Result<(), fmt::Error> {
-        for character in char::decode_utf16(self.units.iter().copied()) {
-            formatter.write_char(character.unwrap_or('?'))?;
+        let mut left = self.units.as_slice();
+        while let Some((character, rest)) = first_character(left) {
+            formatter.write_char(character)?;
+            left = rest;
         }
         Ok(())
     }
 }
 
-/// The text of modified UTF-8 for a reader: surrogate pairs are joined, and a lone surrogate is `?`.
+/// The text of modified UTF-8 for a reader, in UTF-8: surrogate pairs are joined, and a lone surrogate is `?`. Of other
+/// bytes something is printed too.
 ///
 /// # Errors
 ///
 /// `AllocError` where memory runs out.
-pub fn printed(alloc: Global, bytes: &[u8]) -> Result<String, AllocError> {
-    ClassName::from_modified_utf8(alloc, bytes)?.to_string(alloc)
+pub fn printed(alloc: Global, bytes: &[u8]) -> Result<String, AllocError>
+    ensures { IfOk result (λ text. string_bytes text ≡ printed_units (units_of bytes.now)) }
+{
+    let units = units_of(alloc, bytes)?;
+    ClassName { units }.to_string(alloc)
+}
+
+/// The text of one 16-bit unit for a reader, in UTF-8: a surrogate is `?`.
+///
+/// # Errors
+///
+/// `AllocError` where memory runs out.
+pub fn printed_unit(alloc: Global, unit: u16) -> Result<String, AllocError>
+    ensures { IfOk result (λ text. string_bytes text ≡ printed_units (unit ∷ [])) }
+{
+    let mut units = Vec::new(alloc);
+    units.push(unit)?;
+    ClassName { units }.to_string(alloc)
 }

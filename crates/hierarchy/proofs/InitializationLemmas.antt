@@ -43,7 +43,7 @@ module _ (family : Family) where
       Contains-append_right (interfaces_in family c) (superclasses_in family c) d
       (subst (λ (ds : List ℕ). Contains ds d) (sym e) (0, omega arith, refl))
 
-  nearest_above : (n c y : ℕ) → Contains (nearest_superclasses n family c) y → IsAncestor family c y
+  pub nearest_above : (n c y : ℕ) → Contains (nearest_superclasses n family c) y → IsAncestor family c y
   nearest_above zero c y (k, small, e) = absurd (omega arith)
   nearest_above (suc n) c y h = elim (one_superclass family c) [
     | inl e ↦ absurd (past (subst (λ (ds : List ℕ). Contains ds y) (nearest-none (suc n) c e) h))
@@ -75,11 +75,11 @@ module _ (family : Family) where
             (nearest_distinct fits n d)
       ])
 
-  ancestor_within : AreParentsWithin family → {c y : ℕ} → IsAncestor family c y → y < length family
+  pub ancestor_within : AreParentsWithin family → {c y : ℕ} → IsAncestor family c y → y < length family
   ancestor_within within {c} (parent {d} h) = within c d h
   ancestor_within within (further {d} {e} a h) = within d e h
 
-  listed : (q : ℕ) (xs : List ℕ) → list_any (eqb q) xs ≡ true → Contains xs q
+  pub listed : (q : ℕ) (xs : List ℕ) → list_any (eqb q) xs ≡ true → Contains xs q
   listed q xs h = (Decides-contains xs q (list_any (eqb q) xs)
       (Decides-by_or (eqb q) (λ y. y ≡ q) (list_any (eqb q))
       (λ y. ((λ e. sym (eqb-true q y e)), (λ e. eq-eqb q y (sym e)))) refl (λ _ _. refl) xs)).0 h

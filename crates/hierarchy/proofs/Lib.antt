@@ -15,6 +15,8 @@ pub mod UniquenessLemmas
 pub mod BuiltInMembersLemmas
 pub mod ResolutionUniqueLemmas
 pub mod InitializationLemmas
+pub mod SubclassesLemmas
+pub mod SubtypesLemmas
 pub mod SearchRowLemmas
 pub mod RowLemmas
 pub mod DepthFirstLemmas

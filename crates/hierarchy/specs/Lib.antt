@@ -6,4 +6,6 @@ pub mod Initialization
 pub mod Texts
 pub mod Seeds
 pub mod Hierarchies
+pub mod Subclasses
+pub mod Subtypes
 pub mod steps

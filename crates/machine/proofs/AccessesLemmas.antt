@@ -1,9 +1,16 @@
--- What an instruction that was stopped leaves of a store.
-use Rattle.std.proofs.Common.{◌≡◌, List, refl, ap}
+-- What an instruction that was stopped leaves of a store, and of its frame.
+use Rattle.std.proofs.Common.{◌≡◌, ℕ, Bool, false, List, Ok, Err, refl, ap, ◌∙◌}
+use Rattle.std.specs.declared.result.Result.{Result}
+use Rattle.vm_state.specs.declared.frame.Frame.{Frame}
 use Rattle.vm_state.specs.declared.text.Line.{Line}
 use Rattle.machine.specs.declared.kinds.Stop.{Stop}
 use Rattle.machine.specs.declared.kinds.Stop.TheVariants.{Needs, Waits, ForeignObject, Barred, Memory}
-use Rattle.machine.specs.Accesses.{Kept}
+use Rattle.machine.specs.declared.kinds.Conclusion.{Conclusion}
+use Rattle.machine.specs.declared.kinds.Conclusion.TheVariants.{Stays, Becomes, Returns, Prints, Raises, Halts}
+use Rattle.semantics.specs.Rows.{Row, UseClass}
+use Rattle.built_in.specs.declared.class_id.BuiltIn.TheVariants.{NoClassDefFoundError}
+use Rattle.machine.specs.RowParts.{raises, if_usable}
+use Rattle.machine.specs.Accesses.{Kept, Untouched, Gives, unless_refused}
 
 module _ {S T : Type 0} (state : S → List Line → T) where
   -- a store that nothing was done to
@@ -21,3 +28,29 @@ module _ {S T : Type 0} (state : S → List Line → T) where
   kept_state Waits old new kept p = ap (λ s. state s p) kept
   kept_state ForeignObject old new kept p = ap (λ s. state s p) kept
   kept_state Barred old new kept p = ap (λ s. state s p) kept
+
+-- a frame that nothing was done to
+pub untouched_as : (r : Result Conclusion Stop) (old new : Frame) → new ≡ old → Untouched r old new
+untouched_as (Ok Stays) old new same = tt
+untouched_as (Ok (Becomes g)) old new same = tt
+untouched_as (Ok (Returns value)) old new same = tt
+untouched_as (Ok (Prints text)) old new same = tt
+untouched_as (Ok (Raises x class)) old new same = same
+untouched_as (Ok (Halts kind)) old new same = tt
+untouched_as (Err stop) old new same = same
+
+-- an instruction whose row leads to what another row leads to
+pub gives_at : {A : Type 0} (stopped : Stop → A) (old new : Row → A) (row other : Row) (f : Frame)
+    (r : Result Conclusion Stop) → old other ≡ old row → Gives stopped old new row f r → Gives stopped old new other f r
+gives_at stopped old new row other f (Ok k) same is = same ∙ is
+gives_at stopped old new row other f (Err stop) same is = ap (unless_refused stop) same ∙ is
+
+-- one that needs a class whose initialization failed
+pub fails_at_class : {A : Type 0} (stopped : Stop → A) (old new : Row → A) (c : ℕ) (usable : Bool) (row : Row)
+    (f : Frame) (r : Result Conclusion Stop) → ((next : Bool → Row) → old (UseClass c next) ≡ old (next usable))
+    → usable ≡ false → Gives stopped old new (raises NoClassDefFoundError) f r
+    → Gives stopped old new (UseClass c (if_usable row)) f r
+fails_at_class stopped old new c usable row f r asked failed is =
+    let leads : old (UseClass c (if_usable row)) ≡ old (raises NoClassDefFoundError) =
+    rw failed at (asked (if_usable row)) in
+    gives_at stopped old new (raises NoClassDefFoundError) (UseClass c (if_usable row)) f r leads is

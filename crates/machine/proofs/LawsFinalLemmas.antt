@@ -17,7 +17,6 @@ use Rattle.bytecode.specs.declared.instruction.Instruction.{Instruction}
 use Rattle.bytecode.specs.declared.instruction.Instruction.TheVariants as instructions
 use Rattle.semantics.specs.Quiet.{declared_final, is_final}
 use Rattle.built_in.specs.declared.method.BuiltInMethod.TheVariants as members
-use Rattle.built_in.specs.declared.method.Printed.TheVariants as printed
 use Rattle.program.specs.declared.class.Class.{Class}
 use Rattle.program.specs.declared.class.Implementation.{Implementation}
 use Rattle.program.specs.declared.class.Implementation.TheVariants as implementations
@@ -25,8 +24,6 @@ use Rattle.program.specs.declared.runtime_constant.RuntimeConstant.{RuntimeConst
 use Rattle.program.specs.declared.runtime_constant.RuntimeConstant.TheVariants as runtime
 use Rattle.program.specs.declared.runtime_constant.FieldKind.{FieldKind}
 use Rattle.program.specs.declared.runtime_constant.FieldKind.TheVariants as kinds
-use Rattle.program.specs.declared.signature.ReturnKind.{ReturnKind}
-use Rattle.program.specs.declared.signature.ReturnKind.TheVariants as returns
 use Rattle.program.specs.declared.runtime_constant.FieldTarget.{FieldTarget}
 use Rattle.program.specs.declared.runtime_constant.FieldTarget.TheVariants as targets
 use Rattle.loading.specs.declared.given.GivenClass.{GivenClass}
@@ -45,18 +42,21 @@ use Rattle.hierarchy.specs.Search.{Search}
 use Rattle.hierarchy.specs.Resolution.{ResolvesField}
 use Rattle.program.specs.References.{key_at, FindsField}
 use Rattle.program.specs.Fields.{field_kind, has_value, is_static_field, statics_of, static_number_of, final_of}
-use Rattle.program.specs.Fields.{static_of, target_in, targeted}
+use Rattle.program.specs.Fields.{static_of}
+use Rattle.program.specs.InstanceFields.{slot_of}
+use Rattle.program.specs.FieldTargets.{target_in, targeted}
 use Rattle.program.specs.RuntimePool.{IsRuntimeConstant}
 use Rattle.program.specs.Programs.{static_field, IsProgram}
 use Rattle.program.specs.Tables.{Tables, instruction_at, implementation_at, runtime_pool_of, constant_at, statics_if}
 use Rattle.program.specs.Tables.{statics_in, initializer_in}
 use Rattle.frame_instructions.specs.declared.operand_kind.OperandKind.{OperandKind}
+use Rattle.frame_instructions.specs.declared.operand_kind.OperandKind.TheVariants as operands
 use Rattle.frame_instructions.specs.Families.{Local as LocalOperation}
 use Rattle.frame_instructions.specs.Instructions.{local_of}
 use Rattle.machine.specs.Operations.{Operation, PutStatic, Return, Refused, int_constant, long_constant}
-use Rattle.machine.specs.Operations.{local_or, get_static, put_static, is_method, may_write, if_valued, get_target}
+use Rattle.machine.specs.Operations.{local_or, is_method, may_write, if_valued, get_target}
 use Rattle.machine.specs.Operations.{getstatic_of, put_target, putstatic_of, call_of, invokevirtual_of, return_of}
-use Rattle.machine.specs.Operations.{return_by}
+use Rattle.machine.specs.Operations.{returns_so}
 use Rattle.machine.specs.Operations.{resolved_operation, operation_of, operation_at}
 use Rattle.machine.specs.Linked.{program_of}
 use Rattle.machine.proofs.ListLemmas.{left_of_pair, right_of_pair, first_passes, kept_place, both_true}
@@ -66,29 +66,25 @@ use Rattle.machine.proofs.LawsStaticLemmas.{IsClassIn}
 
 -- ---- which instructions put
 
-module _ (w : OperandKind) (c k : ℕ) where
-  valued : (kind : FieldKind) (o : Operation) → if_valued kind o ≡ PutStatic w c k → o ≡ PutStatic w c k
-  valued kinds.Boolean o e = e
-  valued kinds.Byte o e = e
-  valued kinds.Char o e = e
-  valued kinds.Short o e = e
-  valued kinds.Int o e = e
-  valued kinds.Long o e = e
+module _ (w : FieldKind) (c k : ℕ) where
+  valued : (kind : FieldKind) (o : Operation) → if_valued kind o ≡ PutStatic w c k → (has_value kind ≡ true)
+      × (o ≡ PutStatic w c k)
+  valued kinds.Boolean o e = (refl, e)
+  valued kinds.Byte o e = (refl, e)
+  valued kinds.Char o e = (refl, e)
+  valued kinds.Short o e = (refl, e)
+  valued kinds.Int o e = (refl, e)
+  valued kinds.Long o e = (refl, e)
   valued kinds.Float o e = absurd cc
   valued kinds.Double o e = absurd cc
-  valued kinds.Reference o e = e
-
-  no_get : (d j : ℕ) (kind : FieldKind) → get_static d j kind ≡ PutStatic w c k → ⊥
-  no_get d j kinds.Int e = cc
-  no_get d j kinds.Long e = cc
-  no_get d j other e = cc
+  valued kinds.Reference o e = (refl, e)
 
   no_getstatic : (e : Option RuntimeConstant) → getstatic_of e ≡ PutStatic w c k → ⊥
-  no_getstatic (Some (runtime.Field kind target)) e = by target (valued kind (get_target kind target) e)
+  no_getstatic (Some (runtime.Field kind target)) e = by target (valued kind (get_target target) e).1
     where
-      by : (t : Result FieldTarget Unresolved) → get_target kind t ≡ PutStatic w c k → ⊥
-      by (Ok (targets.Static d j final place)) h = no_get d j kind h
-      by (Ok (targets.Instance d j)) h = cc
+      by : (t : Result FieldTarget Unresolved) → get_target t ≡ PutStatic w c k → ⊥
+      by (Ok (targets.Static d j final place)) h = cc
+      by (Ok (targets.Instance d j slot)) h = cc
       by (Ok targets.Out) h = cc
       by (Err unresolved.Missing) h = cc
       by (Err unresolved.NoReference) h = cc
@@ -110,26 +106,22 @@ module _ (w : OperandKind) (c k : ℕ) where
   no_long other e = cc
 
   no_call : (r : Result Method Unresolved) → call_of r ≡ PutStatic w c k → ⊥
-  no_call (Ok (methods.BuiltIn (members.PrintLine printed.Int))) e = cc
+  no_call (Ok (methods.BuiltIn (members.Print what))) e = cc
+  no_call (Ok (methods.BuiltIn (members.PrintLine what))) e = cc
+  no_call (Ok (methods.BuiltIn members.EndLine)) e = cc
   no_call other e = cc
 
   no_invoke : (e : Option RuntimeConstant) → invokevirtual_of e ≡ PutStatic w c k → ⊥
-  no_invoke (Some (runtime.Method method)) e = no_call method e
+  no_invoke (Some (runtime.Method reference)) e = no_call reference.target e
   no_invoke other e = cc
 
-  no_return : (o : Option Implementation) → return_of o ≡ PutStatic w c k → ⊥
-  no_return (Some (implementations.Code code)) e = by code.returns e
+  no_return : (operand : Option OperandKind) (o : Option Implementation) → return_of operand o ≡ PutStatic w c k → ⊥
+  no_return operand (Some (implementations.Code code)) e = by (returns_so operand code.returns) e
     where
-      by : (kind : ReturnKind) → return_by kind ≡ PutStatic w c k → ⊥
-      by returns.Nothing h = cc
-      by (returns.Value kind) h = cc
-  no_return other e = cc
-
-  put_is : (d j : ℕ) (kind : FieldKind) → put_static d j kind ≡ PutStatic w c k → (has_value kind ≡ true) × (d ≡ c)
-      × (j ≡ k)
-  put_is d j kinds.Int e = (refl, cc, cc)
-  put_is d j kinds.Long e = (refl, cc, cc)
-  put_is d j other e = absurd cc
+      by : (b : Bool) → cond b (Return code.returns) (Refused Fault) ≡ PutStatic w c k → ⊥
+      by true h = cc
+      by false h = cc
+  no_return operand other e = cc
 
   module _ (P : Tables) (d m : ℕ) where
     -- what a constant is that is written to
@@ -142,32 +134,36 @@ module _ (w : OperandKind) (c k : ℕ) where
       may : may_write P d m c final ≡ true
 
     put_constant : (e : Option RuntimeConstant) → putstatic_of P d m e ≡ PutStatic w c k → IsPut e
-    put_constant (Some (runtime.Field kind target)) e = by target (valued kind (put_target P d m kind target) e)
+    put_constant (Some (runtime.Field kind target)) e =
+        let has = valued kind (put_target P d m kind target) e in
+        by target has.0 has.1
       where
         written : (x j : ℕ) (final b : Bool) (place : ℕ) → may_write P d m x final ≡ b
-            → cond b (put_static x j kind) (Refused Fault) ≡ PutStatic w c k
+            → has_value kind ≡ true → cond b (PutStatic kind x j) (Refused Fault) ≡ PutStatic w c k
             → IsPut (Some (runtime.Field kind (Ok (targets.Static x j final place))))
-        written x j final true place may h =
-            let put = put_is x j kind h in
+        written x j final true place may has h =
+            let class : x ≡ c = cc in
+            let field : j ≡ k = cc in
             record {
               kind = kind;
               final = final;
               place = place;
-              valued = put.0;
-              constant = rw (put.1, put.2) refl;
-              may = subst (λ (n : ℕ). may_write P d m n final ≡ true) put.1 may;
+              valued = has;
+              constant = rw (class, field) refl;
+              may = subst (λ (n : ℕ). may_write P d m n final ≡ true) class may;
             }
-        written x j final false place may h = absurd cc
+        written x j final false place may has h = absurd cc
 
-        by : (t : Result FieldTarget Unresolved) → put_target P d m kind t ≡ PutStatic w c k
+        by : (t : Result FieldTarget Unresolved) → has_value kind ≡ true
+            → put_target P d m kind t ≡ PutStatic w c k
             → IsPut (Some (runtime.Field kind t))
-        by (Ok (targets.Static x j final place)) h =
-            written x j final (may_write P d m x final) place refl h
-        by (Ok (targets.Instance x j)) h = absurd cc
-        by (Ok targets.Out) h = absurd cc
-        by (Err unresolved.Missing) h = absurd cc
-        by (Err unresolved.NoReference) h = absurd cc
-        by (Err unresolved.Incompatible) h = absurd cc
+        by (Ok (targets.Static x j final place)) has h =
+            written x j final (may_write P d m x final) place refl has h
+        by (Ok (targets.Instance x j slot)) has h = absurd cc
+        by (Ok targets.Out) has h = absurd cc
+        by (Err unresolved.Missing) has h = absurd cc
+        by (Err unresolved.NoReference) has h = absurd cc
+        by (Err unresolved.Incompatible) has h = absurd cc
     put_constant other e = absurd cc
 
     put_resolved : (i : Instruction) → resolved_operation P d m i ≡ PutStatic w c k → (index : ℕ)
@@ -177,7 +173,11 @@ module _ (w : OperandKind) (c k : ℕ) where
     put_resolved (instructions.GetStatic index) e = absurd (no_getstatic (constant_at P d index) e)
     put_resolved (instructions.PutStatic index) e = (index, put_constant (constant_at P d index) e)
     put_resolved (instructions.InvokeVirtual index) e = absurd (no_invoke (constant_at P d index) e)
-    put_resolved instructions.Return e = absurd (no_return (implementation_at P d m) e)
+    put_resolved instructions.Return e = absurd (no_return None (implementation_at P d m) e)
+    put_resolved instructions.ReturnInt e = absurd (no_return (Some operands.Int) (implementation_at P d m) e)
+    put_resolved instructions.ReturnLong e = absurd (no_return (Some operands.Long) (implementation_at P d m) e)
+    put_resolved instructions.ReturnReference e =
+        absurd (no_return (Some operands.Reference) (implementation_at P d m) e)
     put_resolved other e = absurd cc
 
     put_local : (l : Option LocalOperation) (o : Operation) → local_or l o ≡ PutStatic w c k → o ≡ PutStatic w c k
@@ -256,9 +256,12 @@ static_target family c k final place (Err x) e = absurd cc
 static_target family c k final place (Ok fields.Out) e = absurd cc
 static_target family c k final place (Ok (fields.Given x j)) e = by_file (file_in family x) refl e
   where
+    instance : FieldTarget
+    instance = targets.Instance x j (slot_of family x j)
+
     by_flag : (f : ClassFile) (m : Member) (b : Bool) → file_in family x ≡ Some f → slice_get f.fields j ≡ Some m
         → has_flag m.access_flags 8 ≡ b
-        → IsOk (cond b (targets.Static x (static_number_of f j) (has_flag m.access_flags 16) j) (targets.Instance x j))
+        → IsOk (cond b (targets.Static x (static_number_of f j) (has_flag m.access_flags 16) j) instance)
         (targets.Static c k final place)
         → IsStatic family c k final (Ok (fields.Given x j))
     by_flag f m true file at static h =
@@ -277,13 +280,14 @@ static_target family c k final place (Ok (fields.Given x j)) e = by_file (file_i
     by_flag f m false file at static h = absurd cc
 
     by_member : (f : ClassFile) (o : Option Member) → file_in family x ≡ Some f → slice_get f.fields j ≡ o
-        → IsOk (cond (static_of o) (targets.Static x (static_number_of f j) (final_of o) j) (targets.Instance x j))
+        → IsOk (cond (static_of o) (targets.Static x (static_number_of f j) (final_of o) j) instance)
         (targets.Static c k final place)
         → IsStatic family c k final (Ok (fields.Given x j))
     by_member f None file at h = absurd cc
     by_member f (Some m) file at h = by_flag f m (has_flag m.access_flags 8) file at refl h
 
-    by_file : (o : Option ClassFile) → file_in family x ≡ o → IsOk (target_in o x j) (targets.Static c k final place)
+    by_file : (o : Option ClassFile) → file_in family x ≡ o
+        → IsOk (target_in o x j (slot_of family x j)) (targets.Static c k final place)
         → IsStatic family c k final (Ok (fields.Given x j))
     by_file None file h = absurd cc
     by_file (Some f) file h = by_member f (slice_get f.fields j) file refl h
@@ -375,7 +379,7 @@ module _ (P : Tables) (is : IsProgram P) where
           slice_get-get_or f.constants index constants.Unusable within in
           (f, constant, field_constant kind target at refl (pool.each index constant (runtime.Field kind target) at h))
 
-  pub finals_written : (w : OperandKind) (d m place c k : ℕ) → operation_at P d m place ≡ Some (PutStatic w c k)
+  pub finals_written : (w : FieldKind) (d m place c k : ℕ) → operation_at P d m place ≡ Some (PutStatic w c k)
       → is_final (program_of P) c k ≡ true
       → (d ≡ c) × (initializer_in P c ≡ Some m)
   finals_written w d m place c k e final =

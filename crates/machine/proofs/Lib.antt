@@ -1,10 +1,13 @@
 pub mod TableLocalLemmas
+pub mod PrintingLemmas
 pub mod AccessesLemmas
 pub mod StretchesLemmas
 pub mod StretchRowLemmas
 pub mod StretchLocalLemmas
+pub mod HandlersLemmas
 pub mod LinkedLemmas
 pub mod TableLemmas
+pub mod StoredKindsLemmas
 pub mod TableLawLemmas
 pub mod ListLemmas
 pub mod LawsStaticLemmas

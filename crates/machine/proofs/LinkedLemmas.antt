@@ -1,13 +1,9 @@
--- Linked programs: whose class initialization method a method is, its frame, and exceptions, which no method catches
--- yet.
-use Rattle.std.proofs.Common.{◌≡◌, ℕ, true, false, List, [], ◌∷◌, Option, Some, None, ◌==◌, replicate}
+-- Linked programs: whose class initialization method a method is, and its frame.
+use Rattle.std.proofs.Common.{◌≡◌, ℕ, true, false, Option, Some, None, ◌==◌, replicate}
 use Rattle.std.proofs.Common.{refl, sym, ap, ◌∙◌, inl, inr, arith, eqb-true}
-use Rattle.vm_state.specs.declared.value.Name.{Name}
-use Rattle.built_in.specs.declared.class_id.ClassId.{ClassId}
 use Rattle.vm_state.specs.declared.frame.Frame.{Frame}
 use Rattle.vm_state.specs.declared.frame.Activity.TheVariants.{Method}
 use Rattle.vm_state.proofs.ListLemmas.{tested}
-use Rattle.semantics.specs.Moves.{Throw, unwound}
 use Rattle.program.specs.declared.class.MethodCode.{MethodCode}
 use Rattle.program.specs.declared.class.Implementation.{Implementation}
 use Rattle.program.specs.declared.class.Implementation.TheVariants as implementations
@@ -15,7 +11,6 @@ use Rattle.program.specs.Tables.{Tables, implementation_at, initializer_in}
 use Rattle.machine.specs.Operations.{is_method}
 use Rattle.machine.specs.Table.{called}
 use Rattle.machine.specs.Linked.{initializer_called, initializer_frame_of, initializer_frame, initialized_by}
-use Rattle.machine.specs.Linked.{program_of}
 
 pub method_is : (m : ℕ) (o : Option ℕ) → is_method m o ≡ true → o ≡ Some m
 method_is m None h = let clash : false ≡ true = h in cc
@@ -65,11 +60,3 @@ from_method P c f (Some m) has h = from_code P c m f (implementation_at P c m) h
 
 pub initializer_frame_is : (P : Tables) (c : ℕ) (f : Frame) → initializer_frame P c ≡ Some f → IsInitializerFrame P c f
 initializer_frame_is P c f h = from_method P c f (initializer_in P c) refl h
-
--- ---- exceptions
-
--- no method has a handler yet, so that an exception leaves all frames above the highest initialization
-pub uncaught : (P : Tables) (x : Name) (class : ClassId) (fs : List Frame)
-    → unwound (program_of P) x class fs ≡ Throw x class
-uncaught P x class [] = refl
-uncaught P x class (f ∷ fs) = uncaught P x class fs

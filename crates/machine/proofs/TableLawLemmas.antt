@@ -1,13 +1,14 @@
 -- No instruction of the table makes up a name; each writes a final in its own class's initialization method alone, and
 -- makes no frame of such a method.
-use Rattle.std.proofs.Common.{ℕ, zero, suc, Option, Some, None, Ok, Err, replicate, ◌≡◌, Bool, true, false, refl, ap}
+use Rattle.std.proofs.Common.{ℕ, zero, suc, [], ◌∷◌, Option, Some, None, Ok, Err, replicate, ◌≡◌, Bool, true, refl, ap}
 use Rattle.std.proofs.Common.{◌∙◌}
 use Rattle.std.specs.declared.result.Result.{Result}
 use Rattle.std.specs.Result.{IfOk}
+use Rattle.vm_state.specs.declared.value.Value.{Value}
 use Rattle.vm_state.specs.declared.value.Value.TheVariants as values
 use Rattle.built_in.specs.declared.class_id.BuiltIn.{BuiltIn}
 use Rattle.vm_state.specs.declared.ends.FaultKind.{FaultKind}
-use Rattle.vm_state.specs.declared.ends.FaultKind.TheVariants.{Fault, Unsupported}
+use Rattle.vm_state.specs.declared.ends.FaultKind.TheVariants.{Fault}
 use Rattle.vm_state.specs.declared.frame.Frame.{Frame}
 use Rattle.vm_state.specs.declared.frame.Activity.{Activity}
 use Rattle.vm_state.specs.declared.frame.Activity.TheVariants.{Start, Method}
@@ -16,17 +17,23 @@ use Rattle.semantics.specs.Rows.{Row}
 use Rattle.semantics.specs.Lawful.{Names, Knows, KnowsAll, KnowsFrame, OwnsFrame, Fits}
 use Rattle.semantics.specs.Moves.{advanced, with_operands}
 use Rattle.semantics.specs.Quiet.{is_final}
+use Rattle.program.specs.declared.signature.ReturnKind.TheVariants as returns
 use Rattle.program.specs.Tables.{Tables, implementation_at, main_in}
 use Rattle.frame_instructions.specs.declared.trap.Trap.{Trap}
 use Rattle.frame_instructions.specs.declared.trap.Trap.TheVariants as traps
-use Rattle.frame_instructions.specs.OperandKinds.{top_as}
 use Rattle.frame_instructions.specs.Families.{local_after}
-use Rattle.frame_instructions.proofs.LawsFrameLemmas.{KnowsLocals, top_known, rest_known, pushed_known, as_kind_known}
+use Rattle.frame_instructions.proofs.LawsFrameLemmas.{KnowsLocals, top_known, rest_known, pushed_known}
 use Rattle.frame_instructions.proofs.LawsFrameLemmas.{stored_known}
 use Rattle.frame_instructions.proofs.FamiliesNameLemmas.{local_names_lem}
-use Rattle.machine.specs.Operations.{Operation, Local, GetStatic, PutStatic, GetOut, PrintInt, Return, Refused}
-use Rattle.machine.specs.Operations.{operation_at}
-use Rattle.machine.specs.Table.{halts, goes_on, raises, local_row, print_on, operation_row, call_main, catches_in}
+use Rattle.machine.specs.Operations.{Operation, Local, PushText, GetStatic, PutStatic, GetOut, Print, EndLine}
+use Rattle.machine.specs.Operations.{Return, Refused, operation_at}
+use Rattle.machine.specs.StoredKinds.{top_stored}
+use Rattle.machine.proofs.StoredKindsLemmas.{stored_knows}
+use Rattle.machine.specs.RowParts.{halts, goes_on, push, raises}
+use Rattle.machine.specs.Table.{local_row, operation_row, call_main}
+use Rattle.machine.specs.Printing.{printed_text, ended}
+use Rattle.frame_instructions.specs.declared.operand_kind.OperandKind.TheVariants.{Reference}
+use Rattle.frame_instructions.specs.OperandKinds.{top_as}
 use Rattle.machine.specs.Table.{fetched, active_row, row}
 use Rattle.machine.specs.Linked.{initialized_by, program_of}
 use Rattle.machine.specs.Laws.{AreSound}
@@ -46,19 +53,24 @@ module _ {P : Tables} (sound : AreSound P) (known : Names) (own : ℕ → Bool) 
   halted : (kind : FaultKind) → Suits (halts kind)
   halted kind = (tt, tt)
 
-  raised : (catches : Bool) (class : BuiltIn) → Suits (raises catches class)
-  raised true class = halted Unsupported
-  raised false class = (tt, λ x h. (h, tt))
+  raised : (class : BuiltIn) → Suits (raises class)
+  raised class = (tt, λ x h. (h, tt))
 
-  local_suits : (catches : Bool) (r : Result Frame Trap) → IfOk r (KnowsFrame known) → Suits (local_row catches r)
-  local_suits catches (Ok g) h = (h, tt)
-  local_suits catches (Err traps.Fault) h = halted Fault
-  local_suits catches (Err (traps.Raise class)) h = raised catches class
+  local_suits : (r : Result Frame Trap) → IfOk r (KnowsFrame known) → Suits (local_row r)
+  local_suits (Ok g) h = (h, tt)
+  local_suits (Err traps.Fault) h = halted Fault
+  local_suits (Err (traps.Raise class)) h = raised class
 
   module _ (f : Frame) (h : KnowsFrame known f) (ho : OwnsFrame (program_of P) own f) where
     -- it goes on with other operands
     on_suits : (s : OperandStack) → KnowsAll known s.values → Suits (goes_on (advanced (with_operands f s)))
     on_suits s hs = ((hs, h.1), tt)
+
+    -- or with one more
+    push_suits : (v : Value) → Knows known v → Suits (push v f)
+    push_suits v hv =
+        needing_such Suits halted (λ s. KnowsAll known s.values) (pushed v f.operands) _
+        (pushed_known known v f.operands hv h.0) on_suits
 
     one_less : KnowsAll known (rest f.operands).values
     one_less = rest_known known f.operands h.0
@@ -67,33 +79,39 @@ module _ {P : Tables} (sound : AreSound P) (known : Names) (own : ℕ → Bool) 
     two_less = rest_known known (rest f.operands) one_less
 
     -- an instruction of a method, whose frame this is
-    module _ (d m : ℕ) (catches : Bool) (runs : f.activity ≡ Method d m) where
-      instruction_suits : (i : Operation) → operation_at P d m f.place ≡ Some i → Suits (operation_row catches i f)
-      instruction_suits (Local i) at = local_suits catches (local_after i f) (local_names_lem known i f h)
+    module _ (d m : ℕ) (runs : f.activity ≡ Method d m) where
+      instruction_suits : (i : Operation) → operation_at P d m f.place ≡ Some i → Suits (operation_row P i f)
+      instruction_suits (Local i) at = local_suits (local_after i f) (local_names_lem known i f h)
+      instruction_suits (PushText s) at = push_suits (values.Text s) tt
       instruction_suits (GetStatic c k) at =
-          λ b. if_usable_any Suits halted _ b (λ v hv.
-          needing_such Suits halted (λ s. KnowsAll known s.values) (pushed v f.operands) _
-          (pushed_known known v f.operands hv h.0) on_suits)
+          λ b. if_usable_any Suits halted raised _ b push_suits
       instruction_suits (PutStatic kind c k) at =
           let may : is_final (program_of P) c k ≡ true → own c ≡ true =
           λ final. let found = sound.finals kind d m f.place c k at final in
           ho c (ap (initialized_by P) runs ∙ class_is_found P d m c found.0 found.1) in
-          λ b. if_usable_any Suits halted _ b (
-          needing_such Suits halted (Knows known) (top_as kind f.operands) _
-          (as_kind_known known kind (top f.operands) (top_known known f.operands h.0))
+          λ b. if_usable_any Suits halted raised _ b (
+          needing_such Suits halted (Knows known) (top_stored kind f.operands) _
+          (stored_knows known kind f.operands h.0)
           (λ v hv. (hv, may, on_suits (rest f.operands) one_less)))
-      instruction_suits GetOut at =
-          needing_such Suits halted (λ s. KnowsAll known s.values) (pushed values.Out f.operands) _
-          (pushed_known known values.Out f.operands tt h.0)
-          on_suits
-      instruction_suits PrintInt at =
-          needing_any Suits halted (top_int f.operands) _ (λ n e.
-          needing_any Suits halted (top (rest f.operands)) (print_on n f) (λ v is.
-          print_any Suits halted n f v (on_suits (rest (rest f.operands)) two_less)))
-      instruction_suits Return at = (tt, tt)
+      instruction_suits GetOut at = push_suits values.Out tt
+      instruction_suits (Print what line) at =
+          needing_any Suits halted (top f.operands) _ (λ v on_top.
+          needing_any Suits halted (printed_text P what v) _ (λ text is.
+          needing_any Suits halted (top_as Reference (rest f.operands)) _ (λ r below_top.
+          print_any Suits halted raised (ended line text) (with_operands f (rest (rest f.operands))) r
+          (on_suits (rest (rest f.operands)) two_less))))
+      instruction_suits EndLine at =
+          needing_any Suits halted (top_as Reference f.operands) _ (λ r on_top.
+          print_any Suits halted raised (10 ∷ []) (with_operands f (rest f.operands)) r
+          (on_suits (rest f.operands) one_less))
+      instruction_suits (Return returns.Nothing) at = (tt, tt)
+      instruction_suits (Return (returns.Value kind)) at =
+          needing_such Suits halted (Knows known) (top_stored kind f.operands) _
+          (stored_knows known kind f.operands h.0)
+          (λ v hv. (hv, tt))
       instruction_suits (Refused kind) at = (tt, tt)
 
-      fetched_suits : (o : Option Operation) → operation_at P d m f.place ≡ o → Suits (fetched catches o f)
+      fetched_suits : (o : Option Operation) → operation_at P d m f.place ≡ o → Suits (fetched P o f)
       fetched_suits None at = (tt, tt)
       fetched_suits (Some i) at = instruction_suits i at
 
@@ -110,9 +128,8 @@ module _ {P : Tables} (sound : AreSound P) (known : Names) (own : ℕ → Bool) 
     main_suits c (Some m) is = called_any Suits halted c m f (implementation_at P c m) (call_suits c m is)
 
     active_suits : (a : Activity) → f.activity ≡ a → Suits (active_row P a f)
-    active_suits (Start c) runs = λ b. if_usable_any Suits halted _ b (main_suits c (main_in P c) refl)
-    active_suits (Method d m) runs = fetched_suits d m (catches_in (implementation_at P d m)) runs
-        (operation_at P d m f.place) refl
+    active_suits (Start c) runs = λ b. if_usable_any Suits halted raised _ b (main_suits c (main_in P c) refl)
+    active_suits (Method d m) runs = fetched_suits d m runs (operation_at P d m f.place) refl
 
   pub row_suits : (f : Frame) → KnowsFrame known f → OwnsFrame (program_of P) own f → Suits (row P f)
   unfolding row

@@ -3,7 +3,7 @@ use Rattle.std.specs.Prelude.{◌≡◌, ◌≢◌, ℕ, true, Some}
 use Rattle.std.specs.List.{AllByRecursion}
 use Rattle.semantics.specs.Quiet.{is_final}
 use Rattle.semantics.specs.Lawful.{HoldsNoName, IsLawful}
-use Rattle.frame_instructions.specs.declared.operand_kind.OperandKind.{OperandKind}
+use Rattle.program.specs.declared.runtime_constant.FieldKind.{FieldKind}
 use Rattle.program.specs.Programs.{IsProgram}
 use Rattle.program.specs.Tables.{Tables, initializer_in, main_in, statics_in}
 use Rattle.machine.specs.Operations.{PutStatic, operation_at}
@@ -14,7 +14,7 @@ pub record AreSound (P : Tables) : Type 0 where
   -- a static field begins as zero, null or a constant, and none of these is an object
   pub statics : (c : ℕ) → AllByRecursion HoldsNoName (statics_in P c)
   -- a static final is written in the class initialization method of its own class alone (JVMS 6.5, putstatic)
-  pub finals : (kind : OperandKind) (d m at c k : ℕ) → operation_at P d m at ≡ Some (PutStatic kind c k)
+  pub finals : (kind : FieldKind) (d m at c k : ℕ) → operation_at P d m at ≡ Some (PutStatic kind c k)
       → is_final (program_of P) c k ≡ true
       → (d ≡ c) × (initializer_in P c ≡ Some m)
   -- a `main`, which a thread's start calls, is no class initialization method

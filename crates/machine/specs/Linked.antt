@@ -13,7 +13,9 @@ use Rattle.program.specs.declared.class.Implementation.{Implementation}
 use Rattle.program.specs.declared.class.Implementation.TheVariants as implementations
 use Rattle.program.specs.Tables.{Tables, implementation_at, initializer_in, order_in, statics_in}
 use Rattle.machine.specs.Operations.{is_method}
-use Rattle.machine.specs.Table.{row, called, halts}
+use Rattle.machine.specs.RowParts.{halts}
+use Rattle.machine.specs.Handlers.{handler_of}
+use Rattle.machine.specs.Table.{row, called}
 
 -- ---- the frame of a class initialization method (JVMS 2.9)
 
@@ -47,13 +49,12 @@ start_frame c t =
 abbrev pub blank_areas : List Class → List ClassArea
 blank_areas classes = map (λ (k : Class). blank_area k.statics) classes
 
--- Exceptions come later: no instruction raises one, no handler is executed, and a class whose initialization fails ends
--- its thread.
+-- Failing initializations come later: a class whose initialization fails ends its thread.
 abbrev pub program_of : Tables → Program
 program_of P = record {
   count = length P.classes;
   row = row P;
-  handler = λ activity place class. None;
+  handler = handler_of P;
   failing = λ c x. halts Unsupported;
   orphaned = λ c. halts Unsupported;
   initializer = initializer_frame P;

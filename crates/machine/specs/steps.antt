@@ -2,3 +2,4 @@ pub mod Sources
 pub mod Fused
 pub mod Steps
 pub mod StepTables
+pub mod Unwinding

@@ -1,19 +1,20 @@
 //! One instruction of a thread.
 
-ghost use Rattle.std.specs.Prelude.{◌≡◌, ◌∷◌, ℕ, List, IfOk, OnOk, OnErr, IsSome, Some, None};
+ghost use Rattle.std.specs.Prelude.{◌≡◌, ◌∷◌, ℕ, List, IfOk, OnOk, OnErr, IsSome, Some, None, Ok};
 ghost use Rattle.vm_state.specs.declared.frame.Frame.{Frame};
 ghost use Rattle.vm_state.specs.declared.text.Line.{Line};
 ghost use Rattle.vm_state.specs.Shares.{shared_of, SharesTheSame};
 ghost use Rattle.vm_state.specs.Stacks.{levels_of};
 ghost use Rattle.program.specs.Tables.{Tables};
-ghost use Rattle.semantics.specs.Moves.{received};
+ghost use Rattle.semantics.specs.Moves.{received, unwound, Throw};
+ghost use Rattle.machine.specs.Linked.{program_of};
 ghost use Rattle.semantics.specs.Rows.{Moved, Next, Raise, Returns, Result as Led, run_row};
 ghost use Rattle.semantics.specs.Steps.{maker_of};
 ghost use Rattle.vm_state.specs.SharedTables.{SharedTables};
 ghost use Rattle.vm_state.specs.SharedState.{SharedState};
 ghost use Rattle.vm_state.specs.declared.value.Maker.{Maker};
 ghost use Rattle.machine.specs.declared.kinds.Stop.{Stop};
-ghost use Rattle.machine.specs.Accesses.{Kept, concluded, unless_refused};
+ghost use Rattle.machine.specs.Accesses.{Kept, Untouched, concluded, unless_refused};
 ghost use Rattle.vm_state.specs.declared.initialization.Frames.{Frames};
 ghost use Rattle.vm_state.specs.declared.initialization.Level.{Level};
 ghost use Rattle.machine.specs.Sharing.{stopped_shared};
@@ -21,6 +22,7 @@ ghost use Rattle.machine.specs.Effects.{IsStep, IsStopped, IsEffect, Stays};
 
 use crate::execute::execute;
 use crate::kinds::{Actor, Conclusion, Effect, Stop};
+use crate::unwinding::{Unwound, unwind};
 use built_in::class_id::ClassId;
 use frame_instructions::numeric::advance;
 use program::Program;
@@ -84,8 +86,9 @@ fn stand(frames: &mut Frames, innermost: Frame, callers: FrameList)
 
 /// An exception that no frame above the highest initialization catches: it becomes pending there, and where there is
 /// no initialization its thread ends (JVMS 2.10, 5.5).
-fn throw(frames: &mut Frames, exception: Name, class: ClassId) -> Effect
+fn leave_uncaught(frames: &mut Frames, exception: Name, class: ClassId) -> Effect
     ensures step { (P : Tables) (fs : List Frame) (f : Frame) (before after : SharedState)
+        → unwound (program_of P) exception class (f ∷ fs) ≡ Throw exception class
         → IsStep P frames.old.thread (f ∷ fs) (levels_of frames.old) before (Moved (Raise exception class) after) result
         frames.new after }
     ensures moves { ((old new : Frames) → Stays result old new)
@@ -99,10 +102,43 @@ fn throw(frames: &mut Frames, exception: Name, class: ClassId) -> Effect
     Effect::Raise
 }
 
+/// Throws an exception of a class in a frame, of whose thread's stack it was taken with its callers.
+fn throw(
+    program: &Program,
+    frames: &mut Frames,
+    frame: Frame,
+    callers: FrameList,
+    exception: Name,
+    class: ClassId,
+) -> Effect
+    ensures step { (before after : SharedState)
+        → IsStep program.now frames.old.thread (frame ∷ callers) (levels_of frames.old) before
+        (Moved (Raise exception class) after) result frames.new after }
+    ensures moves { ((old new : Frames) → Stays result old new)
+        × ((before after : SharedTables) → Stays result before after) }
+    ensures thread { frames.new.thread ≡ frames.old.thread }
+{
+    match unwind(program, frame, callers, exception, class) {
+        Unwound::Caught(frame, callers) => {
+            stand(frames, frame, callers);
+            Effect::Raise
+        }
+        Unwound::NoRoom => Effect::Halt(End::Faulted(FaultKind::Fault)),
+        Unwound::Uncaught => leave_uncaught(frames, exception, class),
+    }
+}
+
 /// What the conclusion of an instruction makes of its thread, of whose stack its frame and the callers were taken.
-fn conclude(frames: &mut Frames, frame: Frame, callers: FrameList, conclusion: Conclusion) -> Effect
-    ensures step { (P : Tables) (maker : Maker) (f : Frame) (before after : SharedState) → f.activity ≡ frame.activity →
-        IsStep P frames.old.thread (f ∷ callers) (levels_of frames.old) before
+fn conclude(
+    program: &Program,
+    frames: &mut Frames,
+    frame: Frame,
+    callers: FrameList,
+    conclusion: Conclusion,
+) -> Effect
+    ensures step { (maker : Maker) (f : Frame) (before after : SharedState) → f.activity ≡ frame.activity
+        → Untouched (Ok conclusion) f frame →
+        IsStep program.now frames.old.thread (f ∷ callers) (levels_of frames.old) before
         (run_row frames.old.thread maker after (concluded conclusion frame)) result frames.new after }
     ensures moves { ((old new : Frames) → Stays result old new)
         × ((before after : SharedTables) → Stays result before after) }
@@ -122,7 +158,9 @@ fn conclude(frames: &mut Frames, frame: Frame, callers: FrameList, conclusion: C
             Effect::Print(text)
         }
         Conclusion::Returns(value) => return_to(frames, callers, value),
-        Conclusion::Raises(exception, class) => throw(frames, exception, class),
+        Conclusion::Raises(exception, class) => {
+            throw(program, frames, frame, callers, exception, class)
+        }
         Conclusion::Halts(kind) => Effect::Halt(End::Faulted(kind)),
     }
 }
@@ -182,7 +220,7 @@ pub fn effect(
         callers,
     } = segment;
     match execute(alloc, program, by, &mut frame, shared) {
-        Ok(conclusion) => Ok(conclude(frames, frame, callers, conclusion)),
+        Ok(conclusion) => Ok(conclude(program, frames, frame, callers, conclusion)),
         Err(stop) => {
             stand(frames, frame, callers);
             stopped(stop)

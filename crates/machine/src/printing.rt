@@ -1,47 +1,183 @@
-//! Prints of `System.out`.
+//! Prints of `System.out`: `print` and `println` of `java.io.PrintStream`, over any store.
 
-ghost use Rattle.std.specs.Prelude.{◌≡◌, IfOk, IfErr, OnErr};
-ghost use Rattle.machine.specs.declared.kinds.Stop.{Stop};
-ghost use Rattle.machine.specs.Table.{print_int};
-ghost use Rattle.machine.specs.Accesses.{concluded};
+ghost use Rattle.std.specs.Prelude.{◌≡◌, ◌∷◌, [], List, Some, None, IfOk, IfErr, OnErr, slice_get};
+ghost use Rattle.classfile.specs.Printing.{printed_units};
+ghost use Rattle.vm_state.specs.declared.text.Line.{Line};
+ghost use Rattle.vm_state.specs.Operands.{dropped, rest};
+ghost use Rattle.frame_instructions.specs.OperandKinds.{top_as};
+ghost use Rattle.semantics.specs.Moves.{with_operands};
+ghost use Rattle.machine.specs.Printing.{unit_of_int, text_of_string, printed_text, ended, print_on, print_value};
+ghost use Rattle.machine.specs.Printing.{end_line};
+ghost use Rattle.machine.specs.Accesses.{Gives, Kept, Untouched};
 
-use crate::kinds::{Conclusion, Stop};
+use crate::kinds::{Actor, Conclusion, Stop};
+use crate::raising::raise;
+use crate::store::Store;
+use built_in::class_id::BuiltIn;
+use classfile::{printed, printed_unit};
 use frame_instructions::numeric::advance;
-use std::alloc::Global;
+use frame_instructions::operand_kind::{OperandKind, top_as};
+use program::{Printed, Program};
+use std::alloc::{AllocError, Global};
 use vm_state::ends::FaultKind;
 use vm_state::frame::Frame;
+use vm_state::operands::Operands;
 use vm_state::text::Text;
-use vm_state::value::Value;
+use vm_state::value::{Fault, Value};
 
 const FAULT: Result<Conclusion, Stop> = Ok(Conclusion::Halts(FaultKind::Fault));
 
-const UNSUPPORTED: Result<Conclusion, Stop> = Ok(Conclusion::Halts(FaultKind::Unsupported));
+/// The unit of a char, which is the low 16 bits of an int.
+fn unit_of_int(number: i32) -> u16
+    ensures { result ≡ unit_of_int number }
+{
+    (number.cast_unsigned() % 65_536) as u16
+}
 
-/// `println(int)`.
-///
-/// # Errors
-/// `Stop::Memory` where memory is refused. Then the frame is as it was.
-pub fn print_int(alloc: Global, frame: &mut Frame) -> Result<Conclusion, Stop>
-    ensures gives { IfOk result (λ conclusion. print_int frame.old ≡ concluded conclusion frame.new) }
-    ensures memory { IfErr result (λ stop. stop ≡ Stop.Memory) }
-    ensures same { OnErr result (frame.new ≡ frame.old) }
+/// What is printed of a char.
+fn text_of_char(alloc: Global, number: i32) -> Result<Text, AllocError>
+    ensures { IfOk result (λ text. text ≡ printed_units (unit_of_int number ∷ [])) }
+{
+    let text = printed_unit(alloc, unit_of_int(number))?;
+    Ok(Text::of_string(text))
+}
+
+/// What is printed of a string, by its number among the strings of the program.
+fn text_of_string(
+    alloc: Global,
+    program: &Program,
+    number: usize,
+) -> Result<Option<Text>, AllocError>
+    ensures { IfOk result (λ text. text ≡ text_of_string (slice_get program.now.strings number)) }
+{
+    let Some(bytes) = program.string(number) else {
+        return Ok(None);
+    };
+    let text = printed(alloc, bytes)?;
+    Ok(Some(Text::of_string(text)))
+}
+
+/// What is printed of a value by a method, if it is of the method's kind.
+fn printed_text(
+    alloc: Global,
+    program: &Program,
+    what: Printed,
+    value: Value,
+) -> Result<Option<Text>, AllocError>
+    ensures { IfOk result (λ text. text ≡ printed_text program.now what value) }
+{
+    match (what, value) {
+        (Printed::Int, Value::Int(number)) => Ok(Some(Text::of_int(alloc, number)?)),
+        (Printed::Long, Value::Long(number)) => Ok(Some(Text::of_long(alloc, number)?)),
+        (Printed::Char, Value::Int(number)) => Ok(Some(text_of_char(alloc, number)?)),
+        (Printed::Boolean, Value::Int(number)) => Ok(Some(Text::of_boolean(alloc, number != 0)?)),
+        (Printed::String, Value::Null) => Ok(Some(Text::of_null(alloc)?)),
+        (Printed::String, Value::Text(number)) => text_of_string(alloc, program, number),
+        _ => Ok(None),
+    }
+}
+
+/// A text, with the end of a line or without it.
+fn ended(line: bool, text: Text) -> Result<Text, AllocError>
+    ensures { IfOk result (λ t. t ≡ ended line text) }
+{
+    if line { text.with_line_end() } else { Ok(text) }
+}
+
+/// Prints a text on a receiver, and goes on without so many operands on top.
+fn print_on<S: Store>(
+    alloc: Global,
+    by: Actor,
+    frame: &mut Frame,
+    store: &mut S,
+    receiver: Value,
+    text: Text,
+    operands: usize,
+) -> Result<Conclusion, Stop>
+    ensures gives { (p : List Line) → Gives S.stopped (S.run by (S.state store.old p)) (S.run by (S.state store.new p))
+        (print_on text (with_operands frame.old (dropped operands frame.old.operands)) receiver) frame.new result }
+    ensures same { IfErr result (λ stop. Kept S.state stop store.old store.new) }
+    ensures frame { Untouched result frame.old frame.new }
     ensures activity { frame.new.activity ≡ frame.old.activity }
 {
-    let Ok(number) = frame.operands.top_int() else {
-        return FAULT;
-    };
-    let Ok(receiver) = frame.operands.second() else {
-        return FAULT;
-    };
     match receiver {
         Value::Out => {
-            let text = Text::line_of_int(alloc, number)?;
-            frame.operands.drop_top();
-            frame.operands.drop_top();
+            frame.operands.drop_many(operands);
             advance(frame);
             Ok(Conclusion::Prints(text))
         }
+        Value::Null => raise(alloc, by, store, BuiltIn::NullPointerException),
         Value::Int(_) | Value::Long(_) => FAULT,
-        Value::Null | Value::Text(_) | Value::OfClass(_, _) | Value::OfThread(_, _) => UNSUPPORTED,
+        Value::Text(_) => Ok(Conclusion::Halts(FaultKind::Missing)),
+        Value::OfClass(_, _) | Value::OfThread(_, _) => {
+            Ok(Conclusion::Halts(FaultKind::Unsupported))
+        }
     }
+}
+
+/// `print` and `println` of a value.
+///
+/// # Errors
+/// The store's reason, or `Stop::Memory`. The frame is as it was, and so is the store; where memory is refused, what
+/// definitions see of it.
+#[tactic(auto, unfolding(crate::specs::Accesses::unless_refused))]
+pub fn print_value<S: Store>(
+    alloc: Global,
+    program: &Program,
+    by: Actor,
+    frame: &mut Frame,
+    store: &mut S,
+    what: Printed,
+    line: bool,
+) -> Result<Conclusion, Stop>
+    ensures gives { (p : List Line) → Gives S.stopped (S.run by (S.state store.old p)) (S.run by (S.state store.new p))
+        (print_value program.now what line frame.old) frame.new result }
+    ensures same { IfErr result (λ stop. Kept S.state stop store.old store.new) }
+    ensures frame { Untouched result frame.old frame.new }
+    ensures activity { frame.new.activity ≡ frame.old.activity }
+{
+    let Ok(value) = frame.operands.top() else {
+        return FAULT;
+    };
+    let Some(text) = printed_text(alloc, program, what, value)? else {
+        return FAULT;
+    };
+    let Ok(receiver) = second_reference(&frame.operands) else {
+        return FAULT;
+    };
+    let text = ended(line, text)?;
+    print_on(alloc, by, frame, store, receiver, text, 2)
+}
+
+/// `println()`.
+///
+/// # Errors
+/// The store's reason, or `Stop::Memory`. The frame is as it was, and so is the store; where memory is refused, what
+/// definitions see of it.
+#[tactic(auto, unfolding(crate::specs::Accesses::unless_refused))]
+pub fn end_line<S: Store>(
+    alloc: Global,
+    by: Actor,
+    frame: &mut Frame,
+    store: &mut S,
+) -> Result<Conclusion, Stop>
+    ensures gives { (p : List Line) → Gives S.stopped (S.run by (S.state store.old p)) (S.run by (S.state store.new p))
+        (end_line frame.old) frame.new result }
+    ensures same { IfErr result (λ stop. Kept S.state stop store.old store.new) }
+    ensures frame { Untouched result frame.old frame.new }
+    ensures activity { frame.new.activity ≡ frame.old.activity }
+{
+    let Ok(receiver) = top_as(&frame.operands, OperandKind::Reference) else {
+        return FAULT;
+    };
+    let text = Text::line_end(alloc)?;
+    print_on(alloc, by, frame, store, receiver, text, 1)
+}
+
+/// The reference below the top, which stays. A fault where none is there.
+fn second_reference(operands: &Operands) -> Result<Value, Fault>
+    ensures ok { IfOk result (λ v. top_as OperandKind.Reference (rest operands.now) ≡ Some v) }
+    ensures err { OnErr result (top_as OperandKind.Reference (rest operands.now) ≡ None) }
+{
+    OperandKind::Reference.of(operands.second()?)
 }

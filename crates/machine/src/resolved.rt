@@ -2,10 +2,11 @@
 
 ghost use Rattle.std.specs.Prelude.{◌≡◌, Some};
 ghost use Rattle.program.specs.Tables.{implementation_at};
-ghost use Rattle.machine.specs.Operations.{meaning, int_constant, long_constant, get_static, put_static, may_write};
-ghost use Rattle.machine.specs.Operations.{get_target, getstatic_of, put_target, putstatic_of, invokevirtual_of};
-ghost use Rattle.machine.specs.Operations.{return_of, resolved_operation};
+ghost use Rattle.machine.specs.Operations.{meaning, int_constant, long_constant, may_write};
+ghost use Rattle.machine.specs.Operations.{get_target, getstatic_of, put_target, putstatic_of, call_of};
+ghost use Rattle.machine.specs.Operations.{invokevirtual_of, returns_so, return_of, resolved_operation};
 
+use crate::stored_kind::operand_kind;
 use bytecode::Instruction;
 use frame_instructions::operand_kind::OperandKind;
 use program::class::Implementation;
@@ -21,16 +22,20 @@ pub enum Resolved {
     PushInt(i32),
     /// `ldc2_w` of a long.
     PushLong(i64),
+    /// `ldc` and `ldc_w` of a string, by its number among the strings of the program.
+    PushText(usize),
     /// `getstatic` of a field of a given class, by the number of the class and the field's among its static fields.
     GetStatic(u32, u32),
     /// `putstatic` of a field of a given class, of this kind.
-    PutStatic(OperandKind, u32, u32),
+    PutStatic(FieldKind, u32, u32),
     /// `getstatic` of `System.out`.
     GetOut,
-    /// `invokevirtual` of `PrintStream.println(int)`.
-    PrintInt,
-    /// `return` from a method that returns nothing.
-    Return,
+    /// `invokevirtual` of `PrintStream.print` of a value, or of `println`, which ends the line.
+    Print(Printed, bool),
+    /// `invokevirtual` of `PrintStream.println()`.
+    EndLine,
+    /// `return`, `ireturn`, `lreturn` and `areturn`, of a method that returns so.
+    Return(ReturnKind),
     /// What ends its thread whatever the frame holds: a reference that does not resolve, something that the machine
     /// leaves out, or what JVMS leaves to verification.
     Refused(FaultKind),
@@ -48,8 +53,8 @@ fn int_constant(constant: Option<RuntimeConstant>) -> Resolved
 {
     match constant {
         Some(RuntimeConstant::Int(number)) => Resolved::PushInt(number),
-        Some(RuntimeConstant::String(_)) | Some(RuntimeConstant::Float) => UNSUPPORTED,
-        Some(RuntimeConstant::Class(_)) => UNSUPPORTED,
+        Some(RuntimeConstant::String(text)) => Resolved::PushText(text),
+        Some(RuntimeConstant::Float) | Some(RuntimeConstant::Class(_)) => UNSUPPORTED,
         Some(RuntimeConstant::MethodHandle) | Some(RuntimeConstant::MethodType) => UNSUPPORTED,
         _ => FAULT,
     }
@@ -66,30 +71,11 @@ fn long_constant(constant: Option<RuntimeConstant>) -> Resolved
     }
 }
 
-fn get_static(class: u32, number: u32, kind: FieldKind) -> Resolved
-    ensures { meaning result ≡ get_static class number kind }
-{
-    match kind {
-        FieldKind::Int | FieldKind::Long => Resolved::GetStatic(class, number),
-        _ => UNSUPPORTED,
-    }
-}
-
-fn put_static(class: u32, number: u32, kind: FieldKind) -> Resolved
-    ensures { meaning result ≡ put_static class number kind }
-{
-    match kind {
-        FieldKind::Int => Resolved::PutStatic(OperandKind::Int, class, number),
-        FieldKind::Long => Resolved::PutStatic(OperandKind::Long, class, number),
-        _ => UNSUPPORTED,
-    }
-}
-
-fn get_target(kind: FieldKind, target: Result<FieldTarget, Unresolved>) -> Resolved
-    ensures { meaning result ≡ get_target kind target }
+fn get_target(target: Result<FieldTarget, Unresolved>) -> Resolved
+    ensures { meaning result ≡ get_target target }
 {
     match target {
-        Ok(FieldTarget::Static { class, number, .. }) => get_static(class, number, kind),
+        Ok(FieldTarget::Static { class, number, .. }) => Resolved::GetStatic(class, number),
         Ok(FieldTarget::Instance { .. }) => FAULT,
         Ok(FieldTarget::Out) => Resolved::GetOut,
         Err(Unresolved::Missing) => MISSING,
@@ -104,7 +90,7 @@ fn getstatic_of(constant: Option<RuntimeConstant>) -> Resolved
     match constant {
         Some(RuntimeConstant::Field(FieldKind::Float, _)) => UNSUPPORTED,
         Some(RuntimeConstant::Field(FieldKind::Double, _)) => UNSUPPORTED,
-        Some(RuntimeConstant::Field(kind, target)) => get_target(kind, target),
+        Some(RuntimeConstant::Field(_, target)) => get_target(target),
         _ => FAULT,
     }
 }
@@ -143,7 +129,7 @@ fn put_target(
             if !may_write(program, class, method, owner, is_final) {
                 return FAULT;
             }
-            put_static(owner, number, kind)
+            Resolved::PutStatic(kind, owner, number)
         }
         Ok(FieldTarget::Instance { .. }) | Ok(FieldTarget::Out) => FAULT,
         Err(Unresolved::Missing) => MISSING,
@@ -170,28 +156,47 @@ fn putstatic_of(
     }
 }
 
-/// `invokevirtual` of a constant of the run-time constant pool: `println(int)` alone, so far.
+/// A call of a method that a reference resolves to: prints alone, so far.
+fn call_of(target: Result<Method, Unresolved>) -> Resolved
+    ensures { meaning result ≡ call_of target }
+{
+    match target {
+        Ok(Method::BuiltIn(BuiltInMethod::Print(what))) => Resolved::Print(what, false),
+        Ok(Method::BuiltIn(BuiltInMethod::PrintLine(what))) => Resolved::Print(what, true),
+        Ok(Method::BuiltIn(BuiltInMethod::EndLine)) => Resolved::EndLine,
+        _ => UNSUPPORTED,
+    }
+}
+
+/// `invokevirtual` of a constant of the run-time constant pool.
 fn invokevirtual_of(constant: Option<RuntimeConstant>) -> Resolved
     ensures { meaning result ≡ invokevirtual_of constant }
 {
     match constant {
-        Some(
-            RuntimeConstant::Method(Ok(Method::BuiltIn(BuiltInMethod::PrintLine(Printed::Int)))),
-        ) => { Resolved::PrintInt }
-        Some(RuntimeConstant::Method(_)) => UNSUPPORTED,
+        Some(RuntimeConstant::Method(reference)) => call_of(reference.target),
         _ => FAULT,
     }
 }
 
-/// `return` in a method.
-fn return_of(program: &Program, class: u32, method: u16) -> Resolved
-    ensures { meaning result ≡ return_of (implementation_at program.now class method) }
+/// Whether an instruction returns what a method does: nothing, or operands of a kind.
+fn returns_so(operand: Option<OperandKind>, kind: ReturnKind) -> bool
+    ensures { result ≡ returns_so operand kind }
+{
+    match (operand, kind) {
+        (None, ReturnKind::Nothing) => true,
+        (Some(operand), ReturnKind::Value(kind)) => operand_kind(kind) == Some(operand),
+        _ => false,
+    }
+}
+
+/// A return of nothing, or of operands of a kind, in a method.
+fn return_of(program: &Program, class: u32, method: u16, operand: Option<OperandKind>) -> Resolved
+    ensures { meaning result ≡ return_of operand (implementation_at program.now class method) }
 {
     match program.implementation(class, method) {
-        Some(Implementation::Code(code)) => match code.returns {
-            ReturnKind::Nothing => Resolved::Return,
-            ReturnKind::Value(_) => FAULT,
-        },
+        Some(Implementation::Code(code)) if returns_so(operand, code.returns) => {
+            Resolved::Return(code.returns)
+        }
         _ => FAULT,
     }
 }
@@ -213,7 +218,12 @@ pub fn resolved_operation(
             putstatic_of(program, class, method, program.constant(class, *index))
         }
         Instruction::InvokeVirtual(index) => invokevirtual_of(program.constant(class, *index)),
-        Instruction::Return => return_of(program, class, method),
+        Instruction::Return => return_of(program, class, method, None),
+        Instruction::ReturnInt => return_of(program, class, method, Some(OperandKind::Int)),
+        Instruction::ReturnLong => return_of(program, class, method, Some(OperandKind::Long)),
+        Instruction::ReturnReference => {
+            return_of(program, class, method, Some(OperandKind::Reference))
+        }
         Instruction::Bad => FAULT,
         _ => UNSUPPORTED,
     }

@@ -7,10 +7,12 @@ ghost use Rattle.vm_state.specs.Locals.{stored};
 ghost use Rattle.program.specs.Tables.{main_in};
 ghost use Rattle.machine.specs.declared.kinds.Stop.{Stop};
 ghost use Rattle.machine.specs.Table.{call_main, called, start_row};
-ghost use Rattle.machine.specs.Accesses.{Gives, concluded};
+ghost use Rattle.machine.specs.Accesses.{Gives, Kept, concluded};
 
 use crate::kinds::{Actor, Conclusion, Stop};
+use crate::raising::raise;
 use crate::store::Store;
+use built_in::class_id::BuiltIn;
 use program::Program;
 use program::class::{Implementation, MethodCode};
 use std::alloc::{AllocError, Global};
@@ -85,20 +87,21 @@ fn call_main(
 ///
 /// # Errors
 /// The store's reason why the class can't be used now, or `Stop::Memory`. Nothing has changed.
-#[tactic(auto, unfolding(crate::specs::Accesses::unless_refused))]
+#[tactic(auto, unfolding(crate::specs::Accesses::unless_refused), using(crate::proofs::AccessesLemmas::kept_same))]
 pub fn start<S: Store>(
     alloc: Global,
     program: &Program,
     by: Actor,
     frame: &Frame,
-    store: &S,
+    store: &mut S,
     class: u32,
 ) -> Result<Conclusion, Stop>
-    ensures gives { (p : List Line) → Gives S.stopped (S.run by (S.state store.now p)) (S.run by (S.state store.now p))
+    ensures gives { (p : List Line) → Gives S.stopped (S.run by (S.state store.old p)) (S.run by (S.state store.new p))
         (start_row program.now class frame.now) frame.now result }
+    ensures same { IfErr result (λ stop. Kept S.state stop store.old store.new) }
 {
     if !store.use_class(by, class)? {
-        return Ok(Conclusion::Halts(FaultKind::Unsupported));
+        return raise(alloc, by, store, BuiltIn::NoClassDefFoundError);
     }
     call_main(alloc, program, frame, class)
 }

@@ -7,3 +7,8 @@ pub mod StringsLemmas
 pub mod PoolFieldsLemmas
 pub mod NamedClassesLemmas
 pub mod AheadLemmas
+pub mod SlotsLemmas
+pub mod FieldSlotsLemmas
+pub mod ZeroSlotsLemmas
+pub mod KeptLemmas
+pub mod SlotLawsLemmas

@@ -9,16 +9,18 @@ use Rattle.loading.specs.Families.{Family, file_of, file_in}
 use Rattle.loading.specs.declared.given.GivenClass.{GivenClass}
 use Rattle.hierarchy.specs.declared.member.Field.{Field}
 use Rattle.hierarchy.specs.declared.member.Field.TheVariants as fields
-use Rattle.hierarchy.specs.declared.member.Method.{Method}
 use Rattle.hierarchy.specs.declared.member.Unresolved.{Unresolved}
 use Rattle.hierarchy.specs.declared.member.Unresolved.TheVariants.{NoReference}
 use Rattle.program.specs.declared.class.Class.{Class}
+use Rattle.program.specs.declared.runtime_constant.MethodReference.{MethodReference}
 use Rattle.program.specs.declared.runtime_constant.RuntimeConstant.{RuntimeConstant}
 use Rattle.program.specs.declared.runtime_constant.RuntimeConstant.TheVariants as runtime
 use Rattle.program.specs.declared.runtime_constant.FieldKind.{FieldKind}
 use Rattle.program.specs.declared.runtime_constant.FieldTarget.{FieldTarget}
 use Rattle.program.specs.declared.runtime_constant.FieldTarget.TheVariants as targets
-use Rattle.program.specs.Fields.{target_in, targeted, static_of, static_number_of, final_of}
+use Rattle.program.specs.Fields.{static_of, static_number_of, final_of}
+use Rattle.program.specs.FieldTargets.{target_in, targeted}
+use Rattle.program.specs.InstanceFields.{slot_of}
 use Rattle.program.specs.Programs.{IsClass, IsProgram}
 use Rattle.program.specs.References.{FieldOfFile, MethodOfFile}
 use Rattle.program.specs.References.{ResolvesFieldAt, ResolvesMethodAt, ResolvesFieldOf, ResolvesMethodOf}
@@ -62,19 +64,19 @@ zip_some R (z ∷ xs) (y ∷ ys) (suc i) x all at = zip_some R xs ys i x all.1 a
 
 -- ---- a field that instructions use is the one that was resolved
 
-same_given : (o : Option ClassFile) (c k : ℕ) → field_of (target_in o c k) ≡ fields.Given c k
-same_given None c k = refl
-same_given (Some f) c k = by (static_of (slice_get f.fields k))
+same_given : (o : Option ClassFile) (c k slot : ℕ) → field_of (target_in o c k slot) ≡ fields.Given c k
+same_given None c k slot = refl
+same_given (Some f) c k slot = by (static_of (slice_get f.fields k))
   where
     by : (b : Bool) → field_of (cond b (targets.Static c (static_number_of f k) (final_of (slice_get f.fields k)) k)
-        (targets.Instance c k)) ≡ fields.Given c k
+        (targets.Instance c k slot)) ≡ fields.Given c k
     by true = refl
     by false = refl
 
 same_field : (family : Family) (r : Result Field Unresolved) → found_field (targeted family r) ≡ r
 same_field family (Err fault) = refl
 same_field family (Ok fields.Out) = refl
-same_field family (Ok (fields.Given c k)) = ap Ok (same_given (file_in family c) c k)
+same_field family (Ok (fields.Given c k)) = ap Ok (same_given (file_in family c) c k (slot_of family c k))
 
 -- ---- what a constant says
 
@@ -108,8 +110,8 @@ module _ (family : Family) (strings : List (List ℕ)) (f : ClassFile) (index : 
   method_said constant held e (IsRuntimeConstant.string at) = rw e refl
   method_said constant held e (IsRuntimeConstant.class named) = rw e refl
   method_said constant held e (IsRuntimeConstant.field r resolves) = rw e refl
-  method_said constant held e (IsRuntimeConstant.method resolves) = resolves
-  method_said constant held e (IsRuntimeConstant.interface_method resolves) = resolves
+  method_said constant held e (IsRuntimeConstant.method is) = is.target
+  method_said constant held e (IsRuntimeConstant.interface_method is) = is.target
   method_said constant held e IsRuntimeConstant.utf8 = rw e refl
   method_said constant held e IsRuntimeConstant.unusable = rw e refl
   method_said constant held e IsRuntimeConstant.name_and_type = rw e refl
@@ -185,8 +187,8 @@ no_field (Some runtime.MethodType) not = refl
 no_field (Some (runtime.Method m)) not = refl
 no_field (Some (runtime.InterfaceMethod m)) not = refl
 
-pub no_method : (o : Option RuntimeConstant) → ((m : Result Method Unresolved) → o ≢ Some (runtime.Method m))
-    → ((m : Result Method Unresolved) → o ≢ Some (runtime.InterfaceMethod m)) → pool_method o ≡ Err NoReference
+pub no_method : (o : Option RuntimeConstant) → ((m : MethodReference) → o ≢ Some (runtime.Method m))
+    → ((m : MethodReference) → o ≢ Some (runtime.InterfaceMethod m)) → pool_method o ≡ Err NoReference
 no_method None not other = refl
 no_method (Some (runtime.Method m)) not other = absurd (not m refl)
 no_method (Some (runtime.InterfaceMethod m)) not other = absurd (other m refl)

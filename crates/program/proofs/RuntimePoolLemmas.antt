@@ -5,6 +5,7 @@ use Rattle.std.proofs.lemmas.Option.{same_Some}
 use Rattle.classfile.specs.ClassFile.{ClassFile}
 use Rattle.classfile.specs.declared.constant.Constant.{Constant}
 use Rattle.classfile.specs.declared.constant.Constant.TheVariants as constants
+use Rattle.program.specs.declared.runtime_constant.MethodReference.{MethodReference}
 use Rattle.program.specs.declared.runtime_constant.RuntimeConstant.{RuntimeConstant}
 use Rattle.program.specs.declared.runtime_constant.RuntimeConstant.TheVariants as runtime
 use Rattle.built_in.specs.declared.class_id.ClassId.{ClassId}
@@ -15,7 +16,7 @@ use Rattle.hierarchy.specs.steps.GrowingTexts.{KeepsNumbers}
 use Rattle.std.specs.Prelude.{unwrap_or}
 use Rattle.classfile.specs.Lookup.{class_name_in, class_name_of}
 use Rattle.program.specs.References.{FieldOfConstant, MethodOfConstant}
-use Rattle.program.specs.RuntimePool.{IsRuntimeConstant, IsRuntimePool}
+use Rattle.program.specs.RuntimePool.{IsMethodReference, IsRuntimeConstant, IsRuntimePool}
 use Rattle.program.specs.steps.ResolvedConstants.{HoldsClasses, AreRuntimeConstants}
 use Rattle.program.proofs.RuntimePoolGrowthLemmas.{constant_kept}
 use Rattle.loading.proofs.PlaceLemmas.{pushed_at}
@@ -117,6 +118,15 @@ class_name_same : (f : ClassFile) (i j : ℕ) → slice_get f.constants i ≡ sl
 unfolding class_name_of
 class_name_same f i j e = ap (λ o. unwrap_or (class_name_in f.constants o) []) e
 
+same_reference : (family : Family) (f : ClassFile) (i j c n : ℕ) (r : MethodReference)
+    → slice_get f.constants i ≡ slice_get f.constants j → IsMethodReference family f i c n r
+    → IsMethodReference family f j c n r
+same_reference family f i j c n r e is = record {
+  class = is.class;
+  descriptor = is.descriptor;
+  target = subst (λ o. MethodOfConstant family f o r.target) e is.target;
+}
+
 -- equal entries stand for the same
 pub same_entry : (family : Family) (strings : List (List ℕ)) (f : ClassFile) (i j : ℕ) (constant : Constant)
     (held : RuntimeConstant) → slice_get f.constants i ≡ slice_get f.constants j
@@ -130,10 +140,10 @@ same_entry family strings f i j constant held e (IsRuntimeConstant.class {x = x}
     IsRuntimeConstant.class (subst (λ n. StandsFor family n x) (class_name_same f i j e) named)
 same_entry family strings f i j constant held e (IsRuntimeConstant.field r resolves) =
     IsRuntimeConstant.field r (subst (λ o. FieldOfConstant family f o r) e resolves)
-same_entry family strings f i j constant held e (IsRuntimeConstant.method {r = r} resolves) =
-    IsRuntimeConstant.method (subst (λ o. MethodOfConstant family f o r) e resolves)
-same_entry family strings f i j constant held e (IsRuntimeConstant.interface_method {r = r} resolves) =
-    IsRuntimeConstant.interface_method (subst (λ o. MethodOfConstant family f o r) e resolves)
+same_entry family strings f i j constant held e (IsRuntimeConstant.method {c = c} {n = n} {r = r} is) =
+    IsRuntimeConstant.method (same_reference family f i j c n r e is)
+same_entry family strings f i j constant held e (IsRuntimeConstant.interface_method {c = c} {n = n} {r = r} is) =
+    IsRuntimeConstant.interface_method (same_reference family f i j c n r e is)
 same_entry family strings f i j constant held e IsRuntimeConstant.utf8 = IsRuntimeConstant.utf8
 same_entry family strings f i j constant held e IsRuntimeConstant.unusable = IsRuntimeConstant.unusable
 same_entry family strings f i j constant held e IsRuntimeConstant.name_and_type = IsRuntimeConstant.name_and_type

@@ -1,22 +1,17 @@
 -- Fields: how their values are stored, and which of them are static.
-use Rattle.std.specs.Prelude.{ℕ, ℤ, pos, ◌%◌, ◌^◌, Bool, true, false, ◌&&◌, List, Option, Some, None, Ok, Err}
-use Rattle.std.specs.Prelude.{slice_get, codes, take, if◌then◌else◌}
+use Rattle.std.specs.Prelude.{ℕ, ℤ, pos, ◌%◌, ◌^◌, Bool, true, false, ◌&&◌, List, Option, Some, None}
+use Rattle.std.specs.Prelude.{codes, take, if◌then◌else◌}
 use Rattle.std.specs.Int.{w8, w16, w32, cast_signed, cast_unsigned}
 use Rattle.std.specs.List.{count_by, filter}
 use Rattle.std.specs.Str.{bytes_eq}
-use Rattle.std.specs.declared.result.Result.{Result}
+use Rattle.vm_state.specs.declared.value.Value.{Value}
+use Rattle.vm_state.specs.declared.value.Value.TheVariants as values
 use Rattle.classfile.specs.Flags.{has_flag}
 use Rattle.classfile.specs.ClassFile.{ClassFile}
 use Rattle.classfile.specs.declared.member.Member.{Member}
 use Rattle.program.specs.declared.runtime_constant.FieldKind.{FieldKind}
 use Rattle.program.specs.declared.runtime_constant.FieldKind.TheVariants as kinds
-use Rattle.program.specs.declared.runtime_constant.FieldTarget.{FieldTarget}
-use Rattle.program.specs.declared.runtime_constant.FieldTarget.TheVariants as targets
-use Rattle.hierarchy.specs.declared.member.Field.{Field}
-use Rattle.hierarchy.specs.declared.member.Field.TheVariants as fields
-use Rattle.hierarchy.specs.declared.member.Unresolved.{Unresolved}
 use Rattle.loading.specs.Names.{text_at}
-use Rattle.loading.specs.Families.{Family, file_in}
 
 -- by its descriptor (JVMS 4.3.2)
 abbrev pub field_kind : List ℕ → FieldKind
@@ -43,6 +38,11 @@ narrowed kinds.Char n = pos (cast_unsigned w32 n % 2 ^ 16)
 narrowed kinds.Short n = cast_signed w16 (cast_unsigned w32 n % 2 ^ 16)
 narrowed _ n = n
 
+-- a value as a field of a type holds it
+abbrev pub narrowed_value : FieldKind → Value → Value
+narrowed_value kind (values.Int n) = values.Int (narrowed kind n)
+narrowed_value kind v = v
+
 abbrev pub is_static_field : ClassFile → Member → Bool
 is_static_field f m = has_flag m.access_flags 8 && has_value (field_kind (text_at f m.descriptor))
 
@@ -61,18 +61,3 @@ final_of (Some m) = has_flag m.access_flags 16
 abbrev pub static_of : Option Member → Bool
 static_of None = false
 static_of (Some m) = has_flag m.access_flags 8
-
-abbrev pub target_in : Option ClassFile → ℕ → ℕ → FieldTarget
-target_in None c k = targets.Instance c k
-target_in (Some f) c k = if static_of (slice_get f.fields k) then targets.Static c (static_number_of f k)
-    (final_of (slice_get f.fields k)) k
-    else targets.Instance c k
-
--- a field as instructions use it
-abbrev pub target_of : Family → Field → FieldTarget
-target_of family (fields.Given c k) = target_in (file_in family c) c k
-target_of family fields.Out = targets.Out
-
-abbrev pub targeted : Family → Result Field Unresolved → Result FieldTarget Unresolved
-targeted family (Ok m) = Ok (target_of family m)
-targeted family (Err e) = Err e

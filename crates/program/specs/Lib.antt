@@ -1,9 +1,12 @@
+pub mod Arrays
 pub mod References
 pub mod RuntimePool
 pub mod Tables
 pub mod Programs
 pub mod steps
 pub mod Fields
+pub mod InstanceFields
+pub mod FieldTargets
 pub mod Signatures
 pub mod Handlers
 pub mod Strings

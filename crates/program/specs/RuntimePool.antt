@@ -7,16 +7,17 @@ use Rattle.classfile.specs.ClassFile.{ClassFile}
 use Rattle.classfile.specs.declared.constant.Constant.{Constant}
 use Rattle.classfile.specs.declared.constant.Constant.TheVariants as constants
 use Rattle.built_in.specs.declared.class_id.ClassId.{ClassId}
+use Rattle.program.specs.declared.runtime_constant.MethodReference.{MethodReference}
 use Rattle.program.specs.declared.runtime_constant.RuntimeConstant.{RuntimeConstant}
 use Rattle.program.specs.declared.runtime_constant.RuntimeConstant.TheVariants as runtime
 use Rattle.hierarchy.specs.declared.member.Field.{Field}
-use Rattle.hierarchy.specs.declared.member.Method.{Method}
 use Rattle.hierarchy.specs.declared.member.Unresolved.{Unresolved}
 use Rattle.loading.specs.Names.{class_name_at, text_at}
 use Rattle.loading.specs.Families.{Family}
 use Rattle.loading.specs.ClassIds.{StandsFor}
 use Rattle.program.specs.References.{key_at, ResolvesFieldAt, ResolvesMethodAt}
-use Rattle.program.specs.Fields.{field_kind, targeted}
+use Rattle.program.specs.Fields.{field_kind}
+use Rattle.program.specs.FieldTargets.{targeted}
 
 -- ---- numbers (JVMS 4.4.4, 4.4.5): two's complement
 
@@ -25,6 +26,25 @@ int_of_bits bits = cast_signed w32 bits
 
 abbrev pub long_of_halves : ℕ → ℕ → ℤ
 long_of_halves high low = cast_signed w64 (high * 2 ^ 32 + low)
+
+-- ---- references to methods (JVMS 4.4.2)
+
+-- the index of the descriptor that a NameAndType gives (JVMS 4.4.6), or 0
+abbrev pub descriptor_index_of : Option Constant → ℕ
+descriptor_index_of (Some (constants.NameAndType name descriptor)) = descriptor
+descriptor_index_of _ = 0
+
+abbrev pub descriptor_index_at : ClassFile → ℕ → ℕ
+descriptor_index_at f index = descriptor_index_of (slice_get f.constants index)
+
+-- The reference to a method at an index, which names the class at index c, and the name and type at index n.
+pub record IsMethodReference (family : Family) (f : ClassFile) (index c n : ℕ) (reference : MethodReference) : Type 0
+  where
+    pub class : StandsFor family (class_name_at f c) reference.class
+    pub descriptor : reference.descriptor ≡ descriptor_index_at f n
+    pub target : ResolvesMethodAt family f index reference.target
+
+-- ---- all entries
 
 -- What an entry of a class file's constant pool stands for.
 pub data IsRuntimeConstant (family : Family) (strings : List (List ℕ)) (f : ClassFile) (index : ℕ) : Constant
@@ -42,9 +62,9 @@ pub data IsRuntimeConstant (family : Family) (strings : List (List ℕ)) (f : Cl
   field : {c n : ℕ} (r : Result Field Unresolved) → ResolvesFieldAt family f index r
       → IsRuntimeConstant family strings f index (constants.Fieldref c n)
       (runtime.Field (field_kind (key_at f n).descriptor) (targeted family r))
-  method : {c n : ℕ} {r : Result Method Unresolved} → ResolvesMethodAt family f index r
+  method : {c n : ℕ} {r : MethodReference} → IsMethodReference family f index c n r
       → IsRuntimeConstant family strings f index (constants.Methodref c n) (runtime.Method r)
-  interface_method : {c n : ℕ} {r : Result Method Unresolved} → ResolvesMethodAt family f index r
+  interface_method : {c n : ℕ} {r : MethodReference} → IsMethodReference family f index c n r
       → IsRuntimeConstant family strings f index (constants.InterfaceMethodref c n) (runtime.InterfaceMethod r)
   utf8 : {text : List ℕ} → IsRuntimeConstant family strings f index (constants.Utf8 text) runtime.Other
   unusable : IsRuntimeConstant family strings f index constants.Unusable runtime.Other

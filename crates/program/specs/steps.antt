@@ -5,3 +5,4 @@ pub mod GrowingStrings
 pub mod NamedClasses
 pub mod PoolFields
 pub mod Ahead
+pub mod Slots

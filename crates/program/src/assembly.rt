@@ -10,6 +10,7 @@ ghost use Rattle.program.specs.declared.class.Class.{Class as ClassTables};
 ghost use Rattle.program.specs.Fields.{statics_of};
 ghost use Rattle.program.specs.Signatures.{AreSignatures};
 ghost use Rattle.program.specs.steps.ResolvedConstants.{HoldsClasses};
+ghost use Rattle.program.specs.steps.Slots.{AreSlots};
 ghost use Rattle.program.specs.steps.StaticNumbers.{AreStaticNumbersOf};
 ghost use Rattle.hierarchy.specs.Initialization.{AreOrders};
 ghost use Rattle.program.specs.Programs.{AreClasses, IsClass, IsProgram, IsImplementation, static_field};
@@ -21,12 +22,14 @@ ghost use Rattle.program.specs.steps.GrowingStrings.{Adds};
 
 use crate::ahead::MembersAhead;
 use crate::class::{Class, Methods, RuntimePool, StaticFields};
+use crate::field_slots::field_slots_of;
 use crate::linked_file::LinkedFile;
 use crate::linked_program::Program;
 use crate::methods::{initializer_of, main_of, methods_of};
 use crate::named_classes::NamedClasses;
 use crate::resolver::{Linker, Resolver};
 use crate::signature::{Signatures, signatures_of};
+use crate::slots::Slots;
 use crate::static_numbers::StaticNumbers;
 use crate::statics::statics_of;
 use classfile::ClassFile;
@@ -87,20 +90,37 @@ fn program_of(alloc: Global, family: Family) -> Result<Program, AllocError>
     ensures orders { IfOk result (λ program. AreOrders program.family program.orders) }
 {
     match Hierarchy::new(alloc, family) {
-        Ok(hierarchy) => with_tables(alloc, hierarchy),
+        Ok(hierarchy) => with_slots(alloc, hierarchy),
         Err(error) => Err(error),
     }
 }
 
 /// The program of a hierarchy.
-fn with_tables(alloc: Global, hierarchy: Hierarchy) -> Result<Program, AllocError>
+fn with_slots(alloc: Global, hierarchy: Hierarchy) -> Result<Program, AllocError>
     ensures family { IfOk result (λ program. program.family ≡ hierarchy.family) }
     ensures program { IfOk result IsProgram }
     ensures orders { IfOk result (λ program. AreOrders program.family program.orders) }
 {
-    match tables_of(alloc, &hierarchy) {
-        Ok(tables) => Ok(joined(hierarchy, tables)),
+    match Slots::of_family(alloc, hierarchy.family()) {
+        Ok(slots) => with_tables(alloc, hierarchy, slots),
         Err(error) => {
+            drop(hierarchy);
+            Err(error)
+        }
+    }
+}
+
+/// The program of a hierarchy and of the slots of its classes.
+fn with_tables(alloc: Global, hierarchy: Hierarchy, slots: Slots) -> Result<Program, AllocError>
+    requires { AreSlots hierarchy.family slots }
+    ensures family { IfOk result (λ program. program.family ≡ hierarchy.family) }
+    ensures program { IfOk result IsProgram }
+    ensures orders { IfOk result (λ program. AreOrders program.family program.orders) }
+{
+    match tables_of(alloc, &hierarchy, &slots) {
+        Ok(tables) => Ok(joined(hierarchy, slots, tables)),
+        Err(error) => {
+            drop(slots);
             drop(hierarchy);
             Err(error)
         }
@@ -116,28 +136,31 @@ struct Tables {
 }
 
 /// The tables of a hierarchy.
-fn tables_of(alloc: Global, hierarchy: &Hierarchy) -> Result<Tables, AllocError>
+fn tables_of(alloc: Global, hierarchy: &Hierarchy, slots: &Slots) -> Result<Tables, AllocError>
+    requires { AreSlots hierarchy.now.family slots.now }
     ensures orders { IfOk result (λ tables. AreOrders hierarchy.now.family tables.orders) }
     ensures classes { IfOk result (λ tables. AreClasses hierarchy.now.family tables.strings tables.classes.items) }
     ensures distinct { IfOk result (λ tables. AreDistinct tables.strings) }
     ensures strings { IfOk result (λ tables. AreFirsts (all_strings hierarchy.now.family) tables.strings) }
 {
     let orders = initialization_orders(alloc, hierarchy.family())?;
-    with_classes(alloc, hierarchy, orders)
+    with_classes(alloc, hierarchy, slots, orders)
 }
 
 /// The tables of a hierarchy, from its classes' orders.
 fn with_classes(
     alloc: Global,
     hierarchy: &Hierarchy,
+    slots: &Slots,
     orders: ClassLists,
 ) -> Result<Tables, AllocError>
+    requires { AreSlots hierarchy.now.family slots.now }
     ensures orders { IfOk result (λ tables. tables.orders ≡ orders) }
     ensures classes { IfOk result (λ tables. AreClasses hierarchy.now.family tables.strings tables.classes.items) }
     ensures distinct { IfOk result (λ tables. AreDistinct tables.strings) }
     ensures strings { IfOk result (λ tables. AreFirsts (all_strings hierarchy.now.family) tables.strings) }
 {
-    match class_tables(alloc, hierarchy) {
+    match class_tables(alloc, hierarchy, slots) {
         Ok((classes, strings)) => Ok(Tables {
             orders,
             classes,
@@ -148,20 +171,26 @@ fn with_classes(
 }
 
 /// What the machine uses of each class, and the distinct strings.
-fn class_tables(alloc: Global, hierarchy: &Hierarchy) -> Result<(Vec<Class>, Texts), AllocError>
+fn class_tables(
+    alloc: Global,
+    hierarchy: &Hierarchy,
+    slots: &Slots,
+) -> Result<(Vec<Class>, Texts), AllocError>
+    requires { AreSlots hierarchy.now.family slots.now }
     ensures classes { IfOk result (λ tables. AreClasses hierarchy.now.family tables.1 tables.0.items) }
     ensures distinct { IfOk result (λ tables. AreDistinct tables.1) }
     ensures strings { IfOk result (λ tables. AreFirsts (all_strings hierarchy.now.family) tables.1) }
 {
     let mut strings = Texts::new(alloc, hierarchy.seed());
-    match classes_of(alloc, hierarchy, &mut strings) {
+    match classes_of(alloc, hierarchy, slots, &mut strings) {
         Ok(classes) => Ok((classes, strings)),
         Err(error) => Err(error),
     }
 }
 
 /// A program of its parts.
-fn joined(hierarchy: Hierarchy, tables: Tables) -> Program
+fn joined(hierarchy: Hierarchy, slots: Slots, tables: Tables) -> Program
+    requires slots { AreSlots hierarchy.family slots }
     requires orders { AreOrders hierarchy.family tables.orders }
     requires classes { AreClasses hierarchy.family tables.strings tables.classes.items }
     requires distinct { AreDistinct tables.strings }
@@ -175,6 +204,7 @@ fn joined(hierarchy: Hierarchy, tables: Tables) -> Program
         orders: tables.orders,
         classes: tables.classes,
         strings: tables.strings,
+        slots,
     }
 }
 
@@ -182,16 +212,20 @@ fn joined(hierarchy: Hierarchy, tables: Tables) -> Program
 fn classes_of(
     alloc: Global,
     hierarchy: &Hierarchy,
+    slots: &Slots,
     strings: &mut Texts,
 ) -> Result<Vec<Class>, AllocError>
+    requires { AreSlots hierarchy.now.family slots.now }
     ensures classes { IfOk result (λ classes. AreClasses hierarchy.now.family strings.new classes.items) }
     ensures grows { OnOk result (Grows strings.old strings.new) }
     ensures adds { OnOk result (Adds strings.old (all_strings hierarchy.now.family) strings.new) }
 {
     let numbers = static_numbers_of(alloc, hierarchy.family().classes())?;
+    let field_slots = field_slots_of(alloc, hierarchy.family(), slots)?;
     let linker = Linker {
         hierarchy,
         numbers: numbers.as_slice(),
+        field_slots: field_slots.as_slice(),
     };
     linked_classes(alloc, &linker, strings)
 }
@@ -331,6 +365,7 @@ fn runtime_pool_of(
     let first = Resolver {
         hierarchy: linker.hierarchy,
         numbers: linker.numbers,
+        field_slots: linker.field_slots,
         class: number,
         file,
         named: &named,
@@ -340,6 +375,7 @@ fn runtime_pool_of(
     let resolver = Resolver {
         hierarchy: linker.hierarchy,
         numbers: linker.numbers,
+        field_slots: linker.field_slots,
         class: number,
         file,
         named: &named,

@@ -3,20 +3,25 @@
 #![tactic(auto)]
 
 mod ahead;
+mod arrays;
 mod assembly;
 pub mod class;
 mod equal_entries;
+mod field_slots;
 pub mod handler;
+mod instance_fields;
 mod linked_file;
 mod linked_program;
 mod lookup;
 mod methods;
 mod named_classes;
+mod objects;
 mod references;
 mod resolver;
 pub mod runtime_constant;
 mod runtime_pool;
 pub mod signature;
+mod slots;
 mod static_numbers;
 mod statics;
 
@@ -26,3 +31,4 @@ pub use hierarchy::member::{Field, Method, Unresolved};
 pub use linked_program::Program;
 pub use loading::fault::{BadParent, LinkFault};
 pub use loading::links_or_fails;
+pub use objects::slots_of_fields;

@@ -12,6 +12,7 @@ ghost use Rattle.program.specs.Tables.{initializer_in, main_in, signature_at};
 use crate::class::{Class, Implementation};
 use crate::runtime_constant::RuntimeConstant;
 use crate::signature::Signature;
+use crate::slots::Slots;
 use built_in::class_id::{ArrayType, ClassId, ElementType};
 use bytecode::Instruction;
 use classfile::{ClassName, printed};
@@ -32,11 +33,14 @@ pub struct Program {
     pub(crate) classes: Vec<Class>,
     /// The distinct strings, as class files spell them.
     pub(crate) strings: Texts,
+    /// What objects hold.
+    pub(crate) slots: Slots,
 }
 
 impl Model for Program {
     ghost use Rattle.program.specs.Programs.{IsProgram};
     ghost use Rattle.program.specs.Tables.{Tables};
+    ghost use Rattle.program.specs.steps.Slots.{AreSlots};
 
     ghost Value = { Tables };
 
@@ -49,7 +53,8 @@ impl Model for Program {
     } };
 
     ghost invariant = { λ s. IsProgram
-        (record { family = s.hierarchy.family; orders = s.orders; classes = s.classes.items; strings = s.strings }) };
+        (record { family = s.hierarchy.family; orders = s.orders; classes = s.classes.items; strings = s.strings })
+        × AreSlots s.hierarchy.family s.slots };
 }
 
 impl Program {

@@ -4,6 +4,7 @@ ghost use Rattle.std.specs.Prelude.{◌≡◌};
 ghost use Rattle.hierarchy.specs.Initialization.{AreSuperclasses};
 ghost use Rattle.program.specs.References.{ResolvesFieldOf, ResolvesMethodOf};
 ghost use Rattle.hierarchy.specs.Resolution.{Selects};
+ghost use Rattle.hierarchy.specs.Subtypes.{is_below};
 ghost use Rattle.program.specs.steps.PoolFields.{found_field, pool_field, pool_method};
 
 use crate::linked_program::Program;
@@ -46,6 +47,13 @@ impl Program {
         pool_method(self.constant(class, index))
     }
 
+    /// Whether the first class is the second, or below it (JVMS 6.5, checkcast and instanceof).
+    pub fn is_below(&self, class: ClassId, other: ClassId) -> bool
+        ensures { result ≡ is_below self.now.family class other }
+    {
+        self.hierarchy.is_below(class, other)
+    }
+
     /// The method that a call of a resolved method runs on an object of a class, if there is one. A private one is
     /// selected itself, and any other one by its name and descriptor.
     pub fn select(&self, class: ClassId, method: Method) -> Option<Method>
@@ -70,8 +78,8 @@ fn pool_method(constant: Option<RuntimeConstant>) -> Result<Method, Unresolved>
     ensures { result ≡ pool_method constant }
 {
     match constant {
-        Some(RuntimeConstant::Method(method)) => method,
-        Some(RuntimeConstant::InterfaceMethod(method)) => method,
+        Some(RuntimeConstant::Method(reference)) => reference.target,
+        Some(RuntimeConstant::InterfaceMethod(reference)) => reference.target,
         _ => Err(Unresolved::NoReference),
     }
 }
@@ -81,9 +89,8 @@ fn field_of(target: Result<FieldTarget, Unresolved>) -> Result<Field, Unresolved
     ensures { result ≡ found_field target }
 {
     match target {
-        Ok(FieldTarget::Static { class, index, .. } | FieldTarget::Instance { class, index }) => {
-            Ok(Field::Given { class, index })
-        }
+        Ok(FieldTarget::Static { class, index, .. } | FieldTarget::Instance { class, index, .. }) =>
+            { Ok(Field::Given { class, index }) }
         Ok(FieldTarget::Out) => Ok(Field::Out),
         Err(fault) => Err(fault),
     }

@@ -6,8 +6,10 @@ ghost use Rattle.loading.specs.Names.{class_name_at};
 ghost use Rattle.hierarchy.specs.MemberNames.{named_in};
 ghost use Rattle.program.specs.References.{key_at, is_interface_id, wants_interface, FindsField, FindsMethod};
 ghost use Rattle.program.specs.References.{ResolvesFieldAt, ResolvesMethodAt};
+ghost use Rattle.program.specs.RuntimePool.{descriptor_index_at, IsMethodReference};
 
 use crate::resolver::Resolver;
+use crate::runtime_constant::MethodReference;
 use built_in::class_id::ClassId;
 use classfile::{ClassFile, Constant};
 use hierarchy::hierarchy::Hierarchy;
@@ -24,6 +26,16 @@ pub(crate) fn descriptor_at(file: &ClassFile, index: u16) -> &[u8]
     match file.constant(index) {
         Some(Constant::NameAndType { descriptor, .. }) => text_at(file, *descriptor),
         _ => &[],
+    }
+}
+
+/// The index of the descriptor that the NameAndType at an index gives, or 0.
+fn descriptor_index_at(file: &ClassFile, index: u16) -> u16
+    ensures { result ≡ descriptor_index_at file.now index }
+{
+    match file.constant(index) {
+        Some(Constant::NameAndType { descriptor, .. }) => *descriptor,
+        _ => 0,
     }
 }
 
@@ -176,5 +188,26 @@ impl Resolver<'_> {
             _ => return Ok(Err(Unresolved::NoReference)),
         };
         self.find_method(members, owner, class, self.member_at(name_and_type))
+    }
+
+    /// The reference to a method at an index, of these indices of a class and of a name and type.
+    pub(crate) fn method_reference(
+        &self,
+        members: &mut MemberResolver<'_>,
+        index: u16,
+        class: u16,
+        name_and_type: u16,
+    ) -> Result<MethodReference, AllocError>
+        requires members { members.old ≡ self.now.hierarchy.now }
+        ensures held { IfOk result
+            (IsMethodReference self.now.hierarchy.now.family self.now.file.now index class name_and_type) }
+        ensures kept { members.new ≡ members.old }
+    {
+        let target = self.resolve_method_at(members, index)?;
+        Ok(MethodReference {
+            class: self.class_at(class),
+            descriptor: descriptor_index_at(self.file, name_and_type),
+            target,
+        })
     }
 }

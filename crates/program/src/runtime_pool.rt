@@ -2,7 +2,10 @@
 
 ghost use Rattle.std.specs.Prelude.{◌≡◌, ◌<◌, [], ◌∷◌, ◌++◌, length, Some, IfOk, OnOk, slice_get, if◌then◌else◌};
 ghost use Rattle.program.specs.RuntimePool.{int_of_bits, long_of_halves};
-ghost use Rattle.program.specs.Fields.{static_number_of, static_of, final_of, target_in, target_of};
+ghost use Rattle.program.specs.Fields.{static_number_of, static_of, final_of};
+ghost use Rattle.program.specs.FieldTargets.{target_in, target_of};
+ghost use Rattle.program.specs.InstanceFields.{slot_of};
+ghost use Rattle.program.specs.steps.Slots.{field_slot_in};
 ghost use Rattle.program.specs.steps.StaticNumbers.{static_number_in};
 ghost use Rattle.program.specs.declared.runtime_constant.RuntimeConstant.{RuntimeConstant as Held};
 ghost use Rattle.program.specs.declared.runtime_constant.FieldTarget.TheVariants as targets;
@@ -16,6 +19,7 @@ ghost use Rattle.program.specs.steps.GrowingStrings.{Adds};
 
 use crate::class::RuntimePool;
 use crate::equal_entries::Earlier;
+use crate::field_slots::FieldSlots;
 use crate::references::descriptor_at;
 use crate::resolver::Resolver;
 use crate::runtime_constant::{FieldTarget, RuntimeConstant};
@@ -43,21 +47,21 @@ pub(crate) fn long_of_halves(high: u32, low: u32) -> i64
     i64::from_be_bytes(bits.to_be_bytes())
 }
 
-/// A field of a class file as instructions use it, from its number.
-fn target_in(file: &ClassFile, class: u32, index: u16, number: u32) -> FieldTarget
+/// A field of a class file as instructions use it, from its number and its slot.
+fn target_in(file: &ClassFile, class: u32, index: u16, number: u32, slot: u32) -> FieldTarget
     requires { index < length file.now.fields → number ≡ static_number_of file.now index }
-    ensures { result ≡ target_in (Some file.now) class index }
+    ensures { result ≡ target_in (Some file.now) class index slot }
 {
     match file.fields().get(usize::from(index)) {
-        Some(field) => target_of_field(field, class, index, number),
-        None => FieldTarget::Instance { class, index },
+        Some(field) => target_of_field(field, class, index, number, slot),
+        None => FieldTarget::Instance { class, index, slot },
     }
 }
 
-/// A field as instructions use it, from its number.
-fn target_of_field(field: &Member, class: u32, index: u16, number: u32) -> FieldTarget
+/// A field as instructions use it, from its number and its slot.
+fn target_of_field(field: &Member, class: u32, index: u16, number: u32, slot: u32) -> FieldTarget
     ensures { result ≡ (if static_of (Some field.now) then targets.Static class number (final_of (Some field.now)) index
-        else targets.Instance class index) }
+        else targets.Instance class index slot) }
 {
     if has_flag(field.access_flags, STATIC) {
         FieldTarget::Static {
@@ -67,7 +71,17 @@ fn target_of_field(field: &Member, class: u32, index: u16, number: u32) -> Field
             index,
         }
     } else {
-        FieldTarget::Instance { class, index }
+        FieldTarget::Instance { class, index, slot }
+    }
+}
+
+/// The slot that was found for a field of instances.
+fn slot_at(slots: &[FieldSlots], class: u32, index: u16) -> u32
+    ensures { result ≡ field_slot_in slots.now class index }
+{
+    match slots.get(class as usize) {
+        Some(slots) => slots.slot(index),
+        None => 0,
     }
 }
 
@@ -84,12 +98,21 @@ impl Resolver<'_> {
 
     /// A field of a given class as instructions use it.
     fn given_target(&self, class: u32, index: u16) -> FieldTarget
-        ensures { result ≡ target_in (file_in self.now.hierarchy.now.family class) class index }
+        ensures { result ≡ target_in (file_in self.now.hierarchy.now.family class) class index
+            (slot_of self.now.hierarchy.now.family class index) }
     {
+        let slot = self.slot(class, index);
         match self.hierarchy.family().file(class) {
-            Some(file) => target_in(file, class, index, self.number(class, index)),
-            None => FieldTarget::Instance { class, index },
+            Some(file) => target_in(file, class, index, self.number(class, index), slot),
+            None => FieldTarget::Instance { class, index, slot },
         }
+    }
+
+    /// The slot of a field of instances.
+    fn slot(&self, class: u32, index: u16) -> u32
+        ensures { result ≡ slot_of self.now.hierarchy.now.family class index }
+    {
+        slot_at(self.field_slots, class, index)
     }
 
     /// The number of a static field.
@@ -170,13 +193,19 @@ impl Resolver<'_> {
                 let held = self.field_constant(members, index, *name_and_type)?;
                 Ok(held)
             }
-            Constant::Methodref { .. } => {
-                let method = self.resolve_method_at(members, index)?;
-                Ok(RuntimeConstant::Method(method))
+            Constant::Methodref {
+                class,
+                name_and_type,
+            } => {
+                let held = self.method_reference(members, index, *class, *name_and_type)?;
+                Ok(RuntimeConstant::Method(held))
             }
-            Constant::InterfaceMethodref { .. } => {
-                let method = self.resolve_method_at(members, index)?;
-                Ok(RuntimeConstant::InterfaceMethod(method))
+            Constant::InterfaceMethodref {
+                class,
+                name_and_type,
+            } => {
+                let held = self.method_reference(members, index, *class, *name_and_type)?;
+                Ok(RuntimeConstant::InterfaceMethod(held))
             }
             _ => Ok(self.plain(index, constant)),
         }

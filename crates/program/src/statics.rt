@@ -2,7 +2,7 @@
 
 ghost use Rattle.std.specs.Prelude.{◌≡◌, [], ◌∷◌, ◌++◌, map, IfOk, OnOk, Some};
 ghost use Rattle.std.specs.List.{filter};
-ghost use Rattle.program.specs.Fields.{field_kind, has_value, narrowed, is_static_field, statics_of};
+ghost use Rattle.program.specs.Fields.{field_kind, has_value, is_static_field, statics_of};
 ghost use Rattle.loading.specs.Names.{text_at};
 ghost use Rattle.program.specs.Programs.{zero_of, constant_value_at, constant_value_of};
 ghost use Rattle.program.specs.Programs.{static_field};
@@ -35,7 +35,7 @@ pub(crate) fn field_kind(descriptor: &[u8]) -> FieldKind
 }
 
 /// Whether a field of a kind has a value.
-fn has_value(kind: FieldKind) -> bool
+pub(crate) fn has_value(kind: FieldKind) -> bool
     ensures { result ≡ has_value kind }
 {
     !matches!(kind, FieldKind::Float | FieldKind::Double)
@@ -49,7 +49,7 @@ pub(crate) fn is_static_field(file: &ClassFile, field: &Member) -> bool
 }
 
 /// What a field holds before its class is initialized (JVMS 2.3, 2.4).
-fn zero_of(kind: FieldKind) -> Value
+pub(crate) fn zero_of(kind: FieldKind) -> Value
     ensures { result ≡ zero_of kind }
 {
     match kind {
@@ -59,26 +59,12 @@ fn zero_of(kind: FieldKind) -> Value
     }
 }
 
-/// What narrowing an int to the type of a field gives (JVMS 2.11.4).
-fn narrowed(kind: FieldKind, number: i32) -> i32
-    ensures { result ≡ narrowed kind number }
-{
-    let bits = number.cast_unsigned();
-    match kind {
-        FieldKind::Boolean => (bits % 2) as i32,
-        FieldKind::Byte => ((bits % 256) as u8).cast_signed() as i32,
-        FieldKind::Char => (bits % 65536) as i32,
-        FieldKind::Short => ((bits % 65536) as u16).cast_signed() as i32,
-        _ => number,
-    }
-}
-
 /// The value that the constant at an index of a run-time constant pool gives a field.
 fn constant_value_at(pool: &RuntimePool, kind: FieldKind, index: u16) -> Option<Value>
     ensures { result ≡ constant_value_at pool.now kind (Some index) }
 {
     match pool.at(index) {
-        Some(RuntimeConstant::Int(number)) => Some(Value::Int(narrowed(kind, number))),
+        Some(RuntimeConstant::Int(number)) => Some(Value::Int(kind.narrowed(number))),
         Some(RuntimeConstant::Long(number)) => Some(Value::Long(number)),
         Some(RuntimeConstant::String(number)) => Some(Value::Text(number)),
         _ => None,

@@ -5,3 +5,4 @@ pub mod ShareLemmas
 pub mod StackLemmas
 pub mod PoolLemmas
 pub mod ObjectLemmas
+pub mod SlotLemmas

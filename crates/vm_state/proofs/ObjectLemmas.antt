@@ -37,7 +37,7 @@ unequal_below k n h = grind arith
 unequal_above : (k n : ℕ) → n < k → (k == n) ≡ false
 unequal_above k n h = grind arith
 
-none_below : (low : ℕ) (os : List (ℕ × Object)) (count k : ℕ) → AscendsFrom low os count → k < low →
+pub none_below : (low : ℕ) (os : List (ℕ × Object)) (count k : ℕ) → AscendsFrom low os count → k < low →
     object_in os k ≡ None
 none_below low [] count k h below = refl
 none_below low (x ∷ xs) count k (h, hs) below =

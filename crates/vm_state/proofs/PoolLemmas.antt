@@ -16,7 +16,7 @@ use Rattle.vm_state.proofs.ListLemmas.{tested, get_or-slice_set, get_or-filled}
 
 -- ---- one more object
 
-or_later-if : (b : Bool) (first o : Option Object) (new : Object) →
+pub or_later-if : (b : Bool) (first o : Option Object) (new : Object) →
     or_later first (if b then Some new else o) ≡ (if b then Some new else or_later first o)
 or_later-if true first o new = refl
 or_later-if false first o new = refl

@@ -11,11 +11,10 @@ use Rattle.vm_state.specs.declared.classes.ClassState.TheVariants.{InProgress}
 use Rattle.vm_state.specs.declared.classes.StaticField.{StaticField}
 use Rattle.vm_state.specs.Statics.{states_of, fields_of, with_state, with_fields, with_value, with_constants}
 use Rattle.vm_state.specs.SharedState.{Pool, Region, SharedState, pool_of, set_pool, set_region, set_state}
-use Rattle.vm_state.specs.SharedState.{with_field, with_new}
+use Rattle.vm_state.specs.SharedState.{with_field}
 use Rattle.vm_state.specs.Shares.{shared_of, begun}
 use Rattle.vm_state.specs.Pools.{pool_in, with_pool}
 use Rattle.vm_state.specs.Objects.{ObjectRow}
-use Rattle.built_in.specs.declared.class_id.ClassId.{ClassId}
 use Rattle.vm_state.specs.declared.value.Maker.TheVariants.{Class, Thread}
 use Rattle.vm_state.proofs.ListLemmas.{tested}
 
@@ -81,35 +80,35 @@ pub shared_of-field : (s : SharedTables) (b : List ClassArea) (c f : ℕ) (v : V
 unfolding shared_of
 shared_of-field s b c f v states fields = shared_of-fields s b c (with_value (fields_of s.classes c) f v) states fields
 
--- ---- an object made
+-- ---- the objects of one maker changed
 
-with_made : (fields : ℕ → ℕ → Value) (pools : ℕ → Pool) (c : ℕ) (p : Pool) (d : ℕ) →
+with_one : (fields : ℕ → ℕ → Value) (pools : ℕ → Pool) (c : ℕ) (p : Pool) (d : ℕ) →
     region (fields d) (with_pool pools c p d)
     ≡ (if c == d then record (region (fields d) (pools d)) { pool = p } else region (fields d) (pools d))
-with_made fields pools c p d = chosen (c == d) where
+with_one fields pools c p d = chosen (c == d) where
   chosen : (b : Bool) → region (fields d) (if b then p else pools d)
       ≡ (if b then region (fields d) p else region (fields d) (pools d))
   chosen true = refl
   chosen false = refl
 
-pub made_by_class : (s : SharedTables) (b : List ObjectRow) (c : ℕ) (class : ClassId) (slots : List Value) →
-    pool_in b ≡ with_pool (pool_in s.heap.classes) c (with_new (pool_in s.heap.classes c) class slots) →
+pub changed_by_class : (s : SharedTables) (b : List ObjectRow) (c : ℕ) (change : Pool → Pool) →
+    pool_in b ≡ with_pool (pool_in s.heap.classes) c (change (pool_in s.heap.classes c)) →
     (p : List Line) →
     shared_of (record s { heap = record s.heap { classes = b } }) p
-    ≡ set_pool (shared_of s p) (Class c) (with_new (pool_of (shared_of s p) (Class c)) class slots)
+    ≡ set_pool (shared_of s p) (Class c) (change (pool_of (shared_of s p) (Class c)))
 unfolding shared_of
-made_by_class s b c class slots is p =
+changed_by_class s b c change is p =
     ap (λ (regions : ℕ → Region). shared_by (states_of s.classes) regions (pool_in s.heap.threads) p) (fun_ext (λ d.
     ap (λ (pools : ℕ → Pool). region (fields_of s.classes d) (pools d)) is
-    ∙ with_made (fields_of s.classes) (pool_in s.heap.classes) c (with_new (pool_in s.heap.classes c) class slots) d))
+    ∙ with_one (fields_of s.classes) (pool_in s.heap.classes) c (change (pool_in s.heap.classes c)) d))
 
-pub made_by_thread : (s : SharedTables) (b : List ObjectRow) (t : ℕ) (class : ClassId) (slots : List Value) →
-    pool_in b ≡ with_pool (pool_in s.heap.threads) t (with_new (pool_in s.heap.threads t) class slots) →
+pub changed_by_thread : (s : SharedTables) (b : List ObjectRow) (t : ℕ) (change : Pool → Pool) →
+    pool_in b ≡ with_pool (pool_in s.heap.threads) t (change (pool_in s.heap.threads t)) →
     (p : List Line) →
     shared_of (record s { heap = record s.heap { threads = b } }) p
-    ≡ set_pool (shared_of s p) (Thread t) (with_new (pool_of (shared_of s p) (Thread t)) class slots)
+    ≡ set_pool (shared_of s p) (Thread t) (change (pool_of (shared_of s p) (Thread t)))
 unfolding shared_of
-made_by_thread s b t class slots is p =
+changed_by_thread s b t change is p =
     let regions : ℕ → Region = λ d. region (fields_of s.classes d) (pool_in s.heap.classes d) in
     ap (λ (pools : ℕ → Pool). shared_by (states_of s.classes) regions pools p) is
 

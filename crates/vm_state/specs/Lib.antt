@@ -1,6 +1,7 @@
 pub mod Values
 pub mod Operands
 pub mod Locals
+pub mod Arguments
 pub mod Variables
 pub mod Statics
 pub mod Segments
@@ -11,4 +12,5 @@ pub mod Pools
 pub mod SharedTables
 pub mod Shares
 pub mod Endings
+pub mod Texts
 pub mod steps

@@ -1,7 +1,8 @@
 //! Frames (JVMS 2.6), and lists of them.
 
 ghost use Rattle.std.specs.Prelude.{◌≡◌, ◌∷◌, [], IfOk, IfErr, OnOk, OnErr, None};
-ghost use Rattle.vm_state.specs.Segments.{frames_in};
+ghost use Rattle.vm_state.specs.Segments.{frames_in, first_frame, callers_of};
+ghost use Rattle.vm_state.specs.Operands.{dropped};
 
 use crate::locals::Locals;
 use crate::operands::Operands;
@@ -51,6 +52,33 @@ impl FrameList {
         FrameList {
             frames: Vec::new(alloc),
         }
+    }
+
+    /// Takes the innermost one off.
+    pub fn pop(&mut self) -> Option<Frame>
+        ensures frame { result ≡ first_frame self.old }
+        ensures rest { self.new ≡ callers_of self.old }
+    {
+        self.frames.pop()
+    }
+
+    /// Puts the frame of a caller on, without so many operands on top, as where it made a call with so many arguments
+    /// (JVMS 2.6.1).
+    ///
+    /// # Errors
+    /// The frame as it was where memory is refused; nothing has changed then.
+    pub fn push_caller(&mut self, frame: Frame, dropped_count: usize) -> Result<(), Frame>
+        ensures ok { OnOk result
+            (self.new ≡ record frame { operands = dropped dropped_count frame.operands } ∷ self.old) }
+        ensures err { IfErr result (λ kept. (kept ≡ frame) × (self.new ≡ self.old)) }
+    {
+        if self.frames.reserve(1).is_err() {
+            return Err(frame);
+        }
+        let mut caller = frame;
+        caller.operands.drop_many(dropped_count);
+        self.frames.push_reserved(caller);
+        Ok(())
     }
 
     /// These frames as a segment, where there is one.

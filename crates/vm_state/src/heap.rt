@@ -1,15 +1,16 @@
 //! The objects, by their names.
 
 ghost use Rattle.std.specs.Prelude.{◌≡◌, ℕ, ◌∷◌, [], ◌++◌, ◌<◌, ◌≤◌, ◌^◌, length, slice_index_or, option_copied, IfOk};
-ghost use Rattle.std.specs.Prelude.{OnOk, OnErr};
+ghost use Rattle.std.specs.Prelude.{OnOk, OnErr, IfSome, IfNone, IsSome, None};
 ghost use Rattle.std.specs.List.Sorted.{IsNonDecreasingBy};
 ghost use Rattle.vm_state.specs.declared.object.Object.{Object};
 ghost use Rattle.vm_state.specs.Objects.{empty_row, row_of, object_in};
 ghost use Rattle.vm_state.specs.steps.Objects.{with_next, object_at_place};
-ghost use Rattle.vm_state.specs.SharedState.{with_new};
-ghost use Rattle.vm_state.specs.Pools.{pool_in, with_pool};
+ghost use Rattle.vm_state.specs.SharedState.{with_new, with_slot};
+ghost use Rattle.vm_state.specs.Pools.{pool_by, pool_in, with_pool};
 
 use crate::object::{Monitor, Object, Slots};
+use crate::value::Value;
 use built_in::class_id::ClassId;
 use std::alloc::{AllocError, Global};
 use std::marker::Model;
@@ -72,6 +73,35 @@ impl Row {
         match object_at_place(objects, number as usize, number) {
             Some(object) => Some(object),
             None => object_at_place(objects, place_of(objects, number), number),
+        }
+    }
+
+    /// The place of the object of a number, if it is held. Where no number is left out it is the number.
+    #[inline(always)]
+    fn place(&self, number: u64) -> Option<usize>
+        ensures held { IfSome result (λ place. IsSome (object_at_place self.now.objects place number)) }
+        ensures none { IfNone result (object_in self.now.objects number ≡ None) }
+    {
+        let objects = self.objects.as_slice();
+        let at_number = number as usize;
+        if object_at_place(objects, at_number, number).is_some() {
+            return Some(at_number);
+        }
+        let place = place_of(objects, number);
+        if object_at_place(objects, place, number).is_some() {
+            return Some(place);
+        }
+        None
+    }
+
+    /// Puts a value into a slot of the object of a number. Where it is not held, or has no such slot, nothing changes.
+    #[inline(always)]
+    fn set_slot(&mut self, number: u64, slot: usize, value: Value)
+        ensures { pool_by self.new ≡ with_slot (pool_by self.old) number slot value }
+    {
+        if let Some(place) = self.place(number) {
+            let held = &mut self.objects[place];
+            held.1.slots.set(slot, value);
         }
     }
 
@@ -147,6 +177,18 @@ impl Rows {
         match self.rows.get(maker as usize) {
             Some(row) => row.object(number),
             None => None,
+        }
+    }
+
+    /// Puts a value into a slot of the object of a maker and a number. Where it is not held, or has no such slot,
+    /// nothing changes.
+    #[inline(always)]
+    pub fn set_slot(&mut self, maker: u32, number: u64, slot: usize, value: Value)
+        ensures { pool_in self.new
+            ≡ with_pool (pool_in self.old) maker (with_slot (pool_in self.old maker) number slot value) }
+    {
+        if let Some(row) = self.rows.get_mut(maker as usize) {
+            row.set_slot(number, slot, value);
         }
     }
 

@@ -1,11 +1,14 @@
 //! The local variables of a frame (JVMS 2.6.1).
 
-ghost use Rattle.std.specs.Prelude.{◌≡◌, ◌<◌, IfOk, OnErr, OnOk, Some, None, length, option_map, replicate, slice_get};
-ghost use Rattle.std.specs.Prelude.{slice_set};
+ghost use Rattle.std.specs.Prelude.{◌≡◌, ◌+◌, ◌^◌, ◌<◌, ◌≤◌, IfOk, OnErr, OnOk, Some, None, length, option_map};
+ghost use Rattle.std.specs.Prelude.{replicate, slice_get, slice_set};
 ghost use Rattle.vm_state.specs.declared.value.Value.{Value};
 ghost use Rattle.vm_state.specs.Locals.{int_at, long_at, stored, value_at};
 ghost use Rattle.vm_state.specs.Variables.{value_in};
+ghost use Rattle.vm_state.specs.Values.{places};
+ghost use Rattle.vm_state.specs.Arguments.{passed, taken};
 
+use crate::operands::Operands;
 use crate::value::{Fault, Value};
 use std::alloc::{AllocError, Global};
 use std::marker::Model;
@@ -111,6 +114,21 @@ impl Locals {
         self.variables[at] = variable;
     }
 
+    /// Puts a value into its places, which are all there.
+    #[tactic(auto, unfolding(crate::specs::Locals::stored))]
+    #[inline(always)]
+    fn put_value(&mut self, at: usize, value: Value)
+        requires room { at + places value ≤ length self.old }
+        requires fits { at + places value < 2 ^ 64 }
+        ensures stored { stored self.old at value ≡ Some self.new }
+        ensures count { length self.new ≡ length self.old }
+    {
+        self.put(at, Variable::holding(value));
+        if let Value::Long(_) = value {
+            self.put(at + 1, Variable::Nothing);
+        }
+    }
+
     /// Puts an int into a place. Where an int is there already its number alone is written.
     #[inline(always)]
     fn put_int(&mut self, at: usize, number: i32)
@@ -209,10 +227,7 @@ impl Locals {
         if at + value.places() as usize > self.count() {
             return Err(Fault);
         }
-        self.put(at, Variable::holding(value));
-        if let Value::Long(_) = value {
-            self.put(at + 1, Variable::Nothing);
-        }
+        self.put_value(at, value);
         Ok(())
     }
 
@@ -253,5 +268,47 @@ impl Locals {
         self.put_long(at, number);
         self.put(at + 1, Variable::Nothing);
         Ok(())
+    }
+
+    /// Stores a value from a place on, and answers the place after it.
+    #[tactic(auto, unfolding(crate::specs::Locals::stored))]
+    #[inline(always)]
+    fn store_next(&mut self, at: usize, value: Value) -> Result<usize, Fault>
+        requires { at ≤ length self.old }
+        ensures next { IfOk result (λ next. (next ≡ at + places value) × (next ≤ length self.new)) }
+        ensures ok { OnOk result (stored self.old at value ≡ Some self.new) }
+        ensures err { OnErr result (stored self.old at value ≡ None) }
+    {
+        let places = value.places() as usize;
+        if self.count() - at < places {
+            return Err(Fault);
+        }
+        self.put_value(at, value);
+        Ok(at + places)
+    }
+
+    /// Stores values one after another, from the first place on.
+    #[tactic(auto, unfolding(crate::specs::Arguments::passed))]
+    fn store_all(&mut self, values: &[Value]) -> Result<(), Fault>
+        ensures ok { OnOk result (passed self.old 0 values.now ≡ Some self.new) }
+        ensures err { OnErr result (passed self.old 0 values.now ≡ None) }
+    {
+        let mut at = 0;
+        for value in values {
+            at = self.store_next(at, *value)?;
+        }
+        Ok(())
+    }
+
+    /// Stores the arguments of a call, which are the so many operands on top, the lowest first (JVMS 2.6.1). Where
+    /// there are fewer operands, all of them.
+    ///
+    /// # Errors
+    /// `Fault` where they do not all fit; some may be stored then.
+    pub fn pass(&mut self, operands: &Operands, count: usize) -> Result<(), Fault>
+        ensures ok { OnOk result (passed self.old 0 (taken count operands.now) ≡ Some self.new) }
+        ensures err { OnErr result (passed self.old 0 (taken count operands.now) ≡ None) }
+    {
+        self.store_all(operands.taken(count))
     }
 }

@@ -1,6 +1,6 @@
 //! Objects: instances and arrays (JVMS 2.7).
 
-ghost use Rattle.std.specs.Prelude.{◌≡◌, [], IfOk};
+ghost use Rattle.std.specs.Prelude.{◌≡◌, [], IfOk, replicate, slice_set};
 
 use crate::value::Value;
 use built_in::class_id::ClassId;
@@ -43,12 +43,40 @@ impl Slots {
         Ok(Slots { values })
     }
 
+    /// This value so many times.
+    ///
+    /// # Errors
+    /// `AllocError` where memory is refused.
+    pub fn filled(alloc: Global, value: Value, count: usize) -> Result<Slots, AllocError>
+        ensures { IfOk result (λ s. s ≡ replicate count value) }
+    {
+        let values = vec![in alloc; value; count]?;
+        Ok(Slots { values })
+    }
+
+    /// These values, which are not copied.
+    pub fn of_vec(values: Vec<Value>) -> Slots
+        ensures { result ≡ values.items }
+    {
+        Slots { values }
+    }
+
     /// Their values.
     #[inline(always)]
     pub fn as_slice(&self) -> &[Value]
         ensures { result.now ≡ self.now }
     {
         self.values.as_slice()
+    }
+
+    /// Puts a value into a slot. Where there is no such slot nothing changes.
+    #[inline(always)]
+    pub fn set(&mut self, slot: usize, value: Value)
+        ensures { self.new ≡ slice_set self.old slot value }
+    {
+        if let Some(held) = self.values.get_mut(slot) {
+            *held = value;
+        }
     }
 }
 

@@ -1,9 +1,10 @@
 //! The operand stack of a frame (JVMS 2.6.2).
 
-ghost use Rattle.std.specs.Prelude.{◌≡◌, ◌≤◌, ◌<◌, ◌∷◌, [], IfOk, OnErr, OnOk, Some, None, nat_le};
+ghost use Rattle.std.specs.Prelude.{◌≡◌, ◌+◌, ◌≤◌, ◌<◌, ◌∷◌, [], IfOk, OnErr, OnOk, Some, None, nat_le};
 ghost use Rattle.vm_state.specs.Values.{places};
 ghost use Rattle.vm_state.specs.Operands.{OperandStack, all_places, pushed, top, top_int, top_long};
 ghost use Rattle.vm_state.specs.Operands.{rest, dropped, all_pushed};
+ghost use Rattle.vm_state.specs.Arguments.{taken};
 
 use crate::value::{Fault, Value};
 use std::alloc::{AllocError, Global};
@@ -261,7 +262,7 @@ impl Operands {
         ensures same { OnErr result (self.new ≡ self.old) }
     {
         fit(values, self.free_under(others))?;
-        self.drop_all(others);
+        self.drop_many(others);
         self.push_all(values)
     }
 
@@ -278,12 +279,31 @@ impl Operands {
 
     /// Takes so many values off, as far as there are any.
     #[tactic(auto, using(crate::proofs::OperandLemmas::dropped_more))]
-    fn drop_all(&mut self, count: usize)
+    #[inline(always)]
+    pub fn drop_many(&mut self, count: usize)
         ensures { self.new ≡ dropped count self.old }
     {
         for _ in 0..count {
             self.drop_top();
         }
+    }
+
+    /// Takes all values off, as where an exception is caught (JVMS 2.10).
+    pub fn clear(&mut self)
+        ensures { self.new ≡ record { free = self.old.free + all_places self.old.values; values = [] } }
+    {
+        let count = self.values.len();
+        self.drop_many(count);
+    }
+
+    /// The so many values on top, the lowest first: the arguments of a call in their order (JVMS 2.6.1). Where there
+    /// are fewer, all of them.
+    #[inline(always)]
+    pub fn taken(&self, count: usize) -> &[Value]
+        ensures { result.now ≡ taken count self.now }
+    {
+        let first = self.values.len().saturating_sub(count);
+        &self.values.as_slice()[first..]
     }
 }
 

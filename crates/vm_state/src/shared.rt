@@ -1,8 +1,8 @@
 //! What all threads share.
 
-ghost use Rattle.std.specs.Prelude.{◌≡◌, List, IfOk, OnOk, OnErr, option_copied};
+ghost use Rattle.std.specs.Prelude.{◌≡◌, List, IfOk, OnOk, OnErr, option_copied, option_map};
 ghost use Rattle.vm_state.specs.declared.text.Line.{Line};
-ghost use Rattle.vm_state.specs.SharedState.{object_of};
+ghost use Rattle.vm_state.specs.SharedState.{object_of, class_at, pool_of, set_pool, slots_at, with_slot};
 ghost use Rattle.vm_state.specs.Shares.{shared_of, SharesTheSame, SetsField, SetsState, Begins, Makes, IsNextName};
 
 use crate::classes::{ClassState, Classes, NoPlace, StaticField};
@@ -147,6 +147,43 @@ impl Shared {
         match name.maker {
             Maker::Class(class) => self.heap.classes.object(class, name.number),
             Maker::Thread(thread) => self.heap.threads.object(thread, name.number),
+        }
+    }
+
+    /// The class of the object of a name, if it is held.
+    #[inline(always)]
+    pub fn class_of(&self, name: Name) -> Option<ClassId>
+        ensures { (p : List Line) → result ≡ class_at (pool_of (shared_of self.now p) name.maker) name.number }
+    {
+        match self.object(name) {
+            Some(object) => Some(object.class),
+            None => None,
+        }
+    }
+
+    /// The slots of the object of a name, if it is held.
+    #[inline(always)]
+    pub fn slots(&self, name: Name) -> Option<&[Value]>
+        ensures { (p : List Line) → option_map (λ s. s.now) result
+            ≡ slots_at (pool_of (shared_of self.now p) name.maker) name.number }
+    {
+        match self.object(name) {
+            Some(object) => Some(object.slots.as_slice()),
+            None => None,
+        }
+    }
+
+    /// Puts a value into a slot of the object of a name, without memory. Where it is not held, or has no such slot,
+    /// nothing changes.
+    #[tactic(auto, unfolding(crate::specs::Shares::shared_of))]
+    #[inline(always)]
+    pub fn set_slot(&mut self, name: Name, slot: usize, value: Value)
+        ensures { (p : List Line) → shared_of self.new p ≡ set_pool (shared_of self.old p) name.maker
+            (with_slot (pool_of (shared_of self.old p) name.maker) name.number slot value) }
+    {
+        match name.maker {
+            Maker::Class(class) => self.heap.classes.set_slot(class, name.number, slot, value),
+            Maker::Thread(thread) => self.heap.threads.set_slot(thread, name.number, slot, value),
         }
     }
 

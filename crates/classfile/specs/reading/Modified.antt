@@ -1,7 +1,5 @@
 -- Modified UTF-8: each unit in its one spelling.
 use Rattle.std.specs.Prelude.{ℕ, ◌+◌, Bool, true, false, ◌&&◌, ◌||◌, List, [], ◌∷◌, nat_lt, nat_eq, if◌then◌else◌}
-use Rattle.std.specs.Prelude.{◌≡◌, ◌++◌}
-use Rattle.classfile.specs.Units.{unit_text}
 
 -- b is from a on and below c
 abbrev pub between : ℕ → ℕ → ℕ → Bool
@@ -29,8 +27,3 @@ is_modified (a ∷ b ∷ c ∷ rest) =
 abbrev pub all_one : List ℕ → Bool
 all_one [] = true
 all_one (a ∷ rest) = is_one a && all_one rest
-
--- the text is the spelling of a unit and then modified UTF-8
-pub record IsSpelledFirst (unit : ℕ) (rest text : List ℕ) : Type 0 where
-  pub spelled : text ≡ unit_text unit ++ rest
-  pub modified : is_modified rest ≡ true

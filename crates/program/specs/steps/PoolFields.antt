@@ -14,7 +14,7 @@ use Rattle.program.specs.declared.runtime_constant.RuntimeConstant.TheVariants a
 -- the field that instructions use so
 abbrev pub field_of : FieldTarget → Field
 field_of (targets.Static c number is_final k) = fields.Given c k
-field_of (targets.Instance c k) = fields.Given c k
+field_of (targets.Instance c k slot) = fields.Given c k
 field_of targets.Out = fields.Out
 
 abbrev pub found_field : Result FieldTarget Unresolved → Result Field Unresolved
@@ -28,6 +28,6 @@ pool_field _ = Err NoReference
 
 -- what a constant says of a method
 abbrev pub pool_method : Option RuntimeConstant → Result Method Unresolved
-pool_method (Some (runtime.Method method)) = method
-pool_method (Some (runtime.InterfaceMethod method)) = method
+pool_method (Some (runtime.Method reference)) = reference.target
+pool_method (Some (runtime.InterfaceMethod reference)) = reference.target
 pool_method _ = Err NoReference

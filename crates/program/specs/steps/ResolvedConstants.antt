@@ -14,7 +14,8 @@ use Rattle.loading.specs.Families.{Family}
 use Rattle.loading.specs.ClassIds.{StandsFor}
 use Rattle.loading.specs.Names.{class_name_at}
 use Rattle.program.specs.References.{key_at, ResolvesFieldAt}
-use Rattle.program.specs.Fields.{field_kind, targeted}
+use Rattle.program.specs.Fields.{field_kind}
+use Rattle.program.specs.FieldTargets.{targeted}
 use Rattle.program.specs.RuntimePool.{IsRuntimeConstant}
 
 -- what the field that the Fieldref at an index resolves to is for instructions

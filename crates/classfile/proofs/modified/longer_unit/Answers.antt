@@ -1,22 +1,19 @@
-use Rattle.std.proofs.Common.{refl}
-use Rattle.classfile.proofs.FirstUnitLemmas.{two_at, three_at, no_end_at, no_end_at_two}
+use Rattle.classfile.proofs.PrintingLemmas.{two_at, three_at, cut_at, cut_at_two}
 use Rattle.classfile.proofs.modified.longer_unit.Goals as goal
 
-pub returns-then-first-lt224-clause-spelled : goal.returns-then-first-lt224-clause-spelled
-returns-then-first-lt224-clause-spelled c e =
-    rw c.unit_of_two.ensures
-    (two_at _ _ _ _ _ _ _ refl c.in_ok-second.ensures.cases.0 c.requires c.if-first-lt224.true refl refl e)
+pub returns-then-first-lt224-clause-read : goal.returns-then-first-lt224-clause-read
+returns-then-first-lt224-clause-read c =
+    two_at _ _ _ _ _ c.in_ok-second.ensures.cases.0 c.requires c.if-first-lt224.true c.unit_of_two.ensures
 
-pub returns-in_err-second-clause-spelled : goal.returns-in_err-second-clause-spelled
-returns-in_err-second-clause-spelled c e = absurd (no_end_at _ _ _ refl c.in_err-second.ensures.cases c.requires e)
+pub returns-in_err-second-clause-read : goal.returns-in_err-second-clause-read
+returns-in_err-second-clause-read c = rw c.from_residual.ensures (cut_at _ _ c.in_err-second.ensures.cases c.requires)
 
-pub returns-in_err-third-clause-spelled : goal.returns-in_err-third-clause-spelled
-returns-in_err-third-clause-spelled c e =
-    absurd (no_end_at_two _ _ _ _ _ refl c.in_ok-second.ensures.cases.0 c.in_err-third.ensures.cases
-    c.if-first-lt224.false e)
+pub returns-in_err-third-clause-read : goal.returns-in_err-third-clause-read
+returns-in_err-third-clause-read c =
+    rw c.from_residual-in_err-third.ensures
+    (cut_at_two _ _ _ _ c.in_ok-second.ensures.cases.0 c.in_err-third.ensures.cases c.if-first-lt224.false)
 
-pub returns-clause-spelled : goal.returns-clause-spelled
-returns-clause-spelled c e =
-    rw c.unit_of_three.ensures
-    (three_at _ _ _ _ _ _ _ _ _ _ refl c.in_ok-second.ensures.cases.0 c.in_ok-third.ensures.cases.0
-    c.if-first-lt224.false refl refl refl e)
+pub returns-clause-read : goal.returns-clause-read
+returns-clause-read c =
+    three_at _ _ _ _ _ _ _ c.in_ok-second.ensures.cases.0 c.in_ok-third.ensures.cases.0 c.if-first-lt224.false
+    c.unit_of_three.ensures

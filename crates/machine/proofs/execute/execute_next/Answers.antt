@@ -1,6 +1,4 @@
 use Rattle.std.proofs.Common.{rules}
-use Rattle.program.specs.Tables.{implementation_at}
-use Rattle.machine.specs.Table.{catches_in}
 use Rattle.frame_instructions.specs.Completion.{completed}
 use Rattle.machine.proofs.TableLocalLemmas.{next_local, next_other, local_activity}
 use Rattle.machine.proofs.execute.execute_next.Goals as goal
@@ -9,17 +7,16 @@ pub returns-in-None-clause-gives : goal.returns-in-None-clause-gives
 returns-in-None-clause-gives g c =
     λ p. rw (
       next_other c.args.program.now c.args.class c.args.method c.args.frame.now c.in-Some.instruction.now (search rules)
-          (catches_in (implementation_at c.args.program.now c.args.class c.args.method)) (search rules),
+          (search rules),
       ← c.resolved_operation-resolved.ensures,
       ← c.in-None.ensures.none,
     )
-    (c.execute_resolved.ensures.gives p (catches_in (implementation_at c.args.program.now c.args.class c.args.method)))
+    (c.execute_resolved.ensures.gives p)
 
 pub returns-in-Some-execute_local-clause-gives : goal.returns-in-Some-execute_local-clause-gives
 returns-in-Some-execute_local-clause-gives g c =
     λ p. rw (next_local c.args.program.now c.args.class c.args.method c.args.frame.now c.in-Some.instruction.now
     (search rules)
-    (catches_in (implementation_at c.args.program.now c.args.class c.args.method))
     (completed c.in-Some-execute_local.went c.execute_local.new.frame)
     (search rules)) (c.end.ensures.gives p)
 

@@ -1,6 +1,4 @@
-use Rattle.std.proofs.Common.{◌∙◌, refl, sym, subst}
-use Rattle.loading.specs.Families.{Family}
-use Rattle.program.specs.steps.Ahead.{AreAhead}
+use Rattle.std.proofs.Common.{refl}
 use Rattle.program.proofs.AheadLemmas.{ahead_of_none}
 use Rattle.program.proofs.resolver.Resolver.members_ahead.Goals as goal
 

@@ -8,14 +8,14 @@ returns-in_ok-held-in-Fieldref-clause-held c = λ strings plain.
     let held = c.in_ok-held-in-Fieldref.ensures.held in
     constant_is _ strings _ _ _ _ _ _ c.in-Fieldref.is held.2 (IsRuntimeConstant.field held.0 held.1)
 
-pub returns-in_ok-method-in-Methodref-clause-held : goal.returns-in_ok-method-in-Methodref-clause-held
-returns-in_ok-method-in-Methodref-clause-held c = λ strings plain.
-    rw c.in-Methodref.is (IsRuntimeConstant.method c.in_ok-method-in-Methodref.ensures.method)
+pub returns-in_ok-held-in-Methodref-clause-held : goal.returns-in_ok-held-in-Methodref-clause-held
+returns-in_ok-held-in-Methodref-clause-held c = λ strings plain.
+    rw c.in-Methodref.is (IsRuntimeConstant.method c.in_ok-held-in-Methodref.ensures.held)
 
-pub returns-in_ok-method-in-InterfaceMethodref-clause-held : goal.returns-in_ok-method-in-InterfaceMethodref-clause-held
-returns-in_ok-method-in-InterfaceMethodref-clause-held c = λ strings plain.
+pub returns-in_ok-held-in-InterfaceMethodref-clause-held : goal.returns-in_ok-held-in-InterfaceMethodref-clause-held
+returns-in_ok-held-in-InterfaceMethodref-clause-held c = λ strings plain.
     rw c.in-InterfaceMethodref.is
-    (IsRuntimeConstant.interface_method c.in_ok-method-in-InterfaceMethodref.ensures.method)
+    (IsRuntimeConstant.interface_method c.in_ok-held-in-InterfaceMethodref.ensures.held)
 
 pub returns-in_default-clause-held : goal.returns-in_default-clause-held
 returns-in_default-clause-held c = λ strings plain.

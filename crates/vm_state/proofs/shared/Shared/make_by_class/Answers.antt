@@ -1,16 +1,16 @@
 use Rattle.std.proofs.Common.{ap, ◌∙◌}
 use Rattle.vm_state.specs.declared.value.Maker.TheVariants.{Class}
-use Rattle.vm_state.specs.SharedState.{made}
+use Rattle.vm_state.specs.SharedState.{Pool, made, with_new}
 use Rattle.vm_state.specs.SharedTables.{SharedTables}
 use Rattle.vm_state.specs.Shares.{shared_of}
-use Rattle.vm_state.proofs.ShareLemmas.{made_by_class, made_none_by_class, if_refused}
+use Rattle.vm_state.proofs.ShareLemmas.{changed_by_class, made_none_by_class, if_refused}
 use Rattle.vm_state.proofs.shared.Shared.make_by_class.Goals as goal
 
 pub returns-clause-ok : goal.returns-clause-ok
 returns-clause-ok c p =
     let tables : SharedTables = record { classes = c.self.inside.classes; heap = c.self.inside.heap } in
-    made_by_class tables c.make.new.self c.args.maker c.args.class c.args.slots
-    c.in_ok-number.ensures.ok p
+    changed_by_class tables c.make.new.self c.args.maker
+    (λ (pool : Pool). with_new pool c.args.class c.args.slots) c.in_ok-number.ensures.ok p
     ∙ ap (λ (s : SharedTables). made (shared_of s p) (Class c.args.maker) c.args.class c.args.slots) c.self.view_is
 
 pub returns-in_err-number-clause-err : goal.returns-in_err-number-clause-err

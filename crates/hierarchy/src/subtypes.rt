@@ -1,0 +1,174 @@
+//! Which classes are below which (JVMS 6.5, checkcast, instanceof and aastore; 2.10).
+
+ghost use Rattle.std.specs.Prelude.{◌≡◌, ◌==◌};
+ghost use Rattle.std.specs.List.{list_any};
+ghost use Rattle.hierarchy.specs.Initialization.{given_superclasses};
+ghost use Rattle.hierarchy.specs.Subclasses.{is_above};
+ghost use Rattle.hierarchy.specs.Subtypes.{is_below, is_class_below, is_given_below, is_built_in_class_below};
+ghost use Rattle.hierarchy.specs.Subtypes.{is_array_below, is_array_type_below, is_element_below, is_object_element};
+ghost use Rattle.hierarchy.specs.Subtypes.{is_object, class_of_element, type_code, is_end_below, end_of_chain};
+
+use crate::hierarchy::Hierarchy;
+use crate::marked::Marked;
+use built_in::class_id::{ArrayType, BuiltIn, ClassId, ElementType};
+use std::cmp::Ordering;
+
+impl Hierarchy {
+    /// Whether a class is another one, or below it: whether its objects can be cast to that.
+    pub fn is_below(&self, class: ClassId, other: ClassId) -> bool
+        ensures { result ≡ is_below self.now.family class other }
+    {
+        match class {
+            ClassId::Array(array) => self.is_array_below(array, other),
+            ClassId::Given(_) | ClassId::BuiltIn(_) => self.is_class_below(class, other),
+        }
+    }
+
+    /// The same of a class that is no array class.
+    fn is_class_below(&self, class: ClassId, other: ClassId) -> bool
+        ensures { result ≡ is_class_below self.now.family class other }
+    {
+        match class {
+            ClassId::Given(class) => self.is_given_below(class, other),
+            ClassId::BuiltIn(class) => is_built_in_class_below(class, other),
+            ClassId::Array(_) => false,
+        }
+    }
+
+    /// The same of a given class.
+    fn is_given_below(&self, class: u32, other: ClassId) -> bool
+        ensures { result ≡ is_given_below self.now.family class other }
+    {
+        match other {
+            ClassId::Given(other) => class == other || self.is_above(class, other),
+            ClassId::BuiltIn(other) => self.is_top_below(class, other),
+            ClassId::Array(_) => false,
+        }
+    }
+
+    /// Whether the second of two given classes stands above the first.
+    fn is_above(&self, class: u32, other: u32) -> bool
+        ensures { result ≡ is_above self.now.family class other }
+    {
+        let _classes = self.family().classes();
+        if self.family().is_interface(other) {
+            self.is_marked_above(class, other)
+        } else {
+            self.is_superclass(class, other)
+        }
+    }
+
+    /// The same by marks of all that stands above the class.
+    fn is_marked_above(&self, class: u32, other: u32) -> bool
+        ensures { result ≡ is_above self.now.family class other }
+    {
+        let _classes = self.family().classes();
+        Marked::ancestors(self.family(), class).has(other)
+    }
+
+    /// Whether the second of two given classes is a superclass of the first.
+    fn is_superclass(&self, class: u32, other: u32) -> bool
+        ensures { result ≡ list_any (λ d. d == other) (given_superclasses self.now.family class) }
+    {
+        let _classes = self.family().classes();
+        self.superclasses(class).any(|above| above == other)
+    }
+
+    /// Whether the built-in class above a given one is below another built-in class.
+    fn is_top_below(&self, class: u32, other: BuiltIn) -> bool
+        ensures { result ≡ is_end_below other (end_of_chain self.now.family class) }
+    {
+        let _classes = self.family().classes();
+        match self.top(class) {
+            Some(top) => top.is_below(other),
+            None => false,
+        }
+    }
+
+    /// Whether an array class is below another class.
+    fn is_array_below(&self, array: ArrayType, other: ClassId) -> bool
+        ensures { result ≡ is_array_below self.now.family array other }
+    {
+        match other {
+            ClassId::Array(other) => self.is_array_type_below(array, other),
+            ClassId::BuiltIn(other) => is_object(other),
+            ClassId::Given(_) => false,
+        }
+    }
+
+    /// Whether an array class is below another array class.
+    fn is_array_type_below(&self, array: ArrayType, other: ArrayType) -> bool
+        ensures { result ≡ is_array_type_below self.now.family array other }
+    {
+        match array.dimensions.cmp(&other.dimensions) {
+            Ordering::Equal => self.is_element_below(array.element, other.element),
+            Ordering::Greater => is_object_element(other.element),
+            Ordering::Less => false,
+        }
+    }
+
+    /// Whether an element type is another one, or a class below it.
+    fn is_element_below(&self, element: ElementType, other: ElementType) -> bool
+        ensures { result ≡ is_element_below self.now.family element other }
+    {
+        match (class_of(element), class_of(other)) {
+            (Some(class), Some(other)) => self.is_class_below(class, other),
+            (None, None) => type_code(element) == type_code(other),
+            _ => false,
+        }
+    }
+}
+
+/// Whether a built-in class is another class, or below it.
+fn is_built_in_class_below(class: BuiltIn, other: ClassId) -> bool
+    ensures { result ≡ is_built_in_class_below class other }
+{
+    match other {
+        ClassId::BuiltIn(other) => class.is_below(other),
+        ClassId::Given(_) | ClassId::Array(_) => false,
+    }
+}
+
+/// Whether an element type is the class Object.
+fn is_object_element(element: ElementType) -> bool
+    ensures { result ≡ is_object_element element }
+{
+    match element {
+        ElementType::BuiltIn(class) => is_object(class),
+        _ => false,
+    }
+}
+
+fn is_object(class: BuiltIn) -> bool
+    ensures { result ≡ is_object class }
+{
+    class == BuiltIn::Object
+}
+
+/// The class of an element type that is no primitive type.
+fn class_of(element: ElementType) -> Option<ClassId>
+    ensures { result ≡ class_of_element element }
+{
+    match element {
+        ElementType::Given(class) => Some(ClassId::Given(class)),
+        ElementType::BuiltIn(class) => Some(ClassId::BuiltIn(class)),
+        _ => None,
+    }
+}
+
+/// The number of a primitive type (JVMS 6.5, newarray).
+fn type_code(element: ElementType) -> u8
+    ensures { result ≡ type_code element }
+{
+    match element {
+        ElementType::Boolean => 4,
+        ElementType::Char => 5,
+        ElementType::Float => 6,
+        ElementType::Double => 7,
+        ElementType::Byte => 8,
+        ElementType::Short => 9,
+        ElementType::Int => 10,
+        ElementType::Long => 11,
+        ElementType::Given(_) | ElementType::BuiltIn(_) => 0,
+    }
+}

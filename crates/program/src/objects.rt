@@ -1,0 +1,87 @@
+//! Objects of the classes of a program, as they are made (JVMS 6.5, new).
+
+ghost use Rattle.std.specs.Prelude.{◌≡◌, ◌++◌, ℕ, [], true, map, reverse, Some, IfOk, OnOk, slice_get};
+ghost use Rattle.classfile.specs.ClassFile.{ClassFile as File};
+ghost use Rattle.classfile.specs.declared.member.Member.{Member as Declared};
+ghost use Rattle.loading.specs.declared.given.Superclass.TheVariants as super;
+ghost use Rattle.loading.specs.Families.{Family as Classes, IsFamily, AreParentsWithin, file_in, superclass_in};
+ghost use Rattle.program.specs.InstanceFields.{is_instantiable_in, slots_of, slot_of, is_instance_field, kind_of};
+ghost use Rattle.program.specs.InstanceFields.{own_kinds_if};
+ghost use Rattle.program.specs.Programs.{zero_of};
+ghost use Rattle.program.specs.steps.Slots.{AreSlots};
+
+use crate::instance_fields::has_instances;
+use crate::linked_program::Program;
+use crate::runtime_constant::FieldKind;
+use crate::slots::Slots;
+use crate::statics::zero_of;
+use loading::family::Family;
+use std::alloc::{AllocError, Global};
+use vm_state::value::Value;
+
+impl Program {
+    /// Whether a class has instances: it is neither an interface nor abstract (JVMS 6.5, new).
+    pub fn is_instantiable(&self, class: u32) -> bool
+        ensures { result ≡ is_instantiable_in self.now.family class }
+    {
+        match self.hierarchy.family().file(class) {
+            Some(file) => has_instances(file),
+            None => false,
+        }
+    }
+
+    /// What a new object of a class holds: of each field of it and of its superclasses zero or null (JVMS 2.3, 2.4).
+    ///
+    /// # Errors
+    /// Where memory runs out.
+    pub fn zero_slots(&self, alloc: Global, class: u32) -> Result<Vec<Value>, AllocError>
+        ensures { IfOk result (λ slots. slots.items ≡ map zero_of (slots_of self.now.family class)) }
+    {
+        let count = self.slots.chain(class).count;
+        let mut slots = Vec::with_capacity(alloc, count as usize)?;
+        add_zeros(self.hierarchy.family(), &self.slots, class, &mut slots)?;
+        slots.reverse();
+        Ok(slots)
+    }
+}
+
+/// Adds zero or null for each slot of a class, the last first.
+fn add_zeros(
+    family: &Family,
+    tables: &Slots,
+    class: u32,
+    slots: &mut Vec<Value>,
+) -> Result<(), AllocError>
+    requires tables { AreSlots family.now tables.now }
+    requires empty { slots.old.items ≡ [] }
+    ensures { OnOk result (reverse slots.new.items ≡ map zero_of (slots_of family.now class)) }
+{
+    let _classes = family.classes();
+    let mut next = tables.chain(class).nearest;
+    while let Some(adding) = next {
+        add_zeros_of(tables.added(adding), slots)?;
+        next = tables.above(family, adding).nearest;
+    }
+    Ok(())
+}
+
+/// Adds zero or null for each of some slots, the last first.
+fn add_zeros_of(kinds: &[FieldKind], slots: &mut Vec<Value>) -> Result<(), AllocError>
+    ensures { OnOk result (reverse slots.new.items ≡ map zero_of kinds.now ++ reverse slots.old.items) }
+{
+    for index in (0..kinds.len()).rev() {
+        slots.push(zero_of(kinds[index]))?;
+    }
+    Ok(())
+}
+
+/// At the slot of a field stands its kind, and the slots of a superclass stand before those of a class's own fields, so
+/// that a field has the same slot in objects of all classes below (JVMS 2.7).
+pub fn slots_of_fields()
+    ensures kinds { (family : Classes) (f : File) (m : Declared) (c k : ℕ) → file_in family c ≡ Some f
+        → slice_get f.fields k ≡ Some m → is_instance_field f m ≡ true
+        → slice_get (slots_of family c) (slot_of family c k) ≡ Some (kind_of f m) }
+    ensures superclass { (family : Classes) (c d : ℕ) → IsFamily family → AreParentsWithin family
+        → superclass_in family c ≡ Some (super.Given d)
+        → slots_of family c ≡ slots_of family d ++ own_kinds_if (file_in family c) }
+{}

@@ -1,0 +1,117 @@
+-- A slot of an object changed: in the row of its maker, and in the rows of all makers.
+use Rattle.std.proofs.Common.{◌≡◌, ℕ, zero, suc, ◌≤◌, ◌+◌, Bool, true, false, List, [], ◌∷◌, Option, Some, None}
+use Rattle.std.proofs.Common.{get_or, slice_get, slice_set, refl, sym, subst, ap, ◌∙◌, ◌==◌, eqb-true, if◌then◌else◌}
+use Rattle.std.proofs.Common.{inl, inr, arith}
+use Rattle.std.specs.Prelude.{IsSome, option_map}
+use Rattle.std.proofs.Math.Path.{fun_ext}
+use Rattle.std.proofs.lemmas.Option.{get_or_from_slice_get}
+use Rattle.vm_state.specs.declared.value.Value.{Value}
+use Rattle.vm_state.specs.declared.object.Object.{Object}
+use Rattle.vm_state.specs.Objects.{or_later, object_in, AscendsFrom}
+use Rattle.vm_state.specs.steps.Objects.{object_at_place}
+use Rattle.vm_state.specs.SharedState.{Pool, object_with_slot, with_slot}
+use Rattle.vm_state.specs.Pools.{pool_by}
+use Rattle.vm_state.proofs.ListLemmas.{tested}
+use Rattle.vm_state.proofs.ObjectLemmas.{none_below, found_at}
+use Rattle.vm_state.proofs.PoolLemmas.{or_later-if}
+
+-- ---- the place of an object
+
+-- an object stands at this place, with this number
+abbrev pub StandsAt : List (ℕ × Object) → ℕ → ℕ → Object → Type 0
+StandsAt os place k o = slice_get os place ≡ Some (k, o)
+
+stands_by : (held : ℕ × Object) (k : ℕ) (b : Bool) → (k == held.0) ≡ b → IsSome (if b then Some held.1 else None) →
+    held ≡ (k, held.1)
+stands_by held k true e some = ap (λ (n : ℕ). (n, held.1)) (sym (eqb-true k held.0 e))
+stands_by held k false e some = cc
+
+-- what stands at a place where there is an object of a number
+pub stands : (os : List (ℕ × Object)) (place k : ℕ) (d : ℕ × Object) → IsSome (object_at_place os place k) →
+    StandsAt os place k (get_or os place d).1
+stands os place k d some = by (slice_get os place) refl where
+  by : (at : Option (ℕ × Object)) → slice_get os place ≡ at → StandsAt os place k (get_or os place d).1
+  by None e = let none : false ≡ true = rw e at some in cc
+  by (Some held) e =
+      let there : get_or os place d ≡ held = get_or_from_slice_get os place held d e in
+      let numbered : IsSome (if k == held.0 then Some held.1 else None) = rw e at some in
+      e ∙ ap (λ (x : ℕ × Object). Some x) (stands_by held k (k == held.0) refl numbered
+      ∙ ap (λ (x : ℕ × Object). (k, x.1)) (sym there))
+
+pub at_place : (os : List (ℕ × Object)) (place k : ℕ) (o : Object) → StandsAt os place k o →
+    object_at_place os place k ≡ Some o
+at_place os place k o is =
+    let same : (k == k) ≡ true = grind arith in
+    rw (is, same) refl
+
+-- ---- another object at a place
+
+pub ascends-set : (low : ℕ) (os : List (ℕ × Object)) (count place k : ℕ) (o new : Object) → AscendsFrom low os count →
+    StandsAt os place k o → AscendsFrom low (slice_set os place (k, new)) count
+ascends-set low [] count place k o new h is = cc
+ascends-set low (x ∷ xs) count zero k o new (h, hs) is =
+    let same : x.0 ≡ k = cc in
+    let both : (low ≤ x.0) × AscendsFrom (x.0 + 1) xs count = (h, hs) in
+    subst (λ (n : ℕ). (low ≤ n) × AscendsFrom (n + 1) xs count) same both
+ascends-set low (x ∷ xs) count (suc place) k o new (h, hs) is =
+    (h, ascends-set (x.0 + 1) xs count place k o new hs is)
+
+object_in-set : (low : ℕ) (os : List (ℕ × Object)) (count place k : ℕ) (o new : Object) → AscendsFrom low os count →
+    StandsAt os place k o → (n : ℕ) →
+    object_in (slice_set os place (k, new)) n ≡ (if n == k then Some new else object_in os n)
+object_in-set low [] count place k o new h is n = cc
+object_in-set low (x ∷ xs) count zero k o new (h, hs) is n =
+    let same : x ≡ (k, o) = cc in
+    let number : x.0 ≡ k = ap (λ (held : ℕ × Object). held.0) same in
+    let object : x.1 ≡ o = ap (λ (held : ℕ × Object). held.1) same in
+    elim (tested (n == k)) [
+      | inl e ↦
+          let equal : n ≡ k = eqb-true n k e in
+          let none : object_in xs n ≡ None = none_below (x.0 + 1) xs count n hs (omega arith) in
+          rw (e, none) refl
+      | inr e ↦
+          rw (number, e) refl
+    ]
+object_in-set low (x ∷ xs) count (suc place) k o new (h, hs) is n =
+    ap (or_later (if n == x.0 then Some x.1 else None)) (object_in-set (x.0 + 1) xs count place k o new hs is n)
+    ∙ or_later-if (n == k) (if n == x.0 then Some x.1 else None) (object_in xs n) new
+
+-- ---- a slot changed
+
+abbrev pool : ℕ → (ℕ → Option Object) → Pool
+pool count at = record { count = count; at = at }
+
+-- the row with another value in a slot of the object at a place
+pub slot_set : (count : ℕ) (os : List (ℕ × Object)) (place k slot : ℕ) (value : Value) (o : Object) →
+    AscendsFrom 0 os count → StandsAt os place k o →
+    pool_by (record { count = count; objects = slice_set os place (k, object_with_slot slot value o) })
+    ≡ with_slot (pool_by (record { count = count; objects = os })) k slot value
+slot_set count os place k slot value o h is =
+    let changed : Object = object_with_slot slot value o in
+    let found' : object_in os k ≡ Some o = found_at 0 os count place k o h (at_place os place k o is) in
+    ap (pool count) (fun_ext (λ n. object_in-set 0 os count place k o changed h is n
+    ∙ ap (λ (held : Option Object). if n == k then option_map (object_with_slot slot value) held else object_in os n)
+    (sym found')))
+
+-- what a row becomes where what is held at a place gets these slots
+abbrev pub IsSlotSet : ℕ → List (ℕ × Object) → List (ℕ × Object) → ℕ → ℕ → Value → Type 0
+IsSlotSet count os new k slot value = AscendsFrom 0 new count
+    × (pool_by (record { count = count; objects = new })
+    ≡ with_slot (pool_by (record { count = count; objects = os })) k slot value)
+
+pub slot_set_at : (count : ℕ) (os : List (ℕ × Object)) (place k slot : ℕ) (value : Value) (held : ℕ × Object)
+    (slots : List Value) → AscendsFrom 0 os count → IsSome (object_at_place os place k) → held ≡ get_or os place held →
+    slots ≡ slice_set held.1.slots slot value →
+    IsSlotSet count os (slice_set os place (held.0, record held.1 { slots = slots })) k slot value
+slot_set_at count os place k slot value held slots h some was is =
+    let standing : StandsAt os place k held.1 =
+    stands os place k held some ∙ ap (λ (x : ℕ × Object). Some (k, x.1)) (sym was) in
+    let same : held ≡ (k, held.1) = was ∙ get_or_from_slice_get os place (k, held.1) held standing in
+    let written : (held.0, record held.1 { slots = slots }) ≡ (k, object_with_slot slot value held.1) =
+    ap (λ (x : ℕ × Object). (x.0, record held.1 { slots = slots })) same
+    ∙ ap (λ (vs : List Value). (k, record held.1 { slots = vs })) is in
+    let P : ℕ × Object → Type 0 = λ x. IsSlotSet count os (slice_set os place x) k slot value in
+    subst P (sym written) (
+      ascends-set 0 os count place k held.1 (object_with_slot slot value held.1) h standing,
+      slot_set count os place k slot value held.1 h standing,
+    )
