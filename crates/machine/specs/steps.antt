@@ -1,3 +1,4 @@
+pub mod ArrayAccesses
 pub mod Sources
 pub mod Fused
 pub mod Steps

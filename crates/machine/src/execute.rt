@@ -9,6 +9,7 @@ ghost use Rattle.machine.specs.Operations.{meaning, operation_at};
 ghost use Rattle.machine.specs.Table.{local_row, operation_row, fetched, row};
 ghost use Rattle.machine.specs.Accesses.{Gives, Kept, Untouched};
 
+use crate::arrays::on_array;
 use crate::kinds::{Actor, Conclusion, Stop};
 use crate::printing::{end_line, print_value};
 use crate::pushing::{push_number, push_value};
@@ -73,6 +74,7 @@ fn execute_resolved<S: Store>(
         Resolved::GetOut => Ok(push_value(frame, Value::Out)),
         Resolved::Print(what, line) => { print_value(alloc, program, by, frame, store, what, line) }
         Resolved::EndLine => end_line(alloc, by, frame, store),
+        Resolved::OnArray(operation) => on_array(alloc, program, by, frame, store, operation),
         Resolved::Return(kind) => Ok(return_value(frame, kind)),
         Resolved::Refused(kind) => Ok(Conclusion::Halts(kind)),
     }

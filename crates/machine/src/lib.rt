@@ -1,6 +1,12 @@
 //! One instruction of a thread of a linked program.
 #![tactic(auto)]
 
+mod abrupt;
+mod array_elements;
+pub mod array_operation;
+mod array_references;
+mod array_types;
+mod arrays;
 mod choosing;
 pub mod effects;
 pub mod entering;

@@ -2,6 +2,8 @@
 
 ghost use Rattle.std.specs.Prelude.{◌≡◌};
 ghost use Rattle.frame_instructions.specs.Completion.{pushes};
+ghost use Rattle.vm_state.specs.Operands.{dropped};
+ghost use Rattle.semantics.specs.Moves.{with_operands};
 ghost use Rattle.machine.specs.RowParts.{push};
 ghost use Rattle.machine.specs.Table.{local_row};
 ghost use Rattle.machine.specs.Accesses.{concluded};
@@ -35,4 +37,14 @@ pub fn push_value(frame: &mut Frame, value: Value) -> Conclusion
         }
         Err(_) => Conclusion::Halts(FaultKind::Fault),
     }
+}
+
+/// Puts a value in the place of so many others on top, and goes on at the next instruction.
+pub fn replace_value(frame: &mut Frame, others: usize, value: Value) -> Conclusion
+    ensures gives { push value (with_operands frame.old (dropped others frame.old.operands))
+        ≡ concluded result frame.new }
+    ensures activity { frame.new.activity ≡ frame.old.activity }
+{
+    frame.operands.drop_many(others);
+    push_value(frame, value)
 }

@@ -4,8 +4,10 @@ ghost use Rattle.std.specs.Prelude.{◌≡◌, Some};
 ghost use Rattle.program.specs.Tables.{implementation_at};
 ghost use Rattle.machine.specs.Operations.{meaning, int_constant, long_constant, may_write};
 ghost use Rattle.machine.specs.Operations.{get_target, getstatic_of, put_target, putstatic_of, call_of};
-ghost use Rattle.machine.specs.Operations.{invokevirtual_of, returns_so, return_of, resolved_operation};
+ghost use Rattle.machine.specs.Operations.{invokevirtual_of, returns_so, return_of, anewarray_of, array_operation};
+ghost use Rattle.machine.specs.Operations.{resolved_operation};
 
+use crate::array_operation::ArrayOperation;
 use crate::stored_kind::operand_kind;
 use bytecode::Instruction;
 use frame_instructions::operand_kind::OperandKind;
@@ -34,6 +36,8 @@ pub enum Resolved {
     Print(Printed, bool),
     /// `invokevirtual` of `PrintStream.println()`.
     EndLine,
+    /// An instruction on arrays.
+    OnArray(ArrayOperation),
     /// `return`, `ireturn`, `lreturn` and `areturn`, of a method that returns so.
     Return(ReturnKind),
     /// What ends its thread whatever the frame holds: a reference that does not resolve, something that the machine
@@ -201,6 +205,36 @@ fn return_of(program: &Program, class: u32, method: u16, operand: Option<Operand
     }
 }
 
+/// `anewarray` of a constant of the run-time constant pool.
+fn anewarray_of(program: &Program, constant: Option<RuntimeConstant>) -> Resolved
+    ensures { meaning result ≡ anewarray_of program.now constant }
+{
+    match constant {
+        Some(RuntimeConstant::Class(None)) => MISSING,
+        Some(RuntimeConstant::Class(Some(class))) => match program.array_of(class) {
+            Some(array) => Resolved::OnArray(ArrayOperation::NewOfReferences(array)),
+            None => FAULT,
+        },
+        _ => FAULT,
+    }
+}
+
+/// What an instruction on arrays does; others are left out.
+fn array_operation(program: &Program, class: u32, instruction: &Instruction) -> Resolved
+    ensures { meaning result ≡ array_operation program.now class instruction.now }
+{
+    match instruction {
+        Instruction::NewArray(kind) => Resolved::OnArray(ArrayOperation::New(*kind)),
+        Instruction::NewReferenceArray(index) => {
+            anewarray_of(program, program.constant(class, *index))
+        }
+        Instruction::ArrayLength => Resolved::OnArray(ArrayOperation::Length),
+        Instruction::LoadElement(kind) => Resolved::OnArray(ArrayOperation::Load(*kind)),
+        Instruction::StoreElement(kind) => Resolved::OnArray(ArrayOperation::Store(*kind)),
+        _ => UNSUPPORTED,
+    }
+}
+
 /// What an instruction of a method does that is none of those that touch their frame alone.
 pub fn resolved_operation(
     program: &Program,
@@ -225,6 +259,6 @@ pub fn resolved_operation(
             return_of(program, class, method, Some(OperandKind::Reference))
         }
         Instruction::Bad => FAULT,
-        _ => UNSUPPORTED,
+        _ => array_operation(program, class, instruction),
     }
 }

@@ -1,0 +1,163 @@
+//! Loads and stores of elements of arrays (JVMS 6.5), over any store.
+
+ghost use Rattle.std.specs.Prelude.{◌≡◌, List};
+ghost use Rattle.vm_state.specs.declared.text.Line.{Line};
+ghost use Rattle.machine.specs.Accesses.{Gives, KeptBy, Untouched};
+ghost use Rattle.machine.specs.Arrays.{asking_class, check_store, load_element, store_element};
+ghost use Rattle.machine.specs.steps.ArrayAccesses.{Reaches, ReachesOn, reach_loaded, reach_stored};
+
+use crate::abrupt::{Abrupt, end_early};
+use crate::array_references::{Element, element_at, reference_below};
+use crate::array_types::{can_hold, stored_as};
+use crate::kinds::{Actor, Conclusion, Stop};
+use crate::pushing::replace_value;
+use crate::store::Store;
+use crate::stored_kind::top_stored;
+use built_in::class_id::{ArrayType, BuiltIn, ClassId};
+use bytecode::ElementKind;
+use frame_instructions::numeric::advance;
+use frame_instructions::trap::Trap;
+use program::Program;
+use std::alloc::Global;
+use vm_state::frame::Frame;
+use vm_state::value::{Maker, Name, Value};
+
+/// What is stored, and where.
+#[derive(Clone, Copy, PartialEq, Eq, Debug)]
+pub struct Stored {
+    pub element: Element,
+    pub value: Value,
+}
+
+/// What an instruction loads.
+fn loaded<S: Store>(
+    by: Actor,
+    frame: &Frame,
+    store: &S,
+    kind: ElementKind,
+) -> Result<Value, Abrupt>
+    ensures { (p : List Line) → Reaches S.stopped (S.run by (S.state store.now p)) (reach_loaded kind frame.now)
+        result }
+{
+    let index = frame.operands.top_int()?;
+    let array = reference_below(&frame.operands, 1)?;
+    let element = element_at(by, store, kind, array, index)?;
+    match store.slot(by, element.name, element.slot)? {
+        Some(value) => Ok(value),
+        None => Err(Abrupt::Trapped(Trap::Fault)),
+    }
+}
+
+/// `iaload`, `laload`, `aaload`, `baload`, `caload` and `saload`.
+///
+/// # Errors
+/// The store's reason. The frame is as it was, and so is the store; where memory is refused, what definitions see of
+/// it.
+pub fn load_element<S: Store>(
+    alloc: Global,
+    by: Actor,
+    frame: &mut Frame,
+    store: &mut S,
+    kind: ElementKind,
+) -> Result<Conclusion, Stop>
+    ensures gives { (p : List Line) → Gives S.stopped (S.run by (S.state store.old p)) (S.run by (S.state store.new p))
+        (load_element kind frame.old) frame.new result }
+    ensures same { KeptBy S.state result store.old store.new }
+    ensures frame { Untouched result frame.old frame.new }
+    ensures activity { frame.new.activity ≡ frame.old.activity }
+{
+    match loaded(by, frame, store, kind) {
+        Ok(value) => Ok(replace_value(frame, 2, value)),
+        Err(abrupt) => end_early(alloc, by, store, abrupt),
+    }
+}
+
+/// The class of the object that a reference is to; null and numbers have none.
+fn class_of_value<S: Store>(by: Actor, store: &S, value: Value) -> Result<Option<ClassId>, Abrupt>
+    ensures { (p : List Line) → Reaches S.stopped (S.run by (S.state store.now p)) (asking_class value) result }
+{
+    let name = match value {
+        Value::Int(_) | Value::Long(_) | Value::Null => return Ok(None),
+        Value::Text(_) => return Ok(Some(ClassId::BuiltIn(BuiltIn::String))),
+        Value::Out => return Ok(Some(ClassId::BuiltIn(BuiltIn::PrintStream))),
+        Value::OfClass(class, number) => Name {
+            maker: Maker::Class(class),
+            number,
+        },
+        Value::OfThread(thread, number) => Name {
+            maker: Maker::Thread(thread),
+            number,
+        },
+    };
+    match store.class_of(by, name)? {
+        Some(class) => Ok(Some(class)),
+        None => Err(Abrupt::Trapped(Trap::Fault)),
+    }
+}
+
+/// The store check of `aastore`. Numbers are not checked.
+fn check_store<S: Store>(
+    program: &Program,
+    by: Actor,
+    store: &S,
+    array: ArrayType,
+    value: Value,
+) -> Result<(), Abrupt>
+    ensures { (p : List Line) → ReachesOn S.stopped (S.run by (S.state store.now p)) (check_store program.now array value)
+        result }
+{
+    match class_of_value(by, store, value)? {
+        Some(class) if !can_hold(program, array, class) => {
+            Err(Abrupt::Trapped(Trap::Raise(BuiltIn::ArrayStoreException)))
+        }
+        _ => Ok(()),
+    }
+}
+
+/// What an instruction stores, and where.
+fn stored<S: Store>(
+    program: &Program,
+    by: Actor,
+    frame: &Frame,
+    store: &S,
+    kind: ElementKind,
+) -> Result<Stored, Abrupt>
+    ensures { (p : List Line) → Reaches S.stopped (S.run by (S.state store.now p)) (reach_stored program.now kind frame.now)
+        result }
+{
+    let value = top_stored(&frame.operands, stored_as(kind))?;
+    let index = frame.operands.second_int()?;
+    let array = reference_below(&frame.operands, 2)?;
+    let element = element_at(by, store, kind, array, index)?;
+    check_store(program, by, store, element.array, value)?;
+    Ok(Stored { element, value })
+}
+
+/// `iastore`, `lastore`, `aastore`, `bastore`, `castore` and `sastore`.
+///
+/// # Errors
+/// The store's reason. The frame is as it was, and so is the store; where memory is refused, what definitions see of
+/// it.
+pub fn store_element<S: Store>(
+    alloc: Global,
+    program: &Program,
+    by: Actor,
+    frame: &mut Frame,
+    store: &mut S,
+    kind: ElementKind,
+) -> Result<Conclusion, Stop>
+    ensures gives { (p : List Line) → Gives S.stopped (S.run by (S.state store.old p)) (S.run by (S.state store.new p))
+        (store_element program.now kind frame.old) frame.new result }
+    ensures same { KeptBy S.state result store.old store.new }
+    ensures frame { Untouched result frame.old frame.new }
+    ensures activity { frame.new.activity ≡ frame.old.activity }
+{
+    let stored = match stored(program, by, frame, store, kind) {
+        Ok(stored) => stored,
+        Err(abrupt) => return end_early(alloc, by, store, abrupt),
+    };
+    store.change(by, stored.element.name, stored.element.slot, stored.value)?;
+    frame.operands.drop_many(3);
+    advance(frame);
+    Ok(Conclusion::Stays)
+}

@@ -1,0 +1,111 @@
+//! What instructions check of a reference to an array, and what they find there, over any store (JVMS 6.5).
+
+ghost use Rattle.std.specs.Prelude.{◌≡◌, List, Some, None, IfOk, OnErr};
+ghost use Rattle.vm_state.specs.declared.text.Line.{Line};
+ghost use Rattle.vm_state.specs.Operands.{dropped};
+ghost use Rattle.frame_instructions.specs.OperandKinds.{top_as};
+ghost use Rattle.machine.specs.Arrays.{object_of, slot_at};
+ghost use Rattle.machine.specs.steps.ArrayAccesses.{Reaches, reach_element, reach_length};
+
+use crate::abrupt::Abrupt;
+use crate::array_types::{array_type, served_type};
+use crate::kinds::Actor;
+use crate::store::Store;
+use built_in::class_id::{ArrayType, BuiltIn};
+use bytecode::ElementKind;
+use frame_instructions::operand_kind::{OperandKind, top_as};
+use frame_instructions::trap::Trap;
+use vm_state::frame::Frame;
+use vm_state::operands::Operands;
+use vm_state::value::{Fault, Maker, Name, Value};
+
+/// An element that there is.
+#[derive(Clone, Copy, PartialEq, Eq, Debug)]
+pub struct Element {
+    /// Its array.
+    pub name: Name,
+    /// The array's type.
+    pub array: ArrayType,
+    pub slot: usize,
+}
+
+/// The reference below so many operands, which stays.
+///
+/// # Errors
+/// `Fault` where none is there.
+pub fn reference_below(operands: &Operands, others: usize) -> Result<Value, Fault>
+    ensures ok { IfOk result (λ v. top_as OperandKind.Reference (dropped others operands.now) ≡ Some v) }
+    ensures err { OnErr result (top_as OperandKind.Reference (dropped others operands.now) ≡ None) }
+{
+    OperandKind::Reference.of(operands.below(others)?)
+}
+
+/// The object that a reference is to which has to be an array's.
+fn object_of(reference: Value) -> Result<Name, Trap>
+    ensures { result ≡ object_of reference }
+{
+    match reference {
+        Value::Null => Err(Trap::Raise(BuiltIn::NullPointerException)),
+        Value::OfClass(class, number) => Ok(Name {
+            maker: Maker::Class(class),
+            number,
+        }),
+        Value::OfThread(thread, number) => Ok(Name {
+            maker: Maker::Thread(thread),
+            number,
+        }),
+        Value::Text(_) | Value::Out | Value::Int(_) | Value::Long(_) => Err(Trap::Fault),
+    }
+}
+
+/// The slot of an index in an array of this length.
+fn slot_at(index: i32, length: Option<i32>) -> Result<usize, Trap>
+    ensures { result ≡ slot_at index length }
+{
+    let Some(length) = length else {
+        return Err(Trap::Fault);
+    };
+    match usize::try_from(index) {
+        Ok(slot) if index < length => Ok(slot),
+        _ => Err(Trap::Raise(BuiltIn::ArrayIndexOutOfBoundsException)),
+    }
+}
+
+/// The element of an index in an array that instructions of a kind serve.
+///
+/// # Errors
+/// What ends the instruction.
+pub fn element_at<S: Store>(
+    by: Actor,
+    store: &S,
+    kind: ElementKind,
+    array: Value,
+    index: i32,
+) -> Result<Element, Abrupt>
+    ensures { (p : List Line) → Reaches S.stopped (S.run by (S.state store.now p)) (reach_element kind array index)
+        result }
+{
+    let name = object_of(array)?;
+    let class = store.class_of(by, name)?;
+    let array = served_type(kind, class)?;
+    let length = store.length(by, name)?;
+    let slot = slot_at(index, length)?;
+    Ok(Element { name, array, slot })
+}
+
+/// The length of the array to which the reference on top is.
+///
+/// # Errors
+/// What ends the instruction.
+pub fn length_of_top<S: Store>(by: Actor, frame: &Frame, store: &S) -> Result<i32, Abrupt>
+    ensures { (p : List Line) → Reaches S.stopped (S.run by (S.state store.now p)) (reach_length frame.now) result }
+{
+    let array = top_as(&frame.operands, OperandKind::Reference)?;
+    let name = object_of(array)?;
+    let class = store.class_of(by, name)?;
+    array_type(class)?;
+    let Some(length) = store.length(by, name)? else {
+        return Err(Abrupt::Trapped(Trap::Fault));
+    };
+    Ok(length)
+}
