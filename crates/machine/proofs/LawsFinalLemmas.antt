@@ -40,6 +40,8 @@ use Rattle.loading.specs.Families.{Family, file_of, file_in}
 use Rattle.hierarchy.specs.MemberLookup.{is_named, field_of, field_in}
 use Rattle.hierarchy.specs.Search.{Search}
 use Rattle.hierarchy.specs.Resolution.{ResolvesField}
+use Rattle.built_in.specs.declared.class_id.ArrayType.{ArrayType}
+use Rattle.program.specs.Arrays.{array_of}
 use Rattle.program.specs.References.{key_at, FindsField}
 use Rattle.program.specs.Fields.{field_kind, has_value, is_static_field, statics_of, static_number_of, final_of}
 use Rattle.program.specs.Fields.{static_of}
@@ -56,7 +58,7 @@ use Rattle.frame_instructions.specs.Instructions.{local_of}
 use Rattle.machine.specs.Operations.{Operation, PutStatic, Return, Refused, int_constant, long_constant}
 use Rattle.machine.specs.Operations.{local_or, is_method, may_write, if_valued, get_target}
 use Rattle.machine.specs.Operations.{getstatic_of, put_target, putstatic_of, call_of, invokevirtual_of, return_of}
-use Rattle.machine.specs.Operations.{returns_so}
+use Rattle.machine.specs.Operations.{returns_so, new_of_references, anewarray_of}
 use Rattle.machine.specs.Operations.{resolved_operation, operation_of, operation_at}
 use Rattle.machine.specs.Linked.{program_of}
 use Rattle.machine.proofs.ListLemmas.{left_of_pair, right_of_pair, first_passes, kept_place, both_true}
@@ -123,6 +125,15 @@ module _ (w : FieldKind) (c k : ℕ) where
       by false h = cc
   no_return operand other e = cc
 
+  no_anewarray : (P : Tables) (e : Option RuntimeConstant) → anewarray_of P e ≡ PutStatic w c k → ⊥
+  no_anewarray P (Some (runtime.Class None)) e = cc
+  no_anewarray P (Some (runtime.Class (Some class))) e = by (array_of P.family class) e
+    where
+      by : (o : Option ArrayType) → new_of_references o ≡ PutStatic w c k → ⊥
+      by None h = cc
+      by (Some array) h = cc
+  no_anewarray P other e = cc
+
   module _ (P : Tables) (d m : ℕ) where
     -- what a constant is that is written to
     record IsPut (e : Option RuntimeConstant) : Type 0 where
@@ -178,6 +189,7 @@ module _ (w : FieldKind) (c k : ℕ) where
     put_resolved instructions.ReturnLong e = absurd (no_return (Some operands.Long) (implementation_at P d m) e)
     put_resolved instructions.ReturnReference e =
         absurd (no_return (Some operands.Reference) (implementation_at P d m) e)
+    put_resolved (instructions.NewReferenceArray index) e = absurd (no_anewarray P (constant_at P d index) e)
     put_resolved other e = absurd cc
 
     put_local : (l : Option LocalOperation) (o : Operation) → local_or l o ≡ PutStatic w c k → o ≡ PutStatic w c k

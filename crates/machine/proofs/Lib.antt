@@ -7,6 +7,7 @@ pub mod StretchLocalLemmas
 pub mod HandlersLemmas
 pub mod LinkedLemmas
 pub mod TableLemmas
+pub mod ArrayLawLemmas
 pub mod StoredKindsLemmas
 pub mod TableLawLemmas
 pub mod ListLemmas

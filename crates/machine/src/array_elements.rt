@@ -24,7 +24,7 @@ use vm_state::value::{Maker, Name, Value};
 
 /// What is stored, and where.
 #[derive(Clone, Copy, PartialEq, Eq, Debug)]
-pub struct Stored {
+pub struct Assignment {
     pub element: Element,
     pub value: Value,
 }
@@ -121,7 +121,7 @@ fn stored<S: Store>(
     frame: &Frame,
     store: &S,
     kind: ElementKind,
-) -> Result<Stored, Abrupt>
+) -> Result<Assignment, Abrupt>
     ensures { (p : List Line) → Reaches S.stopped (S.run by (S.state store.now p)) (reach_stored program.now kind frame.now)
         result }
 {
@@ -130,7 +130,7 @@ fn stored<S: Store>(
     let array = reference_below(&frame.operands, 2)?;
     let element = element_at(by, store, kind, array, index)?;
     check_store(program, by, store, element.array, value)?;
-    Ok(Stored { element, value })
+    Ok(Assignment { element, value })
 }
 
 /// `iastore`, `lastore`, `aastore`, `bastore`, `castore` and `sastore`.

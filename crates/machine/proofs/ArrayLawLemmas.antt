@@ -1,0 +1,202 @@
+-- No instruction on arrays makes up a name.
+use Rattle.std.proofs.Common.{◌≡◌, ℕ, ℤ, zero, suc, Bool, true, false, List, [], ◌∷◌, Option, Some, None, Ok, Err}
+use Rattle.std.proofs.Common.{replicate, slice_get, refl}
+use Rattle.std.specs.Prelude.{if◌then◌else◌}
+use Rattle.std.specs.Option.{IfSome}
+use Rattle.std.specs.declared.result.Result.{Result}
+use Rattle.bytecode.specs.declared.operand.ElementKind.{ElementKind}
+use Rattle.bytecode.specs.declared.operand.PrimitiveKind.{PrimitiveKind}
+use Rattle.bytecode.specs.declared.operand.PrimitiveKind.TheVariants as primitives
+use Rattle.built_in.specs.declared.class_id.ArrayType.{ArrayType}
+use Rattle.built_in.specs.declared.class_id.BuiltIn.{BuiltIn}
+use Rattle.built_in.specs.declared.class_id.BuiltIn.TheVariants.{NullPointerException, ArrayStoreException}
+use Rattle.built_in.specs.declared.class_id.ClassId.{ClassId}
+use Rattle.vm_state.specs.declared.ends.FaultKind.{FaultKind}
+use Rattle.vm_state.specs.declared.ends.FaultKind.TheVariants.{Fault}
+use Rattle.vm_state.specs.declared.value.Value.{Value}
+use Rattle.vm_state.specs.declared.value.Value.TheVariants as values
+use Rattle.vm_state.specs.declared.value.Maker.{Maker}
+use Rattle.vm_state.specs.declared.value.Maker.TheVariants as makers
+use Rattle.vm_state.specs.declared.value.Name.{Name}
+use Rattle.vm_state.specs.declared.frame.Frame.{Frame}
+use Rattle.vm_state.specs.Operands.{OperandStack, pushed, top, top_int, rest}
+use Rattle.vm_state.specs.Values.{value_by, value_of}
+use Rattle.semantics.specs.Rows.{Row, Change}
+use Rattle.semantics.specs.Lawful.{Names, Knows, KnowsAll, KnowsFrame, KnowsSlots, Fits}
+use Rattle.semantics.specs.Moves.{advanced, with_operands}
+use Rattle.semantics.specs.Programs.{Program}
+use Rattle.program.specs.Tables.{Tables}
+use Rattle.frame_instructions.specs.declared.operand_kind.OperandKind.TheVariants.{Reference}
+use Rattle.frame_instructions.specs.declared.trap.Trap.{Trap}
+use Rattle.frame_instructions.specs.declared.trap.Trap.TheVariants as traps
+use Rattle.frame_instructions.specs.OperandKinds.{top_as}
+use Rattle.frame_instructions.proofs.LawsFrameLemmas.{top_known, rest_known, pushed_known, as_kind_known}
+use Rattle.machine.specs.declared.array_operation.ArrayOperation.{ArrayOperation}
+use Rattle.machine.specs.declared.array_operation.ArrayOperation.TheVariants as operations
+use Rattle.machine.specs.Arrays.{type_of_primitives, zero_of, stored_as, unless_trapped, object_of, array_type}
+use Rattle.machine.specs.Arrays.{served_type, slot_at, size_of, can_hold, make_array, array_length, at_element}
+use Rattle.machine.specs.Arrays.{load_element, asking_class, if_held, check_store, store_element, array_row}
+use Rattle.machine.specs.Objects.{slot_in, length_in}
+use Rattle.machine.specs.RowParts.{halts, goes_on, push, raises}
+use Rattle.machine.specs.StoredKinds.{top_stored}
+use Rattle.machine.proofs.StoredKindsLemmas.{stored_knows}
+use Rattle.machine.proofs.TableLemmas.{needing_any, needing_such}
+
+module _ (known : Names) where
+  name_known : (m : Maker) (n : ℕ) → known (record { maker = m; number = n }) ≡ true → Knows known (value_by m n)
+  name_known (makers.Class c) n h = h
+  name_known (makers.Thread t) n h = h
+
+  filled_known : (n : ℕ) (v : Value) → Knows known v → KnowsAll known (replicate n v)
+  filled_known zero v h = tt
+  filled_known (suc n) v h = (h, filled_known n v h)
+
+  zero_known : (kind : PrimitiveKind) → Knows known (zero_of kind)
+  zero_known primitives.Boolean = tt
+  zero_known primitives.Char = tt
+  zero_known primitives.Byte = tt
+  zero_known primitives.Short = tt
+  zero_known primitives.Int = tt
+  zero_known primitives.Long = tt
+
+  held_known : (vs : List Value) (slot : ℕ) → KnowsAll known vs → IfSome (slice_get vs slot) (Knows known)
+  held_known [] slot h = tt
+  held_known (v ∷ vs) zero h = h.0
+  held_known (v ∷ vs) (suc slot) h = held_known vs slot h.1
+
+  pub slot_known : (part : Option (List Value)) (slot : ℕ) → KnowsSlots known part
+      → IfSome (slot_in part slot) (Knows known)
+  slot_known None slot h = tt
+  slot_known (Some vs) slot h = held_known vs slot h
+
+module _ (program : Program) (P : Tables) (known : Names) (own : ℕ → Bool) where
+  abbrev Suits : Row → Type 0
+  Suits r = Fits program known own r
+
+  halted : (kind : FaultKind) → Suits (halts kind)
+  halted kind = (tt, tt)
+
+  raised : (class : BuiltIn) → Suits (raises class)
+  raised class = (tt, λ x h. (h, tt))
+
+  trapped_suits : {A : Type 0} (r : Result A Trap) (go : A → Row) → ((a : A) → Suits (go a)) → Suits (unless_trapped r go)
+  trapped_suits (Ok a) go on = on a
+  trapped_suits (Err traps.Fault) go on = halted Fault
+  trapped_suits (Err (traps.Raise class)) go on = raised class
+
+  -- ---- references
+
+  object_suits : (v : Value) (go : Name → Row) → Knows known v → ((x : Name) → known x ≡ true → Suits (go x))
+      → Suits (unless_trapped (object_of v) go)
+  object_suits (values.Int n) go hv on = halted Fault
+  object_suits (values.Long n) go hv on = halted Fault
+  object_suits values.Null go hv on = raised NullPointerException
+  object_suits (values.Text s) go hv on = halted Fault
+  object_suits values.Out go hv on = halted Fault
+  object_suits (values.OfClass c n) go hv on = on (record { maker = makers.Class c; number = n }) hv
+  object_suits (values.OfThread t n) go hv on = on (record { maker = makers.Thread t; number = n }) hv
+
+  class_suits : (v : Value) (go : Option ClassId → Row) → Knows known v → ((o : Option ClassId) → Suits (go o))
+      → Suits (asking_class v go)
+  class_suits (values.Int n) go hv on = on _
+  class_suits (values.Long n) go hv on = on _
+  class_suits values.Null go hv on = on _
+  class_suits (values.Text s) go hv on = on _
+  class_suits values.Out go hv on = on _
+  class_suits (values.OfClass c n) go hv on =
+      (hv, λ o. needing_any Suits halted o (λ class. go (Some class)) (λ class is. on (Some class)))
+  class_suits (values.OfThread t n) go hv on =
+      (hv, λ o. needing_any Suits halted o (λ class. go (Some class)) (λ class is. on (Some class)))
+
+  element_suits : (kind : ElementKind) (v : Value) (index : ℤ) (go : Name → ArrayType → ℕ → Row) → Knows known v
+      → ((x : Name) (a : ArrayType) (slot : ℕ) → known x ≡ true → Suits (go x a slot))
+      → Suits (at_element kind v index go)
+  element_suits kind v index go hv on =
+      object_suits v _ hv (λ x hx. (
+        hx,
+        λ class. trapped_suits (served_type kind class) _ (λ a. (
+          hx,
+          λ part hp. trapped_suits (slot_at index (length_in part)) (go x a) (λ slot. on x a slot hx),
+        )),
+      ))
+
+  held_suits : (a : ArrayType) (row : Row) (o : Option ClassId) → Suits row → Suits (if_held P a row o)
+  held_suits a row None on = on
+  held_suits a row (Some class) on = by (can_hold P a class) where
+    by : (b : Bool) → Suits (if b then row else raises ArrayStoreException)
+    by true = on
+    by false = raised ArrayStoreException
+
+  -- ---- a frame's instruction
+
+  module _ (f : Frame) (h : KnowsFrame known f) where
+    on_suits : (s : OperandStack) → KnowsAll known s.values → Suits (goes_on (advanced (with_operands f s)))
+    on_suits s hs = ((hs, h.1), tt)
+
+    push_suits : (s : OperandStack) (v : Value) → KnowsAll known s.values → Knows known v
+        → Suits (push v (with_operands f s))
+    push_suits s v hs hv =
+        needing_such Suits halted (λ more. KnowsAll known more.values) (pushed v s) _
+        (pushed_known known v s hv hs) on_suits
+
+    one_less : KnowsAll known (rest f.operands).values
+    one_less = rest_known known f.operands h.0
+
+    two_less : KnowsAll known (rest (rest f.operands)).values
+    two_less = rest_known known (rest f.operands) one_less
+
+    three_less : KnowsAll known (rest (rest (rest f.operands))).values
+    three_less = rest_known known (rest (rest f.operands)) two_less
+
+    reference_known : (s : OperandStack) → KnowsAll known s.values → IfSome (top_as Reference s) (Knows known)
+    reference_known s hs = as_kind_known known Reference (top s) (top_known known s hs)
+
+    make_suits : (a : ArrayType) (zero : Value) → Knows known zero → Suits (make_array a zero f)
+    make_suits a zero hz =
+        needing_any Suits halted (top_int f.operands) _ (λ count is.
+        trapped_suits (size_of count) _ (λ size. (
+          filled_known known size zero hz,
+          λ x hx. push_suits (rest f.operands) (value_of x) one_less (name_known known x.maker x.number hx),
+        )))
+
+    length_suits : Suits (array_length f)
+    length_suits =
+        needing_such Suits halted (Knows known) (top_as Reference f.operands) _ (reference_known f.operands h.0)
+        (λ v hv. object_suits v _ hv (λ x hx. (
+          hx,
+          λ class. trapped_suits (array_type class) _ (λ a. (
+            hx,
+            λ part hp. needing_any Suits halted (length_in part) _ (λ n is.
+                push_suits (rest f.operands) (values.Int n) one_less tt),
+          )),
+        )))
+
+    load_suits : (kind : ElementKind) → Suits (load_element kind f)
+    load_suits kind =
+        needing_any Suits halted (top_int f.operands) _ (λ index is.
+        needing_such Suits halted (Knows known) (top_as Reference (rest f.operands)) _
+        (reference_known (rest f.operands) one_less)
+        (λ v hv. element_suits kind v index _ hv (λ x a slot hx. (
+          hx,
+          λ part hp. needing_such Suits halted (Knows known) (slot_in part slot) _ (slot_known known part slot hp)
+              (λ w hw. push_suits (rest (rest f.operands)) w two_less hw),
+        ))))
+
+    store_suits : (kind : ElementKind) → Suits (store_element P kind f)
+    store_suits kind =
+        needing_such Suits halted (Knows known) (top_stored (stored_as kind) f.operands) _
+        (stored_knows known (stored_as kind) f.operands h.0) (λ v hv.
+        needing_any Suits halted (top_int (rest f.operands)) _ (λ index is.
+        needing_such Suits halted (Knows known) (top_as Reference (rest (rest f.operands))) _
+        (reference_known (rest (rest f.operands)) two_less) (λ r hr.
+        element_suits kind r index _ hr (λ x a slot hx.
+        class_suits v _ hv (λ o.
+        held_suits a (Change x slot v (goes_on (advanced (with_operands f (rest (rest (rest f.operands))))))) o
+        (hx, hv, on_suits (rest (rest (rest f.operands))) three_less))))))
+
+    pub array_suits : (o : ArrayOperation) → Suits (array_row P o f)
+    array_suits (operations.New kind) = make_suits (type_of_primitives kind) (zero_of kind) (zero_known known kind)
+    array_suits (operations.NewOfReferences a) = make_suits a values.Null tt
+    array_suits operations.Length = length_suits
+    array_suits (operations.Load kind) = load_suits kind
+    array_suits (operations.Store kind) = store_suits kind
