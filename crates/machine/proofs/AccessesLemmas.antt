@@ -10,7 +10,7 @@ use Rattle.machine.specs.declared.kinds.Conclusion.TheVariants.{Stays, Becomes, 
 use Rattle.semantics.specs.Rows.{Row, UseClass}
 use Rattle.built_in.specs.declared.class_id.BuiltIn.TheVariants.{NoClassDefFoundError}
 use Rattle.machine.specs.RowParts.{raises, if_usable}
-use Rattle.machine.specs.Accesses.{Kept, KeptBy, Untouched, Gives, unless_refused}
+use Rattle.machine.specs.Accesses.{Kept, Untouched, Gives, unless_refused}
 
 module _ {S T : Type 0} (state : S → List Line → T) where
   -- a store that nothing was done to
@@ -28,10 +28,6 @@ module _ {S T : Type 0} (state : S → List Line → T) where
   kept_state Waits old new kept p = ap (λ s. state s p) kept
   kept_state ForeignObject old new kept p = ap (λ s. state s p) kept
   kept_state Barred old new kept p = ap (λ s. state s p) kept
-
-  pub kept_by_same : {A : Type 0} (r : Result A Stop) (s : S) → KeptBy state r s s
-  kept_by_same (Ok x) s = tt
-  kept_by_same (Err stop) s = kept_same stop s
 
 -- a frame that nothing was done to
 pub untouched_as : (r : Result Conclusion Stop) (old new : Frame) → new ≡ old → Untouched r old new

@@ -1,6 +1,7 @@
 //! The types of arrays: which one an instruction makes, which ones it serves, and what they hold (JVMS 6.5).
 
 ghost use Rattle.std.specs.Prelude.{◌≡◌};
+ghost use Rattle.hierarchy.specs.Subtypes.{class_of_element};
 ghost use Rattle.machine.specs.Arrays.{element_type, type_of_primitives, zero_of, kind_of_element, kind_of_component};
 ghost use Rattle.machine.specs.Arrays.{component_class, stored_as, array_type, served_type, can_hold};
 

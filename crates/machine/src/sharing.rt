@@ -60,38 +60,6 @@ impl Store for Shared {
         }
     }
 
-    fn class_of(&self, _by: Actor, name: Name) -> Result<Option<ClassId>, Stop> {
-        Ok(Shared::class_of(self, name))
-    }
-
-    fn slot(&self, _by: Actor, name: Name, slot: usize) -> Result<Option<Value>, Stop> {
-        match self.slots(name) {
-            Some(slots) => Ok(slots.get(slot).copied()),
-            None => Ok(None),
-        }
-    }
-
-    fn length(&self, _by: Actor, name: Name) -> Result<Option<i32>, Stop> {
-        match self.slots(name) {
-            Some(slots) => match i32::try_from(slots.len()) {
-                Ok(length) => Ok(Some(length)),
-                Err(_) => Ok(None),
-            },
-            None => Ok(None),
-        }
-    }
-
-    fn change(
-        &mut self,
-        _by: Actor,
-        name: Name,
-        slot: usize,
-        value: Value,
-    ) -> Result<(), Stop> {
-        self.set_slot(name, slot, value);
-        Ok(())
-    }
-
     #[tactic(auto, unfolding(crate::specs::Accesses::unless_refused))]
     fn make(
         &mut self,

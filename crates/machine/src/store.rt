@@ -2,9 +2,7 @@
 
 ghost use Rattle.std.specs.Prelude.{◌≡◌, ℕ, true, List, IfOk, IfErr};
 ghost use Rattle.vm_state.specs.declared.text.Line.{Line};
-ghost use Rattle.semantics.specs.Rows.{Row, UseClass, ReadStatic, WriteStatic, Make, AskClass, LookInto, Slots as AllSlots};
-ghost use Rattle.semantics.specs.Rows.{Length, Change};
-ghost use Rattle.machine.specs.Objects.{slot_in, length_in};
+ghost use Rattle.semantics.specs.Rows.{Row, UseClass, ReadStatic, WriteStatic, Make};
 ghost use Rattle.machine.specs.Accesses.{Kept, Leads, LeadsOn};
 ghost use Rattle.machine.specs.declared.kinds.Actor.{Actor as By};
 ghost use Rattle.machine.specs.declared.kinds.Stop.{Stop as Reason};
@@ -69,39 +67,6 @@ pub trait Store {
         requires { CanUse by self.old class }
         ensures leads { (p : List Line) → LeadsOn stopped (run by (state self.old p)) (run by (state self.new p))
             (WriteStatic class field value) result }
-        ensures same { IfErr result (λ stop. Kept state stop self.old self.new) };
-
-    /// The class of an object, if it is held.
-    ///
-    /// # Errors
-    /// The store's reason.
-    fn class_of(&self, by: Actor, name: Name) -> Result<Option<ClassId>, Stop>
-        ensures leads { (p : List Line) → Leads stopped (run by (state self.now p)) (run by (state self.now p))
-            (AskClass name) result };
-
-    /// The value in a slot of an object, if there is one.
-    ///
-    /// # Errors
-    /// The store's reason.
-    fn slot(&self, by: Actor, name: Name, slot: usize) -> Result<Option<Value>, Stop>
-        ensures leads { (p : List Line) → Leads stopped (run by (state self.now p)) (run by (state self.now p))
-            (λ next. LookInto name AllSlots (λ vs. next (slot_in vs slot))) result };
-
-    /// How many slots an object has, if it is held.
-    ///
-    /// # Errors
-    /// The store's reason.
-    fn length(&self, by: Actor, name: Name) -> Result<Option<i32>, Stop>
-        ensures leads { (p : List Line) → Leads stopped (run by (state self.now p)) (run by (state self.now p))
-            (λ next. LookInto name Length (λ vs. next (length_in vs))) result };
-
-    /// Puts a value into a slot.
-    ///
-    /// # Errors
-    /// The store's reason.
-    fn change(&mut self, by: Actor, name: Name, slot: usize, value: Value) -> Result<(), Stop>
-        ensures leads { (p : List Line) → LeadsOn stopped (run by (state self.old p)) (run by (state self.new p))
-            (Change name slot value) result }
         ensures same { IfErr result (λ stop. Kept state stop self.old self.new) };
 
     /// Makes an object, whose monitor is free, and answers its name. Where it is stopped nothing changes; where memory
