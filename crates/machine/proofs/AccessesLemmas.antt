@@ -10,7 +10,7 @@ use Rattle.machine.specs.declared.kinds.Conclusion.TheVariants.{Stays, Becomes, 
 use Rattle.semantics.specs.Rows.{Row, UseClass}
 use Rattle.built_in.specs.declared.class_id.BuiltIn.TheVariants.{NoClassDefFoundError}
 use Rattle.machine.specs.RowParts.{raises, if_usable}
-use Rattle.machine.specs.Accesses.{Kept, Untouched, Gives, unless_refused}
+use Rattle.machine.specs.Accesses.{Kept, KeptBy, Untouched, Gives, unless_refused}
 
 module _ {S T : Type 0} (state : S → List Line → T) where
   -- a store that nothing was done to
@@ -20,6 +20,11 @@ module _ {S T : Type 0} (state : S → List Line → T) where
   kept_same Waits s = refl
   kept_same ForeignObject s = refl
   kept_same Barred s = refl
+
+  -- an instruction that did nothing to the store
+  pub kept_by_same : (r : Result Conclusion Stop) (s : S) → KeptBy state r s s
+  kept_by_same (Ok conclusion) s = tt
+  kept_by_same (Err stop) s = kept_same stop s
 
   -- whatever stopped it, the state is as it was
   pub kept_state : (stop : Stop) (old new : S) → Kept state stop old new → (p : List Line) → state new p ≡ state old p

@@ -1,13 +1,13 @@
 //! One instruction of a frame, over any store. Where it is stopped the frame and the store are as they were; where
 //! memory stops it, the store's state is.
 
-ghost use Rattle.std.specs.Prelude.{◌≡◌, List, IfErr, OnErr};
+ghost use Rattle.std.specs.Prelude.{◌≡◌, List, OnErr};
 ghost use Rattle.vm_state.specs.declared.frame.Frame.{Frame};
 ghost use Rattle.vm_state.specs.declared.text.Line.{Line};
 ghost use Rattle.frame_instructions.specs.Completion.{completed};
 ghost use Rattle.machine.specs.Operations.{meaning, operation_at};
 ghost use Rattle.machine.specs.Table.{local_row, operation_row, fetched, row};
-ghost use Rattle.machine.specs.Accesses.{Gives, Kept, Untouched};
+ghost use Rattle.machine.specs.Accesses.{Gives, KeptBy, Untouched};
 
 use crate::arrays::on_array;
 use crate::kinds::{Actor, Conclusion, Stop};
@@ -37,7 +37,7 @@ fn end<S: Store>(
 ) -> Result<Conclusion, Stop>
     ensures gives { (p : List Line) → Gives S.stopped (S.run by (S.state store.old p)) (S.run by (S.state store.new p))
         (local_row (completed went frame.now)) frame.now result }
-    ensures same { IfErr result (λ stop. Kept S.state stop store.old store.new) }
+    ensures same { KeptBy S.state result store.old store.new }
     ensures trapped { (old : Frame) → OnErr went (frame.now ≡ old) → Untouched result old frame.now }
 {
     match went {
@@ -47,7 +47,7 @@ fn end<S: Store>(
 }
 
 /// An instruction that touches more than its frame, or names a constant of the run-time constant pool.
-#[tactic(auto, using(crate::proofs::AccessesLemmas::kept_same, crate::proofs::AccessesLemmas::untouched_as))]
+#[tactic(auto, using(crate::proofs::AccessesLemmas::kept_by_same, crate::proofs::AccessesLemmas::untouched_as))]
 #[inline(always)]
 fn execute_resolved<S: Store>(
     alloc: Global,
@@ -59,7 +59,7 @@ fn execute_resolved<S: Store>(
 ) -> Result<Conclusion, Stop>
     ensures gives { (p : List Line) → Gives S.stopped (S.run by (S.state store.old p)) (S.run by (S.state store.new p))
         (operation_row program.now (meaning resolved) frame.old) frame.new result }
-    ensures same { IfErr result (λ stop. Kept S.state stop store.old store.new) }
+    ensures same { KeptBy S.state result store.old store.new }
     ensures frame { Untouched result frame.old frame.new }
     ensures activity { frame.new.activity ≡ frame.old.activity }
 {
@@ -93,7 +93,7 @@ fn execute_next<S: Store>(
 ) -> Result<Conclusion, Stop>
     ensures gives { (p : List Line) → Gives S.stopped (S.run by (S.state store.old p)) (S.run by (S.state store.new p))
         (fetched program.now (operation_at program.now class method frame.old.place) frame.old) frame.new result }
-    ensures same { IfErr result (λ stop. Kept S.state stop store.old store.new) }
+    ensures same { KeptBy S.state result store.old store.new }
     ensures frame { Untouched result frame.old frame.new }
     ensures activity { frame.new.activity ≡ frame.old.activity }
 {
@@ -124,7 +124,7 @@ pub fn execute<S: Store>(
 ) -> Result<Conclusion, Stop>
     ensures gives { (p : List Line) → Gives S.stopped (S.run by (S.state store.old p)) (S.run by (S.state store.new p))
         (row program.now frame.old) frame.new result }
-    ensures same { IfErr result (λ stop. Kept S.state stop store.old store.new) }
+    ensures same { KeptBy S.state result store.old store.new }
     ensures frame { Untouched result frame.old frame.new }
     ensures activity { frame.new.activity ≡ frame.old.activity }
 {

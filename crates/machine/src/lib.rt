@@ -19,6 +19,7 @@ pub mod laws;
 mod printing;
 mod pushing;
 mod raising;
+mod references;
 pub mod resolved;
 mod returning;
 mod sharing;

@@ -60,6 +60,33 @@ impl Store for Shared {
         }
     }
 
+    #[inline(always)]
+    fn class_of(&self, _by: Actor, object: Name) -> Result<Option<ClassId>, Stop> {
+        Ok(Shared::class_of(self, object))
+    }
+
+    #[inline(always)]
+    fn slot(&self, _by: Actor, object: Name, slot: usize) -> Result<Option<Value>, Stop> {
+        match self.slots(object) {
+            Some(slots) => Ok(slots.get(slot).copied()),
+            None => Ok(None),
+        }
+    }
+
+    #[inline(always)]
+    fn length(&self, _by: Actor, object: Name) -> Result<Option<i32>, Stop> {
+        match self.slots(object) {
+            Some(slots) => Ok(Some((slots.len() as u32).cast_signed())),
+            None => Ok(None),
+        }
+    }
+
+    #[inline(always)]
+    fn change(&mut self, _by: Actor, object: Name, slot: usize, value: Value) -> Result<(), Stop> {
+        self.set_slot(object, slot, value);
+        Ok(())
+    }
+
     #[tactic(auto, unfolding(crate::specs::Accesses::unless_refused))]
     fn make(
         &mut self,

@@ -2,8 +2,9 @@
 
 ghost use Rattle.std.specs.Prelude.{◌≡◌, ℕ, true, List, IfOk, IfErr};
 ghost use Rattle.vm_state.specs.declared.text.Line.{Line};
-ghost use Rattle.semantics.specs.Rows.{Row, UseClass, ReadStatic, WriteStatic, Make};
+ghost use Rattle.semantics.specs.Rows.{Row, UseClass, ReadStatic, WriteStatic, AskClass, Change, Make};
 ghost use Rattle.machine.specs.Accesses.{Kept, Leads, LeadsOn};
+ghost use Rattle.machine.specs.ObjectParts.{look_into_slot, ask_length};
 ghost use Rattle.machine.specs.declared.kinds.Actor.{Actor as By};
 ghost use Rattle.machine.specs.declared.kinds.Stop.{Stop as Reason};
 
@@ -67,6 +68,40 @@ pub trait Store {
         requires { CanUse by self.old class }
         ensures leads { (p : List Line) → LeadsOn stopped (run by (state self.old p)) (run by (state self.new p))
             (WriteStatic class field value) result }
+        ensures same { IfErr result (λ stop. Kept state stop self.old self.new) };
+
+    /// The class of an object, if it is held.
+    ///
+    /// # Errors
+    /// The store's reason why it may not be asked for.
+    fn class_of(&self, by: Actor, object: Name) -> Result<Option<ClassId>, Stop>
+        ensures { (p : List Line) → Leads stopped (run by (state self.now p)) (run by (state self.now p))
+            (AskClass object) result };
+
+    /// The value in a slot of an object, if it is held and has that slot: of an instance field or an element.
+    ///
+    /// # Errors
+    /// The store's reason why it may not be looked into.
+    fn slot(&self, by: Actor, object: Name, slot: usize) -> Result<Option<Value>, Stop>
+        ensures { (p : List Line) → Leads stopped (run by (state self.now p)) (run by (state self.now p))
+            (look_into_slot object slot) result };
+
+    /// How many slots an object has, if it is held: an array's length.
+    ///
+    /// # Errors
+    /// The store's reason why it may not be looked into.
+    fn length(&self, by: Actor, object: Name) -> Result<Option<i32>, Stop>
+        ensures { (p : List Line) → Leads stopped (run by (state self.now p)) (run by (state self.now p))
+            (ask_length object) result };
+
+    /// Puts a value into a slot of an object. Where it is not held, or has no such slot, nothing changes; nor where it
+    /// is stopped.
+    ///
+    /// # Errors
+    /// The store's reason why it may not be changed.
+    fn change(&mut self, by: Actor, object: Name, slot: usize, value: Value) -> Result<(), Stop>
+        ensures leads { (p : List Line) → LeadsOn stopped (run by (state self.old p)) (run by (state self.new p))
+            (Change object slot value) result }
         ensures same { IfErr result (λ stop. Kept state stop self.old self.new) };
 
     /// Makes an object, whose monitor is free, and answers its name. Where it is stopped nothing changes; where memory

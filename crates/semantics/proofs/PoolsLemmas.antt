@@ -1,7 +1,7 @@
 -- What a change of some objects keeps: whose names they hold, and their classes.
 use Rattle.std.proofs.Common.{◌≡◌, ℕ, zero, suc, inl, inr, List, [], ◌∷◌, Option, Some, None, ◌==◌, refl, eqb-true}
 use Rattle.std.proofs.Common.{option_map, option_and_then, slice_set}
-use Rattle.std.proofs.Common.{true, ap, length, pos}
+use Rattle.std.proofs.Common.{true, ap, length}
 use Rattle.std.proofs.lemmas.List.{length-set}
 use Rattle.vm_state.specs.declared.value.Value.{Value}
 use Rattle.vm_state.specs.declared.value.Value.TheVariants.{Null, Int}
@@ -9,7 +9,8 @@ use Rattle.built_in.specs.declared.class_id.ClassId.{ClassId}
 use Rattle.vm_state.specs.declared.object.Object.{Object}
 use Rattle.vm_state.specs.declared.object.Monitor.{Monitor}
 use Rattle.vm_state.specs.SharedState.{Pool, with_object, with_slot, with_new, object_with_slot, class_at, slots_at}
-use Rattle.semantics.specs.Rows.{Part, Slots, Length, Named, named, part_of, part_at, object_with_monitor, with_monitor}
+use Rattle.semantics.specs.Rows.{Part, Slots, Length, Named, named, int_length, part_of, part_at, object_with_monitor}
+use Rattle.semantics.specs.Rows.{with_monitor}
 use Rattle.semantics.specs.Quiet.{is_open}
 use Rattle.semantics.specs.Lawful.{Names, Knows, KnowsAll, KnowsSlots}
 use Rattle.vm_state.proofs.ListLemmas.{tested}
@@ -115,7 +116,7 @@ shape-part Length p q n open_part same = by_objects (p.at n) (q.at n) same
     by_objects None None is = refl
     by_objects None (Some r) is = cc
     by_objects (Some o) None is = cc
-    by_objects (Some o) (Some r) is = ap (option_map (λ (s : ClassId × ℕ). Int (pos s.1) ∷ [])) is
+    by_objects (Some o) (Some r) is = ap (option_map (λ (s : ClassId × ℕ). Int (int_length s.1) ∷ [])) is
 
 -- ---- parts of objects
 
