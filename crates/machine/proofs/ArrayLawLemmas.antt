@@ -20,7 +20,7 @@ use Rattle.vm_state.specs.declared.value.Maker.TheVariants as makers
 use Rattle.vm_state.specs.declared.value.Name.{Name}
 use Rattle.vm_state.specs.declared.frame.Frame.{Frame}
 use Rattle.vm_state.specs.Operands.{OperandStack, pushed, top, top_int, rest}
-use Rattle.vm_state.specs.Values.{value_by, value_of}
+use Rattle.vm_state.specs.Values.{int_of, value_by, value_of}
 use Rattle.semantics.specs.Rows.{Row, Change}
 use Rattle.semantics.specs.Lawful.{Names, Knows, KnowsAll, KnowsFrame, KnowsSlots, Fits}
 use Rattle.semantics.specs.Moves.{advanced, with_operands}
@@ -33,11 +33,11 @@ use Rattle.frame_instructions.specs.OperandKinds.{top_as}
 use Rattle.frame_instructions.proofs.LawsFrameLemmas.{top_known, rest_known, pushed_known, as_kind_known}
 use Rattle.machine.specs.declared.array_operation.ArrayOperation.{ArrayOperation}
 use Rattle.machine.specs.declared.array_operation.ArrayOperation.TheVariants as operations
-use Rattle.machine.specs.Arrays.{type_of_primitives, zero_of, stored_as, unless_trapped, object_of, array_type}
+use Rattle.machine.specs.Arrays.{type_of_primitives, zero_of, stored_as, unless_trapped, array_type}
 use Rattle.machine.specs.Arrays.{served_type, slot_at, size_of, can_hold, make_array, array_length, at_element}
-use Rattle.machine.specs.Arrays.{load_element, asking_class, if_held, check_store, store_element, array_row}
-use Rattle.machine.specs.Objects.{slot_in, length_in}
-use Rattle.machine.specs.RowParts.{halts, goes_on, push, raises}
+use Rattle.machine.specs.Arrays.{load_element, is_checked, if_held, check_store, store_element, array_row}
+use Rattle.machine.specs.ObjectParts.{slot_in, ask_class_of, on_object}
+use Rattle.machine.specs.RowParts.{halts, needing, goes_on, push, raises}
 use Rattle.machine.specs.StoredKinds.{top_stored}
 use Rattle.machine.proofs.StoredKindsLemmas.{stored_knows}
 use Rattle.machine.proofs.TableLemmas.{needing_any, needing_such}
@@ -87,7 +87,7 @@ module _ (program : Program) (P : Tables) (known : Names) (own : ℕ → Bool) w
   -- ---- references
 
   object_suits : (v : Value) (go : Name → Row) → Knows known v → ((x : Name) → known x ≡ true → Suits (go x))
-      → Suits (unless_trapped (object_of v) go)
+      → Suits (on_object v go)
   object_suits (values.Int n) go hv on = halted Fault
   object_suits (values.Long n) go hv on = halted Fault
   object_suits values.Null go hv on = raised NullPointerException
@@ -97,16 +97,14 @@ module _ (program : Program) (P : Tables) (known : Names) (own : ℕ → Bool) w
   object_suits (values.OfThread t n) go hv on = on (record { maker = makers.Thread t; number = n }) hv
 
   class_suits : (v : Value) (go : Option ClassId → Row) → Knows known v → ((o : Option ClassId) → Suits (go o))
-      → Suits (asking_class v go)
+      → Suits (ask_class_of v go)
   class_suits (values.Int n) go hv on = on _
   class_suits (values.Long n) go hv on = on _
   class_suits values.Null go hv on = on _
   class_suits (values.Text s) go hv on = on _
   class_suits values.Out go hv on = on _
-  class_suits (values.OfClass c n) go hv on =
-      (hv, λ o. needing_any Suits halted o (λ class. go (Some class)) (λ class is. on (Some class)))
-  class_suits (values.OfThread t n) go hv on =
-      (hv, λ o. needing_any Suits halted o (λ class. go (Some class)) (λ class is. on (Some class)))
+  class_suits (values.OfClass c n) go hv on = (hv, on)
+  class_suits (values.OfThread t n) go hv on = (hv, on)
 
   element_suits : (kind : ElementKind) (v : Value) (index : ℤ) (go : Name → ArrayType → ℕ → Row) → Knows known v
       → ((x : Name) (a : ArrayType) (slot : ℕ) → known x ≡ true → Suits (go x a slot))
@@ -116,16 +114,22 @@ module _ (program : Program) (P : Tables) (known : Names) (own : ℕ → Bool) w
         hx,
         λ class. trapped_suits (served_type kind class) _ (λ a. (
           hx,
-          λ part hp. trapped_suits (slot_at index (length_in part)) (go x a) (λ slot. on x a slot hx),
+          λ part hp. trapped_suits (slot_at index (int_of (slot_in part 0))) (go x a) (λ slot. on x a slot hx),
         )),
       ))
 
-  held_suits : (a : ArrayType) (row : Row) (o : Option ClassId) → Suits row → Suits (if_held P a row o)
-  held_suits a row None on = on
-  held_suits a row (Some class) on = by (can_hold P a class) where
-    by : (b : Bool) → Suits (if b then row else raises ArrayStoreException)
-    by true = on
-    by false = raised ArrayStoreException
+  held_suits : (b : Bool) (row : Row) → Suits row → Suits (if_held b row)
+  held_suits true row on = on
+  held_suits false row on = raised ArrayStoreException
+
+  check_suits : (a : ArrayType) (v : Value) (row : Row) → Knows known v → Suits row → Suits (check_store P a v row)
+  check_suits a v row hv on = by (is_checked v) where
+    asked : Row
+    asked = ask_class_of v (λ o. needing o (λ class. if_held (can_hold P a class) row))
+
+    by : (b : Bool) → Suits (if b then asked else row)
+    by true = class_suits v _ hv (λ o. needing_any Suits halted o _ (λ class is. held_suits (can_hold P a class) row on))
+    by false = on
 
   -- ---- a frame's instruction
 
@@ -166,7 +170,7 @@ module _ (program : Program) (P : Tables) (known : Names) (own : ℕ → Bool) w
           hx,
           λ class. trapped_suits (array_type class) _ (λ a. (
             hx,
-            λ part hp. needing_any Suits halted (length_in part) _ (λ n is.
+            λ part hp. needing_any Suits halted (int_of (slot_in part 0)) _ (λ n is.
                 push_suits (rest f.operands) (values.Int n) one_less tt),
           )),
         )))
@@ -190,9 +194,8 @@ module _ (program : Program) (P : Tables) (known : Names) (own : ℕ → Bool) w
         needing_such Suits halted (Knows known) (top_as Reference (rest (rest f.operands))) _
         (reference_known (rest (rest f.operands)) two_less) (λ r hr.
         element_suits kind r index _ hr (λ x a slot hx.
-        class_suits v _ hv (λ o.
-        held_suits a (Change x slot v (goes_on (advanced (with_operands f (rest (rest (rest f.operands))))))) o
-        (hx, hv, on_suits (rest (rest (rest f.operands))) three_less))))))
+        check_suits a v (Change x slot v (goes_on (advanced (with_operands f (rest (rest (rest f.operands))))))) hv
+        (hx, hv, on_suits (rest (rest (rest f.operands))) three_less)))))
 
     pub array_suits : (o : ArrayOperation) → Suits (array_row P o f)
     array_suits (operations.New kind) = make_suits (type_of_primitives kind) (zero_of kind) (zero_known known kind)

@@ -8,6 +8,7 @@ pub mod HandlersLemmas
 pub mod LinkedLemmas
 pub mod TableLemmas
 pub mod ArrayLawLemmas
+pub mod ArraysLemmas
 pub mod StoredKindsLemmas
 pub mod TableLawLemmas
 pub mod ListLemmas

@@ -3,7 +3,7 @@
 ghost use Rattle.std.specs.Prelude.{◌≡◌, List};
 ghost use Rattle.vm_state.specs.declared.text.Line.{Line};
 ghost use Rattle.machine.specs.Accesses.{Gives, KeptBy, Untouched};
-ghost use Rattle.machine.specs.Arrays.{asking_class, check_store, load_element, store_element};
+ghost use Rattle.machine.specs.Arrays.{is_checked, check_store, load_element, store_element};
 ghost use Rattle.machine.specs.steps.ArrayAccesses.{Reaches, ReachesOn, reach_loaded, reach_stored};
 
 use crate::abrupt::{Abrupt, end_early};
@@ -11,16 +11,17 @@ use crate::array_references::{Element, element_at, reference_below};
 use crate::array_types::{can_hold, stored_as};
 use crate::kinds::{Actor, Conclusion, Stop};
 use crate::pushing::replace_value;
+use crate::references::class_of;
 use crate::store::Store;
 use crate::stored_kind::top_stored;
-use built_in::class_id::{ArrayType, BuiltIn, ClassId};
+use built_in::class_id::{ArrayType, BuiltIn};
 use bytecode::ElementKind;
 use frame_instructions::numeric::advance;
 use frame_instructions::trap::Trap;
 use program::Program;
 use std::alloc::Global;
 use vm_state::frame::Frame;
-use vm_state::value::{Maker, Name, Value};
+use vm_state::value::Value;
 
 /// What is stored, and where.
 #[derive(Clone, Copy, PartialEq, Eq, Debug)]
@@ -30,12 +31,7 @@ pub struct Assignment {
 }
 
 /// What an instruction loads.
-fn loaded<S: Store>(
-    by: Actor,
-    frame: &Frame,
-    store: &S,
-    kind: ElementKind,
-) -> Result<Value, Abrupt>
+fn loaded<S: Store>(by: Actor, frame: &Frame, store: &S, kind: ElementKind) -> Result<Value, Abrupt>
     ensures { (p : List Line) → Reaches S.stopped (S.run by (S.state store.now p)) (reach_loaded kind frame.now)
         result }
 {
@@ -72,30 +68,14 @@ pub fn load_element<S: Store>(
     }
 }
 
-/// The class of the object that a reference is to; null and numbers have none.
-fn class_of_value<S: Store>(by: Actor, store: &S, value: Value) -> Result<Option<ClassId>, Abrupt>
-    ensures { (p : List Line) → Reaches S.stopped (S.run by (S.state store.now p)) (asking_class value) result }
+/// Whether the store check is made of a value: of references other than null.
+fn is_checked(value: Value) -> bool
+    ensures { result ≡ is_checked value }
 {
-    let name = match value {
-        Value::Int(_) | Value::Long(_) | Value::Null => return Ok(None),
-        Value::Text(_) => return Ok(Some(ClassId::BuiltIn(BuiltIn::String))),
-        Value::Out => return Ok(Some(ClassId::BuiltIn(BuiltIn::PrintStream))),
-        Value::OfClass(class, number) => Name {
-            maker: Maker::Class(class),
-            number,
-        },
-        Value::OfThread(thread, number) => Name {
-            maker: Maker::Thread(thread),
-            number,
-        },
-    };
-    match store.class_of(by, name)? {
-        Some(class) => Ok(Some(class)),
-        None => Err(Abrupt::Trapped(Trap::Fault)),
-    }
+    !matches!(value, Value::Int(_) | Value::Long(_) | Value::Null)
 }
 
-/// The store check of `aastore`. Numbers are not checked.
+/// The store check of `aastore`.
 fn check_store<S: Store>(
     program: &Program,
     by: Actor,
@@ -103,15 +83,19 @@ fn check_store<S: Store>(
     array: ArrayType,
     value: Value,
 ) -> Result<(), Abrupt>
-    ensures { (p : List Line) → ReachesOn S.stopped (S.run by (S.state store.now p)) (check_store program.now array value)
-        result }
+    ensures { (p : List Line) → ReachesOn S.stopped (S.run by (S.state store.now p))
+        (check_store program.now array value) result }
 {
-    match class_of_value(by, store, value)? {
-        Some(class) if !can_hold(program, array, class) => {
-            Err(Abrupt::Trapped(Trap::Raise(BuiltIn::ArrayStoreException)))
-        }
-        _ => Ok(()),
+    if !is_checked(value) {
+        return Ok(());
     }
+    let Some(class) = class_of(store, by, value)? else {
+        return Err(Abrupt::Trapped(Trap::Fault));
+    };
+    if !can_hold(program, array, class) {
+        return Err(Abrupt::Trapped(Trap::Raise(BuiltIn::ArrayStoreException)));
+    }
+    Ok(())
 }
 
 /// What an instruction stores, and where.
@@ -122,8 +106,8 @@ fn stored<S: Store>(
     store: &S,
     kind: ElementKind,
 ) -> Result<Assignment, Abrupt>
-    ensures { (p : List Line) → Reaches S.stopped (S.run by (S.state store.now p)) (reach_stored program.now kind frame.now)
-        result }
+    ensures { (p : List Line) → Reaches S.stopped (S.run by (S.state store.now p))
+        (reach_stored program.now kind frame.now) result }
 {
     let value = top_stored(&frame.operands, stored_as(kind))?;
     let index = frame.operands.second_int()?;

@@ -4,20 +4,24 @@ ghost use Rattle.std.specs.Prelude.{◌≡◌, List, Some, None, IfOk, OnErr};
 ghost use Rattle.vm_state.specs.declared.text.Line.{Line};
 ghost use Rattle.vm_state.specs.Operands.{dropped};
 ghost use Rattle.frame_instructions.specs.OperandKinds.{top_as};
-ghost use Rattle.machine.specs.Arrays.{object_of, slot_at};
-ghost use Rattle.machine.specs.steps.ArrayAccesses.{Reaches, reach_element, reach_length};
+ghost use Rattle.vm_state.specs.declared.value.Name.{Name as ObjectName};
+ghost use Rattle.semantics.specs.Rows.{Row};
+ghost use Rattle.machine.specs.Arrays.{unless_trapped, slot_at};
+ghost use Rattle.machine.specs.ObjectParts.{on_object};
+ghost use Rattle.machine.specs.steps.ArrayAccesses.{Reaches, reach_array, reach_element, reach_length};
 
 use crate::abrupt::Abrupt;
 use crate::array_types::{array_type, served_type};
 use crate::kinds::Actor;
+use crate::references::name_of;
 use crate::store::Store;
-use built_in::class_id::{ArrayType, BuiltIn};
+use built_in::class_id::{ArrayType, BuiltIn, ClassId};
 use bytecode::ElementKind;
 use frame_instructions::operand_kind::{OperandKind, top_as};
 use frame_instructions::trap::Trap;
 use vm_state::frame::Frame;
 use vm_state::operands::Operands;
-use vm_state::value::{Fault, Maker, Name, Value};
+use vm_state::value::{Fault, Name, Value};
 
 /// An element that there is.
 #[derive(Clone, Copy, PartialEq, Eq, Debug)]
@@ -40,21 +44,14 @@ pub fn reference_below(operands: &Operands, others: usize) -> Result<Value, Faul
     OperandKind::Reference.of(operands.below(others)?)
 }
 
-/// The object that a reference is to which has to be an array's.
+/// The object that a reference is to.
 fn object_of(reference: Value) -> Result<Name, Trap>
-    ensures { result ≡ object_of reference }
+    ensures { (go : ObjectName → Row) → on_object reference go ≡ unless_trapped result go }
 {
-    match reference {
-        Value::Null => Err(Trap::Raise(BuiltIn::NullPointerException)),
-        Value::OfClass(class, number) => Ok(Name {
-            maker: Maker::Class(class),
-            number,
-        }),
-        Value::OfThread(thread, number) => Ok(Name {
-            maker: Maker::Thread(thread),
-            number,
-        }),
-        Value::Text(_) | Value::Out | Value::Int(_) | Value::Long(_) => Err(Trap::Fault),
+    match name_of(reference) {
+        Some(name) => Ok(name),
+        None if reference == Value::Null => Err(Trap::Raise(BuiltIn::NullPointerException)),
+        None => Err(Trap::Fault),
     }
 }
 
@@ -71,6 +68,15 @@ fn slot_at(index: i32, length: Option<i32>) -> Result<usize, Trap>
     }
 }
 
+/// The object that a reference is to which has to be an array's, with its class.
+fn array_at<S: Store>(by: Actor, store: &S, array: Value) -> Result<(Name, Option<ClassId>), Abrupt>
+    ensures { (p : List Line) → Reaches S.stopped (S.run by (S.state store.now p)) (reach_array array) result }
+{
+    let name = object_of(array)?;
+    let class = store.class_of(by, name)?;
+    Ok((name, class))
+}
+
 /// The element of an index in an array that instructions of a kind serve.
 ///
 /// # Errors
@@ -85,8 +91,7 @@ pub fn element_at<S: Store>(
     ensures { (p : List Line) → Reaches S.stopped (S.run by (S.state store.now p)) (reach_element kind array index)
         result }
 {
-    let name = object_of(array)?;
-    let class = store.class_of(by, name)?;
+    let (name, class) = array_at(by, store, array)?;
     let array = served_type(kind, class)?;
     let length = store.length(by, name)?;
     let slot = slot_at(index, length)?;
@@ -101,11 +106,10 @@ pub fn length_of_top<S: Store>(by: Actor, frame: &Frame, store: &S) -> Result<i3
     ensures { (p : List Line) → Reaches S.stopped (S.run by (S.state store.now p)) (reach_length frame.now) result }
 {
     let array = top_as(&frame.operands, OperandKind::Reference)?;
-    let name = object_of(array)?;
-    let class = store.class_of(by, name)?;
+    let (name, class) = array_at(by, store, array)?;
     array_type(class)?;
-    let Some(length) = store.length(by, name)? else {
-        return Err(Abrupt::Trapped(Trap::Fault));
-    };
-    Ok(length)
+    match store.length(by, name)? {
+        Some(length) => Ok(length),
+        None => Err(Abrupt::Trapped(Trap::Fault)),
+    }
 }

@@ -102,7 +102,14 @@ pub fn on_array<S: Store>(
 {
     match operation {
         ArrayOperation::New(kind) => {
-            make_array(alloc, by, frame, store, type_of_primitives(kind), zero_of(kind))
+            make_array(
+                alloc,
+                by,
+                frame,
+                store,
+                type_of_primitives(kind),
+                zero_of(kind),
+            )
         }
         ArrayOperation::NewOfReferences(array) => {
             make_array(alloc, by, frame, store, array, Value::Null)
