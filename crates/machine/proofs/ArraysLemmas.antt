@@ -1,14 +1,19 @@
 -- What the parts of an instruction on arrays lead to.
-use Rattle.std.proofs.Common.{◌≡◌, Ok, Err, ap, subst, ◌∙◌}
+use Rattle.std.proofs.Common.{◌≡◌, ℤ, Some, Ok, Err, refl, ap, subst, ◌∙◌}
 use Rattle.std.specs.declared.result.Result.{Result}
+use Rattle.built_in.specs.declared.class_id.ArrayType.{ArrayType}
+use Rattle.vm_state.specs.declared.value.Value.{Value}
 use Rattle.vm_state.specs.declared.frame.Frame.{Frame}
+use Rattle.vm_state.specs.Operands.{top_int}
 use Rattle.semantics.specs.Rows.{Row}
 use Rattle.frame_instructions.specs.declared.trap.Trap.{Trap}
+use Rattle.frame_instructions.specs.declared.trap.Trap.TheVariants as traps
 use Rattle.machine.specs.declared.abrupt.Abrupt.{Abrupt}
 use Rattle.machine.specs.declared.abrupt.Abrupt.TheVariants.{Stopped, Trapped}
 use Rattle.machine.specs.declared.kinds.Conclusion.{Conclusion}
 use Rattle.machine.specs.declared.kinds.Stop.{Stop}
 use Rattle.machine.specs.Accesses.{Gives, Leads, unless_refused}
+use Rattle.machine.specs.Arrays.{unless_trapped, size_of, make_array}
 use Rattle.machine.specs.Table.{local_row}
 use Rattle.machine.specs.steps.ArrayAccesses.{EndsSo}
 use Rattle.machine.proofs.AccessesLemmas.{gives_at}
@@ -27,3 +32,19 @@ pub leads_at : {A B : Type 0} (stopped : Stop → A) (old new : Row → A) (acce
 leads_at stopped old new access other (Ok b) same leads = λ next. ap old (same next) ∙ leads next
 leads_at stopped old new access other (Err stop) same leads =
     λ next. ap (λ (x : Row). unless_refused stop (old x)) (same next) ∙ leads next
+
+-- a row that leads to what one leads to that was ended
+pub ends_at : {A : Type 0} (stopped : Stop → A) (run : Row → A) (row other : Row) (abrupt : Abrupt)
+    → run row ≡ run other → EndsSo stopped run other abrupt → EndsSo stopped run row abrupt
+ends_at stopped run row other (Stopped stop) same ends = ap (unless_refused stop) same ∙ ends
+ends_at stopped run row other (Trapped trap) same ends = same ∙ ends
+
+-- a trap that there is in the place of a value
+pub trapped_row : {A : Type 0} (trap : Trap) (go : A → Row) → unless_trapped (Err trap) go ≡ local_row (Err trap)
+trapped_row traps.Fault go = refl
+trapped_row (traps.Raise class) go = refl
+
+-- a new array of a size that there is not
+pub not_made : (a : ArrayType) (zero : Value) (f : Frame) (count : ℤ) (trap : Trap) → top_int f.operands ≡ Some count
+    → size_of count ≡ Err trap → make_array a zero f ≡ local_row (Err trap)
+not_made a zero f count trap on_top is = rw (on_top, is) (trapped_row trap _)

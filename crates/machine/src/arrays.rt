@@ -36,6 +36,7 @@ fn size_of(count: i32) -> Result<usize, Trap>
 }
 
 /// `newarray` and `anewarray`: a new array with components that begin as this.
+#[tactic(auto, unfolding(crate::specs::Accesses::unless_refused))]
 fn make_array<S: Store>(
     alloc: Global,
     by: Actor,
