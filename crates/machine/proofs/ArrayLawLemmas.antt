@@ -128,7 +128,10 @@ module _ (program : Program) (P : Tables) (known : Names) (own : ℕ → Bool) w
     asked = ask_class_of v (λ o. needing o (λ class. if_held (can_hold P a class) row))
 
     by : (b : Bool) → Suits (if b then asked else row)
-    by true = class_suits v _ hv (λ o. needing_any Suits halted o _ (λ class is. held_suits (can_hold P a class) row on))
+    by true =
+        class_suits v (λ o. needing o (λ class. if_held (can_hold P a class) row)) hv (λ o.
+        needing_any Suits halted o (λ class. if_held (can_hold P a class) row)
+        (λ class is. held_suits (can_hold P a class) row on))
     by false = on
 
   -- ---- a frame's instruction
@@ -155,11 +158,11 @@ module _ (program : Program) (P : Tables) (known : Names) (own : ℕ → Bool) w
     reference_known : (s : OperandStack) → KnowsAll known s.values → IfSome (top_as Reference s) (Knows known)
     reference_known s hs = as_kind_known known Reference (top s) (top_known known s hs)
 
-    make_suits : (a : ArrayType) (zero : Value) → Knows known zero → Suits (make_array a zero f)
-    make_suits a zero hz =
+    make_suits : (a : ArrayType) (v : Value) → Knows known v → Suits (make_array a v f)
+    make_suits a v hv =
         needing_any Suits halted (top_int f.operands) _ (λ count is.
         trapped_suits (size_of count) _ (λ size. (
-          filled_known known size zero hz,
+          filled_known known size v hv,
           λ x hx. push_suits (rest f.operands) (value_of x) one_less (name_known known x.maker x.number hx),
         )))
 
