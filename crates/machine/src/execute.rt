@@ -10,6 +10,7 @@ ghost use Rattle.machine.specs.Table.{local_row, operation_row, fetched, row};
 ghost use Rattle.machine.specs.Accesses.{Gives, KeptBy, Untouched};
 
 use crate::kinds::{Actor, Conclusion, Stop};
+use crate::object_execution::execute_on_object;
 use crate::printing::{end_line, print_value};
 use crate::pushing::{push_number, push_value};
 use crate::raising::trap;
@@ -74,6 +75,9 @@ fn execute_resolved<S: Store>(
         Resolved::Print(what, line) => { print_value(alloc, program, by, frame, store, what, line) }
         Resolved::EndLine => end_line(alloc, by, frame, store),
         Resolved::Return(kind) => Ok(return_value(frame, kind)),
+        Resolved::OnObject(operation) => {
+            execute_on_object(alloc, program, by, frame, store, operation)
+        }
         Resolved::Refused(kind) => Ok(Conclusion::Halts(kind)),
     }
 }

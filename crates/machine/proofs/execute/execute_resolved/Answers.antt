@@ -11,3 +11,6 @@ returns-in-Print-clause-gives g c = λ p. rw c.in-Print.is (c.print_value.ensure
 
 pub returns-in-EndLine-clause-gives : goal.returns-in-EndLine-clause-gives
 returns-in-EndLine-clause-gives g c = λ p. rw c.in-EndLine.is (c.end_line.ensures.gives p)
+
+pub returns-in-OnObject-clause-gives : goal.returns-in-OnObject-clause-gives
+returns-in-OnObject-clause-gives g c = λ p. rw c.in-OnObject.is (c.execute_on_object.ensures.gives p)
