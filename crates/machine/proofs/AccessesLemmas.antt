@@ -10,7 +10,7 @@ use Rattle.machine.specs.declared.kinds.Conclusion.TheVariants.{Stays, Becomes, 
 use Rattle.semantics.specs.Rows.{Row, UseClass}
 use Rattle.built_in.specs.declared.class_id.BuiltIn.TheVariants.{NoClassDefFoundError}
 use Rattle.machine.specs.RowParts.{raises, if_usable}
-use Rattle.machine.specs.Accesses.{Kept, KeptBy, Untouched, Gives, unless_refused}
+use Rattle.machine.specs.Accesses.{Kept, KeptBy, Untouched, Gives, Leads, unless_refused}
 
 module _ {S T : Type 0} (state : S → List Line → T) where
   -- a store that nothing was done to
@@ -59,3 +59,10 @@ fails_at_class stopped old new c usable row f r asked failed is =
     let leads : old (UseClass c (if_usable row)) ≡ old (raises NoClassDefFoundError) =
     rw failed at (asked (if_usable row)) in
     gives_at stopped old new (raises NoClassDefFoundError) (UseClass c (if_usable row)) f r leads is
+
+-- an access of which a row asks in other words
+pub leads_at : {A B : Type 0} (stopped : Stop → A) (old new : Row → A) (access other : (B → Row) → Row)
+    (r : Result B Stop) → ((next : B → Row) → old (other next) ≡ old (access next))
+    → Leads stopped old new access r → Leads stopped old new other r
+leads_at stopped old new access other (Ok b) same leads = λ next. same next ∙ leads next
+leads_at stopped old new access other (Err stop) same leads = λ next. ap (unless_refused stop) (same next) ∙ leads next

@@ -40,13 +40,12 @@ use Rattle.machine.specs.ObjectParts.{slot_in, ask_class_of, on_object}
 use Rattle.machine.specs.RowParts.{halts, needing, goes_on, push, raises}
 use Rattle.machine.specs.StoredKinds.{top_stored}
 use Rattle.machine.proofs.StoredKindsLemmas.{stored_knows}
+use Rattle.machine.specs.Linked.{program_of}
+use Rattle.semantics.proofs.FrameMovesLemmas.{name_known}
+use Rattle.machine.proofs.ObjectLawLemmas.{slot_known, on_object_suits, ask_class_suits, push_on_suits}
 use Rattle.machine.proofs.TableLemmas.{needing_any, needing_such}
 
 module _ (known : Names) where
-  name_known : (m : Maker) (n : ℕ) → known (record { maker = m; number = n }) ≡ true → Knows known (value_by m n)
-  name_known (makers.Class c) n h = h
-  name_known (makers.Thread t) n h = h
-
   filled_known : (n : ℕ) (v : Value) → Knows known v → KnowsAll known (replicate n v)
   filled_known zero v h = tt
   filled_known (suc n) v h = (h, filled_known n v h)
@@ -59,19 +58,9 @@ module _ (known : Names) where
   zero_known primitives.Int = tt
   zero_known primitives.Long = tt
 
-  held_known : (vs : List Value) (slot : ℕ) → KnowsAll known vs → IfSome (slice_get vs slot) (Knows known)
-  held_known [] slot h = tt
-  held_known (v ∷ vs) zero h = h.0
-  held_known (v ∷ vs) (suc slot) h = held_known vs slot h.1
-
-  pub slot_known : (part : Option (List Value)) (slot : ℕ) → KnowsSlots known part
-      → IfSome (slot_in part slot) (Knows known)
-  slot_known None slot h = tt
-  slot_known (Some vs) slot h = held_known vs slot h
-
-module _ (program : Program) (P : Tables) (known : Names) (own : ℕ → Bool) where
+module _ (P : Tables) (known : Names) (own : ℕ → Bool) where
   abbrev Suits : Row → Type 0
-  Suits r = Fits program known own r
+  Suits r = Fits (program_of P) known own r
 
   halted : (kind : FaultKind) → Suits (halts kind)
   halted kind = (tt, tt)
@@ -84,33 +73,13 @@ module _ (program : Program) (P : Tables) (known : Names) (own : ℕ → Bool) w
   trapped_suits (Err traps.Fault) go on = halted Fault
   trapped_suits (Err (traps.Raise class)) go on = raised class
 
-  -- ---- references
-
-  object_suits : (v : Value) (go : Name → Row) → Knows known v → ((x : Name) → known x ≡ true → Suits (go x))
-      → Suits (on_object v go)
-  object_suits (values.Int n) go hv on = halted Fault
-  object_suits (values.Long n) go hv on = halted Fault
-  object_suits values.Null go hv on = raised NullPointerException
-  object_suits (values.Text s) go hv on = halted Fault
-  object_suits values.Out go hv on = halted Fault
-  object_suits (values.OfClass c n) go hv on = on (record { maker = makers.Class c; number = n }) hv
-  object_suits (values.OfThread t n) go hv on = on (record { maker = makers.Thread t; number = n }) hv
-
-  class_suits : (v : Value) (go : Option ClassId → Row) → Knows known v → ((o : Option ClassId) → Suits (go o))
-      → Suits (ask_class_of v go)
-  class_suits (values.Int n) go hv on = on _
-  class_suits (values.Long n) go hv on = on _
-  class_suits values.Null go hv on = on _
-  class_suits (values.Text s) go hv on = on _
-  class_suits values.Out go hv on = on _
-  class_suits (values.OfClass c n) go hv on = (hv, on)
-  class_suits (values.OfThread t n) go hv on = (hv, on)
+  -- ---- elements
 
   element_suits : (kind : ElementKind) (v : Value) (index : ℤ) (go : Name → ArrayType → ℕ → Row) → Knows known v
       → ((x : Name) (a : ArrayType) (slot : ℕ) → known x ≡ true → Suits (go x a slot))
       → Suits (at_element kind v index go)
   element_suits kind v index go hv on =
-      object_suits v _ hv (λ x hx. (
+      on_object_suits P known own v _ hv (λ x hx. (
         hx,
         λ class. trapped_suits (served_type kind class) _ (λ a. (
           hx,
@@ -129,7 +98,7 @@ module _ (program : Program) (P : Tables) (known : Names) (own : ℕ → Bool) w
 
     by : (b : Bool) → Suits (if b then asked else row)
     by true =
-        class_suits v (λ o. needing o (λ class. if_held (can_hold P a class) row)) hv (λ o.
+        ask_class_suits P known own v (λ o. needing o (λ class. if_held (can_hold P a class) row)) hv (λ o.
         needing_any Suits halted o (λ class. if_held (can_hold P a class) row)
         (λ class is. held_suits (can_hold P a class) row on))
     by false = on
@@ -142,9 +111,7 @@ module _ (program : Program) (P : Tables) (known : Names) (own : ℕ → Bool) w
 
     push_suits : (s : OperandStack) (v : Value) → KnowsAll known s.values → Knows known v
         → Suits (push v (with_operands f s))
-    push_suits s v hs hv =
-        needing_such Suits halted (λ more. KnowsAll known more.values) (pushed v s) _
-        (pushed_known known v s hv hs) on_suits
+    push_suits s v hs hv = push_on_suits P known own f h s hs v hv
 
     one_less : KnowsAll known (rest f.operands).values
     one_less = rest_known known f.operands h.0
@@ -163,13 +130,13 @@ module _ (program : Program) (P : Tables) (known : Names) (own : ℕ → Bool) w
         needing_any Suits halted (top_int f.operands) _ (λ count is.
         trapped_suits (size_of count) _ (λ size. (
           filled_known known size v hv,
-          λ x hx. push_suits (rest f.operands) (value_of x) one_less (name_known known x.maker x.number hx),
+          λ x hx. push_suits (rest f.operands) (value_of x) one_less (name_known known x hx),
         )))
 
     length_suits : Suits (array_length f)
     length_suits =
         needing_such Suits halted (Knows known) (top_as Reference f.operands) _ (reference_known f.operands h.0)
-        (λ v hv. object_suits v _ hv (λ x hx. (
+        (λ v hv. on_object_suits P known own v _ hv (λ x hx. (
           hx,
           λ class. trapped_suits (array_type class) _ (λ a. (
             hx,

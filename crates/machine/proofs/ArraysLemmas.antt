@@ -12,7 +12,7 @@ use Rattle.machine.specs.declared.abrupt.Abrupt.{Abrupt}
 use Rattle.machine.specs.declared.abrupt.Abrupt.TheVariants.{Stopped, Trapped}
 use Rattle.machine.specs.declared.kinds.Conclusion.{Conclusion}
 use Rattle.machine.specs.declared.kinds.Stop.{Stop}
-use Rattle.machine.specs.Accesses.{Gives, Leads, unless_refused}
+use Rattle.machine.specs.Accesses.{Gives, unless_refused}
 use Rattle.machine.specs.Arrays.{unless_trapped, size_of, make_array}
 use Rattle.machine.specs.Table.{local_row}
 use Rattle.machine.specs.steps.ArrayAccesses.{EndsSo}
@@ -24,14 +24,6 @@ pub ended_by_trap : {A : Type 0} (stopped : Stop → A) (old new : Row → A) (r
     → Gives stopped old new (local_row (Err trap)) f r → Gives stopped old new row f r
 ended_by_trap stopped old new row f trap abrupt r is ends gives =
     gives_at stopped old new (local_row (Err trap)) row f r (subst (EndsSo stopped old row) is ends) gives
-
--- an access that is another one
-pub leads_at : {A B : Type 0} (stopped : Stop → A) (old new : Row → A) (access other : (B → Row) → Row)
-    (r : Result B Stop) → ((next : B → Row) → other next ≡ access next) → Leads stopped old new access r
-    → Leads stopped old new other r
-leads_at stopped old new access other (Ok b) same leads = λ next. ap old (same next) ∙ leads next
-leads_at stopped old new access other (Err stop) same leads =
-    λ next. ap (λ (x : Row). unless_refused stop (old x)) (same next) ∙ leads next
 
 -- a row that leads to what one leads to that was ended
 pub ends_at : {A : Type 0} (stopped : Stop → A) (run : Row → A) (row other : Row) (abrupt : Abrupt)

@@ -11,6 +11,7 @@ use Rattle.classfile.specs.ClassFile.{ClassFile}
 use Rattle.classfile.specs.declared.constant.Constant.{Constant}
 use Rattle.classfile.specs.declared.constant.Constant.TheVariants as constants
 use Rattle.classfile.specs.declared.member.Member.{Member}
+use Rattle.vm_state.specs.declared.ends.FaultKind.{FaultKind}
 use Rattle.vm_state.specs.declared.ends.FaultKind.TheVariants.{Fault}
 use Rattle.built_in.specs.declared.class_id.ClassId.{ClassId}
 use Rattle.bytecode.specs.declared.instruction.Instruction.{Instruction}
@@ -58,7 +59,9 @@ use Rattle.frame_instructions.specs.Instructions.{local_of}
 use Rattle.machine.specs.Operations.{Operation, PutStatic, Return, Refused, int_constant, long_constant}
 use Rattle.machine.specs.Operations.{local_or, is_method, may_write, if_valued, get_target}
 use Rattle.machine.specs.Operations.{getstatic_of, put_target, putstatic_of, call_of, invokevirtual_of, return_of}
-use Rattle.machine.specs.Operations.{returns_so, new_of_references, anewarray_of}
+use Rattle.machine.specs.Operations.{returns_so, on_object, new_of_references, anewarray_of}
+use Rattle.machine.specs.declared.object_operation.ObjectOperation.{ObjectOperation}
+use Rattle.machine.specs.ObjectReferences.{new_of, check_cast_of, instance_of_of, get_field_of, put_field_of}
 use Rattle.machine.specs.Operations.{resolved_operation, operation_of, operation_at}
 use Rattle.machine.specs.Linked.{program_of}
 use Rattle.machine.proofs.ListLemmas.{left_of_pair, right_of_pair, first_passes, kept_place, both_true}
@@ -134,6 +137,10 @@ module _ (w : FieldKind) (c k : ℕ) where
       by (Some array) h = cc
   no_anewarray P other e = cc
 
+  no_object : (r : Result ObjectOperation FaultKind) → on_object r ≡ PutStatic w c k → ⊥
+  no_object (Ok operation) e = cc
+  no_object (Err kind) e = cc
+
   module _ (P : Tables) (d m : ℕ) where
     -- what a constant is that is written to
     record IsPut (e : Option RuntimeConstant) : Type 0 where
@@ -190,6 +197,12 @@ module _ (w : FieldKind) (c k : ℕ) where
     put_resolved instructions.ReturnReference e =
         absurd (no_return (Some operands.Reference) (implementation_at P d m) e)
     put_resolved (instructions.NewReferenceArray index) e = absurd (no_anewarray P (constant_at P d index) e)
+    put_resolved (instructions.New index) e = absurd (no_object (new_of P (constant_at P d index)) e)
+    put_resolved (instructions.CheckCast index) e = absurd (no_object (check_cast_of (constant_at P d index)) e)
+    put_resolved (instructions.InstanceOf index) e = absurd (no_object (instance_of_of (constant_at P d index)) e)
+    put_resolved instructions.Throw e = absurd cc
+    put_resolved (instructions.GetField index) e = absurd (no_object (get_field_of (constant_at P d index)) e)
+    put_resolved (instructions.PutField index) e = absurd (no_object (put_field_of (constant_at P d index)) e)
     put_resolved other e = absurd cc
 
     put_local : (l : Option LocalOperation) (o : Operation) → local_or l o ≡ PutStatic w c k → o ≡ PutStatic w c k

@@ -30,7 +30,7 @@ use Rattle.machine.proofs.ListLemmas.{left_of_pair, first_passes, second_of_thre
 
 -- ---- static fields
 
-plain_zero : (kind : FieldKind) → name_of (zero_of kind) ≡ None
+pub plain_zero : (kind : FieldKind) → name_of (zero_of kind) ≡ None
 plain_zero kinds.Boolean = refl
 plain_zero kinds.Byte = refl
 plain_zero kinds.Char = refl

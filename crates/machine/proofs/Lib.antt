@@ -1,5 +1,7 @@
 pub mod TableLocalLemmas
 pub mod PrintingLemmas
+pub mod ObjectPartsLemmas
+pub mod ObjectsLemmas
 pub mod AccessesLemmas
 pub mod StretchesLemmas
 pub mod StretchRowLemmas
@@ -10,9 +12,10 @@ pub mod TableLemmas
 pub mod ArrayLawLemmas
 pub mod ArraysLemmas
 pub mod StoredKindsLemmas
-pub mod TableLawLemmas
 pub mod ListLemmas
 pub mod LawsStaticLemmas
+pub mod ObjectLawLemmas
+pub mod TableLawLemmas
 pub mod LawsFinalLemmas
 pub mod LawsLemmas
 pub mod SourcesLemmas

@@ -26,7 +26,7 @@ use Rattle.frame_instructions.proofs.LawsFrameLemmas.{KnowsLocals, top_known, re
 use Rattle.frame_instructions.proofs.LawsFrameLemmas.{stored_known}
 use Rattle.frame_instructions.proofs.FamiliesNameLemmas.{local_names_lem}
 use Rattle.machine.specs.Operations.{Operation, Local, PushText, GetStatic, PutStatic, GetOut, Print, EndLine}
-use Rattle.machine.specs.Operations.{OnArray, Return, Refused, operation_at}
+use Rattle.machine.specs.Operations.{Return, OnArray, OnObject, Refused, operation_at}
 use Rattle.machine.specs.StoredKinds.{top_stored}
 use Rattle.machine.proofs.StoredKindsLemmas.{stored_knows}
 use Rattle.machine.specs.RowParts.{halts, goes_on, push, raises}
@@ -41,6 +41,7 @@ use Rattle.machine.proofs.TableLemmas.{of_some, needing_any, needing_such, if_us
 use Rattle.machine.proofs.TableLemmas.{called_any}
 use Rattle.machine.proofs.ArrayLawLemmas.{array_suits}
 use Rattle.machine.proofs.LinkedLemmas.{found_class_has, class_is_found}
+use Rattle.machine.proofs.ObjectLawLemmas.{object_suits}
 
 -- local variables that hold nothing yet
 pub blank_known : (known : Names) (n : ℕ) → KnowsLocals known (replicate n None)
@@ -105,12 +106,13 @@ module _ {P : Tables} (sound : AreSound P) (known : Names) (own : ℕ → Bool) 
           needing_any Suits halted (top_as Reference f.operands) _ (λ r on_top.
           print_any Suits halted raised (10 ∷ []) (with_operands f (rest f.operands)) r
           (on_suits (rest f.operands) one_less))
-      instruction_suits (OnArray operation) at = array_suits (program_of P) P known own f h operation
+      instruction_suits (OnArray operation) at = array_suits P known own f h operation
       instruction_suits (Return returns.Nothing) at = (tt, tt)
       instruction_suits (Return (returns.Value kind)) at =
           needing_such Suits halted (Knows known) (top_stored kind f.operands) _
           (stored_knows known kind f.operands h.0)
           (λ v hv. (hv, tt))
+      instruction_suits (OnObject operation) at = object_suits P known own f h operation
       instruction_suits (Refused kind) at = (tt, tt)
 
       fetched_suits : (o : Option Operation) → operation_at P d m f.place ≡ o → Suits (fetched P o f)

@@ -7,11 +7,11 @@ ghost use Rattle.machine.specs.Arrays.{is_checked, check_store, load_element, st
 ghost use Rattle.machine.specs.steps.ArrayAccesses.{Reaches, ReachesOn, reach_loaded, reach_stored};
 
 use crate::abrupt::{Abrupt, end_early};
-use crate::array_references::{Element, element_at, reference_below};
+use crate::array_references::{Element, element_at, third_reference};
 use crate::array_types::{can_hold, stored_as};
 use crate::kinds::{Actor, Conclusion, Stop};
 use crate::pushing::replace_value;
-use crate::references::class_of;
+use crate::references::{class_of, second_reference};
 use crate::store::Store;
 use crate::stored_kind::top_stored;
 use built_in::class_id::{ArrayType, BuiltIn};
@@ -36,7 +36,7 @@ fn loaded<S: Store>(by: Actor, frame: &Frame, store: &S, kind: ElementKind) -> R
         result }
 {
     let index = frame.operands.top_int()?;
-    let array = reference_below(&frame.operands, 1)?;
+    let array = second_reference(&frame.operands)?;
     let element = element_at(by, store, kind, array, index)?;
     match store.slot(by, element.name, element.slot)? {
         Some(value) => Ok(value),
@@ -111,7 +111,7 @@ fn stored<S: Store>(
 {
     let value = top_stored(&frame.operands, stored_as(kind))?;
     let index = frame.operands.second_int()?;
-    let array = reference_below(&frame.operands, 2)?;
+    let array = third_reference(&frame.operands)?;
     let element = element_at(by, store, kind, array, index)?;
     check_store(program, by, store, element.array, value)?;
     Ok(Assignment { element, value })

@@ -2,7 +2,7 @@
 
 ghost use Rattle.std.specs.Prelude.{◌≡◌, List, Some, None, IfOk, OnErr};
 ghost use Rattle.vm_state.specs.declared.text.Line.{Line};
-ghost use Rattle.vm_state.specs.Operands.{dropped};
+ghost use Rattle.vm_state.specs.Operands.{rest};
 ghost use Rattle.frame_instructions.specs.OperandKinds.{top_as};
 ghost use Rattle.vm_state.specs.declared.value.Name.{Name as ObjectName};
 ghost use Rattle.semantics.specs.Rows.{Row};
@@ -33,15 +33,15 @@ pub struct Element {
     pub slot: usize,
 }
 
-/// The reference below so many operands, which stays.
+/// The reference below the two operands on top, which stay.
 ///
 /// # Errors
 /// `Fault` where none is there.
-pub fn reference_below(operands: &Operands, others: usize) -> Result<Value, Fault>
-    ensures ok { IfOk result (λ v. top_as OperandKind.Reference (dropped others operands.now) ≡ Some v) }
-    ensures err { OnErr result (top_as OperandKind.Reference (dropped others operands.now) ≡ None) }
+pub fn third_reference(operands: &Operands) -> Result<Value, Fault>
+    ensures ok { IfOk result (λ v. top_as OperandKind.Reference (rest (rest operands.now)) ≡ Some v) }
+    ensures err { OnErr result (top_as OperandKind.Reference (rest (rest operands.now)) ≡ None) }
 {
-    OperandKind::Reference.of(operands.below(others)?)
+    OperandKind::Reference.of(operands.below(2)?)
 }
 
 /// The object that a reference is to.

@@ -11,6 +11,7 @@ ghost use Rattle.machine.specs.Accesses.{Gives, KeptBy, Untouched};
 
 use crate::arrays::on_array;
 use crate::kinds::{Actor, Conclusion, Stop};
+use crate::object_execution::execute_on_object;
 use crate::printing::{end_line, print_value};
 use crate::pushing::{push_number, push_value};
 use crate::raising::trap;
@@ -76,6 +77,9 @@ fn execute_resolved<S: Store>(
         Resolved::EndLine => end_line(alloc, by, frame, store),
         Resolved::OnArray(operation) => on_array(alloc, program, by, frame, store, operation),
         Resolved::Return(kind) => Ok(return_value(frame, kind)),
+        Resolved::OnObject(operation) => {
+            execute_on_object(alloc, program, by, frame, store, operation)
+        }
         Resolved::Refused(kind) => Ok(Conclusion::Halts(kind)),
     }
 }

@@ -1,10 +1,9 @@
 //! Prints of `System.out`: `print` and `println` of `java.io.PrintStream`, over any store.
 
-ghost use Rattle.std.specs.Prelude.{◌≡◌, ◌∷◌, [], List, Some, None, IfOk, OnErr, slice_get};
+ghost use Rattle.std.specs.Prelude.{◌≡◌, ◌∷◌, [], List, IfOk, slice_get};
 ghost use Rattle.classfile.specs.Printing.{printed_units};
 ghost use Rattle.vm_state.specs.declared.text.Line.{Line};
-ghost use Rattle.vm_state.specs.Operands.{dropped, rest};
-ghost use Rattle.frame_instructions.specs.OperandKinds.{top_as};
+ghost use Rattle.vm_state.specs.Operands.{dropped};
 ghost use Rattle.semantics.specs.Moves.{with_operands};
 ghost use Rattle.machine.specs.Printing.{unit_of_int, text_of_string, printed_text, ended, print_on, print_value};
 ghost use Rattle.machine.specs.Printing.{end_line};
@@ -12,6 +11,7 @@ ghost use Rattle.machine.specs.Accesses.{Gives, KeptBy, Untouched};
 
 use crate::kinds::{Actor, Conclusion, Stop};
 use crate::raising::raise;
+use crate::references::second_reference;
 use crate::store::Store;
 use built_in::class_id::BuiltIn;
 use classfile::{printed, printed_unit};
@@ -21,9 +21,8 @@ use program::{Printed, Program};
 use std::alloc::{AllocError, Global};
 use vm_state::ends::FaultKind;
 use vm_state::frame::Frame;
-use vm_state::operands::Operands;
 use vm_state::text::Text;
-use vm_state::value::{Fault, Value};
+use vm_state::value::Value;
 
 const FAULT: Result<Conclusion, Stop> = Ok(Conclusion::Halts(FaultKind::Fault));
 
@@ -172,12 +171,4 @@ pub fn end_line<S: Store>(
     };
     let text = Text::line_end(alloc)?;
     print_on(alloc, by, frame, store, receiver, text, 1)
-}
-
-/// The reference below the top, which stays. A fault where none is there.
-fn second_reference(operands: &Operands) -> Result<Value, Fault>
-    ensures ok { IfOk result (λ v. top_as OperandKind.Reference (rest operands.now) ≡ Some v) }
-    ensures err { OnErr result (top_as OperandKind.Reference (rest operands.now) ≡ None) }
-{
-    OperandKind::Reference.of(operands.second()?)
 }

@@ -4,10 +4,13 @@ ghost use Rattle.std.specs.Prelude.{◌≡◌, Some};
 ghost use Rattle.program.specs.Tables.{implementation_at};
 ghost use Rattle.machine.specs.Operations.{meaning, int_constant, long_constant, may_write};
 ghost use Rattle.machine.specs.Operations.{get_target, getstatic_of, put_target, putstatic_of, call_of};
-ghost use Rattle.machine.specs.Operations.{invokevirtual_of, returns_so, return_of, anewarray_of, array_operation};
-ghost use Rattle.machine.specs.Operations.{resolved_operation};
+ghost use Rattle.machine.specs.Operations.{invokevirtual_of, returns_so, return_of, on_object, anewarray_of};
+ghost use Rattle.machine.specs.Operations.{array_operation, resolved_operation};
 
 use crate::array_operation::ArrayOperation;
+use crate::object_operation::{
+    ObjectOperation, check_cast_of, get_field_of, instance_of_of, new_of, put_field_of,
+};
 use crate::stored_kind::operand_kind;
 use bytecode::Instruction;
 use frame_instructions::operand_kind::OperandKind;
@@ -40,6 +43,8 @@ pub enum Resolved {
     OnArray(ArrayOperation),
     /// `return`, `ireturn`, `lreturn` and `areturn`, of a method that returns so.
     Return(ReturnKind),
+    /// An instruction on objects.
+    OnObject(ObjectOperation),
     /// What ends its thread whatever the frame holds: a reference that does not resolve, something that the machine
     /// leaves out, or what JVMS leaves to verification.
     Refused(FaultKind),
@@ -235,6 +240,16 @@ fn array_operation(program: &Program, class: u32, instruction: &Instruction) -> 
     }
 }
 
+/// An instruction on objects, or the fault that it is.
+fn on_object(operation: Result<ObjectOperation, FaultKind>) -> Resolved
+    ensures { meaning result ≡ on_object operation }
+{
+    match operation {
+        Ok(operation) => Resolved::OnObject(operation),
+        Err(kind) => Resolved::Refused(kind),
+    }
+}
+
 /// What an instruction of a method does that is none of those that touch their frame alone.
 pub fn resolved_operation(
     program: &Program,
@@ -258,6 +273,12 @@ pub fn resolved_operation(
         Instruction::ReturnReference => {
             return_of(program, class, method, Some(OperandKind::Reference))
         }
+        Instruction::New(index) => on_object(new_of(program, program.constant(class, *index))),
+        Instruction::CheckCast(index) => on_object(check_cast_of(program.constant(class, *index))),
+        Instruction::InstanceOf(index) => on_object(instance_of_of(program.constant(class, *index))),
+        Instruction::Throw => Resolved::OnObject(ObjectOperation::Throw),
+        Instruction::GetField(index) => on_object(get_field_of(program.constant(class, *index))),
+        Instruction::PutField(index) => on_object(put_field_of(program.constant(class, *index))),
         Instruction::Bad => FAULT,
         _ => array_operation(program, class, instruction),
     }

@@ -1,10 +1,10 @@
 //! The store of all threads: what they share.
 
-ghost use Rattle.std.specs.Prelude.{◌≡◌, ℕ, List};
+ghost use Rattle.std.specs.Prelude.{◌≡◌, ℕ, List, length, option_map};
 ghost use Rattle.vm_state.specs.declared.text.Line.{Line};
 ghost use Rattle.vm_state.specs.Shares.{shared_of};
 ghost use Rattle.vm_state.specs.SharedState.{SharedState};
-ghost use Rattle.semantics.specs.Rows.{Result as Led};
+ghost use Rattle.semantics.specs.Rows.{Result as Led, int_length};
 ghost use Rattle.machine.specs.Sharing.{run_shared, stopped_shared, CanUseShared};
 
 use crate::kinds::{Actor, Stop};
@@ -15,6 +15,17 @@ use vm_state::classes::Usability;
 use vm_state::object::Slots;
 use vm_state::shared::Shared;
 use vm_state::value::{Name, Value};
+
+/// How many slots an object has that is held, as an int: no array is longer than an int says, and of more it would be
+/// the low 32 bits.
+fn length_of(slots: Option<&[Value]>) -> Option<i32>
+    ensures { result ≡ option_map (λ s. int_length (length s.now)) slots.entry }
+{
+    match slots {
+        Some(slots) => Some(((slots.len() % 4_294_967_296) as u32).cast_signed()),
+        None => None,
+    }
+}
 
 impl Store for Shared {
     ghost Answer = { Led };
@@ -75,10 +86,7 @@ impl Store for Shared {
 
     #[inline(always)]
     fn length(&self, _by: Actor, object: Name) -> Result<Option<i32>, Stop> {
-        match self.slots(object) {
-            Some(slots) => Ok(Some((slots.len() as u32).cast_signed())),
-            None => Ok(None),
-        }
+        Ok(length_of(self.slots(object)))
     }
 
     #[inline(always)]

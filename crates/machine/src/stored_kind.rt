@@ -1,7 +1,7 @@
 //! What kind of operand the values of a type are (JVMS 2.11.1).
 
 ghost use Rattle.std.specs.Prelude.{◌≡◌, Some, None, IfOk, OnErr};
-ghost use Rattle.machine.specs.StoredKinds.{operand_kind, top_stored};
+ghost use Rattle.machine.specs.StoredKinds.{operand_kind, extra_places, top_stored};
 
 use frame_instructions::operand_kind::{OperandKind, top_as};
 use program::runtime_constant::FieldKind;
@@ -19,6 +19,17 @@ pub fn operand_kind(kind: FieldKind) -> Option<OperandKind>
         FieldKind::Long => Some(OperandKind::Long),
         FieldKind::Float | FieldKind::Double => None,
         FieldKind::Reference => Some(OperandKind::Reference),
+    }
+}
+
+/// How many places its values take on an operand stack beyond the one that a reference takes (JVMS 2.6.2).
+#[inline(always)]
+pub fn extra_places(kind: FieldKind) -> u32
+    ensures { result ≡ extra_places kind }
+{
+    match kind {
+        FieldKind::Long => 1,
+        _ => 0,
     }
 }
 

@@ -14,3 +14,6 @@ returns-in-EndLine-clause-gives g c = λ p. rw c.in-EndLine.is (c.end_line.ensur
 
 pub returns-in-OnArray-clause-gives : goal.returns-in-OnArray-clause-gives
 returns-in-OnArray-clause-gives g c = λ p. rw c.in-OnArray.is (c.on_array.ensures.gives p)
+
+pub returns-in-OnObject-clause-gives : goal.returns-in-OnObject-clause-gives
+returns-in-OnObject-clause-gives g c = λ p. rw c.in-OnObject.is (c.execute_on_object.ensures.gives p)

@@ -1,0 +1,102 @@
+//! Fields of instances (JVMS 6.5, getfield and putfield), over any store.
+
+ghost use Rattle.std.specs.Prelude.{◌≡◌, List};
+ghost use Rattle.vm_state.specs.declared.text.Line.{Line};
+ghost use Rattle.machine.specs.Objects.{get_field, put_field};
+ghost use Rattle.machine.specs.Accesses.{Gives, KeptBy, Untouched};
+
+use crate::kinds::{Actor, Conclusion, Stop};
+use crate::object_operation::InstanceField;
+use crate::objects::is_of;
+use crate::references::{name_of, second_reference, without_object};
+use crate::store::Store;
+use crate::stored_kind::{extra_places, top_stored};
+use built_in::class_id::ClassId;
+use frame_instructions::numeric::advance;
+use frame_instructions::operand_kind::{OperandKind, top_as};
+use program::Program;
+use std::alloc::Global;
+use vm_state::ends::FaultKind;
+use vm_state::frame::Frame;
+
+const FAULT: Result<Conclusion, Stop> = Ok(Conclusion::Halts(FaultKind::Fault));
+
+/// `getfield`.
+///
+/// # Errors
+/// The store's reason. The frame is as it was, and so is the store; where memory is refused, what definitions see of
+/// it.
+#[tactic(auto, using(crate::proofs::AccessesLemmas::kept_by_same, crate::proofs::AccessesLemmas::untouched_as))]
+pub fn get_field<S: Store>(
+    alloc: Global,
+    program: &Program,
+    by: Actor,
+    frame: &mut Frame,
+    store: &mut S,
+    field: InstanceField,
+) -> Result<Conclusion, Stop>
+    ensures gives { (p : List Line) → Gives S.stopped (S.run by (S.state store.old p)) (S.run by (S.state store.new p))
+        (get_field program.now field frame.old) frame.new result }
+    ensures same { KeptBy S.state result store.old store.new }
+    ensures frame { Untouched result frame.old frame.new }
+    ensures activity { frame.new.activity ≡ frame.old.activity }
+{
+    let Ok(holder) = top_as(&frame.operands, OperandKind::Reference) else {
+        return FAULT;
+    };
+    if !frame.operands.has_room(extra_places(field.kind)) {
+        return FAULT;
+    }
+    let Some(object) = name_of(holder) else {
+        return without_object(alloc, by, store, holder);
+    };
+    if !is_of(program, ClassId::Given(field.class), store.class_of(by, object)?) {
+        return FAULT;
+    }
+    let Some(value) = store.slot(by, object, field.slot as usize)? else {
+        return FAULT;
+    };
+    if frame.operands.replace_one(value).is_err() {
+        return FAULT;
+    }
+    advance(frame);
+    Ok(Conclusion::Stays)
+}
+
+/// `putfield`.
+///
+/// # Errors
+/// The store's reason. The frame is as it was, and so is the store; where memory is refused, what definitions see of
+/// it.
+#[tactic(auto, using(crate::proofs::AccessesLemmas::kept_by_same, crate::proofs::AccessesLemmas::untouched_as))]
+pub fn put_field<S: Store>(
+    alloc: Global,
+    program: &Program,
+    by: Actor,
+    frame: &mut Frame,
+    store: &mut S,
+    field: InstanceField,
+) -> Result<Conclusion, Stop>
+    ensures gives { (p : List Line) → Gives S.stopped (S.run by (S.state store.old p)) (S.run by (S.state store.new p))
+        (put_field program.now field frame.old) frame.new result }
+    ensures same { KeptBy S.state result store.old store.new }
+    ensures frame { Untouched result frame.old frame.new }
+    ensures activity { frame.new.activity ≡ frame.old.activity }
+{
+    let Ok(value) = top_stored(&frame.operands, field.kind) else {
+        return FAULT;
+    };
+    let Ok(holder) = second_reference(&frame.operands) else {
+        return FAULT;
+    };
+    let Some(object) = name_of(holder) else {
+        return without_object(alloc, by, store, holder);
+    };
+    if !is_of(program, ClassId::Given(field.class), store.class_of(by, object)?) {
+        return FAULT;
+    }
+    store.change(by, object, field.slot as usize, value)?;
+    frame.operands.drop_many(2);
+    advance(frame);
+    Ok(Conclusion::Stays)
+}
