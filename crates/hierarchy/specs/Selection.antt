@@ -1,6 +1,6 @@
 -- Which method a call runs, as a function (JVMS 6.5, invokevirtual, invokeinterface and invokespecial).
-use Rattle.std.specs.Prelude.{ℕ, Bool, false, not, ◌&&◌, List, [], ◌∷◌, length, Option, Some, None, codes, option_map, is_some}
-use Rattle.std.specs.Prelude.{◌==◌, if◌then◌else◌}
+use Rattle.std.specs.Prelude.{ℕ, ◌==◌, Bool, false, not, ◌&&◌, List, [], ◌∷◌, length, codes, Option, Some, None}
+use Rattle.std.specs.Prelude.{option_map, is_some, if◌then◌else◌}
 use Rattle.std.specs.List.{filter, find, list_any, range_with_len}
 use Rattle.std.specs.Option.{option_or}
 use Rattle.std.specs.Str.{bytes_eq}
@@ -36,7 +36,7 @@ method_of own (Some c) = method_at c (own c)
 abbrev pub first_declared : (ℕ → Option ℕ) → List ℕ → Option Method
 first_declared own classes = method_of own (find (λ c. is_some (own c)) classes)
 
--- ---- those of built-in classes and of array classes
+-- ---- those of built-in classes and of array classes (JLS 10.7)
 
 abbrev pub has_key : NameAndType → BuiltInMethod → Bool
 has_key key m = bytes_eq (name_of_member m) key.name && bytes_eq (descriptor_of_member m) key.descriptor
@@ -44,10 +44,11 @@ has_key key m = bytes_eq (name_of_member m) key.name && bytes_eq (descriptor_of_
 abbrev pub member_with : NameAndType → List BuiltInMethod → Option Method
 member_with key members = option_map (λ m. method.BuiltIn m) (find (has_key key) members)
 
+-- the same that `HasArrayMember` has
 abbrev pub array_members : List BuiltInMethod
 array_members = members.CloneArray ∷ members.NewObject ∷ []
 
--- where a chain of superclasses ends
+-- the method of what a chain of superclasses ends with
 abbrev pub member_at_end : NameAndType → Option Superclass → Option Method
 member_at_end key (Some (super.BuiltIn b)) = member_with key (members_of b)
 member_at_end key (Some (super.Given d)) = None
@@ -108,18 +109,20 @@ found_if test family x (Some key) = found_from test family key x
 
 -- ---- for an object of a class (invokevirtual, invokeinterface)
 
--- What a call of a method runs: a private one itself, and any other one by its name and descriptor.
+-- What a call of a resolved method runs on an object of a class: a private one itself, and any other one by its name and
+-- descriptor (`Selects` as a function).
 unfoldable pub selected : Family → ClassId → Method → Option Method
 selected family x (method.Given c k) =
-    if is_private (flags_in family c k) then Some (method.Given c k) else found_if is_inherited family x (key_in family c k)
+    if is_private (flags_in family c k) then Some (method.Given c k)
+    else found_if is_inherited family x (key_in family c k)
 selected family x (method.BuiltIn m) = found_from is_inherited family (key_of_member m) x
 
--- ---- invokespecial
+-- ---- invokespecial (JVMS 6.5)
 
 abbrev pub is_instance_method : ℕ → Bool
 is_instance_method flags = not (is_static flags)
 
--- What runs where the search begins at a class: private methods count, static ones do not.
+-- What runs for a resolved method where the search begins at a class: private methods count, static ones do not.
 unfoldable pub special : Family → ClassId → Method → Option Method
 special family x (method.Given c k) = found_if is_instance_method family x (key_in family c k)
 special family x (method.BuiltIn m) = found_from is_instance_method family (key_of_member m) x
@@ -133,7 +136,7 @@ abbrev pub is_init : Family → Method → Bool
 is_init family (method.Given c k) = is_init_name (key_in family c k)
 is_init family (method.BuiltIn m) = is_init_name (Some (key_of_member m))
 
--- whether a class, and no interface, is a superclass of a given one
+-- whether a class, and no interface, is a superclass of a given one, at any distance
 abbrev pub is_superclass : Family → ℕ → ClassId → Bool
 is_superclass family c (class.Given d) =
     not (is_interface_in family d) && list_any (λ e. e == d) (given_superclasses family c)
@@ -146,7 +149,8 @@ class_or other (Some (super.Given d)) = class.Given d
 class_or other (Some (super.BuiltIn b)) = class.BuiltIn b
 class_or other None = other
 
--- Where the search begins for an instruction of a class and the class that it names. ACC_SUPER counts as set.
+-- Where the search begins for an instruction of a class, by the class that it names: at that one, or at the direct
+-- superclass of its own class. ACC_SUPER counts as set (JVMS 4.1).
 unfoldable pub special_start : Family → ℕ → ClassId → Method → ClassId
 special_start family c named m =
     if not (is_init family m) && is_superclass family c named then class_or named (superclass_in family c) else named

@@ -1,4 +1,5 @@
--- What is asked of a method that was resolved, before it is called (JVMS 6.5, invokestatic, invokevirtual, invokespecial).
+-- What is asked of a method that was resolved, before it is called (JVMS 6.5, invokestatic, invokevirtual and
+-- invokespecial).
 use Rattle.std.specs.Prelude.{ℕ, ◌==◌, Bool, false, List, [], ◌∷◌, Option, Some, None}
 use Rattle.built_in.specs.Keys.{NameAndType}
 use Rattle.loading.specs.Families.{Family}

@@ -74,8 +74,9 @@ impl Program {
         self.hierarchy.special_start(class, named, method)
     }
 
-    /// The method that invokespecial runs for a method that was resolved, if there is one: the first instance method of
-    /// its name and descriptor from the class up at which the search begins, private ones too, and then the one default.
+    /// The method that invokespecial runs for a method that was resolved, if there is one, where the search begins at a
+    /// class: the first instance method of its name and descriptor from the class up, private ones too, and then the
+    /// one default.
     pub fn special(&self, class: ClassId, method: Method) -> Option<Method>
         ensures { result ≡ special self.now.family class method }
     {
