@@ -1,7 +1,6 @@
 -- No two members of a built-in class have one name and descriptor.
-use Rattle.std.proofs.Common.{◌≡◌, true, false, ◌&&◌, List, [], ◌∷◌, Option, Some, None, refl, sym, ap, ◌∙◌}
-use Rattle.std.specs.Prelude.{if◌then◌else◌}
-use Rattle.std.specs.Str.{bytes_eq}
+use Rattle.std.proofs.Common.{◌≡◌, true, false, List, [], ◌∷◌, Some, refl, sym, ap, ◌∙◌}
+use Rattle.std.specs.List.{find}
 use Rattle.std.proofs.lemmas.Option.{same_Some}
 use Rattle.built_in.specs.declared.class_id.BuiltIn.{BuiltIn}
 use Rattle.built_in.specs.declared.class_id.BuiltIn.TheVariants as builtins
@@ -11,23 +10,16 @@ use Rattle.built_in.specs.declared.method.BuiltInMethod.{BuiltInMethod}
 use Rattle.built_in.specs.declared.method.BuiltInMethod.TheVariants as members
 use Rattle.built_in.specs.Keys.{NameAndType}
 use Rattle.built_in.specs.Methods.{HasMember, HasArrayMember, key_of_member, members_of, is_throwable}
-use Rattle.built_in.specs.Methods.{name_of_member, descriptor_of_member}
-
--- the first of some members that has a name and a descriptor
-abbrev first_with : NameAndType → List BuiltInMethod → Option BuiltInMethod
-first_with key [] = None
-first_with key (m ∷ ms) =
-    if bytes_eq (name_of_member m) key.name && bytes_eq (descriptor_of_member m) key.descriptor then Some m
-    else first_with key ms
+use Rattle.hierarchy.specs.Selection.{has_key}
 
 -- the member is the first of its name and descriptor
-abbrev IsFirst : BuiltInMethod → List BuiltInMethod → Type 0
-IsFirst m ms = first_with (key_of_member m) ms ≡ Some m
+abbrev pub IsFirst : BuiltInMethod → List BuiltInMethod → Type 0
+IsFirst m ms = find (has_key (key_of_member m)) ms ≡ Some m
 
 same_first : (ms : List BuiltInMethod) (m n : BuiltInMethod) → IsFirst m ms → IsFirst n ms
     → key_of_member m ≡ key_of_member n → m ≡ n
 same_first ms m n at-m at-n same =
-    same_Some m n (sym at-m ∙ ap (λ (key : NameAndType). first_with key ms) same ∙ at-n)
+    same_Some m n (sym at-m ∙ ap (λ (key : NameAndType). find (has_key key) ms) same ∙ at-n)
 
 plain_new : (class : BuiltIn) → is_throwable class ≡ false → IsFirst members.NewObject (members_of class)
 plain_new builtins.Object e = refl
@@ -54,7 +46,7 @@ prints printed.Char = (refl, refl)
 prints printed.Boolean = (refl, refl)
 prints printed.String = (refl, refl)
 
-is_first : {class : BuiltIn} {m : BuiltInMethod} → HasMember class m → IsFirst m (members_of class)
+pub is_first : {class : BuiltIn} {m : BuiltInMethod} → HasMember class m → IsFirst m (members_of class)
 is_first (HasMember.object {class = class} e) = plain_new class e
 is_first (HasMember.throwable {class = class} e) = (throwable_new class e).0
 is_first (HasMember.throwable_of_text {class = class} e) = (throwable_new class e).1
@@ -71,7 +63,7 @@ same_member {class} {m} {n} of-m of-n same = same_first (members_of class) m n (
 
 -- ---- those of array classes
 
-is_first_of_array : {m : BuiltInMethod} → HasArrayMember m
+pub is_first_of_array : {m : BuiltInMethod} → HasArrayMember m
     → IsFirst m (members.CloneArray ∷ members.NewObject ∷ [])
 is_first_of_array HasArrayMember.clone = refl
 is_first_of_array HasArrayMember.object = refl

@@ -34,3 +34,7 @@ pub mod UpClassesLemmas
 pub mod NotedLemmas
 pub mod FirstAboveLemmas
 pub mod AlongSuperclassesLemmas
+pub mod FirstUpLemmas
+pub mod TheDefaultLemmas
+pub mod SelectionLemmas
+pub mod SpecialsLemmas

@@ -146,7 +146,7 @@ same_by_key (SelectsByKey.no_array none) (SelectsByKey.array {m = m} g e) = absu
 same_by_key (SelectsByKey.no_array none) (SelectsByKey.no_array other) = refl
 
 -- where there is no method, none is private
-no_private : (family : Family) (c k : ℕ) → key_in family c k ≡ None → is_private (flags_in family c k) ≡ true → ⊥
+pub no_private : (family : Family) (c k : ℕ) → key_in family c k ≡ None → is_private (flags_in family c k) ≡ true → ⊥
 no_private family c k none private = of_file (file_in family c) none private
   where
     of_member : (f : ClassFile) (m : Option Member) → key_of f m ≡ None → is_private (member_flags m) ≡ true → ⊥

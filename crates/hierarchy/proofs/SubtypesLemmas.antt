@@ -95,6 +95,17 @@ mark_is_above family c d marked b fits within tells are =
     ((λ is. (are d).0 (tells.0 is)), (λ up. tells.1 ((are d).1 up)))
     (above.1, above.0)
 
+-- no class is its own superclass
+pub not_its_own : (family : Family) (c d : ℕ) → IsFamily family → c ≡ d
+    → list_any (λ e. eqb e d) (given_superclasses family c) ≡ false
+not_its_own family c d fits same = by (list_any (λ e. eqb e d) (given_superclasses family c)) refl
+  where
+    by : (b : Bool) → list_any (λ e. eqb e d) (given_superclasses family c) ≡ b → b ≡ false
+    by false is = refl
+    by true is =
+        absurd (fits.acyclic c (subst (λ (x : ℕ). IsAncestor family c x) (sym same)
+        (nearest_above family (length family) c d ((has_tells d (given_superclasses family c)).0 is))))
+
 -- ---- the built-in class at the end
 
 pub end_is_top : (family : Family) (c : ℕ) (b : BuiltIn) → IsFamily family → AreParentsWithin family → IsTop family c b

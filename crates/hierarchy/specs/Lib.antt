@@ -8,4 +8,5 @@ pub mod Seeds
 pub mod Hierarchies
 pub mod Subclasses
 pub mod Subtypes
+pub mod Selection
 pub mod steps

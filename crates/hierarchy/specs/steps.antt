@@ -16,3 +16,4 @@ pub mod NearestMembers
 pub mod WholeHierarchies
 pub mod Marked
 pub mod Ancestors
+pub mod Specials

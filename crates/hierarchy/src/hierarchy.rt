@@ -148,7 +148,7 @@ impl Hierarchy {
     }
 
     /// The access flags of the method at a place of a class, or no flags.
-    pub(crate) fn flags(&self, class: u32, index: u16) -> u16
+    pub fn flags(&self, class: u32, index: u16) -> u16
         ensures { result ≡ flags_in self.now.family class index }
     {
         flags_in(&self.family, class, index)

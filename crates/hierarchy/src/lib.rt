@@ -27,6 +27,7 @@ mod search;
 pub mod seed;
 mod select;
 mod sought;
+mod special;
 mod subtypes;
 pub mod superclasses;
 mod sweep;

@@ -5,6 +5,7 @@ ghost use Rattle.built_in.specs.declared.class_id.ClassId.TheVariants as class_i
 ghost use Rattle.hierarchy.specs.steps.MemberIndexes.{IsLookup};
 ghost use Rattle.hierarchy.specs.MemberLookup.{is_private};
 ghost use Rattle.hierarchy.specs.Resolution.{Selects, SelectsByKey};
+ghost use Rattle.hierarchy.specs.Selection.{selected};
 ghost use Rattle.hierarchy.specs.steps.Sought.{sought_name};
 
 use crate::hierarchy::Hierarchy;
@@ -20,6 +21,15 @@ impl Hierarchy {
     /// The method that a call of a resolved method runs on an object of a class. A private one is selected itself, and
     /// any other one by its name and descriptor.
     pub fn select(&self, class: ClassId, method: Method) -> Option<Method>
+        ensures relation { Selects self.now.family class method result }
+        ensures value { result ≡ selected self.now.family class method }
+    {
+        let _classes = self.family().classes();
+        self.select_resolved(class, method)
+    }
+
+    /// The same, without what it is as a function.
+    fn select_resolved(&self, class: ClassId, method: Method) -> Option<Method>
         ensures { Selects self.now.family class method result }
     {
         match method {

@@ -67,7 +67,7 @@ impl Hierarchy {
     }
 
     /// Whether the second of two given classes is a superclass of the first.
-    fn is_superclass(&self, class: u32, other: u32) -> bool
+    pub(crate) fn is_superclass(&self, class: u32, other: u32) -> bool
         ensures { result ≡ list_any (λ d. d == other) (given_superclasses self.now.family class) }
     {
         let _classes = self.family().classes();
@@ -75,7 +75,7 @@ impl Hierarchy {
     }
 
     /// Whether the built-in class above a given one is below another built-in class.
-    fn is_top_below(&self, class: u32, other: BuiltIn) -> bool
+    pub(crate) fn is_top_below(&self, class: u32, other: BuiltIn) -> bool
         ensures { result ≡ is_end_below other (end_of_chain self.now.family class) }
     {
         let _classes = self.family().classes();

@@ -1,9 +1,11 @@
-//! What a program answers about the parents and the members of its classes (JVMS 4.1, 5.4.3; 6.5, invokevirtual).
+//! What a program answers about the parents and the members of its classes (JVMS 4.1, 5.4.3; 6.5, invokevirtual and
+//! invokespecial).
 
 ghost use Rattle.std.specs.Prelude.{◌≡◌};
 ghost use Rattle.hierarchy.specs.Initialization.{AreSuperclasses};
 ghost use Rattle.program.specs.References.{ResolvesFieldOf, ResolvesMethodOf};
 ghost use Rattle.hierarchy.specs.Resolution.{Selects};
+ghost use Rattle.hierarchy.specs.Selection.{selected, special, special_start};
 ghost use Rattle.hierarchy.specs.Subtypes.{is_below};
 ghost use Rattle.program.specs.steps.PoolFields.{found_field, pool_field, pool_method};
 
@@ -57,9 +59,28 @@ impl Program {
     /// The method that a call of a resolved method runs on an object of a class, if there is one. A private one is
     /// selected itself, and any other one by its name and descriptor.
     pub fn select(&self, class: ClassId, method: Method) -> Option<Method>
-        ensures { Selects self.now.family class method result }
+        ensures relation { Selects self.now.family class method result }
+        ensures value { result ≡ selected self.now.family class method }
     {
         self.hierarchy.select(class, method)
+    }
+
+    /// The class at which invokespecial, in a class, begins to search for a method that was resolved: the class that
+    /// the instruction names, or the direct superclass of its own class where it names a class above that, no
+    /// interface, and the method is no instance initialization method. ACC_SUPER counts as set.
+    pub fn special_start(&self, class: u32, named: ClassId, method: Method) -> ClassId
+        ensures { result ≡ special_start self.now.family class named method }
+    {
+        self.hierarchy.special_start(class, named, method)
+    }
+
+    /// The method that invokespecial runs for a method that was resolved, if there is one, where the search begins at a
+    /// class: the first instance method of its name and descriptor from the class up, private ones too, and then the
+    /// one default.
+    pub fn special(&self, class: ClassId, method: Method) -> Option<Method>
+        ensures { result ≡ special self.now.family class method }
+    {
+        self.hierarchy.special(class, method)
     }
 }
 
