@@ -1,4 +1,5 @@
 pub mod Arrays
+pub mod CalledMethods
 pub mod References
 pub mod RuntimePool
 pub mod Tables

@@ -5,6 +5,7 @@
 mod ahead;
 mod arrays;
 mod assembly;
+mod called_methods;
 pub mod class;
 mod equal_entries;
 mod field_slots;
