@@ -7,6 +7,7 @@ use Rattle.machine.specs.Linked.{program_of, initializer_frame, initialized_by}
 use Rattle.machine.specs.Laws.{AreSound, LinkedTablesAreSound, TableIsLawful}
 use Rattle.machine.proofs.LawsStaticLemmas.{plain_statics, mains_apart}
 use Rattle.machine.proofs.LawsFinalLemmas.{finals_written}
+use Rattle.machine.proofs.LawsCallsLemmas.{static_calls_apart, initializations_apart}
 use Rattle.machine.proofs.LinkedLemmas.{found_class_has, initializer_frame_is}
 use Rattle.machine.proofs.TableLawLemmas.{blank_known, row_suits}
 
@@ -43,6 +44,8 @@ pub linked_tables_are_sound_lem : LinkedTablesAreSound
 linked_tables_are_sound_lem P is = record {
   statics = plain_statics P is;
   finals = finals_written P is;
+  static_calls = static_calls_apart P is;
+  initializations = initializations_apart P is;
   mains = mains_apart P is;
 }
 

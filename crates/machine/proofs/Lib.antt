@@ -11,6 +11,10 @@ pub mod StoredKindsLemmas
 pub mod TableLawLemmas
 pub mod ListLemmas
 pub mod LawsStaticLemmas
+pub mod ArgumentsLemmas
+pub mod InitializingLemmas
+pub mod CallsLemmas
+pub mod LawsCallsLemmas
 pub mod LawsFinalLemmas
 pub mod LawsLemmas
 pub mod SourcesLemmas

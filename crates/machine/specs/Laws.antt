@@ -6,7 +6,8 @@ use Rattle.semantics.specs.Lawful.{HoldsNoName, IsLawful}
 use Rattle.program.specs.declared.runtime_constant.FieldKind.{FieldKind}
 use Rattle.program.specs.Programs.{IsProgram}
 use Rattle.program.specs.Tables.{Tables, initializer_in, main_in, statics_in}
-use Rattle.machine.specs.Operations.{PutStatic, operation_at}
+use Rattle.machine.specs.declared.resolved_calls.Callee.{Callee}
+use Rattle.machine.specs.Operations.{PutStatic, CallStatic, Initialize, operation_at}
 use Rattle.machine.specs.Linked.{program_of}
 
 -- What linking owes: what holds of linked tables, as far as the law needs it.
@@ -17,7 +18,12 @@ pub record AreSound (P : Tables) : Type 0 where
   pub finals : (kind : FieldKind) (d m at c k : ℕ) → operation_at P d m at ≡ Some (PutStatic kind c k)
       → is_final (program_of P) c k ≡ true
       → (d ≡ c) × (initializer_in P c ≡ Some m)
-  -- a `main`, which a thread's start calls, is no class initialization method
+  -- what a call reaches is no class initialization method (JVMS 2.9)
+  pub static_calls : (k : Callee) (d m at : ℕ) → operation_at P d m at ≡ Some (CallStatic k)
+      → initializer_in P k.class ≢ Some k.index
+  pub initializations : (k : Callee) (d m at : ℕ) → operation_at P d m at ≡ Some (Initialize k)
+      → initializer_in P k.class ≢ Some k.index
+  -- a `main`, which a thread's start calls, is none either
   pub mains : (c m : ℕ) → main_in P c ≡ Some m → initializer_in P c ≢ Some m
 
 -- A linked program's are so.

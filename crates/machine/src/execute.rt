@@ -7,8 +7,10 @@ ghost use Rattle.vm_state.specs.declared.text.Line.{Line};
 ghost use Rattle.frame_instructions.specs.Completion.{completed};
 ghost use Rattle.machine.specs.Operations.{meaning, operation_at};
 ghost use Rattle.machine.specs.Table.{local_row, operation_row, fetched, row};
-ghost use Rattle.machine.specs.Accesses.{Gives, Kept, Untouched};
+ghost use Rattle.machine.specs.Accesses.{Gives, KeptBy, Untouched};
 
+use crate::calling::call_static;
+use crate::initializing::{initialize, initialize_built_in};
 use crate::kinds::{Actor, Conclusion, Stop};
 use crate::printing::{end_line, print_value};
 use crate::pushing::{push_number, push_value};
@@ -36,7 +38,7 @@ fn end<S: Store>(
 ) -> Result<Conclusion, Stop>
     ensures gives { (p : List Line) → Gives S.stopped (S.run by (S.state store.old p)) (S.run by (S.state store.new p))
         (local_row (completed went frame.now)) frame.now result }
-    ensures same { IfErr result (λ stop. Kept S.state stop store.old store.new) }
+    ensures same { KeptBy S.state result store.old store.new }
     ensures trapped { (old : Frame) → OnErr went (frame.now ≡ old) → Untouched result old frame.now }
 {
     match went {
@@ -46,7 +48,7 @@ fn end<S: Store>(
 }
 
 /// An instruction that touches more than its frame, or names a constant of the run-time constant pool.
-#[tactic(auto, using(crate::proofs::AccessesLemmas::kept_same, crate::proofs::AccessesLemmas::untouched_as))]
+#[tactic(auto, using(crate::proofs::AccessesLemmas::kept_by_same, crate::proofs::AccessesLemmas::untouched_as))]
 #[inline(always)]
 fn execute_resolved<S: Store>(
     alloc: Global,
@@ -58,7 +60,7 @@ fn execute_resolved<S: Store>(
 ) -> Result<Conclusion, Stop>
     ensures gives { (p : List Line) → Gives S.stopped (S.run by (S.state store.old p)) (S.run by (S.state store.new p))
         (operation_row program.now (meaning resolved) frame.old) frame.new result }
-    ensures same { IfErr result (λ stop. Kept S.state stop store.old store.new) }
+    ensures same { KeptBy S.state result store.old store.new }
     ensures frame { Untouched result frame.old frame.new }
     ensures activity { frame.new.activity ≡ frame.old.activity }
 {
@@ -73,6 +75,9 @@ fn execute_resolved<S: Store>(
         Resolved::GetOut => Ok(push_value(frame, Value::Out)),
         Resolved::Print(what, line) => { print_value(alloc, program, by, frame, store, what, line) }
         Resolved::EndLine => end_line(alloc, by, frame, store),
+        Resolved::CallStatic(callee) => call_static(alloc, program, by, frame, store, callee),
+        Resolved::Initialize(callee) => initialize(alloc, program, by, frame, store, callee),
+        Resolved::InitializeBuiltIn(text) => initialize_built_in(alloc, by, frame, store, text),
         Resolved::Return(kind) => Ok(return_value(frame, kind)),
         Resolved::Refused(kind) => Ok(Conclusion::Halts(kind)),
     }
@@ -91,7 +96,7 @@ fn execute_next<S: Store>(
 ) -> Result<Conclusion, Stop>
     ensures gives { (p : List Line) → Gives S.stopped (S.run by (S.state store.old p)) (S.run by (S.state store.new p))
         (fetched program.now (operation_at program.now class method frame.old.place) frame.old) frame.new result }
-    ensures same { IfErr result (λ stop. Kept S.state stop store.old store.new) }
+    ensures same { KeptBy S.state result store.old store.new }
     ensures frame { Untouched result frame.old frame.new }
     ensures activity { frame.new.activity ≡ frame.old.activity }
 {
@@ -122,7 +127,7 @@ pub fn execute<S: Store>(
 ) -> Result<Conclusion, Stop>
     ensures gives { (p : List Line) → Gives S.stopped (S.run by (S.state store.old p)) (S.run by (S.state store.new p))
         (row program.now frame.old) frame.new result }
-    ensures same { IfErr result (λ stop. Kept S.state stop store.old store.new) }
+    ensures same { KeptBy S.state result store.old store.new }
     ensures frame { Untouched result frame.old frame.new }
     ensures activity { frame.new.activity ≡ frame.old.activity }
 {

@@ -1,6 +1,7 @@
 //! One instruction of a thread of a linked program.
 #![tactic(auto)]
 
+mod calling;
 mod choosing;
 pub mod effects;
 pub mod entering;
@@ -8,12 +9,14 @@ pub mod execute;
 mod fused;
 pub mod fusing;
 mod handlers;
+mod initializing;
 pub mod kinds;
 pub mod laws;
 mod printing;
 mod pushing;
 mod raising;
 pub mod resolved;
+pub mod resolved_calls;
 mod returning;
 mod sharing;
 mod single;

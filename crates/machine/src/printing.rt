@@ -8,7 +8,7 @@ ghost use Rattle.frame_instructions.specs.OperandKinds.{top_as};
 ghost use Rattle.semantics.specs.Moves.{with_operands};
 ghost use Rattle.machine.specs.Printing.{unit_of_int, text_of_string, printed_text, ended, print_on, print_value};
 ghost use Rattle.machine.specs.Printing.{end_line};
-ghost use Rattle.machine.specs.Accesses.{Gives, Kept, Untouched};
+ghost use Rattle.machine.specs.Accesses.{Gives, KeptBy, Untouched};
 
 use crate::kinds::{Actor, Conclusion, Stop};
 use crate::raising::raise;
@@ -96,7 +96,7 @@ fn print_on<S: Store>(
 ) -> Result<Conclusion, Stop>
     ensures gives { (p : List Line) → Gives S.stopped (S.run by (S.state store.old p)) (S.run by (S.state store.new p))
         (print_on text (with_operands frame.old (dropped operands frame.old.operands)) receiver) frame.new result }
-    ensures same { IfErr result (λ stop. Kept S.state stop store.old store.new) }
+    ensures same { KeptBy S.state result store.old store.new }
     ensures frame { Untouched result frame.old frame.new }
     ensures activity { frame.new.activity ≡ frame.old.activity }
 {
@@ -132,7 +132,7 @@ pub fn print_value<S: Store>(
 ) -> Result<Conclusion, Stop>
     ensures gives { (p : List Line) → Gives S.stopped (S.run by (S.state store.old p)) (S.run by (S.state store.new p))
         (print_value program.now what line frame.old) frame.new result }
-    ensures same { IfErr result (λ stop. Kept S.state stop store.old store.new) }
+    ensures same { KeptBy S.state result store.old store.new }
     ensures frame { Untouched result frame.old frame.new }
     ensures activity { frame.new.activity ≡ frame.old.activity }
 {
@@ -163,7 +163,7 @@ pub fn end_line<S: Store>(
 ) -> Result<Conclusion, Stop>
     ensures gives { (p : List Line) → Gives S.stopped (S.run by (S.state store.old p)) (S.run by (S.state store.new p))
         (end_line frame.old) frame.new result }
-    ensures same { IfErr result (λ stop. Kept S.state stop store.old store.new) }
+    ensures same { KeptBy S.state result store.old store.new }
     ensures frame { Untouched result frame.old frame.new }
     ensures activity { frame.new.activity ≡ frame.old.activity }
 {

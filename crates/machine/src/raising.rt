@@ -5,7 +5,7 @@ ghost use Rattle.vm_state.specs.declared.frame.Frame.{Frame};
 ghost use Rattle.vm_state.specs.declared.text.Line.{Line};
 ghost use Rattle.machine.specs.RowParts.{raises};
 ghost use Rattle.machine.specs.Table.{local_row};
-ghost use Rattle.machine.specs.Accesses.{Gives, Kept};
+ghost use Rattle.machine.specs.Accesses.{Gives, KeptBy};
 
 use crate::kinds::{Actor, Conclusion, Stop};
 use crate::store::Store;
@@ -28,7 +28,7 @@ pub fn raise<S: Store>(
     ensures gives { (p : List Line) (f : Frame)
         → Gives S.stopped (S.run by (S.state store.old p)) (S.run by (S.state store.new p))
         (raises class) f result }
-    ensures same { IfErr result (λ stop. Kept S.state stop store.old store.new) }
+    ensures same { KeptBy S.state result store.old store.new }
 {
     let class = ClassId::BuiltIn(class);
     let exception = store.make(alloc, by, class, Slots::none(alloc))?;
@@ -48,7 +48,7 @@ pub fn trap<S: Store>(
     ensures gives { (p : List Line) (f : Frame)
         → Gives S.stopped (S.run by (S.state store.old p)) (S.run by (S.state store.new p))
         (local_row (Err trap)) f result }
-    ensures same { IfErr result (λ stop. Kept S.state stop store.old store.new) }
+    ensures same { KeptBy S.state result store.old store.new }
 {
     match trap {
         Trap::Fault => Ok(Conclusion::Halts(FaultKind::Fault)),

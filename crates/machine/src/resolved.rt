@@ -6,6 +6,7 @@ ghost use Rattle.machine.specs.Operations.{meaning, int_constant, long_constant,
 ghost use Rattle.machine.specs.Operations.{get_target, getstatic_of, put_target, putstatic_of, call_of};
 ghost use Rattle.machine.specs.Operations.{invokevirtual_of, returns_so, return_of, resolved_operation};
 
+use crate::resolved_calls::{Callee, invokespecial_of, invokestatic_of};
 use crate::stored_kind::operand_kind;
 use bytecode::Instruction;
 use frame_instructions::operand_kind::OperandKind;
@@ -34,6 +35,12 @@ pub enum Resolved {
     Print(Printed, bool),
     /// `invokevirtual` of `PrintStream.println()`.
     EndLine,
+    /// `invokestatic` of a method of a given class.
+    CallStatic(Callee),
+    /// `invokespecial` of an instance initialization method of a given class.
+    Initialize(Callee),
+    /// `invokespecial` of an instance initialization method of `Object` or of a throwable, with a text or without one.
+    InitializeBuiltIn(bool),
     /// `return`, `ireturn`, `lreturn` and `areturn`, of a method that returns so.
     Return(ReturnKind),
     /// What ends its thread whatever the frame holds: a reference that does not resolve, something that the machine
@@ -41,11 +48,11 @@ pub enum Resolved {
     Refused(FaultKind),
 }
 
-const FAULT: Resolved = Resolved::Refused(FaultKind::Fault);
+pub(crate) const FAULT: Resolved = Resolved::Refused(FaultKind::Fault);
 
-const MISSING: Resolved = Resolved::Refused(FaultKind::Missing);
+pub(crate) const MISSING: Resolved = Resolved::Refused(FaultKind::Missing);
 
-const UNSUPPORTED: Resolved = Resolved::Refused(FaultKind::Unsupported);
+pub(crate) const UNSUPPORTED: Resolved = Resolved::Refused(FaultKind::Unsupported);
 
 /// `ldc` and `ldc_w` of a constant of the run-time constant pool.
 fn int_constant(constant: Option<RuntimeConstant>) -> Resolved
@@ -218,6 +225,12 @@ pub fn resolved_operation(
             putstatic_of(program, class, method, program.constant(class, *index))
         }
         Instruction::InvokeVirtual(index) => invokevirtual_of(program.constant(class, *index)),
+        Instruction::InvokeStatic(index) => {
+            invokestatic_of(program, class, program.constant(class, *index))
+        }
+        Instruction::InvokeSpecial(index) => {
+            invokespecial_of(program, class, program.constant(class, *index))
+        }
         Instruction::Return => return_of(program, class, method, None),
         Instruction::ReturnInt => return_of(program, class, method, Some(OperandKind::Int)),
         Instruction::ReturnLong => return_of(program, class, method, Some(OperandKind::Long)),

@@ -6,8 +6,9 @@ ghost use Rattle.vm_state.specs.declared.text.Line.{Line};
 ghost use Rattle.vm_state.specs.Locals.{stored};
 ghost use Rattle.program.specs.Tables.{main_in};
 ghost use Rattle.machine.specs.declared.kinds.Stop.{Stop};
-ghost use Rattle.machine.specs.Table.{call_main, called, start_row};
-ghost use Rattle.machine.specs.Accesses.{Gives, Kept, concluded};
+ghost use Rattle.machine.specs.Calls.{called};
+ghost use Rattle.machine.specs.Table.{call_main, start_row};
+ghost use Rattle.machine.specs.Accesses.{Gives, KeptBy, concluded};
 
 use crate::kinds::{Actor, Conclusion, Stop};
 use crate::raising::raise;
@@ -87,7 +88,7 @@ fn call_main(
 ///
 /// # Errors
 /// The store's reason why the class can't be used now, or `Stop::Memory`. Nothing has changed.
-#[tactic(auto, unfolding(crate::specs::Accesses::unless_refused), using(crate::proofs::AccessesLemmas::kept_same))]
+#[tactic(auto, unfolding(crate::specs::Accesses::unless_refused), using(crate::proofs::AccessesLemmas::kept_by_same))]
 pub fn start<S: Store>(
     alloc: Global,
     program: &Program,
@@ -98,7 +99,7 @@ pub fn start<S: Store>(
 ) -> Result<Conclusion, Stop>
     ensures gives { (p : List Line) → Gives S.stopped (S.run by (S.state store.old p)) (S.run by (S.state store.new p))
         (start_row program.now class frame.now) frame.now result }
-    ensures same { IfErr result (λ stop. Kept S.state stop store.old store.new) }
+    ensures same { KeptBy S.state result store.old store.new }
 {
     if !store.use_class(by, class)? {
         return raise(alloc, by, store, BuiltIn::NoClassDefFoundError);

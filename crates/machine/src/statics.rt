@@ -3,7 +3,7 @@
 ghost use Rattle.std.specs.Prelude.{◌≡◌, List, IfErr};
 ghost use Rattle.vm_state.specs.declared.text.Line.{Line};
 ghost use Rattle.machine.specs.Table.{get_static, put_static};
-ghost use Rattle.machine.specs.Accesses.{Gives, Kept, Untouched};
+ghost use Rattle.machine.specs.Accesses.{Gives, KeptBy, Untouched};
 
 use crate::kinds::{Actor, Conclusion, Stop};
 use crate::raising::raise;
@@ -23,7 +23,7 @@ const FAULT: Result<Conclusion, Stop> = Ok(Conclusion::Halts(FaultKind::Fault));
 /// # Errors
 /// The store's reason. The frame is as it was, and so is the store; where memory is refused, what definitions see of
 /// it.
-#[tactic(auto, using(crate::proofs::AccessesLemmas::kept_same, crate::proofs::AccessesLemmas::untouched_as))]
+#[tactic(auto, using(crate::proofs::AccessesLemmas::kept_by_same, crate::proofs::AccessesLemmas::untouched_as))]
 #[inline(always)]
 pub fn get_static<S: Store>(
     alloc: Global,
@@ -35,7 +35,7 @@ pub fn get_static<S: Store>(
 ) -> Result<Conclusion, Stop>
     ensures gives { (p : List Line) → Gives S.stopped (S.run by (S.state store.old p)) (S.run by (S.state store.new p))
         (get_static class field frame.old) frame.new result }
-    ensures same { IfErr result (λ stop. Kept S.state stop store.old store.new) }
+    ensures same { KeptBy S.state result store.old store.new }
     ensures frame { Untouched result frame.old frame.new }
     ensures activity { frame.new.activity ≡ frame.old.activity }
 {
@@ -55,7 +55,7 @@ pub fn get_static<S: Store>(
 /// # Errors
 /// The store's reason. The frame is as it was, and so is the store; where memory is refused, what definitions see of
 /// it.
-#[tactic(auto, using(crate::proofs::AccessesLemmas::kept_same, crate::proofs::AccessesLemmas::untouched_as))]
+#[tactic(auto, using(crate::proofs::AccessesLemmas::kept_by_same, crate::proofs::AccessesLemmas::untouched_as))]
 pub fn put_static<S: Store>(
     alloc: Global,
     by: Actor,
@@ -67,7 +67,7 @@ pub fn put_static<S: Store>(
 ) -> Result<Conclusion, Stop>
     ensures gives { (p : List Line) → Gives S.stopped (S.run by (S.state store.old p)) (S.run by (S.state store.new p))
         (put_static kind class field frame.old) frame.new result }
-    ensures same { IfErr result (λ stop. Kept S.state stop store.old store.new) }
+    ensures same { KeptBy S.state result store.old store.new }
     ensures frame { Untouched result frame.old frame.new }
     ensures activity { frame.new.activity ≡ frame.old.activity }
 {

@@ -11,3 +11,13 @@ returns-in-Print-clause-gives g c = λ p. rw c.in-Print.is (c.print_value.ensure
 
 pub returns-in-EndLine-clause-gives : goal.returns-in-EndLine-clause-gives
 returns-in-EndLine-clause-gives g c = λ p. rw c.in-EndLine.is (c.end_line.ensures.gives p)
+
+pub returns-in-CallStatic-clause-gives : goal.returns-in-CallStatic-clause-gives
+returns-in-CallStatic-clause-gives g c = λ p. rw c.in-CallStatic.is (c.call_static.ensures.gives p)
+
+pub returns-in-Initialize-clause-gives : goal.returns-in-Initialize-clause-gives
+returns-in-Initialize-clause-gives g c = λ p. rw c.in-Initialize.is (c.initialize.ensures.gives p)
+
+pub returns-in-InitializeBuiltIn-clause-gives : goal.returns-in-InitializeBuiltIn-clause-gives
+returns-in-InitializeBuiltIn-clause-gives g c =
+    λ p. rw c.in-InitializeBuiltIn.is (c.initialize_built_in.ensures.gives p)
