@@ -3,6 +3,7 @@ use Rattle.std.proofs.Common.{◌≡◌, ℕ, Bool, true, false, cond, not, ◌&
 use Rattle.std.proofs.Common.{◌∙◌, subst}
 use Rattle.std.specs.declared.result.Result.{Result}
 use Rattle.std.proofs.lemmas.Option.{same_Some}
+use Rattle.vm_state.specs.declared.ends.FaultKind.TheVariants.{Fault, Unsupported}
 use Rattle.built_in.specs.declared.class_id.ClassId.{ClassId}
 use Rattle.built_in.specs.declared.class_id.ClassId.TheVariants as class_ids
 use Rattle.built_in.specs.declared.method.BuiltInMethod.{BuiltInMethod}
@@ -140,7 +141,7 @@ module _ (P : Tables) where
   static_calls c descriptor (Ok (methods.Given d k)) = by (may_call_static P d k) refl
     where
       by : (b : Bool) → may_call_static P d k ≡ b
-          → May (cond b (CallStatic (callee_of c descriptor d k)) (static_callee P c descriptor (Err unresolved.NoReference)))
+          → May (cond b (CallStatic (callee_of c descriptor d k)) (Refused Fault))
       by true may = may
       by false may = tt
   static_calls c descriptor (Ok (methods.BuiltIn member)) = tt
@@ -157,9 +158,9 @@ module _ (P : Tables) where
   given_calls c r d k = by (is_static_method P.family d k) refl
     where
       by : (b : Bool) → is_static_method P.family d k ≡ b
-          → May (cond b (static_callee P c 0 (Err unresolved.NoReference))
+          → May (cond b (Refused Fault)
           (cond (is_special_method P.family d k && is_given d r.class) (Initialize (callee_of c r.descriptor d k))
-          (built_in_callee None members.NewEnum)))
+          (Refused Unsupported)))
       by true static = tt
       by false static = chosen_calls (is_special_method P.family d k && is_given d r.class) _ _ static tt
 

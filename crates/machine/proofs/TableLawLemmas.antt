@@ -31,8 +31,8 @@ use Rattle.frame_instructions.proofs.FamiliesNameLemmas.{local_names_lem}
 use Rattle.machine.specs.Operations.{Operation, Local, PushText, GetStatic, PutStatic, GetOut, Print, EndLine}
 use Rattle.machine.specs.Operations.{CallStatic, Initialize, InitializeBuiltIn, Return, Refused, operation_at}
 use Rattle.machine.specs.declared.resolved_calls.Callee.{Callee}
-use Rattle.machine.specs.Calls.{has_arguments, parameters_at, receiver_under, reaches, reached, enter_static, initialize}
-use Rattle.machine.specs.Calls.{initialize_built_in, text_parameters}
+use Rattle.machine.specs.Calls.{has_arguments, parameters_at, receiver_under, reaches, reached, enter_static}
+use Rattle.machine.specs.Calls.{initialize, initialize_built_in, text_parameters}
 use Rattle.machine.proofs.CallsLemmas.{dropped_known, taken_known, passed_known}
 use Rattle.machine.specs.StoredKinds.{top_stored}
 use Rattle.machine.proofs.StoredKindsLemmas.{stored_knows}
