@@ -6,7 +6,7 @@ use Rattle.vm_state.specs.declared.text.Line.{Line}
 use Rattle.machine.specs.declared.kinds.Stop.{Stop}
 use Rattle.machine.specs.declared.kinds.Stop.TheVariants.{Needs, Waits, ForeignObject, Barred, Memory}
 use Rattle.machine.specs.declared.kinds.Conclusion.{Conclusion}
-use Rattle.machine.specs.declared.kinds.Conclusion.TheVariants.{Stays, Becomes, Returns, Prints, Raises, Halts}
+use Rattle.machine.specs.declared.kinds.Conclusion.TheVariants.{Stays, Becomes, Calls, Returns, Prints, Raises, Halts}
 use Rattle.semantics.specs.Rows.{Row, UseClass}
 use Rattle.built_in.specs.declared.class_id.BuiltIn.TheVariants.{NoClassDefFoundError}
 use Rattle.machine.specs.RowParts.{raises, if_usable}
@@ -21,11 +21,6 @@ module _ {S T : Type 0} (state : S → List Line → T) where
   kept_same ForeignObject s = refl
   kept_same Barred s = refl
 
-  -- an instruction that did nothing to the store
-  pub kept_by_same : (r : Result Conclusion Stop) (s : S) → KeptBy state r s s
-  kept_by_same (Ok conclusion) s = tt
-  kept_by_same (Err stop) s = kept_same stop s
-
   -- whatever stopped it, the state is as it was
   pub kept_state : (stop : Stop) (old new : S) → Kept state stop old new → (p : List Line) → state new p ≡ state old p
   kept_state Memory old new kept p = kept p
@@ -34,10 +29,22 @@ module _ {S T : Type 0} (state : S → List Line → T) where
   kept_state ForeignObject old new kept p = ap (λ s. state s p) kept
   kept_state Barred old new kept p = ap (λ s. state s p) kept
 
+  -- a store that an instruction did nothing to
+  pub kept_by_same : (r : Result Conclusion Stop) (s : S) → KeptBy state r s s
+  kept_by_same (Ok Stays) s = tt
+  kept_by_same (Ok (Becomes g)) s = tt
+  kept_by_same (Ok (Calls callee arguments)) s = λ p. refl
+  kept_by_same (Ok (Returns value)) s = tt
+  kept_by_same (Ok (Prints text)) s = tt
+  kept_by_same (Ok (Raises x class)) s = tt
+  kept_by_same (Ok (Halts kind)) s = tt
+  kept_by_same (Err stop) s = kept_same stop s
+
 -- a frame that nothing was done to
 pub untouched_as : (r : Result Conclusion Stop) (old new : Frame) → new ≡ old → Untouched r old new
 untouched_as (Ok Stays) old new same = tt
 untouched_as (Ok (Becomes g)) old new same = tt
+untouched_as (Ok (Calls callee arguments)) old new same = same
 untouched_as (Ok (Returns value)) old new same = tt
 untouched_as (Ok (Prints text)) old new same = tt
 untouched_as (Ok (Raises x class)) old new same = same

@@ -12,15 +12,18 @@ use Rattle.classfile.specs.declared.constant.Constant.{Constant}
 use Rattle.classfile.specs.declared.constant.Constant.TheVariants as constants
 use Rattle.classfile.specs.declared.member.Member.{Member}
 use Rattle.vm_state.specs.declared.ends.FaultKind.{FaultKind}
-use Rattle.vm_state.specs.declared.ends.FaultKind.TheVariants.{Fault}
+use Rattle.vm_state.specs.declared.ends.FaultKind.TheVariants.{Fault, Unsupported}
 use Rattle.built_in.specs.declared.class_id.ClassId.{ClassId}
+use Rattle.built_in.specs.declared.class_id.ClassId.TheVariants as class_ids
 use Rattle.bytecode.specs.declared.instruction.Instruction.{Instruction}
 use Rattle.bytecode.specs.declared.instruction.Instruction.TheVariants as instructions
 use Rattle.semantics.specs.Quiet.{declared_final, is_final}
+use Rattle.built_in.specs.declared.method.BuiltInMethod.{BuiltInMethod}
 use Rattle.built_in.specs.declared.method.BuiltInMethod.TheVariants as members
 use Rattle.program.specs.declared.class.Class.{Class}
 use Rattle.program.specs.declared.class.Implementation.{Implementation}
 use Rattle.program.specs.declared.class.Implementation.TheVariants as implementations
+use Rattle.program.specs.declared.runtime_constant.MethodReference.{MethodReference}
 use Rattle.program.specs.declared.runtime_constant.RuntimeConstant.{RuntimeConstant}
 use Rattle.program.specs.declared.runtime_constant.RuntimeConstant.TheVariants as runtime
 use Rattle.program.specs.declared.runtime_constant.FieldKind.{FieldKind}
@@ -51,12 +54,17 @@ use Rattle.program.specs.FieldTargets.{target_in, targeted}
 use Rattle.program.specs.RuntimePool.{IsRuntimeConstant}
 use Rattle.program.specs.Programs.{static_field, IsProgram}
 use Rattle.program.specs.Tables.{Tables, instruction_at, implementation_at, runtime_pool_of, constant_at, statics_if}
-use Rattle.program.specs.Tables.{statics_in, initializer_in}
+use Rattle.program.specs.Tables.{statics_in, initializer_in, signature_at}
+use Rattle.program.specs.declared.signature.Signature.{Signature}
+use Rattle.program.specs.CalledMethods.{is_static_method, is_special_method}
 use Rattle.frame_instructions.specs.declared.operand_kind.OperandKind.{OperandKind}
 use Rattle.frame_instructions.specs.declared.operand_kind.OperandKind.TheVariants as operands
 use Rattle.frame_instructions.specs.Families.{Local as LocalOperation}
 use Rattle.frame_instructions.specs.Instructions.{local_of}
-use Rattle.machine.specs.Operations.{Operation, PutStatic, Return, Refused, int_constant, long_constant}
+use Rattle.machine.specs.Operations.{Operation, PutStatic, CallStatic, Initialize, Return, Refused}
+use Rattle.machine.specs.Operations.{int_constant, long_constant, has_values, if_signed, method_reference, callee_of}
+use Rattle.machine.specs.Operations.{may_call_static, static_callee, static_reference, is_given, given_callee}
+use Rattle.machine.specs.Operations.{built_in_initializer, built_in_callee, special_callee, special_reference}
 use Rattle.machine.specs.Operations.{local_or, is_method, may_write, if_valued, get_target}
 use Rattle.machine.specs.Operations.{getstatic_of, put_target, putstatic_of, call_of, invokevirtual_of, return_of}
 use Rattle.machine.specs.Operations.{returns_so, on_object, new_of_references, anewarray_of}
@@ -119,6 +127,71 @@ module _ (w : FieldKind) (c k : ℕ) where
   no_invoke : (e : Option RuntimeConstant) → invokevirtual_of e ≡ PutStatic w c k → ⊥
   no_invoke (Some (runtime.Method reference)) e = no_call reference.target e
   no_invoke other e = cc
+
+  no_signed : (s : Option Signature) (o : Operation) → if_signed s o ≡ PutStatic w c k → o ≡ PutStatic w c k
+  no_signed None o e = absurd cc
+  no_signed (Some signature) o e = by (has_values signature) e
+    where
+      by : (b : Bool) → cond b o (Refused Unsupported) ≡ PutStatic w c k → o ≡ PutStatic w c k
+      by true h = h
+      by false h = absurd cc
+
+  no_static : (P : Tables) (d n : ℕ) (r : Result Method Unresolved) → static_callee P d n r ≡ PutStatic w c k → ⊥
+  no_static P d n (Ok (methods.Given x j)) e = by (may_call_static P x j) e
+    where
+      by : (b : Bool) → cond b (CallStatic (callee_of d n x j)) (Refused Fault) ≡ PutStatic w c k → ⊥
+      by true h = cc
+      by false h = cc
+  no_static P d n (Ok (methods.BuiltIn m)) e = cc
+  no_static P d n (Err unresolved.Missing) e = cc
+  no_static P d n (Err unresolved.NoReference) e = cc
+  no_static P d n (Err unresolved.Incompatible) e = cc
+
+  no_invokestatic : (P : Tables) (d : ℕ) (o : Option MethodReference) → static_reference P d o ≡ PutStatic w c k → ⊥
+  no_invokestatic P d None e = cc
+  no_invokestatic P d (Some r) e =
+      no_static P d r.descriptor r.target (no_signed (signature_at P d r.descriptor) _ e)
+
+  no_given : (P : Tables) (d : ℕ) (r : MethodReference) (x j : ℕ) → given_callee P d r x j ≡ PutStatic w c k → ⊥
+  no_given P d r x j e =
+      by (is_static_method P.family x j) (is_special_method P.family x j && is_given x r.class) e
+    where
+      by : (static own : Bool) → cond static (Refused Fault)
+          (cond own (Initialize (callee_of d r.descriptor x j)) (Refused Unsupported)) ≡ PutStatic w c k → ⊥
+      by true own h = cc
+      by false true h = cc
+      by false false h = cc
+
+  no_initializer : (class : Option ClassId) (text : Bool) → built_in_initializer class text ≡ PutStatic w c k → ⊥
+  no_initializer (Some (class_ids.BuiltIn class)) text e = cc
+  no_initializer (Some (class_ids.Array array)) text e = cc
+  no_initializer (Some (class_ids.Given d)) text e = cc
+  no_initializer None text e = cc
+
+  no_built_in : (class : Option ClassId) (m : BuiltInMethod) → built_in_callee class m ≡ PutStatic w c k → ⊥
+  no_built_in class members.NewObject e = no_initializer class false e
+  no_built_in class members.NewThrowable e = no_initializer class false e
+  no_built_in class members.NewThrowableOfText e = no_initializer class true e
+  no_built_in class members.NewEnum e = cc
+  no_built_in class members.EnumName e = cc
+  no_built_in class members.EnumOrdinal e = cc
+  no_built_in class (members.Print what) e = cc
+  no_built_in class (members.PrintLine what) e = cc
+  no_built_in class members.EndLine e = cc
+  no_built_in class members.CloneArray e = cc
+
+  no_special : (P : Tables) (d : ℕ) (r : MethodReference) (t : Result Method Unresolved)
+      → special_callee P d r t ≡ PutStatic w c k → ⊥
+  no_special P d r (Ok (methods.Given x j)) e = no_given P d r x j e
+  no_special P d r (Ok (methods.BuiltIn m)) e = no_built_in r.class m e
+  no_special P d r (Err unresolved.Missing) e = cc
+  no_special P d r (Err unresolved.NoReference) e = cc
+  no_special P d r (Err unresolved.Incompatible) e = cc
+
+  no_invokespecial : (P : Tables) (d : ℕ) (o : Option MethodReference) → special_reference P d o ≡ PutStatic w c k → ⊥
+  no_invokespecial P d None e = cc
+  no_invokespecial P d (Some r) e =
+      no_special P d r r.target (no_signed (signature_at P d r.descriptor) _ e)
 
   no_return : (operand : Option OperandKind) (o : Option Implementation) → return_of operand o ≡ PutStatic w c k → ⊥
   no_return operand (Some (implementations.Code code)) e = by (returns_so operand code.returns) e
@@ -191,6 +264,10 @@ module _ (w : FieldKind) (c k : ℕ) where
     put_resolved (instructions.GetStatic index) e = absurd (no_getstatic (constant_at P d index) e)
     put_resolved (instructions.PutStatic index) e = (index, put_constant (constant_at P d index) e)
     put_resolved (instructions.InvokeVirtual index) e = absurd (no_invoke (constant_at P d index) e)
+    put_resolved (instructions.InvokeStatic index) e =
+        absurd (no_invokestatic P d (method_reference (constant_at P d index)) e)
+    put_resolved (instructions.InvokeSpecial index) e =
+        absurd (no_invokespecial P d (method_reference (constant_at P d index)) e)
     put_resolved instructions.Return e = absurd (no_return None (implementation_at P d m) e)
     put_resolved instructions.ReturnInt e = absurd (no_return (Some operands.Int) (implementation_at P d m) e)
     put_resolved instructions.ReturnLong e = absurd (no_return (Some operands.Long) (implementation_at P d m) e)

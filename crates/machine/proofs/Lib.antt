@@ -16,6 +16,9 @@ pub mod ListLemmas
 pub mod LawsStaticLemmas
 pub mod ObjectLawLemmas
 pub mod TableLawLemmas
+pub mod ArgumentsLemmas
+pub mod InitializingLemmas
+pub mod CallsLemmas
 pub mod LawsFinalLemmas
 pub mod LawsLemmas
 pub mod SourcesLemmas

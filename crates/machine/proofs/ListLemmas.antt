@@ -92,6 +92,10 @@ second_of_three true true c e = refl
 second_of_three true false c e = absurd cc
 second_of_three false b c e = absurd cc
 
+pub first_of_four : (a b c d : Bool) → (a && b && c && d) ≡ true → a ≡ true
+first_of_four true b c d e = refl
+first_of_four false b c d e = absurd cc
+
 pub third_of_four : (a b c d : Bool) → (a && b && c && d) ≡ true → c ≡ true
 third_of_four true true true d e = refl
 third_of_four true true false d e = absurd cc

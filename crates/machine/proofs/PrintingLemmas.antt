@@ -8,7 +8,6 @@ use Rattle.program.specs.Tables.{Tables}
 use Rattle.semantics.specs.Moves.{with_operands}
 use Rattle.frame_instructions.specs.declared.operand_kind.OperandKind.TheVariants.{Reference}
 use Rattle.frame_instructions.specs.OperandKinds.{top_as}
-use Rattle.machine.specs.RowParts.{needing}
 use Rattle.machine.specs.Printing.{printed_text, ended, print_on, print_value, end_line}
 
 -- a print of a value, of which this is the text

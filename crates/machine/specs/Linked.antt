@@ -15,7 +15,8 @@ use Rattle.program.specs.Tables.{Tables, implementation_at, initializer_in, orde
 use Rattle.machine.specs.Operations.{is_method}
 use Rattle.machine.specs.RowParts.{halts}
 use Rattle.machine.specs.Handlers.{handler_of}
-use Rattle.machine.specs.Table.{row, called}
+use Rattle.machine.specs.Calls.{called}
+use Rattle.machine.specs.Table.{row}
 
 -- ---- the frame of a class initialization method (JVMS 2.9)
 

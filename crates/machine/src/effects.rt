@@ -6,7 +6,7 @@ ghost use Rattle.vm_state.specs.declared.text.Line.{Line};
 ghost use Rattle.vm_state.specs.Shares.{shared_of, SharesTheSame};
 ghost use Rattle.vm_state.specs.Stacks.{levels_of};
 ghost use Rattle.program.specs.Tables.{Tables};
-ghost use Rattle.semantics.specs.Moves.{received, unwound, Throw};
+ghost use Rattle.semantics.specs.Moves.{received, unwound, with_operands, Throw};
 ghost use Rattle.machine.specs.Linked.{program_of};
 ghost use Rattle.semantics.specs.Rows.{Moved, Next, Raise, Returns, Result as Led, run_row};
 ghost use Rattle.semantics.specs.Steps.{maker_of};
@@ -14,7 +14,8 @@ ghost use Rattle.vm_state.specs.SharedTables.{SharedTables};
 ghost use Rattle.vm_state.specs.SharedState.{SharedState};
 ghost use Rattle.vm_state.specs.declared.value.Maker.{Maker};
 ghost use Rattle.machine.specs.declared.kinds.Stop.{Stop};
-ghost use Rattle.machine.specs.Accesses.{Kept, Untouched, concluded, unless_refused};
+ghost use Rattle.vm_state.specs.Operands.{dropped};
+ghost use Rattle.machine.specs.Accesses.{Kept, KeptBy, Untouched, concluded, unless_refused};
 ghost use Rattle.vm_state.specs.declared.initialization.Frames.{Frames};
 ghost use Rattle.vm_state.specs.declared.initialization.Level.{Level};
 ghost use Rattle.machine.specs.Sharing.{stopped_shared};
@@ -128,40 +129,83 @@ fn throw(
     }
 }
 
+/// A call: the frame of the method called stands on its caller, which loses so many operands.
+///
+/// # Errors
+/// `AllocError` where memory is refused: then the stack is as it was.
+fn call(
+    frames: &mut Frames,
+    frame: Frame,
+    callers: FrameList,
+    callee: Frame,
+    arguments: usize,
+) -> Result<Effect, AllocError>
+    ensures ok { OnOk result
+        (frames.new ≡ record frames.old {
+          segment = Some (record {
+            innermost = callee;
+            callers = with_operands frame (dropped arguments frame.operands) ∷ callers;
+          });
+        }) }
+    ensures next { IfOk result (λ e. e ≡ Effect.Next) }
+    ensures err { OnErr result
+        (frames.new ≡ record frames.old { segment = Some (record { innermost = frame; callers = callers }) }) }
+{
+    let mut callers = callers;
+    match callers.push_caller(frame, arguments) {
+        Ok(()) => {
+            stand(frames, callee, callers);
+            Ok(Effect::Next)
+        }
+        Err(frame) => {
+            stand(frames, frame, callers);
+            Err(AllocError)
+        }
+    }
+}
+
 /// What the conclusion of an instruction makes of its thread, of whose stack its frame and the callers were taken.
+///
+/// # Errors
+/// `AllocError` where memory is refused to a call: then the stack is as it was.
 fn conclude(
     program: &Program,
     frames: &mut Frames,
     frame: Frame,
     callers: FrameList,
     conclusion: Conclusion,
-) -> Effect
-    ensures step { (maker : Maker) (f : Frame) (before after : SharedState) → f.activity ≡ frame.activity
+) -> Result<Effect, AllocError>
+    ensures step { IfOk result
+        (λ e. (maker : Maker) (f : Frame) (before after : SharedState) → f.activity ≡ frame.activity
         → Untouched (Ok conclusion) f frame →
         IsStep program.now frames.old.thread (f ∷ callers) (levels_of frames.old) before
-        (run_row frames.old.thread maker after (concluded conclusion frame)) result frames.new after }
-    ensures moves { ((old new : Frames) → Stays result old new)
-        × ((before after : SharedTables) → Stays result before after) }
+        (run_row frames.old.thread maker after (concluded conclusion frame)) e frames.new after) }
+    ensures moves { IfOk result (λ e. ((old new : Frames) → Stays e old new)
+        × ((before after : SharedTables) → Stays e before after)) }
     ensures thread { frames.new.thread ≡ frames.old.thread }
+    ensures err { OnErr result (((f : Frame) → Untouched (Ok conclusion) f frame → frames.new
+        ≡ record frames.old { segment = Some (record { innermost = f; callers = callers }) })
+        × ((old new : SharedTables) → KeptBy shared_of (Ok conclusion) old new → SharesTheSame old new)) }
 {
     match conclusion {
         Conclusion::Stays => {
             stand(frames, frame, callers);
-            Effect::Next
+            Ok(Effect::Next)
         }
         Conclusion::Becomes(other) => {
             stand(frames, other, callers);
-            Effect::Next
+            Ok(Effect::Next)
         }
+        Conclusion::Calls { callee, arguments } => call(frames, frame, callers, callee, arguments),
         Conclusion::Prints(text) => {
             stand(frames, frame, callers);
-            Effect::Print(text)
+            Ok(Effect::Print(text))
         }
-        Conclusion::Returns(value) => return_to(frames, callers, value),
+        Conclusion::Returns(value) => Ok(return_to(frames, callers, value)),
         Conclusion::Raises(exception, class) => {
-            throw(program, frames, frame, callers, exception, class)
+            Ok(throw(program, frames, frame, callers, exception, class))
         }
-        Conclusion::Halts(kind) => Effect::Halt(End::Faulted(kind)),
+        Conclusion::Halts(kind) => Ok(Effect::Halt(End::Faulted(kind))),
     }
 }
 
@@ -220,7 +264,7 @@ pub fn effect(
         callers,
     } = segment;
     match execute(alloc, program, by, &mut frame, shared) {
-        Ok(conclusion) => Ok(conclude(program, frames, frame, callers, conclusion)),
+        Ok(conclusion) => conclude(program, frames, frame, callers, conclusion),
         Err(stop) => {
             stand(frames, frame, callers);
             stopped(stop)

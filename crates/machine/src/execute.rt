@@ -10,6 +10,8 @@ ghost use Rattle.machine.specs.Table.{local_row, operation_row, fetched, row};
 ghost use Rattle.machine.specs.Accesses.{Gives, KeptBy, Untouched};
 
 use crate::arrays::on_array;
+use crate::calling::call_static;
+use crate::initializing::{initialize, initialize_built_in};
 use crate::kinds::{Actor, Conclusion, Stop};
 use crate::object_execution::execute_on_object;
 use crate::printing::{end_line, print_value};
@@ -76,6 +78,9 @@ fn execute_resolved<S: Store>(
         Resolved::Print(what, line) => { print_value(alloc, program, by, frame, store, what, line) }
         Resolved::EndLine => end_line(alloc, by, frame, store),
         Resolved::OnArray(operation) => on_array(alloc, program, by, frame, store, operation),
+        Resolved::CallStatic(callee) => call_static(alloc, program, by, frame, store, callee),
+        Resolved::Initialize(callee) => initialize(alloc, program, by, frame, store, callee),
+        Resolved::InitializeBuiltIn(text) => initialize_built_in(alloc, by, frame, store, text),
         Resolved::Return(kind) => Ok(return_value(frame, kind)),
         Resolved::OnObject(operation) => {
             execute_on_object(alloc, program, by, frame, store, operation)

@@ -25,6 +25,9 @@ pub enum Conclusion {
     Stays,
     /// This one takes its place.
     Becomes(Frame),
+    /// It waits at its call, and the frame of the method called stands on it, whose arguments are so many operands on
+    /// top. The frame is as it was.
+    Calls { callee: Frame, arguments: usize },
     /// The frame goes, with a value for its caller or with none.
     Returns(Option<Value>),
     /// It printed this text, and the frame goes on.

@@ -11,6 +11,7 @@ use crate::array_operation::ArrayOperation;
 use crate::object_operation::{
     ObjectOperation, check_cast_of, get_field_of, instance_of_of, new_of, put_field_of,
 };
+use crate::resolved_calls::{Callee, invokespecial_of, invokestatic_of};
 use crate::stored_kind::operand_kind;
 use bytecode::Instruction;
 use frame_instructions::operand_kind::OperandKind;
@@ -41,6 +42,12 @@ pub enum Resolved {
     EndLine,
     /// An instruction on arrays.
     OnArray(ArrayOperation),
+    /// `invokestatic` of a method of a given class.
+    CallStatic(Callee),
+    /// `invokespecial` of an instance initialization method of a given class.
+    Initialize(Callee),
+    /// `invokespecial` of an instance initialization method of `Object` or of a throwable, with a text or without one.
+    InitializeBuiltIn(bool),
     /// `return`, `ireturn`, `lreturn` and `areturn`, of a method that returns so.
     Return(ReturnKind),
     /// An instruction on objects.
@@ -50,11 +57,11 @@ pub enum Resolved {
     Refused(FaultKind),
 }
 
-const FAULT: Resolved = Resolved::Refused(FaultKind::Fault);
+pub(crate) const FAULT: Resolved = Resolved::Refused(FaultKind::Fault);
 
-const MISSING: Resolved = Resolved::Refused(FaultKind::Missing);
+pub(crate) const MISSING: Resolved = Resolved::Refused(FaultKind::Missing);
 
-const UNSUPPORTED: Resolved = Resolved::Refused(FaultKind::Unsupported);
+pub(crate) const UNSUPPORTED: Resolved = Resolved::Refused(FaultKind::Unsupported);
 
 /// `ldc` and `ldc_w` of a constant of the run-time constant pool.
 fn int_constant(constant: Option<RuntimeConstant>) -> Resolved
@@ -267,6 +274,12 @@ pub fn resolved_operation(
             putstatic_of(program, class, method, program.constant(class, *index))
         }
         Instruction::InvokeVirtual(index) => invokevirtual_of(program.constant(class, *index)),
+        Instruction::InvokeStatic(index) => {
+            invokestatic_of(program, class, program.constant(class, *index))
+        }
+        Instruction::InvokeSpecial(index) => {
+            invokespecial_of(program, class, program.constant(class, *index))
+        }
         Instruction::Return => return_of(program, class, method, None),
         Instruction::ReturnInt => return_of(program, class, method, Some(OperandKind::Int)),
         Instruction::ReturnLong => return_of(program, class, method, Some(OperandKind::Long)),

@@ -6,7 +6,8 @@ ghost use Rattle.vm_state.specs.declared.text.Line.{Line};
 ghost use Rattle.vm_state.specs.Locals.{stored};
 ghost use Rattle.program.specs.Tables.{main_in};
 ghost use Rattle.machine.specs.declared.kinds.Stop.{Stop};
-ghost use Rattle.machine.specs.Table.{call_main, called, start_row};
+ghost use Rattle.machine.specs.Calls.{called};
+ghost use Rattle.machine.specs.Table.{call_main, start_row};
 ghost use Rattle.machine.specs.Accesses.{Gives, KeptBy, concluded};
 
 use crate::kinds::{Actor, Conclusion, Stop};

@@ -15,6 +15,7 @@ fn needed_class(program: &Program, frame: &Frame) -> Option<u32> {
     let instruction = program.instruction(class, method, frame.place)?;
     match resolved_operation(program, class, method, instruction) {
         Resolved::GetStatic(owner, _) | Resolved::PutStatic(_, owner, _) => Some(owner),
+        Resolved::CallStatic(callee) => Some(callee.class),
         _ => None,
     }
 }

@@ -17,3 +17,12 @@ returns-in-OnArray-clause-gives g c = λ p. rw c.in-OnArray.is (c.on_array.ensur
 
 pub returns-in-OnObject-clause-gives : goal.returns-in-OnObject-clause-gives
 returns-in-OnObject-clause-gives g c = λ p. rw c.in-OnObject.is (c.execute_on_object.ensures.gives p)
+pub returns-in-CallStatic-clause-gives : goal.returns-in-CallStatic-clause-gives
+returns-in-CallStatic-clause-gives g c = λ p. rw c.in-CallStatic.is (c.call_static.ensures.gives p)
+
+pub returns-in-Initialize-clause-gives : goal.returns-in-Initialize-clause-gives
+returns-in-Initialize-clause-gives g c = λ p. rw c.in-Initialize.is (c.initialize.ensures.gives p)
+
+pub returns-in-InitializeBuiltIn-clause-gives : goal.returns-in-InitializeBuiltIn-clause-gives
+returns-in-InitializeBuiltIn-clause-gives g c =
+    λ p. rw c.in-InitializeBuiltIn.is (c.initialize_built_in.ensures.gives p)
