@@ -288,7 +288,9 @@ pub fn resolved_operation(
         }
         Instruction::New(index) => on_object(new_of(program, program.constant(class, *index))),
         Instruction::CheckCast(index) => on_object(check_cast_of(program.constant(class, *index))),
-        Instruction::InstanceOf(index) => on_object(instance_of_of(program.constant(class, *index))),
+        Instruction::InstanceOf(index) => on_object(instance_of_of(program.constant(
+            class, *index,
+        ))),
         Instruction::Throw => Resolved::OnObject(ObjectOperation::Throw),
         Instruction::GetField(index) => on_object(get_field_of(program.constant(class, *index))),
         Instruction::PutField(index) => on_object(put_field_of(program.constant(class, *index))),
