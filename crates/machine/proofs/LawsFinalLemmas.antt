@@ -61,13 +61,13 @@ use Rattle.frame_instructions.specs.declared.operand_kind.OperandKind.{OperandKi
 use Rattle.frame_instructions.specs.declared.operand_kind.OperandKind.TheVariants as operands
 use Rattle.frame_instructions.specs.Families.{Local as LocalOperation}
 use Rattle.frame_instructions.specs.Instructions.{local_of}
-use Rattle.machine.specs.Operations.{Operation, PutStatic, CallStatic, Initialize, Return, Refused}
-use Rattle.machine.specs.Operations.{int_constant, long_constant, has_values, if_signed, method_reference, callee_of}
-use Rattle.machine.specs.Operations.{may_call_static, static_callee, static_reference, is_given, given_callee}
-use Rattle.machine.specs.Operations.{built_in_initializer, built_in_callee, special_callee, special_reference}
-use Rattle.machine.specs.Operations.{local_or, is_method, may_write, if_valued, get_target}
-use Rattle.machine.specs.Operations.{getstatic_of, put_target, putstatic_of, call_of, invokevirtual_of, return_of}
-use Rattle.machine.specs.Operations.{returns_so, on_object, new_of_references, anewarray_of}
+use Rattle.machine.specs.Operations.{Operation, PutStatic, Return, Refused, int_constant, long_constant}
+use Rattle.machine.specs.Operations.{local_or, may_write, if_valued, get_target, getstatic_of, put_target, putstatic_of}
+use Rattle.machine.specs.Operations.{on_call, return_of, returns_so, on_object, new_of_references, anewarray_of}
+use Rattle.machine.specs.Operations.{resolved_operation, operation_of, operation_at}
+use Rattle.machine.specs.Initializers.{is_method}
+use Rattle.machine.specs.CallReferences.{invokevirtual_of, invokeinterface_of, invokespecial_of, invokestatic_of}
+use Rattle.machine.specs.declared.call_operation.CallOperation.{CallOperation}
 use Rattle.machine.specs.declared.object_operation.ObjectOperation.{ObjectOperation}
 use Rattle.machine.specs.ObjectReferences.{new_of, check_cast_of, instance_of_of, get_field_of, put_field_of}
 use Rattle.machine.specs.Operations.{resolved_operation, operation_of, operation_at}
@@ -118,80 +118,9 @@ module _ (w : FieldKind) (c k : ℕ) where
   no_long (Some runtime.Double) e = cc
   no_long other e = cc
 
-  no_call : (r : Result Method Unresolved) → call_of r ≡ PutStatic w c k → ⊥
-  no_call (Ok (methods.BuiltIn (members.Print what))) e = cc
-  no_call (Ok (methods.BuiltIn (members.PrintLine what))) e = cc
-  no_call (Ok (methods.BuiltIn members.EndLine)) e = cc
-  no_call other e = cc
-
-  no_invoke : (e : Option RuntimeConstant) → invokevirtual_of e ≡ PutStatic w c k → ⊥
-  no_invoke (Some (runtime.Method reference)) e = no_call reference.target e
-  no_invoke other e = cc
-
-  no_signed : (s : Option Signature) (o : Operation) → if_signed s o ≡ PutStatic w c k → o ≡ PutStatic w c k
-  no_signed None o e = absurd cc
-  no_signed (Some signature) o e = by (has_values signature) e
-    where
-      by : (b : Bool) → cond b o (Refused Unsupported) ≡ PutStatic w c k → o ≡ PutStatic w c k
-      by true h = h
-      by false h = absurd cc
-
-  no_static : (P : Tables) (d n : ℕ) (r : Result Method Unresolved) → static_callee P d n r ≡ PutStatic w c k → ⊥
-  no_static P d n (Ok (methods.Given x j)) e = by (may_call_static P x j) e
-    where
-      by : (b : Bool) → cond b (CallStatic (callee_of d n x j)) (Refused Fault) ≡ PutStatic w c k → ⊥
-      by true h = cc
-      by false h = cc
-  no_static P d n (Ok (methods.BuiltIn m)) e = cc
-  no_static P d n (Err unresolved.Missing) e = cc
-  no_static P d n (Err unresolved.NoReference) e = cc
-  no_static P d n (Err unresolved.Incompatible) e = cc
-
-  no_invokestatic : (P : Tables) (d : ℕ) (o : Option MethodReference) → static_reference P d o ≡ PutStatic w c k → ⊥
-  no_invokestatic P d None e = cc
-  no_invokestatic P d (Some r) e =
-      no_static P d r.descriptor r.target (no_signed (signature_at P d r.descriptor) _ e)
-
-  no_given : (P : Tables) (d : ℕ) (r : MethodReference) (x j : ℕ) → given_callee P d r x j ≡ PutStatic w c k → ⊥
-  no_given P d r x j e =
-      by (is_static_method P.family x j) (is_special_method P.family x j && is_given x r.class) e
-    where
-      by : (static own : Bool) → cond static (Refused Fault)
-          (cond own (Initialize (callee_of d r.descriptor x j)) (Refused Unsupported)) ≡ PutStatic w c k → ⊥
-      by true own h = cc
-      by false true h = cc
-      by false false h = cc
-
-  no_initializer : (class : Option ClassId) (text : Bool) → built_in_initializer class text ≡ PutStatic w c k → ⊥
-  no_initializer (Some (class_ids.BuiltIn class)) text e = cc
-  no_initializer (Some (class_ids.Array array)) text e = cc
-  no_initializer (Some (class_ids.Given d)) text e = cc
-  no_initializer None text e = cc
-
-  no_built_in : (class : Option ClassId) (m : BuiltInMethod) → built_in_callee class m ≡ PutStatic w c k → ⊥
-  no_built_in class members.NewObject e = no_initializer class false e
-  no_built_in class members.NewThrowable e = no_initializer class false e
-  no_built_in class members.NewThrowableOfText e = no_initializer class true e
-  no_built_in class members.NewEnum e = cc
-  no_built_in class members.EnumName e = cc
-  no_built_in class members.EnumOrdinal e = cc
-  no_built_in class (members.Print what) e = cc
-  no_built_in class (members.PrintLine what) e = cc
-  no_built_in class members.EndLine e = cc
-  no_built_in class members.CloneArray e = cc
-
-  no_special : (P : Tables) (d : ℕ) (r : MethodReference) (t : Result Method Unresolved)
-      → special_callee P d r t ≡ PutStatic w c k → ⊥
-  no_special P d r (Ok (methods.Given x j)) e = no_given P d r x j e
-  no_special P d r (Ok (methods.BuiltIn m)) e = no_built_in r.class m e
-  no_special P d r (Err unresolved.Missing) e = cc
-  no_special P d r (Err unresolved.NoReference) e = cc
-  no_special P d r (Err unresolved.Incompatible) e = cc
-
-  no_invokespecial : (P : Tables) (d : ℕ) (o : Option MethodReference) → special_reference P d o ≡ PutStatic w c k → ⊥
-  no_invokespecial P d None e = cc
-  no_invokespecial P d (Some r) e =
-      no_special P d r r.target (no_signed (signature_at P d r.descriptor) _ e)
+  no_call : (r : Result CallOperation FaultKind) → on_call r ≡ PutStatic w c k → ⊥
+  no_call (Ok operation) e = cc
+  no_call (Err kind) e = cc
 
   no_return : (operand : Option OperandKind) (o : Option Implementation) → return_of operand o ≡ PutStatic w c k → ⊥
   no_return operand (Some (implementations.Code code)) e = by (returns_so operand code.returns) e
@@ -263,11 +192,10 @@ module _ (w : FieldKind) (c k : ℕ) where
     put_resolved (instructions.LoadWideConstant index) e = absurd (no_long (constant_at P d index) e)
     put_resolved (instructions.GetStatic index) e = absurd (no_getstatic (constant_at P d index) e)
     put_resolved (instructions.PutStatic index) e = (index, put_constant (constant_at P d index) e)
-    put_resolved (instructions.InvokeVirtual index) e = absurd (no_invoke (constant_at P d index) e)
-    put_resolved (instructions.InvokeStatic index) e =
-        absurd (no_invokestatic P d (method_reference (constant_at P d index)) e)
-    put_resolved (instructions.InvokeSpecial index) e =
-        absurd (no_invokespecial P d (method_reference (constant_at P d index)) e)
+    put_resolved (instructions.InvokeVirtual index) e = absurd (no_call (invokevirtual_of P d (constant_at P d index)) e)
+    put_resolved (instructions.InvokeInterface index) e = absurd (no_call (invokeinterface_of P d (constant_at P d index)) e)
+    put_resolved (instructions.InvokeSpecial index) e = absurd (no_call (invokespecial_of P d (constant_at P d index)) e)
+    put_resolved (instructions.InvokeStatic index) e = absurd (no_call (invokestatic_of P d (constant_at P d index)) e)
     put_resolved instructions.Return e = absurd (no_return None (implementation_at P d m) e)
     put_resolved instructions.ReturnInt e = absurd (no_return (Some operands.Int) (implementation_at P d m) e)
     put_resolved instructions.ReturnLong e = absurd (no_return (Some operands.Long) (implementation_at P d m) e)

@@ -8,7 +8,8 @@ use Rattle.machine.specs.Laws.{AreSound, LinkedTablesAreSound, TableIsLawful}
 use Rattle.machine.proofs.LawsStaticLemmas.{plain_statics, mains_apart}
 use Rattle.machine.proofs.LawsFinalLemmas.{finals_written}
 use Rattle.machine.proofs.LinkedLemmas.{found_class_has, initializer_frame_is}
-use Rattle.machine.proofs.TableLawLemmas.{blank_known, row_suits}
+use Rattle.machine.proofs.CallLawLemmas.{blank_known}
+use Rattle.machine.proofs.TableLawLemmas.{row_suits}
 
 -- the frame of a class initialization method holds nothing,
 initializer_known : (P : Tables) (known : Names) (c : ℕ) (f : Frame) → initializer_frame P c ≡ Some f

@@ -15,10 +15,10 @@ pub mod StoredKindsLemmas
 pub mod ListLemmas
 pub mod LawsStaticLemmas
 pub mod ObjectLawLemmas
-pub mod TableLawLemmas
 pub mod ArgumentsLemmas
-pub mod InitializingLemmas
 pub mod CallsLemmas
+pub mod CallLawLemmas
+pub mod TableLawLemmas
 pub mod LawsFinalLemmas
 pub mod LawsLemmas
 pub mod SourcesLemmas

@@ -8,7 +8,7 @@ use Rattle.program.specs.declared.class.MethodCode.{MethodCode}
 use Rattle.program.specs.declared.class.Implementation.{Implementation}
 use Rattle.program.specs.declared.class.Implementation.TheVariants as implementations
 use Rattle.program.specs.Tables.{Tables, implementation_at, initializer_in}
-use Rattle.machine.specs.Operations.{is_method}
+use Rattle.machine.specs.Initializers.{is_method}
 use Rattle.machine.specs.Calls.{called}
 use Rattle.machine.specs.Linked.{initializer_called, initializer_frame_of, initializer_frame, initialized_by}
 

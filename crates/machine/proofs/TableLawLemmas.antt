@@ -28,14 +28,8 @@ use Rattle.frame_instructions.specs.Families.{local_after}
 use Rattle.frame_instructions.proofs.LawsFrameLemmas.{KnowsLocals, top_known, rest_known, pushed_known}
 use Rattle.frame_instructions.proofs.LawsFrameLemmas.{stored_known}
 use Rattle.frame_instructions.proofs.FamiliesNameLemmas.{local_names_lem}
-use Rattle.machine.specs.Operations.{Operation, Local, PushText, GetStatic, PutStatic, GetOut, Print, EndLine}
-use Rattle.machine.specs.Operations.{Return, OnArray, OnObject, Refused, operation_at, CallStatic, Initialize}
-use Rattle.machine.specs.Operations.{InitializeBuiltIn}
-use Rattle.machine.specs.declared.resolved_calls.Callee.{Callee}
-use Rattle.machine.specs.Calls.{has_arguments, parameters_at, receiver_under, reaches, reached, enter_static}
-use Rattle.machine.specs.Calls.{initialize, initialize_built_in, text_parameters}
-use Rattle.machine.proofs.CallsLemmas.{dropped_known, taken_known, passed_known}
-use Rattle.machine.specs.Operations.{is_method}
+use Rattle.machine.specs.Operations.{Operation, Local, PushText, GetStatic, PutStatic, GetOut, OnArray, OnCall, Return}
+use Rattle.machine.specs.Operations.{OnObject, Refused, operation_at}
 use Rattle.machine.specs.StoredKinds.{top_stored}
 use Rattle.machine.proofs.StoredKindsLemmas.{stored_knows}
 use Rattle.machine.specs.RowParts.{halts, goes_on, push, raises}
@@ -46,16 +40,12 @@ use Rattle.frame_instructions.specs.OperandKinds.{top_as}
 use Rattle.machine.specs.Table.{fetched, active_row, row}
 use Rattle.machine.specs.Linked.{initialized_by, program_of}
 use Rattle.machine.specs.Laws.{AreSound}
-use Rattle.machine.proofs.TableLemmas.{of_some, needing_any, needing_such, if_usable_any, print_any, HoldsOfCall}
-use Rattle.machine.proofs.TableLemmas.{called_any, unless_null_any, chosen_any}
+use Rattle.machine.proofs.TableLemmas.{of_some, needing_any, needing_such, if_usable_any, HoldsOfCall}
+use Rattle.machine.proofs.TableLemmas.{called_any}
 use Rattle.machine.proofs.ArrayLawLemmas.{array_suits}
 use Rattle.machine.proofs.LinkedLemmas.{found_class_has, class_is_found}
 use Rattle.machine.proofs.ObjectLawLemmas.{object_suits}
-
--- local variables that hold nothing yet
-pub blank_known : (known : Names) (n : ℕ) → KnowsLocals known (replicate n None)
-blank_known known zero = tt
-blank_known known (suc n) = (tt, blank_known known n)
+use Rattle.machine.proofs.CallLawLemmas.{blank_known, call_suits}
 
 module _ {P : Tables} (sound : AreSound P) (known : Names) (own : ℕ → Bool) where
   abbrev Suits : Row → Type 0
@@ -89,50 +79,6 @@ module _ {P : Tables} (sound : AreSound P) (known : Names) (own : ℕ → Bool) 
     two_less : KnowsAll known (rest (rest f.operands)).values
     two_less = rest_known known (rest f.operands) one_less
 
-    -- a call of a method that is no class initialization method, with so many operands on top as its arguments
-    reaches_suits : (c m count : ℕ) → is_method m (initializer_in P c) ≡ false → (o : Option Implementation)
-        → Suits (reaches c m count f o)
-    reaches_suits c m count apart None = halted Missing
-    reaches_suits c m count apart (Some implementations.Abstract) = halted Missing
-    reaches_suits c m count apart (Some implementations.Unsupported) = halted Unsupported
-    reaches_suits c m count apart (Some (implementations.Code code)) =
-        needing_such Suits halted (KnowsLocals known)
-        (passed (replicate code.max_locals None) 0 (taken count f.operands)) _
-        (passed_known known (replicate code.max_locals None) 0 (taken count f.operands)
-        (blank_known known code.max_locals) (taken_known known count f.operands h.0))
-        (λ locals held. (
-          (dropped_known known count f.operands h.0, (tt, held)),
-          λ d of. (let clash : None ≡ Some d = rw apart at of in cc),
-        ))
-
-    reached_suits : (k : Callee) (count : ℕ) → Suits (reached P k count f)
-    reached_suits k count = by (is_method k.index (initializer_in P k.class)) refl
-      where
-        entered : Row
-        entered = reaches k.class k.index count f (implementation_at P k.class k.index)
-
-        by : (b : Bool) → is_method k.index (initializer_in P k.class) ≡ b → Suits (cond b (halts Fault) entered)
-        by true is = halted Fault
-        by false is = reaches_suits k.class k.index count is (implementation_at P k.class k.index)
-
-    static_suits : (k : Callee) → Suits (enter_static P k f)
-    static_suits k =
-        needing_any Suits halted (parameters_at P k) _ (λ kinds is.
-        chosen_any Suits halted (has_arguments kinds f.operands) _ (reached_suits k (length kinds)))
-
-    initialize_suits : (k : Callee) → Suits (initialize P k f)
-    initialize_suits k =
-        needing_any Suits halted (parameters_at P k) _ (λ kinds is.
-        needing_any Suits halted (receiver_under kinds f.operands) _ (λ receiver under.
-        unless_null_any Suits halted raised _ receiver (reached_suits k (length kinds + 1))))
-
-    built_in_suits : (text : Bool) → Suits (initialize_built_in text f)
-    built_in_suits text =
-        let count = length (text_parameters text) + 1 in
-        needing_any Suits halted (receiver_under (text_parameters text) f.operands) _ (λ receiver under.
-        unless_null_any Suits halted raised _ receiver
-        (on_suits (dropped count f.operands) (dropped_known known count f.operands h.0)))
-
     -- an instruction of a method, whose frame this is
     module _ (d m : ℕ) (runs : f.activity ≡ Method d m) where
       instruction_suits : (i : Operation) → operation_at P d m f.place ≡ Some i → Suits (operation_row P i f)
@@ -149,21 +95,8 @@ module _ {P : Tables} (sound : AreSound P) (known : Names) (own : ℕ → Bool) 
           (stored_knows known kind f.operands h.0)
           (λ v hv. (hv, may, on_suits (rest f.operands) one_less)))
       instruction_suits GetOut at = push_suits values.Out tt
-      instruction_suits (Print what line) at =
-          needing_any Suits halted (top f.operands) _ (λ v on_top.
-          needing_any Suits halted (printed_text P what v) _ (λ text is.
-          needing_any Suits halted (top_as Reference (rest f.operands)) _ (λ r below_top.
-          print_any Suits halted raised (ended line text) (with_operands f (rest (rest f.operands))) r
-          (on_suits (rest (rest f.operands)) two_less))))
-      instruction_suits EndLine at =
-          needing_any Suits halted (top_as Reference f.operands) _ (λ r on_top.
-          print_any Suits halted raised (10 ∷ []) (with_operands f (rest f.operands)) r
-          (on_suits (rest f.operands) one_less))
       instruction_suits (OnArray operation) at = array_suits P known own f h operation
-      instruction_suits (CallStatic k) at =
-          λ b. if_usable_any Suits halted raised _ b (static_suits k)
-      instruction_suits (Initialize k) at = initialize_suits k
-      instruction_suits (InitializeBuiltIn text) at = built_in_suits text
+      instruction_suits (OnCall operation) at = call_suits P known own f h operation
       instruction_suits (Return returns.Nothing) at = (tt, tt)
       instruction_suits (Return (returns.Value kind)) at =
           needing_such Suits halted (Knows known) (top_stored kind f.operands) _
@@ -176,8 +109,8 @@ module _ {P : Tables} (sound : AreSound P) (known : Names) (own : ℕ → Bool) 
       fetched_suits None at = (tt, tt)
       fetched_suits (Some i) at = instruction_suits i at
 
-    call_suits : (c m : ℕ) → main_in P c ≡ Some m → HoldsOfCall Suits halted c m f
-    call_suits c m is code argument locals on_top is_stored =
+    start_suits : (c m : ℕ) → main_in P c ≡ Some m → HoldsOfCall Suits halted c m f
+    start_suits c m is code argument locals on_top is_stored =
         let given = of_some (Knows known) (top f.operands) argument (top_known known f.operands h.0) on_top in
         let held =
         of_some (KnowsLocals known) _ locals
@@ -186,7 +119,7 @@ module _ {P : Tables} (sound : AreSound P) (known : Names) (own : ℕ → Bool) 
 
     main_suits : (c : ℕ) (o : Option ℕ) → main_in P c ≡ o → Suits (call_main P c f o)
     main_suits c None is = (tt, tt)
-    main_suits c (Some m) is = called_any Suits halted c m f (implementation_at P c m) (call_suits c m is)
+    main_suits c (Some m) is = called_any Suits halted c m f (implementation_at P c m) (start_suits c m is)
 
     active_suits : (a : Activity) → f.activity ≡ a → Suits (active_row P a f)
     active_suits (Start c) runs = λ b. if_usable_any Suits halted raised _ b (main_suits c (main_in P c) refl)

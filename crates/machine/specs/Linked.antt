@@ -12,7 +12,7 @@ use Rattle.program.specs.declared.class.Class.{Class}
 use Rattle.program.specs.declared.class.Implementation.{Implementation}
 use Rattle.program.specs.declared.class.Implementation.TheVariants as implementations
 use Rattle.program.specs.Tables.{Tables, implementation_at, initializer_in, order_in, statics_in}
-use Rattle.machine.specs.Operations.{is_method}
+use Rattle.machine.specs.Initializers.{is_method}
 use Rattle.machine.specs.RowParts.{halts}
 use Rattle.machine.specs.Handlers.{handler_of}
 use Rattle.machine.specs.Calls.{called}

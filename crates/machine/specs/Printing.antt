@@ -1,5 +1,5 @@
 -- Prints of System.out: the methods print and println of java.io.PrintStream.
-use Rattle.std.specs.Prelude.{ℕ, ℤ, pos, ◌%◌, ◌^◌, ◌++◌, Bool, true, false, not, List, [], ◌∷◌, Option, Some, None}
+use Rattle.std.specs.Prelude.{ℕ, ℤ, pos, ◌%◌, ◌^◌, ◌++◌, Bool, true, false, not, List, [], ◌∷◌, Option, Some, None, if◌then◌else◌}
 use Rattle.std.specs.Prelude.{codes, slice_get}
 use Rattle.std.specs.Int.{w32, cast_unsigned}
 use Rattle.std.specs.Ordering.{int_eq}
@@ -7,19 +7,18 @@ use Rattle.std.specs.Fmt.{signed_decimal}
 use Rattle.classfile.specs.Printing.{printed_units, units_of}
 use Rattle.built_in.specs.declared.method.Printed.{Printed}
 use Rattle.built_in.specs.declared.method.Printed.TheVariants as printed
-use Rattle.built_in.specs.declared.class_id.BuiltIn.TheVariants.{NullPointerException}
 use Rattle.vm_state.specs.declared.value.Value.{Value}
 use Rattle.vm_state.specs.declared.value.Value.TheVariants as values
-use Rattle.vm_state.specs.declared.ends.FaultKind.TheVariants as faults
 use Rattle.vm_state.specs.declared.frame.Frame.{Frame}
 use Rattle.vm_state.specs.Operands.{top, rest}
 use Rattle.vm_state.specs.Texts.{boolean_text}
 use Rattle.semantics.specs.Rows.{Row, Print as PrintText}
-use Rattle.semantics.specs.Moves.{advanced, with_operands}
 use Rattle.program.specs.Tables.{Tables}
 use Rattle.frame_instructions.specs.declared.operand_kind.OperandKind.TheVariants.{Reference}
 use Rattle.frame_instructions.specs.OperandKinds.{top_as}
-use Rattle.machine.specs.RowParts.{halts, needing, goes_on, raises}
+use Rattle.machine.specs.declared.call_operation.InstanceCall.{InstanceCall}
+use Rattle.machine.specs.Calls.{is_out, drops, called_on}
+use Rattle.machine.specs.RowParts.{needing}
 
 -- ---- the text of a value
 
@@ -46,27 +45,19 @@ abbrev pub ended : Bool → List ℕ → List ℕ
 ended true text = text ++ 10 ∷ []
 ended false text = text
 
--- ---- the receiver
+-- ---- prints
 
--- A text is printed on a receiver, where this frame goes on. A string has no such method. Which one another object's
--- class has comes with calls.
-abbrev pub print_on : List ℕ → Frame → Value → Row
-print_on text f values.Out = PrintText text (goes_on (advanced f))
-print_on text f (values.Int m) = halts faults.Fault
-print_on text f (values.Long m) = halts faults.Fault
-print_on text f values.Null = raises NullPointerException
-print_on text f (values.Text s) = halts faults.Missing
-print_on text f (values.OfClass c k) = halts faults.Unsupported
-print_on text f (values.OfThread t k) = halts faults.Unsupported
+-- A text is printed on System.out, and so many operands go. On another receiver it is a call as any.
+abbrev pub print_on : Tables → List ℕ → ℕ → InstanceCall → Frame → Value → Row
+print_on P text count k f v = if is_out v then PrintText text (drops count f) else called_on P k count f v
 
 -- print and println of a value
-abbrev pub print_value : Tables → Printed → Bool → Frame → Row
-print_value P what line f =
+abbrev pub print_value : Tables → Printed → Bool → InstanceCall → Frame → Row
+print_value P what line k f =
     needing (top f.operands) (λ v.
     needing (printed_text P what v) (λ text.
-    needing (top_as Reference (rest f.operands))
-    (print_on (ended line text) (with_operands f (rest (rest f.operands))))))
+    needing (top_as Reference (rest f.operands)) (print_on P (ended line text) 2 k f)))
 
 -- println()
-abbrev pub end_line : Frame → Row
-end_line f = needing (top_as Reference f.operands) (print_on (10 ∷ []) (with_operands f (rest f.operands)))
+abbrev pub end_line : Tables → InstanceCall → Frame → Row
+end_line P k f = needing (top_as Reference f.operands) (print_on P (10 ∷ []) 1 k f)

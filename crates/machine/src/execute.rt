@@ -10,11 +10,9 @@ ghost use Rattle.machine.specs.Table.{local_row, operation_row, fetched, row};
 ghost use Rattle.machine.specs.Accesses.{Gives, KeptBy, Untouched};
 
 use crate::arrays::on_array;
-use crate::calling::call_static;
-use crate::initializing::{initialize, initialize_built_in};
+use crate::call_execution::execute_call;
 use crate::kinds::{Actor, Conclusion, Stop};
 use crate::object_execution::execute_on_object;
-use crate::printing::{end_line, print_value};
 use crate::pushing::{push_number, push_value};
 use crate::raising::trap;
 use crate::resolved::{Resolved, resolved_operation};
@@ -75,12 +73,8 @@ fn execute_resolved<S: Store>(
             put_static(alloc, by, frame, store, kind, class, field)
         }
         Resolved::GetOut => Ok(push_value(frame, Value::Out)),
-        Resolved::Print(what, line) => { print_value(alloc, program, by, frame, store, what, line) }
-        Resolved::EndLine => end_line(alloc, by, frame, store),
         Resolved::OnArray(operation) => on_array(alloc, program, by, frame, store, operation),
-        Resolved::CallStatic(callee) => call_static(alloc, program, by, frame, store, callee),
-        Resolved::Initialize(callee) => initialize(alloc, program, by, frame, store, callee),
-        Resolved::InitializeBuiltIn(text) => initialize_built_in(alloc, by, frame, store, text),
+        Resolved::OnCall(operation) => execute_call(alloc, program, by, frame, store, operation),
         Resolved::Return(kind) => Ok(return_value(frame, kind)),
         Resolved::OnObject(operation) => {
             execute_on_object(alloc, program, by, frame, store, operation)

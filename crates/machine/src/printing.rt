@@ -3,17 +3,15 @@
 ghost use Rattle.std.specs.Prelude.{◌≡◌, ◌∷◌, [], List, IfOk, slice_get};
 ghost use Rattle.classfile.specs.Printing.{printed_units};
 ghost use Rattle.vm_state.specs.declared.text.Line.{Line};
-ghost use Rattle.vm_state.specs.Operands.{dropped};
-ghost use Rattle.semantics.specs.Moves.{with_operands};
 ghost use Rattle.machine.specs.Printing.{unit_of_int, text_of_string, printed_text, ended, print_on, print_value};
 ghost use Rattle.machine.specs.Printing.{end_line};
 ghost use Rattle.machine.specs.Accesses.{Gives, KeptBy, Untouched};
 
+use crate::call_operation::InstanceCall;
+use crate::instance_calls::{call_on, is_out};
 use crate::kinds::{Actor, Conclusion, Stop};
-use crate::raising::raise;
 use crate::references::second_reference;
 use crate::store::Store;
-use built_in::class_id::BuiltIn;
 use classfile::{printed, printed_unit};
 use frame_instructions::numeric::advance;
 use frame_instructions::operand_kind::{OperandKind, top_as};
@@ -83,35 +81,31 @@ fn ended(line: bool, text: Text) -> Result<Text, AllocError>
     if line { text.with_line_end() } else { Ok(text) }
 }
 
-/// Prints a text on a receiver, and goes on without so many operands on top.
+/// Prints a text on a receiver, or calls the method that another receiver has, with so many operands.
+#[tactic(auto, unfolding(crate::specs::Accesses::unless_refused), using(crate::proofs::AccessesLemmas::kept_by_same, crate::proofs::AccessesLemmas::untouched_as))]
 fn print_on<S: Store>(
     alloc: Global,
+    program: &Program,
     by: Actor,
     frame: &mut Frame,
     store: &mut S,
+    call: InstanceCall,
     receiver: Value,
     text: Text,
-    operands: usize,
+    count: usize,
 ) -> Result<Conclusion, Stop>
     ensures gives { (p : List Line) → Gives S.stopped (S.run by (S.state store.old p)) (S.run by (S.state store.new p))
-        (print_on text (with_operands frame.old (dropped operands frame.old.operands)) receiver) frame.new result }
+        (print_on program.now text count call frame.old receiver) frame.new result }
     ensures same { KeptBy S.state result store.old store.new }
     ensures frame { Untouched result frame.old frame.new }
     ensures activity { frame.new.activity ≡ frame.old.activity }
 {
-    match receiver {
-        Value::Out => {
-            frame.operands.drop_many(operands);
-            advance(frame);
-            Ok(Conclusion::Prints(text))
-        }
-        Value::Null => raise(alloc, by, store, BuiltIn::NullPointerException),
-        Value::Int(_) | Value::Long(_) => FAULT,
-        Value::Text(_) => Ok(Conclusion::Halts(FaultKind::Missing)),
-        Value::OfClass(_, _) | Value::OfThread(_, _) => {
-            Ok(Conclusion::Halts(FaultKind::Unsupported))
-        }
+    if !is_out(receiver) {
+        return call_on(alloc, program, by, frame, store, call, receiver, count);
     }
+    frame.operands.drop_many(count);
+    advance(frame);
+    Ok(Conclusion::Prints(text))
 }
 
 /// `print` and `println` of a value.
@@ -128,9 +122,10 @@ pub fn print_value<S: Store>(
     store: &mut S,
     what: Printed,
     line: bool,
+    call: InstanceCall,
 ) -> Result<Conclusion, Stop>
     ensures gives { (p : List Line) → Gives S.stopped (S.run by (S.state store.old p)) (S.run by (S.state store.new p))
-        (print_value program.now what line frame.old) frame.new result }
+        (print_value program.now what line call frame.old) frame.new result }
     ensures same { KeptBy S.state result store.old store.new }
     ensures frame { Untouched result frame.old frame.new }
     ensures activity { frame.new.activity ≡ frame.old.activity }
@@ -145,7 +140,7 @@ pub fn print_value<S: Store>(
         return FAULT;
     };
     let text = ended(line, text)?;
-    print_on(alloc, by, frame, store, receiver, text, 2)
+    print_on(alloc, program, by, frame, store, call, receiver, text, 2)
 }
 
 /// `println()`.
@@ -156,12 +151,14 @@ pub fn print_value<S: Store>(
 #[tactic(auto, unfolding(crate::specs::Accesses::unless_refused))]
 pub fn end_line<S: Store>(
     alloc: Global,
+    program: &Program,
     by: Actor,
     frame: &mut Frame,
     store: &mut S,
+    call: InstanceCall,
 ) -> Result<Conclusion, Stop>
     ensures gives { (p : List Line) → Gives S.stopped (S.run by (S.state store.old p)) (S.run by (S.state store.new p))
-        (end_line frame.old) frame.new result }
+        (end_line program.now call frame.old) frame.new result }
     ensures same { KeptBy S.state result store.old store.new }
     ensures frame { Untouched result frame.old frame.new }
     ensures activity { frame.new.activity ≡ frame.old.activity }
@@ -170,5 +167,5 @@ pub fn end_line<S: Store>(
         return FAULT;
     };
     let text = Text::line_end(alloc)?;
-    print_on(alloc, by, frame, store, receiver, text, 1)
+    print_on(alloc, program, by, frame, store, call, receiver, text, 1)
 }

@@ -3,22 +3,24 @@
 ghost use Rattle.std.specs.Prelude.{◌≡◌, Some};
 ghost use Rattle.program.specs.Tables.{implementation_at};
 ghost use Rattle.machine.specs.Operations.{meaning, int_constant, long_constant, may_write};
-ghost use Rattle.machine.specs.Operations.{get_target, getstatic_of, put_target, putstatic_of, call_of};
-ghost use Rattle.machine.specs.Operations.{invokevirtual_of, returns_so, return_of, on_object, anewarray_of};
+ghost use Rattle.machine.specs.Operations.{get_target, getstatic_of, put_target, putstatic_of, on_call};
+ghost use Rattle.machine.specs.Operations.{returns_so, return_of, on_object, anewarray_of};
 ghost use Rattle.machine.specs.Operations.{array_operation, resolved_operation};
 
 use crate::array_operation::ArrayOperation;
 use crate::object_operation::{
     ObjectOperation, check_cast_of, get_field_of, instance_of_of, new_of, put_field_of,
 };
-use crate::resolved_calls::{Callee, invokespecial_of, invokestatic_of};
+use crate::call_operation::{
+    CallOperation, invokeinterface_of, invokespecial_of, invokestatic_of, invokevirtual_of,
+};
 use crate::stored_kind::operand_kind;
 use bytecode::Instruction;
 use frame_instructions::operand_kind::OperandKind;
 use program::class::Implementation;
 use program::runtime_constant::{FieldKind, FieldTarget, RuntimeConstant};
 use program::signature::ReturnKind;
-use program::{BuiltInMethod, Method, Printed, Program, Unresolved};
+use program::{Program, Unresolved};
 use vm_state::ends::FaultKind;
 
 /// What an instruction does that touches more than its frame, or names a constant of the run-time constant pool.
@@ -36,18 +38,10 @@ pub enum Resolved {
     PutStatic(FieldKind, u32, u32),
     /// `getstatic` of `System.out`.
     GetOut,
-    /// `invokevirtual` of `PrintStream.print` of a value, or of `println`, which ends the line.
-    Print(Printed, bool),
-    /// `invokevirtual` of `PrintStream.println()`.
-    EndLine,
     /// An instruction on arrays.
     OnArray(ArrayOperation),
-    /// `invokestatic` of a method of a given class.
-    CallStatic(Callee),
-    /// `invokespecial` of an instance initialization method of a given class.
-    Initialize(Callee),
-    /// `invokespecial` of an instance initialization method of `Object` or of a throwable, with a text or without one.
-    InitializeBuiltIn(bool),
+    /// A call of a method.
+    OnCall(CallOperation),
     /// `return`, `ireturn`, `lreturn` and `areturn`, of a method that returns so.
     Return(ReturnKind),
     /// An instruction on objects.
@@ -57,11 +51,11 @@ pub enum Resolved {
     Refused(FaultKind),
 }
 
-pub(crate) const FAULT: Resolved = Resolved::Refused(FaultKind::Fault);
+const FAULT: Resolved = Resolved::Refused(FaultKind::Fault);
 
-pub(crate) const MISSING: Resolved = Resolved::Refused(FaultKind::Missing);
+const MISSING: Resolved = Resolved::Refused(FaultKind::Missing);
 
-pub(crate) const UNSUPPORTED: Resolved = Resolved::Refused(FaultKind::Unsupported);
+const UNSUPPORTED: Resolved = Resolved::Refused(FaultKind::Unsupported);
 
 /// `ldc` and `ldc_w` of a constant of the run-time constant pool.
 fn int_constant(constant: Option<RuntimeConstant>) -> Resolved
@@ -172,25 +166,13 @@ fn putstatic_of(
     }
 }
 
-/// A call of a method that a reference resolves to: prints alone, so far.
-fn call_of(target: Result<Method, Unresolved>) -> Resolved
-    ensures { meaning result ≡ call_of target }
+/// A call of a method, or the fault that it is.
+fn on_call(operation: Result<CallOperation, FaultKind>) -> Resolved
+    ensures { meaning result ≡ on_call operation }
 {
-    match target {
-        Ok(Method::BuiltIn(BuiltInMethod::Print(what))) => Resolved::Print(what, false),
-        Ok(Method::BuiltIn(BuiltInMethod::PrintLine(what))) => Resolved::Print(what, true),
-        Ok(Method::BuiltIn(BuiltInMethod::EndLine)) => Resolved::EndLine,
-        _ => UNSUPPORTED,
-    }
-}
-
-/// `invokevirtual` of a constant of the run-time constant pool.
-fn invokevirtual_of(constant: Option<RuntimeConstant>) -> Resolved
-    ensures { meaning result ≡ invokevirtual_of constant }
-{
-    match constant {
-        Some(RuntimeConstant::Method(reference)) => call_of(reference.target),
-        _ => FAULT,
+    match operation {
+        Ok(operation) => Resolved::OnCall(operation),
+        Err(kind) => Resolved::Refused(kind),
     }
 }
 
@@ -273,12 +255,17 @@ pub fn resolved_operation(
         Instruction::PutStatic(index) => {
             putstatic_of(program, class, method, program.constant(class, *index))
         }
-        Instruction::InvokeVirtual(index) => invokevirtual_of(program.constant(class, *index)),
-        Instruction::InvokeStatic(index) => {
-            invokestatic_of(program, class, program.constant(class, *index))
+        Instruction::InvokeVirtual(index) => {
+            on_call(invokevirtual_of(program, class, program.constant(class, *index)))
+        }
+        Instruction::InvokeInterface(index) => {
+            on_call(invokeinterface_of(program, class, program.constant(class, *index)))
         }
         Instruction::InvokeSpecial(index) => {
-            invokespecial_of(program, class, program.constant(class, *index))
+            on_call(invokespecial_of(program, class, program.constant(class, *index)))
+        }
+        Instruction::InvokeStatic(index) => {
+            on_call(invokestatic_of(program, class, program.constant(class, *index)))
         }
         Instruction::Return => return_of(program, class, method, None),
         Instruction::ReturnInt => return_of(program, class, method, Some(OperandKind::Int)),

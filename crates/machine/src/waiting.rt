@@ -1,5 +1,7 @@
 //! Whether a thread's next instruction waits for another thread.
 
+use crate::call_operation::CallOperation;
+use crate::object_operation::ObjectOperation;
 use crate::resolved::{Resolved, resolved_operation};
 use program::Program;
 use vm_state::classes::Usability;
@@ -15,7 +17,8 @@ fn needed_class(program: &Program, frame: &Frame) -> Option<u32> {
     let instruction = program.instruction(class, method, frame.place)?;
     match resolved_operation(program, class, method, instruction) {
         Resolved::GetStatic(owner, _) | Resolved::PutStatic(_, owner, _) => Some(owner),
-        Resolved::CallStatic(callee) => Some(callee.class),
+        Resolved::OnObject(ObjectOperation::NewGiven(class)) => Some(class),
+        Resolved::OnCall(CallOperation::Static(call)) => Some(call.class),
         _ => None,
     }
 }

@@ -8,7 +8,7 @@ returns-clause-gives g c =
     λ p. gives_at g.S.Store.stopped (g.S.Store.run c.args.by (g.S.Store.state c.args.store.now p))
     (g.S.Store.run c.args.by (g.S.Store.state c.print_on.new.store p)) _ _ c.print_on.new.frame c.print_on.result
     (ap (g.S.Store.run c.args.by (g.S.Store.state c.args.store.now p))
-    (value_printed c.args.program.now c.args.what c.args.line c.args.frame.now c.in-Ok.value
-    c.in-Ok-second_reference.receiver c.in-Some.text c.in_ok-text-2.text c.in-Ok.ensures.ok
+    (value_printed c.args.program.now c.args.call c.args.frame.now c.in-Ok-second_reference.receiver c.args.what
+    c.args.line c.in-Ok.value c.in-Some.text c.in_ok-text-2.text c.in-Ok.ensures.ok
     (sym c.in_ok-text.ensures ∙ c.in-Some.is) c.in-Ok-second_reference.ensures.ok c.in_ok-text-2.ensures))
     (c.print_on.ensures.gives p)

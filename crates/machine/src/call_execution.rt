@@ -1,0 +1,46 @@
+//! The instructions that call methods, over any store.
+
+ghost use Rattle.std.specs.Prelude.{◌≡◌, List};
+ghost use Rattle.vm_state.specs.declared.text.Line.{Line};
+ghost use Rattle.machine.specs.Table.{call_row};
+ghost use Rattle.machine.specs.Accesses.{Gives, KeptBy, Untouched};
+
+use crate::call_operation::CallOperation;
+use crate::calling::call_static;
+use crate::instance_calls::call_instance;
+use crate::kinds::{Actor, Conclusion, Stop};
+use crate::printing::{end_line, print_value};
+use crate::store::Store;
+use program::Program;
+use std::alloc::Global;
+use vm_state::frame::Frame;
+
+/// `invokestatic`, `invokespecial`, `invokevirtual` and `invokeinterface` (JVMS 6.5).
+///
+/// # Errors
+/// The store's reason, or `Stop::Memory`. The frame is as it was, and so is the store; where memory is refused, what
+/// definitions see of it.
+#[tactic(auto, using(crate::proofs::AccessesLemmas::untouched_as))]
+pub fn execute_call<S: Store>(
+    alloc: Global,
+    program: &Program,
+    by: Actor,
+    frame: &mut Frame,
+    store: &mut S,
+    operation: CallOperation,
+) -> Result<Conclusion, Stop>
+    ensures gives { (p : List Line) → Gives S.stopped (S.run by (S.state store.old p)) (S.run by (S.state store.new p))
+        (call_row program.now operation frame.old) frame.new result }
+    ensures same { KeptBy S.state result store.old store.new }
+    ensures frame { Untouched result frame.old frame.new }
+    ensures activity { frame.new.activity ≡ frame.old.activity }
+{
+    match operation {
+        CallOperation::Static(call) => call_static(alloc, program, by, frame, store, call),
+        CallOperation::Instance(call) => call_instance(alloc, program, by, frame, store, call),
+        CallOperation::Print(what, line, call) => {
+            print_value(alloc, program, by, frame, store, what, line, call)
+        }
+        CallOperation::EndLine(call) => end_line(alloc, program, by, frame, store, call),
+    }
+}

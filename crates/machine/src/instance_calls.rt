@@ -1,0 +1,190 @@
+//! Calls of instance methods (JVMS 6.5, invokevirtual, invokeinterface and invokespecial), over any store.
+
+ghost use Rattle.std.specs.Prelude.{◌≡◌, List, Some, None, Ok, IfOk, IfErr, OnErr};
+ghost use Rattle.vm_state.specs.declared.text.Line.{Line};
+ghost use Rattle.machine.specs.Calls.{receiver_under, drops, member_row, runs, runs_chosen, is_out, called_on};
+ghost use Rattle.machine.specs.Calls.{call_instance};
+ghost use Rattle.machine.specs.Accesses.{Gives, KeptBy, Untouched, concluded};
+ghost use Rattle.machine.specs.declared.kinds.Stop.{Stop};
+
+use crate::call_operation::{Choice, InstanceCall};
+use crate::calling::{has_arguments, parameters, reached};
+use crate::kinds::{Actor, Conclusion, Stop};
+use crate::raising::raise;
+use crate::references::class_of;
+use crate::store::Store;
+use built_in::class_id::BuiltIn;
+use frame_instructions::control_transfer::is_null;
+use frame_instructions::numeric::advance;
+use frame_instructions::operand_kind::OperandKind;
+use program::runtime_constant::FieldKind;
+use program::{BuiltInMethod, Method, Program};
+use std::alloc::Global;
+use vm_state::ends::FaultKind;
+use vm_state::frame::Frame;
+use vm_state::operands::Operands;
+use vm_state::value::{Fault, Value};
+
+const FAULT: Result<Conclusion, Stop> = Ok(Conclusion::Halts(FaultKind::Fault));
+
+/// The receiver of a call with these parameters, which stands below the arguments.
+///
+/// # Errors
+/// `Fault` where the operands are of other kinds, or too few.
+fn receiver_under(operands: &Operands, kinds: &[FieldKind]) -> Result<Value, Fault>
+    ensures ok { IfOk result (λ v. receiver_under kinds.now operands.now ≡ Some v) }
+    ensures err { OnErr result (receiver_under kinds.now operands.now ≡ None) }
+{
+    if !has_arguments(kinds, operands) {
+        return Err(Fault);
+    }
+    OperandKind::Reference.of(operands.below(kinds.len())?)
+}
+
+/// Drops so many operands, and goes on.
+pub fn drop_operands(frame: &mut Frame, count: usize) -> Conclusion
+    ensures gives { drops count frame.old ≡ concluded result frame.new }
+    ensures frame { Untouched (Ok result) frame.old frame.new }
+    ensures activity { frame.new.activity ≡ frame.old.activity }
+{
+    frame.operands.drop_many(count);
+    advance(frame);
+    Conclusion::Stays
+}
+
+/// A method of a built-in class on a receiver that is not null, which is one of so many operands that go.
+fn run_member(frame: &mut Frame, member: BuiltInMethod, count: usize) -> Conclusion
+    ensures gives { member_row member count frame.old ≡ concluded result frame.new }
+    ensures frame { Untouched (Ok result) frame.old frame.new }
+    ensures activity { frame.new.activity ≡ frame.old.activity }
+{
+    match member {
+        BuiltInMethod::NewObject
+        | BuiltInMethod::NewThrowable
+        | BuiltInMethod::NewThrowableOfText => drop_operands(frame, count),
+        BuiltInMethod::NewEnum
+        | BuiltInMethod::EnumName
+        | BuiltInMethod::EnumOrdinal
+        | BuiltInMethod::CloneArray => Conclusion::Halts(FaultKind::Unsupported),
+        BuiltInMethod::Print(_) | BuiltInMethod::PrintLine(_) | BuiltInMethod::EndLine => {
+            Conclusion::Halts(FaultKind::Fault)
+        }
+    }
+}
+
+/// A method, if there is one, with so many operands as its receiver and arguments.
+fn run_method(
+    alloc: Global,
+    program: &Program,
+    frame: &mut Frame,
+    method: Option<Method>,
+    count: usize,
+) -> Result<Conclusion, Stop>
+    ensures gives { IfOk result (λ conclusion. runs program.now count frame.old method
+        ≡ concluded conclusion frame.new) }
+    ensures memory { IfErr result (λ stop. stop ≡ Stop.Memory) }
+    ensures frame { Untouched result frame.old frame.new }
+    ensures activity { frame.new.activity ≡ frame.old.activity }
+{
+    match method {
+        Some(Method::Given { class, index }) => reached(alloc, program, class, index, frame, count),
+        Some(Method::BuiltIn(member)) => Ok(run_member(frame, member, count)),
+        None => Ok(Conclusion::Halts(FaultKind::Missing)),
+    }
+}
+
+/// The method that a call runs on a receiver which is not null.
+#[tactic(auto, unfolding(crate::specs::Accesses::unless_refused), using(crate::proofs::AccessesLemmas::kept_by_same, crate::proofs::AccessesLemmas::untouched_as))]
+fn run_chosen<S: Store>(
+    alloc: Global,
+    program: &Program,
+    by: Actor,
+    frame: &mut Frame,
+    store: &S,
+    choice: Choice,
+    receiver: Value,
+    count: usize,
+) -> Result<Conclusion, Stop>
+    ensures gives { (p : List Line) → Gives S.stopped (S.run by (S.state store.now p)) (S.run by (S.state store.now p))
+        (runs_chosen program.now choice count frame.old receiver) frame.new result }
+    ensures frame { Untouched result frame.old frame.new }
+    ensures activity { frame.new.activity ≡ frame.old.activity }
+{
+    match choice {
+        Choice::Found(method) => run_method(alloc, program, frame, method, count),
+        Choice::Selected(method) => {
+            let Some(class) = class_of(store, by, receiver)? else {
+                return FAULT;
+            };
+            run_method(alloc, program, frame, program.select(class, method), count)
+        }
+    }
+}
+
+/// Whether a value is what `System.out` holds.
+#[inline(always)]
+pub fn is_out(value: Value) -> bool
+    ensures { result ≡ is_out value }
+{
+    matches!(value, Value::Out)
+}
+
+/// A call on a receiver, which is one of so many operands.
+///
+/// # Errors
+/// The store's reason, or `Stop::Memory`. The frame is as it was, and so is the store; where memory is refused, what
+/// definitions see of it.
+#[tactic(auto, unfolding(crate::specs::Accesses::unless_refused), using(crate::proofs::AccessesLemmas::kept_by_same, crate::proofs::AccessesLemmas::untouched_as))]
+pub fn call_on<S: Store>(
+    alloc: Global,
+    program: &Program,
+    by: Actor,
+    frame: &mut Frame,
+    store: &mut S,
+    call: InstanceCall,
+    receiver: Value,
+    count: usize,
+) -> Result<Conclusion, Stop>
+    ensures gives { (p : List Line) → Gives S.stopped (S.run by (S.state store.old p)) (S.run by (S.state store.new p))
+        (called_on program.now call count frame.old receiver) frame.new result }
+    ensures same { KeptBy S.state result store.old store.new }
+    ensures frame { Untouched result frame.old frame.new }
+    ensures activity { frame.new.activity ≡ frame.old.activity }
+{
+    if is_out(receiver) && !call.names_stream {
+        return FAULT;
+    }
+    if is_null(receiver) {
+        return raise(alloc, by, store, BuiltIn::NullPointerException);
+    }
+    run_chosen(alloc, program, by, frame, store, call.choice, receiver, count)
+}
+
+/// A call of an instance method.
+///
+/// # Errors
+/// The store's reason, or `Stop::Memory`. The frame is as it was, and so is the store; where memory is refused, what
+/// definitions see of it.
+#[tactic(auto, unfolding(crate::specs::Accesses::unless_refused), using(crate::proofs::AccessesLemmas::kept_by_same, crate::proofs::AccessesLemmas::untouched_as))]
+pub fn call_instance<S: Store>(
+    alloc: Global,
+    program: &Program,
+    by: Actor,
+    frame: &mut Frame,
+    store: &mut S,
+    call: InstanceCall,
+) -> Result<Conclusion, Stop>
+    ensures gives { (p : List Line) → Gives S.stopped (S.run by (S.state store.old p)) (S.run by (S.state store.new p))
+        (call_instance program.now call frame.old) frame.new result }
+    ensures same { KeptBy S.state result store.old store.new }
+    ensures frame { Untouched result frame.old frame.new }
+    ensures activity { frame.new.activity ≡ frame.old.activity }
+{
+    let Some(kinds) = parameters(program, call.caller, call.descriptor) else {
+        return FAULT;
+    };
+    let Ok(receiver) = receiver_under(&frame.operands, kinds) else {
+        return FAULT;
+    };
+    call_on(alloc, program, by, frame, store, call, receiver, kinds.len() + 1)
+}
