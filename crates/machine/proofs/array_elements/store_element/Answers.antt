@@ -1,4 +1,4 @@
-use Rattle.std.proofs.Common.{◌≡◌, Err, ap, sym, ◌∙◌, rules}
+use Rattle.std.proofs.Common.{◌≡◌, Err, ap, ◌∙◌, rules}
 use Rattle.vm_state.specs.Operands.{rest}
 use Rattle.vm_state.specs.declared.frame.Frame.{Frame}
 use Rattle.semantics.specs.Moves.{advanced, with_operands}
