@@ -64,7 +64,8 @@ module _ (P : Tables) (known : Names) (own : ℕ → Bool) where
   raised : (class : BuiltIn) → Suits (raises class)
   raised class = (tt, λ x h. (h, tt))
 
-  trapped_suits : {A : Type 0} (r : Result A Trap) (go : A → Row) → ((a : A) → Suits (go a)) → Suits (unless_trapped r go)
+  trapped_suits : {A : Type 0} (r : Result A Trap) (go : A → Row) → ((a : A) → Suits (go a))
+      → Suits (unless_trapped r go)
   trapped_suits (Ok a) go on = on a
   trapped_suits (Err traps.Fault) go on = halted Fault
   trapped_suits (Err (traps.Raise class)) go on = raised class
