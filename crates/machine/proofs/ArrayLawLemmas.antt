@@ -1,6 +1,6 @@
 -- No instruction on arrays makes up a name.
-use Rattle.std.proofs.Common.{◌≡◌, ℕ, ℤ, zero, suc, Bool, true, false, List, [], ◌∷◌, Option, Some, None, Ok, Err}
-use Rattle.std.proofs.Common.{replicate, slice_get, refl}
+use Rattle.std.proofs.Common.{◌≡◌, ℕ, ℤ, zero, suc, Bool, true, false, Ok, Err}
+use Rattle.std.proofs.Common.{replicate}
 use Rattle.std.specs.Prelude.{if◌then◌else◌}
 use Rattle.std.specs.Option.{IfSome}
 use Rattle.std.specs.declared.result.Result.{Result}
@@ -9,34 +9,30 @@ use Rattle.bytecode.specs.declared.operand.PrimitiveKind.{PrimitiveKind}
 use Rattle.bytecode.specs.declared.operand.PrimitiveKind.TheVariants as primitives
 use Rattle.built_in.specs.declared.class_id.ArrayType.{ArrayType}
 use Rattle.built_in.specs.declared.class_id.BuiltIn.{BuiltIn}
-use Rattle.built_in.specs.declared.class_id.BuiltIn.TheVariants.{NullPointerException, ArrayStoreException}
-use Rattle.built_in.specs.declared.class_id.ClassId.{ClassId}
+use Rattle.built_in.specs.declared.class_id.BuiltIn.TheVariants.{ArrayStoreException}
 use Rattle.vm_state.specs.declared.ends.FaultKind.{FaultKind}
 use Rattle.vm_state.specs.declared.ends.FaultKind.TheVariants.{Fault}
 use Rattle.vm_state.specs.declared.value.Value.{Value}
 use Rattle.vm_state.specs.declared.value.Value.TheVariants as values
-use Rattle.vm_state.specs.declared.value.Maker.{Maker}
-use Rattle.vm_state.specs.declared.value.Maker.TheVariants as makers
 use Rattle.vm_state.specs.declared.value.Name.{Name}
 use Rattle.vm_state.specs.declared.frame.Frame.{Frame}
-use Rattle.vm_state.specs.Operands.{OperandStack, pushed, top, top_int, rest}
-use Rattle.vm_state.specs.Values.{int_of, value_by, value_of}
+use Rattle.vm_state.specs.Operands.{OperandStack, top, top_int, rest}
+use Rattle.vm_state.specs.Values.{int_of, value_of}
 use Rattle.semantics.specs.Rows.{Row, Change}
-use Rattle.semantics.specs.Lawful.{Names, Knows, KnowsAll, KnowsFrame, KnowsSlots, Fits}
+use Rattle.semantics.specs.Lawful.{Names, Knows, KnowsAll, KnowsFrame, Fits}
 use Rattle.semantics.specs.Moves.{advanced, with_operands}
-use Rattle.semantics.specs.Programs.{Program}
 use Rattle.program.specs.Tables.{Tables}
 use Rattle.frame_instructions.specs.declared.operand_kind.OperandKind.TheVariants.{Reference}
 use Rattle.frame_instructions.specs.declared.trap.Trap.{Trap}
 use Rattle.frame_instructions.specs.declared.trap.Trap.TheVariants as traps
 use Rattle.frame_instructions.specs.OperandKinds.{top_as}
-use Rattle.frame_instructions.proofs.LawsFrameLemmas.{top_known, rest_known, pushed_known, as_kind_known}
+use Rattle.frame_instructions.proofs.LawsFrameLemmas.{top_known, rest_known, as_kind_known}
 use Rattle.machine.specs.declared.array_operation.ArrayOperation.{ArrayOperation}
 use Rattle.machine.specs.declared.array_operation.ArrayOperation.TheVariants as operations
 use Rattle.machine.specs.Arrays.{type_of_primitives, zero_of, stored_as, unless_trapped, array_type}
 use Rattle.machine.specs.Arrays.{served_type, slot_at, size_of, can_hold, make_array, array_length, at_element}
 use Rattle.machine.specs.Arrays.{load_element, is_checked, if_held, check_store, store_element, array_row}
-use Rattle.machine.specs.ObjectParts.{slot_in, ask_class_of, on_object}
+use Rattle.machine.specs.ObjectParts.{slot_in, ask_class_of}
 use Rattle.machine.specs.RowParts.{halts, needing, goes_on, push, raises}
 use Rattle.machine.specs.StoredKinds.{top_stored}
 use Rattle.machine.proofs.StoredKindsLemmas.{stored_knows}
@@ -68,7 +64,8 @@ module _ (P : Tables) (known : Names) (own : ℕ → Bool) where
   raised : (class : BuiltIn) → Suits (raises class)
   raised class = (tt, λ x h. (h, tt))
 
-  trapped_suits : {A : Type 0} (r : Result A Trap) (go : A → Row) → ((a : A) → Suits (go a)) → Suits (unless_trapped r go)
+  trapped_suits : {A : Type 0} (r : Result A Trap) (go : A → Row) → ((a : A) → Suits (go a))
+      → Suits (unless_trapped r go)
   trapped_suits (Ok a) go on = on a
   trapped_suits (Err traps.Fault) go on = halted Fault
   trapped_suits (Err (traps.Raise class)) go on = raised class

@@ -1,5 +1,5 @@
 -- What the parts of an instruction on arrays lead to.
-use Rattle.std.proofs.Common.{◌≡◌, ℤ, Some, Ok, Err, refl, ap, subst, ◌∙◌}
+use Rattle.std.proofs.Common.{◌≡◌, ℤ, Some, Err, refl, ap, subst, ◌∙◌}
 use Rattle.std.specs.declared.result.Result.{Result}
 use Rattle.built_in.specs.declared.class_id.ArrayType.{ArrayType}
 use Rattle.vm_state.specs.declared.value.Value.{Value}

@@ -1,5 +1,3 @@
-use Rattle.std.proofs.Common.{◌≡◌, refl, sym}
-use Rattle.machine.proofs.AccessesLemmas.{gives_at}
 use Rattle.machine.proofs.ArraysLemmas.{ended_by_trap}
 use Rattle.machine.proofs.abrupt.end_early.Goals as goal
 

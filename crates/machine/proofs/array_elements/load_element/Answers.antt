@@ -1,7 +1,5 @@
 use Rattle.std.proofs.Common.{ap, ◌∙◌}
 use Rattle.vm_state.specs.Operands.{rest}
-use Rattle.vm_state.specs.declared.value.Value.{Value}
-use Rattle.semantics.specs.Rows.{Row}
 use Rattle.semantics.specs.Moves.{with_operands}
 use Rattle.machine.specs.Arrays.{load_element}
 use Rattle.machine.specs.RowParts.{push}

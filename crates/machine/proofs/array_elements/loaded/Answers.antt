@@ -28,11 +28,13 @@ returns-in-Some g c =
     let n = c.in_ok-index.index in
     let fits : to_z w32 (of_z w32 n) ≡ n = search rules in
     λ p go. rw (c.in_ok-index.ensures.ok, c.in_ok-array.ensures.ok)
-    (rw fits at (c.in_ok-element.ensures p (value_of go)) ∙ c.in_ok-value.ensures p (λ o. needing o go) ∙ rw c.in-Some.is refl)
+    (rw fits at (c.in_ok-element.ensures p (value_of go)) ∙ c.in_ok-value.ensures p (λ o. needing o go)
+    ∙ rw c.in-Some.is refl)
 
 pub returns-in-None : goal.returns-in-None
 returns-in-None g c =
     let n = c.in_ok-index.index in
     let fits : to_z w32 (of_z w32 n) ≡ n = search rules in
     λ p go. rw (c.in_ok-index.ensures.ok, c.in_ok-array.ensures.ok)
-    (rw fits at (c.in_ok-element.ensures p (value_of go)) ∙ c.in_ok-value.ensures p (λ o. needing o go) ∙ rw c.in-None.is refl)
+    (rw fits at (c.in_ok-element.ensures p (value_of go)) ∙ c.in_ok-value.ensures p (λ o. needing o go)
+    ∙ rw c.in-None.is refl)

@@ -1,4 +1,4 @@
-use Rattle.std.proofs.Common.{◌≡◌, Err, ap, sym, ◌∙◌, rules}
+use Rattle.std.proofs.Common.{◌≡◌, Err, ap, ◌∙◌, rules}
 use Rattle.vm_state.specs.Operands.{rest}
 use Rattle.vm_state.specs.declared.frame.Frame.{Frame}
 use Rattle.semantics.specs.Moves.{advanced, with_operands}
@@ -11,7 +11,8 @@ use Rattle.machine.proofs.array_elements.store_element.Goals as goal
 pub returns-in-Err-clause-gives : goal.returns-in-Err-clause-gives
 returns-in-Err-clause-gives g c =
     let f = c.args.frame.now in
-    λ p. c.end_early.ensures.gives p (store_element c.args.program.now c.args.kind f) f (c.in-Err.ensures p (changing f))
+    λ p. c.end_early.ensures.gives p (store_element c.args.program.now c.args.kind f) f
+    (c.in-Err.ensures p (changing f))
 
 pub returns-in_err-change-clause-gives : goal.returns-in_err-change-clause-gives
 returns-in_err-change-clause-gives g c =

@@ -10,7 +10,8 @@ returns-in_err-element g c =
     let n = c.in_ok-index.index in
     let fits : to_z w32 (of_z w32 n) ≡ n = search rules in
     let v = c.in_ok-value.value in
-    let value : top_stored (stored_as c.args.kind) c.args.frame.now.operands ≡ Some v = search rules in
+    let value : top_stored (stored_as c.args.kind) c.args.frame.now.operands ≡ Some v =
+    rw c.stored_as.ensures at c.in_ok-value.ensures.ok in
     let same : c.from_residual-in_err-element.result ≡ Err c.in_err-element.field-0.0 = search rules in
     λ p. rw same (λ go. rw (value, c.in_ok-index.ensures.ok, c.in_ok-array.ensures.ok)
     (rw fits at (c.in_err-element.ensures p (assigned c.args.program.now v go))))
@@ -20,7 +21,8 @@ returns-in_err-check_store g c =
     let n = c.in_ok-index.index in
     let fits : to_z w32 (of_z w32 n) ≡ n = search rules in
     let v = c.in_ok-value.value in
-    let value : top_stored (stored_as c.args.kind) c.args.frame.now.operands ≡ Some v = search rules in
+    let value : top_stored (stored_as c.args.kind) c.args.frame.now.operands ≡ Some v =
+    rw c.stored_as.ensures at c.in_ok-value.ensures.ok in
     let abrupt = c.in_err-check_store.field-0.0 in
     let same : c.from_residual-in_err-check_store.result ≡ Err abrupt = search rules in
     λ p. rw same (λ go. rw (value, c.in_ok-index.ensures.ok, c.in_ok-array.ensures.ok)
@@ -33,7 +35,8 @@ returns g c =
     let n = c.in_ok-index.index in
     let fits : to_z w32 (of_z w32 n) ≡ n = search rules in
     let v = c.in_ok-value.value in
-    let value : top_stored (stored_as c.args.kind) c.args.frame.now.operands ≡ Some v = search rules in
+    let value : top_stored (stored_as c.args.kind) c.args.frame.now.operands ≡ Some v =
+    rw c.stored_as.ensures at c.in_ok-value.ensures.ok in
     λ p go. rw (value, c.in_ok-index.ensures.ok, c.in_ok-array.ensures.ok)
     (rw fits at (c.in_ok-element.ensures p (assigned c.args.program.now v go))
     ∙ c.in_ok-check_store.ensures p (go (record { element = c.in_ok-element.element; value = v })))
