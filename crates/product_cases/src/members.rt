@@ -2,6 +2,7 @@
 
 use built_in::class_id::{ArrayType, BuiltIn, ClassId, ElementType};
 use classfile::ClassName;
+use program::runtime_constant::RuntimeConstant;
 use program::{Field, Method, Program, Unresolved};
 use std::alloc::{AllocError, Global};
 
@@ -111,11 +112,40 @@ pub fn selected(
         return no_class(alloc);
     };
     match resolution(alloc, program, index)? {
-        Ok(method) => match program.select(class, method) {
-            Some(method) => method_text(alloc, program, method),
-            None => String::from_str(alloc, "nothing"),
-        },
+        Ok(method) => found_text(alloc, program, program.select(class, method)),
         Err(why) => unresolved_text(alloc, why),
+    }
+}
+
+/// The method that invokespecial runs in a class.
+pub fn special(
+    alloc: Global,
+    program: &Program,
+    class: &str,
+    index: u16,
+) -> Result<String, AllocError> {
+    let Some(class) = number_of(alloc, program, class)? else {
+        return no_class(alloc);
+    };
+    let asking = number_of(alloc, program, "Asking")?;
+    let resolved = resolution(alloc, program, index)?;
+    match (resolved, named_class(program, asking, index)) {
+        (Ok(method), Some(named)) => {
+            let start = program.special_start(class, named, method);
+            found_text(alloc, program, program.special(start, method))
+        }
+        (Ok(_), None) => no_class(alloc),
+        (Err(why), _) => unresolved_text(alloc, why),
+    }
+}
+
+/// The class that a method reference names.
+fn named_class(program: &Program, asking: Option<u32>, index: u16) -> Option<ClassId> {
+    match program.constant(asking?, index) {
+        Some(RuntimeConstant::Method(reference) | RuntimeConstant::InterfaceMethod(reference)) => {
+            reference.class
+        }
+        _ => None,
     }
 }
 
@@ -134,6 +164,17 @@ fn class_id(alloc: Global, program: &Program, name: &str) -> Result<Option<Class
     match number_of(alloc, program, name)? {
         Some(number) => Ok(Some(ClassId::Given(number))),
         None => Ok(None),
+    }
+}
+
+fn found_text(
+    alloc: Global,
+    program: &Program,
+    found: Option<Method>,
+) -> Result<String, AllocError> {
+    match found {
+        Some(method) => method_text(alloc, program, method),
+        None => String::from_str(alloc, "nothing"),
     }
 }
 

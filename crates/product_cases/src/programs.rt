@@ -110,6 +110,7 @@ fn of_classes_alone(
         Verb::Field => members::resolved_field(alloc, program, index),
         Verb::Method => members::resolved_method(alloc, program, index),
         Verb::Select => members::selected(alloc, program, class, index),
+        Verb::Special => members::special(alloc, program, class, index),
         _ => of_tables(alloc, program, question),
     }
 }

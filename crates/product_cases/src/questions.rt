@@ -20,6 +20,8 @@ pub enum Verb {
     Method,
     /// `select CLASS REFERENCE`: which method a call of that method runs on an object of the class.
     Select,
+    /// `special CLASS REFERENCE`: which method invokespecial of that method runs in the class.
+    Special,
     /// `strings`: the strings, by their numbers.
     Strings,
     /// `constant ENTRY`: what an entry of the pool of one more class stands for.
@@ -63,6 +65,10 @@ impl<'a> Question<'a> {
             "select" => {
                 let (class, reference) = about.split_once(' ').unwrap_or((about, ""));
                 asking(alloc, Verb::Select, class, reference)
+            }
+            "special" => {
+                let (class, reference) = about.split_once(' ').unwrap_or((about, ""));
+                asking(alloc, Verb::Special, class, reference)
             }
             _ => Ok(without_reference(word, about)),
         }
