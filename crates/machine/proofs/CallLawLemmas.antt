@@ -31,9 +31,10 @@ use Rattle.machine.specs.declared.call_operation.Choice.TheVariants.{Selected, F
 use Rattle.machine.specs.declared.call_operation.InstanceCall.{InstanceCall}
 use Rattle.machine.specs.declared.call_operation.StaticCall.{StaticCall}
 use Rattle.machine.specs.Initializers.{is_method}
-use Rattle.machine.specs.RowParts.{halts, needing, raises}
+use Rattle.machine.specs.RowParts.{halts, needing, raises, drops}
 use Rattle.machine.specs.Calls.{parameters_at, has_arguments, receiver_under, unless_null, reaches, reached, enter_static}
-use Rattle.machine.specs.Calls.{drops, member_row, runs, runs_chosen, is_out, called_on, call_instance}
+use Rattle.machine.specs.Calls.{runs, runs_chosen, is_out, called_on, call_instance}
+use Rattle.machine.proofs.MemberLawLemmas.{member_suits}
 use Rattle.machine.specs.Printing.{printed_text, ended, print_on}
 use Rattle.machine.specs.Table.{call_row}
 use Rattle.machine.specs.Linked.{program_of}
@@ -95,32 +96,20 @@ module _ (P : Tables) (known : Names) (own : ℕ → Bool) where
         needing_any Suits halted (parameters_at P k.caller k.descriptor) _ (λ kinds is.
         chosen_any Suits halted (has_arguments kinds f.operands) _ (reached_suits k.class k.index (length kinds)))
 
-    member_suits : (m : BuiltInMethod) (count : ℕ) → Suits (member_row m count f)
-    member_suits members.NewObject count = drops_suits count
-    member_suits members.NewThrowable count = drops_suits count
-    member_suits members.NewThrowableOfText count = drops_suits count
-    member_suits members.NewEnum count = halted Unsupported
-    member_suits members.EnumName count = halted Unsupported
-    member_suits members.EnumOrdinal count = halted Unsupported
-    member_suits members.CloneArray count = halted Unsupported
-    member_suits (members.Print what) count = halted Fault
-    member_suits (members.PrintLine what) count = halted Fault
-    member_suits members.EndLine count = halted Fault
-
-    runs_suits : (count : ℕ) (o : Option Method) → Suits (runs P count f o)
-    runs_suits count None = halted Missing
-    runs_suits count (Some (methods.Given c m)) = reached_suits c m count
-    runs_suits count (Some (methods.BuiltIn member)) = member_suits member count
+    runs_suits : (count : ℕ) (v : Value) → Knows known v → (o : Option Method) → Suits (runs P count v f o)
+    runs_suits count v hv None = halted Missing
+    runs_suits count v hv (Some (methods.Given c m)) = reached_suits c m count
+    runs_suits count v hv (Some (methods.BuiltIn member)) = member_suits P known own f h member count v hv
 
     chosen_suits : (choice : Choice) (count : ℕ) (v : Value) → Knows known v → Suits (runs_chosen P choice count f v)
-    chosen_suits (Found m) count v hv = runs_suits count m
+    chosen_suits (Found m) count v hv = runs_suits count v hv m
     chosen_suits (Selected m) count v hv =
         ask_class_suits P known own v selects hv (λ o.
-        needing_any Suits halted o (λ class. runs P count f (selected P.family class m)) (λ class is.
-        runs_suits count (selected P.family class m)))
+        needing_any Suits halted o (λ class. runs P count v f (selected P.family class m)) (λ class is.
+        runs_suits count v hv (selected P.family class m)))
       where
         selects : Option ClassId → Row
-        selects o = needing o (λ class. runs P count f (selected P.family class m))
+        selects o = needing o (λ class. runs P count v f (selected P.family class m))
 
     called_suits : (k : InstanceCall) (count : ℕ) (v : Value) → Knows known v → Suits (called_on P k count f v)
     called_suits k count v hv =

@@ -18,6 +18,8 @@ pub mod ObjectLawLemmas
 pub mod ArgumentsLemmas
 pub mod CallsLemmas
 pub mod InstanceCallsLemmas
+pub mod MembersLemmas
+pub mod MemberLawLemmas
 pub mod CallLawLemmas
 pub mod TableLawLemmas
 pub mod LawsFinalLemmas

@@ -17,8 +17,8 @@ use Rattle.program.specs.Tables.{Tables}
 use Rattle.frame_instructions.specs.declared.operand_kind.OperandKind.TheVariants.{Reference}
 use Rattle.frame_instructions.specs.OperandKinds.{top_as}
 use Rattle.machine.specs.declared.call_operation.InstanceCall.{InstanceCall}
-use Rattle.machine.specs.Calls.{is_out, drops, called_on}
-use Rattle.machine.specs.RowParts.{needing}
+use Rattle.machine.specs.Calls.{is_out, called_on}
+use Rattle.machine.specs.RowParts.{needing, drops}
 
 -- ---- the text of a value
 

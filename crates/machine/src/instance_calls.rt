@@ -1,24 +1,23 @@
 //! Calls of instance methods (JVMS 6.5, invokevirtual, invokeinterface and invokespecial), over any store.
 
-ghost use Rattle.std.specs.Prelude.{◌≡◌, ◌&&◌, not, List, Some, None, Ok, IfOk, IfErr, OnErr};
+ghost use Rattle.std.specs.Prelude.{◌≡◌, ◌&&◌, not, List, Some, None, IfOk, OnErr};
 ghost use Rattle.vm_state.specs.declared.text.Line.{Line};
-ghost use Rattle.machine.specs.Calls.{receiver_under, drops, member_row, runs, runs_chosen, is_out, called_on};
+ghost use Rattle.machine.specs.Calls.{receiver_under, runs, runs_chosen, is_out, called_on};
 ghost use Rattle.machine.specs.Calls.{call_instance};
-ghost use Rattle.machine.specs.Accesses.{Gives, KeptBy, Untouched, concluded};
-ghost use Rattle.machine.specs.declared.kinds.Stop.{Stop};
+ghost use Rattle.machine.specs.Accesses.{Gives, KeptBy, Untouched};
 
 use crate::call_operation::{Choice, InstanceCall};
 use crate::calling::{has_arguments, parameters, reached};
 use crate::kinds::{Actor, Conclusion, Stop};
+use crate::members::run_member;
 use crate::raising::raise;
 use crate::references::class_of;
 use crate::store::Store;
 use built_in::class_id::BuiltIn;
 use frame_instructions::control_transfer::is_null;
-use frame_instructions::numeric::advance;
 use frame_instructions::operand_kind::OperandKind;
 use program::runtime_constant::FieldKind;
-use program::{BuiltInMethod, Method, Program};
+use program::{Method, Program};
 use std::alloc::Global;
 use vm_state::ends::FaultKind;
 use vm_state::frame::Frame;
@@ -41,54 +40,29 @@ fn receiver_under(operands: &Operands, kinds: &[FieldKind]) -> Result<Value, Fau
     OperandKind::Reference.of(operands.below(kinds.len())?)
 }
 
-/// Drops so many operands, and goes on.
-pub fn drop_operands(frame: &mut Frame, count: usize) -> Conclusion
-    ensures gives { drops count frame.old ≡ concluded result frame.new }
-    ensures frame { Untouched (Ok result) frame.old frame.new }
-    ensures activity { frame.new.activity ≡ frame.old.activity }
-{
-    frame.operands.drop_many(count);
-    advance(frame);
-    Conclusion::Stays
-}
-
-/// A method of a built-in class on a receiver that is not null, which is one of so many operands that go.
-fn run_member(frame: &mut Frame, member: BuiltInMethod, count: usize) -> Conclusion
-    ensures gives { member_row member count frame.old ≡ concluded result frame.new }
-    ensures frame { Untouched (Ok result) frame.old frame.new }
-    ensures activity { frame.new.activity ≡ frame.old.activity }
-{
-    match member {
-        BuiltInMethod::NewObject
-        | BuiltInMethod::NewThrowable
-        | BuiltInMethod::NewThrowableOfText => drop_operands(frame, count),
-        BuiltInMethod::NewEnum
-        | BuiltInMethod::EnumName
-        | BuiltInMethod::EnumOrdinal
-        | BuiltInMethod::CloneArray => Conclusion::Halts(FaultKind::Unsupported),
-        BuiltInMethod::Print(_) | BuiltInMethod::PrintLine(_) | BuiltInMethod::EndLine => {
-            Conclusion::Halts(FaultKind::Fault)
-        }
-    }
-}
-
-/// A method, if there is one, with so many operands as its receiver and arguments.
-fn run_method(
+/// A method, if there is one, on a receiver that is not null, with so many operands as its receiver and arguments.
+#[tactic(auto, unfolding(crate::specs::Accesses::unless_refused), using(crate::proofs::AccessesLemmas::kept_by_same, crate::proofs::AccessesLemmas::untouched_as))]
+fn run_method<S: Store>(
     alloc: Global,
     program: &Program,
+    by: Actor,
     frame: &mut Frame,
+    store: &mut S,
     method: Option<Method>,
+    receiver: Value,
     count: usize,
 ) -> Result<Conclusion, Stop>
-    ensures gives { IfOk result (λ conclusion. runs program.now count frame.old method
-        ≡ concluded conclusion frame.new) }
-    ensures memory { IfErr result (λ stop. stop ≡ Stop.Memory) }
+    ensures gives { (p : List Line) → Gives S.stopped (S.run by (S.state store.old p)) (S.run by (S.state store.new p))
+        (runs program.now count receiver frame.old method) frame.new result }
+    ensures same { KeptBy S.state result store.old store.new }
     ensures frame { Untouched result frame.old frame.new }
     ensures activity { frame.new.activity ≡ frame.old.activity }
 {
     match method {
         Some(Method::Given { class, index }) => reached(alloc, program, class, index, frame, count),
-        Some(Method::BuiltIn(member)) => Ok(run_member(frame, member, count)),
+        Some(Method::BuiltIn(member)) => {
+            run_member(alloc, program, by, frame, store, member, receiver, count)
+        }
         None => Ok(Conclusion::Halts(FaultKind::Missing)),
     }
 }
@@ -100,23 +74,27 @@ fn run_chosen<S: Store>(
     program: &Program,
     by: Actor,
     frame: &mut Frame,
-    store: &S,
+    store: &mut S,
     choice: Choice,
     receiver: Value,
     count: usize,
 ) -> Result<Conclusion, Stop>
-    ensures gives { (p : List Line) → Gives S.stopped (S.run by (S.state store.now p)) (S.run by (S.state store.now p))
+    ensures gives { (p : List Line) → Gives S.stopped (S.run by (S.state store.old p)) (S.run by (S.state store.new p))
         (runs_chosen program.now choice count frame.old receiver) frame.new result }
+    ensures same { KeptBy S.state result store.old store.new }
     ensures frame { Untouched result frame.old frame.new }
     ensures activity { frame.new.activity ≡ frame.old.activity }
 {
     match choice {
-        Choice::Found(method) => run_method(alloc, program, frame, method, count),
+        Choice::Found(method) => {
+            run_method(alloc, program, by, frame, store, method, receiver, count)
+        }
         Choice::Selected(method) => {
             let Some(class) = class_of(store, by, receiver)? else {
                 return FAULT;
             };
-            run_method(alloc, program, frame, program.select(class, method), count)
+            let selected = program.select(class, method);
+            run_method(alloc, program, by, frame, store, selected, receiver, count)
         }
     }
 }

@@ -21,6 +21,7 @@ mod instance_calls;
 mod instance_fields;
 pub mod kinds;
 pub mod laws;
+mod members;
 mod object_execution;
 pub mod object_operation;
 mod objects;

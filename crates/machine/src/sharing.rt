@@ -1,10 +1,11 @@
 //! The store of all threads: what they share.
 
-ghost use Rattle.std.specs.Prelude.{◌≡◌, ℕ, List, length, option_map};
+ghost use Rattle.std.specs.Prelude.{◌≡◌, ℕ, List, length, option_map, option_and_then};
 ghost use Rattle.vm_state.specs.declared.text.Line.{Line};
 ghost use Rattle.vm_state.specs.Shares.{shared_of};
 ghost use Rattle.vm_state.specs.SharedState.{SharedState};
-ghost use Rattle.semantics.specs.Rows.{Result as Led, int_length};
+ghost use Rattle.semantics.specs.Rows.{Result as Led, Named, part_of, int_length};
+ghost use Rattle.machine.specs.ObjectParts.{slot_in};
 ghost use Rattle.machine.specs.Sharing.{run_shared, stopped_shared, CanUseShared};
 
 use crate::kinds::{Actor, Stop};
@@ -24,6 +25,18 @@ fn length_of(slots: Option<&[Value]>) -> Option<i32>
     match slots {
         Some(slots) => Some(((slots.len() % 4_294_967_296) as u32).cast_signed()),
         None => None,
+    }
+}
+
+/// One of the first two slots of an object, the name and the ordinal of an `Enum` object, once its name is set.
+fn named_slot(slots: Option<&[Value]>, slot: usize) -> Option<Value>
+    ensures { result ≡ slot_in (option_and_then (part_of Named) (option_map (λ s. s.now) slots.entry)) slot }
+{
+    match slots? {
+        [Value::Null, ..] => None,
+        [name, _, ..] if slot == 0 => Some(*name),
+        [_, ordinal, ..] if slot == 1 => Some(*ordinal),
+        _ => None,
     }
 }
 
@@ -87,6 +100,35 @@ impl Store for Shared {
     #[inline(always)]
     fn length(&self, _by: Actor, object: Name) -> Result<Option<i32>, Stop> {
         Ok(length_of(self.slots(object)))
+    }
+
+    fn named(&self, _by: Actor, object: Name, slot: usize) -> Result<Option<Value>, Stop> {
+        Ok(named_slot(self.slots(object), slot))
+    }
+
+    #[tactic(auto, unfolding(crate::specs::Accesses::unless_refused))]
+    fn copied_slots(
+        &self,
+        alloc: Global,
+        _by: Actor,
+        object: Name,
+    ) -> Result<Option<Slots>, Stop> {
+        match self.slots(object) {
+            Some(slots) => Ok(Some(Slots::of(alloc, slots)?)),
+            None => Ok(None),
+        }
+    }
+
+    fn set_named(
+        &mut self,
+        _by: Actor,
+        object: Name,
+        name: Value,
+        ordinal: Value,
+    ) -> Result<(), Stop> {
+        self.set_slot(object, 0, name);
+        self.set_slot(object, 1, ordinal);
+        Ok(())
     }
 
     #[inline(always)]

@@ -2,9 +2,10 @@
 
 ghost use Rattle.std.specs.Prelude.{◌≡◌, ℕ, true, List, IfOk, IfErr};
 ghost use Rattle.vm_state.specs.declared.text.Line.{Line};
-ghost use Rattle.semantics.specs.Rows.{Row, UseClass, ReadStatic, WriteStatic, AskClass, Change, Make};
+ghost use Rattle.semantics.specs.Rows.{Row, UseClass, ReadStatic, WriteStatic, AskClass, LookInto, Change};
+ghost use Rattle.semantics.specs.Rows.{Make, Slots as AllSlots};
 ghost use Rattle.machine.specs.Accesses.{Kept, Leads, LeadsOn};
-ghost use Rattle.machine.specs.ObjectParts.{look_into_slot, ask_length};
+ghost use Rattle.machine.specs.ObjectParts.{look_into_slot, ask_length, look_into_named, set_named};
 ghost use Rattle.machine.specs.declared.kinds.Actor.{Actor as By};
 ghost use Rattle.machine.specs.declared.kinds.Stop.{Stop as Reason};
 
@@ -93,6 +94,31 @@ pub trait Store {
     fn length(&self, by: Actor, object: Name) -> Result<Option<i32>, Stop>
         ensures { (p : List Line) → Leads stopped (run by (state self.now p)) (run by (state self.now p))
             (ask_length object) result };
+
+    /// The name or the ordinal of an `Enum` object, by its slot, if it is held and its name is set.
+    ///
+    /// # Errors
+    /// The store's reason why it may not be looked into.
+    fn named(&self, by: Actor, object: Name, slot: usize) -> Result<Option<Value>, Stop>
+        ensures { (p : List Line) → Leads stopped (run by (state self.now p)) (run by (state self.now p))
+            (look_into_named object slot) result };
+
+    /// A copy of an object's slots, if it is held.
+    ///
+    /// # Errors
+    /// The store's reason why it may not be looked into; `Memory` where memory is refused.
+    fn copied_slots(&self, alloc: Global, by: Actor, object: Name) -> Result<Option<Slots>, Stop>
+        ensures { (p : List Line) → Leads stopped (run by (state self.now p)) (run by (state self.now p))
+            (LookInto object AllSlots) result };
+
+    /// Sets the name and the ordinal of an `Enum` object. Where it is not held nothing changes; nor where it is stopped.
+    ///
+    /// # Errors
+    /// The store's reason why it may not be changed.
+    fn set_named(&mut self, by: Actor, object: Name, name: Value, ordinal: Value) -> Result<(), Stop>
+        ensures leads { (p : List Line) → LeadsOn stopped (run by (state self.old p)) (run by (state self.new p))
+            (set_named object name ordinal) result }
+        ensures same { IfErr result (λ stop. Kept state stop self.old self.new) };
 
     /// Puts a value into a slot of an object. Where it is not held, or has no such slot, nothing changes; nor where it
     /// is stopped.

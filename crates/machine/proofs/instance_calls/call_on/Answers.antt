@@ -15,7 +15,7 @@ returns-then-is_null-clause-gives g c =
 pub returns-clause-gives : goal.returns-clause-gives
 returns-clause-gives g c =
     λ p. gives_at g.S.Store.stopped (g.S.Store.run c.args.by (g.S.Store.state c.args.store.now p))
-    (g.S.Store.run c.args.by (g.S.Store.state c.args.store.now p)) _ _ c.run_chosen.new.frame c.run_chosen.result
+    (g.S.Store.run c.args.by (g.S.Store.state c.run_chosen.new.store p)) _ _ c.run_chosen.new.frame c.run_chosen.result
     (ap (g.S.Store.run c.args.by (g.S.Store.state c.args.store.now p))
     (chosen_called c.args.program.now c.args.call c.args.frame.now c.args.count c.args.receiver
     (sym c.names_another.ensures ∙ c.if-names_another.false) (sym c.is_null.ensures ∙ c.if-is_null.false)))

@@ -1,0 +1,111 @@
+-- Methods of built-in classes and of arrays make up no name.
+use Rattle.std.proofs.Common.{◌≡◌, ℕ, Bool, true, false, cond, List, Option, Some, None}
+use Rattle.std.specs.Option.{IfSome}
+use Rattle.built_in.specs.declared.class_id.ArrayType.{ArrayType}
+use Rattle.built_in.specs.declared.class_id.BuiltIn.{BuiltIn as BuiltInClass}
+use Rattle.built_in.specs.declared.class_id.BuiltIn.TheVariants.{Enum}
+use Rattle.built_in.specs.declared.class_id.ClassId.{ClassId}
+use Rattle.built_in.specs.declared.class_id.ClassId.TheVariants.{Given, BuiltIn, Array}
+use Rattle.built_in.specs.declared.method.BuiltInMethod.{BuiltInMethod}
+use Rattle.built_in.specs.declared.method.BuiltInMethod.TheVariants as members
+use Rattle.vm_state.specs.declared.ends.FaultKind.{FaultKind}
+use Rattle.vm_state.specs.declared.ends.FaultKind.TheVariants.{Fault}
+use Rattle.vm_state.specs.declared.value.Value.{Value}
+use Rattle.vm_state.specs.declared.value.Name.{Name}
+use Rattle.vm_state.specs.declared.frame.Frame.{Frame}
+use Rattle.vm_state.specs.Operands.{top, rest}
+use Rattle.vm_state.specs.Values.{value_of}
+use Rattle.semantics.specs.Rows.{Row, AskClass}
+use Rattle.semantics.specs.Lawful.{Names, Knows, KnowsAll, KnowsSlots, KnowsFrame, Fits}
+use Rattle.semantics.proofs.FrameMovesLemmas.{name_known}
+use Rattle.program.specs.Tables.{Tables}
+use Rattle.frame_instructions.proofs.LawsFrameLemmas.{top_known, rest_known}
+use Rattle.machine.specs.RowParts.{halts, raises, drops}
+use Rattle.machine.specs.ObjectParts.{slot_in, set_named, look_into_named}
+use Rattle.machine.specs.Objects.{is_of}
+use Rattle.machine.specs.Members.{on_enum, new_enum, replaced, or_slot, enum_part, copy_of, clone_if_array, clone_array}
+use Rattle.machine.specs.Members.{member_row}
+use Rattle.machine.specs.Linked.{program_of}
+use Rattle.machine.proofs.CallsLemmas.{dropped_known}
+use Rattle.machine.proofs.ObjectLawLemmas.{slot_known, on_object_suits, push_on_suits}
+use Rattle.machine.proofs.TableLemmas.{needing_such}
+
+module _ (P : Tables) (known : Names) (own : ℕ → Bool) where
+  abbrev Suits : Row → Type 0
+  Suits r = Fits (program_of P) known own r
+
+  halted : (kind : FaultKind) → Suits (halts kind)
+  halted kind = (tt, tt)
+
+  either : (b : Bool) (r q : Row) → Suits r → Suits q → Suits (cond b r q)
+  either true r q one other = one
+  either false r q one other = other
+
+  on_enum_suits : (v : Value) (go : Name → Row) → Knows known v → ((x : Name) → known x ≡ true → Suits (go x))
+      → Suits (on_enum P v go)
+  on_enum_suits v go hv on = on_object_suits P known own v asked hv asked_suits
+    where
+      asked : Name → Row
+      asked x = AskClass x (λ o. cond (is_of P (BuiltIn Enum) o) (go x) (halts Fault))
+
+      asked_suits : (x : Name) → known x ≡ true → Suits (asked x)
+      asked_suits x hx = (hx, λ o. either (is_of P (BuiltIn Enum) o) (go x) (halts Fault) (on x hx) (halted Fault))
+
+  module _ (f : Frame) (h : KnowsFrame known f) where
+    drops_suits : (count : ℕ) → Suits (drops count f)
+    drops_suits count = ((dropped_known known count f.operands h.0, h.1), tt)
+
+    replaced_suits : (v : Value) → Knows known v → Suits (replaced v f)
+    replaced_suits v hv = push_on_suits P known own f h (rest f.operands) (rest_known known f.operands h.0) v hv
+
+    new_enum_suits : (v : Value) → Knows known v → Suits (new_enum P v f)
+    new_enum_suits v hv =
+        needing_such Suits halted (Knows known) (top f.operands) _ (top_known known f.operands h.0) (λ ordinal ho.
+        needing_such Suits halted (Knows known) (top (rest f.operands)) _
+        (top_known known (rest f.operands) (rest_known known f.operands h.0)) (λ name hn.
+        on_enum_suits v (λ x. set_named x name ordinal (drops 3 f)) hv
+        (λ x hx. (hx, hn, (hx, ho, drops_suits 3)))))
+
+    or_slot_suits : (x : Name) → known x ≡ true → (slot : ℕ) (o : Option Value) → IfSome o (Knows known)
+        → Suits (or_slot x slot f o)
+    or_slot_suits x hx slot None ho = (
+      hx,
+      λ vs hvs. needing_such Suits halted (Knows known) (slot_in vs slot) _ (slot_known known vs slot hvs)
+          replaced_suits,
+    )
+    or_slot_suits x hx slot (Some held) ho = replaced_suits held ho
+
+    enum_part_suits : (slot : ℕ) (v : Value) → Knows known v → Suits (enum_part P slot v f)
+    enum_part_suits slot v hv =
+        on_enum_suits v (λ x. look_into_named x slot (or_slot x slot f)) hv
+        (λ x hx. (hx, λ vs hvs. or_slot_suits x hx slot (slot_in vs slot) (slot_known known vs slot hvs)))
+
+    slots_known : (o : Option (List Value)) → KnowsSlots known o → IfSome o (KnowsAll known)
+    slots_known None ho = tt
+    slots_known (Some vs) ho = ho
+
+    copy_suits : (x : Name) → known x ≡ true → (a : ArrayType) → Suits (copy_of x a f)
+    copy_suits x hx a = (
+      hx,
+      λ vs hvs. needing_such Suits halted (KnowsAll known) vs _ (slots_known vs hvs)
+          (λ slots hs. (hs, λ y hy. replaced_suits (value_of y) (name_known known y hy))),
+    )
+
+    clone_suits : (x : Name) → known x ≡ true → (o : Option ClassId) → Suits (clone_if_array x f o)
+    clone_suits x hx (Some (Array a)) = copy_suits x hx a
+    clone_suits x hx (Some (Given c)) = halted Fault
+    clone_suits x hx (Some (BuiltIn b)) = halted Fault
+    clone_suits x hx None = halted Fault
+
+    pub member_suits : (m : BuiltInMethod) (count : ℕ) (v : Value) → Knows known v → Suits (member_row P m count v f)
+    member_suits members.NewObject count v hv = drops_suits count
+    member_suits members.NewThrowable count v hv = drops_suits count
+    member_suits members.NewThrowableOfText count v hv = drops_suits count
+    member_suits members.NewEnum count v hv = new_enum_suits v hv
+    member_suits members.EnumName count v hv = enum_part_suits 0 v hv
+    member_suits members.EnumOrdinal count v hv = enum_part_suits 1 v hv
+    member_suits members.CloneArray count v hv =
+        on_object_suits P known own v (λ x. AskClass x (clone_if_array x f)) hv (λ x hx. (hx, clone_suits x hx))
+    member_suits (members.Print what) count v hv = halted Fault
+    member_suits (members.PrintLine what) count v hv = halted Fault
+    member_suits members.EndLine count v hv = halted Fault
