@@ -4,8 +4,6 @@ use Rattle.std.proofs.Common.{replicate, length, not, ◌&&◌}
 use Rattle.std.specs.Option.{IfSome}
 use Rattle.built_in.specs.declared.class_id.BuiltIn.{BuiltIn}
 use Rattle.built_in.specs.declared.class_id.ClassId.{ClassId}
-use Rattle.built_in.specs.declared.method.BuiltInMethod.{BuiltInMethod}
-use Rattle.built_in.specs.declared.method.BuiltInMethod.TheVariants as members
 use Rattle.hierarchy.specs.declared.member.Method.{Method}
 use Rattle.hierarchy.specs.declared.member.Method.TheVariants as methods
 use Rattle.hierarchy.specs.Selection.{selected}
@@ -32,8 +30,8 @@ use Rattle.machine.specs.declared.call_operation.InstanceCall.{InstanceCall}
 use Rattle.machine.specs.declared.call_operation.StaticCall.{StaticCall}
 use Rattle.machine.specs.Initializers.{is_method}
 use Rattle.machine.specs.RowParts.{halts, needing, raises, drops}
-use Rattle.machine.specs.Calls.{parameters_at, has_arguments, receiver_under, unless_null, reaches, reached, enter_static}
-use Rattle.machine.specs.Calls.{runs, runs_chosen, is_out, called_on, call_instance}
+use Rattle.machine.specs.Calls.{parameters_at, has_arguments, receiver_under, reaches, reached, enter_static}
+use Rattle.machine.specs.Calls.{runs, runs_chosen, is_out, called_on}
 use Rattle.machine.proofs.MemberLawLemmas.{member_suits}
 use Rattle.machine.specs.Printing.{printed_text, ended, print_on}
 use Rattle.machine.specs.Table.{call_row}

@@ -1,5 +1,5 @@
 -- What calls reach, and what they hand on.
-use Rattle.std.proofs.Common.{◌≡◌, ℕ, zero, suc, ◌+◌, List, [], ◌∷◌, take, Option}
+use Rattle.std.proofs.Common.{ℕ, zero, suc, ◌+◌, List, [], ◌∷◌, take, Option}
 use Rattle.std.proofs.Common.{Some, None, sym, subst, ◌++◌}
 use Rattle.std.specs.Prelude.{option_and_then, reverse}
 use Rattle.std.proofs.lemmas.Grind.{reverse_onto}

@@ -1,5 +1,5 @@
 -- The rows of calls of instance methods, where what they need is there.
-use Rattle.std.proofs.Common.{◌≡◌, ℕ, ◌+◌, Bool, true, false, not, ◌&&◌, List, length, Some, refl}
+use Rattle.std.proofs.Common.{◌≡◌, ℕ, ◌+◌, true, false, not, ◌&&◌, List, length, Some, refl}
 use Rattle.built_in.specs.declared.class_id.BuiltIn.TheVariants.{NullPointerException}
 use Rattle.vm_state.specs.declared.value.Value.{Value}
 use Rattle.vm_state.specs.declared.value.Value.TheVariants as values

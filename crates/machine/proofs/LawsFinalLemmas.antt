@@ -12,18 +12,14 @@ use Rattle.classfile.specs.declared.constant.Constant.{Constant}
 use Rattle.classfile.specs.declared.constant.Constant.TheVariants as constants
 use Rattle.classfile.specs.declared.member.Member.{Member}
 use Rattle.vm_state.specs.declared.ends.FaultKind.{FaultKind}
-use Rattle.vm_state.specs.declared.ends.FaultKind.TheVariants.{Fault, Unsupported}
+use Rattle.vm_state.specs.declared.ends.FaultKind.TheVariants.{Fault}
 use Rattle.built_in.specs.declared.class_id.ClassId.{ClassId}
-use Rattle.built_in.specs.declared.class_id.ClassId.TheVariants as class_ids
 use Rattle.bytecode.specs.declared.instruction.Instruction.{Instruction}
 use Rattle.bytecode.specs.declared.instruction.Instruction.TheVariants as instructions
 use Rattle.semantics.specs.Quiet.{declared_final, is_final}
-use Rattle.built_in.specs.declared.method.BuiltInMethod.{BuiltInMethod}
-use Rattle.built_in.specs.declared.method.BuiltInMethod.TheVariants as members
 use Rattle.program.specs.declared.class.Class.{Class}
 use Rattle.program.specs.declared.class.Implementation.{Implementation}
 use Rattle.program.specs.declared.class.Implementation.TheVariants as implementations
-use Rattle.program.specs.declared.runtime_constant.MethodReference.{MethodReference}
 use Rattle.program.specs.declared.runtime_constant.RuntimeConstant.{RuntimeConstant}
 use Rattle.program.specs.declared.runtime_constant.RuntimeConstant.TheVariants as runtime
 use Rattle.program.specs.declared.runtime_constant.FieldKind.{FieldKind}
@@ -34,8 +30,6 @@ use Rattle.loading.specs.declared.given.GivenClass.{GivenClass}
 use Rattle.hierarchy.specs.declared.member.DeclaredMember.{DeclaredMember}
 use Rattle.hierarchy.specs.declared.member.Field.{Field}
 use Rattle.hierarchy.specs.declared.member.Field.TheVariants as fields
-use Rattle.hierarchy.specs.declared.member.Method.{Method}
-use Rattle.hierarchy.specs.declared.member.Method.TheVariants as methods
 use Rattle.hierarchy.specs.declared.member.Unresolved.{Unresolved}
 use Rattle.hierarchy.specs.declared.member.Unresolved.TheVariants as unresolved
 use Rattle.built_in.specs.Keys.{NameAndType}
@@ -54,9 +48,7 @@ use Rattle.program.specs.FieldTargets.{target_in, targeted}
 use Rattle.program.specs.RuntimePool.{IsRuntimeConstant}
 use Rattle.program.specs.Programs.{static_field, IsProgram}
 use Rattle.program.specs.Tables.{Tables, instruction_at, implementation_at, runtime_pool_of, constant_at, statics_if}
-use Rattle.program.specs.Tables.{statics_in, initializer_in, signature_at}
-use Rattle.program.specs.declared.signature.Signature.{Signature}
-use Rattle.program.specs.CalledMethods.{is_static_method, is_special_method}
+use Rattle.program.specs.Tables.{statics_in, initializer_in}
 use Rattle.frame_instructions.specs.declared.operand_kind.OperandKind.{OperandKind}
 use Rattle.frame_instructions.specs.declared.operand_kind.OperandKind.TheVariants as operands
 use Rattle.frame_instructions.specs.Families.{Local as LocalOperation}

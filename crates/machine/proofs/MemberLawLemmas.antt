@@ -2,7 +2,6 @@
 use Rattle.std.proofs.Common.{◌≡◌, ℕ, Bool, true, false, cond, List, Option, Some, None}
 use Rattle.std.specs.Option.{IfSome}
 use Rattle.built_in.specs.declared.class_id.ArrayType.{ArrayType}
-use Rattle.built_in.specs.declared.class_id.BuiltIn.{BuiltIn as BuiltInClass}
 use Rattle.built_in.specs.declared.class_id.BuiltIn.TheVariants.{Enum}
 use Rattle.built_in.specs.declared.class_id.ClassId.{ClassId}
 use Rattle.built_in.specs.declared.class_id.ClassId.TheVariants.{Given, BuiltIn, Array}
@@ -20,10 +19,10 @@ use Rattle.semantics.specs.Lawful.{Names, Knows, KnowsAll, KnowsSlots, KnowsFram
 use Rattle.semantics.proofs.FrameMovesLemmas.{name_known}
 use Rattle.program.specs.Tables.{Tables}
 use Rattle.frame_instructions.proofs.LawsFrameLemmas.{top_known, rest_known}
-use Rattle.machine.specs.RowParts.{halts, raises, drops}
+use Rattle.machine.specs.RowParts.{halts, drops}
 use Rattle.machine.specs.ObjectParts.{slot_in, set_named, look_into_named}
 use Rattle.machine.specs.Objects.{is_of}
-use Rattle.machine.specs.Members.{on_enum, new_enum, replaced, or_slot, enum_part, copy_of, clone_if_array, clone_array}
+use Rattle.machine.specs.Members.{on_enum, new_enum, replaced, or_slot, enum_part, copy_of, clone_if_array}
 use Rattle.machine.specs.Members.{member_row}
 use Rattle.machine.specs.Linked.{program_of}
 use Rattle.machine.proofs.CallsLemmas.{dropped_known}

@@ -1,5 +1,5 @@
 -- The rows of methods of built-in classes and of arrays, where what they need is there.
-use Rattle.std.proofs.Common.{◌≡◌, ℕ, Bool, true, cond, Option, Some, None, refl}
+use Rattle.std.proofs.Common.{◌≡◌, ℕ, true, cond, Option, Some, None, refl}
 use Rattle.built_in.specs.declared.class_id.ArrayType.{ArrayType}
 use Rattle.built_in.specs.declared.class_id.BuiltIn.TheVariants.{Enum}
 use Rattle.built_in.specs.declared.class_id.ClassId.{ClassId}

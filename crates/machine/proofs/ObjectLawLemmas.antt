@@ -1,5 +1,5 @@
 -- The instructions on objects make up no name, and write none but those that they were given.
-use Rattle.std.proofs.Common.{ℕ, Bool, true, false, List, [], ◌∷◌, Option, Some, None, ◌≡◌, refl, subst, sym, map, cond}
+use Rattle.std.proofs.Common.{ℕ, Bool, true, false, List, [], ◌∷◌, Option, Some, None, ◌≡◌, subst, sym, map, cond}
 use Rattle.std.proofs.Common.{zero, suc, slice_get}
 use Rattle.std.specs.Option.{IfSome}
 use Rattle.std.specs.Prelude.{nat_le}
@@ -16,7 +16,7 @@ use Rattle.built_in.specs.declared.class_id.ClassId.{ClassId}
 use Rattle.built_in.specs.declared.class_id.ClassId.TheVariants.{Given, BuiltIn}
 use Rattle.vm_state.specs.declared.value.Value.TheVariants as values
 use Rattle.semantics.specs.Rows.{Row, Ends, Raise, AskClass, Make, Change}
-use Rattle.semantics.specs.Lawful.{Names, Knows, KnowsName, KnowsAll, KnowsSome, KnowsSlots, KnowsFrame, Fits}
+use Rattle.semantics.specs.Lawful.{Names, Knows, KnowsName, KnowsAll, KnowsSlots, KnowsFrame, Fits}
 use Rattle.semantics.specs.Moves.{advanced, with_operands}
 use Rattle.semantics.proofs.FrameMovesLemmas.{name_known}
 use Rattle.hierarchy.specs.Subtypes.{is_below}
@@ -35,8 +35,8 @@ use Rattle.machine.specs.StoredKinds.{top_stored, extra_places}
 use Rattle.machine.specs.RowParts.{halts, needing, goes_on, push, raises}
 use Rattle.machine.specs.ObjectParts.{slot_in, look_into_slot, on_name, class_of_nameless, ask_class_of, without_object}
 use Rattle.machine.specs.ObjectParts.{on_object}
-use Rattle.machine.specs.Objects.{new_object, is_of, cast_row, check_cast, int_of_boolean, instance_of, throw_of}
-use Rattle.machine.specs.Objects.{throw_row, on_holder, get_field, put_field, object_row}
+use Rattle.machine.specs.Objects.{new_object, is_of, cast_row, int_of_boolean, throw_of}
+use Rattle.machine.specs.Objects.{on_holder, get_field, put_field, object_row}
 use Rattle.machine.specs.Linked.{program_of}
 use Rattle.machine.proofs.StoredKindsLemmas.{stored_knows}
 use Rattle.machine.proofs.LawsStaticLemmas.{plain_zero}

@@ -1,8 +1,7 @@
 -- The rows of instructions on objects, where what they need is there.
-use Rattle.std.proofs.Common.{◌≡◌, ℕ, Bool, true, false, List, Option, Some, None, refl, sym, ap, ◌∙◌, map}
+use Rattle.std.proofs.Common.{◌≡◌, ℕ, Bool, true, false, List, Some, None, refl, sym, ap, ◌∙◌, map}
 use Rattle.std.specs.Prelude.{nat_le}
 use Rattle.vm_state.specs.declared.value.Value.{Value}
-use Rattle.vm_state.specs.declared.value.Name.{Name}
 use Rattle.vm_state.specs.Values.{name_of}
 use Rattle.vm_state.specs.declared.frame.Frame.{Frame}
 use Rattle.vm_state.specs.Operands.{rest}

@@ -1,5 +1,5 @@
 -- The rows of prints, where what they need is there.
-use Rattle.std.proofs.Common.{◌≡◌, Bool, true, List, [], ◌∷◌, ℕ, Some, refl}
+use Rattle.std.proofs.Common.{◌≡◌, Bool, List, [], ◌∷◌, ℕ, Some, refl}
 use Rattle.vm_state.specs.declared.value.Value.{Value}
 use Rattle.vm_state.specs.declared.frame.Frame.{Frame}
 use Rattle.vm_state.specs.Operands.{top, rest}

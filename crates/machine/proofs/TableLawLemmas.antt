@@ -1,27 +1,24 @@
 -- No instruction of the table makes up a name; each writes a final in its own class's initialization method alone, and
 -- makes no frame of such a method.
-use Rattle.std.proofs.Common.{ℕ, zero, suc, [], ◌∷◌, Option, Some, None, Ok, Err, replicate, ◌≡◌, Bool, true, refl, ap}
-use Rattle.std.proofs.Common.{◌∙◌, ◌+◌, length, false, cond}
+use Rattle.std.proofs.Common.{ℕ, Option, Some, None, Ok, Err, ◌≡◌, Bool, true, refl, ap}
+use Rattle.std.proofs.Common.{◌∙◌}
 use Rattle.std.specs.declared.result.Result.{Result}
 use Rattle.std.specs.Result.{IfOk}
 use Rattle.vm_state.specs.declared.value.Value.{Value}
 use Rattle.vm_state.specs.declared.value.Value.TheVariants as values
 use Rattle.built_in.specs.declared.class_id.BuiltIn.{BuiltIn}
 use Rattle.vm_state.specs.declared.ends.FaultKind.{FaultKind}
-use Rattle.vm_state.specs.declared.ends.FaultKind.TheVariants.{Fault, Missing, Unsupported}
+use Rattle.vm_state.specs.declared.ends.FaultKind.TheVariants.{Fault}
 use Rattle.vm_state.specs.declared.frame.Frame.{Frame}
 use Rattle.vm_state.specs.declared.frame.Activity.{Activity}
 use Rattle.vm_state.specs.declared.frame.Activity.TheVariants.{Start, Method}
-use Rattle.vm_state.specs.Operands.{OperandStack, pushed, top, rest, dropped}
-use Rattle.vm_state.specs.Arguments.{taken, passed}
+use Rattle.vm_state.specs.Operands.{OperandStack, pushed, top, rest}
 use Rattle.semantics.specs.Rows.{Row}
 use Rattle.semantics.specs.Lawful.{Names, Knows, KnowsAll, KnowsFrame, OwnsFrame, Fits}
 use Rattle.semantics.specs.Moves.{advanced, with_operands}
 use Rattle.semantics.specs.Quiet.{is_final}
 use Rattle.program.specs.declared.signature.ReturnKind.TheVariants as returns
-use Rattle.program.specs.declared.class.Implementation.{Implementation}
-use Rattle.program.specs.declared.class.Implementation.TheVariants as implementations
-use Rattle.program.specs.Tables.{Tables, implementation_at, initializer_in, main_in}
+use Rattle.program.specs.Tables.{Tables, implementation_at, main_in}
 use Rattle.frame_instructions.specs.declared.trap.Trap.{Trap}
 use Rattle.frame_instructions.specs.declared.trap.Trap.TheVariants as traps
 use Rattle.frame_instructions.specs.Families.{local_after}
@@ -34,13 +31,10 @@ use Rattle.machine.specs.StoredKinds.{top_stored}
 use Rattle.machine.proofs.StoredKindsLemmas.{stored_knows}
 use Rattle.machine.specs.RowParts.{halts, goes_on, push, raises}
 use Rattle.machine.specs.Table.{local_row, operation_row, call_main}
-use Rattle.machine.specs.Printing.{printed_text, ended}
-use Rattle.frame_instructions.specs.declared.operand_kind.OperandKind.TheVariants.{Reference}
-use Rattle.frame_instructions.specs.OperandKinds.{top_as}
 use Rattle.machine.specs.Table.{fetched, active_row, row}
 use Rattle.machine.specs.Linked.{initialized_by, program_of}
 use Rattle.machine.specs.Laws.{AreSound}
-use Rattle.machine.proofs.TableLemmas.{of_some, needing_any, needing_such, if_usable_any, HoldsOfCall}
+use Rattle.machine.proofs.TableLemmas.{of_some, needing_such, if_usable_any, HoldsOfCall}
 use Rattle.machine.proofs.TableLemmas.{called_any}
 use Rattle.machine.proofs.ArrayLawLemmas.{array_suits}
 use Rattle.machine.proofs.LinkedLemmas.{found_class_has, class_is_found}

@@ -1,4 +1,4 @@
-use Rattle.std.proofs.Common.{sym, subst}
+use Rattle.std.proofs.Common.{subst}
 use Rattle.hierarchy.specs.declared.member.Method.{Method}
 use Rattle.std.proofs.Common.{Option}
 use Rattle.machine.specs.Accesses.{Gives}
