@@ -109,8 +109,8 @@ found_if test family x (Some key) = found_from test family key x
 
 -- ---- for an object of a class (invokevirtual, invokeinterface)
 
--- What a call of a resolved method runs on an object of a class: a private one itself, and any other one by its name and
--- descriptor (`Selects` as a function).
+-- What a call of a resolved method runs on an object of a class: a private one itself, and any other one by its name
+-- and descriptor (`Selects` as a function).
 unfoldable pub selected : Family → ClassId → Method → Option Method
 selected family x (method.Given c k) =
     if is_private (flags_in family c k) then Some (method.Given c k)

@@ -129,7 +129,9 @@ module _ (P : Tables) (known : Names) (own : ℕ → Bool) where
         under = top_as Reference (dropped (length kinds) f.operands)
 
         by : (b : Bool) → IfSome (cond b under None) (Knows known)
-        by true = reference_known (dropped (length kinds) f.operands) (dropped_known known (length kinds) f.operands h.0)
+        by true =
+            reference_known (dropped (length kinds) f.operands)
+            (dropped_known known (length kinds) f.operands h.0)
         by false = tt
 
     pub call_suits : (o : CallOperation) → Suits (call_row P o f)

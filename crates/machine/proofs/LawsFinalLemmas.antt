@@ -184,9 +184,12 @@ module _ (w : FieldKind) (c k : ℕ) where
     put_resolved (instructions.LoadWideConstant index) e = absurd (no_long (constant_at P d index) e)
     put_resolved (instructions.GetStatic index) e = absurd (no_getstatic (constant_at P d index) e)
     put_resolved (instructions.PutStatic index) e = (index, put_constant (constant_at P d index) e)
-    put_resolved (instructions.InvokeVirtual index) e = absurd (no_call (invokevirtual_of P d (constant_at P d index)) e)
-    put_resolved (instructions.InvokeInterface index) e = absurd (no_call (invokeinterface_of P d (constant_at P d index)) e)
-    put_resolved (instructions.InvokeSpecial index) e = absurd (no_call (invokespecial_of P d (constant_at P d index)) e)
+    put_resolved (instructions.InvokeVirtual index) e =
+        absurd (no_call (invokevirtual_of P d (constant_at P d index)) e)
+    put_resolved (instructions.InvokeInterface index) e =
+        absurd (no_call (invokeinterface_of P d (constant_at P d index)) e)
+    put_resolved (instructions.InvokeSpecial index) e =
+        absurd (no_call (invokespecial_of P d (constant_at P d index)) e)
     put_resolved (instructions.InvokeStatic index) e = absurd (no_call (invokestatic_of P d (constant_at P d index)) e)
     put_resolved instructions.Return e = absurd (no_return None (implementation_at P d m) e)
     put_resolved instructions.ReturnInt e = absurd (no_return (Some operands.Int) (implementation_at P d m) e)

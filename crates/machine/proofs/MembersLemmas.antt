@@ -51,7 +51,8 @@ module _ {A : Type 0} (run : Row → A) where
       let led : run (AskClass x (clone_if_array x f)) ≡ run (copy_of x a f) = rw is at (asked (clone_if_array x f)) in
       rw named led
 
-  pub selected_asked : (P : Tables) (m : Method) (count : ℕ) (f : Frame) (v : Value) (o : Option ClassId) (class : ClassId)
+  pub selected_asked : (P : Tables) (m : Method) (count : ℕ) (f : Frame) (v : Value) (o : Option ClassId)
+      (class : ClassId)
       → ((next : Option ClassId → Row) → run (ask_class_of v next) ≡ run (next o)) → o ≡ Some class
       → run (runs_chosen P (Selected m) count f v) ≡ run (runs P count v f (selected P.family class m))
   selected_asked P m count f v o class asked is =

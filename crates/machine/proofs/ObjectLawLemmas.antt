@@ -48,7 +48,8 @@ zeros_known known [] = tt
 zeros_known known (k ∷ ks) = (subst (KnowsName known) (sym (plain_zero k)) tt, zeros_known known ks)
 
 -- a slot of those that are seen
-pub slot_known : (known : Names) (o : Option (List Value)) (i : ℕ) → KnowsSlots known o → IfSome (slot_in o i) (Knows known)
+pub slot_known : (known : Names) (o : Option (List Value)) (i : ℕ) → KnowsSlots known o
+    → IfSome (slot_in o i) (Knows known)
 slot_known known None i h = tt
 slot_known known (Some vs) i h = at vs i h
   where
@@ -127,7 +128,8 @@ module _ (P : Tables) (known : Names) (own : ℕ → Bool) where
 
     throw_suits : (x : Name) → known x ≡ true → (o : Option ClassId) → Suits (throw_of P x o)
     throw_suits x hx None = halted Fault
-    throw_suits x hx (Some c) = either (is_below P.family c (BuiltIn Throwable)) (Ends (Raise x c)) _ (hx, tt) (halted Fault)
+    throw_suits x hx (Some c) =
+        either (is_below P.family c (BuiltIn Throwable)) (Ends (Raise x c)) _ (hx, tt) (halted Fault)
 
     holder_suits : (field : InstanceField) (v : Value) (go : Name → Row) → Knows known v
         → ((x : Name) → known x ≡ true → Suits (go x)) → Suits (on_holder P field v go)
@@ -140,7 +142,8 @@ module _ (P : Tables) (known : Names) (own : ℕ → Bool) where
 
     get_suits : (field : InstanceField) → Suits (get_field P field f)
     get_suits field =
-        needing_such Suits halted (Knows known) (top_as Reference f.operands) _ (reference_known f.operands h.0) (λ v hv.
+        needing_such Suits halted (Knows known) (top_as Reference f.operands) _ (reference_known f.operands h.0)
+        (λ v hv.
         either (nat_le (extra_places field.kind) f.operands.free) _ _ (holder_suits field v got hv got_suits)
         (halted Fault))
       where
@@ -172,18 +175,21 @@ module _ (P : Tables) (known : Names) (own : ℕ → Bool) where
         (new_suits (Given c) (map zero_of (slots_of P.family c)) (zeros_known known (slots_of P.family c)))
     object_suits (objects.NewBuiltIn b) = new_suits (BuiltIn b) [] tt
     object_suits (objects.CheckCast class) =
-        needing_such Suits halted (Knows known) (top_as Reference f.operands) _ (reference_known f.operands h.0) (λ v hv.
+        needing_such Suits halted (Knows known) (top_as Reference f.operands) _ (reference_known f.operands h.0)
+        (λ v hv.
         either (is_null v) (goes_on (advanced f)) _ ((h.0, h.1), tt)
         (ask_class_suits v (λ o. cast_row f (is_of P class o)) hv (λ o.
         either (is_of P class o) (goes_on (advanced f)) (raises ClassCastException) ((h.0, h.1), tt)
         (raised ClassCastException))))
     object_suits (objects.InstanceOf class) =
-        needing_such Suits halted (Knows known) (top_as Reference f.operands) _ (reference_known f.operands h.0) (λ v hv.
+        needing_such Suits halted (Knows known) (top_as Reference f.operands) _ (reference_known f.operands h.0)
+        (λ v hv.
         ask_class_suits v (λ o. push (int_of_boolean (is_of P class o)) (with_operands f (rest f.operands))) hv (λ o.
         push_on_suits (rest f.operands) one_less (int_of_boolean (is_of P class o))
         (int_known (is_of P class o))))
     object_suits objects.Throw =
-        needing_such Suits halted (Knows known) (top_as Reference f.operands) _ (reference_known f.operands h.0) (λ v hv.
+        needing_such Suits halted (Knows known) (top_as Reference f.operands) _ (reference_known f.operands h.0)
+        (λ v hv.
         on_object_suits v (λ x. AskClass x (throw_of P x)) hv (λ x hx. (hx, throw_suits x hx)))
     object_suits (objects.GetField field) = get_suits field
     object_suits (objects.PutField field) = put_suits field

@@ -26,7 +26,8 @@ pub length_asked : (by : Actor) (sh : SharedState) (x : Name) (o : Option (List 
     → slots_at (pool_of sh x.maker) x.number ≡ o → run_shared by sh (ask_length x next)
     ≡ run_shared by sh (next (option_map (λ (vs : List Value). int_length (length vs)) o))
 length_asked by sh x o next is =
-    ap (λ (s : Option (List Value)). run_shared by sh (next (int_of (slot_in (option_and_then (part_of Length) s) 0)))) is
+    ap (λ (s : Option (List Value)). run_shared by sh (next (int_of (slot_in (option_and_then (part_of Length) s)
+    0)))) is
     ∙ read o
   where
     read : (s : Option (List Value)) →

@@ -29,7 +29,8 @@ thrown_nameless P f v at none = rw (at, none) refl
 
 -- getfield and putfield of what is no object
 pub got_nameless : (P : Tables) (field : InstanceField) (f : Frame) (v : Value) → top_as Reference f.operands ≡ Some v
-    → nat_le (extra_places field.kind) f.operands.free ≡ true → name_of v ≡ None → get_field P field f ≡ without_object v
+    → nat_le (extra_places field.kind) f.operands.free ≡ true → name_of v ≡ None
+    → get_field P field f ≡ without_object v
 got_nameless P field f v at room none = rw (at, room, none) refl
 
 pub put_nameless : (P : Tables) (field : InstanceField) (f : Frame) (held v : Value)

@@ -64,8 +64,8 @@ clone_array v f = on_object v (λ x. AskClass x (clone_if_array x f))
 
 -- ---- all of them
 
--- The receiver is the lowest of so many operands. The initialization methods of Object and of the throwables do nothing,
--- and drop a text. A print is an operation of its own on System.out, and a fault on anything else.
+-- The receiver is the lowest of so many operands. The initialization methods of Object and of the throwables do
+-- nothing, and drop a text. A print is an operation of its own on System.out, and a fault on anything else.
 abbrev pub member_row : Tables → BuiltInMethod → ℕ → Value → Frame → Row
 member_row P members.NewObject count v f = drops count f
 member_row P members.NewThrowable count v f = drops count f

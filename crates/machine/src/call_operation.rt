@@ -219,7 +219,9 @@ fn instance_operation(method: Option<Method>, call: InstanceCall) -> CallOperati
     ensures { result ≡ instance_operation method call }
 {
     match method {
-        Some(Method::BuiltIn(BuiltInMethod::Print(what))) => CallOperation::Print(what, false, call),
+        Some(Method::BuiltIn(BuiltInMethod::Print(what))) => CallOperation::Print(
+            what, false, call,
+        ),
         Some(Method::BuiltIn(BuiltInMethod::PrintLine(what))) => {
             CallOperation::Print(what, true, call)
         }
@@ -318,7 +320,10 @@ fn special_callee(
                 return Err(FaultKind::Fault);
             }
             let found = found_special(program, caller, method, reference.class);
-            Ok(instance_operation(found, instance_call(caller, reference, Choice::Found(found))))
+            Ok(instance_operation(
+                found,
+                instance_call(caller, reference, Choice::Found(found)),
+            ))
         }
         Err(Unresolved::Missing) => Err(FaultKind::Missing),
         Err(Unresolved::NoReference) | Err(Unresolved::Incompatible) => Err(FaultKind::Fault),

@@ -142,7 +142,16 @@ pub fn call_on<S: Store>(
     if is_null(receiver) {
         return raise(alloc, by, store, BuiltIn::NullPointerException);
     }
-    run_chosen(alloc, program, by, frame, store, call.choice, receiver, count)
+    run_chosen(
+        alloc,
+        program,
+        by,
+        frame,
+        store,
+        call.choice,
+        receiver,
+        count,
+    )
 }
 
 /// A call of an instance method.
@@ -171,5 +180,14 @@ pub fn call_instance<S: Store>(
     let Ok(receiver) = receiver_under(&frame.operands, kinds) else {
         return FAULT;
     };
-    call_on(alloc, program, by, frame, store, call, receiver, kinds.len() + 1)
+    call_on(
+        alloc,
+        program,
+        by,
+        frame,
+        store,
+        call,
+        receiver,
+        kinds.len() + 1,
+    )
 }

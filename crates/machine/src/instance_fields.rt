@@ -50,7 +50,11 @@ pub fn get_field<S: Store>(
     let Some(object) = name_of(holder) else {
         return without_object(alloc, by, store, holder);
     };
-    if !is_of(program, ClassId::Given(field.class), store.class_of(by, object)?) {
+    if !is_of(
+        program,
+        ClassId::Given(field.class),
+        store.class_of(by, object)?,
+    ) {
         return FAULT;
     }
     let Some(value) = store.slot(by, object, field.slot as usize)? else {
@@ -92,7 +96,11 @@ pub fn put_field<S: Store>(
     let Some(object) = name_of(holder) else {
         return without_object(alloc, by, store, holder);
     };
-    if !is_of(program, ClassId::Given(field.class), store.class_of(by, object)?) {
+    if !is_of(
+        program,
+        ClassId::Given(field.class),
+        store.class_of(by, object)?,
+    ) {
         return FAULT;
     }
     store.change(by, object, field.slot as usize, value)?;

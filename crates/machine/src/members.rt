@@ -70,7 +70,11 @@ fn new_enum<S: Store>(
     let Some(object) = name_of(receiver) else {
         return without_object(alloc, by, store, receiver);
     };
-    if !is_of(program, ClassId::BuiltIn(BuiltIn::Enum), store.class_of(by, object)?) {
+    if !is_of(
+        program,
+        ClassId::BuiltIn(BuiltIn::Enum),
+        store.class_of(by, object)?,
+    ) {
         return FAULT;
     }
     store.set_named(by, object, name, ordinal)?;
@@ -120,7 +124,11 @@ fn enum_part<S: Store>(
     let Some(object) = name_of(receiver) else {
         return without_object(alloc, by, store, receiver);
     };
-    if !is_of(program, ClassId::BuiltIn(BuiltIn::Enum), store.class_of(by, object)?) {
+    if !is_of(
+        program,
+        ClassId::BuiltIn(BuiltIn::Enum),
+        store.class_of(by, object)?,
+    ) {
         return FAULT;
     }
     read_part(by, frame, store, object, slot)

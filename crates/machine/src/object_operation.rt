@@ -67,7 +67,9 @@ fn new_class(program: &Program, class: ClassId) -> Result<ObjectOperation, Fault
     ensures { result ≡ new_class program.now class }
 {
     match class {
-        ClassId::Given(number) if program.is_instantiable(number) => Ok(ObjectOperation::NewGiven(number)),
+        ClassId::Given(number) if program.is_instantiable(number) => Ok(ObjectOperation::NewGiven(
+            number,
+        )),
         ClassId::BuiltIn(class) => new_built_in(class),
         ClassId::Given(_) | ClassId::Array(_) => Err(FaultKind::Fault),
     }

@@ -69,7 +69,14 @@ pub fn new_built_in<S: Store>(
     ensures frame { Untouched result frame.old frame.new }
     ensures activity { frame.new.activity ≡ frame.old.activity }
 {
-    new_object(alloc, by, frame, store, ClassId::BuiltIn(class), Slots::none(alloc))
+    new_object(
+        alloc,
+        by,
+        frame,
+        store,
+        ClassId::BuiltIn(class),
+        Slots::none(alloc),
+    )
 }
 
 /// `new` of a given class.
@@ -96,7 +103,14 @@ pub fn new_given<S: Store>(
         return raise(alloc, by, store, BuiltIn::NoClassDefFoundError);
     }
     let slots = program.zero_slots(alloc, class)?;
-    new_object(alloc, by, frame, store, ClassId::Given(class), Slots::of_vec(slots))
+    new_object(
+        alloc,
+        by,
+        frame,
+        store,
+        ClassId::Given(class),
+        Slots::of_vec(slots),
+    )
 }
 
 /// Whether an object of this class is of another one.

@@ -8,11 +8,11 @@ ghost use Rattle.machine.specs.Operations.{returns_so, return_of, on_object, ane
 ghost use Rattle.machine.specs.Operations.{array_operation, resolved_operation};
 
 use crate::array_operation::ArrayOperation;
-use crate::object_operation::{
-    ObjectOperation, check_cast_of, get_field_of, instance_of_of, new_of, put_field_of,
-};
 use crate::call_operation::{
     CallOperation, invokeinterface_of, invokespecial_of, invokestatic_of, invokevirtual_of,
+};
+use crate::object_operation::{
+    ObjectOperation, check_cast_of, get_field_of, instance_of_of, new_of, put_field_of,
 };
 use crate::stored_kind::operand_kind;
 use bytecode::Instruction;

@@ -107,12 +107,7 @@ impl Store for Shared {
     }
 
     #[tactic(auto, unfolding(crate::specs::Accesses::unless_refused))]
-    fn copied_slots(
-        &self,
-        alloc: Global,
-        _by: Actor,
-        object: Name,
-    ) -> Result<Option<Slots>, Stop> {
+    fn copied_slots(&self, alloc: Global, _by: Actor, object: Name) -> Result<Option<Slots>, Stop> {
         match self.slots(object) {
             Some(slots) => Ok(Some(Slots::of(alloc, slots)?)),
             None => Ok(None),

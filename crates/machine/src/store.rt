@@ -111,11 +111,18 @@ pub trait Store {
         ensures { (p : List Line) → Leads stopped (run by (state self.now p)) (run by (state self.now p))
             (LookInto object AllSlots) result };
 
-    /// Sets the name and the ordinal of an `Enum` object. Where it is not held nothing changes; nor where it is stopped.
+    /// Sets the name and the ordinal of an `Enum` object. Where it is not held nothing changes; nor where it is
+    /// stopped.
     ///
     /// # Errors
     /// The store's reason why it may not be changed.
-    fn set_named(&mut self, by: Actor, object: Name, name: Value, ordinal: Value) -> Result<(), Stop>
+    fn set_named(
+        &mut self,
+        by: Actor,
+        object: Name,
+        name: Value,
+        ordinal: Value,
+    ) -> Result<(), Stop>
         ensures leads { (p : List Line) → LeadsOn stopped (run by (state self.old p)) (run by (state self.new p))
             (set_named object name ordinal) result }
         ensures same { IfErr result (λ stop. Kept state stop self.old self.new) };

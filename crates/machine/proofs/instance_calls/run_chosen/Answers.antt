@@ -14,11 +14,13 @@ pub returns-in-Some-clause-gives : goal.returns-in-Some-clause-gives
 returns-in-Some-clause-gives g c =
     λ p. rw c.in-Selected.is
     (gives_at g.S.Store.stopped (g.S.Store.run c.args.by (g.S.Store.state c.args.store.now p))
-    (g.S.Store.run c.args.by (g.S.Store.state c.run_method-in-Selected.new.store p)) _ _ c.run_method-in-Selected.new.frame c.run_method-in-Selected.result
+    (g.S.Store.run c.args.by (g.S.Store.state c.run_method-in-Selected.new.store p)) _ _
+    c.run_method-in-Selected.new.frame c.run_method-in-Selected.result
     (selected_asked (g.S.Store.run c.args.by (g.S.Store.state c.args.store.now p)) c.args.program.now
     c.in-Selected.method c.args.count c.args.frame.now c.args.receiver c.in_ok-class-in-Selected.field-0 c.in-Some.class
     (c.in_ok-class-in-Selected.ensures p) c.in-Some.is)
-    (subst (λ (o : Option Method). Gives g.S.Store.stopped (g.S.Store.run c.args.by (g.S.Store.state c.args.store.now p))
+    (subst (λ (o : Option Method). Gives g.S.Store.stopped (g.S.Store.run c.args.by (g.S.Store.state
+    c.args.store.now p))
     (g.S.Store.run c.args.by (g.S.Store.state c.run_method-in-Selected.new.store p))
     (runs c.args.program.now c.args.count c.args.receiver c.args.frame.now o) c.run_method-in-Selected.new.frame
     c.run_method-in-Selected.result)

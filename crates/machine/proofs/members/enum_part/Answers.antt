@@ -9,7 +9,8 @@ returns-in_default-clause-gives g c =
     (g.S.Store.run c.args.by (g.S.Store.state c.without_object.new.store p)) _ _ c.args.frame.now
     c.without_object.result
     (ap (g.S.Store.run c.args.by (g.S.Store.state c.args.store.now p))
-    (enum_part_nameless c.args.program.now c.args.slot c.args.receiver c.args.frame.now (sym c.name_of.ensures ∙ c.in_default.is)))
+    (enum_part_nameless c.args.program.now c.args.slot c.args.receiver c.args.frame.now (sym c.name_of.ensures ∙
+    c.in_default.is)))
     (c.without_object.ensures.gives p c.args.frame.now)
 
 pub returns-clause-gives : goal.returns-clause-gives

@@ -22,7 +22,8 @@ returns-clause-gives g c =
     (given_made (g.S.Store.run c.args.by (g.S.Store.state c.args.store.now p)) c.args.program.now
     c.args.class c.args.frame.now c.in_ok-slots.slots.items c.in_ok-use_class.field-0
     (c.in_ok-use_class.ensures.leads p) c.if-not-branch.false c.in_ok-slots.ensures)
-    (subst (λ (slots : List Value). Gives g.S.Store.stopped (g.S.Store.run c.args.by (g.S.Store.state c.args.store.now p))
+    (subst (λ (slots : List Value). Gives g.S.Store.stopped (g.S.Store.run c.args.by (g.S.Store.state
+    c.args.store.now p))
     (g.S.Store.run c.args.by (g.S.Store.state c.new_object.new.store p))
     (new_object (Given c.args.class) slots c.args.frame.now) c.new_object.new.frame c.new_object.result)
     c.of_vec.ensures (c.new_object.ensures.gives p))
