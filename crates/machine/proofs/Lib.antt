@@ -17,6 +17,7 @@ pub mod LawsStaticLemmas
 pub mod ObjectLawLemmas
 pub mod ArgumentsLemmas
 pub mod CallsLemmas
+pub mod InstanceCallsLemmas
 pub mod CallLawLemmas
 pub mod TableLawLemmas
 pub mod LawsFinalLemmas

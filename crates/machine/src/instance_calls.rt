@@ -1,6 +1,6 @@
 //! Calls of instance methods (JVMS 6.5, invokevirtual, invokeinterface and invokespecial), over any store.
 
-ghost use Rattle.std.specs.Prelude.{◌≡◌, List, Some, None, Ok, IfOk, IfErr, OnErr};
+ghost use Rattle.std.specs.Prelude.{◌≡◌, ◌&&◌, not, List, Some, None, Ok, IfOk, IfErr, OnErr};
 ghost use Rattle.vm_state.specs.declared.text.Line.{Line};
 ghost use Rattle.machine.specs.Calls.{receiver_under, drops, member_row, runs, runs_chosen, is_out, called_on};
 ghost use Rattle.machine.specs.Calls.{call_instance};
@@ -129,6 +129,13 @@ pub fn is_out(value: Value) -> bool
     matches!(value, Value::Out)
 }
 
+/// Whether a call on `System.out` names another class than its own.
+fn names_another(call: InstanceCall, receiver: Value) -> bool
+    ensures { result ≡ (is_out receiver && not call.names_stream) }
+{
+    is_out(receiver) && !call.names_stream
+}
+
 /// A call on a receiver, which is one of so many operands.
 ///
 /// # Errors
@@ -151,7 +158,7 @@ pub fn call_on<S: Store>(
     ensures frame { Untouched result frame.old frame.new }
     ensures activity { frame.new.activity ≡ frame.old.activity }
 {
-    if is_out(receiver) && !call.names_stream {
+    if names_another(call, receiver) {
         return FAULT;
     }
     if is_null(receiver) {
