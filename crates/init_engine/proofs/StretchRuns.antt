@@ -18,9 +18,9 @@ use Rattle.semantics.specs.Steps.{Thread as DefinedThread, Going as IsGoingOn, A
 use Rattle.semantics.specs.Worlds.{World, Run, step_of, put_thread}
 use Rattle.program.specs.Tables.{Tables}
 use Rattle.machine.specs.Linked.{program_of}
-use Rattle.machine.specs.Stretches.{Here, at, here, goes, stretch}
-use Rattle.machine.proofs.StretchRowLemmas.{row_goes}
-use Rattle.machine.proofs.StretchesLemmas.{some_of, goes_kept}
+use Rattle.machine.specs.Stretches.{Here, here}
+use Rattle.machine.specs.Table.{row}
+use Rattle.machine.specs.Walks.{Leaves, Walk}
 use Rattle.init_engine.specs.declared.world.Thread.{Thread}
 use Rattle.init_engine.specs.declared.world.Thread.TheVariants.{Going, Ended}
 use Rattle.init_engine.specs.Numbering.{AreNumbered}
@@ -36,14 +36,14 @@ kept f g = record f { place = g.place; locals = g.locals; operands = g.operands 
 moved_frame : (f g : Frame) → g.activity ≡ f.activity → kept f g ≡ g
 moved_frame f g same = ap (λ (a : Activity). record g { activity = a }) (sym same)
 
-thread_goes : (P : Tables) (t : ℕ) (sh : SharedState) (f : Frame) (m : Here) (fs : List Frame) (ls : List Level) →
-    goes P t (at f sh) ≡ Some m →
-    step_thread (program_of P) t sh (IsGoingOn (f ∷ fs) ls)
+thread_goes : (P : Tables) (t : ℕ) (h m : Here) (fs : List Frame) (ls : List Level) →
+    Leaves t (maker_of t ls) (row P h.frame) h m →
+    step_thread (program_of P) t h.shared (IsGoingOn (h.frame ∷ fs) ls)
     ≡ Some (record { shared = m.shared; thread = IsGoingOn (m.frame ∷ fs) ls })
 unfolding step_thread
-thread_goes P t sh f m fs ls h =
-    ap (instructed (program_of P) sh t (f ∷ fs) ls) (row_goes t (maker_of t ls) P f sh m h)
-    ∙ ap (λ (g : Frame). Some (left g)) (moved_frame f m.frame (goes_kept P t (at f sh) m h))
+thread_goes P t h m fs ls (leads, same) =
+    ap (instructed (program_of P) h.shared t (h.frame ∷ fs) ls) leads
+    ∙ ap (λ (g : Frame). Some (left g)) (moved_frame h.frame m.frame same)
   where
     left : Frame → After
     left g = record { shared = m.shared; thread = IsGoingOn (g ∷ fs) ls }
@@ -70,23 +70,19 @@ set_same (x ∷ xs) zero a h = let e : x ≡ a = cc in ap (λ y. y ∷ xs) e
 set_same (x ∷ xs) (suc i) a h = ap (λ r. x ∷ r) (set_same xs i a h)
 
 module _ (P : Tables) (t : ℕ) (fs : List Frame) (ls : List Level) where
-  runs_here : (n : ℕ) (sh : SharedState) (threads : List DefinedThread) (f : Frame) (r : Here) →
-      slice_get threads t ≡ Some (IsGoingOn (f ∷ fs) ls) → stretch P t n (at f sh) ≡ Some r →
-      Run (program_of P) (world_by sh threads) (replicate n t)
+  runs_here : (n : ℕ) (threads : List DefinedThread) (h r : Here) →
+      slice_get threads t ≡ Some (IsGoingOn (h.frame ∷ fs) ls) → Walk P t (maker_of t ls) n h r →
+      Run (program_of P) (world_by h.shared threads) (replicate n t)
       (world_by r.shared (slice_set threads t (IsGoingOn (r.frame ∷ fs) ls)))
-  runs_here zero sh threads f r stands run =
-      let same : at f sh ≡ r = cc in
-      ap (world_by sh) (set_same threads t (IsGoingOn (f ∷ fs) ls) stands)
-      ∙ ap (λ (h : Here). world_by h.shared (slice_set threads t (IsGoingOn (h.frame ∷ fs) ls))) same
-  runs_here (suc n) sh threads f r stands run =
-      let first = some_of (goes P t (at f sh)) (stretch P t n) r run in
-      let m = first.0 in
+  runs_here zero threads h r stands same =
+      ap (world_by h.shared) (set_same threads t (IsGoingOn (h.frame ∷ fs) ls) stands)
+      ∙ ap (λ (x : Here). world_by x.shared (slice_set threads t (IsGoingOn (x.frame ∷ fs) ls))) (sym same)
+  runs_here (suc n) threads h r stands (m, leads, more) =
       let middle = IsGoingOn (m.frame ∷ fs) ls in
       let there = slice_set threads t middle in
-      let stepped = ap (step_of (program_of P) (world_by sh threads) t) stands
-      ∙ ap (put_thread (world_by sh threads) t) (thread_goes P t sh f m fs ls first.1) in
-      let rest = runs_here n m.shared there m.frame r (get_set threads t (IsGoingOn (f ∷ fs) ls) middle stands)
-      first.2 in (
+      let stepped = ap (step_of (program_of P) (world_by h.shared threads) t) stands
+      ∙ ap (put_thread (world_by h.shared threads) t) (thread_goes P t h m fs ls leads) in
+      let rest = runs_here n there m r (get_set threads t (IsGoingOn (h.frame ∷ fs) ls) middle stands) more in (
         world_by m.shared there,
         stepped,
         subst (λ (ts : List DefinedThread). Run (program_of P) (world_by m.shared there) (replicate n t)
@@ -113,17 +109,18 @@ module _ (P : Tables) (n : ℕ) (threads : List Thread) (before after : SharedTa
       ∙ ap (λ (s : SharedTables). world_with (slice_set threads t old) s printed) (sym same))
 
   frame_runs : (s : Frames) (f g : Frame) (fs : List Frame) → slice_get threads t ≡ Some (Going (stack_with s f fs)) →
-      stretch P t n (here f before printed) ≡ Some (here g after printed) → RunsTo (Going (stack_with s g fs))
+      Walk P t (maker_of t (levels_of s)) n (here f before printed) (here g after printed)
+      → RunsTo (Going (stack_with s g fs))
   frame_runs s f g fs stands run =
       let left : Thread = Going (stack_with s g fs) in
       let stood = thread_at threads t (Going (stack_with s f fs)) stands in
-      let whole = runs_here P t fs (levels_of s) n (shared_of before printed) _ f (here g after printed) stood run in
+      let whole = runs_here P t fs (levels_of s) n _ (here f before printed) (here g after printed) stood run in
       subst (λ (ts : List DefinedThread). Run (program_of P) (world_with threads before printed) (replicate n t)
       (world_by (shared_of after printed) ts))
       (sym (map-set thread_of threads t left)) whole
 
   top_runs : (s r : Frames) (old new : Option Segment) → s.segment ≡ old → r.segment ≡ new →
-      AfterStretch P t n old before new after → r ≡ record s { segment = r.segment } →
+      AfterStretch P t (maker_of t (levels_of s)) n old before new after → r ≡ record s { segment = r.segment } →
       slice_get threads t ≡ Some (Going s) → RunsTo (Going r)
   top_runs s r None new was is (none, left, kept) rest stands =
       let same : s ≡ r = ap (λ (x : Option Segment). record s { segment = x }) (was ∙ (sym left ∙ sym is)) ∙ sym rest in
@@ -147,7 +144,8 @@ module _ (P : Tables) (n : ℕ) (threads : List Thread) (before after : SharedTa
   thread_runs (Going s) (Going r) stands numbered (run, rest) =
       let number : s.thread ≡ t = numbered t (Going s) stands in
       top_runs s r s.segment r.segment refl refl
-      (subst (λ k. AfterStretch P k n s.segment before r.segment after) number run) rest stands
+      (subst (λ k. AfterStretch P k (maker_of k (levels_of s)) n s.segment before r.segment after) number run) rest
+      stands
 
   pub world_runs : (old new : Thread) → t < length threads → old ≡ get_or threads t old → AreNumbered threads →
       RunsHere P n old before new after → RunsTo new

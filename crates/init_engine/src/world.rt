@@ -15,6 +15,7 @@ ghost use Rattle.init_engine.specs.Threads.{thread_of, seen_of, HasNumber};
 ghost use Rattle.init_engine.specs.Turns.{IsTurn, world_of};
 
 use crate::procedure::{Progress, step_thread};
+use machine::effects::actor_of;
 use machine::step_table::StepTable;
 use machine::stretch::run_frame;
 use program::Program;
@@ -282,11 +283,12 @@ fn run_top(
     ensures run { TopRuns program.now result frames.old shared.old frames.new shared.new }
     ensures most { result ≤ most }
 {
+    let by = actor_of(frames);
     let Some(segment) = frames.segment.take() else {
         return 0;
     };
     let Segment { innermost, callers } = segment;
-    let (innermost, count) = run_frame(program, table, frames.thread, innermost, shared, most);
+    let (innermost, count) = run_frame(program, table, by, innermost, shared, most);
     frames.segment = Some(Segment { innermost, callers });
     count
 }

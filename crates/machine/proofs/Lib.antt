@@ -5,6 +5,8 @@ pub mod ObjectsLemmas
 pub mod AccessesLemmas
 pub mod StretchesLemmas
 pub mod StretchRowLemmas
+pub mod WalksLemmas
+pub mod ObjectStepsLemmas
 pub mod StretchLocalLemmas
 pub mod HandlersLemmas
 pub mod LinkedLemmas

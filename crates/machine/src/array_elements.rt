@@ -31,7 +31,16 @@ pub struct Assignment {
 }
 
 /// What an instruction loads.
-fn loaded<S: Store>(by: Actor, frame: &Frame, store: &S, kind: ElementKind) -> Result<Value, Abrupt>
+///
+/// # Errors
+/// What ends the instruction.
+#[inline(always)]
+pub fn loaded<S: Store>(
+    by: Actor,
+    frame: &Frame,
+    store: &S,
+    kind: ElementKind,
+) -> Result<Value, Abrupt>
     ensures { (p : List Line) → Reaches S.stopped (S.run by (S.state store.now p)) (reach_loaded kind frame.now)
         result }
 {
@@ -99,7 +108,11 @@ fn check_store<S: Store>(
 }
 
 /// What an instruction stores, and where.
-fn stored<S: Store>(
+///
+/// # Errors
+/// What ends the instruction.
+#[inline(always)]
+pub fn stored<S: Store>(
     program: &Program,
     by: Actor,
     frame: &Frame,

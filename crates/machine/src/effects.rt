@@ -34,7 +34,18 @@ use vm_state::initialization::Frames;
 use vm_state::shared::Shared;
 use vm_state::value::{Fault, Maker, Name, Value};
 
-/// Who counts the objects that a thread makes: the class of its highest initialization, or the thread.
+/// Who executes the instructions of a thread. Its objects are counted by the class of its highest initialization, or by
+/// the thread.
+pub fn actor_of(frames: &Frames) -> Actor
+    ensures thread { result.thread ≡ frames.now.thread }
+    ensures maker { result.maker ≡ maker_of frames.now.thread (levels_of frames.now) }
+{
+    Actor {
+        thread: frames.thread,
+        maker: maker_of(frames),
+    }
+}
+
 fn maker_of(frames: &Frames) -> Maker
     ensures { result ≡ maker_of frames.now.thread (levels_of frames.now) }
 {
@@ -252,10 +263,7 @@ pub fn effect(
     ensures stays { IfOk result (λ e. (Stays e frames.old frames.new) × (Stays e shared.old shared.new)) }
     ensures err { OnErr result ((frames.new ≡ frames.old) × (SharesTheSame shared.old shared.new)) }
 {
-    let by = Actor {
-        thread: frames.thread,
-        maker: maker_of(frames),
-    };
+    let by = actor_of(frames);
     let Some(segment) = frames.segment.take() else {
         unreachable!()
     };

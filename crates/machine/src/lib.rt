@@ -24,6 +24,7 @@ pub mod laws;
 mod members;
 mod object_execution;
 pub mod object_operation;
+pub mod object_steps;
 mod objects;
 mod printing;
 mod pushing;
