@@ -2,7 +2,7 @@
 use Rattle.std.proofs.Common.{◌≡◌, ◌≢◌, ℕ, zero, suc, Some, None, replicate, ◌+◌, ◌-◌, ◌<◌, ◌≤◌, ◌⊎◌, inl, inr, List}
 use Rattle.std.proofs.Common.{[], ◌∷◌, ◌++◌, length, refl, sym, ap, subst, ◌∙◌, arith, append_assoc, append-nil}
 use Rattle.std.proofs.Common.{length-append}
-use Rattle.std.proofs.lemmas.List.{length-replicate}
+use Rattle.std.proofs.lemmas.List.{length-replicate, replicate-append-replicate}
 use Rattle.semantics.specs.Programs.{Program}
 use Rattle.semantics.specs.Worlds.{World, Run, step}
 use Rattle.semantics.proofs.RunsLemmas.{runs_join_lem, run_more}
@@ -212,3 +212,16 @@ pub one_stretch : (P : Program) (count most done : ℕ) (w now : World) (before 
     IsStretch P count w most done now before after
 one_stretch P count most done w now before after one run recorded bounded =
     record { run = run; recorded = recorded; bounded = bounded; alone = inr one }
+
+-- ---- the only thread, run ahead
+
+-- a run of so many of the most left goes on for some
+pub run_further : (P : Program) (most left count : ℕ) (first now next : World) → left ≤ most → count ≤ left →
+    Run P first (replicate (most - left) 0) now → Run P now (replicate count 0) next →
+    Run P first (replicate (most - (left - count)) 0) next
+run_further P most left count first now next within few before more =
+    let counted : most - left + count ≡ most - (left - count) = omega (arith, within, few) in
+    let joined : replicate (most - left) 0 ++ replicate count 0 ≡ replicate (most - (left - count)) 0 =
+    replicate-append-replicate (most - left) count 0 ∙ ap (λ k. replicate k 0) counted in
+    subst (λ (s : List ℕ). Run P first s next) joined
+    (runs_join_lem P first now next (replicate (most - left) 0) (replicate count 0) before more)

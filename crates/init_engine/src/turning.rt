@@ -1,6 +1,6 @@
 //! Turns: in each round threads 0, 1, .. take one step each if they have one.
 
-ghost use Rattle.std.specs.Prelude.{◌≡◌, ◌+◌, ◌<◌, ◌≤◌, ◌^◌, [], length, IfOk, OnOk};
+ghost use Rattle.std.specs.Prelude.{◌≡◌, ◌+◌, ◌<◌, ◌≤◌, ◌^◌, [], length, replicate, IfOk, OnOk};
 ghost use Rattle.semantics.specs.Worlds.{Run};
 ghost use Rattle.machine.specs.Linked.{program_of};
 ghost use Rattle.machine.specs.steps.StepTables.{KeepsSteps};
@@ -84,8 +84,40 @@ fn fetch(
     }
 }
 
-/// Where there is one thread: instructions after each of which its innermost frame goes on, each a round of one step.
-/// It answers how many there were.
+/// Runs the only thread ahead: instructions after each of which its innermost frame goes on, and then one step, as
+/// long as it has one and there were fewer than so many. It answers how many there were.
+fn run_alone(
+    alloc: Global,
+    program: &Program,
+    world: &mut World,
+    table: &mut StepTable,
+    most: u64,
+) -> Result<u64, AllocError>
+    requires alone { length world.old.threads ≡ 1 }
+    requires steps { KeepsSteps program.now table.old }
+    ensures steps { OnOk result (KeepsSteps program.now table.new) }
+    ensures run { IfOk result (λ done. Run (program_of program.now) (world_of world.old) (replicate done 0)
+        (world_of world.new)) }
+    ensures most { IfOk result (λ done. done ≤ most) }
+    ensures threads { length world.new.threads ≡ length world.old.threads }
+{
+    let mut left = most;
+    'ahead: loop {
+        fetch(alloc, program, world, table)?;
+        left -= world.run_stretch(program, table, 0, left);
+        if left == 0 {
+            break;
+        }
+        match world.step(alloc, program, 0)? {
+            Turn::Moved => left -= 1,
+            Turn::Waiting => break,
+            Turn::Ended => break,
+        }
+    }
+    Ok(most - left)
+}
+
+/// Where there is one thread: its steps, each a round. It answers how many there were.
 fn stretch(
     alloc: Global,
     program: &Program,
@@ -104,8 +136,7 @@ fn stretch(
     if world.thread_count() != 1 {
         return Ok(0);
     }
-    fetch(alloc, program, world, table)?;
-    let done = world.run_stretch(program, table, 0, most);
+    let done = run_alone(alloc, program, world, table, most)?;
     if done > 0 {
         schedule.add(0, done)?;
     }
