@@ -41,7 +41,7 @@ fn receiver_under(operands: &Operands, kinds: &[FieldKind]) -> Result<Value, Fau
 }
 
 /// A method, if there is one, on a receiver that is not null, with so many operands as its receiver and arguments.
-#[tactic(auto, unfolding(crate::specs::Accesses::unless_refused), using(crate::proofs::AccessesLemmas::kept_by_same, crate::proofs::AccessesLemmas::untouched_as))]
+#[tactic(auto, unfolding(crate::specs::Accesses::unless_refused), using(crate::proofs::AccessesLemmas::kept_by_same))]
 fn run_method<S: Store>(
     alloc: Global,
     program: &Program,
@@ -68,7 +68,7 @@ fn run_method<S: Store>(
 }
 
 /// The method that a call runs on a receiver which is not null.
-#[tactic(auto, unfolding(crate::specs::Accesses::unless_refused), using(crate::proofs::AccessesLemmas::kept_by_same, crate::proofs::AccessesLemmas::untouched_as))]
+#[tactic(auto, using(crate::proofs::AccessesLemmas::kept_by_same, crate::proofs::AccessesLemmas::untouched_as))]
 fn run_chosen<S: Store>(
     alloc: Global,
     program: &Program,
@@ -119,7 +119,7 @@ fn names_another(call: InstanceCall, receiver: Value) -> bool
 /// # Errors
 /// The store's reason, or `Stop::Memory`. The frame is as it was, and so is the store; where memory is refused, what
 /// definitions see of it.
-#[tactic(auto, unfolding(crate::specs::Accesses::unless_refused), using(crate::proofs::AccessesLemmas::kept_by_same, crate::proofs::AccessesLemmas::untouched_as))]
+#[tactic(auto, using(crate::proofs::AccessesLemmas::kept_by_same, crate::proofs::AccessesLemmas::untouched_as))]
 pub fn call_on<S: Store>(
     alloc: Global,
     program: &Program,
@@ -159,7 +159,7 @@ pub fn call_on<S: Store>(
 /// # Errors
 /// The store's reason, or `Stop::Memory`. The frame is as it was, and so is the store; where memory is refused, what
 /// definitions see of it.
-#[tactic(auto, unfolding(crate::specs::Accesses::unless_refused), using(crate::proofs::AccessesLemmas::kept_by_same, crate::proofs::AccessesLemmas::untouched_as))]
+#[tactic(auto, using(crate::proofs::AccessesLemmas::kept_by_same, crate::proofs::AccessesLemmas::untouched_as))]
 pub fn call_instance<S: Store>(
     alloc: Global,
     program: &Program,

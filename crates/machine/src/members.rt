@@ -46,7 +46,7 @@ fn replace(frame: &mut Frame, value: Value) -> Conclusion
 }
 
 /// `Enum(String, int)`, on a receiver.
-#[tactic(auto, unfolding(crate::specs::Accesses::unless_refused), using(crate::proofs::AccessesLemmas::kept_by_same, crate::proofs::AccessesLemmas::untouched_as))]
+#[tactic(auto, using(crate::proofs::AccessesLemmas::kept_by_same, crate::proofs::AccessesLemmas::untouched_as))]
 fn new_enum<S: Store>(
     alloc: Global,
     program: &Program,
@@ -82,7 +82,7 @@ fn new_enum<S: Store>(
 }
 
 /// `Enum.name()` and `Enum.ordinal()`, on an object of an enum, by their slots.
-#[tactic(auto, unfolding(crate::specs::Accesses::unless_refused), using(crate::proofs::AccessesLemmas::kept_by_same, crate::proofs::AccessesLemmas::untouched_as))]
+#[tactic(auto, using(crate::proofs::AccessesLemmas::kept_by_same, crate::proofs::AccessesLemmas::untouched_as))]
 fn read_part<S: Store>(
     by: Actor,
     frame: &mut Frame,
@@ -105,7 +105,7 @@ fn read_part<S: Store>(
 }
 
 /// `Enum.name()` and `Enum.ordinal()`, on a receiver, by their slots.
-#[tactic(auto, unfolding(crate::specs::Accesses::unless_refused), using(crate::proofs::AccessesLemmas::kept_by_same, crate::proofs::AccessesLemmas::untouched_as))]
+#[tactic(auto, using(crate::proofs::AccessesLemmas::kept_by_same, crate::proofs::AccessesLemmas::untouched_as))]
 fn enum_part<S: Store>(
     alloc: Global,
     program: &Program,
@@ -135,7 +135,7 @@ fn enum_part<S: Store>(
 }
 
 /// A new array with the same components as an array, in the place of the operand on top.
-#[tactic(auto, unfolding(crate::specs::Accesses::unless_refused), using(crate::proofs::AccessesLemmas::kept_by_same, crate::proofs::AccessesLemmas::untouched_as))]
+#[tactic(auto, using(crate::proofs::AccessesLemmas::kept_by_same, crate::proofs::AccessesLemmas::untouched_as))]
 fn copy_array<S: Store>(
     alloc: Global,
     by: Actor,
@@ -158,7 +158,7 @@ fn copy_array<S: Store>(
 }
 
 /// `clone()` of an array, on a receiver.
-#[tactic(auto, unfolding(crate::specs::Accesses::unless_refused), using(crate::proofs::AccessesLemmas::kept_by_same, crate::proofs::AccessesLemmas::untouched_as))]
+#[tactic(auto, using(crate::proofs::AccessesLemmas::kept_by_same, crate::proofs::AccessesLemmas::untouched_as))]
 fn clone_array<S: Store>(
     alloc: Global,
     by: Actor,
@@ -186,7 +186,7 @@ fn clone_array<S: Store>(
 /// # Errors
 /// The store's reason, or `Stop::Memory`. The frame is as it was, and so is the store; where memory is refused, what
 /// definitions see of it.
-#[tactic(auto, unfolding(crate::specs::Accesses::unless_refused), using(crate::proofs::AccessesLemmas::kept_by_same, crate::proofs::AccessesLemmas::untouched_as))]
+#[tactic(auto, using(crate::proofs::AccessesLemmas::kept_by_same, crate::proofs::AccessesLemmas::untouched_as))]
 pub fn run_member<S: Store>(
     alloc: Global,
     program: &Program,

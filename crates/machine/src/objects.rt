@@ -84,7 +84,7 @@ pub fn new_built_in<S: Store>(
 /// # Errors
 /// The store's reason. The frame is as it was, and so is the store; where memory is refused, what definitions see of
 /// it.
-#[tactic(auto, unfolding(crate::specs::Accesses::unless_refused), using(crate::proofs::AccessesLemmas::kept_by_same, crate::proofs::AccessesLemmas::untouched_as))]
+#[tactic(auto, unfolding(crate::specs::Accesses::unless_refused), using(crate::proofs::AccessesLemmas::kept_by_same))]
 pub fn new_given<S: Store>(
     alloc: Global,
     program: &Program,

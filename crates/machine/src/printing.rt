@@ -82,7 +82,7 @@ fn ended(line: bool, text: Text) -> Result<Text, AllocError>
 }
 
 /// Prints a text on a receiver, or calls the method that another receiver has, with so many operands.
-#[tactic(auto, unfolding(crate::specs::Accesses::unless_refused), using(crate::proofs::AccessesLemmas::kept_by_same, crate::proofs::AccessesLemmas::untouched_as))]
+#[tactic(auto, using(crate::proofs::AccessesLemmas::kept_by_same, crate::proofs::AccessesLemmas::untouched_as))]
 fn print_on<S: Store>(
     alloc: Global,
     program: &Program,
