@@ -6,6 +6,8 @@ pub mod FamiliesChainLemmas
 pub mod SearchLemmas
 pub mod MemberLookupLemmas
 pub mod AboveLemmas
+pub mod ForemostLemmas
+pub mod SettledLemmas
 pub mod MarkLemmas
 pub mod MarkedLemmas
 pub mod DefaultsLemmas

@@ -16,4 +16,5 @@ pub mod NearestMembers
 pub mod WholeHierarchies
 pub mod Marked
 pub mod Ancestors
+pub mod Foremosts
 pub mod Specials
