@@ -13,7 +13,7 @@ use Rattle.loading.specs.Families.{Family, IsAncestor, parents_in}
 use Rattle.hierarchy.specs.MemberLookup.{is_abstract, flags_in}
 use Rattle.hierarchy.specs.Search.{Search}
 use Rattle.hierarchy.specs.steps.Above.{IsAmongOrAbove}
-use Rattle.hierarchy.specs.steps.Foremosts.{foremost_before, joined, member_of, Tells, IsForemost, IsOwn, AreFilled}
+use Rattle.hierarchy.specs.steps.Foremosts.{foremost_before, joined, member_of, Tells, IsForemost, IsOwn, AreFilled, AreNoted}
 use Rattle.hierarchy.specs.steps.Foremosts.{entry_of, AreSteps, class_of_step}
 use Rattle.hierarchy.specs.declared.parents_first.Step.{Step}
 use Rattle.hierarchy.specs.declared.foremost.Foremost.{Foremost}
@@ -335,3 +335,79 @@ module _ (family : Family) (steps : List Step) (parents : List ℕ) (are : AreSt
   pub all_done : (i c : ℕ) → length steps ≤ i → c < length family → Contains (map class_of_step (take i steps)) c
   all_done i c past small =
       subst (λ (l : List Step). Contains (map class_of_step l) c) (sym (take_all i steps past)) (are.order.whole c small)
+
+-- ---- the classes that declare it
+
+module _ (family : Family) (own : ℕ → Option ℕ) where
+  pub noted_start : (entries : List (Option Foremost)) → ((c : ℕ) → entry_of entries c ≡ None)
+      → AreNoted family own [] entries
+  noted_start entries empty = record {
+    there = λ c k among has. absurd (none_in_empty c among);
+    only = λ c f at. absurd (let clash : None ≡ Some f = sym (empty c) ∙ at in cc);
+  }
+
+  module _ (asked : List ℕ) (entries : List (Option Foremost)) (class : ℕ) (are : AreNoted family own asked entries)
+      where
+    pub noted_lacking : own class ≡ None → AreNoted family own (asked ++ class ∷ []) entries
+    noted_lacking lacks = record {
+      there = λ c k among has. elim (Contains-push_cases asked class c among) [
+        | inl before ↦ are.there c k before has
+        | inr last ↦ absurd (let clash : None ≡ Some k = sym lacks ∙ ap own last ∙ has in cc)
+      ];
+      only = are.only;
+    }
+
+    module _ (k : ℕ) (f : Foremost) (within : class < length entries) (has : own class ≡ Some k)
+        (is : IsOwn family class k (Some f)) where
+      noted_here : entry_of (set entries class (Some f)) class ≡ Some f
+      noted_here = get_or-set_same entries class (Some f) None within
+
+      noted_other : (c : ℕ) → c ≢ class → entry_of (set entries class (Some f)) c ≡ entry_of entries c
+      noted_other c other = get_or-set_other entries class c (Some f) None other
+
+      here_or_not : (c : ℕ) → (c ≡ class) ⊎ (c ≢ class)
+      here_or_not c = by (eqb c class) refl
+        where
+          by : (b : Bool) → eqb c class ≡ b → (c ≡ class) ⊎ (c ≢ class)
+          by true e = inl (eqb-true c class e)
+          by false e = inr (λ (same : c ≡ class). (let clash : true ≡ false = sym (eq-eqb c class same) ∙ e in cc))
+
+      own_here : (c j : ℕ) → c ≡ class → own c ≡ Some j → IsOwn family c j (Some f)
+      own_here c j same holds =
+          let places : Some k ≡ Some j = sym has ∙ ap own (sym same) ∙ holds in
+          let place : k ≡ j = cc in
+          subst (λ (n : ℕ). IsOwn family c n (Some f)) place
+          (subst (λ (n : ℕ). IsOwn family n k (Some f)) (sym same) is)
+
+      pub noted_one : AreNoted family own (asked ++ class ∷ []) (set entries class (Some f))
+      noted_one = record {
+        there = λ c j among holds. elim (here_or_not c) [
+          | inl same ↦
+              subst (IsOwn family c j)
+              (sym (ap (λ (n : ℕ). entry_of (set entries class (Some f)) n) same ∙ noted_here))
+              (own_here c j same holds)
+          | inr other ↦ elim (Contains-push_cases asked class c among) [
+            | inl before ↦ subst (IsOwn family c j) (sym (noted_other c other)) (are.there c j before holds)
+            | inr last ↦ absurd (other (sym last))
+          ]
+        ];
+        only = λ c g at. elim (here_or_not c) [
+          | inl same ↦
+              let equal : Some f ≡ Some g =
+              sym noted_here ∙ ap (λ (n : ℕ). entry_of (set entries class (Some f)) n) (sym same) ∙ at in
+              let holds : own c ≡ Some k = ap own same ∙ has in
+              (k, holds, subst (IsOwn family c k) equal (own_here c k same holds))
+          | inr other ↦ are.only c g (sym (noted_other c other) ∙ at)
+        ];
+      }
+
+  pub noted_whole : (asked : List ℕ) (entries : List (Option Foremost))
+      → ((c k : ℕ) → own c ≡ Some k → Contains asked c)
+      → AreNoted family own asked entries → AreFilled family own [] entries
+  noted_whole asked entries whole are = record {
+    declared = λ c k has. are.there c k (whole c k has) has;
+    others = λ c f lacks at same.
+        let known = are.only c f at in
+        (let clash : None ≡ Some known.0 = sym lacks ∙ known.1 in cc);
+    found = λ c among. absurd (none_in_empty c among);
+  }

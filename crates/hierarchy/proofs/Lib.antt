@@ -8,6 +8,7 @@ pub mod MemberLookupLemmas
 pub mod AboveLemmas
 pub mod ForemostLemmas
 pub mod SettledLemmas
+pub mod FoundAheadLemmas
 pub mod MarkLemmas
 pub mod MarkedLemmas
 pub mod DefaultsLemmas

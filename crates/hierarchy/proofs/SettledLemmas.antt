@@ -1,6 +1,6 @@
 -- What the foremost member settles of superinterface methods (JVMS 5.4.3.3).
 use Rattle.std.proofs.Common.{◌≡◌, ℕ, ◌⊎◌, Bool, true, false, [], ◌∷◌, Option, Some, None, sym, ap, ◌∙◌, subst, inl, inr}
-use Rattle.std.proofs.Common.{refl}
+use Rattle.std.proofs.Common.{refl, not}
 use Rattle.built_in.specs.Keys.{NameAndType}
 use Rattle.loading.specs.Families.{Family, IsFamily, IsAncestor}
 use Rattle.hierarchy.specs.MemberLookup.{interface_method_in, is_abstract, flags_in, IsTheDefault, HasNoDefault}
@@ -10,6 +10,10 @@ use Rattle.hierarchy.specs.steps.Foremosts.{IsForemost}
 use Rattle.hierarchy.specs.declared.foremost.Foremost.{Foremost}
 use Rattle.hierarchy.proofs.AboveLemmas.{ancestor_through}
 use Rattle.hierarchy.proofs.ForemostLemmas.{among_one, above_one}
+
+pub off_by : (b : Bool) → not b ≡ true → b ≡ false
+off_by false e = refl
+off_by true e = absurd cc
 
 module _ (family : Family) (fits : IsFamily family) (name : NameAndType) (c : ℕ)
     (lacks : interface_method_in family name c ≡ None) where

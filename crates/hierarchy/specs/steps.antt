@@ -17,4 +17,5 @@ pub mod WholeHierarchies
 pub mod Marked
 pub mod Ancestors
 pub mod Foremosts
+pub mod FoundAhead
 pub mod Specials

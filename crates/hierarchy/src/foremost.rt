@@ -1,7 +1,7 @@
 //! The first member that a search finds, with what is known of the others (JVMS 5.4.3.2 to 5.4.3.4).
 
 ghost use Rattle.std.specs.Prelude.{◌≡◌};
-ghost use Rattle.hierarchy.specs.steps.Foremosts.{foremost_before, joined};
+ghost use Rattle.hierarchy.specs.steps.Foremosts.{foremost_before, joined, member_of};
 
 use crate::member::DeclaredMember;
 
@@ -37,5 +37,15 @@ pub(crate) fn joined(first: Option<Foremost>, other: Option<Foremost>) -> Option
         (Some(first), Some(other)) => Some(first.before(other)),
         (Some(first), None) => Some(first),
         (None, other) => other,
+    }
+}
+
+/// The member alone.
+pub(crate) fn member_of(found: Option<Foremost>) -> Option<DeclaredMember>
+    ensures { result ≡ member_of found }
+{
+    match found {
+        Some(foremost) => Some(foremost.member),
+        None => None,
     }
 }

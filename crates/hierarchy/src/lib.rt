@@ -4,11 +4,14 @@
 
 mod above;
 mod ancestors;
+mod asked;
 pub mod class_lists;
+mod declared_entries;
 mod defaults;
 mod depth_first;
 mod foremost;
 mod foremost_entries;
+mod found_ahead;
 pub mod hierarchy;
 pub mod initialization;
 pub mod laws;
@@ -24,10 +27,12 @@ mod parents_first;
 mod pool_texts;
 mod reach_table;
 mod reaches;
+mod resolve_ahead;
 mod resolve_field;
 mod resolve_method;
 mod search;
 pub mod seed;
+mod settled;
 mod select;
 mod sought;
 mod special;

@@ -8,6 +8,10 @@ use Rattle.hierarchy.specs.MemberLookup.{is_abstract, flags_in}
 use Rattle.hierarchy.specs.steps.Above.{IsAmongOrAbove}
 use Rattle.hierarchy.specs.declared.foremost.Foremost.{Foremost}
 use Rattle.hierarchy.specs.declared.member.DeclaredMember.{DeclaredMember}
+use Rattle.hierarchy.specs.declared.member.Field.{Field}
+use Rattle.hierarchy.specs.declared.member.Field.TheVariants as field
+use Rattle.hierarchy.specs.declared.member.Method.{Method}
+use Rattle.hierarchy.specs.declared.member.Method.TheVariants as method
 use Rattle.hierarchy.specs.declared.parents_first.Step.{Step}
 
 abbrev pub foremost_before : Foremost → Foremost → Foremost
@@ -83,3 +87,13 @@ pub record HasParents (family : Family) (parents : List ℕ) (step : Step) : Typ
 pub record AreSteps (family : Family) (steps : List Step) (parents : List ℕ) : Type 0 where
   pub order : IsParentsFirst family (map class_of_step steps)
   pub known : All (HasParents family parents) steps
+
+-- ---- as resolved
+
+abbrev pub given_method : Option DeclaredMember → Option Method
+given_method None = None
+given_method (Some m) = Some (method.Given m.class m.index)
+
+abbrev pub given_field : Option DeclaredMember → Option Field
+given_field None = None
+given_field (Some m) = Some (field.Given m.class m.index)
