@@ -272,19 +272,6 @@ def wide_below(count):
             + [class_file("C%d" % number, OBJECT, ["Low"], members=naming(number)) for number in range(count)])
 
 
-def defaults_below(count):
-    """A chain of interfaces with one default method each, all alike, and as many classes below, each named by a reference to it."""
-    top = "I%d" % (count - 1)
-
-    def naming(name):
-        def members(pool):
-            references(pool, 10, name, ["run"], 1)
-            return [], []
-        return members
-    return interface_chain(count) + [class_file("C%d" % number, OBJECT, [top], members=naming("C%d" % number))
-                                     for number in range(count)]
-
-
 def conflicts_below(count):
     """As `many_below`, where each class has besides an interface with a default method that is the first one's."""
     top = "I%d" % (count - 1)
@@ -323,7 +310,7 @@ def equal_interfaces(count):
 KINDS = {kind.__name__: kind for kind in (small, chain, chain_of_references, interface_chain, many_defaults, long_name,
                                          equal_strings, far_references, equal_interfaces, far_fields, overloads,
                                          below_interfaces, many_below, own_methods_below, two_chains_below, wide_below,
-                                         defaults_below, conflicts_below, alternating, long_orders)}
+                                         conflicts_below, alternating, long_orders)}
 
 
 def main():

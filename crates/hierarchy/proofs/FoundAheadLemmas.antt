@@ -53,7 +53,8 @@ module _ (texts : List (List ℕ)) (Resolves : NameAndType → ℕ → Option De
           (subst (λ (n : ℕ). Resolves name n member) (ap (λ (x : ClassMember). x.class) same)
           (this name (subst (AreNumbers texts name) (sym (ap (λ (x : ClassMember). x.key) same)) numbers)))
       by false e =
-          kept c k m name (sym (updates c k ∙ ap (λ (b : Bool). cond b (Some member) (found_in old c k)) e) ∙ at) numbers
+          kept c k m name (sym (updates c k ∙ ap (λ (b : Bool). cond b (Some member) (found_in old c k)) e) ∙ at)
+          numbers
 
 pub resolved_field : (family : Family) (name : NameAndType) (c : ℕ) (found : Option Foremost)
     → Search family (field_in family name) (c ∷ []) (member_of found)

@@ -1,6 +1,6 @@
 -- What the foremost member settles of superinterface methods (JVMS 5.4.3.3).
-use Rattle.std.proofs.Common.{◌≡◌, ℕ, ◌⊎◌, Bool, true, false, [], ◌∷◌, Option, Some, None, sym, ap, ◌∙◌, subst, inl, inr}
-use Rattle.std.proofs.Common.{refl, not}
+use Rattle.std.proofs.Common.{◌≡◌, ℕ, ◌⊎◌, Bool, true, false, [], ◌∷◌, Option, Some, None, sym, ap, ◌∙◌, subst, inl}
+use Rattle.std.proofs.Common.{inr, refl, not}
 use Rattle.built_in.specs.Keys.{NameAndType}
 use Rattle.loading.specs.Families.{Family, IsFamily, IsAncestor}
 use Rattle.hierarchy.specs.MemberLookup.{interface_method_in, is_abstract, flags_in, IsTheDefault, HasNoDefault}
@@ -47,8 +47,8 @@ module _ (family : Family) (fits : IsFamily family) (name : NameAndType) (c : �
           subst (λ (g : Foremost). (i ≡ g.member.class) ⊎ IsAncestor family g.member.class i) same
           (t.2.behind (ap (λ (g : Foremost). g.covers) same ∙ covers))
 
-      only_one : (i k : ℕ) → IsTheDefault family name c i k → is_abstract (flags_in family f.member.class f.member.index)
-          ≡ false
+      only_one : (i k : ℕ) → IsTheDefault family name c i k
+          → is_abstract (flags_in family f.member.class f.member.index) ≡ false
       only_one i k the = elim (behind i k the.0.0.0.0 the.0.0.0.1) [
         | inl same ↦
             let places : Some k ≡ Some f.member.index = sym the.0.0.0.1 ∙ ap (interface_method_in family name) same

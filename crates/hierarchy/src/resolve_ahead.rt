@@ -53,7 +53,11 @@ impl Ways {
             return false;
         };
         let row = hierarchy.noted(wanted, Some(first.key)).len();
-        let way = self.order.steps.len().saturating_add(self.order.parents.len());
+        let way = self
+            .order
+            .steps
+            .len()
+            .saturating_add(self.order.parents.len());
         let mut walks: usize = 0;
         for asked in run {
             let steps = self.walks.get(asked.class as usize).copied().unwrap_or(0);
@@ -64,7 +68,11 @@ impl Ways {
 }
 
 /// By class: how many steps a walk up takes at most.
-fn walk_lengths(alloc: Global, order: &ParentsFirst, count: usize) -> Result<Vec<usize>, AllocError> {
+fn walk_lengths(
+    alloc: Global,
+    order: &ParentsFirst,
+    count: usize,
+) -> Result<Vec<usize>, AllocError> {
     let mut lengths: Vec<usize> = vec![in alloc; 0; count]?;
     for step in &order.steps {
         let mut length: usize = 0;

@@ -20,8 +20,8 @@ use crate::wanted::Wanted;
 use loading::given::Superclass;
 
 impl Hierarchy {
-    /// The superinterface method that a reference to a method of a class resolves to, by what is foremost from the class
-    /// on. None where that does not settle it, or where the class or a superclass has the method.
+    /// The superinterface method that a reference to a method of a class resolves to, by what is foremost from the
+    /// class on. None where that does not settle it, or where the class or a superclass has the method.
     pub(crate) fn settled_method(
         &self,
         class: u32,
@@ -82,8 +82,8 @@ impl Hierarchy {
         self.settled(class, sought.key, found)
     }
 
-    /// The superinterface method of a class: the foremost one, where every other one stands above its class or none that
-    /// may be a default has code.
+    /// The superinterface method of a class: the foremost one, where every other one stands above its class or none
+    /// that may be a default has code.
     fn settled(
         &self,
         class: u32,

@@ -57,17 +57,17 @@ IsOwn family c k found = (coded : Bool)
 
 -- Those of some classes that declare the member were noted, and nothing else.
 pub record AreNoted (family : Family) (own : ℕ → Option ℕ) (asked : List ℕ) (entries : List (Option Foremost)) : Type 0
-    where
-  pub there : (c k : ℕ) → Contains asked c → own c ≡ Some k → IsOwn family c k (entry_of entries c)
-  pub only : (c : ℕ) (f : Foremost) → entry_of entries c ≡ Some f → (k : ℕ) × (own c ≡ Some k)
-      × IsOwn family c k (Some f)
+  where
+    pub there : (c k : ℕ) → Contains asked c → own c ≡ Some k → IsOwn family c k (entry_of entries c)
+    pub only : (c : ℕ) (f : Foremost) → entry_of entries c ≡ Some f → (k : ℕ) × (own c ≡ Some k)
+        × IsOwn family c k (Some f)
 
 -- All that declare it are noted, and what is foremost was found for some classes.
 pub record AreFilled (family : Family) (own : ℕ → Option ℕ) (done : List ℕ) (entries : List (Option Foremost)) : Type 0
-    where
-  pub declared : (c k : ℕ) → own c ≡ Some k → IsOwn family c k (entry_of entries c)
-  pub others : (c : ℕ) (f : Foremost) → own c ≡ None → entry_of entries c ≡ Some f → f.member.class ≢ c
-  pub found : (c : ℕ) → Contains done c → IsForemost family own (c ∷ []) (entry_of entries c)
+  where
+    pub declared : (c k : ℕ) → own c ≡ Some k → IsOwn family c k (entry_of entries c)
+    pub others : (c : ℕ) (f : Foremost) → own c ≡ None → entry_of entries c ≡ Some f → f.member.class ≢ c
+    pub found : (c : ℕ) → Contains done c → IsForemost family own (c ∷ []) (entry_of entries c)
 
 -- ---- the classes, each after its parents
 

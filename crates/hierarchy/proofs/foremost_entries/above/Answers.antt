@@ -1,4 +1,4 @@
-use Rattle.std.proofs.Common.{ℕ, List, Option, ◌∷◌, ◌++◌, ◌+◌, [], take, get_or, refl, sym, ap, subst, arith, add-one, ◌∙◌}
+use Rattle.std.proofs.Common.{ℕ, List, ◌∷◌, ◌++◌, [], take, get_or, subst}
 use Rattle.std.proofs.lemmas.List.{take_all}
 use Rattle.std.proofs.lemmas.List.{take_more}
 use Rattle.std.proofs.lemmas.Option.{slice_get-get_or}
@@ -18,7 +18,8 @@ loop-parent-preserved c = λ family own are.
     let p = get_or parents i 0 in
     rw (take_more parents i 0 c.loop-parent-test.true, c.joined-found.ensures, c.entry_of.ensures)
     (joined_foremost family own (take i parents) p c.loop-parent.found (entry_of c.args.entries.now p)
-    (c.loop-parent.invariant family own are) (are p (contains_at parents i p (slice_get-get_or parents i 0 c.loop-parent-test.true))))
+    (c.loop-parent.invariant family own are)
+    (are p (contains_at parents i p (slice_get-get_or parents i 0 c.loop-parent-test.true))))
 
 pub returns : goal.returns
 returns c = λ family own are.

@@ -19,13 +19,14 @@ returns-in_ok-insert c =
     one_more c.args.self.now.texts Resolves c.args.found.now c.insert.new.self class c.args.key c.in-Some.member
     c.requires.found
     (λ name numbers.
-        let sought : NameAndType = sought_name c.sought-sought.result in
-        let is : AreNumbers c.args.self.now.texts sought c.args.key =
-        subst (IsLookup c.args.self.now.texts sought) (c.is_of.ensures c.if-not-is_of.false) c.sought-sought.ensures.lookup in
-        subst (λ (n : NameAndType). Resolves n class c.in-Some.member)
-        (one_name c.args.self.now.texts sought name c.args.key is numbers)
-        (c.settled_method.ensures c.in-Some.member
-        (subst (IsForemost family (interface_method_in family sought) (class ∷ [])) (sym c.entry_of-foremost.ensures)
-        (c.requires.entries sought class is (omega (arith, c.requires.len, c.if-class-entries.false))))
-        c.in-Some.is))
+    let sought : NameAndType = sought_name c.sought-sought.result in
+    let is : AreNumbers c.args.self.now.texts sought c.args.key =
+    subst (IsLookup c.args.self.now.texts sought) (c.is_of.ensures c.if-not-is_of.false)
+    c.sought-sought.ensures.lookup in
+    subst (λ (n : NameAndType). Resolves n class c.in-Some.member)
+    (one_name c.args.self.now.texts sought name c.args.key is numbers)
+    (c.settled_method.ensures c.in-Some.member
+    (subst (IsForemost family (interface_method_in family sought) (class ∷ [])) (sym c.entry_of-foremost.ensures)
+    (c.requires.entries sought class is (omega (arith, c.requires.len, c.if-class-entries.false))))
+    c.in-Some.is))
     c.in_ok-insert.ensures

@@ -7,7 +7,8 @@ use Rattle.hierarchy.proofs.hierarchy.Hierarchy.note_class.Goals as goal
 pub returns-in_default-clause-noted : goal.returns-in_default-clause-noted
 returns-in_default-clause-noted c = λ name asked is are.
     let own : ℕ → Option ℕ = wanted_in c.args.wanted c.args.self.now.family name in
-    noted_lacking c.args.self.now.family own asked c.args.entries.now c.args.class are (sym (c.in_default.ensures name is))
+    noted_lacking c.args.self.now.family own asked c.args.entries.now c.args.class are
+    (sym (c.in_default.ensures name is))
 
 pub returns-then-class-entries-clause-noted : goal.returns-then-class-entries-clause-noted
 returns-then-class-entries-clause-noted c = λ name asked is are.

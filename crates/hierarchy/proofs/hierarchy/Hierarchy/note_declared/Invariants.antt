@@ -10,5 +10,6 @@ abbrev pub invariant-loop-reach : goal.invariant-loop-reach
 invariant-loop-reach l = record {
   len : length l.entries ≡ length l.self.family;
   noted : (name : NameAndType) → AreNumbers l.self.texts name l.key
-      → AreNoted l.self.family (wanted_in l.wanted l.self.family name) (classes_noted (take l.reach-index l.row)) l.entries;
+      → AreNoted l.self.family (wanted_in l.wanted l.self.family name) (classes_noted (take l.reach-index l.row))
+      l.entries;
 }

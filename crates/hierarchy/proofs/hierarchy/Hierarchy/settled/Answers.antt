@@ -34,7 +34,8 @@ returns-then-foremost c = λ name m is are e.
     let some : Some f.member ≡ m = cc in
     subst (λ (x : Option DeclaredMember). AmongInterfaces family name c.args.class (given_method x)) some
     (elim c.then-foremost.branch [
-      | then-foremost-via-then-foremost w ↦ settled_covering family fits name c.args.class lacks f there w.if-foremost.true
+      | then-foremost-via-then-foremost w ↦
+          settled_covering family fits name c.args.class lacks f there w.if-foremost.true
       | then-foremost-via-else-foremost+then-not-foremost w ↦
           settled_codeless family fits name c.args.class lacks f there (off_by f.coded w.if-not-foremost.true)
     ])
