@@ -1,5 +1,5 @@
 -- What the foremost member settles of superinterface methods (JVMS 5.4.3.3).
-use Rattle.std.proofs.Common.{◌≡◌, ℕ, ◌⊎◌, Bool, true, false, [], ◌∷◌, Option, Some, None, sym, ap, ◌∙◌, subst, inl}
+use Rattle.std.proofs.Common.{◌≡◌, ℕ, ◌⊎◌, Bool, true, false, [], ◌∷◌, Some, None, sym, ap, ◌∙◌, subst, inl}
 use Rattle.std.proofs.Common.{inr, refl, not}
 use Rattle.built_in.specs.Keys.{NameAndType}
 use Rattle.loading.specs.Families.{Family, IsFamily, IsAncestor}

@@ -1,6 +1,6 @@
 -- The first member that a search finds, with what is known of the others (JVMS 5.4.3.2 to 5.4.3.4).
 use Rattle.std.specs.Prelude.{◌≡◌, ◌≢◌, ℕ, ◌≤◌, ◌⊎◌, ◌&&◌, ◌||◌, ◌==◌, Bool, true, false, List, [], ◌∷◌, Option, Some}
-use Rattle.std.specs.Prelude.{None, ◌-◌, length, map, take, drop, slice_get, slice_index_or}
+use Rattle.std.specs.Prelude.{None, ◌-◌, length, map, take, drop, slice_index_or}
 use Rattle.std.specs.List.{All, Contains}
 use Rattle.loading.specs.Families.{Family, IsAncestor, IsParentsFirst, parents_in}
 use Rattle.hierarchy.specs.Search.{Search}

@@ -1,10 +1,9 @@
-use Rattle.std.proofs.Common.{ℕ, List, ◌∷◌, ◌++◌, [], take, get_or, subst}
+use Rattle.std.proofs.Common.{ℕ, List, take, get_or, subst}
 use Rattle.std.proofs.lemmas.List.{take_all}
 use Rattle.std.proofs.lemmas.List.{take_more}
 use Rattle.std.proofs.lemmas.Option.{slice_get-get_or}
 use Rattle.loading.proofs.PlaceLemmas.{contains_at}
-use Rattle.hierarchy.specs.steps.Foremosts.{IsForemost, entry_of, joined}
-use Rattle.hierarchy.specs.declared.foremost.Foremost.{Foremost}
+use Rattle.hierarchy.specs.steps.Foremosts.{IsForemost, entry_of}
 use Rattle.hierarchy.proofs.ForemostLemmas.{none_foremost, joined_foremost}
 use Rattle.hierarchy.proofs.foremost_entries.above.Goals as goal
 

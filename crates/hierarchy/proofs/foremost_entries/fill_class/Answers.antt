@@ -1,6 +1,5 @@
-use Rattle.std.proofs.Common.{◌≡◌, ℕ, List, Option, Some, None, ◌∷◌, [], sym, ap, subst, ◌∙◌}
-use Rattle.loading.specs.Families.{Family, parents_in}
-use Rattle.hierarchy.specs.steps.Foremosts.{IsForemost, AreFilled, entry_of}
+use Rattle.std.proofs.Common.{◌≡◌, ℕ, List, Some, sym, ap, subst, ◌∙◌}
+use Rattle.hierarchy.specs.steps.Foremosts.{IsForemost}
 use Rattle.hierarchy.specs.declared.foremost.Foremost.{Foremost}
 use Rattle.hierarchy.proofs.ForemostLemmas.{filled_own, filled_above}
 use Rattle.hierarchy.proofs.foremost_entries.fill_class.Goals as goal

@@ -1,4 +1,4 @@
-use Rattle.std.proofs.Common.{ℕ, Option, List, ◌<◌, ◌∷◌, [], length, sym, subst}
+use Rattle.std.proofs.Common.{ℕ, Option, ◌<◌, ◌∷◌, [], length, sym, subst}
 use Rattle.loading.specs.Families.{Family}
 use Rattle.hierarchy.specs.steps.Foremosts.{AreFilled, IsForemost, entry_of}
 use Rattle.hierarchy.specs.steps.HierarchyTables.{wanted_in}

@@ -1,4 +1,4 @@
-use Rattle.std.proofs.Common.{◌≡◌, ◌<◌, ◌≤◌, length, ℕ, Option, Some, None, sym, subst, arith, ◌∙◌}
+use Rattle.std.proofs.Common.{◌≡◌, ◌≤◌, length, ℕ, Option, Some, None, sym, arith, ◌∙◌}
 use Rattle.hierarchy.specs.steps.HierarchyTables.{wanted_in}
 use Rattle.hierarchy.proofs.ForemostLemmas.{noted_lacking, noted_one}
 use Rattle.hierarchy.proofs.UpClassesLemmas.{no_class_declares}

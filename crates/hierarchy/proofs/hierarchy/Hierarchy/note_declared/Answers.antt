@@ -1,4 +1,4 @@
-use Rattle.std.proofs.Common.{◌≡◌, ℕ, List, Option, take, subst, ◌∙◌}
+use Rattle.std.proofs.Common.{ℕ, List, Option, take, subst}
 use Rattle.std.proofs.lemmas.List.{take_all}
 use Rattle.hierarchy.specs.steps.Foremosts.{AreNoted}
 use Rattle.hierarchy.specs.steps.HierarchyTables.{wanted_in}

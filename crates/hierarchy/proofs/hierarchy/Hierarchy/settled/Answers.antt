@@ -1,4 +1,4 @@
-use Rattle.std.proofs.Common.{◌≡◌, ℕ, Option, Some, None, ◌∷◌, [], Bool, true, false, sym, ap, subst, ◌∙◌}
+use Rattle.std.proofs.Common.{◌≡◌, Option, Some, None, ◌∷◌, [], sym, subst, ◌∙◌}
 use Rattle.loading.specs.Families.{IsFamily}
 use Rattle.hierarchy.specs.MemberLookup.{interface_method_in}
 use Rattle.hierarchy.specs.Resolution.{AmongInterfaces}
