@@ -220,6 +220,74 @@ def many_below(count):
                                 for number in range(count)]
 
 
+def own_methods_below(count):
+    """The same, where each class is named by a reference of another one to a method of an interface of its own."""
+    top = "I%d" % (count - 1)
+
+    def naming(number):
+        def members(pool):
+            references(pool, 10, "C%d" % ((number + 1) % count), ["m%d" % (number * 7919 % count)], 1)
+            return [], []
+        return members
+    return bare_chain(count) + [class_file("C%d" % number, OBJECT, [top], members=naming(number)) for number in range(count)]
+
+
+def two_chains_below(count):
+    """The same below two chains by turns, half as long, whose interfaces declare the same methods."""
+    half = count // 2
+
+    def declaring(number):
+        def members(pool):
+            return [], [method(pool, 0x401, "m%d" % number, "()V")]
+        return members
+
+    def naming(number):
+        def members(pool):
+            references(pool, 10, "C%d" % ((number + 1) % count), ["m%d" % (number * 7919 % half)], 1)
+            return [], []
+        return members
+    chains = [class_file("%s%d" % (side, number), OBJECT, ["%s%d" % (side, number - 1)] if number else (), 0x601, declaring(number))
+              for side in "IJ" for number in range(half)]
+    tops = ["I%d" % (half - 1), "J%d" % (half - 1)]
+    return chains + [class_file("C%d" % number, OBJECT, tops if number % 2 else tops[::-1], members=naming(number))
+                     for number in range(count)]
+
+
+def wide_below(count):
+    """An interface below as many others with a method each, and so many classes below it, named as in `own_methods_below`."""
+    tops = ["I%d" % number for number in range(count)]
+
+    def declaring(number):
+        def members(pool):
+            return [], [method(pool, 0x401, "m%d" % number, "()V")]
+        return members
+
+    def naming(number):
+        def members(pool):
+            references(pool, 10, "C%d" % ((number + 1) % count), ["m%d" % (number * 7919 % count)], 1)
+            return [], []
+        return members
+    return ([class_file(top, OBJECT, (), 0x601, declaring(number)) for number, top in enumerate(tops)]
+            + [class_file("Low", OBJECT, tops, 0x601)]
+            + [class_file("C%d" % number, OBJECT, ["Low"], members=naming(number)) for number in range(count)])
+
+
+def conflicts_below(count):
+    """As `many_below`, where each class has besides an interface with a default method that is the first one's."""
+    top = "I%d" % (count - 1)
+
+    def naming(name):
+        def members(pool):
+            references(pool, 10, name, ["m0"], 1)
+            return [], []
+        return members
+
+    def other(pool):
+        return [], [method(pool, 0x1, "m0", "()V", b"\xb1")]
+    return (bare_chain(count) + [class_file("Other", OBJECT, (), 0x601, other)]
+            + [class_file("C%d" % number, OBJECT, [top, "Other"], members=naming("C%d" % number)) for number in range(count)])
+
+
 def alternating(count):
     """Sixteen classes below the last of a chain of interfaces, and references to its methods that go from class to class."""
     top = "I%d" % (count - 1)
@@ -241,7 +309,8 @@ def equal_interfaces(count):
 
 KINDS = {kind.__name__: kind for kind in (small, chain, chain_of_references, interface_chain, many_defaults, long_name,
                                          equal_strings, far_references, equal_interfaces, far_fields, overloads,
-                                         below_interfaces, many_below, alternating, long_orders)}
+                                         below_interfaces, many_below, own_methods_below, two_chains_below, wide_below,
+                                         conflicts_below, alternating, long_orders)}
 
 
 def main():

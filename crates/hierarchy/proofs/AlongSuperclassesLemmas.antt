@@ -12,7 +12,7 @@ use Rattle.hierarchy.proofs.AboveLemmas.{interface_parents}
 use Rattle.hierarchy.proofs.WalksOrderLemmas.{postorder_ends}
 
 -- what is not found in the front is looked for after
-not_in_front : {family : Family} {own : ℕ → Option ℕ} {xs ys : List ℕ} {r : Option DeclaredMember}
+pub not_in_front : {family : Family} {own : ℕ → Option ℕ} {xs ys : List ℕ} {r : Option DeclaredMember}
     → Search family own xs None → Search family own ys r → Search family own (xs ++ ys) r
 not_in_front Search.nothing after = after
 not_in_front {family = family} {own = own} {ys = ys} {r = r} (Search.above {c = c} {cs = cs} e rest) after =

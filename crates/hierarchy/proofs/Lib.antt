@@ -6,6 +6,9 @@ pub mod FamiliesChainLemmas
 pub mod SearchLemmas
 pub mod MemberLookupLemmas
 pub mod AboveLemmas
+pub mod ForemostLemmas
+pub mod SettledLemmas
+pub mod FoundAheadLemmas
 pub mod MarkLemmas
 pub mod MarkedLemmas
 pub mod DefaultsLemmas

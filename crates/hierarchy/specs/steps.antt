@@ -16,4 +16,6 @@ pub mod NearestMembers
 pub mod WholeHierarchies
 pub mod Marked
 pub mod Ancestors
+pub mod Foremosts
+pub mod FoundAhead
 pub mod Specials

@@ -1,34 +1,43 @@
 //! Resolution of references to members (JVMS 5.4.3.2 to 5.4.3.4).
 
-ghost use Rattle.std.specs.Prelude.{◌≡◌, IfOk};
+ghost use Rattle.std.specs.Prelude.{◌≡◌, Option, Some, IfOk};
 ghost use Rattle.hierarchy.specs.MemberNames.{named_in};
 ghost use Rattle.hierarchy.specs.Resolution.{ResolvesField, ResolvesMethod};
+ghost use Rattle.hierarchy.specs.declared.member.Field.{Field as Resolved};
+ghost use Rattle.hierarchy.specs.declared.member.Method.{Method as ResolvedMethod};
+ghost use Rattle.hierarchy.specs.steps.Foremosts.{given_field, given_method};
 
 use crate::ancestors::Ancestors;
+use crate::found_ahead::FoundAhead;
 use crate::hierarchy::Hierarchy;
-use crate::member::{Field, Method};
+use crate::member::{DeclaredMember, Field, Method};
 use crate::member_name::MemberName;
 use built_in::class_id::ClassId;
 use std::alloc::{AllocError, Global};
 use std::marker::Model;
 
-/// Resolves references to members of a hierarchy. What stands above a class is kept until another class is asked: a
-/// walk up serves all references to one class that come one after the other.
+/// Resolves references to members of a hierarchy. Those whose walks up would take long together are resolved ahead. For
+/// any other one what stands above a class is kept until another class is asked: a walk up serves all references to one
+/// class that come one after the other.
 #[derive(Drop)]
 pub struct MemberResolver<'a> {
     hierarchy: &'a Hierarchy,
     ancestors: Ancestors,
+    fields: FoundAhead,
+    methods: FoundAhead,
 }
 
 impl<'a> Model for MemberResolver<'a> {
     ghost use Rattle.hierarchy.specs.Hierarchies.{NumberedFamily};
     ghost use Rattle.hierarchy.specs.steps.Ancestors.{AreOf};
+    ghost use Rattle.hierarchy.specs.steps.FoundAhead.{AreFields, AreMethods};
 
     ghost Value = { NumberedFamily };
 
     ghost view = { λ s. s.hierarchy.now };
 
-    ghost invariant = { λ s. AreOf s.hierarchy.now.family s.ancestors };
+    ghost invariant = { λ s. AreOf s.hierarchy.now.family s.ancestors × AreFields s.hierarchy.now s.fields
+        × AreMethods s.hierarchy.now s.methods };
 }
 
 impl<'a> MemberResolver<'a> {
@@ -40,9 +49,13 @@ impl<'a> MemberResolver<'a> {
         ensures { IfOk result (λ resolver. resolver ≡ hierarchy.now) }
     {
         let ancestors = Ancestors::new(alloc)?;
+        let fields = hierarchy.fields_ahead(alloc)?;
+        let methods = hierarchy.methods_ahead(alloc)?;
         Ok(MemberResolver {
             hierarchy,
             ancestors,
+            fields,
+            methods,
         })
     }
 
@@ -59,6 +72,9 @@ impl<'a> MemberResolver<'a> {
         ensures field { IfOk result (ResolvesField self.old.family (named_in self.old.family member) class) }
         ensures kept { self.new ≡ self.old }
     {
+        if let Some(field) = self.field_ahead(class, member) {
+            return Ok(field);
+        }
         self.hierarchy
             .resolve_field(&mut self.ancestors, class, member)
     }
@@ -77,7 +93,50 @@ impl<'a> MemberResolver<'a> {
         ensures method { IfOk result (ResolvesMethod self.old.family (named_in self.old.family member) class) }
         ensures kept { self.new ≡ self.old }
     {
+        if let Some(method) = self.method_ahead(class, member) {
+            return Ok(method);
+        }
         self.hierarchy
             .resolve_method(&mut self.ancestors, class, member)
     }
+
+    /// The field of a reference, if it was resolved ahead.
+    fn field_ahead(&self, class: ClassId, member: MemberName) -> Option<Option<Field>>
+        ensures { (f : Option Resolved) → result ≡ Some f
+            → ResolvesField self.now.family (named_in self.now.family member) class f }
+    {
+        let ClassId::Given(class) = class else {
+            return None;
+        };
+        let found = self.fields.get(class, self.hierarchy.key(member))?;
+        Some(given_field(found))
+    }
+
+    /// The method of a reference, if it was resolved ahead.
+    fn method_ahead(&self, class: ClassId, member: MemberName) -> Option<Option<Method>>
+        ensures { (m : Option ResolvedMethod) → result ≡ Some m
+            → ResolvesMethod self.now.family (named_in self.now.family member) class m }
+    {
+        let ClassId::Given(class) = class else {
+            return None;
+        };
+        let found = self.methods.get(class, self.hierarchy.key(member))?;
+        Some(given_method(found))
+    }
+}
+
+/// A declared field as one that a reference resolves to.
+fn given_field(found: Option<DeclaredMember>) -> Option<Field>
+    ensures { result ≡ given_field found }
+{
+    let DeclaredMember { class, index } = found?;
+    Some(Field::Given { class, index })
+}
+
+/// A declared method as one that a reference resolves to.
+fn given_method(found: Option<DeclaredMember>) -> Option<Method>
+    ensures { result ≡ given_method found }
+{
+    let DeclaredMember { class, index } = found?;
+    Some(Method::Given { class, index })
 }

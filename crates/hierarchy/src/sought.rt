@@ -1,6 +1,6 @@
 //! What a member is looked for by.
 
-ghost use Rattle.std.specs.Prelude.{◌≡◌};
+ghost use Rattle.std.specs.Prelude.{◌≡◌, Some, IsTrue};
 ghost use Rattle.built_in.specs.declared.method.BuiltInMethod.{BuiltInMethod as Member};
 ghost use Rattle.built_in.specs.Methods.{key_of_member};
 ghost use Rattle.hierarchy.specs.MemberNames.{named_in};
@@ -19,6 +19,18 @@ pub(crate) struct Sought<'a> {
     pub(crate) descriptor: &'a [u8],
     /// None where no given class has a member of this name and descriptor.
     pub(crate) key: Option<MemberKey>,
+}
+
+impl Sought<'_> {
+    /// Whether these are the numbers of its name and descriptor.
+    pub(crate) fn is_of(self, key: MemberKey) -> bool
+        ensures { IsTrue result → self.entry.key ≡ Some key }
+    {
+        match self.key {
+            Some(own) => own.name == key.name && own.descriptor == key.descriptor,
+            None => false,
+        }
+    }
 }
 
 impl Hierarchy {

@@ -1,0 +1,63 @@
+-- What was found for references before they are resolved.
+use Rattle.std.proofs.Common.{◌≡◌, ℕ, Bool, true, false, cond, List, [], ◌∷◌, Option, Some, None, sym, ap, ◌∙◌, subst}
+use Rattle.std.proofs.Common.{refl}
+use Rattle.built_in.specs.Keys.{NameAndType}
+use Rattle.built_in.specs.declared.class_id.ClassId.TheVariants as class_ids
+use Rattle.loading.specs.Families.{Family}
+use Rattle.hierarchy.specs.MemberLookup.{field_in}
+use Rattle.hierarchy.specs.Resolution.{ResolvesField}
+use Rattle.hierarchy.specs.Search.{Search}
+use Rattle.hierarchy.specs.steps.Foremosts.{member_of, given_field}
+use Rattle.hierarchy.specs.steps.FoundAhead.{found_in}
+use Rattle.hierarchy.specs.steps.MemberIndexes.{AreNumbers, same_member}
+use Rattle.hierarchy.specs.declared.foremost.Foremost.{Foremost}
+use Rattle.hierarchy.specs.declared.found_ahead.FoundAhead.{FoundAhead}
+use Rattle.hierarchy.specs.declared.member.DeclaredMember.{DeclaredMember}
+use Rattle.hierarchy.specs.declared.member_index.ClassMember.{ClassMember}
+use Rattle.hierarchy.specs.declared.member_index.MemberKey.{MemberKey}
+use Rattle.hierarchy.proofs.MemberIndexesPlaceLemmas.{member_is}
+
+-- numbers are those of one name and descriptor
+pub one_name : (texts : List (List ℕ)) (a b : NameAndType) (key : MemberKey) → AreNumbers texts a key
+    → AreNumbers texts b key → a ≡ b
+one_name texts a b key of_a of_b =
+    let names : Some a.name ≡ Some b.name = sym of_a.name ∙ of_b.name in
+    let descriptors : Some a.descriptor ≡ Some b.descriptor = sym of_a.descriptor ∙ of_b.descriptor in
+    let n : a.name ≡ b.name = cc in
+    let d : a.descriptor ≡ b.descriptor = cc in
+    λ i. record { name = n i; descriptor = d i }
+
+-- one more is found
+module _ (texts : List (List ℕ)) (Resolves : NameAndType → ℕ → Option DeclaredMember → Type 0) (old new : FoundAhead)
+    (class : ℕ) (key : MemberKey) (member : Option DeclaredMember) where
+  pub one_more : ((c : ℕ) (k : MemberKey) (m : Option DeclaredMember) (name : NameAndType)
+      → found_in old c k ≡ Some m → AreNumbers texts name k → Resolves name c m)
+      → ((name : NameAndType) → AreNumbers texts name key → Resolves name class member)
+      → ((c : ℕ) (k : MemberKey) → found_in new c k
+      ≡ cond (same_member (record { class = class; key = key }) (record { class = c; key = k })) (Some member)
+      (found_in old c k))
+      → (c : ℕ) (k : MemberKey) (m : Option DeclaredMember) (name : NameAndType) → found_in new c k ≡ Some m
+      → AreNumbers texts name k → Resolves name c m
+  one_more kept this updates c k m name at numbers =
+      by (same_member (record { class = class; key = key }) (record { class = c; key = k })) refl
+    where
+      by : (b : Bool) → same_member (record { class = class; key = key }) (record { class = c; key = k }) ≡ b
+          → Resolves name c m
+      by true e =
+          let same = member_is (record { class = class; key = key }) (record { class = c; key = k }) e in
+          let here : found_in new c k ≡ Some member =
+          updates c k ∙ ap (λ (b : Bool). cond b (Some member) (found_in old c k)) e in
+          let both : Some member ≡ Some m = sym here ∙ at in
+          let is : member ≡ m = cc in
+          subst (λ (o : Option DeclaredMember). Resolves name c o) is
+          (subst (λ (n : ℕ). Resolves name n member) (ap (λ (x : ClassMember). x.class) same)
+          (this name (subst (AreNumbers texts name) (sym (ap (λ (x : ClassMember). x.key) same)) numbers)))
+      by false e =
+          kept c k m name (sym (updates c k ∙ ap (λ (b : Bool). cond b (Some member) (found_in old c k)) e) ∙ at)
+          numbers
+
+pub resolved_field : (family : Family) (name : NameAndType) (c : ℕ) (found : Option Foremost)
+    → Search family (field_in family name) (c ∷ []) (member_of found)
+    → ResolvesField family name (class_ids.Given c) (given_field (member_of found))
+resolved_field family name c None search = ResolvesField.missing search
+resolved_field family name c (Some f) search = ResolvesField.found search

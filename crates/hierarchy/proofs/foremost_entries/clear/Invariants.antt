@@ -1,0 +1,9 @@
+use Rattle.std.proofs.Common.{◌≡◌, ℕ, ◌<◌, None, length}
+use Rattle.hierarchy.specs.steps.Foremosts.{entry_of}
+use Rattle.hierarchy.proofs.foremost_entries.clear.Given as goal
+
+abbrev pub invariant-loop-index : goal.invariant-loop-index
+invariant-loop-index l = record {
+  len : length l.entries ≡ length l.initial.entries;
+  empty : (c : ℕ) → c < l.index → entry_of l.entries c ≡ None;
+}

@@ -1,0 +1,15 @@
+use Rattle.std.proofs.Common.{◌≡◌, length, take}
+use Rattle.built_in.specs.Keys.{NameAndType}
+use Rattle.hierarchy.specs.steps.Foremosts.{AreNoted}
+use Rattle.hierarchy.specs.steps.HierarchyTables.{wanted_in}
+use Rattle.hierarchy.specs.steps.MemberIndexes.{AreNumbers}
+use Rattle.hierarchy.specs.steps.Reaches.{classes_noted}
+use Rattle.hierarchy.proofs.hierarchy.Hierarchy.note_declared.Given as goal
+
+abbrev pub invariant-loop-reach : goal.invariant-loop-reach
+invariant-loop-reach l = record {
+  len : length l.entries ≡ length l.self.family;
+  noted : (name : NameAndType) → AreNumbers l.self.texts name l.key
+      → AreNoted l.self.family (wanted_in l.wanted l.self.family name) (classes_noted (take l.reach-index l.row))
+      l.entries;
+}

@@ -1,0 +1,156 @@
+//! The references of class files to members that an interface may declare (JVMS 4.4.2).
+
+ghost use Rattle.std.specs.Prelude.{◌<◌, ◌≤◌, length};
+
+use crate::hierarchy::Hierarchy;
+use crate::member_index::MemberKey;
+use crate::member_name::MemberName;
+use crate::wanted::Wanted;
+use classfile::{ClassFile, Constant};
+use loading::names::class_name_at;
+use std::alloc::{AllocError, Global};
+use std::cmp::Ordering;
+
+/// Which references are looked at.
+#[derive(Clone, Copy, Debug)]
+pub(crate) enum MemberKind {
+    Field,
+    Method,
+}
+
+impl MemberKind {
+    /// What is looked for: a field of any class, or a method of an interface.
+    pub(crate) fn wanted(self) -> Wanted {
+        match self {
+            MemberKind::Field => Wanted::Field,
+            MemberKind::Method => Wanted::InterfaceMethod,
+        }
+    }
+
+    /// The same of interfaces alone.
+    fn of_interfaces(self) -> Wanted {
+        match self {
+            MemberKind::Field => Wanted::InterfaceField,
+            MemberKind::Method => Wanted::InterfaceMethod,
+        }
+    }
+
+    /// The indices of the class and of the name and type of a reference of this kind.
+    fn indices(self, constant: &Constant) -> Option<(u16, u16)> {
+        match (self, constant) {
+            (
+                MemberKind::Field,
+                Constant::Fieldref {
+                    class,
+                    name_and_type,
+                },
+            ) => Some((*class, *name_and_type)),
+            (
+                MemberKind::Method,
+                Constant::Methodref {
+                    class,
+                    name_and_type,
+                },
+            ) => Some((*class, *name_and_type)),
+            (
+                MemberKind::Method,
+                Constant::InterfaceMethodref {
+                    class,
+                    name_and_type,
+                },
+            ) => Some((*class, *name_and_type)),
+            _ => None,
+        }
+    }
+}
+
+/// A reference to a member of a given class.
+#[derive(Clone, Copy, Debug)]
+pub(crate) struct Asked {
+    pub(crate) key: MemberKey,
+    pub(crate) class: u32,
+    pub(crate) member: MemberName,
+}
+
+impl Asked {
+    /// Whether another one has the same name and descriptor.
+    fn has_key_of(&self, other: &Asked) -> bool {
+        self.key.name == other.key.name && self.key.descriptor == other.key.descriptor
+    }
+}
+
+/// By name and descriptor, then by class.
+fn by_key(a: &Asked, b: &Asked) -> Ordering {
+    (a.key.name, a.key.descriptor, a.class).cmp(&(b.key.name, b.key.descriptor, b.class))
+}
+
+/// How many of them, from the first on, have one name and descriptor.
+pub(crate) fn run_length(asked: &[Asked]) -> usize
+    ensures few { result ≤ length asked.now }
+    ensures some { 0 < length asked.now → 0 < result }
+{
+    let Some(first) = asked.first() else {
+        return 0;
+    };
+    let mut count = 1;
+    while count < asked.len() && asked[count].has_key_of(first) {
+        count += 1;
+    }
+    count
+}
+
+impl Hierarchy {
+    /// The references of a kind to members of given classes that an interface may declare, those of one name and
+    /// descriptor together.
+    pub(crate) fn asked(&self, alloc: Global, kind: MemberKind) -> Result<Vec<Asked>, AllocError> {
+        let mut asked = Vec::new(alloc);
+        for (class, given) in self.family().classes().iter().enumerate() {
+            self.add_asked(kind, class as u32, &given.file, &mut asked)?;
+        }
+        asked.sort_unstable_by(|a, b| by_key(a, b));
+        Ok(asked)
+    }
+
+    /// Adds those of a class file.
+    fn add_asked(
+        &self,
+        kind: MemberKind,
+        class: u32,
+        file: &ClassFile,
+        asked: &mut Vec<Asked>,
+    ) -> Result<(), AllocError> {
+        for constant in file.constants() {
+            if let Some((named, name_and_type)) = kind.indices(constant) {
+                if let Some(reference) = self.asked_at(kind, class, file, named, name_and_type) {
+                    asked.push(reference)?;
+                }
+            }
+        }
+        Ok(())
+    }
+
+    /// The reference by these indices of a class file.
+    fn asked_at(
+        &self,
+        kind: MemberKind,
+        class: u32,
+        file: &ClassFile,
+        named: u16,
+        name_and_type: u16,
+    ) -> Option<Asked> {
+        let Some(Constant::NameAndType { name, descriptor }) = file.constant(name_and_type) else {
+            return None;
+        };
+        let member = MemberName {
+            class,
+            name: *name,
+            descriptor: *descriptor,
+        };
+        let key = self.key(member);
+        if self.is_undeclared(kind.of_interfaces(), Some(key)) {
+            return None;
+        }
+        let class = self.family().number_of(class_name_at(file, named))?;
+        Some(Asked { key, class, member })
+    }
+}

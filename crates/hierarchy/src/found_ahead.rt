@@ -1,0 +1,61 @@
+//! What was found for references before they are resolved.
+
+ghost use Rattle.std.specs.Prelude.{◌≡◌, ℕ, Some, None, OnOk, if◌then◌else◌};
+ghost use Rattle.hierarchy.specs.declared.member_index.MemberKey.{MemberKey as Key};
+ghost use Rattle.hierarchy.specs.steps.FoundAhead.{found_in};
+ghost use Rattle.hierarchy.specs.steps.MemberIndexes.{same_member};
+
+use crate::member::DeclaredMember;
+use crate::member_index::{ClassMember, MemberKey};
+use crate::seed::Seed;
+use indexmap::IndexMap;
+use std::alloc::{AllocError, Global};
+
+/// By the class that a reference names, and the numbers of its name and descriptor: the member that it resolves to, or
+/// that there is none.
+#[derive(Drop)]
+pub(crate) struct FoundAhead {
+    found: IndexMap<ClassMember, Option<DeclaredMember>, Seed>,
+}
+
+impl FoundAhead {
+    /// Nothing found.
+    pub(crate) fn new(alloc: Global, seed: Seed) -> Self
+        ensures { (class : ℕ) (key : Key) → found_in result class key ≡ None }
+    {
+        FoundAhead {
+            found: IndexMap::with_hasher(alloc, seed),
+        }
+    }
+
+    /// What was found for a reference.
+    pub(crate) fn get(&self, class: u32, key: MemberKey) -> Option<Option<DeclaredMember>>
+        ensures { result ≡ found_in self.now class key }
+    {
+        self.found
+            .get(&ClassMember {
+                class: class as usize,
+                key,
+            })
+            .copied()
+    }
+
+    /// Notes what was found for a reference.
+    pub(crate) fn insert(
+        &mut self,
+        class: u32,
+        key: MemberKey,
+        member: Option<DeclaredMember>,
+    ) -> Result<(), AllocError>
+        ensures { OnOk result ((c : ℕ) (k : Key) → found_in self.new c k
+            ≡ (if same_member (record { class = class; key = key }) (record { class = c; key = k }) then Some member
+            else found_in self.old c k)) }
+    {
+        let reference = ClassMember {
+            class: class as usize,
+            key,
+        };
+        self.found.insert(reference, member)?;
+        Ok(())
+    }
+}
