@@ -1,7 +1,7 @@
 #!/usr/bin/env python3
 """Asks the JVM at hand the questions of crates/product_cases/data/runs, and compares what it shows with their answers.
 
-  bench/jvm_cases.py [--list] [FILE..]     these files of data/runs, or all
+  bench/jvm_cases.py [--list] [FILE..]     these files of data/runs, or all, and then the programs of data/java
 
 Each question's classes are put together here, from its text, as files of version 49, whose verifier needs no stack
 maps, or of version 52 where an interface has code or is called by name. `new` gets a call of a constructor that does
@@ -12,6 +12,8 @@ as a LinkageError (the verifier's, or that of resolution), Missing as an error o
 What the verifier refuses, and runs here, since operands are asked for their kinds one by one, is counted apart, and
 so are access checks, which are not made here; `--list` shows each. It ends in 1 where anything else differs that
 DIFFERENCES does not name.
+
+Of the programs of data/java, which the crate's `args` name with their texts, all run but those that end with a Fault.
 """
 import glob
 import os
@@ -204,6 +206,42 @@ def answers(lines):
     return ran.stdout.splitlines()
 
 
+def java_programs():
+    """The programs of a compiler: the entry, the files, and the text that is wanted with its last line, the end."""
+    data = os.path.join(case_files.RUNS, "..")
+    files = []
+    with open(os.path.join(data, "..", "args"), encoding="utf-8") as args:
+        words = args.read().split()
+    for word in words:
+        if word.endswith(".class"):
+            with open(os.path.join(data, word), "rb") as file:
+                files.append(file.read())
+        elif "=" in word:
+            entry, _, name = word.partition("=")
+            with open(os.path.join(data, name), encoding="utf-8") as file:
+                yield name, entry, files, file.read()
+        if not word.endswith(".class"):
+            files = []
+
+
+def asked_of_java():
+    """Compares what a JVM prints with the texts of the programs of a compiler. Answers whether all are the same."""
+    programs = [one for one in java_programs() if not one[3].splitlines()[-1].startswith("Faulted")]
+    lines = [" ".join([digits_of(entry), *(word for file in files for word in (digits_of(name_in(file)), file.hex()))])
+             for _, entry, files, _ in programs]
+    others = 0
+    for (name, _, files, wanted), answer in zip(programs, answers(lines)):
+        ended, _, rest = answer.partition(" :")
+        known = sorted((name_in(file) for file in files), key=case_files.modified_utf8)
+        ends = {"returned": "Returned", **{one: f"Uncaught(Given({place}))" for place, one in enumerate(known)}}
+        shown = bytes.fromhex(rest.split(" ")[0]).decode() + ends.get(ended, ended) + "\n"
+        if shown != wanted:
+            others += 1
+            print(f"other: {name}: JVM: {shown[:200]}")
+    print(f"{len(programs)} programs of a compiler: {len(programs) - others} same, {others} otherwise")
+    return others == 0
+
+
 def main():
     rows, lines, names = [], [], []
     for row in asked_for():
@@ -226,7 +264,8 @@ def main():
                   f"JVM: {answer[:120]}")
     print(f"{len(rows)} questions: {counts['same']} same, {counts['refused']} that the verifier refuses, "
           f"{counts['access']} of access, {counts['known']} known otherwise, {counts['other']} otherwise")
-    sys.exit(1 if counts["other"] else 0)
+    same = bool([word for word in sys.argv[1:] if word != "--list"]) or asked_of_java()
+    sys.exit(0 if same and not counts["other"] else 1)
 
 
 main()

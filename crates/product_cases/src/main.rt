@@ -3,8 +3,9 @@
 //!
 //! What the files expect follows from the rules of the JVM specification (JVMS SE 8).
 //!
-//! A word that ends with `.class` names a class file, which is read and written back, and one that ends with `/` has
-//! the class files since the last such word linked.
+//! A word that ends with `.class` names a class file, which is read and written back. One that ends with `/` has the
+//! class files since the last such word linked, and one with an entry, `=` and a file has them run, and compares what
+//! they show with that file.
 //!
 //! It prints a line for each word, and one for each answer that is not as it is wanted. Its status is 0 where all
 //! are.
@@ -73,6 +74,11 @@ where
     R: rt::Files + AllocGlobal,
     W: Write,
 {
+    if let Some((entry, file)) = word.split_once('=') {
+        let since = mem::replace(classes, Vec::new(rt.alloc()));
+        let wanted = fs::read_to_string(rt, file)?;
+        return do_run(rt.alloc(), out, file, since, entry, &wanted);
+    }
     if word.ends_with('/') {
         let since = mem::replace(classes, Vec::new(rt.alloc()));
         return do_folder(rt.alloc(), out, word, since);
@@ -111,6 +117,25 @@ fn do_folder<W: Write>(
     let text = programs::linked(alloc, classes)?;
     writeln!(out, "{name}: {count} {text}")?;
     Ok(text.as_str() == "linked")
+}
+
+/// Writes whether a run of class files shows what is wanted, and what it shows where it does not.
+fn do_run<W: Write>(
+    alloc: Global,
+    out: &mut W,
+    name: &str,
+    classes: Vec<ClassFile>,
+    entry: &str,
+    wanted: &str,
+) -> io::Result<bool> {
+    let count = classes.len();
+    let shown = programs::shown(alloc, classes, entry)?;
+    if shown.as_str() == wanted {
+        writeln!(out, "{name}: {count} linked, shown as wanted")?;
+        return Ok(true);
+    }
+    writeln!(out, "{name}: {shown}")?;
+    Ok(false)
 }
 
 /// Does the words of the command line in order, and answers whether all is as it is wanted.

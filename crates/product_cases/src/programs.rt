@@ -71,6 +71,12 @@ pub fn linked(alloc: Global, classes: Vec<ClassFile>) -> Result<String, AllocErr
     of_classes(alloc, classes, &question)
 }
 
+/// What a run of classes shows, or why they make no program.
+pub fn shown(alloc: Global, classes: Vec<ClassFile>, entry: &str) -> Result<String, AllocError> {
+    let question = Question::plain(Verb::Show, entry);
+    of_classes(alloc, classes, &question)
+}
+
 fn of_classes(
     alloc: Global,
     classes: Vec<ClassFile>,
@@ -90,6 +96,7 @@ fn of_program(
     match question.verb {
         Verb::Start => runs::started(alloc, program, question.class),
         Verb::Run => runs::run(alloc, program, question.class, question.count),
+        Verb::Show => runs::shown(alloc, program, question.class),
         Verb::Step => runs::steps(alloc, program, question.class, question.count),
         _ => of_classes_alone(alloc, program, question),
     }

@@ -36,6 +36,8 @@ pub enum Verb {
     Start,
     /// `run CLASS LIMIT`: a run by turns, as the number of its steps and what is seen of it.
     Run,
+    /// `show CLASS`: what a whole run prints, and then how it ends.
+    Show,
     /// `step CLASS COUNT`: single steps, what the last gave, and then a run by turns.
     Step,
     /// Anything else.
@@ -97,6 +99,7 @@ fn without_reference<'a>(word: &str, about: &'a str) -> Question<'a> {
         "initializer" => Question::plain(Verb::Initializer, about),
         "statics" => Question::plain(Verb::Statics, about),
         "start" => Question::plain(Verb::Start, about),
+        "show" => Question::plain(Verb::Show, about),
         "run" => counted(Verb::Run, about),
         "step" => counted(Verb::Step, about),
         _ => Question::plain(Verb::Nothing, about),

@@ -117,6 +117,27 @@ fn add_lines(text: &mut String, lines: &[Line]) -> Result<(), AllocError> {
     Ok(())
 }
 
+/// What a run by turns prints, and then how each thread stands, on a line. Of an entry that is refused it is the fault.
+pub fn shown(alloc: Global, program: &Program, entry: &str) -> Result<String, AllocError> {
+    let entries = [name_of(alloc, entry)?];
+    match World::lazy(alloc, program, &entries) {
+        Ok(world) => shown_after(alloc, program, world),
+        Err(fault) => fault.to_string(alloc),
+    }
+}
+
+fn shown_after(alloc: Global, program: &Program, world: World) -> Result<String, AllocError> {
+    let (world, _) = turns(alloc, program, world, 100_000_000)?;
+    let seen = world.seen(alloc)?;
+    let mut text = String::new(alloc);
+    for line in &seen.printed {
+        text.push_str(from_utf8(line.text.as_bytes()).unwrap_or("no text"))?;
+    }
+    add_endings(&mut text, &seen.threads)?;
+    text.push('\n')?;
+    Ok(text)
+}
+
 /// Single steps of thread 0, what the last one gave and what is seen then, and what a run by turns does after it.
 pub fn steps(
     alloc: Global,
