@@ -80,8 +80,8 @@ impl Hierarchy {
         !interfaces.is_empty() || self.given_superclass(class).is_some()
     }
 
-    /// The one default of a class, by marks of all its ancestors. It stands apart, as its marks take 192 KB of the stack:
-    /// a caller that has them in its own frame pays for them at each call.
+    /// The one default of a class, by marks of all its ancestors. It stands apart, as its marks take 192 KB of the
+    /// stack: a caller that has them in its own frame pays for them at each call.
     #[inline(never)]
     fn default_above(&self, class: u32, key: Option<MemberKey>) -> Option<DeclaredMember>
         ensures { (name : NameAndType) → IsLookup self.now.texts name key
