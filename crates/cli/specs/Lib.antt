@@ -1,2 +1,4 @@
 pub mod Status
 pub mod Refusal
+pub mod Runs
+pub mod steps

@@ -1,62 +1,78 @@
-//! The command `lazy`: a class file runs by turns.
-ghost use Rattle.std.specs.Prelude.{IfOk};
+//! The lazy procedure from class files' bytes to what is seen, and the command `lazy` over it.
+ghost use Rattle.std.specs.Prelude.{◌≡◌, ◌⊎◌, IfErr, IfOk};
+ghost use Rattle.std.specs.List.{flat_map};
+ghost use Rattle.init_engine.specs.Turns.{world_of};
+ghost use Rattle.cli.specs.Runs.{IsProgramOf, IsRefused, IsShown, IsShownFrom, texts_of};
 ghost use Rattle.cli.specs.Status.{IsTold};
+ghost use Rattle.cli.specs.steps.Refusals.{IsRefusedEntry};
+ghost use Rattle.cli.specs.declared.fault.Refusal.TheVariants.{Memory};
 
-use crate::status::{Stop, status_of};
+use crate::class_files::linked_program;
+use crate::status::status_of;
+use crate::threads::thread_lines;
 use crate::{Files, Lazy, Refusal, Status};
-use built_in::class_id::ClassId;
-use classfile::{ClassFile, ClassName};
-use init_engine::{Ending, Line, Seen, World};
+use classfile::ClassName;
+use init_engine::{Line, Rest, Seen, World};
 use program::Program;
 use std::alloc::{AllocError, Global};
 
-/// What a run has to tell.
+/// What a run by turns has shown.
 #[derive(Drop)]
-pub struct Outcome {
-    /// What the threads printed, in order.
-    pub printed: Vec<u8>,
-    /// A line for each thread, how it ended.
-    pub threads: String,
-    pub status: Status,
+pub struct Shown {
+    /// What was printed, and how far each thread has come.
+    pub seen: Seen,
+    /// The schedule by its runs: a thread, and how many steps it made in a row.
+    pub schedule: Vec<(u32, u64)>,
+    /// Whether all threads have ended, or none has a step, or one still has.
+    pub rest: Rest,
 }
 
-/// Reads the class file and runs it.
+/// A program of class files, and what a run of it has shown.
+#[derive(Drop)]
+pub struct LazyRun {
+    pub program: Program,
+    pub shown: Shown,
+}
+
+/// Runs class files by turns, from their bytes: each entry's `main` in a thread of its own, each class initialized when
+/// a thread first needs it, for at most so many steps.
 ///
 /// # Errors
-/// The first refusal: a file, its class file, linking, an entry, or memory.
-pub fn run<F: Files>(alloc: Global, words: Lazy<'_>, files: &mut F) -> Result<Outcome, Refusal>
-    ensures { IfOk result (λ outcome. IsTold outcome.status) }
+/// The first that holds of `Class` (a text is no class file), `Link` and `Entry`; or `Memory`.
+pub fn run_class_files(
+    alloc: Global,
+    files: &[Vec<u8>],
+    entries: &[ClassName],
+    limit: u64,
+) -> Result<LazyRun, Refusal>
+    // The texts are class files that link to the program, the entries are its classes, and what is shown is what is
+    // seen after the turns of its lazy start.
+    ensures program { IfOk result (λ run. IsProgramOf (texts_of files.now) run.program) }
+    ensures shown { IfOk result (λ run. IsShown run.program entries.now limit run.shown) }
+
+    // What is answered otherwise is the first that is wrong, or that memory ran out.
+    ensures refusal { IfErr result
+        (λ refusal. (refusal ≡ Memory) ⊎ IsRefused (texts_of files.now) entries.now refusal) }
 {
-    match program_in(alloc, words.file, files) {
-        Ok(program) => run_words(alloc, &program, words),
+    match linked_program(alloc, files) {
+        Ok(program) => match run_program(alloc, &program, entries, limit) {
+            Ok(shown) => Ok(LazyRun { program, shown }),
+            Err(refusal) => Err(refusal),
+        },
         Err(refusal) => Err(refusal),
     }
 }
 
-/// Runs a program as the words say.
-fn run_words(alloc: Global, program: &Program, words: Lazy<'_>) -> Result<Outcome, Refusal>
-    ensures { IfOk result (λ outcome. IsTold outcome.status) }
-{
-    let entries = entries_of(alloc, words.entries)?;
-    run_program(alloc, program, entries.as_slice(), words.limit)
-}
-
-/// The program of the class file of a name.
-fn program_in<F: Files>(alloc: Global, file: &str, files: &mut F) -> Result<Program, Refusal> {
-    match files.get(file) {
-        Ok(bytes) => linked_program(alloc, &[bytes.as_slice()]),
-        Err(fault) => Err(Refusal::of_file(alloc, file, fault)),
-    }
-}
-
-/// Runs a program with these entries, for at most so many steps.
+/// Runs a program by turns, for at most so many steps.
 fn run_program(
     alloc: Global,
     program: &Program,
     entries: &[ClassName],
     limit: u64,
-) -> Result<Outcome, Refusal>
-    ensures { IfOk result (λ outcome. IsTold outcome.status) }
+) -> Result<Shown, Refusal>
+    ensures shown { IfOk result (λ shown. IsShown program.now entries.now limit shown) }
+    ensures refusal { IfErr result
+        (λ refusal. (refusal ≡ Memory) ⊎ IsRefusedEntry program.now entries.now refusal) }
 {
     match World::lazy(alloc, program, entries) {
         Ok(world) => Ok(run_world(alloc, program, world, limit)?),
@@ -64,71 +80,101 @@ fn run_program(
     }
 }
 
-/// Runs a world for at most so many steps.
+/// Runs a world by turns, for at most so many steps.
 fn run_world(
     alloc: Global,
     program: &Program,
     world: World,
     limit: u64,
-) -> Result<Outcome, AllocError>
-    ensures { IfOk result (λ outcome. IsTold outcome.status) }
+) -> Result<Shown, AllocError>
+    ensures { IfOk result (λ shown. IsShownFrom program.now (world_of world) limit shown) }
 {
-    let (world, _schedule) = init_engine::turns(alloc, program, world, limit)?;
-    outcome_of(alloc, program, &world)
+    let (last, schedule) = init_engine::turns(alloc, program, world, limit)?;
+    let seen = last.seen(alloc)?;
+    Ok(Shown {
+        seen,
+        schedule,
+        rest: last.rest(program),
+    })
 }
 
-/// What is to be told of a world.
-fn outcome_of(alloc: Global, program: &Program, world: &World) -> Result<Outcome, AllocError>
-    ensures { IfOk result (λ outcome. IsTold outcome.status) }
-{
-    let seen = world.seen(alloc)?;
-    outcome_of_seen(alloc, program, &seen, Stop::of_world(world, program))
+/// What the command `lazy` has to tell.
+#[derive(Drop)]
+pub(crate) struct Outcome {
+    /// What the threads printed, in order.
+    pub printed: Vec<u8>,
+    /// A line for each thread, how it ended.
+    pub threads: String,
+    pub status: Status,
 }
 
-/// What is to be told of what a world has shown.
-fn outcome_of_seen(
+/// Reads the class files and runs them, as the words say.
+///
+/// # Errors
+/// The first refusal: a file, a class file, linking, an entry, or memory.
+pub(crate) fn run<F: Files>(
     alloc: Global,
-    program: &Program,
-    seen: &Seen,
-    stop: Stop,
-) -> Result<Outcome, AllocError>
+    words: &Lazy<'_>,
+    files: &mut F,
+) -> Result<Outcome, Refusal>
     ensures { IfOk result (λ outcome. IsTold outcome.status) }
 {
-    let printed = printed_bytes(alloc, seen.printed.as_slice())?;
-    let threads = thread_lines(alloc, program, seen.threads.as_slice())?;
+    match contents(alloc, words.files.as_slice(), files) {
+        Ok(contents) => run_contents(alloc, words, contents.as_slice()),
+        Err(refusal) => Err(refusal),
+    }
+}
+
+/// What the files of these names hold.
+fn contents<F: Files>(
+    alloc: Global,
+    names: &[&str],
+    files: &mut F,
+) -> Result<Vec<Vec<u8>>, Refusal> {
+    let mut contents = Vec::new(alloc);
+    for name in names {
+        match files.get(name) {
+            Ok(bytes) => contents.push(bytes)?,
+            Err(fault) => return Err(Refusal::of_file(alloc, name, fault)),
+        }
+    }
+    Ok(contents)
+}
+
+/// Runs the class files of these texts, as the words say.
+fn run_contents(alloc: Global, words: &Lazy<'_>, files: &[Vec<u8>]) -> Result<Outcome, Refusal>
+    ensures { IfOk result (λ outcome. IsTold outcome.status) }
+{
+    let entries = entries_of(alloc, words.entries)?;
+    match run_class_files(alloc, files, entries.as_slice(), words.limit) {
+        Ok(run) => Ok(outcome_of(alloc, &run)?),
+        Err(refusal) => Err(refusal),
+    }
+}
+
+/// What is to be told of a run.
+fn outcome_of(alloc: Global, run: &LazyRun) -> Result<Outcome, AllocError>
+    ensures { IfOk result (λ outcome. IsTold outcome.status) }
+{
+    let shown = &run.shown;
+    let printed = printed_bytes(alloc, shown.seen.printed.as_slice())?;
+    let threads = thread_lines(alloc, &run.program, shown.seen.threads.as_slice())?;
     Ok(Outcome {
         printed,
         threads,
-        status: status_of(seen.threads.as_slice(), stop),
+        status: status_of(shown.seen.threads.as_slice(), shown.rest),
     })
 }
 
 /// What was printed, line after line.
-fn printed_bytes(alloc: Global, lines: &[Line]) -> Result<Vec<u8>, AllocError> {
+fn printed_bytes(alloc: Global, lines: &[Line]) -> Result<Vec<u8>, AllocError>
+    ensures { IfOk result (λ bytes. bytes.items ≡ flat_map (λ line. line.text) lines.now) }
+{
     let mut bytes = Vec::new(alloc);
     for line in lines {
         bytes.extend_from_slice(line.text.as_bytes())?;
     }
     Ok(bytes)
-}
-
-/// The program that class files make. The first file at fault is named by its place, from 0.
-///
-/// # Errors
-/// `Refusal::Class` of the first class file at fault, else what linking refuses; `Refusal::Memory`.
-pub fn linked_program(alloc: Global, files: &[&[u8]]) -> Result<Program, Refusal> {
-    let mut classes = Vec::new(alloc);
-    for (place, bytes) in files.iter().enumerate() {
-        match classfile::read(alloc, bytes) {
-            Ok(class) => add_class(&mut classes, class)?,
-            Err(fault) => return Err(Refusal::of_class(place, fault)),
-        }
-    }
-    program::link(alloc, classes).map_err(Refusal::of_link)
-}
-
-fn add_class(classes: &mut Vec<ClassFile>, class: ClassFile) -> Result<(), AllocError> {
-    Ok(classes.push(class)?)
 }
 
 /// The class names of a list: cut at commas, with slashes for dots.
@@ -147,47 +193,4 @@ pub fn entries_of(alloc: Global, list: &str) -> Result<Vec<ClassName>, AllocErro
 fn entry_of(alloc: Global, name: &str) -> Result<ClassName, AllocError> {
     let name = name.replace(alloc, '.', "/")?;
     ClassName::from_text(alloc, name.as_str())
-}
-
-/// A line for each thread, how it ended.
-///
-/// # Errors
-/// `AllocError` where memory is refused.
-pub fn thread_lines(
-    alloc: Global,
-    program: &Program,
-    threads: &[Ending],
-) -> Result<String, AllocError> {
-    let mut text = String::new(alloc);
-    for (thread, ending) in threads.iter().enumerate() {
-        add_thread_line(alloc, &mut text, program, thread, ending)?;
-    }
-    Ok(text)
-}
-
-fn add_thread_line(
-    alloc: Global,
-    text: &mut String,
-    program: &Program,
-    thread: usize,
-    ending: &Ending,
-) -> Result<(), AllocError> {
-    match ending {
-        Ending::Going => writeln!(text, "thread {thread} going"),
-        Ending::Returned => writeln!(text, "thread {thread} returned"),
-        Ending::Uncaught(class) => add_uncaught(alloc, text, program, thread, *class),
-        Ending::Faulted(kind) => writeln!(text, "thread {thread} faulted {kind}"),
-    }
-}
-
-/// The line of a thread that ended by an exception of this class.
-fn add_uncaught(
-    alloc: Global,
-    text: &mut String,
-    program: &Program,
-    thread: usize,
-    class: ClassId,
-) -> Result<(), AllocError> {
-    let class = program.class_text(alloc, class)?;
-    writeln!(text, "thread {thread} uncaught {class}")
 }

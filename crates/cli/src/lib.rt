@@ -1,19 +1,25 @@
 //! The commands of the program `preinit`, over a caller's files and streams.
 //!
 //! [`command`] does one command for the words after the program's name and answers the exit status;
-//! [`request_of`] reads the words alone, and [`entries_of`], [`linked_program`] and [`thread_lines`] are steps of a
-//! run. What a file, a stream or a terminal gives or takes is outside every contract: the tests show it.
+//! [`request_of`] reads the words alone. [`run_class_files`] leads from class files' bytes to what is seen, and
+//! [`entries_of`], [`linked_program`] and [`thread_lines`] are steps of a run. What a file, a stream or a terminal gives
+//! or takes is outside every contract: the tests show it.
 #![tactic(auto)]
 
+mod class_files;
 mod fault;
 mod files;
 mod lazy;
 mod run;
 mod status;
+mod threads;
 
 pub use command_line::{Lazy, Request, WordsFault, request_of};
 pub use fault::Refusal;
 pub use files::{FileFault, Files};
-pub use lazy::{entries_of, linked_program, thread_lines};
+pub use class_files::linked_program;
+pub use init_engine::Rest;
+pub use lazy::{LazyRun, Shown, entries_of, run_class_files};
 pub use run::command;
-pub use status::{Status, Stop, status_of};
+pub use status::{Status, status_of};
+pub use threads::thread_lines;

@@ -34,7 +34,7 @@ pub fn command<F: Files, W: Write + Send, E: Write>(
     ensures words { result.0 ≡ 2 → result.1 ≡ out }
 {
     let status = match request_of(alloc, words) {
-        Ok(Request::Lazy(words)) => run_lazily(alloc, words, files, &mut out, errors),
+        Ok(Request::Lazy(words)) => run_lazily(alloc, &words, files, &mut out, errors),
         Err(fault) => tell_words(&fault, &mut out, errors),
     };
     (status.code(), out)
@@ -43,7 +43,7 @@ pub fn command<F: Files, W: Write + Send, E: Write>(
 /// Does the command `lazy`.
 fn run_lazily<F: Files, W: Write, E: Write>(
     alloc: Global,
-    words: Lazy<'_>,
+    words: &Lazy<'_>,
     files: &mut F,
     out: &mut W,
     errors: &mut E,

@@ -1,10 +1,9 @@
 //! Exit statuses.
 ghost use Rattle.std.specs.Prelude.{◌≡◌, ◌≤◌};
-ghost use Rattle.cli.specs.Status.{IsTold, code_of, is_end, is_return, run_status};
+ghost use Rattle.cli.specs.Status.{IsTold, code_of, is_return, run_status};
 ghost use Rattle.std.specs.List.{list_all};
 
-use init_engine::{Ending, World};
-use program::Program;
+use init_engine::{Ending, Rest};
 
 /// How a command ended.
 #[derive(Clone, Copy, Debug, PartialEq, Eq)]
@@ -45,43 +44,24 @@ impl Status {
     }
 }
 
-/// Where a run by turns came to its end.
-#[derive(Clone, Copy, Debug, PartialEq, Eq)]
-pub enum Stop {
-    /// A thread has not ended, and none has a step.
-    Stuck,
-    /// All threads ended, or a thread still has a step: the run came to its limit.
-    EndOrLimit,
-}
-
-impl Stop {
-    /// The stop of a run whose last world is stuck, or is not.
-    pub fn of_world(world: &World, program: &Program) -> Stop {
-        if world.stuck(program) {
-            Stop::Stuck
-        } else {
-            Stop::EndOrLimit
-        }
-    }
-}
-
-/// The status of a run by turns, from how its threads ended and where it stopped.
+/// The status of a run by turns, from how its threads ended and whether one still has a step.
 ///
-/// Turns end where no thread has a step, or at the limit. So a run that is not stuck, with a thread
-/// that goes on, has a thread with a step and was ended by the limit.
-pub fn status_of(threads: &[Ending], stop: Stop) -> Status
-    ensures status { result ≡ run_status threads.now stop }
+/// Turns end where no thread has a step, or at the limit. So a run with a thread that still has a step was ended by the
+/// limit.
+pub fn status_of(threads: &[Ending], rest: Rest) -> Status
+    ensures status { result ≡ run_status threads.now rest }
     ensures told { IsTold result }
 {
-    if all_returned(threads) {
-        Status::Done
-    } else if all_ended(threads) {
-        Status::Ended
-    } else {
-        match stop {
-            Stop::Stuck => Status::Stuck,
-            Stop::EndOrLimit => Status::Limit,
+    match rest {
+        Rest::Ended => {
+            if all_returned(threads) {
+                Status::Done
+            } else {
+                Status::Ended
+            }
         }
+        Rest::Stuck => Status::Stuck,
+        Rest::Going => Status::Limit,
     }
 }
 
@@ -91,12 +71,4 @@ fn all_returned(threads: &[Ending]) -> bool
     threads
         .iter()
         .all(|ending| matches!(ending, Ending::Returned))
-}
-
-fn all_ended(threads: &[Ending]) -> bool
-    ensures { result ≡ list_all is_end threads.now }
-{
-    threads
-        .iter()
-        .all(|ending| !matches!(ending, Ending::Going))
 }

@@ -3,7 +3,7 @@
 use crate::commands::{self, words_of};
 use crate::shelf::Shelf;
 use cli::{
-    Lazy, Refusal, Request, Status, Stop, entries_of, linked_program, request_of, status_of,
+    Lazy, Refusal, Request, Rest, Status, entries_of, linked_program, request_of, status_of,
     thread_lines,
 };
 use init_engine::Ending;
@@ -20,8 +20,8 @@ use vm_state::ends::FaultKind;
 /// answered when that stream fails after so many bytes.
 ///
 /// `line WORDS` asks what the words ask for, and `entries LIST` for the names of a list. `program FILE ..` asks why
-/// files make no program, `lines ENDING ..` for the lines of threads, `status ENDING ..` for the status of a run, and
-/// `stuck ENDING ..` for that of one that is stuck.
+/// files make no program, `lines ENDING ..` for the lines of threads, and `ended ENDING ..`, `stuck ENDING ..` and
+/// `limited ENDING ..` for the status of a run whose threads have all ended, none has a step, or one still has.
 pub fn answer(alloc: Global, given: &str, asked: &str) -> Result<String, AllocError> {
     let mut shelf = Shelf::new(alloc);
     let lines = given.replace(alloc, "\n  ", " ")?;
@@ -73,8 +73,9 @@ fn of_part(alloc: Global, shelf: &Shelf, asked: &str) -> Result<String, AllocErr
         "entries" => names_in(alloc, about),
         "program" => of_program(alloc, shelf, about),
         "lines" => lines_of(alloc, shelf, about),
-        "status" => status_text(alloc, about, Stop::EndOrLimit),
-        "stuck" => status_text(alloc, about, Stop::Stuck),
+        "ended" => status_text(alloc, about, Rest::Ended),
+        "stuck" => status_text(alloc, about, Rest::Stuck),
+        "limited" => status_text(alloc, about, Rest::Going),
         _ => String::from_str(alloc, "no question"),
     }
 }
@@ -83,16 +84,19 @@ fn of_part(alloc: Global, shelf: &Shelf, asked: &str) -> Result<String, AllocErr
 fn request(alloc: Global, text: &str) -> Result<String, AllocError> {
     let words = words_of(alloc, text)?;
     match request_of(alloc, &words) {
-        Ok(Request::Lazy(lazy)) => lazy_text(alloc, lazy),
+        Ok(Request::Lazy(lazy)) => lazy_text(alloc, &lazy),
         Err(_) => String::from_str(alloc, "no command"),
     }
 }
 
-fn lazy_text(alloc: Global, lazy: Lazy<'_>) -> Result<String, AllocError> {
+fn lazy_text(alloc: Global, lazy: &Lazy<'_>) -> Result<String, AllocError> {
     let entries = lazy.entries;
     let limit = lazy.limit;
-    let file = lazy.file;
-    format!(in alloc; "lazy [{entries}] {limit} [{file}]")
+    let mut text = format!(in alloc; "lazy [{entries}] {limit}")?;
+    for file in &lazy.files {
+        write!(text, " [{file}]")?;
+    }
+    Ok(text)
 }
 
 /// The names of a list of entries, each between quotes.
@@ -106,10 +110,11 @@ fn names_in(alloc: Global, list: &str) -> Result<String, AllocError> {
 }
 
 /// The files of a text of names; one that is not there is empty.
-fn files_of<'a>(alloc: Global, shelf: &'a Shelf, names: &str) -> Result<Vec<&'a [u8]>, AllocError> {
+fn files_of(alloc: Global, shelf: &Shelf, names: &str) -> Result<Vec<Vec<u8>>, AllocError> {
     let mut files = Vec::new(alloc);
     for name in names.split_whitespace() {
-        files.push(shelf.find(name).unwrap_or(&[]))?;
+        let bytes = shelf.find(name).unwrap_or(&[]);
+        files.push(Vec::from_slice(alloc, bytes)?)?;
     }
     Ok(files)
 }
@@ -161,9 +166,9 @@ fn ending_of(word: &str) -> Ending {
 }
 
 /// The status of a run whose threads ended so.
-fn status_text(alloc: Global, endings: &str, stop: Stop) -> Result<String, AllocError> {
+fn status_text(alloc: Global, endings: &str, rest: Rest) -> Result<String, AllocError> {
     let endings = endings_of(alloc, endings.split_whitespace())?;
-    let status: Status = status_of(&endings, stop);
+    let status: Status = status_of(&endings, rest);
     let code = status.code();
     format!(in alloc; "{code} {status:?}")
 }

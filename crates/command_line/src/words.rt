@@ -27,7 +27,7 @@ Exit status:
 A refusal is one line on standard error, 'preinit: ' and its name.";
 
 const LAZY_ABOUT: &str = "\
-Runs a class file by turns, each class initialized when it is first needed";
+Runs class files by turns, each class initialized when it is first needed";
 
 const LAZY_LONG_ABOUT: &str = "\
 Runs the main method of each entry class in a thread of its own, by turns: in each round every thread takes one step,
@@ -40,7 +40,9 @@ Standard output gets what the program prints. Then standard error gets a line fo
                                 or Missing (a class or member that is not there)
   thread 0 going                it has not ended: the run is stuck, or came to its limit
 
-For example: preinit lazy --entries app.Main Main.class";
+A class file at fault is named by its place among the files, from 0, and an entry at fault by its place in the list.
+
+For example: preinit lazy --entries app.Main app/Main.class app/Table.class";
 
 /// Reads the words after the program's name.
 ///
@@ -59,28 +61,49 @@ fn request_in<'a>(
     words: &'a [&'a str],
 ) -> Result<Request<'a>, WordsFault> {
     match program.try_get_matches_from_mut(words) {
-        Ok(matches) => match command_of(&matches) {
-            Some(request) => Ok(request),
-            None => Err(missing(alloc, program)),
+        Ok(matches) => match command_of(alloc, &matches) {
+            Ok(Some(request)) => Ok(request),
+            Ok(None) => Err(missing(alloc, program)),
+            Err(_) => Err(WordsFault::Memory),
         },
         Err(error) => Err(fault_of(alloc, &error)),
     }
 }
 
 /// The command that was matched.
-fn command_of<'a>(matches: &ArgMatches<'a>) -> Option<Request<'a>> {
+fn command_of<'a>(
+    alloc: Global,
+    matches: &ArgMatches<'a>,
+) -> Result<Option<Request<'a>>, AllocError> {
     match matches.subcommand() {
-        Some(("lazy", matches)) => Some(Request::Lazy(lazy_of(matches)?)),
-        _ => None,
+        Some(("lazy", matches)) => lazy_of(alloc, matches),
+        _ => Ok(None),
     }
 }
 
-fn lazy_of<'a>(matches: &ArgMatches<'a>) -> Option<Lazy<'a>> {
-    Some(Lazy {
-        entries: matches.get_str("entries")?,
-        limit: matches.get_one::<u64>("limit")?,
-        file: matches.get_str("file")?,
-    })
+fn lazy_of<'a>(alloc: Global, matches: &ArgMatches<'a>) -> Result<Option<Request<'a>>, AllocError> {
+    match (matches.get_str("entries"), matches.get_one::<u64>("limit")) {
+        (Some(entries), Some(limit)) => {
+            let files = files_of(alloc, matches)?;
+            Ok(Some(Request::Lazy(Lazy {
+                entries,
+                limit,
+                files,
+            })))
+        }
+        _ => Ok(None),
+    }
+}
+
+/// The names of the files, in the order given.
+fn files_of<'a>(alloc: Global, matches: &ArgMatches<'a>) -> Result<Vec<&'a str>, AllocError> {
+    let mut files = Vec::new(alloc);
+    if let Some(names) = matches.get_strs("file") {
+        for name in names {
+            files.push(*name)?;
+        }
+    }
+    Ok(files)
 }
 
 /// The fault of words without a command.
@@ -151,6 +174,6 @@ fn limit<'a>(alloc: Global) -> Arg<'a> {
 fn file<'a>(alloc: Global) -> Arg<'a> {
     Arg::new(alloc, "file")
         .value_name("FILE")
-        .required(true)
-        .help("The class file to run")
+        .num_args(0..)
+        .help("The class files to run, in any order")
 }

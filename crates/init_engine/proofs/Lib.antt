@@ -6,3 +6,6 @@ pub mod ScheduleLemmas
 pub mod StretchRuns
 pub mod ThreadLemmas
 pub mod WorldSteps
+pub mod EntryLemmas
+pub mod StartingLemmas
+pub mod RestLemmas

@@ -6,7 +6,8 @@ use Rattle.std.proofs.lemmas.List.{length-replicate, replicate-append-replicate}
 use Rattle.semantics.specs.Programs.{Program}
 use Rattle.semantics.specs.Worlds.{World, Run, step}
 use Rattle.semantics.proofs.RunsLemmas.{runs_join_lem, run_more}
-use Rattle.init_engine.specs.Rounds.{Asked, nobody, steps, passes, Turns, idle, limited, goes_on}
+use Rattle.init_engine.specs.Rounds.{Asked, nobody, steps, passes, Turns, idle, limited, goes_on, HasStopped}
+use borrow.Author.Count.{below_more}
 use Rattle.init_engine.specs.declared.world.Turn.TheVariants.{Moved, Waiting, Ended}
 use Rattle.init_engine.specs.steps.Rounds.{IsAsking, IsAskedSo, IsRound, IsStretch}
 
@@ -119,6 +120,45 @@ run_of_turns (idle asked) = run_of_asked asked
 run_of_turns (limited asked within reached) = run_of_asked asked
 run_of_turns {P} (goes_on {most} {w} {next} {last} {round} {rest} asked some turns) =
     runs_join_lem P w next last round rest (run_of_asked asked) (run_of_turns turns)
+
+-- ---- why turns ended
+
+asked_few : {P : Program} {first : World} {most t : ℕ} {schedule : List ℕ} {now : World}
+    → Asked P first most t schedule now → length schedule ≤ most
+asked_few nobody = omega arith
+asked_few (steps {t} {schedule} asked room stepped) = omega (arith, length-append schedule (t ∷ []), room)
+asked_few (passes asked room stands) = asked_few asked
+
+-- nobody had a step
+pub record Passed (P : Program) (first now : World) (asked : ℕ) : Type 0 where
+  pub same : now ≡ first
+  pub stand : (t : ℕ) → t < asked → step P first t ≡ None
+
+passed_more : (P : Program) (first w : World) (t : ℕ) → Passed P first w t → step P w t ≡ None
+    → Passed P first w (t + 1)
+passed_more P first w t before stands =
+    let here : step P first t ≡ None = subst (λ (v : World). step P v t ≡ None) before.same stands in
+    record { same = before.same; stand = below_more (λ u. step P first u ≡ None) t before.stand here }
+
+asked_idle : {P : Program} {first : World} {most t : ℕ} {schedule : List ℕ} {now : World}
+    → Asked P first most t schedule now → schedule ≡ [] → Passed P first now t
+asked_idle nobody none = record { same = refl; stand = λ t below. absurd (omega arith) }
+asked_idle (steps {t} {schedule} asked room stepped) none =
+    absurd (omega (arith, length-append schedule (t ∷ []), ap length none))
+asked_idle {P} {first} (passes {t} {schedule} {w} asked room stands) none =
+    passed_more P first w t (asked_idle asked none) stands
+
+pub stop_of_turns : {P : Program} {count most : ℕ} {first : World} {schedule : List ℕ} {last : World}
+    → Turns P count most first schedule last → HasStopped P count most schedule last
+stop_of_turns {P} {count} (idle asked) =
+    let passed = asked_idle asked refl in
+    inr (λ t below. subst (λ (v : World). step P v t ≡ None) (sym passed.same) (passed.stand t below))
+stop_of_turns (limited asked within reached) = inl reached
+stop_of_turns {P} {count} {most} (goes_on {most} {w} {next} {last} {round} {rest} asked some turns) =
+    elim (stop_of_turns turns) as (λ s. HasStopped P count most (round ++ rest) last) [
+    | inl reached ↦ inl (omega (arith, length-append round rest, reached, asked_few asked))
+    | inr stand ↦ inr stand
+    ]
 
 -- ---- for the loops
 

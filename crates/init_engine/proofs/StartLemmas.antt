@@ -1,14 +1,13 @@
 -- The tables of the lazy start are its shared state.
-use Rattle.std.proofs.Common.{◌≡◌, ℕ, zero, suc, false, List, [], ◌∷◌, ◌++◌, map, slice_get, refl, ap, ◌∙◌, arith}
-use Rattle.std.proofs.Common.{nat_lt, if◌then◌else◌}
+use Rattle.std.proofs.Common.{◌≡◌, ℕ, zero, suc, ◌+◌, true, false, List, [], ◌∷◌, ◌++◌, map, length, slice_get, refl}
+use Rattle.std.proofs.Common.{nat_lt, if◌then◌else◌, replicate, ap, ◌∙◌, arith, add-zero}
 use Rattle.std.proofs.Math.Path.{fun_ext}
-use Rattle.std.proofs.lemmas.Result.{IfOk-weaker}
-use Rattle.std.specs.Prelude.{IfOk, Result}
+use Rattle.std.proofs.lemmas.List.{replicate-append-replicate}
 use Rattle.vm_state.specs.declared.classes.ClassArea.{ClassArea as Area}
-use Rattle.vm_state.specs.declared.frame.Frame.{Frame}
 use Rattle.vm_state.specs.declared.heap.Heap.{Heap}
-use Rattle.vm_state.specs.Objects.{row_of}
-use Rattle.semantics.specs.Steps.{Going}
+use Rattle.vm_state.specs.Objects.{ObjectRow, row_of}
+use Rattle.vm_state.specs.SharedTables.{SharedTables}
+use Rattle.semantics.specs.Steps.{Thread as DefinedThread, Going}
 use Rattle.vm_state.specs.declared.value.Value.{Value}
 use Rattle.vm_state.specs.declared.object.Object.{Object}
 use Rattle.vm_state.specs.declared.classes.ClassState.{ClassState}
@@ -19,11 +18,10 @@ use Rattle.vm_state.specs.SharedState.{Pool, Region, SharedState}
 use Rattle.vm_state.specs.Shares.{shared_of}
 use Rattle.vm_state.specs.Pools.{pool_in}
 use Rattle.semantics.specs.Worlds.{World, argument, argument_pool, empty_pool, blank_region, lazy_start}
+use Rattle.semantics.specs.Worlds.{threads_from}
 use Rattle.program.specs.declared.class.Class.{Class}
 use Rattle.program.specs.Tables.{Tables, statics_if}
 use Rattle.machine.specs.Linked.{blank_areas, program_of, start_frame}
-use Rattle.init_engine.specs.Standing.{Standing}
-use Rattle.init_engine.specs.Turns.{world_of}
 
 blank_state : (ks : List Class) (c : ℕ) → (area_at (blank_areas ks) c).state ≡ Uninitialized
 blank_state [] c = refl
@@ -42,12 +40,38 @@ blank_field [] c f = refl
 blank_field (k ∷ ks) zero f = zero_at k.statics f
 blank_field (k ∷ ks) (suc c) f = blank_field ks c f
 
-not_first : (t : ℕ) → nat_lt (suc t) 1 ≡ false
-not_first t = grind arith
+-- ---- objects: each thread's argument
 
-pool_at : (t : ℕ) → pool_in (row_of argument ∷ []) t ≡ (if nat_lt t 1 then argument_pool else empty_pool)
-pool_at zero = refl
-pool_at (suc t) = rw (not_first t) refl
+below_none : (t : ℕ) → nat_lt t 0 ≡ false
+below_none t = grind arith
+
+first_below : (n : ℕ) → nat_lt 0 (suc n) ≡ true
+first_below n = grind arith
+
+next_below : (t n : ℕ) → nat_lt (suc t) (suc n) ≡ nat_lt t n
+next_below t n = grind arith
+
+pool_at : (n t : ℕ) → pool_in (replicate n (row_of argument)) t ≡ (if nat_lt t n then argument_pool else empty_pool)
+pool_at zero t = rw (below_none t) refl
+pool_at (suc n) zero = rw (first_below n) refl
+pool_at (suc n) (suc t) = rw (next_below t n) (pool_at n t)
+
+-- one more of equal elements
+pub replicate_more : {X : Type 0} (n : ℕ) (x : X) → replicate n x ++ x ∷ [] ≡ replicate (n + 1) x
+replicate_more n x = replicate-append-replicate n 1 x
+
+abbrev heap_by : List ObjectRow → Heap
+heap_by rows = record { classes = []; threads = rows }
+
+-- a heap with one more thread's argument
+pub one_more : (n : ℕ) (old new : Heap) (first : Object) → first ≡ argument
+    → old ≡ record { classes = []; threads = replicate n (row_of argument) }
+    → new ≡ record old { threads = old.threads ++ row_of first ∷ [] } →
+    new ≡ record { classes = []; threads = replicate (n + 1) (row_of argument) }
+one_more n old new first is before more =
+    more ∙ (ap (λ (o : Object). record old { threads = old.threads ++ row_of o ∷ [] }) is
+    ∙ (ap (λ (h : Heap). record h { threads = h.threads ++ row_of argument ∷ [] }) before
+    ∙ ap (λ (rows : List ObjectRow). heap_by rows) (replicate_more n (row_of argument))))
 
 abbrev region : (ℕ → Value) → Pool → Region
 region fields pool = record { fields = fields; pool = pool }
@@ -65,42 +89,50 @@ states-blank : (ks : List Class) → let nowhere : ℕ → ClassState = λ c. Un
 unfolding states_of
 states-blank ks = fun_ext (blank_state ks)
 
-pub start_shared : (P : Tables) (c : ℕ)
-    → shared_of
-    (record { classes = blank_areas P.classes; heap = record { classes = []; threads = row_of argument ∷ [] } }) []
-    ≡ (lazy_start (program_of P) (c ∷ [])).shared
+-- the tables of so many threads before any class is initialized
+abbrev tables_by : List Area → Heap → SharedTables
+tables_by classes heap = record { classes = classes; heap = heap }
+
+start_shared : (P : Tables) (cs : List ℕ)
+    → shared_of (tables_by (blank_areas P.classes) (heap_by (replicate (length cs) (row_of argument)))) []
+    ≡ (lazy_start (program_of P) cs).shared
 unfolding shared_of
-start_shared P c =
-    ap (λ states. shared_by states (λ d. region (fields_of (blank_areas P.classes) d) (pool_in [] d))
-    (pool_in (row_of argument ∷ []))) (states-blank P.classes)
-    ∙ (ap (λ (regions : ℕ → Region). shared_by (λ d. Uninitialized) regions (pool_in (row_of argument ∷ [])))
-    (fun_ext (blank_region-is P))
-    ∙ ap (λ (pools : ℕ → Pool). shared_by (λ d. Uninitialized) (blank_region (program_of P)) pools) (fun_ext pool_at))
+start_shared P cs =
+    let pools : ℕ → Pool = pool_in (replicate (length cs) (row_of argument)) in
+    ap (λ states. shared_by states (λ d. region (fields_of (blank_areas P.classes) d) (pool_in [] d)) pools)
+    (states-blank P.classes)
+    ∙ (ap (λ (regions : ℕ → Region). shared_by (λ d. Uninitialized) regions pools) (fun_ext (blank_region-is P))
+    ∙ ap (λ (ps : ℕ → Pool). shared_by (λ d. Uninitialized) (blank_region (program_of P)) ps)
+    (fun_ext (pool_at (length cs))))
 
-pub one_thread : (none some : Heap) (first : Object) → none ≡ record { classes = []; threads = [] } → first ≡ argument
-    → some ≡ record none { threads = none.threads ++ row_of first ∷ [] } →
-    some ≡ record { classes = []; threads = row_of argument ∷ [] }
-one_thread none some first empty is more =
-    more ∙ (ap (λ (h : Heap). record h { threads = h.threads ++ row_of first ∷ [] }) empty
-    ∙ ap (λ (o : Object). record { classes = []; threads = row_of o ∷ [] }) is)
+abbrev world_by : SharedState → List DefinedThread → World
+world_by shared threads = record { shared = shared; threads = threads }
 
-abbrev world_by : SharedState → Frame → World
-world_by shared frame = record { shared = shared; threads = Going (frame ∷ []) [] ∷ [] }
+pub started : (P : Tables) (cs : List ℕ) (threads : List DefinedThread) (classes : List Area) (heap : Heap) (w : World)
+    → threads ≡ threads_from (program_of P) 0 cs → classes ≡ blank_areas P.classes →
+    heap ≡ record { classes = []; threads = replicate (length cs) (row_of argument) } →
+    w ≡ world_by (shared_of (tables_by classes heap) []) threads
+    → w ≡ lazy_start (program_of P) cs
+started P cs threads classes heap w are-threads are-classes is-heap is =
+    is
+    ∙ (ap (λ (ts : List DefinedThread). world_by (shared_of (tables_by classes heap) []) ts) are-threads
+    ∙ (ap (λ (ks : List Area). world_by (shared_of (tables_by ks heap) []) (threads_from (program_of P) 0 cs))
+    are-classes
+    ∙ (ap (λ (h : Heap). world_by (shared_of (tables_by (blank_areas P.classes) h) [])
+    (threads_from (program_of P) 0 cs)) is-heap
+    ∙ ap (λ (sh : SharedState). world_by sh (threads_from (program_of P) 0 cs)) (start_shared P cs))))
 
-pub started : {E : Type 0} (P : Tables) (c : ℕ) (frame : Frame) (classes : List Area) (heap : Heap)
-    (r : Result Standing E) → frame ≡ start_frame c 0 → classes ≡ blank_areas P.classes →
-    heap ≡ record { classes = []; threads = row_of argument ∷ [] } →
-    IfOk r (λ w. world_of w ≡ world_by (shared_of (record { classes = classes; heap = heap }) []) frame)
-    → IfOk r (λ w. world_of w ≡ lazy_start (program_of P) (c ∷ []))
-started P c frame classes heap r is-frame are-classes is-heap =
-    let threads = ap (world_by (shared_of (record { classes = classes; heap = heap }) [])) is-frame in
-    let blank =
-    ap (λ (cs : List Area). world_by (shared_of (record { classes = cs; heap = heap }) []) (start_frame c 0))
-    are-classes in
-    let objects =
-    ap (λ (h : Heap). world_by (shared_of (record { classes = blank_areas P.classes; heap = h }) [])
-    (start_frame c 0)) is-heap in
-    let tables = ap (λ (sh : SharedState). world_by sh (start_frame c 0)) (start_shared P c) in
-    IfOk-weaker r (λ w. world_of w ≡ world_by (shared_of (record { classes = classes; heap = heap }) []) frame)
-    (λ w. world_of w ≡ lazy_start (program_of P) (c ∷ []))
-    (λ w same. same ∙ (threads ∙ (blank ∙ (objects ∙ tables))))
+-- ---- threads
+
+abbrev pub at_start : ℕ → ℕ → DefinedThread
+at_start c t = Going (start_frame c t ∷ []) []
+
+-- one thread more, at the end
+pub threads_more : (P : Tables) (t : ℕ) (cs : List ℕ) (c : ℕ)
+    → threads_from (program_of P) t (cs ++ c ∷ []) ≡ threads_from (program_of P) t cs ++ at_start c (t + length cs) ∷ []
+threads_more P t [] c = rw (add-zero t) refl
+threads_more P t (d ∷ cs) c =
+    let counted : t + 1 + length cs ≡ t + length (d ∷ cs) = omega arith in
+    ap (λ (ts : List DefinedThread). at_start d t ∷ ts)
+    (threads_more P (t + 1) cs c
+    ∙ ap (λ k. threads_from (program_of P) (t + 1) cs ++ at_start c k ∷ []) counted)

@@ -39,7 +39,7 @@ module _ (P : Program) (threads : List Thread) (i : ℕ) (old : ThreadView)
   abbrev before : World
   before = world_with threads old.shared old.printed
 
-  stepping : step P before i ≡ put_thread before i (stepped P i old)
+  pub stepping : step P before i ≡ put_thread before i (stepped P i old)
   stepping = ap (step_of P before i) (thread_at threads i old.thread at)
 
   pub steps_to : (new : ThreadView) → IsTurnOf P i Moved old new → step P before i ≡ Some (world_at threads i new)
@@ -49,7 +49,7 @@ module _ (P : Program) (threads : List Thread) (i : ℕ) (old : ThreadView)
       ∙ ap (λ ts. Some (record { shared = shared_of new.shared new.printed; threads = ts }))
       (sym (map-set thread_of threads i new.thread)))
 
-  has_no_step : stepped P i old ≡ None → step P before i ≡ None
+  pub has_no_step : stepped P i old ≡ None → step P before i ≡ None
   has_no_step none = stepping ∙ ap (put_thread before i) none
 
 pub stays_same : (threads : List Thread) (i : ℕ) (old new : ThreadView) → slice_get threads i ≡ Some old.thread →

@@ -1,6 +1,6 @@
 -- Turns: in each round threads 0, 1, .. take one step each if they have one. It ends after a round without a step, or
 -- at the limit.
-use Rattle.std.specs.Prelude.{◌≡◌, ℕ, ◌+◌, ◌-◌, ◌<◌, ◌≤◌, List, [], ◌∷◌, ◌++◌, Some, None, length}
+use Rattle.std.specs.Prelude.{◌≡◌, ℕ, ◌+◌, ◌-◌, ◌<◌, ◌≤◌, ◌⊎◌, List, [], ◌∷◌, ◌++◌, Some, None, length}
 use Rattle.semantics.specs.Programs.{Program}
 use Rattle.semantics.specs.Worlds.{World, step}
 
@@ -24,3 +24,8 @@ pub data Turns (P : Program) (count : ℕ) : ℕ → World → List ℕ → Worl
   goes_on : {most : ℕ} {w next last : World} {round rest : List ℕ} → Asked P w most count round next → 0 < length round
       → Turns P count (most - length round) next rest last →
       Turns P count most w (round ++ rest) last
+
+-- Why turns of so many threads ended: so many steps were made, or no thread has one.
+abbrev pub HasStopped : Program → ℕ → ℕ → List ℕ → World → Type 0
+HasStopped P count most schedule last =
+    (length schedule ≡ most) ⊎ ((t : ℕ) → t < count → step P last t ≡ None)

@@ -1,3 +1,5 @@
 pub mod Progress
 pub mod Rounds
 pub mod Threads
+pub mod Rests
+pub mod Starts

@@ -10,6 +10,7 @@ mod turning;
 pub mod world;
 
 pub use fault::EntryFault;
+pub use stuck::Rest;
 pub use turning::turns;
 pub use vm_state::ends::Ending;
 pub use vm_state::text::{Line, Text};

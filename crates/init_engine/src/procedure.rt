@@ -3,22 +3,27 @@
 ghost use Rattle.std.specs.Prelude.{◌≡◌, ◌∷◌, [], List, IfOk, OnOk, OnErr, Some, None, IsSome};
 ghost use Rattle.vm_state.specs.declared.initialization.Level.{Level};
 ghost use Rattle.vm_state.specs.declared.text.Line.{Line};
-ghost use Rattle.vm_state.specs.Shares.{shared_of, SharesTheSame, SetsState, Begins};
+ghost use Rattle.vm_state.specs.Shares.{shared_of, SharesTheSame, Begins};
 ghost use Rattle.vm_state.specs.Stacks.{segment_of, levels_of};
-ghost use Rattle.semantics.specs.Steps.{Going, standing, initialization_of, finishes, initializes, step_thread};
+ghost use Rattle.vm_state.specs.declared.value.Maker.{Maker};
+ghost use Rattle.semantics.specs.Rows.{run_row};
+ghost use Rattle.semantics.specs.Steps.{Going, standing, initialization_of, finishes, initializes, fails, step_thread};
+ghost use Rattle.machine.specs.Failures.{failure};
 ghost use Rattle.machine.specs.Linked.{program_of, initializer_frame};
 ghost use Rattle.program.specs.Tables.{statics_in};
 ghost use Rattle.init_engine.specs.steps.Progress.{Stands, Steps, StaysPut, left_by_step};
 
 use machine::entering::initializer_frame;
+use machine::failing::fail;
 use machine::{Effect, effect};
 use program::Program;
 use std::alloc::{AllocError, Global};
 use vm_state::classes::{ClassState, Usability};
-use vm_state::ends::{End, FaultKind};
+use vm_state::ends::End;
 use vm_state::initialization::{Frames, Initialization, Parents};
 use vm_state::shared::Shared;
 use vm_state::text::Text;
+use vm_state::value::Name;
 
 /// What a step of a thread did.
 #[derive(Drop)]
@@ -154,15 +159,31 @@ fn finish(
     }
 }
 
-/// Fail (steps 7 and 11): the class of the highest initialization is erroneous. Until exceptions are there its thread
-/// ends with it.
-fn fail(alloc: Global, shared: &mut Shared, class: u32) -> Result<Progress, AllocError>
-    ensures answer { IfOk result (λ r. r ≡ Progress.Ended (End.Faulted FaultKind.Unsupported)) }
-    ensures ok { OnOk result (SetsState shared.old shared.new class ClassState.Erroneous) }
-    ensures err { OnErr result (SharesTheSame shared.old shared.new) }
+/// Fail (steps 7, 10 and 11): the class of the highest initialization is erroneous, its initialization goes from the
+/// stack, and an exception is raised below. The cause is the exception that its class initialization method ended by,
+/// or none where a parent's initialization failed.
+fn step_fail(
+    alloc: Global,
+    program: &Program,
+    frames: &mut Frames,
+    shared: &mut Shared,
+    class: u32,
+    cause: Option<Name>,
+) -> Result<Progress, AllocError>
+    requires { IsSome frames.old.levels }
+    ensures thread { frames.new.thread ≡ frames.old.thread }
+    ensures fails { IfOk result (λ r. (l : Level) (ls : List Level) (p : List Line) → levels_of frames.old ≡ l ∷ ls
+        → fails (program_of program.now) class l.under ls
+        (run_row frames.old.thread (Maker.Class class) (shared_of shared.old p) (failure program.now cause))
+        ≡ left_by_step r frames.old.thread frames.new (shared_of shared.new p)) }
+    ensures stays { IfOk result (λ r. StaysPut r frames.old frames.new shared.old shared.new) }
+    ensures err { OnErr result ((frames.new ≡ frames.old) × (SharesTheSame shared.old shared.new)) }
 {
-    shared.set_state(alloc, class, ClassState::Erroneous)?;
-    Ok(Progress::Ended(End::Faulted(FaultKind::Unsupported)))
+    match fail(alloc, program, frames, shared, class, cause) {
+        Ok(Some(end)) => Ok(Progress::Ended(end)),
+        Ok(None) => Ok(Progress::Moved),
+        Err(error) => Err(error),
+    }
 }
 
 /// Advance to the class initialization method (step 9), or finish where there is none.
@@ -213,8 +234,8 @@ fn step_initialization(
     };
     let level = &levels.highest;
     let class = level.initialization.class;
-    if level.initialization.pending.is_some() {
-        return fail(alloc, shared, class);
+    if let Some(exception) = level.initialization.pending {
+        return step_fail(alloc, program, frames, shared, class, Some(exception));
     }
     match level.initialization.left.first() {
         Some(parent) => match shared.state(parent).usability(frames.thread) {
@@ -224,7 +245,7 @@ fn step_initialization(
             }
             Usability::Fresh => step_begin(alloc, program, frames, shared, parent),
             Usability::Busy => Ok(Progress::Waits),
-            Usability::Broken => fail(alloc, shared, class),
+            Usability::Broken => step_fail(alloc, program, frames, shared, class, None),
         },
         None => {
             if level.initialization.begun {

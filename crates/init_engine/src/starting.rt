@@ -1,14 +1,20 @@
 //! The start of the lazy procedure.
 
-ghost use Rattle.std.specs.Prelude.{◌≡◌, ◌≢◌, ◌↔◌, ◌∷◌, [], length, Err, IfOk, IsSome, OnErr};
-ghost use Rattle.semantics.specs.Worlds.{argument, lazy_start};
-ghost use Rattle.machine.specs.Linked.{program_of};
-ghost use Rattle.program.specs.Tables.{main_in};
+ghost use Rattle.std.specs.Prelude.{◌≡◌, ◌⊎◌, ◌≤◌, ◌∷◌, [], length, map, replicate, IfErr, IfOk, OnOk};
+ghost use Rattle.vm_state.specs.Objects.{row_of};
+ghost use Rattle.semantics.specs.Worlds.{argument, lazy_start, threads_from};
+ghost use Rattle.machine.specs.Linked.{program_of, start_frame};
+ghost use Rattle.init_engine.specs.Numbering.{AreNumbered};
+ghost use Rattle.init_engine.specs.Threads.{thread_of, HasNumber};
+ghost use Rattle.program.specs.Tables.{Tables};
+ghost use Rattle.semantics.specs.Steps.{Going};
 ghost use Rattle.init_engine.specs.Turns.{world_of};
-ghost use Rattle.init_engine.specs.Starts.{IsStart};
+ghost use Rattle.init_engine.specs.Starts.{IsEntryCount, IsCountFault, IsEntry, AreEntries, IsStart, IsAtFault};
+ghost use Rattle.init_engine.specs.Starts.{IsFirstAtFault, EntriesFail};
+ghost use Rattle.init_engine.specs.declared.fault.EntryFault.TheVariants.{Memory};
 
 use crate::fault::EntryFault;
-use crate::world::World;
+use crate::world::{Thread, World};
 use built_in::class_id::{ArrayType, BuiltIn, ClassId, ElementType};
 use classfile::ClassName;
 use machine::entering::{blank_classes, start_frame};
@@ -18,23 +24,56 @@ use vm_state::heap::Heap;
 use vm_state::object::{Monitor, Object, Slots};
 use vm_state::shared::Shared;
 
-/// The class of an entry that may be run.
+/// The most entries that are run together: a thread each.
+const MOST: usize = 64;
+
+/// Refuses a count of entries that there may not be.
+fn check_count(count: usize) -> Result<(), EntryFault>
+    ensures ok { OnOk result (IsEntryCount count) }
+    ensures fault { IfErr result (λ fault. IsCountFault count fault) }
+{
+    if count == 0 {
+        return Err(EntryFault::Count);
+    }
+    if count > MOST {
+        return Err(EntryFault::Count);
+    }
+    Ok(())
+}
+
+/// The class of the entry of a place, which may be run.
 fn entry_class(
     alloc: Global,
     program: &Program,
-    entry: usize,
+    place: usize,
     name: &ClassName,
 ) -> Result<u32, EntryFault>
-    ensures main { IfOk result (λ class. IsSome (main_in program.now class)) }
-    ensures fault { result ≢ Err EntryFault.Count }
+    ensures entry { IfOk result (λ class. IsEntry program.now name.now class) }
+    ensures fault { IfErr result (λ fault. (fault ≡ Memory) ⊎ IsAtFault program.now name.now place fault) }
 {
     let Some(class) = program.number_of(alloc, name)? else {
-        return Err(EntryFault::Unknown { entry });
+        return Err(EntryFault::Unknown { entry: place });
     };
     if program.main(class).is_none() {
-        return Err(EntryFault::NoMain { entry });
+        return Err(EntryFault::NoMain { entry: place });
     }
     Ok(class)
+}
+
+/// The classes of entries which may all be run.
+fn entry_classes(
+    alloc: Global,
+    program: &Program,
+    entries: &[ClassName],
+) -> Result<Vec<u32>, EntryFault>
+    ensures entries { IfOk result (λ classes. AreEntries program.now entries.now classes.items) }
+    ensures fault { IfErr result (λ fault. (fault ≡ Memory) ⊎ IsFirstAtFault program.now entries.now fault) }
+{
+    let mut classes = Vec::new(alloc);
+    for (place, name) in entries.iter().enumerate() {
+        classes.push(entry_class(alloc, program, place, name)?)?;
+    }
+    Ok(classes)
 }
 
 /// The array of no strings that `main` is called with.
@@ -51,38 +90,72 @@ fn argument(alloc: Global) -> Object
     }
 }
 
-/// The world of one thread that is about to need its entry class.
-fn start(alloc: Global, program: &Program, class: u32) -> Result<World, AllocError>
-    ensures { IfOk result (λ w. world_of w ≡ lazy_start (program_of program.now) (class ∷ [])) }
+/// The argument of each thread, its first object, and no others.
+fn arguments(alloc: Global, count: usize) -> Result<Heap, AllocError>
+    ensures { IfOk result (λ heap. heap ≡ record { classes = []; threads = replicate count (row_of argument) }) }
 {
     let mut heap = Heap::new(alloc);
-    heap.add_thread(alloc, argument(alloc))?;
+    for _ in 0..count {
+        heap.add_thread(alloc, argument(alloc))?;
+    }
+    Ok(heap)
+}
+
+/// Threads in the order of their numbers, each about to need its entry class.
+fn threads_of(alloc: Global, classes: &[u32]) -> Result<Vec<Thread>, AllocError>
+    requires { length classes.now ≤ 64 }
+    ensures threads { IfOk result (λ threads. (P : Tables) → map thread_of threads.items
+        ≡ threads_from (program_of P) 0 classes.now) }
+    ensures numbered { IfOk result (λ threads. AreNumbered threads.items) }
+    ensures count { IfOk result (λ threads. length threads.items ≤ 64) }
+{
+    let mut threads = Vec::new(alloc);
+    for (number, class) in classes.iter().enumerate() {
+        threads.push(starting(alloc, *class, number as u32)?)?;
+    }
+    Ok(threads)
+}
+
+/// A thread that is about to need its entry class.
+fn starting(alloc: Global, class: u32, number: u32) -> Result<Thread, AllocError>
+    ensures thread { IfOk result (λ thread. thread_of thread ≡ Going (start_frame class number ∷ []) []) }
+    ensures number { IfOk result (λ thread. HasNumber thread number) }
+{
+    let top = start_frame(alloc, class, number)?;
+    Ok(Thread::on(alloc, number, top))
+}
+
+/// The world in which a thread for each class is about to need it.
+fn start(alloc: Global, program: &Program, classes: &[u32]) -> Result<World, AllocError>
+    requires { length classes.now ≤ 64 }
+    ensures { IfOk result (λ w. world_of w ≡ lazy_start (program_of program.now) classes.now) }
+{
+    let heap = arguments(alloc, classes.len())?;
     let shared = Shared::new(blank_classes(alloc, program)?, heap);
-    World::of_thread(alloc, start_frame(alloc, class, 0)?, shared)
+    let threads = threads_of(alloc, classes)?;
+    Ok(World::of_threads(alloc, threads, shared))
 }
 
 impl World {
     /// The lazy start: no class is initialized, and a thread for each entry is about to need its entry class
-    /// (JVMS 5.2, 5.5).
+    /// (JVMS 5.2, 5.5). One class may be the entry of several threads.
     ///
     /// # Errors
-    /// `Count` where there is not just one entry (more come later), else the first entry at fault: `Unknown` where no
-    /// class of its name was given, `NoMain` where the class declares no such `main` itself.
+    /// `Count` where there is no entry or more than 64, else the first entry at fault: `Unknown` where no class of its
+    /// name was given, `NoMain` where the class declares no such `main` itself.
     pub fn lazy(
         alloc: Global,
         program: &Program,
         entries: &[ClassName],
     ) -> Result<World, EntryFault>
-        // The world is the start of a class that has such a `main`.
-        ensures start { IfOk result (λ w. IsStart program.now (world_of w)) }
-        ensures count { (result ≡ Err EntryFault.Count) ↔ (length entries.now ≢ 1) }
+        // The world is the start of the classes of these names, each with a `main` of its own.
+        ensures start { IfOk result (λ w. IsStart program.now entries.now (world_of w)) }
+
+        // What is answered otherwise is what is wrong with the entries, or that memory ran out.
+        ensures fault { IfErr result (λ fault. (fault ≡ Memory) ⊎ EntriesFail program.now entries.now fault) }
     {
-        match entries {
-            [name] => {
-                let class = entry_class(alloc, program, 0, name)?;
-                Ok(start(alloc, program, class)?)
-            }
-            _ => Err(EntryFault::Count),
-        }
+        check_count(entries.len())?;
+        let classes = entry_classes(alloc, program, entries)?;
+        Ok(start(alloc, program, classes.as_slice())?)
     }
 }

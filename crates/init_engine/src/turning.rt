@@ -6,7 +6,7 @@ ghost use Rattle.machine.specs.Linked.{program_of};
 ghost use Rattle.machine.specs.steps.StepTables.{KeepsSteps};
 ghost use Rattle.init_engine.specs.Turns.{world_of};
 ghost use Rattle.init_engine.specs.Schedules.{schedule_of, AreRuns};
-ghost use Rattle.init_engine.specs.Rounds.{Turns};
+ghost use Rattle.init_engine.specs.Rounds.{Turns, HasStopped};
 ghost use Rattle.init_engine.specs.steps.Rounds.{IsAsking, IsRound, IsStretch};
 
 use crate::schedule::Schedule;
@@ -187,11 +187,12 @@ fn runs_of(
 }
 
 /// Runs a world by turns, up to a round without a step or to so many steps. It answers the last world, and the
-/// schedule by its runs: a thread, and how many steps it made in a row; neighbours are of different threads.
+/// schedule by its runs: a thread, and how many steps it made in a row; neighbours are of different threads. Where that
+/// is of fewer steps than the limit, no thread has one.
 ///
 /// # Errors
 /// `AllocError` where memory is refused.
-#[tactic(auto, using(crate::proofs::RoundLemmas::run_of_turns))]
+#[tactic(auto, using(crate::proofs::RoundLemmas::run_of_turns, crate::proofs::RoundLemmas::stop_of_turns))]
 pub fn turns(
     alloc: Global,
     program: &Program,
@@ -202,6 +203,9 @@ pub fn turns(
     ensures run { IfOk result (λ r. Run (program_of program.now) (world_of world) (schedule_of r.1.items)
         (world_of r.0)) }
     ensures turns { IfOk result (λ r. Turns (program_of program.now) (length world.threads) limit (world_of world)
+        (schedule_of r.1.items) (world_of r.0)) }
+    // It ended at the limit, or where no thread has a step.
+    ensures stop { IfOk result (λ r. HasStopped (program_of program.now) (length world.threads) limit
         (schedule_of r.1.items) (world_of r.0)) }
     ensures runs { IfOk result (λ r. AreRuns r.1.items) }
     ensures threads { IfOk result (λ r. length r.0.threads ≡ length world.threads) }

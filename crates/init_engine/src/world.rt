@@ -7,6 +7,7 @@ ghost use Rattle.vm_state.specs.declared.text.Line.{Line};
 ghost use Rattle.vm_state.specs.Shares.{shared_of, SharesTheSame};
 ghost use Rattle.semantics.specs.Steps.{Going, step_thread};
 ghost use Rattle.semantics.specs.Worlds.{Run, seen};
+ghost use Rattle.init_engine.specs.Numbering.{AreNumbered};
 ghost use Rattle.init_engine.specs.Observations.{IsObservation};
 ghost use Rattle.init_engine.specs.steps.Threads.{RunsHere, TopRuns, IsTurnOf, view_of};
 ghost use Rattle.machine.specs.Linked.{program_of};
@@ -35,6 +36,21 @@ pub enum Thread {
 }
 
 impl Thread {
+    /// The thread of a number on this frame.
+    pub(crate) fn on(alloc: Global, number: u32, top: Frame) -> Thread
+        ensures thread { thread_of result ≡ Going (top ∷ []) [] }
+        ensures number { HasNumber result number }
+    {
+        Thread::Going(Frames {
+            thread: number,
+            segment: Some(Segment {
+                innermost: top,
+                callers: FrameList::none(alloc),
+            }),
+            levels: None,
+        })
+    }
+
     /// What is seen of it.
     #[tactic(auto, unfolding(crate::specs::Threads::seen_of))]
     pub fn ending(&self) -> Ending
@@ -153,21 +169,6 @@ fn endings(alloc: Global, threads: &[Thread]) -> Result<Vec<Ending>, AllocError>
     Ok(endings)
 }
 
-/// Thread 0 on this frame.
-fn first_thread(alloc: Global, top: Frame) -> Thread
-    ensures thread { thread_of result ≡ Going (top ∷ []) [] }
-    ensures number { HasNumber result 0 }
-{
-    Thread::Going(Frames {
-        thread: 0,
-        segment: Some(Segment {
-            innermost: top,
-            callers: FrameList::none(alloc),
-        }),
-        levels: None,
-    })
-}
-
 impl World {
     /// What the world has shown.
     ///
@@ -181,18 +182,17 @@ impl World {
         Ok(Seen { printed, threads })
     }
 
-    /// One thread, number 0, on this frame.
-    pub(crate) fn of_thread(alloc: Global, top: Frame, shared: Shared) -> Result<World, AllocError>
-        ensures { IfOk result
-            (λ w. world_of w ≡ record { shared = shared_of shared []; threads = Going (top ∷ []) [] ∷ [] }) }
+    /// These threads, which have printed nothing.
+    pub(crate) fn of_threads(alloc: Global, threads: Vec<Thread>, shared: Shared) -> World
+        requires numbered { AreNumbered threads.items }
+        requires count { length threads.items ≤ 64 }
+        ensures { world_of result ≡ record { shared = shared_of shared []; threads = map thread_of threads.items } }
     {
-        let mut threads = Vec::new(alloc);
-        threads.push(first_thread(alloc, top))?;
-        Ok(World {
+        World {
             threads,
             shared,
             printed: Vec::new(alloc),
-        })
+        }
     }
 
     pub(crate) fn threads(&self) -> &[Thread]

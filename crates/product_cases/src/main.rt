@@ -20,6 +20,7 @@ mod programs;
 mod questions;
 mod rewriting;
 mod runs;
+mod schedules;
 mod tables;
 
 use cases::{Subject, run_cases};

@@ -1,7 +1,7 @@
 //! Classes, what linking them answers, and what is seen of their runs.
 
 use crate::questions::{Question, Verb};
-use crate::{members, runs, tables};
+use crate::{members, runs, schedules, tables};
 use cases::{add_class_files, filled};
 use classfile::{ClassFault, ClassFile, read};
 use program::{Program, link};
@@ -98,6 +98,8 @@ fn of_program(
         Verb::Run => runs::run(alloc, program, question.class, question.count),
         Verb::Show => runs::shown(alloc, program, question.class),
         Verb::Step => runs::steps(alloc, program, question.class, question.count),
+        Verb::Turns => schedules::turned(alloc, program, question.class),
+        Verb::Schedule => schedules::scheduled(alloc, program, question.class),
         _ => of_classes_alone(alloc, program, question),
     }
 }

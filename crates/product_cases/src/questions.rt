@@ -38,6 +38,10 @@ pub enum Verb {
     Run,
     /// `show CLASS`: what a whole run prints, and then how it ends.
     Show,
+    /// `turns 'CLASS' ..`: a run by turns of these entries.
+    Turns,
+    /// `schedule 'CLASS' .. | THREAD STEPS ..`: steps by a schedule, from the start of these entries.
+    Schedule,
     /// `step CLASS COUNT`: single steps, what the last gave, and then a run by turns.
     Step,
     /// Anything else.
@@ -100,6 +104,8 @@ fn without_reference<'a>(word: &str, about: &'a str) -> Question<'a> {
         "statics" => Question::plain(Verb::Statics, about),
         "start" => Question::plain(Verb::Start, about),
         "show" => Question::plain(Verb::Show, about),
+        "turns" => Question::plain(Verb::Turns, about),
+        "schedule" => Question::plain(Verb::Schedule, about),
         "run" => counted(Verb::Run, about),
         "step" => counted(Verb::Step, about),
         _ => Question::plain(Verb::Nothing, about),

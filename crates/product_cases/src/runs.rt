@@ -21,12 +21,18 @@ fn add_entries(alloc: Global, entries: &mut Vec<ClassName>, word: &str) -> Resul
     Ok(())
 }
 
-/// Whether a run may start with a list of entries.
-pub fn started(alloc: Global, program: &Program, list: &str) -> Result<String, AllocError> {
+/// The entries of a list.
+pub fn entries_of(alloc: Global, list: &str) -> Result<Vec<ClassName>, AllocError> {
     let mut entries = Vec::new(alloc);
     for word in list.split_whitespace() {
         add_entries(alloc, &mut entries, word)?;
     }
+    Ok(entries)
+}
+
+/// Whether a run may start with a list of entries.
+pub fn started(alloc: Global, program: &Program, list: &str) -> Result<String, AllocError> {
+    let entries = entries_of(alloc, list)?;
     match World::lazy(alloc, program, &entries) {
         Ok(_) => String::from_str(alloc, "started"),
         Err(fault) => fault.to_string(alloc),

@@ -1,0 +1,29 @@
+-- What the parts of a run refuse.
+use Rattle.std.specs.Prelude.{ℕ, List}
+use Rattle.classfile.specs.ClassFile.{ClassFile}
+use Rattle.classfile.specs.FirstFault.{FirstFault}
+use Rattle.classfile.specs.declared.fault.ClassFault.{ClassFault}
+use Rattle.loading.specs.Files.{LinkFails}
+use Rattle.loading.specs.declared.fault.LinkFault.{LinkFault}
+use Rattle.program.specs.Tables.{Tables}
+use Rattle.init_engine.specs.Starts.{EntriesFail}
+use Rattle.init_engine.specs.declared.fault.EntryFault.{EntryFault}
+use Rattle.cli.specs.declared.fault.Refusal.{Refusal}
+use Rattle.cli.specs.declared.fault.Refusal.TheVariants.{Class, Link, Entry}
+use Rattle.cli.specs.Runs.{IsFirstBad}
+
+-- the text of a place is no class file
+pub data IsBadAt (place : ℕ) (text : List ℕ) : Refusal → Type 0 where
+  bad : {fault : ClassFault} → FirstFault text fault → IsBadAt place text (Class place fault)
+
+-- one of some texts is no class file, and none before it
+pub data IsNoClassFile (texts : List (List ℕ)) : Refusal → Type 0 where
+  first : {place : ℕ} {fault : ClassFault} → IsFirstBad texts place fault → IsNoClassFile texts (Class place fault)
+
+-- some class files make no program
+pub data IsUnlinkable (files : List ClassFile) : Refusal → Type 0 where
+  unlinkable : {fault : LinkFault} → LinkFails files fault → IsUnlinkable files (Link fault)
+
+-- entries can't be run in a program
+pub data IsRefusedEntry (P : Tables) (names : List (List ℕ)) : Refusal → Type 0 where
+  refused : {fault : EntryFault} → EntriesFail P names fault → IsRefusedEntry P names (Entry fault)

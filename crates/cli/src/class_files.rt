@@ -1,0 +1,62 @@
+//! Class files' bytes, read and linked to one program.
+ghost use Rattle.std.specs.Prelude.{◌≡◌, ◌⊎◌, IfErr, IfOk};
+ghost use Rattle.classfile.specs.Class.{IsClassText};
+ghost use Rattle.loading.specs.Families.{IsFamilyOf};
+ghost use Rattle.program.specs.Programs.{IsProgram};
+ghost use Rattle.cli.specs.Runs.{AreClassFiles, IsProgramOf, NotLinked, texts_of};
+ghost use Rattle.cli.specs.steps.Refusals.{IsBadAt, IsNoClassFile, IsUnlinkable};
+ghost use Rattle.cli.specs.declared.fault.Refusal.TheVariants.{Memory};
+
+use crate::Refusal;
+use classfile::ClassFile;
+use program::Program;
+use std::alloc::{AllocError, Global};
+
+/// The program that class files make.
+///
+/// # Errors
+/// `Class` of the first text that is no class file, by its place from 0, else `Link` with what linking refuses; or
+/// `Memory`.
+pub fn linked_program(alloc: Global, files: &[Vec<u8>]) -> Result<Program, Refusal>
+    ensures program { IfOk result (λ program. IsProgramOf (texts_of files.now) program) }
+    ensures refusal { IfErr result (λ refusal. (refusal ≡ Memory) ⊎ NotLinked (texts_of files.now) refusal) }
+{
+    match class_files(alloc, files) {
+        Ok(classes) => linked(alloc, classes),
+        Err(refusal) => Err(refusal),
+    }
+}
+
+/// The program of some class files.
+fn linked(alloc: Global, classes: Vec<ClassFile>) -> Result<Program, Refusal>
+    ensures program { IfOk result (λ program. IsFamilyOf classes.items program.family × IsProgram program) }
+    ensures refusal { IfErr result (λ refusal. (refusal ≡ Memory) ⊎ IsUnlinkable classes.items refusal) }
+{
+    match program::link(alloc, classes) {
+        Ok(program) => Ok(program),
+        Err(fault) => Err(Refusal::of_link(fault)),
+    }
+}
+
+/// The class files that some texts are.
+fn class_files(alloc: Global, files: &[Vec<u8>]) -> Result<Vec<ClassFile>, Refusal>
+    ensures files { IfOk result (λ classes. AreClassFiles (texts_of files.now) classes.items) }
+    ensures refusal { IfErr result (λ refusal. (refusal ≡ Memory) ⊎ IsNoClassFile (texts_of files.now) refusal) }
+{
+    let mut classes = Vec::new(alloc);
+    for (place, bytes) in files.iter().enumerate() {
+        classes.push(class_file(alloc, place, bytes.as_slice())?)?;
+    }
+    Ok(classes)
+}
+
+/// The class file that the text of a place is.
+fn class_file(alloc: Global, place: usize, bytes: &[u8]) -> Result<ClassFile, Refusal>
+    ensures file { IfOk result (λ class. IsClassText bytes.now class) }
+    ensures refusal { IfErr result (λ refusal. (refusal ≡ Memory) ⊎ IsBadAt place bytes.now refusal) }
+{
+    match classfile::read(alloc, bytes) {
+        Ok(class) => Ok(class),
+        Err(fault) => Err(Refusal::of_class(place, fault)),
+    }
+}

@@ -1,0 +1,133 @@
+//! Runs of several threads: by turns, and over a schedule that is given.
+
+use crate::runs::entries_of;
+use init_engine::{Line, Turn, World, turns};
+use program::Program;
+use std::alloc::{AllocError, Global};
+use std::str::{SplitWhitespace, from_utf8};
+
+/// A run by turns of these entries: how many steps each thread made, and what is seen then.
+pub fn turned(alloc: Global, program: &Program, list: &str) -> Result<String, AllocError> {
+    let entries = entries_of(alloc, list)?;
+    match World::lazy(alloc, program, &entries) {
+        Ok(world) => turned_on(alloc, program, world),
+        Err(fault) => fault.to_string(alloc),
+    }
+}
+
+fn turned_on(alloc: Global, program: &Program, world: World) -> Result<String, AllocError> {
+    let (world, schedule) = turns(alloc, program, world, 1_000_000)?;
+    let mut text = String::new(alloc);
+    for number in 0..world.thread_count() {
+        let steps = steps_of(&schedule, number);
+        separate(&mut text)?;
+        write!(text, "{steps}")?;
+    }
+    add_sight(alloc, &mut text, program, &world)?;
+    Ok(text)
+}
+
+/// How many steps of a thread a schedule has.
+fn steps_of(schedule: &[(u32, u64)], number: u32) -> u64 {
+    let mut all = 0u64;
+    for (thread, steps) in schedule.iter().copied() {
+        if thread == number {
+            all = all.saturating_add(steps);
+        }
+    }
+    all
+}
+
+/// The steps of a schedule, from the start of these entries: after ` | ` stand a thread and how many steps it makes, and
+/// so on. A thread that has no step before it made so many is told. Then what is seen.
+pub fn scheduled(alloc: Global, program: &Program, about: &str) -> Result<String, AllocError> {
+    let (list, schedule) = about.split_once(" | ").unwrap_or((about, ""));
+    let entries = entries_of(alloc, list)?;
+    match World::lazy(alloc, program, &entries) {
+        Ok(world) => scheduled_on(alloc, program, world, schedule),
+        Err(fault) => fault.to_string(alloc),
+    }
+}
+
+fn scheduled_on(
+    alloc: Global,
+    program: &Program,
+    mut world: World,
+    schedule: &str,
+) -> Result<String, AllocError> {
+    let mut text = String::new(alloc);
+    let mut words = schedule.split_whitespace();
+    while let Some(thread) = number(&mut words) {
+        let steps = number(&mut words).unwrap_or(0);
+        add_steps(alloc, &mut text, program, &mut world, thread, steps)?;
+    }
+    add_sight(alloc, &mut text, program, &world)?;
+    Ok(text)
+}
+
+fn number(words: &mut SplitWhitespace<'_>) -> Option<u32> {
+    words.next()?.parse().ok()
+}
+
+/// So many steps of a thread, up to the first turn in which it has none, which is told.
+fn add_steps(
+    alloc: Global,
+    text: &mut String,
+    program: &Program,
+    world: &mut World,
+    thread: u32,
+    steps: u32,
+) -> Result<(), AllocError> {
+    if thread >= world.thread_count() {
+        return text.push_str("no such thread");
+    }
+    for _ in 0..steps {
+        match world.step(alloc, program, thread)? {
+            Turn::Moved => {}
+            other => return add_turn(text, thread, other),
+        }
+    }
+    Ok(())
+}
+
+/// A turn of a thread in which it had no step.
+fn add_turn(text: &mut String, thread: u32, turn: Turn) -> Result<(), AllocError> {
+    separate(text)?;
+    write!(text, "{thread} {turn:?},")
+}
+
+/// A space, where something stands before it.
+fn separate(text: &mut String) -> Result<(), AllocError> {
+    if text.is_empty() {
+        return Ok(());
+    }
+    text.push(' ')
+}
+
+/// How each thread stands, each line that was printed with its thread, and `stuck` where none has a step.
+fn add_sight(
+    alloc: Global,
+    text: &mut String,
+    program: &Program,
+    world: &World,
+) -> Result<(), AllocError> {
+    let seen = world.seen(alloc)?;
+    for (thread, ending) in seen.threads.iter().enumerate() {
+        separate(text)?;
+        write!(text, "{thread} {ending:?}")?;
+    }
+    for line in &seen.printed {
+        add_line(text, line)?;
+    }
+    if world.stuck(program) {
+        text.push_str(" stuck")?;
+    }
+    Ok(())
+}
+
+fn add_line(text: &mut String, line: &Line) -> Result<(), AllocError> {
+    let thread = line.thread;
+    let printed = from_utf8(line.text.as_bytes()).unwrap_or("no text");
+    separate(text)?;
+    write!(text, "{thread}:{printed}")
+}
