@@ -49,9 +49,11 @@ SORTS = {
     "extreme": NUMBERS | names("""ifeq ifne iflt ifge ifgt ifle if_icmpeq if_icmpne if_icmplt if_icmpge if_icmpgt
 if_icmple tableswitch lookupswitch ireturn lreturn iastore lastore bastore castore sastore putstatic putfield iaload
 laload istore lstore"""),
-    "raise": ARRAYS | (CALLS - {"invokestatic"}) | names("idiv irem ldiv lrem getfield putfield athrow checkcast"),
+    "raise": ARRAYS | (CALLS - {"invokestatic"}) | names(
+        "idiv irem ldiv lrem getfield putfield athrow checkcast monitorenter monitorexit"),
     "kind": NUMBERS | STORES | LOADS | ARRAYS | (BRANCHES - {"goto", "goto_w"}) | CALLS | DUPLICATES | names(
-        "iinc pop pop2 swap putstatic getfield putfield athrow checkcast instanceof ireturn lreturn areturn return"),
+        """iinc pop pop2 swap putstatic getfield putfield athrow checkcast instanceof ireturn lreturn areturn return
+monitorenter monitorexit"""),
     "full": CONSTANTS | LOADS | DUPLICATES | names("i2l getstatic getfield new ireturn lreturn areturn"),
     "local": LOADS | STORES | CALLS | {"iinc"},
     "jump": BRANCHES,
@@ -91,8 +93,7 @@ def cell(counts, name, column):
 
 def profile():
     """The instructions that are executed, in the order of their opcodes."""
-    later = {"monitorenter", "monitorexit", "wide"}
-    return [name for name in MNEMONICS if name not in LEFT_OUT | later]
+    return [name for name in MNEMONICS if name not in LEFT_OUT | {"wide"}]
 
 
 def main():

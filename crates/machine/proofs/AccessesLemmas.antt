@@ -57,6 +57,12 @@ pub gives_at : {A : Type 0} (stopped : Stop → A) (old new : Row → A) (row ot
 gives_at stopped old new row other f (Ok k) same is = same ∙ is
 gives_at stopped old new row other f (Err stop) same is = ap (unless_refused stop) same ∙ is
 
+-- the same after an access that changed the state
+pub gives_on : {A : Type 0} (stopped : Stop → A) (old on new : Row → A) (row other : Row) (f : Frame)
+    (r : Result Conclusion Stop) → old other ≡ on row → Gives stopped on new row f r → Gives stopped old new other f r
+gives_on stopped old on new row other f (Ok k) same is = same ∙ is
+gives_on stopped old on new row other f (Err stop) same is = ap (unless_refused stop) same ∙ is
+
 -- one that needs a class whose initialization failed
 pub fails_at_class : {A : Type 0} (stopped : Stop → A) (old new : Row → A) (c : ℕ) (usable : Bool) (row : Row)
     (f : Frame) (r : Result Conclusion Stop) → ((next : Bool → Row) → old (UseClass c next) ≡ old (next usable))

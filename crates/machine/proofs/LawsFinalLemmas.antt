@@ -203,6 +203,8 @@ module _ (w : FieldKind) (c k : ℕ) where
     put_resolved instructions.Throw e = absurd cc
     put_resolved (instructions.GetField index) e = absurd (no_object (get_field_of (constant_at P d index)) e)
     put_resolved (instructions.PutField index) e = absurd (no_object (put_field_of (constant_at P d index)) e)
+    put_resolved instructions.MonitorEnter e = absurd cc
+    put_resolved instructions.MonitorExit e = absurd cc
     put_resolved other e = absurd cc
 
     put_local : (l : Option LocalOperation) (o : Operation) → local_or l o ≡ PutStatic w c k → o ≡ PutStatic w c k

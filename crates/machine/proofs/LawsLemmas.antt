@@ -1,8 +1,16 @@
 -- The table of instructions is lawful.
-use Rattle.std.proofs.Common.{◌≡◌, ℕ, Some, None, sym, ap, subst, ◌∙◌}
+use Rattle.std.proofs.Common.{◌≡◌, ℕ, Bool, true, false, cond, Option, Some, None, sym, ap, subst, ◌∙◌}
+use Rattle.built_in.specs.declared.class_id.BuiltIn.TheVariants.{Error, ExceptionInInitializerError}
+use Rattle.built_in.specs.declared.class_id.ClassId.{ClassId}
+use Rattle.built_in.specs.declared.class_id.ClassId.TheVariants.{BuiltIn}
 use Rattle.vm_state.specs.declared.frame.Frame.{Frame}
-use Rattle.semantics.specs.Lawful.{Names, KnowsFrame, IsLawful}
+use Rattle.vm_state.specs.declared.value.Name.{Name}
+use Rattle.semantics.specs.Lawful.{Names, KnowsFrame, Fits, IsPlain, IsLawful}
+use Rattle.semantics.specs.Rows.{Ends, Raise}
+use Rattle.hierarchy.specs.Subtypes.{is_below}
 use Rattle.program.specs.Tables.{Tables}
+use Rattle.machine.specs.RowParts.{needing, raises}
+use Rattle.machine.specs.Failures.{fails_by}
 use Rattle.machine.specs.Linked.{program_of, initializer_frame, initialized_by}
 use Rattle.machine.specs.Laws.{AreSound, LinkedTablesAreSound, TableIsLawful}
 use Rattle.machine.proofs.LawsStaticLemmas.{plain_statics, mains_apart}
@@ -26,13 +34,30 @@ initializer_owned P c d f h of =
     let found = ap (λ (g : Frame). initialized_by P g.activity) (sym frame.is) ∙ of in
     (found_class_has P c frame.method d found).0
 
+-- an exception that is raised below is held, or new
+failing_suits : (P : Tables) (known : Names) (own : ℕ → Bool) (x : Name) → known x ≡ true → (o : Option ClassId)
+    → Fits (program_of P) known own (needing o (fails_by P x))
+failing_suits P known own x h None = (tt, tt)
+failing_suits P known own x h (Some class) = by (is_below P.family class (BuiltIn Error)) where
+  by : (b : Bool) → Fits (program_of P) known own (cond b (Ends (Raise x class)) (raises ExceptionInInitializerError))
+  by true = (h, tt)
+  by false = (tt, λ y known_y. (known_y, tt))
+
+-- and no class or monitor is needed for it
+failing_plain : (P : Tables) (x : Name) (o : Option ClassId) → IsPlain (needing o (fails_by P x))
+failing_plain P x None = tt
+failing_plain P x (Some class) = by (is_below P.family class (BuiltIn Error)) where
+  by : (b : Bool) → IsPlain (cond b (Ends (Raise x class)) (raises ExceptionInInitializerError))
+  by true = tt
+  by false = λ y. tt
+
 lawful_over : (P : Tables) → AreSound P → IsLawful (program_of P)
 lawful_over P sound = record {
   row = row_suits sound;
-  failing = λ known own c x h. (tt, tt);
-  orphaned = λ known own c. (tt, tt);
-  plain_failing = λ c x. tt;
-  plain_orphaned = λ c. tt;
+  failing = λ known own c x h. (h, failing_suits P known own x h);
+  orphaned = λ known own c. (tt, λ x h. (h, tt));
+  plain_failing = λ c x. failing_plain P x;
+  plain_orphaned = λ c x. tt;
   initializer_names = initializer_known P;
   initializer_owner = initializer_owned P;
   start_names = λ known entry t h. ((h, tt), tt);

@@ -2,6 +2,10 @@ pub mod TableLocalLemmas
 pub mod PrintingLemmas
 pub mod ObjectPartsLemmas
 pub mod ObjectsLemmas
+pub mod MonitorsLemmas
+pub mod PlainRowsLemmas
+pub mod WaitingLemmas
+pub mod FailuresLemmas
 pub mod AccessesLemmas
 pub mod StretchesLemmas
 pub mod StretchRowLemmas

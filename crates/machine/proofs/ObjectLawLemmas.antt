@@ -7,15 +7,16 @@ use Rattle.vm_state.specs.declared.value.Value.{Value}
 use Rattle.vm_state.specs.declared.value.Name.{Name}
 use Rattle.vm_state.specs.Values.{name_of, value_of}
 use Rattle.vm_state.specs.declared.ends.FaultKind.{FaultKind}
-use Rattle.vm_state.specs.declared.ends.FaultKind.TheVariants.{Fault}
+use Rattle.vm_state.specs.declared.ends.FaultKind.TheVariants.{Fault, Unsupported}
 use Rattle.vm_state.specs.declared.frame.Frame.{Frame}
 use Rattle.vm_state.specs.Operands.{OperandStack, pushed, top, rest}
 use Rattle.built_in.specs.declared.class_id.BuiltIn.{BuiltIn as BuiltInClass}
 use Rattle.built_in.specs.declared.class_id.BuiltIn.TheVariants.{Throwable, ClassCastException, NullPointerException}
+use Rattle.built_in.specs.declared.class_id.BuiltIn.TheVariants.{IllegalMonitorStateException}
 use Rattle.built_in.specs.declared.class_id.ClassId.{ClassId}
 use Rattle.built_in.specs.declared.class_id.ClassId.TheVariants.{Given, BuiltIn}
 use Rattle.vm_state.specs.declared.value.Value.TheVariants as values
-use Rattle.semantics.specs.Rows.{Row, Ends, Raise, AskClass, Make, Change}
+use Rattle.semantics.specs.Rows.{Row, Ends, Raise, AskClass, Make, Change, UseMonitor}
 use Rattle.semantics.specs.Lawful.{Names, Knows, KnowsName, KnowsAll, KnowsSlots, KnowsFrame, Fits}
 use Rattle.semantics.specs.Moves.{advanced, with_operands}
 use Rattle.semantics.proofs.FrameMovesLemmas.{name_known}
@@ -37,6 +38,7 @@ use Rattle.machine.specs.ObjectParts.{slot_in, look_into_slot, on_name, class_of
 use Rattle.machine.specs.ObjectParts.{on_object}
 use Rattle.machine.specs.Objects.{new_object, is_of, cast_row, int_of_boolean, throw_of}
 use Rattle.machine.specs.Objects.{on_holder, get_field, put_field, object_row}
+use Rattle.machine.specs.Monitors.{without_monitor, use_monitor, entered, left}
 use Rattle.machine.specs.Linked.{program_of}
 use Rattle.machine.proofs.StoredKindsLemmas.{stored_knows}
 use Rattle.machine.proofs.LawsStaticLemmas.{plain_zero}
@@ -169,6 +171,30 @@ module _ (P : Tables) (known : Names) (own : ℕ → Bool) where
         put : Value → Name → Row
         put held x = Change x field.slot held (goes_on (advanced (with_operands f (rest (rest f.operands)))))
 
+    without_monitor_suits : (v : Value) → Suits (without_monitor v)
+    without_monitor_suits values.Null = raised NullPointerException
+    without_monitor_suits (values.Text s) = halted Unsupported
+    without_monitor_suits values.Out = halted Unsupported
+    without_monitor_suits (values.OfClass c k) = halted Fault
+    without_monitor_suits (values.OfThread t k) = halted Fault
+    without_monitor_suits (values.Int n) = halted Fault
+    without_monitor_suits (values.Long n) = halted Fault
+
+    monitor_suits : (enter : Bool) (next : Bool → Row) → ((b : Bool) → Suits (next b)) → Suits (use_monitor enter f next)
+    monitor_suits enter next on =
+        needing_such Suits halted (Knows known) (top_as Reference f.operands) _ (reference_known f.operands h.0)
+        (λ v hv.
+        on_name_suits (name_of v) (without_monitor v) (λ x. UseMonitor x enter next) hv (without_monitor_suits v)
+        (λ x hx. (hx, on)))
+
+    entered_suits : (b : Bool) → Suits (entered f b)
+    entered_suits true = on_suits (rest f.operands) one_less
+    entered_suits false = halted Fault
+
+    left_suits : (b : Bool) → Suits (left f b)
+    left_suits true = on_suits (rest f.operands) one_less
+    left_suits false = raised IllegalMonitorStateException
+
     pub object_suits : (o : ObjectOperation) → Suits (object_row P o f)
     object_suits (objects.NewGiven c) =
         λ b. if_usable_any Suits halted raised _ b
@@ -193,3 +219,5 @@ module _ (P : Tables) (known : Names) (own : ℕ → Bool) where
         on_object_suits v (λ x. AskClass x (throw_of P x)) hv (λ x hx. (hx, throw_suits x hx)))
     object_suits (objects.GetField field) = get_suits field
     object_suits (objects.PutField field) = put_suits field
+    object_suits objects.EnterMonitor = monitor_suits true (entered f) entered_suits
+    object_suits objects.ExitMonitor = monitor_suits false (left f) left_suits

@@ -1,7 +1,6 @@
 -- The linked program, as the initialization procedure and its threads ask of it.
 use Rattle.std.specs.Prelude.{ℕ, List, [], ◌∷◌, Option, Some, None, if◌then◌else◌, replicate, map, length}
 use Rattle.vm_state.specs.declared.value.Value.TheVariants.{OfThread}
-use Rattle.vm_state.specs.declared.ends.FaultKind.TheVariants.{Unsupported}
 use Rattle.vm_state.specs.declared.frame.Frame.{Frame}
 use Rattle.vm_state.specs.declared.frame.Activity.{Activity}
 use Rattle.vm_state.specs.declared.frame.Activity.TheVariants.{Start, Method}
@@ -13,7 +12,7 @@ use Rattle.program.specs.declared.class.Implementation.{Implementation}
 use Rattle.program.specs.declared.class.Implementation.TheVariants as implementations
 use Rattle.program.specs.Tables.{Tables, implementation_at, initializer_in, order_in, statics_in}
 use Rattle.machine.specs.Initializers.{is_method}
-use Rattle.machine.specs.RowParts.{halts}
+use Rattle.machine.specs.Failures.{failing, orphaned}
 use Rattle.machine.specs.Handlers.{handler_of}
 use Rattle.machine.specs.Calls.{called}
 use Rattle.machine.specs.Table.{row}
@@ -50,14 +49,13 @@ start_frame c t =
 abbrev pub blank_areas : List Class → List ClassArea
 blank_areas classes = map (λ (k : Class). blank_area k.statics) classes
 
--- Failing initializations come later: a class whose initialization fails ends its thread.
 abbrev pub program_of : Tables → Program
 program_of P = record {
   count = length P.classes;
   row = row P;
   handler = handler_of P;
-  failing = λ c x. halts Unsupported;
-  orphaned = λ c. halts Unsupported;
+  failing = λ c x. failing P x;
+  orphaned = λ c. orphaned;
   initializer = initializer_frame P;
   parents = order_in P;
   statics = statics_in P;

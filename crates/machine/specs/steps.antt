@@ -4,3 +4,6 @@ pub mod Fused
 pub mod Steps
 pub mod StepTables
 pub mod Unwinding
+pub mod Locks
+pub mod Raising
+pub mod Triggers

@@ -7,6 +7,7 @@ ghost use Rattle.machine.specs.Accesses.{Gives, KeptBy, Untouched};
 
 use crate::instance_fields::{get_field, put_field};
 use crate::kinds::{Actor, Conclusion, Stop};
+use crate::monitors::{enter_monitor, exit_monitor};
 use crate::object_operation::ObjectOperation;
 use crate::objects::{check_cast, instance_of, new_built_in, new_given, throw};
 use crate::store::Store;
@@ -14,7 +15,7 @@ use program::Program;
 use std::alloc::Global;
 use vm_state::frame::Frame;
 
-/// `new`, `checkcast`, `instanceof`, `athrow`, `getfield` and `putfield` (JVMS 6.5).
+/// `new`, `checkcast`, `instanceof`, `athrow`, `getfield`, `putfield`, `monitorenter` and `monitorexit` (JVMS 6.5).
 ///
 /// # Errors
 /// The store's reason. The frame is as it was, and so is the store; where memory is refused, what definitions see of
@@ -41,5 +42,7 @@ pub fn execute_on_object<S: Store>(
         ObjectOperation::Throw => throw(alloc, program, by, frame, store),
         ObjectOperation::GetField(field) => get_field(alloc, program, by, frame, store, field),
         ObjectOperation::PutField(field) => put_field(alloc, program, by, frame, store, field),
+        ObjectOperation::EnterMonitor => enter_monitor(alloc, by, frame, store),
+        ObjectOperation::ExitMonitor => exit_monitor(alloc, by, frame, store),
     }
 }

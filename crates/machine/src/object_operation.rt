@@ -37,6 +37,10 @@ pub enum ObjectOperation {
     GetField(InstanceField),
     /// `putfield`.
     PutField(InstanceField),
+    /// `monitorenter`.
+    EnterMonitor,
+    /// `monitorexit`.
+    ExitMonitor,
 }
 
 /// The class that a constant of the run-time constant pool stands for.

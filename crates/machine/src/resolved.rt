@@ -281,6 +281,8 @@ pub fn resolved_operation(
         Instruction::Throw => Resolved::OnObject(ObjectOperation::Throw),
         Instruction::GetField(index) => on_object(get_field_of(program.constant(class, *index))),
         Instruction::PutField(index) => on_object(put_field_of(program.constant(class, *index))),
+        Instruction::MonitorEnter => Resolved::OnObject(ObjectOperation::EnterMonitor),
+        Instruction::MonitorExit => Resolved::OnObject(ObjectOperation::ExitMonitor),
         Instruction::Bad => FAULT,
         _ => array_operation(program, class, instruction),
     }

@@ -9,6 +9,7 @@ ghost use Rattle.machine.specs.ObjectParts.{slot_in};
 ghost use Rattle.machine.specs.Sharing.{run_shared, stopped_shared, CanUseShared};
 
 use crate::kinds::{Actor, Stop};
+use crate::monitors::{Lock, lock_monitor};
 use crate::store::Store;
 use built_in::class_id::ClassId;
 use std::alloc::{AllocError, Global};
@@ -130,6 +131,18 @@ impl Store for Shared {
     fn change(&mut self, _by: Actor, object: Name, slot: usize, value: Value) -> Result<(), Stop> {
         self.set_slot(object, slot, value);
         Ok(())
+    }
+
+    #[tactic(auto, unfolding(crate::specs::Accesses::unless_refused))]
+    fn use_monitor(&mut self, by: Actor, object: Name, enter: bool) -> Result<bool, Stop> {
+        match lock_monitor(by.thread, enter, self.monitor(object)) {
+            Lock::Done(monitor) => {
+                self.set_monitor(object, monitor);
+                Ok(true)
+            }
+            Lock::Refused => Ok(false),
+            Lock::Blocked => Err(Stop::Waits),
+        }
     }
 
     #[tactic(auto, unfolding(crate::specs::Accesses::unless_refused))]

@@ -1,9 +1,9 @@
 //! What an instruction touches beyond its own frame.
 
-ghost use Rattle.std.specs.Prelude.{◌≡◌, ℕ, true, List, IfOk, IfErr};
+ghost use Rattle.std.specs.Prelude.{◌≡◌, ℕ, true, false, List, IfOk, IfErr};
 ghost use Rattle.vm_state.specs.declared.text.Line.{Line};
 ghost use Rattle.semantics.specs.Rows.{Row, UseClass, ReadStatic, WriteStatic, AskClass, LookInto, Change};
-ghost use Rattle.semantics.specs.Rows.{Make, Slots as AllSlots};
+ghost use Rattle.semantics.specs.Rows.{Make, UseMonitor, Slots as AllSlots};
 ghost use Rattle.machine.specs.Accesses.{Kept, Leads, LeadsOn};
 ghost use Rattle.machine.specs.ObjectParts.{look_into_slot, ask_length, look_into_named, set_named};
 ghost use Rattle.machine.specs.declared.kinds.Actor.{Actor as By};
@@ -135,6 +135,17 @@ pub trait Store {
     fn change(&mut self, by: Actor, object: Name, slot: usize, value: Value) -> Result<(), Stop>
         ensures leads { (p : List Line) → LeadsOn stopped (run by (state self.old p)) (run by (state self.new p))
             (Change object slot value) result }
+        ensures same { IfErr result (λ stop. Kept state stop self.old self.new) };
+
+    /// Enters or leaves the monitor of an object (JVMS 2.11.10): true where that was done. Where it was not nothing
+    /// changes; nor where it is stopped.
+    ///
+    /// # Errors
+    /// `Waits` where another thread owns a monitor that is to be entered, or the store's own reason.
+    fn use_monitor(&mut self, by: Actor, object: Name, enter: bool) -> Result<bool, Stop>
+        ensures leads { (p : List Line) → Leads stopped (run by (state self.old p)) (run by (state self.new p))
+            (UseMonitor object enter) result }
+        ensures refused { IfOk result (λ done. done ≡ false → self.new ≡ self.old) }
         ensures same { IfErr result (λ stop. Kept state stop self.old self.new) };
 
     /// Makes an object, whose monitor is free, and answers its name. Where it is stopped nothing changes; where memory

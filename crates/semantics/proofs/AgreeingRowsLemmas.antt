@@ -16,7 +16,8 @@ use Rattle.vm_state.specs.SharedState.{with_line, class_at}
 use Rattle.semantics.specs.Rows.{Outcome, Halt, Row, Ends, UseClass, ReadStatic, WriteStatic, AskClass, LookInto}
 use Rattle.semantics.specs.Rows.{Change, Make}
 use Rattle.semantics.specs.Rows.{UseMonitor, Print, part_at}
-use Rattle.semantics.specs.Rows.{Result, Moved, Needs, Waits, lock_monitor, monitor_of, with_monitor, run_row}
+use Rattle.semantics.specs.Rows.{Result, Moved, Needs, Waits, lock_monitor, run_row}
+use Rattle.vm_state.specs.SharedState.{monitor_of, with_monitor}
 use Rattle.semantics.specs.Quiet.{is_final}
 use Rattle.semantics.specs.Erasure.{is_hidden, IsErasedState}
 use Rattle.semantics.specs.Lawful.{Knows, KnowsOutcome, Fits}

@@ -9,7 +9,8 @@ use Rattle.vm_state.specs.declared.ends.FaultKind.TheVariants.{Fault}
 use Rattle.vm_state.specs.Statics.{usable}
 use Rattle.vm_state.specs.SharedState.{SharedState, pool_of}
 use Rattle.semantics.specs.Rows as rows
-use Rattle.semantics.specs.Rows.{Row, Halt, Result, Lock, Blocked, Answered, lock_monitor, monitor_of, on_usable}
+use Rattle.semantics.specs.Rows.{Row, Halt, Result, Lock, Blocked, Answered, lock_monitor, on_usable}
+use Rattle.vm_state.specs.SharedState.{monitor_of}
 use Rattle.semantics.specs.Rows.{on_lock, run_row}
 use Rattle.semantics.specs.Answers.{Change, Writes, Changes, Makes, Sets, Prints, Transcript, Ends, Needs, Waits}
 use Rattle.semantics.specs.Answers.{Mismatch, after}

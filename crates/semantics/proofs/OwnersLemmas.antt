@@ -16,7 +16,8 @@ use Rattle.vm_state.specs.SharedState.{SharedState, same_maker, pool_of, set_poo
 use Rattle.semantics.specs.Rows.{Outcome, Halt, Row, Ends, UseClass, ReadStatic, WriteStatic, AskClass, LookInto}
 use Rattle.semantics.specs.Rows.{Change}
 use Rattle.semantics.specs.Rows.{Make, UseMonitor, Print}
-use Rattle.semantics.specs.Rows.{Result, Moved, Needs, Waits, lock_monitor, monitor_of, with_monitor, run_row}
+use Rattle.semantics.specs.Rows.{Result, Moved, Needs, Waits, lock_monitor, run_row}
+use Rattle.vm_state.specs.SharedState.{monitor_of, with_monitor}
 use Rattle.semantics.specs.Programs.{Program}
 use Rattle.semantics.specs.Moves.{Left, Stand, Throw, Stop, left_in, unwound}
 use Rattle.semantics.specs.Steps.{Thread, Going, Ended, After, maker_of, standing, settled, going_on, left_by}

@@ -9,8 +9,8 @@ use Rattle.built_in.specs.declared.class_id.ClassId.{ClassId}
 use Rattle.vm_state.specs.declared.object.Object.{Object}
 use Rattle.vm_state.specs.declared.object.Monitor.{Monitor}
 use Rattle.vm_state.specs.SharedState.{Pool, with_object, with_slot, with_new, object_with_slot, class_at, slots_at}
-use Rattle.semantics.specs.Rows.{Part, Slots, Length, Named, named, int_length, part_of, part_at, object_with_monitor}
-use Rattle.semantics.specs.Rows.{with_monitor}
+use Rattle.semantics.specs.Rows.{Part, Slots, Length, Named, named, int_length, part_of, part_at}
+use Rattle.vm_state.specs.SharedState.{object_with_monitor, with_monitor}
 use Rattle.semantics.specs.Quiet.{is_open}
 use Rattle.semantics.specs.Lawful.{Names, Knows, KnowsAll, KnowsSlots}
 use Rattle.vm_state.proofs.ListLemmas.{tested}

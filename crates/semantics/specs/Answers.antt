@@ -13,8 +13,9 @@ use Rattle.vm_state.specs.Statics.{usable}
 use Rattle.vm_state.specs.SharedState.{SharedState, pool_of, set_pool, set_region, with_field, with_slot, with_new}
 use Rattle.vm_state.specs.SharedState.{with_line, class_at}
 use Rattle.semantics.specs.Rows as rows
-use Rattle.semantics.specs.Rows.{Row, Outcome, Halt, Result, Lock, Blocked, Answered, lock_monitor, monitor_of}
-use Rattle.semantics.specs.Rows.{with_monitor, part_at, run_row}
+use Rattle.semantics.specs.Rows.{Row, Outcome, Halt, Result, Lock, Blocked, Answered, lock_monitor}
+use Rattle.semantics.specs.Rows.{part_at, run_row}
+use Rattle.vm_state.specs.SharedState.{monitor_of, with_monitor}
 
 -- ---- what a row is told, and what it does
 

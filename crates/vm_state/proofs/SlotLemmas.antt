@@ -1,4 +1,4 @@
--- A slot of an object changed: in the row of its maker, and in the rows of all makers.
+-- An object changed: in the row of its maker.
 use Rattle.std.proofs.Common.{◌≡◌, ℕ, zero, suc, ◌≤◌, ◌+◌, Bool, true, false, List, [], ◌∷◌, Option, Some, None}
 use Rattle.std.proofs.Common.{get_or, slice_get, slice_set, refl, sym, subst, ap, ◌∙◌, ◌==◌, eqb-true, if◌then◌else◌}
 use Rattle.std.proofs.Common.{inl, inr, arith}
@@ -9,7 +9,7 @@ use Rattle.vm_state.specs.declared.value.Value.{Value}
 use Rattle.vm_state.specs.declared.object.Object.{Object}
 use Rattle.vm_state.specs.Objects.{or_later, object_in, AscendsFrom}
 use Rattle.vm_state.specs.steps.Objects.{object_at_place}
-use Rattle.vm_state.specs.SharedState.{Pool, object_with_slot, with_slot}
+use Rattle.vm_state.specs.SharedState.{Pool, object_with_slot, with_object, with_slot}
 use Rattle.vm_state.specs.Pools.{pool_by}
 use Rattle.vm_state.proofs.ListLemmas.{tested}
 use Rattle.vm_state.proofs.ObjectLemmas.{none_below, found_at}
@@ -76,22 +76,44 @@ object_in-set low (x ∷ xs) count (suc place) k o new (h, hs) is n =
     ap (or_later (if n == x.0 then Some x.1 else None)) (object_in-set (x.0 + 1) xs count place k o new hs is n)
     ∙ or_later-if (n == k) (if n == x.0 then Some x.1 else None) (object_in xs n) new
 
--- ---- a slot changed
+-- ---- an object changed
 
 abbrev pool : ℕ → (ℕ → Option Object) → Pool
 pool count at = record { count = count; at = at }
 
--- the row with another value in a slot of the object at a place
-pub slot_set : (count : ℕ) (os : List (ℕ × Object)) (place k slot : ℕ) (value : Value) (o : Object) →
+-- what a row becomes where the object of a number changes
+abbrev pub IsChanged : ℕ → List (ℕ × Object) → List (ℕ × Object) → ℕ → (Object → Object) → Type 0
+IsChanged count os new k change = AscendsFrom 0 new count
+    × (pool_by (record { count = count; objects = new })
+    ≡ with_object (pool_by (record { count = count; objects = os })) k (option_map change (object_in os k)))
+
+changed_pool : (count : ℕ) (os : List (ℕ × Object)) (place k : ℕ) (change : Object → Object) (o : Object) →
     AscendsFrom 0 os count → StandsAt os place k o →
-    pool_by (record { count = count; objects = slice_set os place (k, object_with_slot slot value o) })
-    ≡ with_slot (pool_by (record { count = count; objects = os })) k slot value
-slot_set count os place k slot value o h is =
-    let changed : Object = object_with_slot slot value o in
+    pool_by (record { count = count; objects = slice_set os place (k, change o) })
+    ≡ with_object (pool_by (record { count = count; objects = os })) k (option_map change (object_in os k))
+changed_pool count os place k change o h is =
     let found' : object_in os k ≡ Some o = found_at 0 os count place k o h (at_place os place k o is) in
-    ap (pool count) (fun_ext (λ n. object_in-set 0 os count place k o changed h is n
-    ∙ ap (λ (held : Option Object). if n == k then option_map (object_with_slot slot value) held else object_in os n)
-    (sym found')))
+    ap (pool count) (fun_ext (λ n. object_in-set 0 os count place k o (change o) h is n
+    ∙ ap (λ (held : Option Object). if n == k then option_map change held else object_in os n) (sym found')))
+
+-- what is held at a place, changed
+pub changed_at : (count : ℕ) (os : List (ℕ × Object)) (place k : ℕ) (change : Object → Object) (held : ℕ × Object)
+    (new : Object) → AscendsFrom 0 os count → IsSome (object_at_place os place k) → held ≡ get_or os place held →
+    new ≡ change held.1 →
+    IsChanged count os (slice_set os place (held.0, new)) k change
+changed_at count os place k change held new h some was is =
+    let standing : StandsAt os place k held.1 =
+    stands os place k held some ∙ ap (λ (x : ℕ × Object). Some (k, x.1)) (sym was) in
+    let same : held ≡ (k, held.1) = was ∙ get_or_from_slice_get os place (k, held.1) held standing in
+    let written : (held.0, new) ≡ (k, change held.1) =
+    ap (λ (x : ℕ × Object). (x.0, new)) same ∙ ap (λ (o : Object). (k, o)) is in
+    let P : ℕ × Object → Type 0 = λ x. IsChanged count os (slice_set os place x) k change in
+    subst P (sym written) (
+      ascends-set 0 os count place k held.1 (change held.1) h standing,
+      changed_pool count os place k change held.1 h standing,
+    )
+
+-- ---- a slot changed
 
 -- what a row becomes where what is held at a place gets these slots
 abbrev pub IsSlotSet : ℕ → List (ℕ × Object) → List (ℕ × Object) → ℕ → ℕ → Value → Type 0
@@ -104,14 +126,5 @@ pub slot_set_at : (count : ℕ) (os : List (ℕ × Object)) (place k slot : ℕ)
     slots ≡ slice_set held.1.slots slot value →
     IsSlotSet count os (slice_set os place (held.0, record held.1 { slots = slots })) k slot value
 slot_set_at count os place k slot value held slots h some was is =
-    let standing : StandsAt os place k held.1 =
-    stands os place k held some ∙ ap (λ (x : ℕ × Object). Some (k, x.1)) (sym was) in
-    let same : held ≡ (k, held.1) = was ∙ get_or_from_slice_get os place (k, held.1) held standing in
-    let written : (held.0, record held.1 { slots = slots }) ≡ (k, object_with_slot slot value held.1) =
-    ap (λ (x : ℕ × Object). (x.0, record held.1 { slots = slots })) same
-    ∙ ap (λ (vs : List Value). (k, record held.1 { slots = vs })) is in
-    let P : ℕ × Object → Type 0 = λ x. IsSlotSet count os (slice_set os place x) k slot value in
-    subst P (sym written) (
-      ascends-set 0 os count place k held.1 (object_with_slot slot value held.1) h standing,
-      slot_set count os place k slot value held.1 h standing,
-    )
+    changed_at count os place k (object_with_slot slot value) held (record held.1 { slots = slots }) h some was
+    (ap (λ (vs : List Value). record held.1 { slots = vs }) is)

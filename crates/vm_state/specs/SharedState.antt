@@ -1,13 +1,14 @@
 -- What all threads share, as functions of classes, fields and names: the statics, the objects, how many objects each
 -- maker made, the states of the classes (JVMS 5.5), and what was printed.
-use Rattle.std.specs.Prelude.{ℕ, ◌+◌, Bool, false, List, [], ◌∷◌, ◌++◌, Option, Some, ◌==◌, if◌then◌else◌, option_map}
-use Rattle.std.specs.Prelude.{slice_set}
+use Rattle.std.specs.Prelude.{ℕ, ◌+◌, Bool, false, List, [], ◌∷◌, ◌++◌, Option, Some, None, ◌==◌, if◌then◌else◌}
+use Rattle.std.specs.Prelude.{option_map, slice_set}
 use Rattle.vm_state.specs.declared.value.Value.{Value}
 use Rattle.vm_state.specs.declared.value.Name.{Name}
 use Rattle.vm_state.specs.declared.value.Maker.{Maker}
 use Rattle.vm_state.specs.declared.value.Maker.TheVariants.{Class, Thread}
 use Rattle.built_in.specs.declared.class_id.ClassId.{ClassId}
 use Rattle.vm_state.specs.declared.object.Object.{Object}
+use Rattle.vm_state.specs.declared.object.Monitor.{Monitor}
 use Rattle.vm_state.specs.declared.object.Monitor.TheVariants.{Free}
 use Rattle.vm_state.specs.declared.classes.ClassState.{ClassState}
 use Rattle.vm_state.specs.declared.text.Line.{Line}
@@ -53,6 +54,18 @@ object_with_slot i v o = record o { slots = slice_set o.slots i v }
 -- the pool with another value in a slot, where the object has that slot
 abbrev pub with_slot : Pool → ℕ → ℕ → Value → Pool
 with_slot p n i v = with_object p n (option_map (object_with_slot i v) (p.at n))
+
+abbrev pub object_with_monitor : Monitor → Object → Object
+object_with_monitor m o = record o { monitor = m }
+
+-- the pool with another monitor of an object
+abbrev pub with_monitor : Pool → ℕ → Monitor → Pool
+with_monitor p n m = with_object p n (option_map (object_with_monitor m) (p.at n))
+
+-- an object that is not held counts as free
+abbrev pub monitor_of : Option Object → Monitor
+monitor_of None = Free
+monitor_of (Some o) = o.monitor
 
 -- the pool with a new object, whose number is the old count
 abbrev pub with_new : Pool → ClassId → List Value → Pool

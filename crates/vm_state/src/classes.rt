@@ -291,6 +291,28 @@ impl Classes {
         Ok(())
     }
 
+    /// Keeps a place for a class; no class's state and no field's value changes.
+    ///
+    /// # Errors
+    /// `AllocError` where memory is refused.
+    pub fn keep(&mut self, alloc: Global, class: u32) -> Result<(), AllocError>
+        ensures states { states_of self.new ≡ states_of self.old }
+        ensures fields { fields_of self.new ≡ fields_of self.old }
+        ensures ok { OnOk result (class < length self.new) }
+    {
+        self.reach(alloc, class as usize)
+    }
+
+    /// Sets the state of a class that has a place, without memory.
+    pub fn replace_state(&mut self, class: u32, state: ClassState)
+        requires { class < length self.old }
+        ensures states { states_of self.new ≡ with_state (states_of self.old) class state }
+        ensures fields { fields_of self.new ≡ fields_of self.old }
+    {
+        let area = &mut self.areas[class as usize];
+        area.state = state;
+    }
+
     /// Sets the state of a class.
     ///
     /// # Errors

@@ -6,7 +6,7 @@ ghost use Rattle.std.specs.List.Sorted.{IsNonDecreasingBy};
 ghost use Rattle.vm_state.specs.declared.object.Object.{Object};
 ghost use Rattle.vm_state.specs.Objects.{empty_row, row_of, object_in};
 ghost use Rattle.vm_state.specs.steps.Objects.{with_next, object_at_place};
-ghost use Rattle.vm_state.specs.SharedState.{with_new, with_slot};
+ghost use Rattle.vm_state.specs.SharedState.{with_new, with_slot, with_monitor};
 ghost use Rattle.vm_state.specs.Pools.{pool_by, pool_in, with_pool};
 
 use crate::object::{Monitor, Object, Slots};
@@ -105,6 +105,16 @@ impl Row {
         }
     }
 
+    /// Sets the monitor of the object of a number. Where it is not held nothing changes.
+    fn set_monitor(&mut self, number: u64, monitor: Monitor)
+        ensures { pool_by self.new ≡ with_monitor (pool_by self.old) number monitor }
+    {
+        if let Some(place) = self.place(number) {
+            let held = &mut self.objects[place];
+            held.1.monitor = monitor;
+        }
+    }
+
     /// One more object, of the next number, which it answers. Where memory is refused nothing changes.
     fn add(&mut self, object: Object) -> Result<u64, AllocError>
         ensures number { IfOk result (λ n. n ≡ self.old.count) }
@@ -189,6 +199,16 @@ impl Rows {
     {
         if let Some(row) = self.rows.get_mut(maker as usize) {
             row.set_slot(number, slot, value);
+        }
+    }
+
+    /// Sets the monitor of the object of a maker and a number. Where it is not held nothing changes.
+    pub fn set_monitor(&mut self, maker: u32, number: u64, monitor: Monitor)
+        ensures { pool_in self.new
+            ≡ with_pool (pool_in self.old) maker (with_monitor (pool_in self.old maker) number monitor) }
+    {
+        if let Some(row) = self.rows.get_mut(maker as usize) {
+            row.set_monitor(number, monitor);
         }
     }
 

@@ -1,13 +1,14 @@
 //! What all threads share.
 
-ghost use Rattle.std.specs.Prelude.{◌≡◌, List, IfOk, OnOk, OnErr, option_copied, option_map};
+ghost use Rattle.std.specs.Prelude.{◌≡◌, List, IfOk, OnOk, OnErr, option_copied, option_map, ◌<◌, length};
 ghost use Rattle.vm_state.specs.declared.text.Line.{Line};
 ghost use Rattle.vm_state.specs.SharedState.{object_of, class_at, pool_of, set_pool, slots_at, with_slot};
+ghost use Rattle.vm_state.specs.SharedState.{monitor_of, with_monitor};
 ghost use Rattle.vm_state.specs.Shares.{shared_of, SharesTheSame, SetsField, SetsState, Begins, Makes, IsNextName};
 
 use crate::classes::{ClassState, Classes, NoPlace, StaticField};
 use crate::heap::Heap;
-use crate::object::{Object, Slots};
+use crate::object::{Monitor, Object, Slots};
 use crate::value::{Maker, Name, Value};
 use built_in::class_id::ClassId;
 use std::alloc::{AllocError, Global};
@@ -103,6 +104,25 @@ impl Shared {
         Ok(())
     }
 
+    /// Keeps a place for a class; nothing else changes.
+    ///
+    /// # Errors
+    /// `AllocError` where memory is refused.
+    pub fn keep_class(&mut self, alloc: Global, class: u32) -> Result<(), AllocError>
+        ensures same { SharesTheSame self.old self.new }
+        ensures ok { OnOk result (class < length self.new.classes) }
+    {
+        self.classes.keep(alloc, class)
+    }
+
+    /// Sets the state of a class that has a place, without memory.
+    pub fn replace_state(&mut self, class: u32, state: ClassState)
+        requires { class < length self.old.classes }
+        ensures { SetsState self.old self.new class state }
+    {
+        self.classes.replace_state(class, state);
+    }
+
     /// Sets the state of a class.
     ///
     /// # Errors
@@ -187,7 +207,29 @@ impl Shared {
         }
     }
 
-    /// One more object of a maker, and its name.
+    /// The monitor of the object of a name; of one that is not held it is free.
+    pub fn monitor(&self, name: Name) -> Monitor
+        ensures { (p : List Line) → result ≡ monitor_of (object_of (shared_of self.now p) name) }
+    {
+        match self.object(name) {
+            Some(object) => object.monitor,
+            None => Monitor::Free,
+        }
+    }
+
+    /// Sets the monitor of the object of a name, without memory. Where it is not held nothing changes.
+    #[tactic(auto, unfolding(crate::specs::Shares::shared_of))]
+    pub fn set_monitor(&mut self, name: Name, monitor: Monitor)
+        ensures { (p : List Line) → shared_of self.new p ≡ set_pool (shared_of self.old p) name.maker
+            (with_monitor (pool_of (shared_of self.old p) name.maker) name.number monitor) }
+    {
+        match name.maker {
+            Maker::Class(class) => self.heap.classes.set_monitor(class, name.number, monitor),
+            Maker::Thread(thread) => self.heap.threads.set_monitor(thread, name.number, monitor),
+        }
+    }
+
+    /// One more object of a maker, and its name. The classes stay as they are.
     ///
     /// # Errors
     /// `AllocError` where memory is refused; nothing has changed then.
@@ -200,6 +242,7 @@ impl Shared {
     ) -> Result<Name, AllocError>
         ensures name { IfOk result (λ name. IsNextName self.old maker name) }
         ensures ok { OnOk result (Makes self.old self.new maker class slots) }
+        ensures classes { self.new.classes ≡ self.old.classes }
         ensures err { OnErr result (SharesTheSame self.old self.new) }
     {
         match maker {
@@ -218,6 +261,7 @@ impl Shared {
     ) -> Result<Name, AllocError>
         ensures name { IfOk result (λ name. IsNextName self.old (Maker.Class maker) name) }
         ensures ok { OnOk result (Makes self.old self.new (Maker.Class maker) class slots) }
+        ensures classes { self.new.classes ≡ self.old.classes }
         ensures err { OnErr result (SharesTheSame self.old self.new) }
     {
         let number = self.heap.classes.make(alloc, maker, class, slots)?;
@@ -237,6 +281,7 @@ impl Shared {
     ) -> Result<Name, AllocError>
         ensures name { IfOk result (λ name. IsNextName self.old (Maker.Thread maker) name) }
         ensures ok { OnOk result (Makes self.old self.new (Maker.Thread maker) class slots) }
+        ensures classes { self.new.classes ≡ self.old.classes }
         ensures err { OnErr result (SharesTheSame self.old self.new) }
     {
         let number = self.heap.threads.make(alloc, maker, class, slots)?;

@@ -20,3 +20,9 @@ returns-in-GetField-clause-gives g c = λ p. rw c.in-GetField.is (c.get_field.en
 
 pub returns-in-PutField-clause-gives : goal.returns-in-PutField-clause-gives
 returns-in-PutField-clause-gives g c = λ p. rw c.in-PutField.is (c.put_field.ensures.gives p)
+
+pub returns-in-EnterMonitor-clause-gives : goal.returns-in-EnterMonitor-clause-gives
+returns-in-EnterMonitor-clause-gives g c = λ p. rw c.in-EnterMonitor.is (c.enter_monitor.ensures.gives p)
+
+pub returns-in-ExitMonitor-clause-gives : goal.returns-in-ExitMonitor-clause-gives
+returns-in-ExitMonitor-clause-gives g c = λ p. rw c.in-ExitMonitor.is (c.exit_monitor.ensures.gives p)
