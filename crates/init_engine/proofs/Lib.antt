@@ -9,3 +9,4 @@ pub mod WorldSteps
 pub mod EntryLemmas
 pub mod StartingLemmas
 pub mod RestLemmas
+pub mod ProcedureLemmas

@@ -154,7 +154,7 @@ stop_of_turns {P} {count} (idle asked) =
     let passed = asked_idle asked refl in
     inr (λ t below. subst (λ (v : World). step P v t ≡ None) (sym passed.same) (passed.stand t below))
 stop_of_turns (limited asked within reached) = inl reached
-stop_of_turns {P} {count} {most} (goes_on {most} {w} {next} {last} {round} {rest} asked some turns) =
+stop_of_turns {P} {count} (goes_on {most} {w} {next} {last} {round} {rest} asked some turns) =
     elim (stop_of_turns turns) as (λ s. HasStopped P count most (round ++ rest) last) [
     | inl reached ↦ inl (omega (arith, length-append round rest, reached, asked_few asked))
     | inr stand ↦ inr stand

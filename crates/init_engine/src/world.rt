@@ -196,7 +196,8 @@ impl World {
     }
 
     pub(crate) fn threads(&self) -> &[Thread]
-        ensures { result.now ≡ self.now.threads }
+        ensures value { result.now ≡ self.now.threads }
+        ensures numbered { AreNumbered result.now }
     {
         self.threads.as_slice()
     }
