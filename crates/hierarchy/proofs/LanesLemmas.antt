@@ -262,7 +262,8 @@ module _ (family : Family) (own : ℕ → Option ℕ) where
 module _ (family : Family) (own : ℕ → Option ℕ) (cs : List ℕ) (lane : Lane) (class : ℕ) (at : class + 1 ≡ lane.first)
   where
     same_class : (f : Foremost) → lane ≡ kept (Some f) → class ≡ f.member.class
-    same_class f e = let first : lane.first ≡ suc f.member.class = ap (λ (l : Lane). l.first) e in omega (arith, at, first)
+    same_class f e =
+        let first : lane.first ≡ suc f.member.class = ap (λ (l : Lane). l.first) e in omega (arith, at, first)
 
     pub foremost_lost : own class ≡ None → IsKept family own cs lane → IsForemost family own cs None
     foremost_lost lacks (None, are, e) = are

@@ -43,8 +43,8 @@ impl Ways {
         Ok(Ways { order, walks, rows })
     }
 
-    /// Whether walks for these references, and a look at each class that declares a member, would take longer. A step of
-    /// a walk takes some two times as long as one of a way through all classes.
+    /// Whether walks for these references, and a look at each class that declares a member, would take longer. A step
+    /// of a walk takes some two times as long as one of a way through all classes.
     fn are_shorter(&self, hierarchy: &Hierarchy, wanted: Wanted, batch: &[Asked]) -> bool {
         let way = self
             .order

@@ -25,5 +25,6 @@ returns c =
     (resolved_field family name class c.foremost-foremost.result
     (c.foremost-foremost.ensures name (class ∷ []) numbers
     (subst (IsKept family (field_in family name) (class ∷ [])) (sym c.entry_of.ensures)
-    (c.requires.rows c.args.lane key name class at numbers (omega (arith, c.requires.len, c.if-class-rows.false))))).search))
+    (c.requires.rows c.args.lane key name class at numbers
+    (omega (arith, c.requires.len, c.if-class-rows.false))))).search))
     c.in_ok-insert.ensures

@@ -1,4 +1,5 @@
-use Rattle.std.proofs.Common.{◌≡◌, ◌≤◌, length, ℕ, Option, Some, None, set, get_or, ap, inl, inr, sym, arith, ◌∙◌, subst}
+use Rattle.std.proofs.Common.{◌≡◌, ◌≤◌, length, ℕ, Option, Some, None, set, get_or, ap, inl, inr, sym, arith, ◌∙◌}
+use Rattle.std.proofs.Common.{subst}
 use Rattle.std.proofs.lemmas.Option.{slice_get-get_or}
 use Rattle.hierarchy.specs.steps.Foremosts.{IsOwn, entry_of}
 use Rattle.hierarchy.specs.steps.HierarchyTables.{wanted_in}
