@@ -1,11 +1,11 @@
 -- What is foremost among classes and those above them.
-use Rattle.std.proofs.Common.{◌≡◌, ◌≢◌, ℕ, ◌<◌, ◌⊎◌, Bool, true, false, ◌&&◌, ◌||◌, eqb, List, [], ◌∷◌, ◌++◌, length}
+use Rattle.std.proofs.Common.{◌≡◌, ℕ, ◌<◌, ◌⊎◌, Bool, true, false, ◌&&◌, ◌||◌, eqb, List, [], ◌∷◌, ◌++◌, length}
 use Rattle.std.proofs.Common.{Option, Some, None, refl, sym, ap, ◌∙◌, subst, inl, inr, arith, append-nil, append_assoc}
-use Rattle.std.proofs.Common.{get_or, set, map, take, ◌≤◌, ◌+◌}
+use Rattle.std.proofs.Common.{get_or, map, take, ◌≤◌, ◌+◌}
 use Rattle.std.specs.Prelude.{option_map}
 use Rattle.std.specs.List.{Contains}
-use Rattle.std.proofs.lemmas.Bool.{eqb-true, eq-eqb}
-use Rattle.std.proofs.lemmas.List.{get_or-set_same, get_or-set_other, get_or-map, length-map, take-map}
+use Rattle.std.proofs.lemmas.Bool.{eqb-true}
+use Rattle.std.proofs.lemmas.List.{get_or-map, length-map, take-map}
 use Rattle.std.proofs.lemmas.List.{take_more, take_all, map-append}
 use Rattle.std.proofs.lemmas.Option.{slice_get-map, slice_get-get_or}
 use Rattle.std.proofs.lemmas.List.Elements.{Contains-append_left, Contains-push, Contains-push_cases}
@@ -13,9 +13,9 @@ use Rattle.loading.specs.Families.{Family, IsAncestor, parents_in}
 use Rattle.hierarchy.specs.MemberLookup.{is_abstract, flags_in}
 use Rattle.hierarchy.specs.Search.{Search}
 use Rattle.hierarchy.specs.steps.Above.{IsAmongOrAbove}
-use Rattle.hierarchy.specs.steps.Foremosts.{foremost_before, joined, member_of, Tells, IsForemost, IsOwn, AreFilled}
-use Rattle.hierarchy.specs.steps.Foremosts.{AreNoted}
-use Rattle.hierarchy.specs.steps.Foremosts.{entry_of, AreSteps, class_of_step}
+use Rattle.hierarchy.specs.steps.Foremosts.{foremost_before, joined, member_of, Tells, IsForemost, IsKept, IsOwn}
+use Rattle.hierarchy.specs.steps.Foremosts.{AreSteps, class_of_step}
+use Rattle.hierarchy.specs.declared.lanes.Lane.{Lane}
 use Rattle.hierarchy.specs.declared.parents_first.Step.{Step}
 use Rattle.hierarchy.specs.declared.foremost.Foremost.{Foremost}
 use Rattle.hierarchy.specs.declared.member.DeclaredMember.{DeclaredMember}
@@ -179,33 +179,36 @@ module _ (family : Family) (own : ℕ → Option ℕ) where
 
   -- ---- one class
 
-  pub own_foremost : (c k : ℕ) (found : Option Foremost) → own c ≡ Some k → IsOwn family c k found
-      → IsForemost family own (c ∷ []) found
-  own_foremost c k found has (coded, is, abstract) =
+  pub own_foremost : (c k : ℕ) (lane : Lane) → own c ≡ Some k → IsOwn family c k lane
+      → IsKept family own (c ∷ []) lane
+  own_foremost c k lane has (coded, is, abstract) =
       let f : Foremost =
-      record { member = record { class = c; index = k }; covers = true; coded = coded } in
-      subst (IsForemost family own (c ∷ [])) (sym is) (record {
-        search = Search.here has;
-        stands = λ g e.
-            let same : f ≡ g = cc in
-            subst (λ (h : Foremost). IsAmongOrAbove family (c ∷ []) h.member.class
-            × (own h.member.class ≡ Some h.member.index)) same (itself_among c, has);
-        tells = λ i j among holds. (
-          f,
-          refl,
-          record {
-            behind = λ _. among_one c i among;
-            codeless = λ off. elim (among_one c i among) [
-              | inl same ↦
-                  let places : Some k ≡ Some j = sym has ∙ ap own (sym same) ∙ holds in
-                  let place : k ≡ j = cc in
-                  inl (ap (λ (n : ℕ). is_abstract (flags_in family n j)) same
-                  ∙ ap (λ (n : ℕ). is_abstract (flags_in family c n)) (sym place) ∙ abstract off)
-              | inr up ↦ inr (c, (k, has), itself_among c, up)
-            ];
-          },
-        );
-      })
+      record { member = record { class = c; index = k }; covers = true; coded = coded } in (
+        Some f,
+        record {
+          search = Search.here has;
+          stands = λ g e.
+              let same : f ≡ g = cc in
+              subst (λ (h : Foremost). IsAmongOrAbove family (c ∷ []) h.member.class
+              × (own h.member.class ≡ Some h.member.index)) same (itself_among c, has);
+          tells = λ i j among holds. (
+            f,
+            refl,
+            record {
+              behind = λ _. among_one c i among;
+              codeless = λ off. elim (among_one c i among) [
+                | inl same ↦
+                    let places : Some k ≡ Some j = sym has ∙ ap own (sym same) ∙ holds in
+                    let place : k ≡ j = cc in
+                    inl (ap (λ (n : ℕ). is_abstract (flags_in family n j)) same
+                    ∙ ap (λ (n : ℕ). is_abstract (flags_in family c n)) (sym place) ∙ abstract off)
+                | inr up ↦ inr (c, (k, has), itself_among c, up)
+              ];
+            },
+          );
+        },
+        is,
+      )
 
   pub above_foremost : (c : ℕ) (found : Option Foremost) → own c ≡ None
       → IsForemost family own (parents_in family c) found → IsForemost family own (c ∷ []) found
@@ -229,83 +232,6 @@ module _ (family : Family) (own : ℕ → Option ℕ) where
           )
     ];
   }
-
-  -- ---- one more class is filled
-
-  module _ (done : List ℕ) (entries : List (Option Foremost)) (class : ℕ) (are : AreFilled family own done entries)
-    where
-      pub filled_own : (f : Foremost) → entry_of entries class ≡ Some f → f.member.class ≡ class
-          → AreFilled family own (done ++ class ∷ []) entries
-      filled_own f at same = record {
-        declared = are.declared;
-        others = are.others;
-        found = λ c among. elim (Contains-push_cases done class c among) [
-          | inl before ↦ are.found c before
-          | inr last ↦
-              subst (λ (n : ℕ). IsForemost family own (n ∷ []) (entry_of entries n)) last (by (own class) refl)
-        ];
-      }
-        where
-          by : (o : Option ℕ) → own class ≡ o → IsForemost family own (class ∷ []) (entry_of entries class)
-          by (Some k) has = own_foremost class k (entry_of entries class) has (are.declared class k has)
-          by None lacks = absurd (are.others class f lacks at same)
-
-      declares_none : ((f : Foremost) → entry_of entries class ≡ Some f → f.member.class ≢ class)
-          → (o : Option ℕ) → own class ≡ o → own class ≡ None
-      declares_none free None e = e
-      declares_none free (Some k) e = absurd (let here = are.declared class k e in
-          free (record { member = record { class = class; index = k }; covers = true; coded = here.0 }) here.1 refl)
-
-      module _ (found : Option Foremost) (within : class < length entries)
-          (free : (f : Foremost) → entry_of entries class ≡ Some f → f.member.class ≢ class)
-          (up : IsForemost family own (parents_in family class) found) where
-        lacks : own class ≡ None
-        lacks = declares_none free (own class) refl
-
-        entry_here : entry_of (set entries class found) class ≡ found
-        entry_here = get_or-set_same entries class found None within
-
-        entry_there : (c : ℕ) → c ≢ class → entry_of (set entries class found) c ≡ entry_of entries c
-        entry_there c other = get_or-set_other entries class c found None other
-
-        by_class : (c : ℕ) → (c ≡ class) ⊎ (c ≢ class)
-        by_class c = by (eqb c class) refl
-          where
-            by : (b : Bool) → eqb c class ≡ b → (c ≡ class) ⊎ (c ≢ class)
-            by true e = inl (eqb-true c class e)
-            by false e = inr (λ (same : c ≡ class). (let clash : true ≡ false = sym (eq-eqb c class same) ∙ e in cc))
-
-        foremost_here : IsForemost family own (class ∷ []) (entry_of (set entries class found) class)
-        foremost_here =
-            subst (IsForemost family own (class ∷ [])) (sym entry_here) (above_foremost class found lacks up)
-
-        foremost_at : (c : ℕ) → (c ≡ class) ⊎ (c ≢ class) → (c ≢ class → Contains done c)
-            → IsForemost family own (c ∷ []) (entry_of (set entries class found) c)
-        foremost_at c (inl same) before =
-            subst (λ (n : ℕ). IsForemost family own (n ∷ []) (entry_of (set entries class found) n)) (sym same)
-            foremost_here
-        foremost_at c (inr other) before =
-            subst (IsForemost family own (c ∷ [])) (sym (entry_there c other)) (are.found c (before other))
-
-        pub filled_above : AreFilled family own (done ++ class ∷ []) (set entries class found)
-        filled_above = record {
-          declared = λ c k has. subst (IsOwn family c k)
-              (sym (entry_there c (λ same. (let clash : None ≡ Some k = sym lacks ∙ ap own (sym same) ∙ has in cc))))
-              (are.declared c k has);
-          others = λ c f none at same. elim (by_class c) [
-            | inl here ↦
-                let is : found ≡ Some f = sym entry_here
-                ∙ ap (λ (n : ℕ). entry_of (set entries class found) n) (sym here) ∙ at in
-                let s = up.stands f is in
-                let clash : None ≡ Some f.member.index = sym none ∙ ap own (sym same) ∙ s.1 in
-                cc
-            | inr other ↦ are.others c f none (sym (entry_there c other) ∙ at) same
-          ];
-          found = λ c among. foremost_at c (by_class c) (λ other. elim (Contains-push_cases done class c among) [
-            | inl before ↦ before
-            | inr last ↦ absurd (other (sym last))
-          ]);
-        }
 
 -- ---- one more step
 
@@ -338,79 +264,3 @@ module _ (family : Family) (steps : List Step) (parents : List ℕ) (are : AreSt
   all_done i c past small =
       subst (λ (l : List Step). Contains (map class_of_step l) c) (sym (take_all i steps past))
       (are.order.whole c small)
-
--- ---- the classes that declare it
-
-module _ (family : Family) (own : ℕ → Option ℕ) where
-  pub noted_start : (entries : List (Option Foremost)) → ((c : ℕ) → entry_of entries c ≡ None)
-      → AreNoted family own [] entries
-  noted_start entries empty = record {
-    there = λ c k among has. absurd (none_in_empty c among);
-    only = λ c f at. absurd (let clash : None ≡ Some f = sym (empty c) ∙ at in cc);
-  }
-
-  module _ (asked : List ℕ) (entries : List (Option Foremost)) (class : ℕ) (are : AreNoted family own asked entries)
-    where
-      pub noted_lacking : own class ≡ None → AreNoted family own (asked ++ class ∷ []) entries
-      noted_lacking lacks = record {
-        there = λ c k among has. elim (Contains-push_cases asked class c among) [
-          | inl before ↦ are.there c k before has
-          | inr last ↦ absurd (let clash : None ≡ Some k = sym lacks ∙ ap own last ∙ has in cc)
-        ];
-        only = are.only;
-      }
-
-      module _ (k : ℕ) (f : Foremost) (within : class < length entries) (has : own class ≡ Some k)
-          (is : IsOwn family class k (Some f)) where
-        noted_here : entry_of (set entries class (Some f)) class ≡ Some f
-        noted_here = get_or-set_same entries class (Some f) None within
-
-        noted_other : (c : ℕ) → c ≢ class → entry_of (set entries class (Some f)) c ≡ entry_of entries c
-        noted_other c other = get_or-set_other entries class c (Some f) None other
-
-        here_or_not : (c : ℕ) → (c ≡ class) ⊎ (c ≢ class)
-        here_or_not c = by (eqb c class) refl
-          where
-            by : (b : Bool) → eqb c class ≡ b → (c ≡ class) ⊎ (c ≢ class)
-            by true e = inl (eqb-true c class e)
-            by false e = inr (λ (same : c ≡ class). (let clash : true ≡ false = sym (eq-eqb c class same) ∙ e in cc))
-
-        own_here : (c j : ℕ) → c ≡ class → own c ≡ Some j → IsOwn family c j (Some f)
-        own_here c j same holds =
-            let places : Some k ≡ Some j = sym has ∙ ap own (sym same) ∙ holds in
-            let place : k ≡ j = cc in
-            subst (λ (n : ℕ). IsOwn family c n (Some f)) place
-            (subst (λ (n : ℕ). IsOwn family n k (Some f)) (sym same) is)
-
-        pub noted_one : AreNoted family own (asked ++ class ∷ []) (set entries class (Some f))
-        noted_one = record {
-          there = λ c j among holds. elim (here_or_not c) [
-            | inl same ↦
-                subst (IsOwn family c j)
-                (sym (ap (λ (n : ℕ). entry_of (set entries class (Some f)) n) same ∙ noted_here))
-                (own_here c j same holds)
-            | inr other ↦ elim (Contains-push_cases asked class c among) [
-              | inl before ↦ subst (IsOwn family c j) (sym (noted_other c other)) (are.there c j before holds)
-              | inr last ↦ absurd (other (sym last))
-            ]
-          ];
-          only = λ c g at. elim (here_or_not c) [
-            | inl same ↦
-                let equal : Some f ≡ Some g =
-                sym noted_here ∙ ap (λ (n : ℕ). entry_of (set entries class (Some f)) n) (sym same) ∙ at in
-                let holds : own c ≡ Some k = ap own same ∙ has in
-                (k, holds, subst (IsOwn family c k) equal (own_here c k same holds))
-            | inr other ↦ are.only c g (sym (noted_other c other) ∙ at)
-          ];
-        }
-
-  pub noted_whole : (asked : List ℕ) (entries : List (Option Foremost))
-      → ((c k : ℕ) → own c ≡ Some k → Contains asked c)
-      → AreNoted family own asked entries → AreFilled family own [] entries
-  noted_whole asked entries whole are = record {
-    declared = λ c k has. are.there c k (whole c k has) has;
-    others = λ c f lacks at same.
-        let known = are.only c f at in
-        (let clash : None ≡ Some known.0 = sym lacks ∙ known.1 in cc);
-    found = λ c among. absurd (none_in_empty c among);
-  }

@@ -7,6 +7,7 @@ pub mod SearchLemmas
 pub mod MemberLookupLemmas
 pub mod AboveLemmas
 pub mod ForemostLemmas
+pub mod LanesLemmas
 pub mod SettledLemmas
 pub mod FoundAheadLemmas
 pub mod MarkLemmas

@@ -1,8 +1,9 @@
 //! The references of class files to members that an interface may declare (JVMS 4.4.2).
 
-ghost use Rattle.std.specs.Prelude.{◌<◌, ◌≤◌, length};
+ghost use Rattle.std.specs.Prelude.{◌<◌, ◌≤◌, length, IfOk};
 
 use crate::hierarchy::Hierarchy;
+use crate::lanes::LANES;
 use crate::member_index::MemberKey;
 use crate::member_name::MemberName;
 use crate::wanted::Wanted;
@@ -72,31 +73,45 @@ pub(crate) struct Asked {
     pub(crate) member: MemberName,
 }
 
-impl Asked {
-    /// Whether another one has the same name and descriptor.
-    fn has_key_of(&self, other: &Asked) -> bool {
-        self.key.name == other.key.name && self.key.descriptor == other.key.descriptor
-    }
-}
-
 /// By name and descriptor, then by class.
 fn by_key(a: &Asked, b: &Asked) -> Ordering {
     (a.key.name, a.key.descriptor, a.class).cmp(&(b.key.name, b.key.descriptor, b.class))
 }
 
-/// How many of them, from the first on, have one name and descriptor.
-pub(crate) fn run_length(asked: &[Asked]) -> usize
+/// How many of them, from the first on, have no more names and descriptors than are looked at together.
+pub(crate) fn batch_length(asked: &[Asked]) -> usize
     ensures few { result ≤ length asked.now }
     ensures some { 0 < length asked.now → 0 < result }
 {
-    let Some(first) = asked.first() else {
-        return 0;
-    };
+    let mut keys = 1;
     let mut count = 1;
-    while count < asked.len() && asked[count].has_key_of(first) {
+    while count < asked.len() {
+        if asked[count].key != asked[count - 1].key {
+            if keys == LANES {
+                return count;
+            }
+            keys += 1;
+        }
         count += 1;
     }
-    count
+    count.min(asked.len())
+}
+
+/// The names and descriptors of references that stand in order, each once, no more than are looked at together.
+pub(crate) fn keys_of(alloc: Global, asked: &[Asked]) -> Result<Vec<MemberKey>, AllocError>
+    ensures { IfOk result (λ keys. length keys.items ≤ 64) }
+{
+    let mut keys: Vec<MemberKey> = Vec::new(alloc);
+    for reference in asked {
+        let known = match keys.last() {
+            Some(last) => *last == reference.key,
+            None => false,
+        };
+        if !known && keys.len() < LANES {
+            keys.push(reference.key)?;
+        }
+    }
+    Ok(keys)
 }
 
 impl Hierarchy {

@@ -1,9 +1,16 @@
 //! The first member that a search finds, with what is known of the others (JVMS 5.4.3.2 to 5.4.3.4).
 
-ghost use Rattle.std.specs.Prelude.{◌≡◌};
-ghost use Rattle.hierarchy.specs.steps.Foremosts.{foremost_before, joined, member_of};
+ghost use Rattle.std.specs.Prelude.{◌≡◌, ℕ, List};
+ghost use Rattle.built_in.specs.Keys.{NameAndType};
+ghost use Rattle.hierarchy.specs.steps.Foremosts.{IsForemost, IsKept, member_of};
+ghost use Rattle.hierarchy.specs.steps.HierarchyTables.{wanted_in};
+ghost use Rattle.hierarchy.specs.steps.MemberIndexes.{AreNumbers};
 
+use crate::hierarchy::Hierarchy;
+use crate::lanes::Lane;
 use crate::member::DeclaredMember;
+use crate::member_index::MemberKey;
+use crate::wanted::Wanted;
 
 /// The first member that some classes or those above them declare, in the order of searches.
 #[derive(Clone, Copy, Debug)]
@@ -15,31 +22,6 @@ pub(crate) struct Foremost {
     pub(crate) coded: bool,
 }
 
-impl Foremost {
-    /// The same with what stands behind these classes.
-    fn before(self, other: Foremost) -> Foremost
-        ensures { result ≡ foremost_before self other }
-    {
-        let same = self.member.class == other.member.class;
-        Foremost {
-            member: self.member,
-            covers: self.covers && other.covers && same,
-            coded: self.coded || other.coded,
-        }
-    }
-}
-
-/// The foremost of some classes and of others behind them.
-pub(crate) fn joined(first: Option<Foremost>, other: Option<Foremost>) -> Option<Foremost>
-    ensures { result ≡ joined first other }
-{
-    match (first, other) {
-        (Some(first), Some(other)) => Some(first.before(other)),
-        (Some(first), None) => Some(first),
-        (None, other) => other,
-    }
-}
-
 /// The member alone.
 pub(crate) fn member_of(found: Option<Foremost>) -> Option<DeclaredMember>
     ensures { result ≡ member_of found }
@@ -47,5 +29,27 @@ pub(crate) fn member_of(found: Option<Foremost>) -> Option<DeclaredMember>
     match found {
         Some(foremost) => Some(foremost.member),
         None => None,
+    }
+}
+
+impl Hierarchy {
+    /// What was kept of a foremost member, with its place in its class.
+    pub(crate) fn foremost(&self, wanted: Wanted, key: MemberKey, lane: Lane) -> Option<Foremost>
+        ensures { (name : NameAndType) (cs : List ℕ) → AreNumbers self.now.texts name key
+            → IsKept self.now.family (wanted_in wanted self.now.family name) cs lane
+            → IsForemost self.now.family (wanted_in wanted self.now.family name) cs result }
+    {
+        if lane.first == 0 {
+            return None;
+        }
+        let class = u32::from(lane.first - 1);
+        let Some(index) = self.find(wanted, class, Some(key)) else {
+            return None;
+        };
+        Some(Foremost {
+            member: DeclaredMember { class, index },
+            covers: lane.covers,
+            coded: lane.coded,
+        })
     }
 }

@@ -14,6 +14,7 @@ mod foremost_entries;
 mod found_ahead;
 pub mod hierarchy;
 pub mod initialization;
+mod lanes;
 pub mod laws;
 mod marked;
 mod marks;

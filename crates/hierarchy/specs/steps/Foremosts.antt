@@ -1,12 +1,14 @@
 -- The first member that a search finds, with what is known of the others (JVMS 5.4.3.2 to 5.4.3.4).
-use Rattle.std.specs.Prelude.{◌≡◌, ◌≢◌, ℕ, ◌≤◌, ◌⊎◌, ◌&&◌, ◌||◌, ◌==◌, Bool, true, false, List, [], ◌∷◌, Option, Some}
-use Rattle.std.specs.Prelude.{None, ◌-◌, length, map, take, drop, slice_index_or}
+use Rattle.std.specs.Prelude.{◌≡◌, ℕ, ◌≤◌, ◌⊎◌, ◌&&◌, ◌||◌, ◌==◌, Bool, true, false, List, [], ◌∷◌, Option, Some}
+use Rattle.std.specs.Prelude.{None, suc, ◌-◌, length, map, take, drop, slice_index_or, if◌then◌else◌}
 use Rattle.std.specs.List.{All, Contains}
 use Rattle.loading.specs.Families.{Family, IsAncestor, IsParentsFirst, parents_in}
 use Rattle.hierarchy.specs.Search.{Search}
 use Rattle.hierarchy.specs.MemberLookup.{is_abstract, flags_in}
 use Rattle.hierarchy.specs.steps.Above.{IsAmongOrAbove}
 use Rattle.hierarchy.specs.declared.foremost.Foremost.{Foremost}
+use Rattle.hierarchy.specs.declared.lanes.Lane.{Lane}
+use Rattle.hierarchy.specs.declared.lanes.Lanes.{Lanes}
 use Rattle.hierarchy.specs.declared.member.DeclaredMember.{DeclaredMember}
 use Rattle.hierarchy.specs.declared.member.Field.{Field}
 use Rattle.hierarchy.specs.declared.member.Field.TheVariants as field
@@ -44,30 +46,56 @@ pub record IsForemost (family : Family) (own : ℕ → Option ℕ) (cs : List �
   pub tells : (i k : ℕ) → IsAmongOrAbove family cs i → own i ≡ Some k
       → (f : Foremost) × (found ≡ Some f) × Tells family own cs f i k
 
+-- ---- as it is kept, without the member's place in its class
+
+abbrev pub kept : Option Foremost → Lane
+kept None = record { first = 0; covers = true; coded = false }
+kept (Some f) = record { first = suc f.member.class; covers = f.covers; coded = f.coded }
+
+abbrev pub joined_lanes : Lane → Lane → Lane
+joined_lanes a b = record {
+  first = if a.first == 0 then b.first else a.first;
+  covers = a.covers && b.covers && (a.first == 0 || b.first == 0 || a.first == b.first);
+  coded = a.coded || b.coded;
+}
+
+-- one's own, or what stands above
+abbrev pub own_or_above : Lane → Lane → Lane
+own_or_above own above = if own.first == 0 then above else own
+
+-- what is kept of the foremost one
+abbrev pub IsKept : Family → (ℕ → Option ℕ) → List ℕ → Lane → Type 0
+IsKept family own cs lane = (found : Option Foremost) × IsForemost family own cs found × (lane ≡ kept found)
+
+-- ---- many names and descriptors side by side
+
+abbrev pub lane_at : Lanes → ℕ → Lane
+lane_at lanes n = record {
+  first = slice_index_or lanes.first n 0;
+  covers = slice_index_or lanes.covers n true;
+  coded = slice_index_or lanes.coded n false;
+}
+
+abbrev pub entry_of : List Lanes → ℕ → ℕ → Lane
+entry_of rows lane c = lane_at (slice_index_or rows c (record { first = []; covers = []; coded = [] })) lane
+
 -- ---- by class
 
-abbrev pub entry_of : List (Option Foremost) → ℕ → Option Foremost
-entry_of entries c = slice_index_or entries c None
-
 -- what a class has that declares the member itself
-abbrev pub IsOwn : Family → ℕ → ℕ → Option Foremost → Type 0
-IsOwn family c k found = (coded : Bool)
-    × (found ≡ Some (record { member = record { class = c; index = k }; covers = true; coded = coded }))
+abbrev pub IsOwn : Family → ℕ → ℕ → Lane → Type 0
+IsOwn family c k lane = (coded : Bool) × (lane ≡ record { first = suc c; covers = true; coded = coded })
     × (coded ≡ false → is_abstract (flags_in family c k) ≡ true)
 
 -- Those of some classes that declare the member were noted, and nothing else.
-pub record AreNoted (family : Family) (own : ℕ → Option ℕ) (asked : List ℕ) (entries : List (Option Foremost)) : Type 0
-  where
-    pub there : (c k : ℕ) → Contains asked c → own c ≡ Some k → IsOwn family c k (entry_of entries c)
-    pub only : (c : ℕ) (f : Foremost) → entry_of entries c ≡ Some f → (k : ℕ) × (own c ≡ Some k)
-        × IsOwn family c k (Some f)
+pub record AreNoted (family : Family) (own : ℕ → Option ℕ) (asked : List ℕ) (entry : ℕ → Lane) : Type 0 where
+  pub there : (c k : ℕ) → Contains asked c → own c ≡ Some k → IsOwn family c k (entry c)
+  pub only : (c : ℕ) → own c ≡ None → entry c ≡ kept None
 
 -- All that declare it are noted, and what is foremost was found for some classes.
-pub record AreFilled (family : Family) (own : ℕ → Option ℕ) (done : List ℕ) (entries : List (Option Foremost)) : Type 0
-  where
-    pub declared : (c k : ℕ) → own c ≡ Some k → IsOwn family c k (entry_of entries c)
-    pub others : (c : ℕ) (f : Foremost) → own c ≡ None → entry_of entries c ≡ Some f → f.member.class ≢ c
-    pub found : (c : ℕ) → Contains done c → IsForemost family own (c ∷ []) (entry_of entries c)
+pub record AreFilled (family : Family) (own : ℕ → Option ℕ) (done : List ℕ) (entry : ℕ → Lane) : Type 0 where
+  pub declared : (c k : ℕ) → own c ≡ Some k → IsOwn family c k (entry c)
+  pub others : (c : ℕ) → own c ≡ None → (entry c ≡ kept None) ⊎ IsKept family own (c ∷ []) (entry c)
+  pub found : (c : ℕ) → Contains done c → IsKept family own (c ∷ []) (entry c)
 
 -- ---- the classes, each after its parents
 

@@ -7,7 +7,7 @@ abbrev pub invariant-loop-start : goal.invariant-loop-start
 invariant-loop-start l = record {
   within : l.start ≤ length l.asked.items;
   order : AreSteps l.self.family l.ways.order.steps.items l.ways.order.parents.items;
-  len : length l.ways.entries.items ≡ length l.self.family;
+  len : length l.ways.rows.items ≡ length l.self.family;
   found : AreFields l.self l.found;
 }
 
