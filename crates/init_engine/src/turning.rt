@@ -14,7 +14,6 @@ use crate::world::{Turn, World};
 use machine::step_table::StepTable;
 use program::Program;
 use std::alloc::{AllocError, Global};
-use vm_state::frame::Activity;
 
 /// Asks a thread for a step, and records it where it had one.
 #[inline(always)]
@@ -68,23 +67,7 @@ fn round(
     Ok(done)
 }
 
-/// Makes the steps of the method of the only thread's innermost frame, where they are not kept yet.
-fn fetch(
-    alloc: Global,
-    program: &Program,
-    world: &World,
-    table: &mut StepTable,
-) -> Result<(), AllocError>
-    requires { KeepsSteps program.now table.old }
-    ensures { OnOk result (KeepsSteps program.now table.new) }
-{
-    match world.activity(0) {
-        Some(Activity::Method { class, index }) => table.fetch(alloc, program, class, index),
-        Some(Activity::Start(_)) | None => Ok(()),
-    }
-}
-
-/// Runs the only thread ahead: instructions after each of which its innermost frame goes on, and then one step, as
+/// Runs the only thread ahead: instructions after each of which one of its frames goes on, and then one step, as
 /// long as it has one and there were fewer than so many. It answers how many there were.
 fn run_alone(
     alloc: Global,
@@ -103,8 +86,8 @@ fn run_alone(
 {
     let mut left = most;
     'ahead: loop {
-        fetch(alloc, program, world, table)?;
-        left -= world.run_stretch(program, table, 0, left);
+        let count = world.run_stretch(alloc, program, table, 0, left)?;
+        left -= count;
         if left == 0 {
             break;
         }

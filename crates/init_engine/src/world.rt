@@ -16,14 +16,14 @@ ghost use Rattle.init_engine.specs.Threads.{thread_of, seen_of, HasNumber};
 ghost use Rattle.init_engine.specs.Turns.{IsTurn, world_of};
 
 use crate::procedure::{Progress, step_thread};
+use machine::course::run_segment;
 use machine::effects::actor_of;
 use machine::step_table::StepTable;
-use machine::stretch::run_frame;
 use program::Program;
 use std::alloc::{AllocError, Global};
 use std::marker::Model;
 use vm_state::ends::{End, Ending};
-use vm_state::frame::{Activity, Frame, FrameList, Segment};
+use vm_state::frame::{Frame, FrameList, Segment};
 use vm_state::initialization::Frames;
 use vm_state::shared::Shared;
 use vm_state::text::{Line, Text};
@@ -244,71 +244,81 @@ impl World {
         Ok(turn)
     }
 
-    /// What a thread's innermost frame is for, where it has one.
-    pub(crate) fn activity(&self, thread: u32) -> Option<Activity> {
-        match self.threads.get(thread as usize)? {
-            Thread::Going(frames) => Some(frames.innermost()?.activity),
-            Thread::Ended(_) => None,
-        }
-    }
-
-    /// Runs instructions of a thread after each of which it goes on in its innermost frame, by the steps that are kept,
-    /// as long as the next is such a one and there were fewer than so many. It answers how many steps that were.
+    /// Runs instructions of a thread after each of which it goes on in a frame above the same initializations, as long
+    /// as the next is such a one and there were fewer than so many. It answers how many steps that were. The steps of
+    /// the methods that run are made and kept.
+    ///
+    /// # Errors
+    /// `AllocError` where memory is refused; the thread may have lost its frames then.
     pub fn run_stretch(
         &mut self,
+        alloc: Global,
         program: &Program,
-        table: &StepTable,
+        table: &mut StepTable,
         thread: u32,
         most: u64,
-    ) -> u64
+    ) -> Result<u64, AllocError>
         requires thread { thread < length self.old.threads }
-        requires steps { KeepsSteps program.now table.now }
-        ensures run { Run (program_of program.now) (world_of self.old) (replicate result thread) (world_of self.new) }
-        ensures most { result ≤ most }
+        requires steps { KeepsSteps program.now table.old }
+        ensures steps { OnOk result (KeepsSteps program.now table.new) }
+        ensures run { IfOk result (λ count. Run (program_of program.now) (world_of self.old) (replicate count thread)
+            (world_of self.new)) }
+        ensures most { IfOk result (λ count. count ≤ most) }
         ensures threads { length self.new.threads ≡ length self.old.threads }
     {
         let running = &mut self.threads[thread as usize];
-        run_thread(program, table, running, &mut self.shared, most)
+        let count = run_thread(alloc, program, table, running, &mut self.shared, most)?;
+        Ok(count)
     }
 }
 
-/// Runs instructions after each of which a thread goes on in its innermost frame.
+/// Runs instructions after each of which a thread goes on in a frame above the same initializations.
+///
+/// # Errors
+/// `AllocError` where memory is refused.
 fn run_top(
+    alloc: Global,
     program: &Program,
-    table: &StepTable,
+    table: &mut StepTable,
     frames: &mut Frames,
     shared: &mut Shared,
     most: u64,
-) -> u64
-    requires { KeepsSteps program.now table.now }
-    ensures run { TopRuns program.now result frames.old shared.old frames.new shared.new }
-    ensures most { result ≤ most }
+) -> Result<u64, AllocError>
+    requires { KeepsSteps program.now table.old }
+    ensures steps { OnOk result (KeepsSteps program.now table.new) }
+    ensures run { IfOk result (λ count. TopRuns program.now count frames.old shared.old frames.new shared.new) }
+    ensures most { IfOk result (λ count. count ≤ most) }
+    ensures thread { frames.new.thread ≡ frames.old.thread }
 {
     let by = actor_of(frames);
     let Some(segment) = frames.segment.take() else {
-        return 0;
+        return Ok(0);
     };
-    let Segment { innermost, callers } = segment;
-    let (innermost, count) = run_frame(program, table, by, innermost, shared, most);
-    frames.segment = Some(Segment { innermost, callers });
-    count
+    let (left, count) = run_segment(alloc, program, table, by, segment, shared, most)?;
+    frames.segment = Some(left);
+    Ok(count)
 }
 
-/// Runs instructions after each of which a thread goes on in its innermost frame.
+/// Runs instructions after each of which a thread goes on in a frame above the same initializations.
+///
+/// # Errors
+/// `AllocError` where memory is refused.
 fn run_thread(
+    alloc: Global,
     program: &Program,
-    table: &StepTable,
+    table: &mut StepTable,
     thread: &mut Thread,
     shared: &mut Shared,
     most: u64,
-) -> u64
-    requires { KeepsSteps program.now table.now }
-    ensures run { RunsHere program.now result thread.old shared.old thread.new shared.new }
-    ensures most { result ≤ most }
+) -> Result<u64, AllocError>
+    requires { KeepsSteps program.now table.old }
+    ensures steps { OnOk result (KeepsSteps program.now table.new) }
+    ensures run { IfOk result (λ count. RunsHere program.now count thread.old shared.old thread.new shared.new) }
+    ensures most { IfOk result (λ count. count ≤ most) }
     ensures number { (t : ℕ) → HasNumber thread.old t → HasNumber thread.new t }
 {
     match thread {
-        Thread::Going(frames) => run_top(program, table, frames, shared, most),
-        Thread::Ended(_) => 0,
+        Thread::Going(frames) => run_top(alloc, program, table, frames, shared, most),
+        Thread::Ended(_) => Ok(0),
     }
 }

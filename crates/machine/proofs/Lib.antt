@@ -10,6 +10,7 @@ pub mod AccessesLemmas
 pub mod StretchesLemmas
 pub mod StretchRowLemmas
 pub mod WalksLemmas
+pub mod CoursesLemmas
 pub mod ObjectStepsLemmas
 pub mod StretchLocalLemmas
 pub mod HandlersLemmas

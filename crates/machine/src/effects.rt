@@ -55,10 +55,14 @@ fn maker_of(frames: &Frames) -> Maker
     }
 }
 
-/// After a call, with the value returned on the operand stack. A fault, and nothing changed, where that has no room.
-fn receive(frame: &mut Frame, value: Option<Value>) -> Result<(), Fault>
+/// After a call, with the value returned on the operand stack.
+///
+/// # Errors
+/// `Fault`, and nothing changed, where that has no room.
+pub fn receive(frame: &mut Frame, value: Option<Value>) -> Result<(), Fault>
     ensures ok { OnOk result (received value frame.old ≡ Some frame.new) }
     ensures err { OnErr result (received value frame.old ≡ None) }
+    ensures same { OnErr result (frame.new ≡ frame.old) }
 {
     if let Some(value) = value {
         frame.operands.push(value)?;

@@ -30,7 +30,7 @@ const FAULT: Result<Conclusion, Stop> = Ok(Conclusion::Halts(FaultKind::Fault));
 ///
 /// # Errors
 /// `Fault` where the operands are of other kinds, or too few.
-fn receiver_under(operands: &Operands, kinds: &[FieldKind]) -> Result<Value, Fault>
+pub fn receiver_under(operands: &Operands, kinds: &[FieldKind]) -> Result<Value, Fault>
     ensures ok { IfOk result (λ v. receiver_under kinds.now operands.now ≡ Some v) }
     ensures err { OnErr result (receiver_under kinds.now operands.now ≡ None) }
 {
@@ -108,7 +108,7 @@ pub fn is_out(value: Value) -> bool
 }
 
 /// Whether a call on `System.out` names another class than its own.
-fn names_another(call: InstanceCall, receiver: Value) -> bool
+pub fn names_another(call: InstanceCall, receiver: Value) -> bool
     ensures { result ≡ (is_out receiver && not call.names_stream) }
 {
     is_out(receiver) && !call.names_stream

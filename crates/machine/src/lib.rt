@@ -11,6 +11,8 @@ mod call_execution;
 pub mod call_operation;
 mod calling;
 mod choosing;
+pub mod course;
+pub mod crossing;
 pub mod effects;
 pub mod entering;
 pub mod execute;

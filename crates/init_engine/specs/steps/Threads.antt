@@ -2,16 +2,13 @@
 use Rattle.std.specs.Prelude.{◌≡◌, ℕ, List, Option, Some, None}
 use Rattle.vm_state.specs.SharedTables.{SharedTables}
 use Rattle.vm_state.specs.declared.text.Line.{Line}
-use Rattle.vm_state.specs.declared.value.Maker.{Maker}
-use Rattle.vm_state.specs.declared.frame.Segment.{Segment}
 use Rattle.vm_state.specs.declared.initialization.Frames.{Frames}
 use Rattle.vm_state.specs.Shares.{shared_of}
-use Rattle.vm_state.specs.Stacks.{levels_of}
+use Rattle.vm_state.specs.Stacks.{segment_of, levels_of}
 use Rattle.semantics.specs.Programs.{Program}
 use Rattle.semantics.specs.Steps.{After, maker_of, step_thread}
 use Rattle.program.specs.Tables.{Tables}
-use Rattle.machine.specs.Stretches.{here}
-use Rattle.machine.specs.Walks.{Walk}
+use Rattle.machine.specs.Courses.{Course, above}
 use Rattle.init_engine.specs.declared.world.Thread.{Thread}
 use Rattle.init_engine.specs.declared.world.Thread.TheVariants.{Going, Ended}
 use Rattle.init_engine.specs.declared.world.Turn.{Turn}
@@ -54,21 +51,14 @@ IsTurnOf P t Moved old new = stepped P t old ≡ Some (left new)
 IsTurnOf P t Waiting old new = IsGoing old.thread × (stepped P t old ≡ None) × StaysAsItWas old new
 IsTurnOf P t EndedTurn old new = HasEndedNow old.thread × (stepped P t old ≡ None) × StaysAsItWas old new
 
--- the frames above the highest initialization, and what threads share, after so many steps of the innermost
-abbrev pub AfterStretch : Tables → ℕ → Maker → ℕ → Option Segment → SharedTables → Option Segment → SharedTables → Type
-    0
-AfterStretch P t maker n None before new after = (n ≡ 0) × (new ≡ None) × (after ≡ before)
-AfterStretch P t maker n (Some s) before None after = ⊥
-AfterStretch P t maker n (Some s) before (Some r) after =
-    ((p : List Line) → Walk P t maker n (here s.innermost before p) (here r.innermost after p))
-    × (r.callers ≡ s.callers)
-
+-- so many steps above the highest initialization
 abbrev pub TopRuns : Tables → ℕ → Frames → SharedTables → Frames → SharedTables → Type 0
 TopRuns P n old before new after =
-    AfterStretch P old.thread (maker_of old.thread (levels_of old)) n old.segment before new.segment after
-    × (new ≡ record old { segment = new.segment })
+    ((p : List Line) → Course P old.thread (maker_of old.thread (levels_of old)) n (above (segment_of old) before p)
+    (above (segment_of new) after p))
+    × (new.thread ≡ old.thread) × (new.levels ≡ old.levels)
 
--- so many steps of the innermost frame
+-- the same of a thread, where it goes on
 abbrev pub RunsHere : Tables → ℕ → Thread → SharedTables → Thread → SharedTables → Type 0
 RunsHere P n (Ended end) before new after = (n ≡ 0) × (new ≡ Ended end) × (after ≡ before)
 RunsHere P n (Going old) before (Ended end) after = ⊥

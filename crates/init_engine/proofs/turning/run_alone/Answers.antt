@@ -8,39 +8,39 @@ use Rattle.init_engine.proofs.turning.run_alone.Goals.{then-left-eq0, else-left-
 use Rattle.init_engine.proofs.turning.run_alone.Goals.{else-left-eq0+in_ok-step+in-Ended}
 
 pub overflow_sub-left : goal.overflow_sub-left
-overflow_sub-left c = c.run_stretch-left.ensures.most
+overflow_sub-left c = c.in_ok-count.ensures.most
 
 pub ahead-preserved : goal.ahead-preserved
 ahead-preserved c =
     let P = program_of c.args.program.now in
     let first = world_of c.args.world.now in
-    let now = world_of c.run_stretch-left.new.self in
+    let now = world_of c.run_stretch.new.self in
     let next = world_of c.step.new.self in
-    let count = c.run_stretch-left.result in
+    let count = c.in_ok-count.count in
     let left = c.ahead.left in
     let within = c.ahead.invariant.1 in
-    let few = c.run_stretch-left.ensures.most in
+    let few = c.in_ok-count.ensures.most in
     let stretched = run_further P c.args.most left count first (world_of c.ahead.world) now within few
-    c.ahead.invariant.0 c.run_stretch-left.ensures.run in
+    c.ahead.invariant.0 c.in_ok-count.ensures.run in
     let moved : step P now 0 ≡ Some next = rw c.in-Moved.is at c.in_ok-step.ensures.ok in
     let inside : left - count ≤ c.args.most = omega (arith, within) in
     let one : 1 ≤ left - count = omega (arith, c.if-left-eq0.false) in (
       run_further P c.args.most (left - count) 1 first now next inside one stretched (next, moved, refl),
       omega (arith, within),
-      c.step.ensures.threads ∙ (c.run_stretch-left.ensures.threads ∙ c.ahead.invariant.2),
-      c.in_ok-fetch.ensures,
+      c.step.ensures.threads ∙ (c.run_stretch.ensures.threads ∙ c.ahead.invariant.2),
+      c.in_ok-count.ensures.steps,
     )
 
 pub returns-clause-run : goal.returns-clause-run
 returns-clause-run c =
     let P = program_of c.args.program.now in
     let first = world_of c.args.world.now in
-    let now = world_of c.run_stretch-left.new.self in
-    let count = c.run_stretch-left.result in
+    let now = world_of c.run_stretch.new.self in
+    let count = c.in_ok-count.count in
     let left = c.ahead.left in
-    let few = c.run_stretch-left.ensures.most in
+    let few = c.in_ok-count.ensures.most in
     let stretched = run_further P c.args.most left count first (world_of c.ahead.world) now c.ahead.invariant.1 few
-    c.ahead.invariant.0 c.run_stretch-left.ensures.run in
+    c.ahead.invariant.0 c.in_ok-count.ensures.run in
     elim c.if-left-eq0.branch [
       | then-left-eq0 w ↦ rw w.world-is stretched
       | else-left-eq0+in_ok-step+in-Waiting w ↦ (
