@@ -1,5 +1,5 @@
 //! Class files' bytes, read and linked to one program.
-ghost use Rattle.std.specs.Prelude.{◌≡◌, ◌⊎◌, IfErr, IfOk};
+ghost use Rattle.std.specs.Prelude.{◌≡◌, ◌⊎◌, ◌++◌, ◌∷◌, [], IfErr, IfOk, OnOk};
 ghost use Rattle.classfile.specs.Class.{IsClassText};
 ghost use Rattle.loading.specs.Families.{IsFamilyOf};
 ghost use Rattle.program.specs.Programs.{IsProgram};
@@ -45,9 +45,18 @@ fn class_files(alloc: Global, files: &[Vec<u8>]) -> Result<Vec<ClassFile>, Refus
 {
     let mut classes = Vec::new(alloc);
     for (place, bytes) in files.iter().enumerate() {
-        classes.push(class_file(alloc, place, bytes.as_slice())?)?;
+        match class_file(alloc, place, bytes.as_slice()) {
+            Ok(class) => add_class(&mut classes, class)?,
+            Err(refusal) => return Err(refusal),
+        }
     }
     Ok(classes)
+}
+
+fn add_class(classes: &mut Vec<ClassFile>, class: ClassFile) -> Result<(), AllocError>
+    ensures { OnOk result (classes.new.items ≡ classes.old.items ++ class ∷ []) }
+{
+    Ok(classes.push(class)?)
 }
 
 /// The class file that the text of a place is.

@@ -134,11 +134,15 @@ fn contents<F: Files>(
     let mut contents = Vec::new(alloc);
     for name in names {
         match files.get(name) {
-            Ok(bytes) => contents.push(bytes)?,
+            Ok(bytes) => add_bytes(&mut contents, bytes)?,
             Err(fault) => return Err(Refusal::of_file(alloc, name, fault)),
         }
     }
     Ok(contents)
+}
+
+fn add_bytes(contents: &mut Vec<Vec<u8>>, bytes: Vec<u8>) -> Result<(), AllocError> {
+    Ok(contents.push(bytes)?)
 }
 
 /// Runs the class files of these texts, as the words say.

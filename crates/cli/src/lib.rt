@@ -14,10 +14,10 @@ mod run;
 mod status;
 mod threads;
 
+pub use class_files::linked_program;
 pub use command_line::{Lazy, Request, WordsFault, request_of};
 pub use fault::Refusal;
 pub use files::{FileFault, Files};
-pub use class_files::linked_program;
 pub use init_engine::Rest;
 pub use lazy::{LazyRun, Shown, entries_of, run_class_files};
 pub use run::command;

@@ -1,6 +1,5 @@
 -- A failing initialization is a step of its thread.
 use Rattle.std.proofs.Common.{◌≡◌, ℕ, List, [], ◌∷◌, Option, Some, None, refl, ◌∙◌, ap}
-use Rattle.vm_state.specs.declared.classes.Usability.{Usability}
 use Rattle.vm_state.specs.declared.classes.Usability.TheVariants.{Broken}
 use Rattle.vm_state.specs.declared.initialization.Frames.{Frames}
 use Rattle.vm_state.specs.declared.initialization.Initialization.{Initialization}

@@ -1,6 +1,6 @@
 -- Whether a thread has a step, by where it stands, and whether threads have one after the other.
 use Rattle.std.proofs.Common.{◌≡◌, ℕ, ◌+◌, ◌<◌, ◌≤◌, Bool, true, false, not, cond, ◌⊎◌, inl, inr, List, [], ◌∷◌, Option, Some, None, refl}
-use Rattle.std.proofs.Common.{sym, ap, ◌∙◌, subst, slice_get, length, arith}
+use Rattle.std.proofs.Common.{sym, ap, subst, slice_get, length, arith}
 use Rattle.std.specs.Prelude.{is_some, IsSome}
 use Rattle.std.proofs.lemmas.Option.{slice_get_past}
 use borrow.Author.Count.{below_more}
@@ -16,7 +16,6 @@ use Rattle.vm_state.specs.declared.text.Line.{Line}
 use Rattle.vm_state.specs.SharedTables.{SharedTables}
 use Rattle.vm_state.specs.Shares.{shared_of}
 use Rattle.vm_state.specs.declared.initialization.Level.{Level}
-use Rattle.vm_state.specs.declared.value.Maker.{Maker}
 use Rattle.vm_state.specs.declared.value.Maker.TheVariants as makers
 use Rattle.vm_state.specs.declared.value.Name.{Name}
 use Rattle.vm_state.specs.SharedState.{SharedState, pool_of, class_at}
@@ -29,14 +28,14 @@ use Rattle.semantics.specs.Steps.{step_parents, step_initialization, step_thread
 use Rattle.semantics.specs.Worlds.{World, step, step_of, put_thread}
 use Rattle.program.specs.Tables.{Tables}
 use Rattle.machine.specs.Effects.{going}
-use Rattle.machine.specs.Failures.{fails_by, failing, failure}
+use Rattle.machine.specs.Failures.{fails_by, failure}
 use Rattle.machine.specs.Linked.{program_of}
 use Rattle.machine.specs.RowParts.{needing, raises}
 use Rattle.init_engine.specs.declared.stuck.Rest.{Rest}
 use Rattle.init_engine.specs.declared.stuck.Rest.TheVariants.{Ended, Stuck, Going}
 use Rattle.init_engine.specs.declared.world.Thread.{Thread}
 use Rattle.init_engine.specs.declared.world.Thread.TheVariants.{Going as GoesOn}
-use Rattle.init_engine.specs.Rests.{HasStep, IsRest}
+use Rattle.init_engine.specs.Rests.{IsRest}
 use Rattle.init_engine.specs.Threads.{HasNumber}
 use Rattle.init_engine.specs.Turns.{Goes, IsOver}
 use Rattle.init_engine.specs.steps.Rests.{is_busy, waits_for, IsThreadRest, IsRestAt, IsRestBelow, joined}

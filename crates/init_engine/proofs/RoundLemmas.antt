@@ -156,8 +156,8 @@ stop_of_turns {P} {count} (idle asked) =
 stop_of_turns (limited asked within reached) = inl reached
 stop_of_turns {P} {count} (goes_on {most} {w} {next} {last} {round} {rest} asked some turns) =
     elim (stop_of_turns turns) as (λ s. HasStopped P count most (round ++ rest) last) [
-    | inl reached ↦ inl (omega (arith, length-append round rest, reached, asked_few asked))
-    | inr stand ↦ inr stand
+      | inl reached ↦ inl (omega (arith, length-append round rest, reached, asked_few asked))
+      | inr stand ↦ inr stand
     ]
 
 -- ---- for the loops

@@ -1,5 +1,5 @@
 -- Threads that are made one by one.
-use Rattle.std.proofs.Common.{◌≡◌, ℕ, zero, suc, ◌+◌, ◌<◌, ◌≤◌, List, [], ◌∷◌, ◌++◌, length, map, take, Some, get_or, refl}
+use Rattle.std.proofs.Common.{◌≡◌, ℕ, zero, suc, ◌+◌, ◌<◌, ◌≤◌, List, [], ◌∷◌, ◌++◌, length, map, take, Some, get_or}
 use Rattle.std.proofs.Common.{sym, ap, ◌∙◌, slice_get, subst, arith, length-append}
 use Rattle.std.proofs.lemmas.List.{take_more, map-append, length-take-le, take_all}
 use Rattle.std.proofs.lemmas.Option.{same_Some}
@@ -8,7 +8,6 @@ use Rattle.semantics.specs.Worlds.{threads_from}
 use Rattle.program.specs.Tables.{Tables}
 use Rattle.machine.specs.Linked.{program_of, start_frame}
 use Rattle.init_engine.specs.declared.world.Thread.{Thread}
-use Rattle.init_engine.specs.Numbering.{AreNumbered}
 use Rattle.init_engine.specs.Threads.{thread_of, HasNumber}
 use Rattle.init_engine.specs.steps.Starts.{AreStarting}
 use Rattle.init_engine.proofs.StartLemmas.{at_start, threads_more}
@@ -41,10 +40,10 @@ starting_more cs n d old new t within before is number pushed =
     rw pushed
     (record {
       starting = λ P.
-        map-append thread_of old (t ∷ [])
-        ∙ (ap (λ (ts : List DefinedThread). ts ++ thread_of t ∷ []) (before.starting P)
-        ∙ (ap (λ (s : DefinedThread). threads_from (program_of P) 0 (take n cs) ++ s ∷ []) is
-        ∙ sym (more_from P cs n d within)));
+          map-append thread_of old (t ∷ [])
+          ∙ (ap (λ (ts : List DefinedThread). ts ++ thread_of t ∷ []) (before.starting P)
+          ∙ (ap (λ (s : DefinedThread). threads_from (program_of P) 0 (take n cs) ++ s ∷ []) is
+          ∙ sym (more_from P cs n d within)));
       numbered = push_keeps (λ k x. HasNumber x k) old t before.numbered here;
       counted = omega (arith, length-append old (t ∷ []), before.counted);
     })

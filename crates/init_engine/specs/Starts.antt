@@ -7,7 +7,7 @@ use Rattle.semantics.specs.Worlds.{World, lazy_start}
 use Rattle.program.specs.Tables.{Tables, main_in}
 use Rattle.machine.specs.Linked.{program_of}
 use Rattle.init_engine.specs.declared.fault.EntryFault.{EntryFault}
-use Rattle.init_engine.specs.declared.fault.EntryFault.TheVariants.{Unknown, NoMain, Count, Memory}
+use Rattle.init_engine.specs.declared.fault.EntryFault.TheVariants.{Unknown, NoMain, Count}
 
 -- how many entries there may be
 abbrev pub IsEntryCount : ℕ → Type 0

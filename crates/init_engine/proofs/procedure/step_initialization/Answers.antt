@@ -1,8 +1,6 @@
-use Rattle.std.proofs.Common.{◌≡◌, ◌∙◌, sym, ap, Some, ◌∷◌, List}
+use Rattle.std.proofs.Common.{◌∙◌, sym, ap}
 use Rattle.std.proofs.lemmas.Result.{IfOk-weaker}
-use Rattle.vm_state.specs.declared.initialization.Level.{Level}
 use Rattle.vm_state.specs.Shares.{shared_of}
-use Rattle.vm_state.specs.Stacks.{levels_of}
 use Rattle.vm_state.specs.Statics.{usable}
 use Rattle.init_engine.proofs.ProcedureLemmas.{fails_by_pending, fails_by_parent, none_else, levels_are}
 use Rattle.init_engine.proofs.procedure.step_initialization.Goals as goal

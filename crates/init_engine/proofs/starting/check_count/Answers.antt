@@ -1,4 +1,4 @@
-use Rattle.std.proofs.Common.{rules, arith}
+use Rattle.std.proofs.Common.{rules}
 use Rattle.init_engine.specs.Starts.{none, many}
 use Rattle.init_engine.proofs.starting.check_count.Goals as goal
 

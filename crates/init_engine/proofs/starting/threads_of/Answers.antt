@@ -1,4 +1,3 @@
-use Rattle.std.proofs.Common.{length, refl}
 use Rattle.init_engine.proofs.StartingLemmas.{starting_more, starting_all}
 use Rattle.init_engine.proofs.starting.threads_of.Goals as goal
 

@@ -1,4 +1,4 @@
-use Rattle.std.proofs.Common.{length, arith}
+use Rattle.std.proofs.Common.{arith}
 use Rattle.std.proofs.lemmas.Result.{err_from_is_err_and}
 use Rattle.loading.proofs.ZipLemmas.{pairs_length}
 use Rattle.init_engine.specs.Starts.{IsEntry}
@@ -7,9 +7,13 @@ use Rattle.init_engine.proofs.world.World.lazy.Goals as goal
 
 pub start-requires : goal.start-requires
 start-requires c =
-    omega (arith, c.as_slice.ensures.len, c.in_ok-check_count.ensures.ok,
-    pairs_length (IsEntry c.args.program.now) c.args.entries.now c.in_ok-classes.classes.items
-    c.in_ok-classes.ensures.entries)
+    omega (
+      arith,
+      c.as_slice.ensures.len,
+      c.in_ok-check_count.ensures.ok,
+      pairs_length (IsEntry c.args.program.now) c.args.entries.now c.in_ok-classes.classes.items
+          c.in_ok-classes.ensures.entries,
+    )
 
 pub returns-in_err-check_count-clause-fault : goal.returns-in_err-check_count-clause-fault
 returns-in_err-check_count-clause-fault c =
