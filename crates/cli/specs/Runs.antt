@@ -1,5 +1,5 @@
 -- From class files' bytes to what a run by turns shows, or to why there is none.
-use Rattle.std.specs.Prelude.{◌≡◌, ℕ, List, length, map, take, Some, slice_get}
+use Rattle.std.specs.Prelude.{◌≡◌, ℕ, List, Vec, length, map, take, Some, slice_get}
 use Rattle.std.specs.List.{AllZip}
 use Rattle.classfile.specs.ClassFile.{ClassFile}
 use Rattle.classfile.specs.Class.{IsClassText}
@@ -23,8 +23,8 @@ use Rattle.cli.specs.declared.fault.Refusal.TheVariants.{Class, Link, Entry}
 use Rattle.cli.specs.declared.lazy.Shown.{Shown}
 
 -- what some files hold
-abbrev pub texts_of : List (Vec ℕ) → List (List ℕ)
-texts_of files = map (λ (f : Vec ℕ). f.items) files
+abbrev pub texts_of : {A : Type 0} → List (Vec ℕ A) → List (List ℕ)
+texts_of {A} files = map (λ (f : Vec ℕ A). f.items) files
 
 -- the class files that some texts are, in order
 abbrev pub AreClassFiles : List (List ℕ) → List ClassFile → Type 0

@@ -1,0 +1,134 @@
+-- What the layers below refuse, as refusals.
+use Rattle.std.proofs.Common.{◌≡◌, ◌≢◌, ℕ, ◌+◌, ◌<◌, ◌⊎◌, inl, inr, List, [], ◌∷◌, ◌++◌, length, map, take, Some, get_or}
+use Rattle.std.proofs.Common.{slice_get, sym, ap, subst, refl, ◌∙◌, Vec, append-nil}
+use Rattle.std.specs.List.{AllZip, flat_map}
+use Rattle.std.proofs.lemmas.Grind.{flat_map-append}
+use Rattle.std.proofs.lemmas.List.{map_more, take-map, take_more}
+use Rattle.std.proofs.lemmas.Option.{slice_get-map}
+use Rattle.classfile.specs.ClassFile.{ClassFile}
+use Rattle.classfile.specs.Class.{IsClassText}
+use Rattle.classfile.specs.FirstFault.{FirstFault, IsFirstFault}
+use Rattle.classfile.specs.declared.fault.ClassFault.{ClassFault}
+use Rattle.classfile.specs.declared.fault.ClassFault.TheVariants as faults
+use Rattle.loading.proofs.ZipLemmas.{pairs_push}
+use Rattle.loading.specs.Families.{IsFamilyOf}
+use Rattle.loading.specs.Files.{LinkFails}
+use Rattle.loading.specs.declared.fault.LinkFault.{LinkFault}
+use Rattle.loading.specs.declared.fault.LinkFault.TheVariants as link_faults
+use Rattle.program.specs.Programs.{IsProgram}
+use Rattle.program.specs.Tables.{Tables}
+use Rattle.init_engine.specs.Starts.{EntriesFail}
+use Rattle.init_engine.specs.declared.fault.EntryFault.{EntryFault}
+use Rattle.init_engine.specs.declared.fault.EntryFault.TheVariants as entry_faults
+use Rattle.cli.specs.declared.fault.Refusal.{Refusal}
+use Rattle.cli.specs.declared.fault.Refusal.TheVariants.{Class, Link, Entry, Memory}
+use Rattle.cli.specs.Runs.{texts_of, AreClassFiles, IsFirstBad, IsProgramOf, NotLinked, class, link, IsRefused}
+use Rattle.cli.specs.Runs.{unlinked, entry}
+use Rattle.cli.specs.steps.Refusals.{IsBadAt, bad, IsNoClassFile, first, IsUnlinkable, unlinkable, IsRefusedEntry}
+use Rattle.cli.specs.steps.Refusals.{refused}
+
+-- ---- one layer's fault
+
+pub bad_at : (place : ℕ) (text : List ℕ) (fault : ClassFault) (r : Refusal) → IsFirstFault text fault
+    → (fault ≡ faults.Memory → r ≡ Memory) → (fault ≢ faults.Memory → r ≡ Class place fault)
+    → (r ≡ Memory) ⊎ IsBadAt place text r
+bad_at place text faults.Memory r is memory other = inl (memory refl)
+bad_at place text fault r is memory other =
+    inr (subst (λ (x : Refusal). IsBadAt place text x) (sym (other (λ e. cc))) (bad is))
+
+is_no_memory : (files : List ClassFile) (fault : LinkFault) → LinkFails files fault → fault ≢ link_faults.Memory
+is_no_memory files link_faults.Memory fails = elim fails [ ]
+is_no_memory files fault fails = λ e. cc
+
+pub unlinkable_by : (files : List ClassFile) (fault : LinkFault) (r : Refusal)
+    → (fault ≡ link_faults.Memory) ⊎ LinkFails files fault → (fault ≡ link_faults.Memory → r ≡ Memory)
+    → (fault ≢ link_faults.Memory → r ≡ Link fault) → (r ≡ Memory) ⊎ IsUnlinkable files r
+unlinkable_by files fault r (inl e) memory other = inl (memory e)
+unlinkable_by files fault r (inr fails) memory other =
+    inr (subst (λ (x : Refusal). IsUnlinkable files x) (sym (other (is_no_memory files fault fails))) (unlinkable fails))
+
+pub refused_by : (P : Tables) (names : List (List ℕ)) (fault : EntryFault) (r : Refusal)
+    → (fault ≡ entry_faults.Memory) ⊎ EntriesFail P names fault → (fault ≡ entry_faults.Memory → r ≡ Memory)
+    → (fault ≢ entry_faults.Memory → r ≡ Entry fault) → (r ≡ Memory) ⊎ IsRefusedEntry P names r
+refused_by P names entry_faults.Memory r fails memory other = inl (memory refl)
+refused_by P names fault r (inl e) memory other = inl (memory e)
+refused_by P names fault r (inr fails) memory other =
+    inr (subst (λ (x : Refusal). IsRefusedEntry P names x) (sym (other (λ e. cc))) (refused fails))
+
+-- ---- class files one by one
+
+pub files_more : {A : Type 0} (files : List (Vec ℕ A)) (i : ℕ) (d file : Vec ℕ A) (c : ClassFile) (old new : List ClassFile)
+    → i < length files → file ≡ get_or files i d → new ≡ old ++ c ∷ [] → IsClassText file.items c
+    → AreClassFiles (texts_of (take i files)) old → AreClassFiles (texts_of (take (i + 1) files)) new
+files_more {A} files i d file c old new within read pushed text all =
+    let front : texts_of (take (i + 1) files) ≡ texts_of (take i files) ++ file.items ∷ [] =
+    map_more (λ (f : Vec ℕ A). f.items) files i d within
+    ∙ ap (λ (f : Vec ℕ A). texts_of (take i files) ++ f.items ∷ []) (sym read) in
+    rw (front, pushed) (pairs_push IsClassText (texts_of (take i files)) old file.items c all text)
+
+no_class_file : {A : Type 0} {r : Refusal} (files : List (Vec ℕ A)) (i : ℕ) (file : Vec ℕ A) (before : List ClassFile)
+    → slice_get files i ≡ Some file → AreClassFiles (texts_of (take i files)) before → IsBadAt i file.items r
+    → IsNoClassFile (texts_of files) r
+no_class_file {A} files i file before at all (bad breaks) =
+    first (record {
+      before = before;
+      well = subst (λ (ts : List (List ℕ)). AreClassFiles ts before)
+          (sym (take-map (λ (f : Vec ℕ A). f.items) i files)) all;
+      text = file.items;
+      here = slice_get-map (λ (f : Vec ℕ A). f.items) files i ∙ rw at refl;
+      breaks = breaks;
+    })
+
+pub first_bad : {A : Type 0} (files : List (Vec ℕ A)) (i : ℕ) (file : Vec ℕ A) (before : List ClassFile) (r : Refusal)
+    → slice_get files i ≡ Some file → AreClassFiles (texts_of (take i files)) before
+    → (r ≡ Memory) ⊎ IsBadAt i file.items r → (r ≡ Memory) ⊎ IsNoClassFile (texts_of files) r
+first_bad files i file before r at all (inl memory) = inl memory
+first_bad files i file before r at all (inr wrong) = inr (no_class_file files i file before at all wrong)
+
+-- ---- layer over layer
+
+not_class : {texts : List (List ℕ)} {r : Refusal} → IsNoClassFile texts r → NotLinked texts r
+not_class (first wrong) = class wrong
+
+pub not_linked_class : (texts : List (List ℕ)) (r : Refusal) → (r ≡ Memory) ⊎ IsNoClassFile texts r
+    → (r ≡ Memory) ⊎ NotLinked texts r
+not_linked_class texts r (inl memory) = inl memory
+not_linked_class texts r (inr wrong) = inr (not_class wrong)
+
+not_link : {texts : List (List ℕ)} {files : List ClassFile} {r : Refusal} → AreClassFiles texts files
+    → IsUnlinkable files r → NotLinked texts r
+not_link are (unlinkable fails) = link are fails
+
+pub not_linked_files : (texts : List (List ℕ)) (files : List ClassFile) (r : Refusal) → AreClassFiles texts files
+    → (r ≡ Memory) ⊎ IsUnlinkable files r → (r ≡ Memory) ⊎ NotLinked texts r
+not_linked_files texts files r are (inl memory) = inl memory
+not_linked_files texts files r are (inr wrong) = inr (not_link are wrong)
+
+pub is_program : (texts : List (List ℕ)) (files : List ClassFile) (P : Tables) → AreClassFiles texts files
+    → IsFamilyOf files P.family × IsProgram P → IsProgramOf texts P
+is_program texts files P are (family, program) =
+    record { files = files; are = are; family = family; program = program }
+
+pub refused_texts : (texts names : List (List ℕ)) (r : Refusal) → (r ≡ Memory) ⊎ NotLinked texts r
+    → (r ≡ Memory) ⊎ IsRefused texts names r
+refused_texts texts names r (inl memory) = inl memory
+refused_texts texts names r (inr wrong) = inr (unlinked wrong)
+
+refused_entry : {texts names : List (List ℕ)} {P : Tables} {r : Refusal} → IsProgramOf texts P
+    → IsRefusedEntry P names r → IsRefused texts names r
+refused_entry program (refused fails) = entry program fails
+
+pub refused_entries : (texts names : List (List ℕ)) (P : Tables) (r : Refusal) → IsProgramOf texts P
+    → (r ≡ Memory) ⊎ IsRefusedEntry P names r → (r ≡ Memory) ⊎ IsRefused texts names r
+refused_entries texts names P r program (inl memory) = inl memory
+refused_entries texts names P r program (inr wrong) = inr (refused_entry program wrong)
+
+-- ---- lines one by one
+
+pub flat_more : {X : Type 0} (f : X → List ℕ) (xs : List X) (i : ℕ) (d x : X) (old new : List ℕ) → i < length xs
+    → x ≡ get_or xs i d → old ≡ flat_map f (take i xs) → new ≡ old ++ f x → new ≡ flat_map f (take (i + 1) xs)
+flat_more {X} f xs i d x old new within read before more =
+    more
+    ∙ (ap (λ (o : List ℕ). o ++ f x) before
+    ∙ sym (ap (flat_map f) (take_more xs i d within ∙ ap (λ (y : X). take i xs ++ y ∷ []) (sym read))
+    ∙ (flat_map-append f (take i xs) (x ∷ []) ∙ ap (λ (o : List ℕ). flat_map f (take i xs) ++ o) (append-nil (f x)))))

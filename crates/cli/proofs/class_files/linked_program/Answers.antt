@@ -1,0 +1,14 @@
+use Rattle.std.proofs.lemmas.Result.{IfErr-weaker}
+use Rattle.cli.specs.Runs.{texts_of}
+use Rattle.cli.proofs.RefusalLemmas.{not_linked_class, not_linked_files}
+use Rattle.cli.proofs.class_files.linked_program.Goals as goal
+
+pub returns-in-Ok-clause-refusal : goal.returns-in-Ok-clause-refusal
+returns-in-Ok-clause-refusal c =
+    IfErr-weaker c.linked.result _ _
+    (λ r wrong. not_linked_files (texts_of c.args.files.now) c.in-Ok.classes.items r c.in-Ok.ensures.files wrong)
+    c.linked.ensures.refusal
+
+pub returns-in-Err-clause-refusal : goal.returns-in-Err-clause-refusal
+returns-in-Err-clause-refusal c =
+    not_linked_class (texts_of c.args.files.now) c.in-Err.refusal c.in-Err.ensures.refusal
