@@ -4,7 +4,7 @@ use crate::runs::entries_of;
 use init_engine::{Line, Turn, World, turns};
 use program::Program;
 use std::alloc::{AllocError, Global};
-use std::str::{SplitWhitespace, from_utf8};
+use std::str::from_utf8;
 
 /// A run by turns of these entries: how many steps each thread made, and what is seen then.
 pub fn turned(alloc: Global, program: &Program, list: &str) -> Result<String, AllocError> {
@@ -56,17 +56,19 @@ fn scheduled_on(
     schedule: &str,
 ) -> Result<String, AllocError> {
     let mut text = String::new(alloc);
-    let mut words = schedule.split_whitespace();
-    while let Some(thread) = number(&mut words) {
-        let steps = number(&mut words).unwrap_or(0);
-        add_steps(alloc, &mut text, program, &mut world, thread, steps)?;
+    let mut thread = None;
+    for word in schedule.split_whitespace() {
+        let number = word.parse::<u32>().unwrap_or(u32::MAX);
+        match thread {
+            None => thread = Some(number),
+            Some(stepping) => {
+                add_steps(alloc, &mut text, program, &mut world, stepping, number)?;
+                thread = None;
+            }
+        }
     }
     add_sight(alloc, &mut text, program, &world)?;
     Ok(text)
-}
-
-fn number(words: &mut SplitWhitespace<'_>) -> Option<u32> {
-    words.next()?.parse().ok()
 }
 
 /// So many steps of a thread, up to the first turn in which it has none, which is told.
@@ -78,10 +80,10 @@ fn add_steps(
     thread: u32,
     steps: u32,
 ) -> Result<(), AllocError> {
-    if thread >= world.thread_count() {
-        return text.push_str("no such thread");
-    }
     for _ in 0..steps {
+        if thread >= world.thread_count() {
+            return text.push_str("no such thread");
+        }
         match world.step(alloc, program, thread)? {
             Turn::Moved => {}
             other => return add_turn(text, thread, other),
