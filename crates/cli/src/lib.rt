@@ -2,8 +2,8 @@
 //!
 //! [`command`] does one command for the words after the program's name and answers the exit status;
 //! [`request_of`] reads the words alone. [`run_class_files`] leads from class files' bytes to what is seen, and
-//! [`entries_of`], [`linked_program`] and [`thread_lines`] are steps of a run. What a file, a stream or a terminal gives
-//! or takes is outside every contract: the tests show it.
+//! [`entries_of`], [`linked_program`] and [`thread_lines`] are steps of a run. What a file, a stream or a terminal
+//! gives or takes is outside every contract: the tests show it.
 #![tactic(auto)]
 
 mod class_files;

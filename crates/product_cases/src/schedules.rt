@@ -38,8 +38,8 @@ fn steps_of(schedule: &[(u32, u64)], number: u32) -> u64 {
     all
 }
 
-/// The steps of a schedule, from the start of these entries: after ` | ` stand a thread and how many steps it makes, and
-/// so on. A thread that has no step before it made so many is told. Then what is seen.
+/// The steps of a schedule, from the start of these entries: after ` | ` stand a thread and how many steps it makes,
+/// and so on. A thread that has no step before it made so many is told. Then what is seen.
 pub fn scheduled(alloc: Global, program: &Program, about: &str) -> Result<String, AllocError> {
     let (list, schedule) = about.split_once(" | ").unwrap_or((about, ""));
     let entries = entries_of(alloc, list)?;
