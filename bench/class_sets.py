@@ -1,8 +1,8 @@
 #!/usr/bin/env python3
 """Writes class files that make one program: class_sets.py KIND COUNT FILE. KINDS, below, has the kinds.
 
-In the file stand the class files one behind the other, each behind its length in four bytes, in an order that is not the
-one of their names.
+In the file stand the class files one behind the other, each behind its length in four bytes, in an order that is not
+the one of their names.
 """
 import random
 import struct
@@ -20,7 +20,8 @@ def class_file(name, above=OBJECT, interfaces=(), flags=0x21, members=None):
     numbers += [pool.named(7, interface) for interface in interfaces]
     fields, methods = members(pool) if members else ([], [])
     tables = b"".join(struct.pack(">H", len(table)) + b"".join(table) for table in (fields, methods, ()))
-    return b"\xca\xfe\xba\xbe" + struct.pack(">HH", 0, 52) + pool.bytes() + struct.pack(">%dH" % len(numbers), *numbers) + tables
+    head = b"\xca\xfe\xba\xbe" + struct.pack(">HH", 0, 52)
+    return head + pool.bytes() + struct.pack(">%dH" % len(numbers), *numbers) + tables
 
 
 def method(pool, flags, name, descriptor, code=None):
@@ -49,9 +50,11 @@ def small_class(number, above, interfaces):
         fields = [member(0x8, pool.text("count%d" % (number % 50)), pool.text("I")),
                   member(0x0, pool.text("value"), pool.text("J"))]
         # ldc, putstatic, aload_0, getfield, pop2, return; aload_0, invokevirtual, return
-        first = bytes([18, constant, 179]) + struct.pack(">H", static) + bytes([42, 180]) + struct.pack(">H", upper) + bytes([88, 177])
+        first = (bytes([18, constant, 179]) + struct.pack(">H", static)
+                 + bytes([42, 180]) + struct.pack(">H", upper) + bytes([88, 177]))
         second = bytes([42, 182]) + struct.pack(">H", called) + bytes([177])
-        return fields, [method(pool, 0x1, "step%d" % (number % 20), "()V", first), method(pool, 0x1, "again", "()V", second)]
+        steps = method(pool, 0x1, "step%d" % (number % 20), "()V", first)
+        return fields, [steps, method(pool, 0x1, "again", "()V", second)]
     return class_file(name, above, interfaces, 0x21, members)
 
 
@@ -91,7 +94,8 @@ def interface_chain(count):
 
 def long_orders(count):
     """A chain of so many interfaces, all initialized before each of as many classes that implement the last one."""
-    return interface_chain(count) + [class_file("C%d" % number, OBJECT, ["I%d" % (count - 1)]) for number in range(count)]
+    top = "I%d" % (count - 1)
+    return interface_chain(count) + [class_file("C%d" % number, OBJECT, [top]) for number in range(count)]
 
 
 def references(pool, tag, owner, names, count):
@@ -208,7 +212,7 @@ def bare_chain(count):
 
 
 def many_below(count):
-    """So many classes below the last of a chain of as many interfaces, each named by a reference to the first one's method."""
+    """So many classes below the last of a chain of as many interfaces, each named by a reference to the first's method."""
     top = "I%d" % (count - 1)
 
     def naming(name):
@@ -229,7 +233,8 @@ def own_methods_below(count):
             references(pool, 10, "C%d" % ((number + 1) % count), ["m%d" % (number * 7919 % count)], 1)
             return [], []
         return members
-    return bare_chain(count) + [class_file("C%d" % number, OBJECT, [top], members=naming(number)) for number in range(count)]
+    below = [class_file("C%d" % number, OBJECT, [top], members=naming(number)) for number in range(count)]
+    return bare_chain(count) + below
 
 
 def two_chains_below(count):
@@ -246,15 +251,18 @@ def two_chains_below(count):
             references(pool, 10, "C%d" % ((number + 1) % count), ["m%d" % (number * 7919 % half)], 1)
             return [], []
         return members
-    chains = [class_file("%s%d" % (side, number), OBJECT, ["%s%d" % (side, number - 1)] if number else (), 0x601, declaring(number))
-              for side in "IJ" for number in range(half)]
+
+    def interface(side, number):
+        above = ["%s%d" % (side, number - 1)] if number else ()
+        return class_file("%s%d" % (side, number), OBJECT, above, 0x601, declaring(number))
+    chains = [interface(side, number) for side in "IJ" for number in range(half)]
     tops = ["I%d" % (half - 1), "J%d" % (half - 1)]
     return chains + [class_file("C%d" % number, OBJECT, tops if number % 2 else tops[::-1], members=naming(number))
                      for number in range(count)]
 
 
 def wide_below(count):
-    """An interface below as many others with a method each, and so many classes below it, named as in `own_methods_below`."""
+    """An interface below as many others with a method each; so many classes below it, named as in `own_methods_below`."""
     tops = ["I%d" % number for number in range(count)]
 
     def declaring(number):
@@ -284,12 +292,13 @@ def conflicts_below(count):
 
     def other(pool):
         return [], [method(pool, 0x1, "m0", "()V", b"\xb1")]
+    names = ["C%d" % number for number in range(count)]
     return (bare_chain(count) + [class_file("Other", OBJECT, (), 0x601, other)]
-            + [class_file("C%d" % number, OBJECT, [top, "Other"], members=naming("C%d" % number)) for number in range(count)])
+            + [class_file(name, OBJECT, [top, "Other"], members=naming(name)) for name in names])
 
 
 def alternating(count):
-    """Sixteen classes below the last of a chain of interfaces, and references to its methods that go from class to class."""
+    """Sixteen classes below the last of a chain of interfaces; references to its methods that go from class to class."""
     top = "I%d" % (count - 1)
     names = ["C%d" % number for number in range(16)]
 
@@ -298,7 +307,8 @@ def alternating(count):
             for name in names:
                 pool.add_again(struct.pack(">BHH", 10, pool.named(7, name), pool.name_and_type("m%d" % number, "()V")))
         return [], []
-    return bare_chain(count) + [class_file(name, OBJECT, [top]) for name in names] + [class_file("Main", members=members)]
+    below = [class_file(name, OBJECT, [top]) for name in names]
+    return bare_chain(count) + below + [class_file("Main", members=members)]
 
 
 def equal_interfaces(count):

@@ -21,8 +21,8 @@ import tempfile
 HERE = pathlib.Path(__file__).resolve().parent
 OPTIONS = ["--release", "8", "-g:none", "-nowarn", "-Xlint:none", "-XDstringConcat=inline"]
 THROWN = ["new RuntimeException()", "new Error()", "new Own()", "new Checkless()", "new ArithmeticException()"]
-CAUGHT = ["Throwable", "Throwable", "Throwable", "Exception", "RuntimeException", "Error", "LinkageError", "ExceptionInInitializerError",
-          "NoClassDefFoundError", "ArithmeticException", "Own"]
+CAUGHT = ["Throwable", "Throwable", "Throwable", "Exception", "RuntimeException", "Error", "LinkageError",
+          "ExceptionInInitializerError", "NoClassDefFoundError", "ArithmeticException", "Own"]
 
 
 class Source:
@@ -82,7 +82,8 @@ class Source:
         if kind <= 8 and depth:
             return self.guarded(depth - 1)
         if kind == 9:
-            return f"if (Flags.on) throw {self.random.choice(THROWN)};" if self.chance(0.5) else "Flags.zero = 1 / Flags.zero;"
+            thrown = f"if (Flags.on) throw {self.random.choice(THROWN)};"
+            return thrown if self.chance(0.5) else "Flags.zero = 1 / Flags.zero;"
         if kind == 10:
             return f"Object o{self.number()} = new {self.other()}[{self.random.randint(0, 2)}];"
         if kind == 11:
@@ -136,7 +137,8 @@ class Source:
         interfaces = [self.interface(i) for i in range(self.interfaces)]
         classes = [self.cls(i) for i in range(self.classes)]
         own = f"static {{ {self.block(1)} }} " if self.chance(0.2) else ""
-        body = " ".join(self.guarded(2) if self.chance(0.9) else self.statement(2) for _ in range(self.random.randint(2, 7)))
+        body = " ".join(self.guarded(2) if self.chance(0.9) else self.statement(2)
+                        for _ in range(self.random.randint(2, 7)))
         return "\n".join([
             f"package {package};",
             "class Own extends RuntimeException { }",
