@@ -180,7 +180,8 @@ module _ (P : Tables) (known : Names) (own : ℕ → Bool) where
     without_monitor_suits (values.Int n) = halted Fault
     without_monitor_suits (values.Long n) = halted Fault
 
-    monitor_suits : (enter : Bool) (next : Bool → Row) → ((b : Bool) → Suits (next b)) → Suits (use_monitor enter f next)
+    monitor_suits : (enter : Bool) (next : Bool → Row) → ((b : Bool) → Suits (next b))
+        → Suits (use_monitor enter f next)
     monitor_suits enter next on =
         needing_such Suits halted (Knows known) (top_as Reference f.operands) _ (reference_known f.operands h.0)
         (λ v hv.

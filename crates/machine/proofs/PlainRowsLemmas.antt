@@ -47,8 +47,8 @@ use Rattle.machine.specs.StoredKinds.{top_stored, extra_places}
 use Rattle.machine.specs.RowParts.{halts, needing, goes_on, push, raises, if_usable}
 use Rattle.machine.specs.ObjectParts.{slot_in, on_name, class_of_nameless, ask_class_of}
 use Rattle.machine.specs.ObjectParts.{without_object, on_object}
-use Rattle.machine.specs.Objects.{new_object, is_of, ask_is_of, cast_row, check_cast, int_of_boolean, instance_of, throw_of}
-use Rattle.machine.specs.Objects.{throw_row, on_holder, get_field, put_field}
+use Rattle.machine.specs.Objects.{new_object, is_of, ask_is_of, cast_row, check_cast, int_of_boolean, instance_of}
+use Rattle.machine.specs.Objects.{throw_of, throw_row, on_holder, get_field, put_field}
 use Rattle.machine.specs.Arrays.{unless_trapped, array_type, served_type, slot_at, size_of, make_array, array_length}
 use Rattle.machine.specs.Arrays.{at_element, load_element, is_checked, if_held, can_hold, check_store, store_element}
 use Rattle.machine.specs.Arrays.{stored_as, array_row, type_of_primitives, zero_of}
@@ -179,7 +179,8 @@ new_plain class slots f =
 
 pub cast_plain : (P : Tables) (class : ClassId) (f : Frame) → IsPlain (check_cast P class f)
 cast_plain P class f =
-    needed (top_as Reference f.operands) (λ v. cond (is_null v) (goes_on (advanced f)) (ask_is_of P class v (cast_row f)))
+    needed (top_as Reference f.operands)
+    (λ v. cond (is_null v) (goes_on (advanced f)) (ask_is_of P class v (cast_row f)))
     (λ v.
     either (is_null v) (goes_on (advanced f)) (ask_is_of P class v (cast_row f)) tt
     (class_plain v (λ o. cast_row f (is_of P class o)) (λ o.
