@@ -7,10 +7,8 @@ use Rattle.loading.specs.Families.{Family}
 use Rattle.hierarchy.specs.MemberLookup.{field_in}
 use Rattle.hierarchy.specs.Resolution.{ResolvesField}
 use Rattle.hierarchy.specs.Search.{Search}
-use Rattle.hierarchy.specs.steps.Foremosts.{member_of, given_field}
-use Rattle.hierarchy.specs.steps.FoundAhead.{found_in}
+use Rattle.hierarchy.specs.steps.FoundAhead.{found_in, given_field}
 use Rattle.hierarchy.specs.steps.MemberIndexes.{AreNumbers, same_member}
-use Rattle.hierarchy.specs.declared.foremost.Foremost.{Foremost}
 use Rattle.hierarchy.specs.declared.found_ahead.FoundAhead.{FoundAhead}
 use Rattle.hierarchy.specs.declared.member.DeclaredMember.{DeclaredMember}
 use Rattle.hierarchy.specs.declared.member_index.ClassMember.{ClassMember}
@@ -56,8 +54,8 @@ module _ (texts : List (List ℕ)) (Resolves : NameAndType → ℕ → Option De
           kept c k m name (sym (updates c k ∙ ap (λ (b : Bool). cond b (Some member) (found_in old c k)) e) ∙ at)
           numbers
 
-pub resolved_field : (family : Family) (name : NameAndType) (c : ℕ) (found : Option Foremost)
-    → Search family (field_in family name) (c ∷ []) (member_of found)
-    → ResolvesField family name (class_ids.Given c) (given_field (member_of found))
+pub resolved_field : (family : Family) (name : NameAndType) (c : ℕ) (found : Option DeclaredMember)
+    → Search family (field_in family name) (c ∷ []) found
+    → ResolvesField family name (class_ids.Given c) (given_field found)
 resolved_field family name c None search = ResolvesField.missing search
-resolved_field family name c (Some f) search = ResolvesField.found search
+resolved_field family name c (Some m) search = ResolvesField.found search

@@ -6,8 +6,9 @@ pub mod FamiliesChainLemmas
 pub mod SearchLemmas
 pub mod MemberLookupLemmas
 pub mod AboveLemmas
-pub mod ForemostLemmas
-pub mod LanesLemmas
+pub mod AmongLemmas
+pub mod WordLemmas
+pub mod KnownLemmas
 pub mod SettledLemmas
 pub mod FoundAheadLemmas
 pub mod MarkLemmas

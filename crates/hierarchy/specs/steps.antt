@@ -16,6 +16,11 @@ pub mod NearestMembers
 pub mod WholeHierarchies
 pub mod Marked
 pub mod Ancestors
-pub mod Foremosts
+pub mod ParentSteps
+pub mod DeclarationBits
+pub mod Declarations
+pub mod Windows
+pub mod Answers
+pub mod Groups
 pub mod FoundAhead
 pub mod Specials

@@ -1,9 +1,9 @@
 //! The references of class files to members that an interface may declare (JVMS 4.4.2).
 
-ghost use Rattle.std.specs.Prelude.{◌<◌, ◌≤◌, length, IfOk};
+ghost use Rattle.std.specs.Prelude.{◌<◌, ◌≤◌, length};
 
+use crate::bits::BITS;
 use crate::hierarchy::Hierarchy;
-use crate::lanes::LANES;
 use crate::member_index::MemberKey;
 use crate::member_name::MemberName;
 use crate::wanted::Wanted;
@@ -78,43 +78,28 @@ fn by_key(a: &Asked, b: &Asked) -> Ordering {
     (a.key.name, a.key.descriptor, a.class).cmp(&(b.key.name, b.key.descriptor, b.class))
 }
 
-/// How many of them, from the first on, have no more names and descriptors than are looked at together.
-pub(crate) fn batch_length(asked: &[Asked]) -> usize
-    ensures few { result ≤ length asked.now }
-    ensures some { 0 < length asked.now → 0 < result }
-{
-    let mut keys = 1;
-    let mut count = 1;
-    while count < asked.len() {
-        if asked[count].key != asked[count - 1].key {
-            if keys == LANES {
-                return count;
-            }
-            keys += 1;
-        }
-        count += 1;
-    }
-    count.min(asked.len())
-}
-
-/// The names and descriptors of references that stand in order, each once, no more than are looked at together.
-pub(crate) fn keys_of(alloc: Global, asked: &[Asked]) -> Result<Vec<MemberKey>, AllocError>
-    ensures { IfOk result (λ keys. length keys.items ≤ 64) }
-{
-    let mut keys: Vec<MemberKey> = Vec::new(alloc);
-    for reference in asked {
-        let known = match keys.last() {
-            Some(last) => *last == reference.key,
-            None => false,
-        };
-        if !known && keys.len() < LANES {
-            keys.push(reference.key)?;
-        }
-    }
-    Ok(keys)
-}
-
 impl Hierarchy {
+    /// How many references, from the first on, have together no more declarations than are looked at in one way; or
+    /// those of one name and descriptor.
+    pub(crate) fn batch_length(&self, wanted: Wanted, asked: &[Asked]) -> usize
+        ensures few { result ≤ length asked.now }
+        ensures some { 0 < length asked.now → 0 < result }
+    {
+        let mut declared: usize = 0;
+        let mut count = 0;
+        while count < asked.len() {
+            if count == 0 || !asked[count].key.is(asked[count - 1].key) {
+                let row = self.noted(wanted, Some(asked[count].key)).len();
+                declared = declared.saturating_add(row);
+                if declared > BITS && count > 0 {
+                    return count;
+                }
+            }
+            count += 1;
+        }
+        count
+    }
+
     /// The references of a kind to members of given classes that an interface may declare, those of one name and
     /// descriptor together.
     pub(crate) fn asked(&self, alloc: Global, kind: MemberKind) -> Result<Vec<Asked>, AllocError> {

@@ -3,6 +3,7 @@
 
 ghost use Rattle.std.specs.Prelude.{◌≡◌, ◌↔◌, ◌<◌, ◌++◌, ◌∷◌, [], ℕ, List, length, IsTrue, MatchOption};
 ghost use Rattle.std.specs.List.{Contains};
+ghost use Rattle.hierarchy.specs.declared.defaults.Found.TheVariants as found;
 ghost use Rattle.hierarchy.specs.steps.Defaults.{AreFound, found_after, only_of};
 ghost use Rattle.hierarchy.specs.steps.Defaults.{HasMethod, IsFree, AreCovered, AreParentsOf, classes_of};
 ghost use Rattle.hierarchy.specs.steps.Defaults.{Among};
@@ -23,7 +24,7 @@ use classfile::flags::{ABSTRACT, has_flag};
 
 /// The methods of some kind that were found so far, each in a class of its own.
 #[derive(Clone, Copy, Debug)]
-enum Found {
+pub(crate) enum Found {
     Nothing,
     One { class: u32, index: u16 },
     Several,
@@ -31,7 +32,7 @@ enum Found {
 
 impl Found {
     /// The same with one more class, and the place of such a method there if it has one.
-    fn and(self, class: u32, index: Option<u16>) -> Found
+    pub(crate) fn and(self, class: u32, index: Option<u16>) -> Found
         ensures { result ≡ found_after self class index }
     {
         match index {
@@ -44,8 +45,18 @@ impl Found {
         }
     }
 
+    /// Whether there are several.
+    pub(crate) fn are_several(self) -> bool
+        ensures { IsTrue result → self ≡ found.Several }
+    {
+        match self {
+            Found::Nothing | Found::One { .. } => false,
+            Found::Several => true,
+        }
+    }
+
     /// The method, if there is one and no other.
-    fn only(self) -> Option<DeclaredMember>
+    pub(crate) fn only(self) -> Option<DeclaredMember>
         ensures { result ≡ only_of self }
     {
         match self {

@@ -1,6 +1,6 @@
 //! Members of classes by numbers of their names and descriptors.
 
-ghost use Rattle.std.specs.Prelude.{◌≡◌, ℕ, None, OnOk};
+ghost use Rattle.std.specs.Prelude.{◌≡◌, ◌↔◌, ℕ, None, OnOk, IsTrue};
 ghost use Rattle.hierarchy.specs.steps.MemberIndexes.{place_of, place_after};
 ghost use Rattle.hierarchy.specs.declared.member_index.MemberKey.{MemberKey as Key};
 
@@ -21,6 +21,13 @@ impl MemberKey {
         name: 0,
         descriptor: 0,
     };
+
+    /// Whether it is another one.
+    pub(crate) fn is(self, other: MemberKey) -> bool
+        ensures { IsTrue result ↔ (self ≡ other) }
+    {
+        self.name == other.name && self.descriptor == other.descriptor
+    }
 }
 
 /// A class and what one of its members is called.

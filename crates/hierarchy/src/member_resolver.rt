@@ -5,7 +5,7 @@ ghost use Rattle.hierarchy.specs.MemberNames.{named_in};
 ghost use Rattle.hierarchy.specs.Resolution.{ResolvesField, ResolvesMethod};
 ghost use Rattle.hierarchy.specs.declared.member.Field.{Field as Resolved};
 ghost use Rattle.hierarchy.specs.declared.member.Method.{Method as ResolvedMethod};
-ghost use Rattle.hierarchy.specs.steps.Foremosts.{given_field, given_method};
+ghost use Rattle.hierarchy.specs.steps.FoundAhead.{given_field, given_method};
 
 use crate::ancestors::Ancestors;
 use crate::found_ahead::FoundAhead;

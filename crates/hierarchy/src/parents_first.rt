@@ -2,7 +2,7 @@
 
 ghost use Rattle.std.specs.Prelude.{◌≡◌, ◌≤◌, ◌++◌, ◌∷◌, [], length, map, IfOk, OnOk};
 ghost use Rattle.std.specs.List.{All};
-ghost use Rattle.hierarchy.specs.steps.Foremosts.{AreSteps, HasParents, between, class_of_step};
+ghost use Rattle.hierarchy.specs.steps.ParentSteps.{AreSteps, HasParents, between, class_of_step};
 
 use loading::family::Family;
 use loading::given::Superclass;

@@ -1,23 +1,28 @@
-//! References that are resolved before they are asked for, all of one name and descriptor together (JVMS 5.4.3.2 to
-//! 5.4.3.4).
+//! References that are resolved before they are asked for, those of some names and descriptors together (JVMS 5.4.3.2
+//! to 5.4.3.4).
 //!
-//! For some names and descriptors that an interface declares, what is foremost from each class on is found in one way
-//! through all classes. That takes the place of a walk up for each reference, wherever these walks would be longer.
+//! For names and descriptors that an interface declares, what is known of 64 of their declarations is found of all classes
+//! in one way through them. That takes the place of a walk up for each reference, wherever these walks would be longer.
 
-ghost use Rattle.std.specs.Prelude.{◌≡◌, ◌≤◌, length, IfOk, OnOk};
-ghost use Rattle.hierarchy.specs.declared.wanted.Wanted.TheVariants as wanted;
-ghost use Rattle.hierarchy.specs.steps.Foremosts.{AreSteps};
-ghost use Rattle.hierarchy.specs.steps.FoundAhead.{AreFields, AreForemost, AreMethods};
+ghost use Rattle.std.specs.Prelude.{◌≡◌, length, IfOk, OnOk};
+ghost use Rattle.hierarchy.specs.declared.wanted.Wanted.TheVariants as kind;
+ghost use Rattle.hierarchy.specs.steps.Answers.{AreAnswers, AreResolved, IsResolved};
+ghost use Rattle.hierarchy.specs.steps.Declarations.{AreDeclared, IsWhole};
+ghost use Rattle.hierarchy.specs.steps.FoundAhead.{AreFields, AreMethods};
+ghost use Rattle.hierarchy.specs.steps.Groups.{AreWays, IsGroup};
+ghost use Rattle.hierarchy.specs.steps.ParentSteps.{AreSteps};
 
-use crate::asked::{Asked, MemberKind, batch_length, keys_of};
-use crate::foremost::member_of;
-use crate::foremost_entries::{clear, entry_of, fill};
+use crate::answers::{Answer, look};
+use crate::asked::{Asked, MemberKind};
+use crate::bits::{BITS, Known, Own};
+use crate::declarations::Declaration;
 use crate::found_ahead::FoundAhead;
 use crate::hierarchy::Hierarchy;
-use crate::lanes::Lanes;
 use crate::member_index::MemberKey;
 use crate::parents_first::ParentsFirst;
 use crate::wanted::Wanted;
+use crate::ways::fill;
+use crate::windows::note;
 use std::alloc::{AllocError, Global};
 
 /// What a way through all classes needs, whose room is used again by the next one.
@@ -26,7 +31,15 @@ struct Ways {
     order: ParentsFirst,
     /// By class: at most how many steps a walk up takes.
     walks: Vec<usize>,
-    rows: Vec<Lanes>,
+    own: Vec<Own>,
+    rows: Vec<Known>,
+}
+
+/// References whose names and descriptors are looked at together.
+#[derive(Drop)]
+struct Group {
+    declared: Vec<Declaration>,
+    answers: Vec<Answer>,
 }
 
 impl Ways {
@@ -34,30 +47,39 @@ impl Ways {
     fn of_hierarchy(alloc: Global, hierarchy: &Hierarchy) -> Result<Self, AllocError>
         ensures order { IfOk result
             (λ w. AreSteps hierarchy.now.family w.order.steps.items w.order.parents.items) }
-        ensures len { IfOk result (λ w. length w.rows.items ≡ length hierarchy.now.family) }
+        ensures own { IfOk result (λ w. length w.own.items ≡ length hierarchy.now.family) }
+        ensures rows { IfOk result (λ w. length w.rows.items ≡ length hierarchy.now.family) }
     {
         let count = hierarchy.family().classes().len();
         let order = ParentsFirst::of_family(alloc, hierarchy.family())?;
         let walks = walk_lengths(alloc, &order, count)?;
-        let rows = vec![in alloc; Lanes::none(); count]?;
-        Ok(Ways { order, walks, rows })
+        let own = vec![in alloc; Own { here: 0, same: 0 }; count]?;
+        let rows = vec![in alloc; Known::none(); count]?;
+        Ok(Ways {
+            order,
+            walks,
+            own,
+            rows,
+        })
     }
 
-    /// Whether walks for these references, and a look at each class that declares a member, would take longer. A step
-    /// of a walk takes some two times as long as one of a way through all classes.
-    fn are_shorter(&self, hierarchy: &Hierarchy, wanted: Wanted, batch: &[Asked]) -> bool {
+    /// Whether walks for some references, and a look at each class that declares a member, would take longer than ways
+    /// through all classes. A step of a walk takes some ten times as long as one of a way.
+    fn are_shorter(&self, hierarchy: &Hierarchy, wanted: Wanted, group: &Group) -> bool {
         let way = self
             .order
             .steps
             .len()
-            .saturating_add(self.order.parents.len());
+            .saturating_add(self.order.parents.len())
+            .saturating_add(group.declared.len());
+        let ways = way.saturating_mul(group.declared.len() / BITS + 1);
         let mut walks: usize = 0;
-        for asked in batch {
-            let steps = self.walks.get(asked.class as usize).copied().unwrap_or(0);
-            let row = hierarchy.noted(wanted, Some(asked.key)).len();
-            walks = walks.saturating_add(steps.saturating_mul(2).saturating_add(row));
+        for answer in &group.answers {
+            let steps = self.walks.get(answer.class as usize).copied().unwrap_or(0);
+            let row = hierarchy.noted(wanted, Some(answer.key)).len();
+            walks = walks.saturating_add(steps.saturating_add(row).saturating_mul(10));
         }
-        walks > way
+        walks > ways
     }
 }
 
@@ -82,6 +104,54 @@ fn walk_lengths(
     Ok(lengths)
 }
 
+impl Group {
+    /// Adds a reference that is another one than the last, with the declarations of its name and descriptor.
+    fn add(
+        &mut self,
+        hierarchy: &Hierarchy,
+        wanted: Wanted,
+        asked: &Asked,
+    ) -> Result<(), AllocError>
+        requires { IsGroup hierarchy.now wanted self.old }
+        ensures { OnOk result (IsGroup hierarchy.now wanted self.new) }
+    {
+        let is_given = (asked.class as usize) < hierarchy.family().classes().len();
+        if !is_given || self.ends_with(asked) {
+            return Ok(());
+        }
+        self.declare(hierarchy, wanted, asked.key)?;
+        self.answers.push(Answer::unknown(asked))?;
+        Ok(())
+    }
+
+    /// Whether a reference is the last one.
+    fn ends_with(&self, asked: &Asked) -> bool {
+        match self.answers.last() {
+            Some(last) => last.class == asked.class && last.key.is(asked.key),
+            None => false,
+        }
+    }
+
+    /// Adds the declarations of a name and descriptor, if it is not that of the last reference.
+    fn declare(
+        &mut self,
+        hierarchy: &Hierarchy,
+        wanted: Wanted,
+        key: MemberKey,
+    ) -> Result<(), AllocError>
+        requires { IsGroup hierarchy.now wanted self.old }
+        ensures group { OnOk result (IsGroup hierarchy.now wanted self.new) }
+        ensures whole { OnOk result (IsWhole hierarchy.now wanted self.new.declared.items key) }
+    {
+        if let Some(last) = self.answers.last() {
+            if last.key.is(key) {
+                return Ok(());
+            }
+        }
+        hierarchy.add_declarations(wanted, key, &mut self.declared)
+    }
+}
+
 impl Hierarchy {
     /// What references to fields resolve to, of those that are resolved ahead.
     pub(crate) fn fields_ahead(&self, alloc: Global) -> Result<FoundAhead, AllocError>
@@ -96,7 +166,7 @@ impl Hierarchy {
         let mut start = 0;
         while start < asked.len() {
             let rest = &asked[start..];
-            let count = batch_length(rest);
+            let count = self.batch_length(Wanted::Field, rest);
             self.add_fields(alloc, &mut ways, &rest[..count], &mut found)?;
             start += count;
         }
@@ -116,11 +186,30 @@ impl Hierarchy {
         let mut start = 0;
         while start < asked.len() {
             let rest = &asked[start..];
-            let count = batch_length(rest);
+            let count = self.batch_length(Wanted::InterfaceMethod, rest);
             self.add_methods(alloc, &mut ways, &rest[..count], &mut found)?;
             start += count;
         }
         Ok(found)
+    }
+
+    /// Some references with all declarations of their names and descriptors.
+    fn group(
+        &self,
+        alloc: Global,
+        wanted: Wanted,
+        batch: &[Asked],
+    ) -> Result<Group, AllocError>
+        ensures { IfOk result (IsGroup self.now wanted) }
+    {
+        let mut group = Group {
+            declared: Vec::new(alloc),
+            answers: Vec::new(alloc),
+        };
+        for asked in batch {
+            group.add(self, wanted, asked)?;
+        }
+        Ok(group)
     }
 
     /// Adds what references to fields resolve to.
@@ -131,22 +220,18 @@ impl Hierarchy {
         batch: &[Asked],
         found: &mut FoundAhead,
     ) -> Result<(), AllocError>
-        requires order { AreSteps self.now.family ways.old.order.steps.items ways.old.order.parents.items }
-        requires len { length ways.old.rows.items ≡ length self.now.family }
+        requires ways { AreWays self.now.family ways.old }
         requires found { AreFields self.now found.old }
-        ensures order { AreSteps self.now.family ways.new.order.steps.items ways.new.order.parents.items }
-        ensures len { length ways.new.rows.items ≡ length self.now.family }
+        ensures ways { AreWays self.now.family ways.new }
         ensures found { OnOk result (AreFields self.now found.new) }
     {
-        if !ways.are_shorter(self, Wanted::Field, batch) {
+        let mut group = self.group(alloc, Wanted::Field, batch)?;
+        if !ways.are_shorter(self, Wanted::Field, &group) {
             return Ok(());
         }
-        let keys = keys_of(alloc, batch)?;
-        self.go(Wanted::Field, &keys, &ways.order, &mut ways.rows);
-        let mut lane = 0;
-        for asked in batch {
-            lane = lane_of(&keys, lane, asked.key);
-            self.add_field(&keys, lane, asked, &ways.rows, found)?;
+        self.look_through(Wanted::Field, ways, &mut group);
+        for answer in &group.answers {
+            self.add_field(answer, found)?;
         }
         Ok(())
     }
@@ -159,102 +244,90 @@ impl Hierarchy {
         batch: &[Asked],
         found: &mut FoundAhead,
     ) -> Result<(), AllocError>
-        requires order { AreSteps self.now.family ways.old.order.steps.items ways.old.order.parents.items }
-        requires len { length ways.old.rows.items ≡ length self.now.family }
+        requires ways { AreWays self.now.family ways.old }
         requires found { AreMethods self.now found.old }
-        ensures order { AreSteps self.now.family ways.new.order.steps.items ways.new.order.parents.items }
-        ensures len { length ways.new.rows.items ≡ length self.now.family }
+        ensures ways { AreWays self.now.family ways.new }
         ensures found { OnOk result (AreMethods self.now found.new) }
     {
-        if !ways.are_shorter(self, Wanted::InterfaceMethod, batch) {
+        let mut group = self.group(alloc, Wanted::InterfaceMethod, batch)?;
+        if !ways.are_shorter(self, Wanted::InterfaceMethod, &group) {
             return Ok(());
         }
-        let keys = keys_of(alloc, batch)?;
-        self.go(Wanted::InterfaceMethod, &keys, &ways.order, &mut ways.rows);
-        let mut lane = 0;
-        for asked in batch {
-            lane = lane_of(&keys, lane, asked.key);
-            self.add_method(&keys, lane, asked, &ways.rows, found)?;
+        self.look_through(Wanted::InterfaceMethod, ways, &mut group);
+        for answer in &group.answers {
+            self.add_method(answer, found)?;
         }
         Ok(())
     }
 
-    /// Finds what is foremost from each class on, of some names and descriptors.
-    fn go(&self, wanted: Wanted, keys: &[MemberKey], order: &ParentsFirst, rows: &mut [Lanes])
-        requires few { length keys.now ≤ 64 }
-        requires order { AreSteps self.now.family order.now.steps.items order.now.parents.items }
-        requires len { length rows.old ≡ length self.now.family }
-        ensures len { length rows.new ≡ length self.now.family }
-        ensures found { AreForemost self.now wanted keys.now rows.new }
+    /// Finds what the references of a group resolve to.
+    fn look_through(&self, wanted: Wanted, ways: &mut Ways, group: &mut Group)
+        requires ways { AreWays self.now.family ways.old }
+        requires group { IsGroup self.now wanted group.old }
+        ensures ways { AreWays self.now.family ways.new }
+        ensures resolved { AreResolved self.now wanted group.new.answers.items }
     {
-        clear(rows);
-        self.note_keys(wanted, keys, rows);
-        fill(self.family(), order, rows);
+        let Group { declared, answers } = group;
+        let Ways {
+            order, own, rows, ..
+        } = ways;
+        self.look_at_all(wanted, order, declared, own, rows, answers);
+    }
+
+    /// The same, one window of declarations after another.
+    fn look_at_all(
+        &self,
+        wanted: Wanted,
+        order: &ParentsFirst,
+        declared: &[Declaration],
+        own: &mut [Own],
+        rows: &mut [Known],
+        answers: &mut [Answer],
+    )
+        requires order { AreSteps self.now.family order.now.steps.items order.now.parents.items }
+        requires own { length own.old ≡ length self.now.family }
+        requires rows { length rows.old ≡ length self.now.family }
+        requires declared { AreDeclared self.now wanted declared.now }
+        requires answers { AreAnswers self.now wanted declared.now 0 answers.old }
+        ensures own { length own.new ≡ length self.now.family }
+        ensures rows { length rows.new ≡ length self.now.family }
+        ensures count { length answers.new ≡ length answers.old }
+        ensures resolved { AreResolved self.now wanted answers.new }
+    {
+        let mut start = 0;
+        while start < declared.len() {
+            note(declared, start, own);
+            fill(self.family(), order, own, rows);
+            look(self, wanted, declared, start, rows, answers);
+            start += BITS;
+        }
     }
 
     /// Adds what a reference to a field resolves to.
-    fn add_field(
-        &self,
-        keys: &[MemberKey],
-        lane: usize,
-        asked: &Asked,
-        rows: &[Lanes],
-        found: &mut FoundAhead,
-    ) -> Result<(), AllocError>
-        requires few { length keys.now ≤ 64 }
-        requires len { length rows.now ≡ length self.now.family }
-        requires rows { AreForemost self.now wanted.Field keys.now rows.now }
+    fn add_field(&self, answer: &Answer, found: &mut FoundAhead) -> Result<(), AllocError>
+        requires answer { IsResolved self.now kind.Field answer.now }
         requires found { AreFields self.now found.old }
         ensures { OnOk result (AreFields self.now found.new) }
     {
-        let class = asked.class;
-        let Some(key) = keys.get(lane) else {
-            return Ok(());
-        };
-        if class as usize >= rows.len() {
-            return Ok(());
+        if let Some(member) = answer.found() {
+            found.insert(answer.class, answer.key, member)?;
         }
-        let foremost = self.foremost(Wanted::Field, *key, entry_of(rows, lane, class));
-        found.insert(class, *key, member_of(foremost))?;
         Ok(())
     }
 
-    /// Adds what a reference to a method resolves to, if what is foremost settles it.
-    fn add_method(
-        &self,
-        keys: &[MemberKey],
-        lane: usize,
-        asked: &Asked,
-        rows: &[Lanes],
-        found: &mut FoundAhead,
-    ) -> Result<(), AllocError>
-        requires few { length keys.now ≤ 64 }
-        requires len { length rows.now ≡ length self.now.family }
-        requires rows { AreForemost self.now wanted.InterfaceMethod keys.now rows.now }
+    /// Adds what a reference to a method resolves to, if that is known.
+    fn add_method(&self, answer: &Answer, found: &mut FoundAhead) -> Result<(), AllocError>
+        requires answer { IsResolved self.now kind.InterfaceMethod answer.now }
         requires found { AreMethods self.now found.old }
         ensures { OnOk result (AreMethods self.now found.new) }
     {
-        let class = asked.class;
-        let Some(key) = keys.get(lane) else {
-            return Ok(());
-        };
-        let sought = self.sought(asked.member);
-        if class as usize >= rows.len() || !sought.is_of(*key) {
+        let sought = self.sought(answer.member);
+        if !sought.is_of(answer.key) {
             return Ok(());
         }
-        let foremost = self.foremost(Wanted::InterfaceMethod, *key, entry_of(rows, lane, class));
-        if let Some(member) = self.settled_method(class, sought, foremost) {
-            found.insert(class, *key, member)?;
+        if let Some(member) = self.settled_method(sought, answer) {
+            found.insert(answer.class, answer.key, member)?;
         }
         Ok(())
-    }
-}
-
-/// Where a name and descriptor stands among some, which are those of references in order: where the one before it
-/// stands, or one place on.
-fn lane_of(keys: &[MemberKey], lane: usize, key: MemberKey) -> usize {
-    match keys.get(lane) {
-        Some(known) if *known == key => lane,
-        _ => lane.saturating_add(1),
     }
 }

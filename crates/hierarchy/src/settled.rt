@@ -1,4 +1,4 @@
-//! What references resolve to where the foremost member settles it (JVMS 5.4.3.2 to 5.4.3.4).
+//! What references to methods resolve to, by what was found of superinterface methods (JVMS 5.4.3.3, 5.4.3.4).
 
 ghost use Rattle.std.specs.Prelude.{◌≡◌, ◌∷◌, [], Option, Some, true, false};
 ghost use Rattle.built_in.specs.Keys.{NameAndType};
@@ -6,12 +6,14 @@ ghost use Rattle.built_in.specs.declared.class_id.ClassId.TheVariants as class_i
 ghost use Rattle.hierarchy.specs.MemberLookup.{interface_method_in};
 ghost use Rattle.hierarchy.specs.Resolution.{AmongInterfaces, ResolvesMethod};
 ghost use Rattle.hierarchy.specs.declared.member.DeclaredMember.{DeclaredMember as Declared};
-ghost use Rattle.hierarchy.specs.steps.Foremosts.{IsForemost, given_method};
+ghost use Rattle.hierarchy.specs.declared.wanted.Wanted.TheVariants as kind;
+ghost use Rattle.hierarchy.specs.steps.Answers.{Resolves};
+ghost use Rattle.hierarchy.specs.steps.FoundAhead.{given_method};
 ghost use Rattle.hierarchy.specs.steps.MemberIndexes.{IsLookup};
 ghost use Rattle.hierarchy.specs.steps.Sought.{sought_name};
 ghost use Rattle.loading.specs.Families.{is_interface_in};
 
-use crate::foremost::Foremost;
+use crate::answers::Answer;
 use crate::hierarchy::Hierarchy;
 use crate::member::DeclaredMember;
 use crate::member_index::MemberKey;
@@ -20,90 +22,78 @@ use crate::wanted::Wanted;
 use loading::given::Superclass;
 
 impl Hierarchy {
-    /// The superinterface method that a reference to a method of a class resolves to, by what is foremost from the
-    /// class on. None where that does not settle it, or where the class or a superclass has the method.
+    /// The superinterface method that a reference to a method of a class resolves to, by what was found from the class
+    /// on. None where that does not settle it, or where the class or a superclass has the method.
     pub(crate) fn settled_method(
         &self,
-        class: u32,
         sought: Sought<'_>,
-        found: Option<Foremost>,
+        answer: &Answer,
     ) -> Option<Option<DeclaredMember>>
         requires lookup { IsLookup self.now.texts (sought_name sought) sought.key }
         ensures { (m : Option Declared)
-            → IsForemost self.now.family (interface_method_in self.now.family (sought_name sought.entry))
-            (class ∷ []) found
+            → Resolves self.now kind.InterfaceMethod (sought_name sought.entry) answer.now
             → result ≡ Some m
-            → ResolvesMethod self.now.family (sought_name sought.entry) (class_ids.Given class) (given_method m) }
+            → ResolvesMethod self.now.family (sought_name sought.entry) (class_ids.Given answer.now.class)
+            (given_method m) }
     {
         let _classes = self.family().classes();
-        if self.family().is_interface(class) {
-            self.settled_in_interface(class, sought.key, found)
+        if self.family().is_interface(answer.class) {
+            self.settled_in_interface(sought.key, answer)
         } else {
-            self.settled_in_class(class, sought, found)
+            self.settled_in_class(sought, answer)
         }
     }
 
     /// The same of an interface.
     fn settled_in_interface(
         &self,
-        class: u32,
         key: Option<MemberKey>,
-        found: Option<Foremost>,
+        answer: &Answer,
     ) -> Option<Option<DeclaredMember>>
-        requires class { is_interface_in self.now.family class ≡ true }
+        requires class { is_interface_in self.now.family answer.now.class ≡ true }
         ensures { (name : NameAndType) (m : Option Declared) → IsLookup self.now.texts name key
-            → IsForemost self.now.family (interface_method_in self.now.family name) (class ∷ []) found
-            → result ≡ Some m → ResolvesMethod self.now.family name (class_ids.Given class) (given_method m) }
+            → Resolves self.now kind.InterfaceMethod name answer.now
+            → result ≡ Some m
+            → ResolvesMethod self.now.family name (class_ids.Given answer.now.class) (given_method m) }
     {
-        if self.find(Wanted::Method, class, key).is_some() {
+        if self.find(Wanted::Method, answer.class, key).is_some() {
             return None;
         }
-        self.settled(class, key, found)
+        self.settled(key, answer)
     }
 
     /// The same of a class that is no interface.
     fn settled_in_class(
         &self,
-        class: u32,
         sought: Sought<'_>,
-        found: Option<Foremost>,
+        answer: &Answer,
     ) -> Option<Option<DeclaredMember>>
-        requires class { is_interface_in self.now.family class ≡ false }
+        requires class { is_interface_in self.now.family answer.now.class ≡ false }
         requires lookup { IsLookup self.now.texts (sought_name sought) sought.key }
         ensures { (m : Option Declared)
-            → IsForemost self.now.family (interface_method_in self.now.family (sought_name sought.entry))
-            (class ∷ []) found
+            → Resolves self.now kind.InterfaceMethod (sought_name sought.entry) answer.now
             → result ≡ Some m
-            → ResolvesMethod self.now.family (sought_name sought.entry) (class_ids.Given class) (given_method m) }
+            → ResolvesMethod self.now.family (sought_name sought.entry) (class_ids.Given answer.now.class)
+            (given_method m) }
     {
-        if let Some(_) = self.up_classes(Wanted::Method, Superclass::Given(class), sought) {
+        if let Some(_) = self.up_classes(Wanted::Method, Superclass::Given(answer.class), sought) {
             return None;
         }
-        self.settled(class, sought.key, found)
+        self.settled(sought.key, answer)
     }
 
-    /// The superinterface method of a class: the foremost one, where every other one stands above its class or none
-    /// that may be a default has code.
-    fn settled(
-        &self,
-        class: u32,
-        key: Option<MemberKey>,
-        found: Option<Foremost>,
-    ) -> Option<Option<DeclaredMember>>
+    /// The superinterface method of a class that declares none: the one default, or else the first that a search finds.
+    fn settled(&self, key: Option<MemberKey>, answer: &Answer) -> Option<Option<DeclaredMember>>
         ensures { (name : NameAndType) (m : Option Declared) → IsLookup self.now.texts name key
-            → IsForemost self.now.family (interface_method_in self.now.family name) (class ∷ []) found
-            → result ≡ Some m → AmongInterfaces self.now.family name class (given_method m) }
+            → Resolves self.now kind.InterfaceMethod name answer.now
+            → result ≡ Some m → AmongInterfaces self.now.family name answer.now.class (given_method m) }
     {
-        let _classes = self.family().classes();
-        if self.find(Wanted::InterfaceMethod, class, key).is_some() {
+        if self.find(Wanted::InterfaceMethod, answer.class, key).is_some() {
             return None;
         }
-        let Some(foremost) = found else {
-            return Some(None);
-        };
-        if foremost.covers || !foremost.coded {
-            return Some(Some(foremost.member));
+        match answer.defaults.only() {
+            Some(default) => Some(Some(default)),
+            None => answer.found(),
         }
-        None
     }
 }

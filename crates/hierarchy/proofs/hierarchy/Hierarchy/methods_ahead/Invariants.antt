@@ -1,13 +1,12 @@
 use Rattle.std.proofs.Common.{◌≡◌, ◌≤◌, ◌-◌, length}
-use Rattle.hierarchy.specs.steps.Foremosts.{AreSteps}
+use Rattle.hierarchy.specs.steps.Groups.{AreWays}
 use Rattle.hierarchy.specs.steps.FoundAhead.{AreMethods}
 use Rattle.hierarchy.proofs.hierarchy.Hierarchy.methods_ahead.Given as goal
 
 abbrev pub invariant-loop-start : goal.invariant-loop-start
 invariant-loop-start l = record {
   within : l.start ≤ length l.asked.items;
-  order : AreSteps l.self.family l.ways.order.steps.items l.ways.order.parents.items;
-  len : length l.ways.rows.items ≡ length l.self.family;
+  ways : AreWays l.self.family l.ways;
   found : AreMethods l.self l.found;
 }
 

@@ -1,6 +1,6 @@
 use Rattle.std.proofs.Common.{◌≡◌, map, take}
 use Rattle.std.specs.List.{All}
-use Rattle.hierarchy.specs.steps.Foremosts.{HasParents, class_of_step}
+use Rattle.hierarchy.specs.steps.ParentSteps.{HasParents, class_of_step}
 use Rattle.hierarchy.proofs.parents_first.ParentsFirst.of_family.Given as goal
 
 abbrev pub invariant-loop-class : goal.invariant-loop-class
