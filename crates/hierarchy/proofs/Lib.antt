@@ -9,6 +9,8 @@ pub mod AboveLemmas
 pub mod AmongLemmas
 pub mod WordLemmas
 pub mod KnownLemmas
+pub mod DeclarationsLemmas
+pub mod MaskLemmas
 pub mod SettledLemmas
 pub mod FoundAheadLemmas
 pub mod MarkLemmas

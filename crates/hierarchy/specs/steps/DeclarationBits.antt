@@ -58,4 +58,5 @@ StandsAt declared start key n e = (slice_get declared (start + n) ≡ Some e) ×
 pub record IsMask (declared : List Declaration) (start : ℕ) (mask : Mask) : Type 0 where
   pub same : (n : ℕ) → n < 64 → Has mask.same n ↔ ((e : Declaration) × StandsAt declared start mask.key n e)
   pub coded : (n : ℕ) → n < 64
-      → Has mask.coded n ↔ ((e : Declaration) × StandsAt declared start mask.key n e × (e.coded ≡ true))
+      → Has mask.coded n
+      ↔ ((e : Declaration) × (slice_get declared (start + n) ≡ Some e) × (e.key ≡ mask.key) × (e.coded ≡ true))

@@ -22,6 +22,19 @@ fill_class-requires c =
       step_within c.args.family.now steps parents are c.loop-step.step-index c.loop-step-test.true,
     )
 
+pub bounds-own-step : goal.bounds-own-step
+bounds-own-step c =
+    let steps = c.as_slice-steps.result.now in
+    let parents = c.args.order.now.parents.items in
+    let are : AreSteps c.args.family.now steps parents =
+    subst (λ (s : List Step). AreSteps c.args.family.now s parents) (sym c.as_slice-steps.ensures.value)
+    c.requires.order in
+    omega (
+      arith,
+      c.requires.owns,
+      step_within c.args.family.now steps parents are c.loop-step.step-index c.loop-step-test.true,
+    )
+
 pub loop-step-init : goal.loop-step-init
 loop-step-init c = record {
   len = c.requires.len;
