@@ -11,6 +11,8 @@ pub mod WordLemmas
 pub mod KnownLemmas
 pub mod DeclarationsLemmas
 pub mod MaskLemmas
+pub mod WindowsLemmas
+pub mod AnswersLemmas
 pub mod SettledLemmas
 pub mod FoundAheadLemmas
 pub mod MarkLemmas

@@ -3,7 +3,7 @@ use Rattle.std.proofs.Common.{◌≡◌, ◌≢◌, ◌↔◌, ◌⊎◌, ◌<�
 use Rattle.std.proofs.Common.{Bor, IfSome, is_some, ltb, refl, sym, ap, ◌∙◌, subst, inl, inr, arith}
 use Rattle.std.proofs.lemmas.Bool.{cases_eq, ltb-false}
 use Rattle.std.proofs.lemmas.Option.{slice_get_past}
-use Rattle.hierarchy.specs.steps.DeclarationBits.{Has}
+use Rattle.hierarchy.specs.steps.DeclarationBits.{Has, IsAt}
 use Rattle.hierarchy.specs.declared.declarations.Declaration.{Declaration}
 
 -- what is not read stands past the end
@@ -19,11 +19,11 @@ lost_at {X} xs p found within none = by found refl
 
 module _ (declared : List Declaration) (start bit : ℕ) (Good : Declaration → Type 0) (old : ℕ)
     (are : (n : ℕ) → n < 64 → Has old n
-    ↔ ((n < bit) × ((e : Declaration) × (slice_get declared (start + n) ≡ Some e) × Good e))) where
+    ↔ ((n < bit) × IsAt declared (start + n) Good)) where
   pub bits_next : (new : ℕ) (x : Declaration) → slice_get declared (start + bit) ≡ Some x
       → ((n : ℕ) → Has new n ↔ (Has old n ⊎ ((n ≡ bit) × Good x)))
       → (n : ℕ) → n < 64 → Has new n
-      ↔ ((n < bit + 1) × ((e : Declaration) × (slice_get declared (start + n) ≡ Some e) × Good e))
+      ↔ ((n < bit + 1) × IsAt declared (start + n) Good)
   bits_next new x at more n small = (
     λ has. elim ((more n).0 has) [
       | inl before ↦ (let there = (are n small).0 before in (omega (arith, there.0), there.1))
@@ -46,7 +46,7 @@ module _ (declared : List Declaration) (start bit : ℕ) (Good : Declaration →
       below n other small = omega (arith, other, small)
 
   pub bits_past : slice_get declared (start + bit) ≡ None → (n : ℕ) → n < 64 → Has old n
-      ↔ ((n < bit + 1) × ((e : Declaration) × (slice_get declared (start + n) ≡ Some e) × Good e))
+      ↔ ((n < bit + 1) × IsAt declared (start + n) Good)
   bits_past none n small = (
     λ has. (let there = (are n small).0 has in (omega (arith, there.0), there.1)),
     λ there. elim (cases_eq n bit) [

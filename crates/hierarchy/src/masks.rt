@@ -1,7 +1,7 @@
 //! The bits of one name and descriptor among those of a window of declarations.
 
-ghost use Rattle.std.specs.Prelude.{◌≡◌, ◌↔◌, ◌⊎◌, ◌<◌, ◌≤◌, ℕ, length, true};
-ghost use Rattle.hierarchy.specs.steps.DeclarationBits.{Has, IsMask};
+ghost use Rattle.std.specs.Prelude.{◌≡◌, ◌↔◌, ◌⊎◌, ◌<◌, ◌≤◌, ℕ, length};
+ghost use Rattle.hierarchy.specs.steps.DeclarationBits.{Has, HasKey, IsCoded, IsMask};
 
 use crate::bits::{BITS, with_bit};
 use crate::declarations::Declaration;
@@ -60,9 +60,9 @@ impl Mask {
         requires { bit < 64 }
         ensures key { result.key ≡ self.key }
         ensures same { (n : ℕ) → Has result.same n
-            ↔ (Has self.same n ⊎ ((n ≡ bit) × (declaration.key ≡ self.key))) }
+            ↔ (Has self.same n ⊎ ((n ≡ bit) × HasKey self.key declaration)) }
         ensures coded { (n : ℕ) → Has result.coded n
-            ↔ (Has self.coded n ⊎ ((n ≡ bit) × (declaration.key ≡ self.key) × (declaration.coded ≡ true))) }
+            ↔ (Has self.coded n ⊎ ((n ≡ bit) × IsCoded self.key declaration)) }
     {
         if !declaration.key.is(self.key) {
             return self;

@@ -7,7 +7,7 @@ use Rattle.loading.specs.Families.{Family}
 use Rattle.hierarchy.specs.Hierarchies.{NumberedFamily}
 use Rattle.hierarchy.specs.MemberLookup.{interface_method_in, IsDefault, IsTheDefault, HasNoDefault}
 use Rattle.hierarchy.specs.Search.{Search}
-use Rattle.hierarchy.specs.steps.DeclarationBits.{Has, Knows, StandsAt, known_of}
+use Rattle.hierarchy.specs.steps.DeclarationBits.{Has, Knows, known_of}
 use Rattle.hierarchy.specs.steps.Declarations.{IsWhole}
 use Rattle.hierarchy.specs.steps.Defaults.{AreFound, only_of}
 use Rattle.hierarchy.specs.steps.HierarchyTables.{wanted_in}

@@ -50,13 +50,17 @@ AreKnown family declares d k n done rows =
 
 -- ---- a window of a list of declarations: bit n is that of the declaration n places behind its start
 
--- one of these declarations is that of a bit, and of a name and descriptor
-abbrev pub StandsAt : List Declaration → ℕ → MemberKey → ℕ → Declaration → Type 0
-StandsAt declared start key n e = (slice_get declared (start + n) ≡ Some e) × (e.key ≡ key)
+-- what stands at a place is of some kind
+abbrev pub IsAt : List Declaration → ℕ → (Declaration → Type 0) → Type 0
+IsAt declared place Is = (e : Declaration) × (slice_get declared place ≡ Some e) × Is e
+
+abbrev pub HasKey : MemberKey → Declaration → Type 0
+HasKey key e = e.key ≡ key
+
+abbrev pub IsCoded : MemberKey → Declaration → Type 0
+IsCoded key e = (e.key ≡ key) × (e.coded ≡ true)
 
 -- The bits of a name and descriptor, and those of methods with code among them.
 pub record IsMask (declared : List Declaration) (start : ℕ) (mask : Mask) : Type 0 where
-  pub same : (n : ℕ) → n < 64 → Has mask.same n ↔ ((e : Declaration) × StandsAt declared start mask.key n e)
-  pub coded : (n : ℕ) → n < 64
-      → Has mask.coded n
-      ↔ ((e : Declaration) × (slice_get declared (start + n) ≡ Some e) × (e.key ≡ mask.key) × (e.coded ≡ true))
+  pub same : (n : ℕ) → n < 64 → Has mask.same n ↔ IsAt declared (start + n) (HasKey mask.key)
+  pub coded : (n : ℕ) → n < 64 → Has mask.coded n ↔ IsAt declared (start + n) (IsCoded mask.key)

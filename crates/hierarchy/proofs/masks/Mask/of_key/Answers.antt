@@ -1,5 +1,5 @@
 use Rattle.std.proofs.Common.{◌≡◌, ◌<◌, ◌+◌, ◌↔◌, ◌⊎◌, ℕ, Some, true, slice_get, refl, sym, subst, arith, ◌∙◌}
-use Rattle.hierarchy.specs.steps.DeclarationBits.{Has, StandsAt}
+use Rattle.hierarchy.specs.steps.DeclarationBits.{Has, HasKey, IsAt, IsCoded}
 use Rattle.hierarchy.specs.declared.declarations.Declaration.{Declaration}
 use Rattle.hierarchy.specs.declared.member_index.MemberKey.{MemberKey}
 use Rattle.hierarchy.proofs.AmongLemmas.{read_at}
@@ -16,7 +16,52 @@ loop-bit-init c = record {
 }
 
 pub loop-bit-preserved : goal.loop-bit-preserved
-loop-bit-preserved c = ?
+loop-bit-preserved c =
+    let declared = c.args.declared.now in
+    let start = c.args.start in
+    let bit = c.loop-bit.bit in
+    let key = c.args.key in
+    let was = c.loop-bit.invariant in
+    elim c.match-get.branch [
+      | in-Some w ↦
+          let e : Declaration = w.in-Some.declaration.now in
+          let at = read_at declared (start + bit) c.get.result w.in-Some.declaration c.get.ensures.lookup.1
+          c.get.ensures.lookup.0 w.in-Some.is in
+          let same = bits_next declared start bit (HasKey key) c.loop-bit.mask.same was.same w.and-mask.result.same e at
+          (subst (λ (k : MemberKey). (n : ℕ) → Has w.and-mask.result.same n
+          ↔ (Has c.loop-bit.mask.same n ⊎ ((n ≡ bit) × HasKey k e))) was.key w.and-mask.ensures.same) in
+          let coded = bits_next declared start bit (IsCoded key) c.loop-bit.mask.coded was.coded w.and-mask.result.coded e at
+          (subst (λ (k : MemberKey). (n : ℕ) → Has w.and-mask.result.coded n
+          ↔ (Has c.loop-bit.mask.coded n ⊎ ((n ≡ bit) × IsCoded k e))) was.key
+          w.and-mask.ensures.coded) in
+          rw w.mask-is (record { key = w.and-mask.ensures.key ∙ was.key; same = same; coded = coded })
+      | in_default w ↦
+          let none = lost_at declared (start + bit) c.get.result c.get.ensures.lookup.0 w.in_default.not-Some in
+          rw w.mask-is (record {
+            key = was.key;
+            same = bits_past declared start bit (HasKey key) c.loop-bit.mask.same was.same none;
+            coded = bits_past declared start bit (IsCoded key) c.loop-bit.mask.coded was.coded none;
+          })
+    ]
 
 pub returns : goal.returns
-returns c = ?
+returns c =
+    let was = c.loop-bit.invariant in
+    let mask = c.loop-bit.mask in
+    record {
+      key = was.key;
+      mask = record {
+        same = λ n small. subst (λ (k : MemberKey). Has mask.same n
+            ↔ IsAt c.args.declared.now (c.args.start + n) (HasKey k)) (sym was.key)
+            (
+              λ has. ((was.same n small).0 has).1,
+              λ there. (was.same n small).1 (omega (arith, small, c.loop-bit-test.false), there),
+            );
+        coded = λ n small. subst (λ (k : MemberKey). Has mask.coded n
+            ↔ IsAt c.args.declared.now (c.args.start + n) (IsCoded k)) (sym was.key)
+            (
+              λ has. ((was.coded n small).0 has).1,
+              λ there. (was.coded n small).1 (omega (arith, small, c.loop-bit-test.false), there),
+            );
+      };
+    }
