@@ -1,7 +1,7 @@
 -- What references resolve to, as one window of declarations after another is looked at.
 use Rattle.std.proofs.Common.{◌≡◌, ◌≢◌, ◌↔◌, ◌⊎◌, ◌<◌, ◌≤◌, ◌+◌, ℕ, Bool, true, false, cond, List, [], ◌∷◌, ◌++◌}
 use Rattle.std.proofs.Common.{Option, Some, None, MatchOption, length, slice_get, take, get_or, eqb, not}
-use Rattle.std.proofs.Common.{refl, sym, ap, ◌∙◌, subst, inl, inr, arith, zero, suc, append-nil, ◌-◌}
+use Rattle.std.proofs.Common.{refl, sym, ap, ◌∙◌, subst, inl, inr, arith, zero, suc, append-nil, ◌-◌, bit_and}
 use Rattle.std.specs.List.{Contains}
 use Rattle.std.proofs.lemmas.Bool.{cases_eq, cases_lt}
 use Rattle.std.proofs.lemmas.List.{take_more, take_all}
@@ -12,6 +12,7 @@ use Rattle.loading.specs.Families.{Family, IsAncestor}
 use Rattle.hierarchy.specs.Hierarchies.{NumberedFamily}
 use Rattle.hierarchy.specs.MemberLookup.{interface_method_in, IsDefault, IsTheDefault, HasNoDefault, flags_in}
 use Rattle.hierarchy.specs.MemberLookup.{is_abstract}
+use Rattle.hierarchy.specs.Search.{Search}
 use Rattle.hierarchy.specs.steps.Answers.{AreBitsOf, classes_with}
 use Rattle.hierarchy.specs.steps.DeclarationBits.{Has, HasKey, IsAt, IsCoded, IsMask, Knows}
 use Rattle.hierarchy.specs.steps.Declarations.{AreDeclared, IsDeclared, IsWhole}
@@ -28,6 +29,7 @@ use Rattle.hierarchy.proofs.AmongLemmas.{among_one, above_one}
 use Rattle.hierarchy.proofs.DefaultsLemmas.{one_more}
 use Rattle.hierarchy.proofs.MemberIndexesLemmas.{same_key_itself}
 use Rattle.hierarchy.proofs.MemberIndexesPlaceLemmas.{key_is}
+use Rattle.hierarchy.proofs.WordLemmas.{both}
 use Rattle.hierarchy.proofs.WalksOrderLemmas.{none_in_empty, in_front, in_rest}
 
 -- ---- lists
@@ -78,30 +80,32 @@ module _ (key : MemberKey) where
   classes_with-push : (xs : List Declaration) (e : Declaration)
       → classes_with key (xs ++ e ∷ []) ≡ classes_with key xs ++ cond (same_key e.key key) (e.member.class ∷ []) []
   classes_with-push [] e = refl
-  classes_with-push (x ∷ xs) e = by (same_key x.key key)
+  classes_with-push (x ∷ xs) e = by (classes_with-push xs e) (same_key x.key key)
     where
-      by : (b : Bool) → cond b (x.member.class ∷ classes_with key (xs ++ e ∷ [])) (classes_with key (xs ++ e ∷ []))
+      by : classes_with key (xs ++ e ∷ []) ≡ classes_with key xs ++ cond (same_key e.key key) (e.member.class ∷ []) []
+          → (b : Bool) → cond b (x.member.class ∷ classes_with key (xs ++ e ∷ [])) (classes_with key (xs ++ e ∷ []))
           ≡ cond b (x.member.class ∷ classes_with key xs) (classes_with key xs)
           ++ cond (same_key e.key key) (e.member.class ∷ []) []
-      by true = ap (λ (l : List ℕ). x.member.class ∷ l) (classes_with-push xs e)
-      by false = classes_with-push xs e
+      by rest true = ap (λ (l : List ℕ). x.member.class ∷ l) rest
+      by rest false = rest
 
   pub with_has : (xs : List Declaration) (i : ℕ) → Contains (classes_with key xs) i
       → (p : ℕ) × (e : Declaration) × (slice_get xs p ≡ Some e) × (e.key ≡ key) × (e.member.class ≡ i)
   with_has [] i has = absurd (none_in_empty i has)
-  with_has (x ∷ xs) i has = by (same_key x.key key) refl has
+  with_has (x ∷ xs) i has =
+      by (λ more. (let there = with_has xs i more in (suc there.0, there.1, there.2, there.3, there.4)))
+      (same_key x.key key) refl has
     where
-      on : Contains (classes_with key xs) i
-          → (p : ℕ) × (e : Declaration) × (slice_get (x ∷ xs) p ≡ Some e) × (e.key ≡ key) × (e.member.class ≡ i)
-      on more = let there = with_has xs i more in (suc there.0, there.1, there.2, there.3, there.4)
-      by : (b : Bool) → same_key x.key key ≡ b
+      by : (Contains (classes_with key xs) i
+          → (p : ℕ) × (e : Declaration) × (slice_get (x ∷ xs) p ≡ Some e) × (e.key ≡ key) × (e.member.class ≡ i))
+          → (b : Bool) → same_key x.key key ≡ b
           → Contains (cond b (x.member.class ∷ classes_with key xs) (classes_with key xs)) i
           → (p : ℕ) × (e : Declaration) × (slice_get (x ∷ xs) p ≡ Some e) × (e.key ≡ key) × (e.member.class ≡ i)
-      by true e among = elim (front_or_rest x.member.class (classes_with key xs) i among) [
+      by on true e among = elim (front_or_rest x.member.class (classes_with key xs) i among) [
         | inl same ↦ (zero, x, refl, key_is x.key key e, same)
         | inr more ↦ on more
       ]
-      by false e among = on among
+      by on false e among = on among
 
   pub has_with : (xs : List Declaration) (p : ℕ) (e : Declaration) → slice_get xs p ≡ Some e → e.key ≡ key
       → Contains (classes_with key xs) e.member.class
@@ -113,11 +117,11 @@ module _ (key : MemberKey) where
       (subst (λ (b : Bool). Contains (cond b (x.member.class ∷ classes_with key xs) (classes_with key xs)) x.member.class)
       (sym (ap (λ (k : MemberKey). same_key k key) (ap (λ (y : Declaration). y.key) is ∙ same) ∙ same_key_itself key))
       (in_front x.member.class (classes_with key xs)))
-  has_with (x ∷ xs) (suc p) e at same = by (same_key x.key key)
+  has_with (x ∷ xs) (suc p) e at same = by (has_with xs p e at same) (same_key x.key key)
     where
-      by : (b : Bool) → Contains (cond b (x.member.class ∷ classes_with key xs) (classes_with key xs)) e.member.class
-      by true = in_rest x.member.class (classes_with key xs) e.member.class (has_with xs p e at same)
-      by false = has_with xs p e at same
+      by : Contains (classes_with key xs) e.member.class → (b : Bool) → Contains (cond b (x.member.class ∷ classes_with key xs) (classes_with key xs)) e.member.class
+      by rest true = in_rest x.member.class (classes_with key xs) e.member.class rest
+      by rest false = rest
 
   -- ---- of the first so many
 
@@ -247,6 +251,36 @@ module _ (Is : ℕ → ℕ → Type 0) (declared : List Declaration) (start : �
             are
       ]
 
+-- ---- the first member, or none
+
+module _ (family : Family) (texts : List (List ℕ)) (declares : ℕ → Option ℕ) (declared : List Declaration) (start : ℕ)
+    (name : NameAndType) (c : ℕ) (key : MemberKey) (mask : Mask) (known : Known) (masks : IsMask declared start mask)
+    (key_is_same : mask.key ≡ key) (numbers : AreNumbers texts name key)
+    (told : (n : ℕ) (e : Declaration) → n < 64 → slice_get declared (start + n) ≡ Some e → AreNumbers texts name e.key
+    → Knows family declares (c ∷ []) e.member.class e.member.index n known) where
+  known_at : (n : ℕ) → n < 64 → Has mask.same n
+      → (e : Declaration) × (slice_get declared (start + n) ≡ Some e)
+      × Knows family declares (c ∷ []) e.member.class e.member.index n known
+  known_at n small has =
+      let there = (masks.same n small).0 has in (
+        there.0,
+        there.1,
+        told n there.0 small there.1 (subst (AreNumbers texts name) (sym (there.2 ∙ key_is_same)) numbers),
+      )
+
+  pub first_there : (n : ℕ) (e : Declaration) → n < 64 → Has (bit_and known.first mask.same) n
+      → slice_get declared (start + n) ≡ Some e → Search family declares (c ∷ []) (Some e.member)
+  first_there n e small has at =
+      let parts = (both known.first mask.same n).0 has in
+      let there = known_at n small parts.1 in
+      let two : Some there.0 ≡ Some e = sym there.1 ∙ at in
+      let which : there.0 ≡ e = cc in
+      subst (λ (x : Declaration). Search family declares (c ∷ []) (Some x.member)) which (there.2.first parts.0)
+
+  pub nothing_there : (n : ℕ) → n < 64 → Has mask.same n → ¬ Has known.covered n
+      → Search family declares (c ∷ []) None
+  nothing_there n small has lacking = (known_at n small has).2.lacking lacking
+
 -- ---- the defaults of a class
 
 module _ (h : NumberedFamily) (declared : List Declaration) (start : ℕ) (name : NameAndType) (c : ℕ) (key : MemberKey)
@@ -297,7 +331,7 @@ module _ (h : NumberedFamily) (declared : List Declaration) (start : ℕ) (name 
         )
 
     pub no_default_bit : e.key ≡ key → ¬ Has word n → (k : ℕ) → ¬ IsDefault h.family name c e.member.class k
-    no_default_bit same not k default =
+    no_default_bit same unset k default =
         let is : AreNumbers h.texts name e.key = subst (AreNumbers h.texts name) (sym same) numbers in
         let knows = told n e small at is in
         let places : Some k ≡ Some e.member.index = sym default.0.0.1 ∙ declares_it is in
@@ -314,7 +348,7 @@ module _ (h : NumberedFamily) (declared : List Declaration) (start : ℕ) (name 
                   sym lacks ∙ ap (interface_method_in h.family name) (sym here) ∙ over.1.1 in cc)
               | inr up ↦ default.0.1 over.0 over.1.0 (up, over.1.1) over.3
             ]) in
-        not ((bits n small).1 ((highs n).1 (present, mark), shown))
+        unset ((bits n small).1 ((highs n).1 (present, mark), shown))
       where
         flags_abstract : ℕ → ℕ → Bool
         flags_abstract class k = is_abstract (flags_in h.family class k)
@@ -327,7 +361,7 @@ module _ (h : NumberedFamily) (declared : List Declaration) (start : ℕ) (name 
       default_bit' n e small at has = default_bit n e small at has
       no_default_bit' : (n : ℕ) (e : Declaration) → n < 64 → slice_get declared (start + n) ≡ Some e → e.key ≡ key
           → ¬ Has word n → (k : ℕ) → ¬ IsDefault h.family name c e.member.class k
-      no_default_bit' n e small at same not k = no_default_bit n e small at same not k
+      no_default_bit' n e small at same unset k = no_default_bit n e small at same unset k
 
 -- when all were seen
 module _ (family : Family) (name : NameAndType) (c : ℕ) (seen : List ℕ)

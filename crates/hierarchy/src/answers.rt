@@ -3,6 +3,8 @@
 
 ghost use Rattle.std.specs.Prelude.{◌≡◌, ◌<◌, ◌≤◌, ◌+◌, ◌∷◌, [], ℕ, List, Option, Some, None, true, length, take, slice_get};
 ghost use Rattle.built_in.specs.Keys.{NameAndType};
+ghost use Rattle.loading.specs.Families.{Family as Classes};
+ghost use Rattle.hierarchy.specs.MemberLookup.{IsDefault};
 ghost use Rattle.hierarchy.specs.declared.declarations.Declaration.{Declaration as Declared};
 ghost use Rattle.hierarchy.specs.declared.member.DeclaredMember.{DeclaredMember as Member};
 ghost use Rattle.hierarchy.specs.declared.member_index.MemberKey.{MemberKey as Key};
@@ -136,19 +138,27 @@ fn first_of(declared: &[Declaration], start: usize, word: u64) -> Option<Declare
     ensures { (m : Member) → result ≡ Some m → (n : ℕ) × (e : Declared) × (n < 64) × Has word n
         × (slice_get declared.now (start + n) ≡ Some e) × (e.member ≡ m) }
 {
-    let bit = first_bit(word)?;
-    let declaration = declared.get(start + bit)?;
-    Some(declaration.member)
+    let Some(bit) = first_bit(word) else {
+        return None;
+    };
+    match declared.get(start + bit) {
+        Some(declaration) => Some(declaration.member),
+        None => None,
+    }
 }
 
 /// What was found, with the declarations of some bits.
 fn with_defaults(found: Found, declared: &[Declaration], start: usize, word: u64) -> Found
     requires { start ≤ length declared.now }
-    ensures { (Is : ℕ → ℕ → Type 0) (key : Key) → AreBitsOf Is declared.now start key word
-        → AreFound Is (classes_with key (take start declared.now)) found
-        → AreFound Is (classes_with key (take (start + 64) declared.now)) result }
+    ensures { (family : Classes) (name : NameAndType) (c : ℕ) (key : Key)
+        → AreBitsOf (IsDefault family name c) declared.now start key word
+        → AreFound (IsDefault family name c) (classes_with key (take start declared.now)) found
+        → AreFound (IsDefault family name c) (classes_with key (take (start + 64) declared.now)) result }
 {
-    if word == 0 || found.are_several() {
+    if word == 0 {
+        return found;
+    }
+    if found.are_several() {
         return found;
     }
     with_all_defaults(found, declared, start, word)
@@ -157,9 +167,10 @@ fn with_defaults(found: Found, declared: &[Declaration], start: usize, word: u64
 /// The same, one bit after another.
 fn with_all_defaults(found: Found, declared: &[Declaration], start: usize, word: u64) -> Found
     requires { start ≤ length declared.now }
-    ensures { (Is : ℕ → ℕ → Type 0) (key : Key) → AreBitsOf Is declared.now start key word
-        → AreFound Is (classes_with key (take start declared.now)) found
-        → AreFound Is (classes_with key (take (start + 64) declared.now)) result }
+    ensures { (family : Classes) (name : NameAndType) (c : ℕ) (key : Key)
+        → AreBitsOf (IsDefault family name c) declared.now start key word
+        → AreFound (IsDefault family name c) (classes_with key (take start declared.now)) found
+        → AreFound (IsDefault family name c) (classes_with key (take (start + 64) declared.now)) result }
 {
     let mut found = found;
     for bit in 0..BITS {

@@ -1,6 +1,6 @@
 //! What is known of up to 64 declarations of members from a class on, a bit each (JVMS 5.4.3.2 to 5.4.3.4).
 
-ghost use Rattle.std.specs.Prelude.{◌≡◌, ◌<◌, ◌↔◌, ◌⊎◌, ◌∷◌, ◌++◌, [], ℕ, List, Option, Some, None, IsTrue};
+ghost use Rattle.std.specs.Prelude.{◌≡◌, ◌<◌, ◌↔◌, ◌⊎◌, ◌∷◌, ◌++◌, [], ℕ, List, Option, Some, None, IfSome, IsTrue};
 ghost use Rattle.loading.specs.Families.{Family as Classes, parents_in};
 ghost use Rattle.hierarchy.specs.steps.DeclarationBits.{Has, IsOwn, Knows};
 
@@ -32,7 +32,7 @@ pub(crate) fn without(word: u64, other: u64) -> u64
 
 /// The first bit of a word.
 pub(crate) fn first_bit(word: u64) -> Option<usize>
-    ensures some { (n : ℕ) → result ≡ Some n → (n < 64) × Has word n }
+    ensures some { IfSome result (λ n. (n < 64) × Has word n) }
     ensures none { result ≡ None → (n : ℕ) → ¬ Has word n }
 {
     if word == 0 {

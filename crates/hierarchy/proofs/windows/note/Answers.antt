@@ -1,12 +1,11 @@
-use Rattle.std.proofs.Common.{sym, subst, ap, arith, ◌∙◌}
+use Rattle.std.proofs.Common.{refl, ◌∙◌}
 use Rattle.std.proofs.lemmas.Option.{slice_get-get_or}
-use Rattle.hierarchy.specs.steps.Windows.{AreNoted}
 use Rattle.hierarchy.proofs.WindowsLemmas.{noted_none, noted_more, noted_past}
 use Rattle.hierarchy.proofs.windows.note.Goals as goal
 
 pub loop-place-init : goal.loop-place-init
 loop-place-init c = record {
-  len = c.clear.ensures.len;
+  len = refl;
   mask = c.of_key-mask.ensures.mask;
   noted = noted_none c.args.declared.now c.args.start c.clear.new.own c.clear.ensures.here c.clear.ensures.same;
 }
@@ -23,6 +22,9 @@ loop-place-preserved c =
           c.note_class.ensures.len c.bit_of-here.result c.changed_to-mask.result c.changed_to-mask.ensures.key
           c.changed_to-mask.ensures.mask c.bit_of-here.ensures c.note_class.ensures.notes c.loop-place.invariant.noted;
     }
+
+pub returns-clause-len : goal.returns-clause-len
+returns-clause-len c = c.loop-place.invariant.len ∙ c.clear.ensures.len
 
 pub returns-clause-noted : goal.returns-clause-noted
 returns-clause-noted c = noted_past c.args.declared.now c.args.start c.loop-place.place c.loop-place.own
