@@ -13,15 +13,18 @@ use Rattle.hierarchy.specs.Hierarchies.{NumberedFamily}
 use Rattle.hierarchy.specs.MemberLookup.{interface_method_in, IsDefault, IsTheDefault, HasNoDefault, flags_in}
 use Rattle.hierarchy.specs.MemberLookup.{is_abstract}
 use Rattle.hierarchy.specs.Search.{Search}
+use Rattle.hierarchy.specs.Resolution.{AmongInterfaces}
 use Rattle.hierarchy.specs.steps.Answers.{AreBitsOf, classes_with}
 use Rattle.hierarchy.specs.steps.DeclarationBits.{Has, HasKey, IsAt, IsCoded, IsMask, Knows}
 use Rattle.hierarchy.specs.steps.Declarations.{AreDeclared, IsDeclared, IsWhole}
 use Rattle.hierarchy.specs.steps.Defaults.{AreFound, nothing, one, several, found_after, only_of}
+use Rattle.hierarchy.specs.steps.FoundAhead.{given_method}
 use Rattle.hierarchy.specs.steps.MemberIndexes.{same_key, AreNumbers}
 use Rattle.hierarchy.specs.declared.declarations.Declaration.{Declaration}
 use Rattle.hierarchy.specs.declared.defaults.Found.{Found}
 use Rattle.hierarchy.specs.declared.defaults.Found.TheVariants as found
 use Rattle.hierarchy.specs.declared.masks.Mask.{Mask}
+use Rattle.hierarchy.specs.declared.member.DeclaredMember.{DeclaredMember}
 use Rattle.hierarchy.specs.declared.bits.Known.{Known}
 use Rattle.hierarchy.specs.declared.member_index.MemberKey.{MemberKey}
 use Rattle.hierarchy.specs.declared.wanted.Wanted.TheVariants as kind
@@ -379,3 +382,17 @@ module _ (family : Family) (name : NameAndType) (c : ℕ) (seen : List ℕ)
   )
   default_told found.Several (several {i = i} {j = j} {k = k} {l = l} a p b q differ) = λ m n the.
       differ ((the.1 i k p).0 ∙ sym (the.1 j l q).0)
+
+-- ---- as resolved
+
+pub search_by : (family : Family) (declares : ℕ → Option ℕ) (cs : List ℕ) (m : Option DeclaredMember)
+    → ((x : DeclaredMember) → m ≡ Some x → Search family declares cs (Some x))
+    → (m ≡ None → Search family declares cs None) → Search family declares cs m
+search_by family declares cs None some none = none refl
+search_by family declares cs (Some x) some none = some x refl
+
+pub settled_by : (family : Family) (name : NameAndType) (c : ℕ) (m : Option DeclaredMember)
+    → HasNoDefault family name c → Search family (interface_method_in family name) (c ∷ []) m
+    → AmongInterfaces family name c (given_method m)
+settled_by family name c None none search = AmongInterfaces.none none search
+settled_by family name c (Some x) none search = AmongInterfaces.any none search

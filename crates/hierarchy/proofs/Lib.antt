@@ -13,7 +13,6 @@ pub mod DeclarationsLemmas
 pub mod MaskLemmas
 pub mod WindowsLemmas
 pub mod AnswersLemmas
-pub mod SettledLemmas
 pub mod FoundAheadLemmas
 pub mod MarkLemmas
 pub mod MarkedLemmas

@@ -10,7 +10,9 @@ ghost use Rattle.hierarchy.specs.declared.member.DeclaredMember.{DeclaredMember 
 ghost use Rattle.hierarchy.specs.declared.member_index.MemberKey.{MemberKey as Key};
 ghost use Rattle.hierarchy.specs.steps.Answers.{AreAnswers, AreBitsOf, AreTold, IsAnswer, classes_with};
 ghost use Rattle.hierarchy.specs.steps.DeclarationBits.{Has, IsMask, Knows};
-ghost use Rattle.hierarchy.specs.steps.Declarations.{AreDeclared};
+ghost use Rattle.hierarchy.specs.Hierarchies.{NumberedFamily as Numbered};
+ghost use Rattle.hierarchy.specs.declared.wanted.Wanted.{Wanted as Kind};
+ghost use Rattle.hierarchy.specs.steps.Declarations.{AreDeclared, IsWhole};
 ghost use Rattle.hierarchy.specs.steps.Defaults.{AreFound};
 ghost use Rattle.hierarchy.specs.steps.HierarchyTables.{wanted_in};
 ghost use Rattle.hierarchy.specs.steps.MemberIndexes.{AreNumbers};
@@ -42,7 +44,11 @@ pub(crate) struct Answer {
 
 impl Answer {
     /// Nothing is known of a reference.
-    pub(crate) fn unknown(asked: &Asked) -> Answer {
+    pub(crate) fn unknown(asked: &Asked) -> Answer
+        ensures key { result.key ≡ asked.now.key }
+        ensures unknown { (h : Numbered) (w : Kind) (declared : List Declared) → asked.now.class < length h.family
+            → IsWhole h w declared asked.now.key → IsAnswer h w declared 0 result }
+    {
         Answer {
             class: asked.class,
             key: asked.key,

@@ -37,7 +37,7 @@ impl Hierarchy {
         declared: &mut Vec<Declaration>,
     ) -> Result<(), AllocError>
         requires { AreDeclared self.now wanted declared.old.items }
-        ensures goes { OnOk result (Goes self.now wanted declared.old.items declared.new.items) }
+        ensures goes { OnOk result (Goes self.now wanted key declared.old.items declared.new.items) }
         ensures whole { OnOk result (IsWhole self.now wanted declared.new.items key) }
     {
         let row = self.noted(wanted, Some(key));
@@ -56,7 +56,7 @@ impl Hierarchy {
         declared: &mut Vec<Declaration>,
     ) -> Result<(), AllocError>
         requires { AreDeclared self.now wanted declared.old.items }
-        ensures goes { OnOk result (Goes self.now wanted declared.old.items declared.new.items) }
+        ensures goes { OnOk result (Goes self.now wanted key declared.old.items declared.new.items) }
         ensures there { OnOk result ((name : NameAndType) (class k : ℕ) → AreNumbers self.now.texts name key
             → wanted_in wanted self.now.family name class ≡ Some k → Contains (class_noted reach.now.nearest) class
             → IsListed declared.new.items key class) }

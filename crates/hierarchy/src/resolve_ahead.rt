@@ -4,10 +4,12 @@
 //! For names and descriptors that an interface declares, what is known of 64 of their declarations is found of all classes
 //! in one way through them. That takes the place of a walk up for each reference, wherever these walks would be longer.
 
-ghost use Rattle.std.specs.Prelude.{◌≡◌, length, IfOk, OnOk};
+ghost use Rattle.std.specs.Prelude.{◌≡◌, length, IfOk, IsTrue, OnOk};
+ghost use Rattle.std.specs.List.{Contains};
+ghost use Rattle.hierarchy.specs.declared.answers.Answer.{Answer as Reference};
 ghost use Rattle.hierarchy.specs.declared.wanted.Wanted.TheVariants as kind;
 ghost use Rattle.hierarchy.specs.steps.Answers.{AreAnswers, AreResolved, IsResolved};
-ghost use Rattle.hierarchy.specs.steps.Declarations.{AreDeclared, IsWhole};
+ghost use Rattle.hierarchy.specs.steps.Declarations.{AreDeclared, AreWhole, IsWhole};
 ghost use Rattle.hierarchy.specs.steps.FoundAhead.{AreFields, AreMethods};
 ghost use Rattle.hierarchy.specs.steps.Groups.{AreWays, IsGroup};
 ghost use Rattle.hierarchy.specs.steps.ParentSteps.{AreSteps};
@@ -143,12 +145,21 @@ impl Group {
         ensures group { OnOk result (IsGroup hierarchy.now wanted self.new) }
         ensures whole { OnOk result (IsWhole hierarchy.now wanted self.new.declared.items key) }
     {
-        if let Some(last) = self.answers.last() {
-            if last.key.is(key) {
-                return Ok(());
-            }
+        if self.ends_with_key(key) {
+            return Ok(());
         }
-        hierarchy.add_declarations(wanted, key, &mut self.declared)
+        hierarchy.add_declarations(wanted, key, &mut self.declared)?;
+        Ok(())
+    }
+
+    /// Whether a name and descriptor is that of the last reference.
+    fn ends_with_key(&self, key: MemberKey) -> bool
+        ensures { IsTrue result → (a : Reference) × Contains self.now.answers.items a × (a.key ≡ key) }
+    {
+        match self.answers.last() {
+            Some(last) => last.key.is(key),
+            None => false,
+        }
     }
 }
 
@@ -288,6 +299,7 @@ impl Hierarchy {
         requires own { length own.old ≡ length self.now.family }
         requires rows { length rows.old ≡ length self.now.family }
         requires declared { AreDeclared self.now wanted declared.now }
+        requires wholes { AreWhole self.now wanted declared.now }
         requires answers { AreAnswers self.now wanted declared.now 0 answers.old }
         ensures own { length own.new ≡ length self.now.family }
         ensures rows { length rows.new ≡ length self.now.family }

@@ -1,5 +1,5 @@
 -- The declarations of members by some names and descriptors, as a list.
-use Rattle.std.specs.Prelude.{◌≡◌, ℕ, not, List, Some}
+use Rattle.std.specs.Prelude.{◌≡◌, ◌⊎◌, ℕ, not, List, Some}
 use Rattle.std.specs.List.{All, Contains}
 use Rattle.built_in.specs.Keys.{NameAndType}
 use Rattle.hierarchy.specs.Hierarchies.{NumberedFamily}
@@ -31,7 +31,12 @@ abbrev pub IsWhole : NumberedFamily → Wanted → List Declaration → MemberKe
 IsWhole h wanted declared key = (name : NameAndType) (class k : ℕ) → AreNumbers h.texts name key
     → wanted_in wanted h.family name class ≡ Some k → IsListed declared key class
 
--- More of them were added.
-pub record Goes (h : NumberedFamily) (wanted : Wanted) (old new : List Declaration) : Type 0 where
+-- of each that stands there all of its name and descriptor do
+abbrev pub AreWhole : NumberedFamily → Wanted → List Declaration → Type 0
+AreWhole h wanted declared = (e : Declaration) → Contains declared e → IsWhole h wanted declared e.key
+
+-- More of a name and descriptor were added.
+pub record Goes (h : NumberedFamily) (wanted : Wanted) (key : MemberKey) (old new : List Declaration) : Type 0 where
   pub are : AreDeclared h wanted new
   pub keeps : (e : Declaration) → Contains old e → Contains new e
+  pub only : (e : Declaration) → Contains new e → Contains old e ⊎ (e.key ≡ key)

@@ -16,13 +16,13 @@ loop-reach-preserved c =
     let after = c.add_noted.new.declared.items in
     let goes = c.in_ok-add_noted.ensures.goes in
     record {
-      goes = goes_on h c.args.wanted c.args.declared.now.items before after c.loop-reach.invariant.goes goes;
+      goes = goes_on h c.args.wanted c.args.key c.args.declared.now.items before after c.loop-reach.invariant.goes goes;
       there = λ name class k numbers has among.
           elim (Contains-append_cases (classes_noted (take c.loop-reach.reach-index row)) _ class
           (subst (λ (l : List ℕ). Contains l class)
           (sym (noted_next row c.loop-reach.reach-index c.loop-reach-test.true)) among)) [
-            | inl low ↦ listed_still h c.args.wanted before after c.args.key class goes
-                (c.loop-reach.invariant.there name class k numbers has low)
+            | inl low ↦ listed_still h c.args.wanted c.args.key before after class goes
+                c.args.key (c.loop-reach.invariant.there name class k numbers has low)
             | inr last ↦ c.in_ok-add_noted.ensures.there name class k numbers has last
           ];
     }

@@ -6,6 +6,6 @@ use Rattle.hierarchy.proofs.hierarchy.Hierarchy.settled_in_interface.Goals as go
 
 pub returns : goal.returns
 returns c = λ name m is are e.
-    let lacks : method_in c.args.self.now.family name c.args.class ≡ None =
+    let lacks : method_in c.args.self.now.family name c.args.answer.now.class ≡ None =
     sym (c.find.ensures name is) ∙ none_by c.find.result (sym c.is_some.ensures ∙ c.if-is_some.false) in
     ResolvesMethod.above_interface c.requires.class lacks (c.settled.ensures name m is are e)
