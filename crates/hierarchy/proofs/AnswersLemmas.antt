@@ -320,8 +320,7 @@ module _ (h : NumberedFamily) (declared : List Declaration) (start : ℕ) (name 
               let clash : None ≡ Some e.member.index =
               sym lacks ∙ ap (interface_method_in h.family name) (sym here) ∙ declares_it is in cc)
           | inr over ↦ over
-        ] in
-        (
+        ] in (
           same,
           (
             (
@@ -329,7 +328,7 @@ module _ (h : NumberedFamily) (declared : List Declaration) (start : ℕ) (name 
               λ j l other below. free.1 (knows.hidden.1 (j, (l, other.1), above_one c j other.0, below)),
             ),
             coded_off (is_abstract (flags_in h.family e.member.class e.member.index))
-            (sym code_is ∙ ap (λ (x : Declaration). x.coded) (sym which) ∙ coded.2.1),
+                (sym code_is ∙ ap (λ (x : Declaration). x.coded) (sym which) ∙ coded.2.1),
           ),
         )
 
@@ -344,13 +343,13 @@ module _ (h : NumberedFamily) (declared : List Declaration) (start : ℕ) (name 
         let present : Has known.present n = knows.present.1 (above_one c e.member.class default.0.0.0) in
         let mark : Has mask.coded n = (masks.coded n small).1 (e, at, (same ∙ sym key_is_same, coded)) in
         let shown : ¬ Has known.hidden n = λ hidden.
-            (let over = knows.hidden.0 hidden in
-            elim (among_one c over.0 over.2) [
-              | inl here ↦ (
-                  let clash : None ≡ Some over.1.0 =
-                  sym lacks ∙ ap (interface_method_in h.family name) (sym here) ∙ over.1.1 in cc)
-              | inr up ↦ default.0.1 over.0 over.1.0 (up, over.1.1) over.3
-            ]) in
+        (let over = knows.hidden.0 hidden in
+        elim (among_one c over.0 over.2) [
+          | inl here ↦ (
+              let clash : None ≡ Some over.1.0 =
+              sym lacks ∙ ap (interface_method_in h.family name) (sym here) ∙ over.1.1 in cc)
+          | inr up ↦ default.0.1 over.0 over.1.0 (up, over.1.1) over.3
+        ]) in
         unset ((bits n small).1 ((highs n).1 (present, mark), shown))
       where
         flags_abstract : ℕ → ℕ → Bool
@@ -362,6 +361,7 @@ module _ (h : NumberedFamily) (declared : List Declaration) (start : ℕ) (name 
       default_bit' : (n : ℕ) (e : Declaration) → n < 64 → slice_get declared (start + n) ≡ Some e → Has word n
           → (e.key ≡ key) × IsDefault h.family name c e.member.class e.member.index
       default_bit' n e small at has = default_bit n e small at has
+
       no_default_bit' : (n : ℕ) (e : Declaration) → n < 64 → slice_get declared (start + n) ≡ Some e → e.key ≡ key
           → ¬ Has word n → (k : ℕ) → ¬ IsDefault h.family name c e.member.class k
       no_default_bit' n e small at same unset k = no_default_bit n e small at same unset k

@@ -161,19 +161,18 @@ module _ (family : Family) (declares : ℕ → Option ℕ) (d k n : ℕ) where
     | inl same ↦ (
       omega (arith, within, same, length-set rows class row),
       subst (λ (x : ℕ). Knows family declares (x ∷ []) d k n (known_of (set rows class row) x)) (sym same)
-      (subst (Knows family declares (class ∷ []) d k n)
-      (sym (get_or-set_same rows class row (record { first = 0; covered = 0; present = 0; hidden = 0 }) within)) this),
+          (subst (Knows family declares (class ∷ []) d k n)
+          (sym (get_or-set_same rows class row (record { first = 0; covered = 0; present = 0; hidden = 0 }) within)) this),
     )
     | inr other ↦
         let old = are c (elim (Contains-push_cases done class c among) [
           | inl before ↦ before
           | inr last ↦ absurd (other (sym last))
-        ]) in
-        (
+        ]) in (
           omega (arith, old.0, length-set rows class row),
           subst (Knows family declares (c ∷ []) d k n)
-          (sym (get_or-set_other rows class c row (record { first = 0; covered = 0; present = 0; hidden = 0 }) other))
-          old.1,
+              (sym (get_or-set_other rows class c row (record { first = 0; covered = 0; present = 0; hidden = 0 }) other))
+              old.1,
         )
   ]
 

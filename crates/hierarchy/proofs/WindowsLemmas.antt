@@ -76,14 +76,20 @@ module _ (rows : List Own) (class here same : ℕ) where
 
   pub notes_past : length rows ≤ class → Notes rows rows class here same
   notes_past large = record {
-    here = λ c n small. (λ has. inl has, λ has. elim has [
-      | inl before ↦ before
-      | inr this ↦ absurd (omega (arith, small, large, this.0))
-    ]);
-    same = λ c n small. (λ has. inl has, λ has. elim has [
-      | inl before ↦ before
-      | inr this ↦ absurd (omega (arith, small, large, this.0))
-    ]);
+    here = λ c n small. (
+      λ has. inl has,
+      λ has. elim has [
+        | inl before ↦ before
+        | inr this ↦ absurd (omega (arith, small, large, this.0))
+      ],
+    );
+    same = λ c n small. (
+      λ has. inl has,
+      λ has. elim has [
+        | inl before ↦ before
+        | inr this ↦ absurd (omega (arith, small, large, this.0))
+      ],
+    );
   }
 
 -- ---- one more declaration
@@ -177,11 +183,10 @@ module _ (h : NumberedFamily) (wanted : Wanted) (declared : List Declaration) (s
           let both : Some stands.0 ≡ Some e = sym stands.1 ∙ at in
           let which : stands.0 ≡ e = cc in
           let key : e.key ≡ there.1.key = ap (λ (x : Declaration). x.key) (sym which) ∙ stands.2 in
-          let listed : Contains declared there.1 = contains_at declared there.0 there.1 there.3 in
-          (
+          let listed : Contains declared there.1 = contains_at declared there.0 there.1 there.3 in (
             there.1.member.index,
             ap (wanted_in wanted h.family name) (sym there.4)
-            ∙ (are there.1 listed).there name (subst (AreNumbers h.texts name) key numbers),
+                ∙ (are there.1 listed).there name (subst (AreNumbers h.texts name) key numbers),
           ),
       λ holds.
           let listed = whole name c holds.0 numbers holds.1 in

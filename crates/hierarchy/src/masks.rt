@@ -37,12 +37,7 @@ impl Mask {
     }
 
     /// The same of another name and descriptor, which is mostly the same one.
-    pub(crate) fn changed_to(
-        self,
-        declared: &[Declaration],
-        start: usize,
-        key: MemberKey,
-    ) -> Mask
+    pub(crate) fn changed_to(self, declared: &[Declaration], start: usize, key: MemberKey) -> Mask
         requires start { start ≤ length declared.now }
         requires mask { IsMask declared.now start self }
         ensures key { result.key ≡ key }

@@ -205,12 +205,7 @@ impl Hierarchy {
     }
 
     /// Some references with all declarations of their names and descriptors.
-    fn group(
-        &self,
-        alloc: Global,
-        wanted: Wanted,
-        batch: &[Asked],
-    ) -> Result<Group, AllocError>
+    fn group(&self, alloc: Global, wanted: Wanted, batch: &[Asked]) -> Result<Group, AllocError>
         ensures { IfOk result (IsGroup self.now wanted) }
     {
         let mut group = Group {
@@ -280,7 +275,10 @@ impl Hierarchy {
     {
         let Group { declared, answers } = group;
         let Ways {
-            order, own, rows, ..
+            order,
+            own,
+            rows,
+            ..
         } = ways;
         self.look_at_all(wanted, order, declared, own, rows, answers);
     }

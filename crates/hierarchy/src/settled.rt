@@ -88,7 +88,10 @@ impl Hierarchy {
             → Resolves self.now kind.InterfaceMethod name answer.now
             → result ≡ Some m → AmongInterfaces self.now.family name answer.now.class (given_method m) }
     {
-        if self.find(Wanted::InterfaceMethod, answer.class, key).is_some() {
+        if self
+            .find(Wanted::InterfaceMethod, answer.class, key)
+            .is_some()
+        {
             return None;
         }
         match answer.defaults.only() {

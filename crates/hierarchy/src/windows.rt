@@ -41,13 +41,7 @@ fn bit_of(place: usize, start: usize) -> u64
     ensures { (n : ℕ) → n < 64 → Has result n ↔ (place ≡ start + n) }
 {
     match place.checked_sub(start) {
-        Some(bit) => {
-            if bit < BITS {
-                with_bit(0, bit)
-            } else {
-                0
-            }
-        }
+        Some(bit) => { if bit < BITS { with_bit(0, bit) } else { 0 } }
         None => 0,
     }
 }

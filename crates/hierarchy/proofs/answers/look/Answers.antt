@@ -1,4 +1,4 @@
-use Rattle.std.proofs.Common.{◌≡◌, ◌≢◌, ◌<◌, ◌≤◌, ◌+◌, ℕ, length, get_or, set, sym, subst, arith, inl, inr, ◌∙◌}
+use Rattle.std.proofs.Common.{◌≢◌, ◌<◌, ◌≤◌, ◌+◌, ℕ, length, get_or, set, sym, subst, arith, inl, inr, ◌∙◌}
 use Rattle.std.proofs.lemmas.Bool.{cases_eq}
 use Rattle.std.proofs.lemmas.List.{get_or-set_same, get_or-set_other, length-set}
 use Rattle.hierarchy.specs.steps.Answers.{IsAnswer}
@@ -40,5 +40,6 @@ loop-index-preserved c =
   where
     below : (i index : ℕ) → i ≢ index → i < index + 1 → i < index
     below i index other low = omega (arith, other, low)
+
     above : (i index : ℕ) → index + 1 ≤ i → i ≢ index
     above i index high same = omega (arith, high, same)

@@ -1,6 +1,5 @@
-use Rattle.std.proofs.Common.{◌≡◌, ◌<◌, ◌+◌, ℕ, List, ◌∷◌, [], Option, Some, None, true, IfSome, is_some, slice_get}
-use Rattle.std.proofs.Common.{refl, sym, ap, subst, ◌∙◌, bit_and}
-use Rattle.hierarchy.specs.steps.Answers.{Tells}
+use Rattle.std.proofs.Common.{◌≡◌, ◌<◌, ◌+◌, ℕ, ◌∷◌, [], Option, Some, IfSome, slice_get}
+use Rattle.std.proofs.Common.{sym, subst, ◌∙◌, bit_and}
 use Rattle.hierarchy.specs.steps.DeclarationBits.{Has, Knows}
 use Rattle.hierarchy.specs.steps.Declarations.{AreDeclared}
 use Rattle.hierarchy.specs.steps.HierarchyTables.{wanted_in}
@@ -31,8 +30,8 @@ returns c =
           let before = c.requires.answer.tells name numbers in
           let declares : ℕ → Option ℕ = wanted_in c.args.wanted h.family name in
           let told : (n : ℕ) (e : Declaration) → n < 64 → slice_get declared (start + n) ≡ Some e
-              → AreNumbers h.texts name e.key
-              → Knows h.family declares (answer.class ∷ []) e.member.class e.member.index n known =
+          → AreNumbers h.texts name e.key
+          → Knows h.family declares (answer.class ∷ []) e.member.class e.member.index n known =
           λ n e small at is. c.requires.told n e name small at is in
           record {
             first = λ m is. elim c.match-answer.branch [

@@ -1,4 +1,4 @@
-use Rattle.std.proofs.Common.{◌≡◌, ◌<◌, ◌≤◌, ◌+◌, ℕ, take, ap, subst, arith}
+use Rattle.std.proofs.Common.{◌+◌, ℕ, take, subst, arith}
 use Rattle.hierarchy.specs.MemberLookup.{IsDefault}
 use Rattle.hierarchy.specs.steps.Answers.{classes_with}
 use Rattle.hierarchy.specs.steps.Defaults.{AreFound}

@@ -1,5 +1,5 @@
-use Rattle.std.proofs.Common.{◌≡◌, ℕ, List, subst}
-use Rattle.hierarchy.specs.steps.DeclarationBits.{AreKnown, Knows}
+use Rattle.std.proofs.Common.{ℕ, List, subst}
+use Rattle.hierarchy.specs.steps.DeclarationBits.{Knows}
 use Rattle.hierarchy.proofs.KnownLemmas.{known_next}
 use Rattle.hierarchy.proofs.ways.fill_class.Goals as goal
 

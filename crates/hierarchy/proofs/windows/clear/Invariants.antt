@@ -1,5 +1,5 @@
 use Rattle.std.proofs.Common.{◌≡◌, ℕ, ◌<◌, length}
-use Rattle.hierarchy.specs.steps.DeclarationBits.{Has, own_of}
+use Rattle.hierarchy.specs.steps.DeclarationBits.{own_of}
 use Rattle.hierarchy.proofs.windows.clear.Given as goal
 
 abbrev pub invariant-loop-class : goal.invariant-loop-class

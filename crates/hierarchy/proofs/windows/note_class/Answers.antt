@@ -1,4 +1,4 @@
-use Rattle.hierarchy.proofs.WindowsLemmas.{notes_there, notes_past}
+use Rattle.hierarchy.proofs.WindowsLemmas.{notes_there}
 use Rattle.hierarchy.proofs.windows.note_class.Goals as goal
 
 pub returns-then-class-own-clause-notes : goal.returns-then-class-own-clause-notes

@@ -2,7 +2,7 @@ use Rattle.std.proofs.Common.{ℕ, List, take, sym, subst, inl, inr}
 use Rattle.std.specs.List.{Contains}
 use Rattle.std.proofs.lemmas.List.{take_all}
 use Rattle.std.proofs.lemmas.List.Elements.{Contains-append_cases}
-use Rattle.hierarchy.specs.steps.Reaches.{class_noted, classes_noted}
+use Rattle.hierarchy.specs.steps.Reaches.{classes_noted}
 use Rattle.hierarchy.specs.declared.reach_table.Reach.{Reach}
 use Rattle.hierarchy.proofs.DeclarationsLemmas.{goes_on, listed_still}
 use Rattle.hierarchy.proofs.NotedLemmas.{noted_next}

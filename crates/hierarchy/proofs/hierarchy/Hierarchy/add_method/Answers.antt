@@ -1,4 +1,4 @@
-use Rattle.std.proofs.Common.{◌≡◌, ℕ, Option, subst}
+use Rattle.std.proofs.Common.{ℕ, Option, subst}
 use Rattle.built_in.specs.Keys.{NameAndType}
 use Rattle.built_in.specs.declared.class_id.ClassId.TheVariants as class_ids
 use Rattle.hierarchy.specs.Resolution.{ResolvesMethod}

@@ -1,4 +1,4 @@
-use Rattle.std.proofs.Common.{◌<◌, ◌≤◌, ◌-◌, length}
+use Rattle.std.proofs.Common.{◌≤◌, ◌-◌, length}
 use Rattle.hierarchy.proofs.hierarchy.Hierarchy.batch_length.Given as goal
 
 abbrev pub invariant-loop-count : goal.invariant-loop-count

@@ -1,13 +1,12 @@
-use Rattle.std.proofs.Common.{◌≡◌, ◌<◌, ◌≤◌, ◌+◌, ℕ, List, Option, Some, ◌∷◌, [], length, take, get_or, sym, ap, subst}
+use Rattle.std.proofs.Common.{◌≡◌, ◌<◌, ◌+◌, ℕ, Option, Some, ◌∷◌, [], length, take, get_or, sym, ap, subst}
 use Rattle.std.proofs.Common.{arith, ◌∙◌}
 use Rattle.std.specs.List.{Contains}
 use Rattle.std.proofs.lemmas.Option.{slice_get-get_or}
 use Rattle.loading.proofs.PlaceLemmas.{contains_at}
 use Rattle.loading.specs.Families.{Family}
 use Rattle.hierarchy.specs.steps.Answers.{classes_with}
-use Rattle.hierarchy.specs.steps.DeclarationBits.{IsOwn, Knows, known_of, own_of}
+use Rattle.hierarchy.specs.steps.DeclarationBits.{Knows, known_of}
 use Rattle.hierarchy.specs.steps.HierarchyTables.{wanted_in}
-use Rattle.hierarchy.specs.declared.declarations.Declaration.{Declaration}
 use Rattle.hierarchy.specs.declared.wanted.Wanted.{Wanted}
 use Rattle.hierarchy.proofs.AnswersLemmas.{default_told, has_taken}
 use Rattle.hierarchy.proofs.WindowsLemmas.{own_noted}
@@ -26,8 +25,12 @@ look-requires-clause-told c = λ n e name class fits at numbers small.
     ((c.requires.declared e listed).there name numbers)
     (λ x low. own_noted h c.args.wanted declared start (length declared) c.note.new.own (omega arith)
     c.requires.declared c.note.ensures.noted n fits e at name numbers (c.requires.wholes e listed) x
-    (omega (arith, subst (λ (f : Family). x < length f) c.family.ensures low, c.note.ensures.len,
-    c.loop-start.invariant.own)))
+    (omega (
+      arith,
+      subst (λ (f : Family). x < length f) c.family.ensures low,
+      c.note.ensures.len,
+      c.loop-start.invariant.own,
+    )))
     (subst (λ (f : Family). class < length f) (sym c.family.ensures) small))
 
 pub returns-clause-resolved : goal.returns-clause-resolved

@@ -1,4 +1,4 @@
-use Rattle.std.proofs.Common.{◌≡◌, ◌<◌, ◌+◌, ◌↔◌, ◌⊎◌, ℕ, Some, true, slice_get, refl, sym, subst, arith, ◌∙◌}
+use Rattle.std.proofs.Common.{◌≡◌, ◌+◌, ◌↔◌, ◌⊎◌, ℕ, refl, sym, subst, arith, ◌∙◌}
 use Rattle.hierarchy.specs.steps.DeclarationBits.{Has, HasKey, IsAt, IsCoded}
 use Rattle.hierarchy.specs.declared.declarations.Declaration.{Declaration}
 use Rattle.hierarchy.specs.declared.member_index.MemberKey.{MemberKey}
@@ -52,14 +52,12 @@ returns c =
       key = was.key;
       mask = record {
         same = λ n small. subst (λ (k : MemberKey). Has mask.same n
-            ↔ IsAt c.args.declared.now (c.args.start + n) (HasKey k)) (sym was.key)
-            (
+            ↔ IsAt c.args.declared.now (c.args.start + n) (HasKey k)) (sym was.key) (
               λ has. ((was.same n small).0 has).1,
               λ there. (was.same n small).1 (omega (arith, small, c.loop-bit-test.false), there),
             );
         coded = λ n small. subst (λ (k : MemberKey). Has mask.coded n
-            ↔ IsAt c.args.declared.now (c.args.start + n) (IsCoded k)) (sym was.key)
-            (
+            ↔ IsAt c.args.declared.now (c.args.start + n) (IsCoded k)) (sym was.key) (
               λ has. ((was.coded n small).0 has).1,
               λ there. (was.coded n small).1 (omega (arith, small, c.loop-bit-test.false), there),
             );
