@@ -117,12 +117,14 @@ module _ (key : MemberKey) where
       let both : Some x ≡ Some e = at in
       let is : x ≡ e = cc in
       subst (λ (y : Declaration). Contains (classes_with key (x ∷ xs)) y.member.class) is
-      (subst (λ (b : Bool). Contains (cond b (x.member.class ∷ classes_with key xs) (classes_with key xs)) x.member.class)
+      (subst (λ (b : Bool). Contains (cond b (x.member.class ∷ classes_with key xs) (classes_with key xs))
+      x.member.class)
       (sym (ap (λ (k : MemberKey). same_key k key) (ap (λ (y : Declaration). y.key) is ∙ same) ∙ same_key_itself key))
       (in_front x.member.class (classes_with key xs)))
   has_with (x ∷ xs) (suc p) e at same = by (has_with xs p e at same) (same_key x.key key)
     where
-      by : Contains (classes_with key xs) e.member.class → (b : Bool) → Contains (cond b (x.member.class ∷ classes_with key xs) (classes_with key xs)) e.member.class
+      by : Contains (classes_with key xs) e.member.class → (b : Bool)
+          → Contains (cond b (x.member.class ∷ classes_with key xs) (classes_with key xs)) e.member.class
       by rest true = in_rest x.member.class (classes_with key xs) e.member.class rest
       by rest false = rest
 

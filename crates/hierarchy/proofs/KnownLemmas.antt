@@ -22,6 +22,9 @@ use Rattle.hierarchy.proofs.AmongLemmas.{found_in_front, read_at}
 use Rattle.hierarchy.proofs.WordLemmas.{set_or_not, either, either_left, either_right, both, no_bit}
 use Rattle.hierarchy.proofs.WalksOrderLemmas.{none_in_empty}
 
+abbrev no_bits : Known
+no_bits = record { first = 0; covered = 0; present = 0; hidden = 0 }
+
 module _ (family : Family) (declares : ℕ → Option ℕ) (d k n : ℕ) where
   none_among : (i : ℕ) → ¬ IsAmongOrAbove family [] i
   none_among i (inl here) = none_in_empty i here
@@ -162,7 +165,7 @@ module _ (family : Family) (declares : ℕ → Option ℕ) (d k n : ℕ) where
       omega (arith, within, same, length-set rows class row),
       subst (λ (x : ℕ). Knows family declares (x ∷ []) d k n (known_of (set rows class row) x)) (sym same)
           (subst (Knows family declares (class ∷ []) d k n)
-          (sym (get_or-set_same rows class row (record { first = 0; covered = 0; present = 0; hidden = 0 }) within)) this),
+          (sym (get_or-set_same rows class row no_bits within)) this),
     )
     | inr other ↦
         let old = are c (elim (Contains-push_cases done class c among) [
@@ -171,7 +174,7 @@ module _ (family : Family) (declares : ℕ → Option ℕ) (d k n : ℕ) where
         ]) in (
           omega (arith, old.0, length-set rows class row),
           subst (Knows family declares (c ∷ []) d k n)
-              (sym (get_or-set_other rows class c row (record { first = 0; covered = 0; present = 0; hidden = 0 }) other))
+              (sym (get_or-set_other rows class c row no_bits other))
               old.1,
         )
   ]

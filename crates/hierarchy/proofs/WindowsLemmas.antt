@@ -147,7 +147,8 @@ module _ (declared : List Declaration) (start : ℕ) where
                   let which : there.1 ≡ e = one there.1 there.0 same there.3 in
                   inr (
                     sym there.4 ∙ ap (λ (x : Declaration). x.member.class) which,
-                    (stands n small).1 (subst (λ (y : Declaration). IsAt declared (start + n) (HasKey y.key)) which there.5),
+                    (stands n small).1
+                        (subst (λ (y : Declaration). IsAt declared (start + n) (HasKey y.key)) which there.5),
                   )
               | inr other ↦ inl ((are.same n c small low).1
                   (there.0, there.1, below there.0 other there.2, there.3, there.4, there.5))

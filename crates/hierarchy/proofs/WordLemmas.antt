@@ -1,5 +1,6 @@
 -- Bits of words, and what they tell of a declaration.
-use Rattle.std.proofs.Common.{◌≡◌, ◌≢◌, ◌↔◌, ◌⊎◌, ℕ, ◌<◌, ◌-◌, ◌*◌, ◌%◌, ◌^◌, min, max, inl, inr, sym, ap, ◌∙◌, subst, arith, w64, bit_and}
+use Rattle.std.proofs.Common.{◌≡◌, ◌≢◌, ◌↔◌, ◌⊎◌, ℕ, ◌<◌, ◌*◌, ◌%◌, ◌^◌, inl, inr, sym, ◌∙◌, subst, arith, w64}
+use Rattle.std.proofs.Common.{bit_and}
 use Rattle.std.specs.Prelude.{bit_or}
 use Rattle.std.specs.Int.{bit_at, bit_not, trailing_zeros}
 use Rattle.std.proofs.lemmas.Bool.{cases_eq}

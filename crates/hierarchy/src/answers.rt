@@ -1,7 +1,7 @@
 //! What references resolve to, by what is known of the declarations of their names and descriptors from class to class
 //! (JVMS 5.4.3.2 to 5.4.3.4).
 
-ghost use Rattle.std.specs.Prelude.{◌≡◌, ◌<◌, ◌≤◌, ◌+◌, ◌∷◌, [], ℕ, List, Option, Some, None, true, length, take, slice_get};
+ghost use Rattle.std.specs.Prelude.{◌≡◌, ◌<◌, ◌≤◌, ◌+◌, ◌∷◌, [], ℕ, List, Some, None, true, length, take, slice_get};
 ghost use Rattle.built_in.specs.Keys.{NameAndType};
 ghost use Rattle.loading.specs.Families.{Family as Classes};
 ghost use Rattle.hierarchy.specs.MemberLookup.{IsDefault};

@@ -1,8 +1,9 @@
 //! References that are resolved before they are asked for, those of some names and descriptors together (JVMS 5.4.3.2
 //! to 5.4.3.4).
 //!
-//! For names and descriptors that an interface declares, what is known of 64 of their declarations is found of all classes
-//! in one way through them. That takes the place of a walk up for each reference, wherever these walks would be longer.
+//! For names and descriptors that an interface declares, what is known of 64 of their declarations is found of all
+//! classes in one way through them. That takes the place of a walk up for each reference, wherever these walks would be
+//! longer.
 
 ghost use Rattle.std.specs.Prelude.{◌≡◌, length, IfOk, IsTrue, OnOk};
 ghost use Rattle.std.specs.List.{Contains};

@@ -1,6 +1,6 @@
 -- Declarations of members, up to 64 of them side by side with a bit each (JVMS 5.4.3.2 to 5.4.3.4).
-use Rattle.std.specs.Prelude.{◌≡◌, ◌↔◌, ◌⊎◌, ◌<◌, ◌+◌, ℕ, true, not, List, [], ◌∷◌, Option, Some, None, slice_get, length}
-use Rattle.std.specs.Prelude.{slice_index_or}
+use Rattle.std.specs.Prelude.{◌≡◌, ◌↔◌, ◌<◌, ◌+◌, ℕ, true, List, [], ◌∷◌, Option, Some, None, slice_get}
+use Rattle.std.specs.Prelude.{length, slice_index_or}
 use Rattle.std.specs.Int.{bit_at}
 use Rattle.std.specs.List.{Contains}
 use Rattle.loading.specs.Families.{Family, IsAncestor}

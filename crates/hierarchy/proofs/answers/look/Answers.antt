@@ -23,7 +23,8 @@ loop-index-preserved c =
       mask = c.changed_to-mask.ensures.mask;
       done = λ i d low. elim (cases_eq i index) [
         | inl same ↦
-            subst (λ (j : ℕ). IsAnswer h c.args.wanted declared (c.args.start + 64) (get_or (set answers index answer) j d))
+            subst (λ (j : ℕ). IsAnswer h c.args.wanted declared (c.args.start + 64)
+            (get_or (set answers index answer) j d))
             (sym same)
             (subst (IsAnswer h c.args.wanted declared (c.args.start + 64))
             (sym (get_or-set_same answers index answer d small)) c.look_at.ensures)
@@ -35,7 +36,8 @@ loop-index-preserved c =
       rest = λ i d high within.
           subst (IsAnswer h c.args.wanted declared c.args.start)
           (sym (get_or-set_other answers index i answer d (above i index high)))
-          (c.loop-index.invariant.rest i d (omega (arith, high)) (omega (arith, within, length-set answers index answer)));
+          (c.loop-index.invariant.rest i d (omega (arith, high))
+          (omega (arith, within, length-set answers index answer)));
     }
   where
     below : (i index : ℕ) → i ≢ index → i < index + 1 → i < index

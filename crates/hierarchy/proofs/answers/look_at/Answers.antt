@@ -62,7 +62,8 @@ returns c =
                   (subst (λ (k : Wanted). AreDeclared h k declared) kind c.requires.declared)
                   (subst (λ (k : Wanted). (n : ℕ) (e : Declaration) → n < 64
                   → slice_get declared (start + n) ≡ Some e → AreNumbers h.texts name e.key
-                  → Knows h.family (wanted_in k h.family name) (answer.class ∷ []) e.member.class e.member.index n known)
+                  → Knows h.family (wanted_in k h.family name) (answer.class ∷ []) e.member.class e.member.index n
+                  known)
                   kind told)
                   (λ n small. w.without-in-InterfaceMethod.ensures n small)
                   (λ n. both known.present mask.coded n))

@@ -19,7 +19,8 @@ returns-clause-goes c =
       member = record { class = c.in-Some.member.class; index = c.in-Some-find.index };
       coded = c.has_code.result;
     } in
-    subst (Goes h c.args.wanted c.args.key old) (sym c.in_ok-push.ensures.items) (goes_one h c.args.wanted c.args.key old e refl c.requires
+    subst (Goes h c.args.wanted c.args.key old) (sym c.in_ok-push.ensures.items)
+    (goes_one h c.args.wanted c.args.key old e refl c.requires
     (record {
       there = λ name numbers. sym (c.in-Some-find.ensures name numbers);
       code = c.has_code.ensures;

@@ -30,7 +30,8 @@ loop-bit-preserved c =
           let same = bits_next declared start bit (HasKey key) c.loop-bit.mask.same was.same w.and-mask.result.same e at
           (subst (λ (k : MemberKey). (n : ℕ) → Has w.and-mask.result.same n
           ↔ (Has c.loop-bit.mask.same n ⊎ ((n ≡ bit) × HasKey k e))) was.key w.and-mask.ensures.same) in
-          let coded = bits_next declared start bit (IsCoded key) c.loop-bit.mask.coded was.coded w.and-mask.result.coded e at
+          let coded = bits_next declared start bit (IsCoded key) c.loop-bit.mask.coded was.coded w.and-mask.result.coded
+          e at
           (subst (λ (k : MemberKey). (n : ℕ) → Has w.and-mask.result.coded n
           ↔ (Has c.loop-bit.mask.coded n ⊎ ((n ≡ bit) × IsCoded k e))) was.key
           w.and-mask.ensures.coded) in
