@@ -1,5 +1,6 @@
 -- What the layers below refuse, as refusals.
-use Rattle.std.proofs.Common.{◌≡◌, ◌≢◌, ℕ, ◌+◌, ◌<◌, ◌⊎◌, inl, inr, List, [], ◌∷◌, ◌++◌, length, map, take, Some, get_or}
+use Rattle.std.proofs.Common.{◌≡◌, ◌≢◌, ℕ, ◌+◌, ◌<◌, ◌⊎◌, inl, inr, List, [], ◌∷◌, ◌++◌, length, map, take, Some}
+use Rattle.std.proofs.Common.{get_or}
 use Rattle.std.proofs.Common.{slice_get, sym, ap, subst, refl, ◌∙◌, Vec, append-nil}
 use Rattle.std.specs.List.{AllZip, flat_map}
 use Rattle.std.proofs.lemmas.Grind.{flat_map-append}
@@ -45,7 +46,8 @@ pub unlinkable_by : (files : List ClassFile) (fault : LinkFault) (r : Refusal)
     → (fault ≢ link_faults.Memory → r ≡ Link fault) → (r ≡ Memory) ⊎ IsUnlinkable files r
 unlinkable_by files fault r (inl e) memory other = inl (memory e)
 unlinkable_by files fault r (inr fails) memory other =
-    inr (subst (λ (x : Refusal). IsUnlinkable files x) (sym (other (is_no_memory files fault fails))) (unlinkable fails))
+    inr (subst (λ (x : Refusal). IsUnlinkable files x) (sym (other (is_no_memory files fault fails)))
+    (unlinkable fails))
 
 pub refused_by : (P : Tables) (names : List (List ℕ)) (fault : EntryFault) (r : Refusal)
     → (fault ≡ entry_faults.Memory) ⊎ EntriesFail P names fault → (fault ≡ entry_faults.Memory → r ≡ Memory)
@@ -57,7 +59,8 @@ refused_by P names fault r (inr fails) memory other =
 
 -- ---- class files one by one
 
-pub files_more : {A : Type 0} (files : List (Vec ℕ A)) (i : ℕ) (d file : Vec ℕ A) (c : ClassFile) (old new : List ClassFile)
+pub files_more : {A : Type 0} (files : List (Vec ℕ A)) (i : ℕ) (d file : Vec ℕ A) (c : ClassFile)
+    (old new : List ClassFile)
     → i < length files → file ≡ get_or files i d → new ≡ old ++ c ∷ [] → IsClassText file.items c
     → AreClassFiles (texts_of (take i files)) old → AreClassFiles (texts_of (take (i + 1) files)) new
 files_more {A} files i d file c old new within read pushed text all =

@@ -11,7 +11,8 @@ use Rattle.loading.specs.Families.{name_in}
 use Rattle.program.specs.Tables.{Tables, main_in}
 use Rattle.init_engine.specs.declared.fault.EntryFault.{EntryFault}
 use Rattle.init_engine.specs.declared.fault.EntryFault.TheVariants.{Memory, Unknown, NoMain}
-use Rattle.init_engine.specs.Starts.{AreEntries, IsAtFault, IsFirstAtFault, EntriesFail, first, count, IsEntryCount, IsCountFault}
+use Rattle.init_engine.specs.Starts.{AreEntries, IsAtFault, IsFirstAtFault, EntriesFail, first, count, IsEntryCount}
+use Rattle.init_engine.specs.Starts.{IsCountFault}
 use Rattle.init_engine.specs.Starts.{unknown, no_main}
 
 pub pairs_more : {A B : Type 0} (R : A → B → Type 0) (xs : List A) (i : ℕ) (d x : A) (y : B) (old new : List B)

@@ -1,5 +1,6 @@
 -- Whether a thread has a step, by where it stands, and whether threads have one after the other.
-use Rattle.std.proofs.Common.{◌≡◌, ℕ, ◌+◌, ◌<◌, ◌≤◌, Bool, true, false, not, cond, ◌⊎◌, inl, inr, List, [], ◌∷◌, Option, Some, None, refl}
+use Rattle.std.proofs.Common.{◌≡◌, ℕ, ◌+◌, ◌<◌, ◌≤◌, Bool, true, false, not, cond, ◌⊎◌, inl, inr, List, [], ◌∷◌}
+use Rattle.std.proofs.Common.{Option, Some, None, refl}
 use Rattle.std.proofs.Common.{sym, ap, subst, slice_get, length, arith}
 use Rattle.std.specs.Prelude.{is_some, IsSome}
 use Rattle.std.proofs.lemmas.Option.{slice_get_past}
@@ -133,7 +134,8 @@ rest_at P threads i s at Ended (over, none) =
     (not_going _ (over_at threads i s.thread at over), has_no_step P threads i s at none)
 rest_at P threads i s at Stuck (going, none) = (goes_at threads i s.thread at going, has_no_step P threads i s at none)
 rest_at P threads i s at Going some =
-    subst (λ (o : Option World). IsSome o) (sym (stepping P threads i s at)) (put_some (world_with threads s.shared s.printed) i (stepped P i s) some)
+    subst (λ (o : Option World). IsSome o) (sym (stepping P threads i s at))
+    (put_some (world_with threads s.shared s.printed) i (stepped P i s) some)
 
 -- ---- one more thread
 

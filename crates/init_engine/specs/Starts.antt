@@ -49,7 +49,8 @@ pub record IsFirstAtFault (P : Tables) (names : List (List ℕ)) (fault : EntryF
   pub here : slice_get names place ≡ Some name
   pub wrong : IsAtFault P name place fault
 
--- why entries can't be run, but for want of memory: there are too few or too many, or the first of them that is at fault
+-- why entries can't be run, but for want of memory: there are too few or too many, or the first of them that is at
+-- fault
 pub data EntriesFail (P : Tables) (names : List (List ℕ)) : EntryFault → Type 0 where
   count : {fault : EntryFault} → IsCountFault (length names) fault → EntriesFail P names fault
   first : {fault : EntryFault} → IsEntryCount (length names) → IsFirstAtFault P names fault

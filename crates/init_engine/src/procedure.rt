@@ -11,7 +11,8 @@ ghost use Rattle.semantics.specs.Steps.{Going, standing, initialization_of, fini
 ghost use Rattle.machine.specs.Failures.{failure};
 ghost use Rattle.machine.specs.Linked.{program_of, initializer_frame};
 ghost use Rattle.program.specs.Tables.{statics_in};
-ghost use Rattle.init_engine.specs.steps.Progress.{Stands, Steps, StaysPut, left_by_step};
+ghost use Rattle.init_engine.specs.steps.Progress.{HasRoomFor, PrintsNothing, Stands, Steps, StaysPut};
+ghost use Rattle.init_engine.specs.steps.Progress.{left_by_step};
 
 use machine::entering::initializer_frame;
 use machine::failing::fail;
@@ -22,7 +23,7 @@ use vm_state::classes::{ClassState, Usability};
 use vm_state::ends::End;
 use vm_state::initialization::{Frames, Initialization, Parents};
 use vm_state::shared::Shared;
-use vm_state::text::Text;
+use vm_state::text::{Line, Text};
 use vm_state::value::Name;
 
 /// What a step of a thread did.
@@ -65,6 +66,8 @@ fn begin(
         } ∷ levels_of frames.old) }
     ensures err { OnErr result ((frames.new ≡ frames.old) × (SharesTheSame shared.old shared.new)) }
 {
+    let statics = program.statics(class);
+    shared.keep(alloc, class, statics.len())?;
     let left = Parents::of(alloc, program.init_order(class))?;
     let thread = frames.thread;
     frames.enter(
@@ -76,13 +79,8 @@ fn begin(
             pending: None,
         },
     )?;
-    match shared.begin(alloc, class, thread, program.statics(class)) {
-        Ok(()) => Ok(()),
-        Err(error) => {
-            frames.leave();
-            Err(error)
-        }
-    }
+    shared.begin(class, thread, statics);
+    Ok(())
 }
 
 /// The step in which a thread begins the initialization of a class.
@@ -104,26 +102,31 @@ fn step_begin(
               segment_of frames.old;
         } ∷ levels_of frames.old) }
     ensures err { OnErr result ((frames.new ≡ frames.old) × (SharesTheSame shared.old shared.new)) }
+    ensures silent { IfOk result PrintsNothing }
 {
     begin(alloc, program, frames, shared, class)?;
     Ok(Progress::Moved)
 }
 
-/// An instruction, or the begin that it needs, of a thread on top of whose stack a frame stands.
+/// An instruction, or the begin that it needs, of a thread on top of whose stack a frame stands. Where it prints, the
+/// list of lines has room for one more.
 #[tactic(auto, using(crate::proofs::FrameSteps::frame_steps))]
 fn step_frame(
     alloc: Global,
     program: &Program,
     frames: &mut Frames,
     shared: &mut Shared,
+    printed: &mut Vec<Line>,
 ) -> Result<Progress, AllocError>
     requires { IsSome frames.old.segment }
     ensures thread { frames.new.thread ≡ frames.old.thread }
     ensures steps { IfOk result (λ r. Steps (program_of program.now) frames.old shared.old r frames.new shared.new) }
     ensures stays { IfOk result (λ r. StaysPut r frames.old frames.new shared.old shared.new) }
     ensures err { OnErr result ((frames.new ≡ frames.old) × (SharesTheSame shared.old shared.new)) }
+    ensures printed { printed.new.items ≡ printed.old.items }
+    ensures room { IfOk result (λ r. HasRoomFor r printed.new) }
 {
-    match effect(alloc, program, frames, shared)? {
+    match effect(alloc, program, frames, shared, printed)? {
         Effect::Next | Effect::Raise => Ok(Progress::Moved),
         Effect::Needs(class) => {
             begin(alloc, program, frames, shared, class)?;
@@ -150,8 +153,10 @@ fn finish(
         ≡ Some (finishes (shared_of shared.old p) class l.under ls)) }
     ensures stays { IfOk result (λ r. StaysPut r frames.old frames.new shared.old shared.new) }
     ensures err { OnErr result ((frames.new ≡ frames.old) × (SharesTheSame shared.old shared.new)) }
+    ensures silent { IfOk result PrintsNothing }
 {
-    shared.set_state(alloc, class, ClassState::Initialized)?;
+    shared.keep(alloc, class, 0)?;
+    shared.replace_state(class, ClassState::Initialized);
     frames.leave();
     match end_of(frames) {
         Some(end) => Ok(Progress::Ended(end)),
@@ -178,6 +183,7 @@ fn step_fail(
         ≡ left_by_step r frames.old.thread frames.new (shared_of shared.new p)) }
     ensures stays { IfOk result (λ r. StaysPut r frames.old frames.new shared.old shared.new) }
     ensures err { OnErr result ((frames.new ≡ frames.old) × (SharesTheSame shared.old shared.new)) }
+    ensures silent { IfOk result PrintsNothing }
 {
     match fail(alloc, program, frames, shared, class, cause) {
         Ok(Some(end)) => Ok(Progress::Ended(end)),
@@ -204,6 +210,7 @@ fn initialize(
         (initializer_frame program.now class))) }
     ensures stays { IfOk result (λ r. StaysPut r frames.old frames.new shared.old shared.new) }
     ensures err { OnErr result ((frames.new ≡ frames.old) × (SharesTheSame shared.old shared.new)) }
+    ensures silent { IfOk result PrintsNothing }
 {
     match initializer_frame(alloc, program, class)? {
         Some(frame) => {
@@ -228,6 +235,7 @@ fn step_initialization(
     ensures steps { IfOk result (λ r. Steps (program_of program.now) frames.old shared.old r frames.new shared.new) }
     ensures stays { IfOk result (λ r. StaysPut r frames.old frames.new shared.old shared.new) }
     ensures err { OnErr result ((frames.new ≡ frames.old) × (SharesTheSame shared.old shared.new)) }
+    ensures silent { IfOk result PrintsNothing }
 {
     let Some(levels) = &frames.levels else {
         unreachable!()
@@ -257,7 +265,8 @@ fn step_initialization(
     }
 }
 
-/// One step of a thread (JVMS 5.5). Where there is none nothing changes.
+/// One step of a thread (JVMS 5.5). Where there is none nothing changes. Where it prints, the list of lines has room
+/// for one more.
 ///
 /// # Errors
 /// `AllocError` where memory is refused; nothing has changed then.
@@ -267,14 +276,17 @@ pub fn step_thread(
     program: &Program,
     frames: &mut Frames,
     shared: &mut Shared,
+    printed: &mut Vec<Line>,
 ) -> Result<Progress, AllocError>
     ensures thread { frames.new.thread ≡ frames.old.thread }
     ensures steps { IfOk result (λ r. Steps (program_of program.now) frames.old shared.old r frames.new shared.new) }
     ensures stays { IfOk result (λ r. StaysPut r frames.old frames.new shared.old shared.new) }
     ensures err { OnErr result ((frames.new ≡ frames.old) × (SharesTheSame shared.old shared.new)) }
+    ensures printed { printed.new.items ≡ printed.old.items }
+    ensures room { IfOk result (λ r. HasRoomFor r printed.new) }
 {
     if frames.segment.is_some() {
-        return step_frame(alloc, program, frames, shared);
+        return step_frame(alloc, program, frames, shared, printed);
     }
     if frames.levels.is_some() {
         return step_initialization(alloc, program, frames, shared);

@@ -1,7 +1,6 @@
 //! Worlds: threads, what they share, and what they printed.
 
-ghost use Rattle.std.specs.Prelude.{◌≡◌, ◌+◌, ◌<◌, ◌≤◌, ◌++◌, replicate, ◌∷◌, [], ℕ, List, length, map, vec_len};
-ghost use Rattle.std.specs.Prelude.{vec_capacity};
+ghost use Rattle.std.specs.Prelude.{◌≡◌, ◌<◌, ◌≤◌, replicate, ◌∷◌, [], ℕ, List, length, map};
 ghost use Rattle.std.specs.Prelude.{IfOk, OnOk, OnErr, Some, None};
 ghost use Rattle.vm_state.specs.declared.text.Line.{Line};
 ghost use Rattle.vm_state.specs.Shares.{shared_of, SharesTheSame};
@@ -86,7 +85,6 @@ fn take_turn(
     printed: &mut Vec<Line>,
 ) -> Result<Turn, AllocError>
     requires number { HasNumber thread.old number }
-    requires room { vec_len printed.old + 1 ≤ vec_capacity printed.old }
     ensures number { HasNumber thread.new number }
     ensures turn { IfOk result
         (λ turn. IsTurnOf (program_of program.now) number turn (view_of thread.old shared.old printed.old.items)
@@ -98,7 +96,7 @@ fn take_turn(
     let Thread::Going(frames) = thread else {
         return Ok(Turn::Ended);
     };
-    match step_thread(alloc, program, frames, shared)? {
+    match step_thread(alloc, program, frames, shared, printed)? {
         Progress::Moved => Ok(Turn::Moved),
         Progress::Printed(text) => {
             let line = Line {
@@ -231,7 +229,6 @@ impl World {
         ensures threads { length self.new.threads ≡ length self.old.threads }
         ensures err { OnErr result (world_of self.new ≡ world_of self.old) }
     {
-        self.printed.reserve(1)?;
         let stepping = &mut self.threads[thread as usize];
         let turn = take_turn(
             alloc,

@@ -35,7 +35,7 @@ module _ {S T : Type 0} (state : S → List Line → T) where
   kept_by_same (Ok (Becomes g)) s = tt
   kept_by_same (Ok (Calls callee arguments)) s = λ p. refl
   kept_by_same (Ok (Returns value)) s = tt
-  kept_by_same (Ok (Prints text)) s = tt
+  kept_by_same (Ok (Prints text operands)) s = λ p. refl
   kept_by_same (Ok (Raises x class)) s = tt
   kept_by_same (Ok (Halts kind)) s = tt
   kept_by_same (Err stop) s = kept_same stop s
@@ -46,7 +46,7 @@ untouched_as (Ok Stays) old new same = tt
 untouched_as (Ok (Becomes g)) old new same = tt
 untouched_as (Ok (Calls callee arguments)) old new same = same
 untouched_as (Ok (Returns value)) old new same = tt
-untouched_as (Ok (Prints text)) old new same = tt
+untouched_as (Ok (Prints text operands)) old new same = same
 untouched_as (Ok (Raises x class)) old new same = same
 untouched_as (Ok (Halts kind)) old new same = tt
 untouched_as (Err stop) old new same = same

@@ -1,12 +1,13 @@
 //! One instruction of a thread.
 
-ghost use Rattle.std.specs.Prelude.{◌≡◌, ◌∷◌, ℕ, List, IfOk, OnOk, OnErr, IsSome, Some, None, Ok};
+ghost use Rattle.std.specs.Prelude.{◌≡◌, ◌<◌, ◌∷◌, ℕ, List, IfOk, OnOk, OnErr, IsSome, Some, None, Ok};
+ghost use Rattle.std.specs.Prelude.{vec_len, vec_capacity};
 ghost use Rattle.vm_state.specs.declared.frame.Frame.{Frame};
 ghost use Rattle.vm_state.specs.declared.text.Line.{Line};
 ghost use Rattle.vm_state.specs.Shares.{shared_of, SharesTheSame};
 ghost use Rattle.vm_state.specs.Stacks.{levels_of};
 ghost use Rattle.program.specs.Tables.{Tables};
-ghost use Rattle.semantics.specs.Moves.{received, unwound, with_operands, Throw};
+ghost use Rattle.semantics.specs.Moves.{advanced, received, unwound, with_operands, Throw};
 ghost use Rattle.machine.specs.Linked.{program_of};
 ghost use Rattle.semantics.specs.Rows.{Moved, Next, Raise, Returns, Result as Led, run_row};
 ghost use Rattle.semantics.specs.Steps.{maker_of};
@@ -19,7 +20,7 @@ ghost use Rattle.machine.specs.Accesses.{Kept, KeptBy, Untouched, concluded, unl
 ghost use Rattle.vm_state.specs.declared.initialization.Frames.{Frames};
 ghost use Rattle.vm_state.specs.declared.initialization.Level.{Level};
 ghost use Rattle.machine.specs.Sharing.{stopped_shared};
-ghost use Rattle.machine.specs.Effects.{IsStep, IsStopped, IsEffect, Stays};
+ghost use Rattle.machine.specs.Effects.{HasRoom, IsStep, IsStopped, IsEffect, PrintsNothing, Stays};
 
 use crate::execute::execute;
 use crate::kinds::{Actor, Conclusion, Effect, Stop};
@@ -32,6 +33,7 @@ use vm_state::ends::{End, FaultKind};
 use vm_state::frame::{Frame, FrameList, Segment};
 use vm_state::initialization::Frames;
 use vm_state::shared::Shared;
+use vm_state::text::{Line, Text};
 use vm_state::value::{Fault, Maker, Name, Value};
 
 /// Who executes the instructions of a thread. Its objects are counted by the class of its highest initialization, or by
@@ -78,6 +80,7 @@ fn return_to(frames: &mut Frames, callers: FrameList, value: Option<Value>) -> E
         result frames.new after }
     ensures moves { ((old new : Frames) → Stays result old new)
         × ((before after : SharedTables) → Stays result before after) }
+    ensures silent { PrintsNothing result }
     ensures kept { (frames.new.thread ≡ frames.old.thread) × (frames.new.levels ≡ frames.old.levels) }
 {
     frames.segment = callers.into_segment();
@@ -109,6 +112,7 @@ fn leave_uncaught(frames: &mut Frames, exception: Name, class: ClassId) -> Effec
         frames.new after }
     ensures moves { ((old new : Frames) → Stays result old new)
         × ((before after : SharedTables) → Stays result before after) }
+    ensures silent { PrintsNothing result }
     ensures thread { frames.new.thread ≡ frames.old.thread }
 {
     if frames.levels.is_none() {
@@ -132,6 +136,7 @@ fn throw(
         (Moved (Raise exception class) after) result frames.new after }
     ensures moves { ((old new : Frames) → Stays result old new)
         × ((before after : SharedTables) → Stays result before after) }
+    ensures silent { PrintsNothing result }
     ensures thread { frames.new.thread ≡ frames.old.thread }
 {
     match unwind(program, frame, callers, exception, class) {
@@ -179,16 +184,59 @@ fn call(
     }
 }
 
-/// What the conclusion of an instruction makes of its thread, of whose stack its frame and the callers were taken.
+/// A print: the frame goes on at the next instruction without so many operands, and the list of lines has room for one
+/// more.
 ///
 /// # Errors
-/// `AllocError` where memory is refused to a call: then the stack is as it was.
+/// `AllocError` where memory is refused: then the stack is as it was.
+fn print(
+    frames: &mut Frames,
+    frame: Frame,
+    callers: FrameList,
+    text: Text,
+    operands: usize,
+    printed: &mut Vec<Line>,
+) -> Result<Effect, AllocError>
+    ensures ok { OnOk result
+        (frames.new ≡ record frames.old {
+          segment = Some (record {
+            innermost = advanced (with_operands frame (dropped operands frame.operands));
+            callers = callers;
+          });
+        }) }
+    ensures text { IfOk result (λ e. e ≡ Effect.Print text) }
+    ensures room { OnOk result (vec_len printed.new < vec_capacity printed.new) }
+    ensures printed { printed.new.items ≡ printed.old.items }
+    ensures err { OnErr result
+        (frames.new ≡ record frames.old { segment = Some (record { innermost = frame; callers = callers }) }) }
+{
+    let mut frame = frame;
+    match printed.reserve(1) {
+        Ok(()) => {
+            frame.operands.drop_many(operands);
+            advance(&mut frame);
+            stand(frames, frame, callers);
+            Ok(Effect::Print(text))
+        }
+        Err(error) => {
+            stand(frames, frame, callers);
+            Err(error)
+        }
+    }
+}
+
+/// What the conclusion of an instruction makes of its thread, of whose stack its frame and the callers were taken.
+/// Where it prints, the list of lines has room for one more.
+///
+/// # Errors
+/// `AllocError` where memory is refused to a call or a print: then the stack is as it was.
 fn conclude(
     program: &Program,
     frames: &mut Frames,
     frame: Frame,
     callers: FrameList,
     conclusion: Conclusion,
+    printed: &mut Vec<Line>,
 ) -> Result<Effect, AllocError>
     ensures step { IfOk result
         (λ e. (maker : Maker) (f : Frame) (before after : SharedState) → f.activity ≡ frame.activity
@@ -201,6 +249,8 @@ fn conclude(
     ensures err { OnErr result (((f : Frame) → Untouched (Ok conclusion) f frame → frames.new
         ≡ record frames.old { segment = Some (record { innermost = f; callers = callers }) })
         × ((old new : SharedTables) → KeptBy shared_of (Ok conclusion) old new → SharesTheSame old new)) }
+    ensures room { IfOk result (λ e. HasRoom e printed.new) }
+    ensures printed { printed.new.items ≡ printed.old.items }
 {
     match conclusion {
         Conclusion::Stays => {
@@ -212,9 +262,8 @@ fn conclude(
             Ok(Effect::Next)
         }
         Conclusion::Calls { callee, arguments } => call(frames, frame, callers, callee, arguments),
-        Conclusion::Prints(text) => {
-            stand(frames, frame, callers);
-            Ok(Effect::Print(text))
+        Conclusion::Prints { text, operands } => {
+            print(frames, frame, callers, text, operands, printed)
         }
         Conclusion::Returns(value) => Ok(return_to(frames, callers, value)),
         Conclusion::Raises(exception, class) => {
@@ -242,7 +291,8 @@ fn stopped(stop: Stop) -> Result<Effect, AllocError>
     }
 }
 
-/// One instruction of a thread, on top of whose stack a frame stands. Where memory is refused nothing changes.
+/// One instruction of a thread, on top of whose stack a frame stands. Where it prints, the list of lines has room for
+/// one more. Where memory is refused nothing changes.
 ///
 /// # Errors
 /// `AllocError` where memory is refused: then the thread's stack is as it was, and so is what definitions see of
@@ -252,6 +302,7 @@ pub fn effect(
     program: &Program,
     frames: &mut Frames,
     shared: &mut Shared,
+    printed: &mut Vec<Line>,
 ) -> Result<Effect, AllocError>
     requires { IsSome frames.old.segment }
 
@@ -266,6 +317,10 @@ pub fn effect(
     // its stack does, and so does what definitions see of what is shared.
     ensures stays { IfOk result (λ e. (Stays e frames.old frames.new) × (Stays e shared.old shared.new)) }
     ensures err { OnErr result ((frames.new ≡ frames.old) × (SharesTheSame shared.old shared.new)) }
+
+    // The lines are as they were; where it printed, there is room for its line.
+    ensures printed { printed.new.items ≡ printed.old.items }
+    ensures room { IfOk result (λ e. HasRoom e printed.new) }
 {
     let by = actor_of(frames);
     let Some(segment) = frames.segment.take() else {
@@ -276,7 +331,7 @@ pub fn effect(
         callers,
     } = segment;
     match execute(alloc, program, by, &mut frame, shared) {
-        Ok(conclusion) => conclude(program, frames, frame, callers, conclusion),
+        Ok(conclusion) => { conclude(program, frames, frame, callers, conclusion, printed) }
         Err(stop) => {
             stand(frames, frame, callers);
             stopped(stop)

@@ -154,7 +154,7 @@ pub fn fail(
     ensures thread { frames.new.thread ≡ frames.old.thread }
     ensures err { OnErr result ((frames.new ≡ frames.old) × (SharesTheSame shared.old shared.new)) }
 {
-    shared.keep_class(alloc, class)?;
+    shared.keep(alloc, class, 0)?;
     let raised = raised(alloc, program, Maker::Class(class), shared, cause)?;
     shared.replace_state(class, ClassState::Erroneous);
     frames.leave();

@@ -30,8 +30,8 @@ pub enum Conclusion {
     Calls { callee: Frame, arguments: usize },
     /// The frame goes, with a value for its caller or with none.
     Returns(Option<Value>),
-    /// It printed this text, and the frame goes on.
-    Prints(Text),
+    /// It prints this text, and the frame goes on without so many operands on top. The frame is as it was.
+    Prints { text: Text, operands: usize },
     /// This exception, of this class, is raised in it (JVMS 2.10).
     Raises(Name, ClassId),
     /// The thread can't go on.

@@ -13,7 +13,6 @@ use crate::kinds::{Actor, Conclusion, Stop};
 use crate::references::second_reference;
 use crate::store::Store;
 use classfile::{printed, printed_unit};
-use frame_instructions::numeric::advance;
 use frame_instructions::operand_kind::{OperandKind, top_as};
 use program::{Printed, Program};
 use std::alloc::{AllocError, Global};
@@ -103,9 +102,10 @@ fn print_on<S: Store>(
     if !is_out(receiver) {
         return call_on(alloc, program, by, frame, store, call, receiver, count);
     }
-    frame.operands.drop_many(count);
-    advance(frame);
-    Ok(Conclusion::Prints(text))
+    Ok(Conclusion::Prints {
+        text,
+        operands: count,
+    })
 }
 
 /// `print` and `println` of a value.

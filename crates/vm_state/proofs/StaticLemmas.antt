@@ -135,12 +135,12 @@ states_of-kept xs c a b h was is =
     ∙ same_state (states_of xs) c b.state (is ∙ ap (λ (x : ClassArea). x.state) (sym (default_apart xs c a h was)))
 
 pub fields_of-kept : (xs : List ClassArea) (c : ℕ) (a b : ClassArea) → c < length xs → a ≡ get_or xs c a
-    → b.fields ≡ a.fields → fields_of (slice_set xs c b) ≡ fields_of xs
+    → field_in b.fields ≡ field_in a.fields → fields_of (slice_set xs c b) ≡ fields_of xs
 unfolding fields_of
 fields_of-kept xs c a b h was is =
     fields_of-set xs c b h
     ∙ same_fields (fields_of xs) c (field_in b.fields)
-    (ap field_in (is ∙ ap (λ (x : ClassArea). x.fields) (sym (default_apart xs c a h was))))
+    (is ∙ ap (λ (x : ClassArea). field_in x.fields) (sym (default_apart xs c a h was)))
 
 pub fields_of-changed : (xs : List ClassArea) (c : ℕ) (a b : ClassArea) (change : (ℕ → Value) → ℕ → Value)
     → c < length xs → a ≡ get_or xs c a → field_in b.fields ≡ change (field_in a.fields) →

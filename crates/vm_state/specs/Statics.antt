@@ -1,7 +1,7 @@
 -- The states and the static fields of the given classes (JVMS 2.5.4, 5.5), as functions of the numbers of classes and
 -- fields.
 use Rattle.std.specs.Prelude.{ℕ, map, List, [], Option, Some, None, slice_get, slice_index_or, unwrap_or, if◌then◌else◌}
-use Rattle.std.specs.Prelude.{◌==◌}
+use Rattle.std.specs.Prelude.{◌==◌, ◌<◌, ◌≤◌, length}
 use Rattle.vm_state.specs.declared.value.Value.{Value}
 use Rattle.vm_state.specs.declared.value.Value.TheVariants.{Null}
 use Rattle.vm_state.specs.declared.classes.ClassState.{ClassState}
@@ -36,6 +36,11 @@ states_of areas c = (area_at areas c).state
 -- the value of each static field of each class
 unfoldable pub fields_of : List ClassArea → ℕ → ℕ → Value
 fields_of areas c f = field_in (area_at areas c).fields f
+
+-- a class has a place, and so have the first so many of its static fields
+pub record IsPlaced (areas : List ClassArea) (c count : ℕ) : Type 0 where
+  pub placed : c < length areas
+  pub fields : count ≤ length (area_at areas c).fields
 
 -- ---- one class changed
 

@@ -1,8 +1,8 @@
 //! The states and the static fields of the given classes.
 
-ghost use Rattle.std.specs.Prelude.{◌≡◌, ◌++◌, ◌∷◌, map, ◌<◌, ◌^◌, ◌+◌, [], length, IfOk, OnErr, OnOk, true};
+ghost use Rattle.std.specs.Prelude.{◌≡◌, ◌++◌, ◌∷◌, map, ◌<◌, ◌≤◌, ◌^◌, ◌+◌, [], length, IfOk, IsOk, OnErr, OnOk, true};
 ghost use Rattle.vm_state.specs.Statics.{blank_area, usable, field_in, states_of, fields_of, with_state, with_fields};
-ghost use Rattle.vm_state.specs.Statics.{with_value, with_constants};
+ghost use Rattle.vm_state.specs.Statics.{with_value, with_constants, IsPlaced};
 ghost use Rattle.vm_state.specs.steps.Statics.{with_constant};
 
 use crate::value::Value;
@@ -120,15 +120,18 @@ impl Fields {
         }
     }
 
-    /// Keeps a place for a field; no field's value changes.
-    fn reach(&mut self, field: usize) -> Result<(), AllocError>
-        requires { field + 1 < 2 ^ 64 }
+    /// Keeps places for the first so many fields; no field's value changes.
+    ///
+    /// # Errors
+    /// `AllocError` where memory is refused, but never where they have places; nothing has changed then.
+    pub fn keep(&mut self, count: usize) -> Result<(), AllocError>
         ensures same { field_in self.new ≡ field_in self.old }
-        ensures ok { OnOk result (field < length self.new) }
+        ensures ok { OnOk result (count ≤ length self.new) }
+        ensures placed { count ≤ length self.old → IsOk result }
         ensures err { OnErr result (self.new ≡ self.old) }
     {
-        if self.values.len() <= field {
-            self.values.resize(field + 1, Value::Null)?;
+        if self.values.len() < count {
+            self.values.resize(count, Value::Null)?;
         }
         Ok(())
     }
@@ -140,6 +143,7 @@ impl Fields {
     #[inline(always)]
     pub fn replace(&mut self, field: u32, value: Value) -> Result<(), NoPlace>
         ensures ok { OnOk result (field_in self.new ≡ with_value (field_in self.old) field value) }
+        ensures placed { field < length self.old → IsOk result }
         ensures err { OnErr result (self.new ≡ self.old) }
     {
         let at = field as usize;
@@ -166,39 +170,30 @@ impl Fields {
         ensures ok { OnOk result (field_in self.new ≡ with_value (field_in self.old) field value) }
         ensures err { OnErr result (self.new ≡ self.old) }
     {
-        self.reach(field)?;
+        self.keep(field + 1)?;
         self.values[field] = value;
         Ok(())
     }
 
-    fn set_constant(&mut self, field: usize, constant: Option<Value>) -> Result<(), AllocError>
-        requires { field + 1 < 2 ^ 64 }
-        ensures { OnOk result (field_in self.new ≡ with_constant (field_in self.old) field constant) }
+    /// Sets the constant of a field that has a place, where it has one.
+    fn set_constant(&mut self, field: usize, constant: Option<Value>)
+        requires { field < length self.old }
+        ensures fields { field_in self.new ≡ with_constant (field_in self.old) field constant }
+        ensures places { length self.new ≡ length self.old }
     {
-        match constant {
-            Some(value) => self.set_at(field, value),
-            None => Ok(()),
+        if let Some(value) = constant {
+            self.values[field] = value;
         }
     }
 
-    /// The same fields, each with its constant set where its declaration has one.
-    ///
-    /// # Errors
-    /// `AllocError` where memory is refused.
-    pub fn with_constants(
-        &self,
-        alloc: Global,
-        statics: &[StaticField],
-    ) -> Result<Fields, AllocError>
-        ensures { IfOk result (λ r. field_in r ≡ with_constants statics.now (field_in self.now)) }
+    /// Sets the constant of each field whose declaration has one, without memory: these fields have places.
+    pub fn set_constants(&mut self, statics: &[StaticField])
+        requires { length statics.now ≤ length self.old }
+        ensures { field_in self.new ≡ with_constants statics.now (field_in self.old) }
     {
-        let mut fields = Fields {
-            values: Vec::from_slice(alloc, self.values.as_slice())?,
-        };
         for field in 0..statics.len() {
-            fields.set_constant(field, statics[field].constant)?;
+            self.set_constant(field, statics[field].constant);
         }
-        Ok(fields)
     }
 }
 
@@ -281,6 +276,7 @@ impl Classes {
         ensures states { states_of self.new ≡ states_of self.old }
         ensures fields { fields_of self.new ≡ fields_of self.old }
         ensures ok { OnOk result (class < length self.new) }
+        ensures placed { class < length self.old → IsOk result × (self.new ≡ self.old) }
     {
         while self.areas.len() <= class {
             self.areas.push(ClassArea {
@@ -291,16 +287,21 @@ impl Classes {
         Ok(())
     }
 
-    /// Keeps a place for a class; no class's state and no field's value changes.
+    /// Keeps a place for a class, and for the first so many of its static fields; no class's state and no field's value
+    /// changes.
     ///
     /// # Errors
-    /// `AllocError` where memory is refused.
-    pub fn keep(&mut self, alloc: Global, class: u32) -> Result<(), AllocError>
+    /// `AllocError` where memory is refused, but never where they have places.
+    pub fn keep(&mut self, alloc: Global, class: u32, count: usize) -> Result<(), AllocError>
         ensures states { states_of self.new ≡ states_of self.old }
         ensures fields { fields_of self.new ≡ fields_of self.old }
-        ensures ok { OnOk result (class < length self.new) }
+        ensures ok { OnOk result (IsPlaced self.new class count) }
+        ensures placed { IsPlaced self.old class count → IsOk result }
     {
-        self.reach(alloc, class as usize)
+        self.reach(alloc, class as usize)?;
+        let area = &mut self.areas[class as usize];
+        area.fields.keep(count)?;
+        Ok(())
     }
 
     /// Sets the state of a class that has a place, without memory.
@@ -313,26 +314,6 @@ impl Classes {
         area.state = state;
     }
 
-    /// Sets the state of a class.
-    ///
-    /// # Errors
-    /// `AllocError` where memory is refused; nothing has changed then.
-    pub fn set_state(
-        &mut self,
-        alloc: Global,
-        class: u32,
-        state: ClassState,
-    ) -> Result<(), AllocError>
-        ensures states { OnOk result (states_of self.new ≡ with_state (states_of self.old) class state) }
-        ensures fields { fields_of self.new ≡ fields_of self.old }
-        ensures err { OnErr result (states_of self.new ≡ states_of self.old) }
-    {
-        self.reach(alloc, class as usize)?;
-        let area = &mut self.areas[class as usize];
-        area.state = state;
-        Ok(())
-    }
-
     /// Sets a static field that has a place, without memory.
     ///
     /// # Errors
@@ -343,6 +324,7 @@ impl Classes {
             (fields_of self.new ≡ with_fields (fields_of self.old) class
             (with_value (fields_of self.old class) field value)) }
         ensures states { OnOk result (states_of self.new ≡ states_of self.old) }
+        ensures placed { IsPlaced self.old class (field + 1) → IsOk result }
         ensures err { OnErr result (self.new ≡ self.old) }
     {
         let at = class as usize;
@@ -378,30 +360,16 @@ impl Classes {
         Ok(())
     }
 
-    /// Begins the initialization of a class by a thread: its state, and its constants (JVMS 5.5, step 6).
-    ///
-    /// # Errors
-    /// `AllocError` where memory is refused; nothing has changed then.
-    pub fn begin(
-        &mut self,
-        alloc: Global,
-        class: u32,
-        thread: u32,
-        statics: &[StaticField],
-    ) -> Result<(), AllocError>
-        ensures states { OnOk result
-            (states_of self.new ≡ with_state (states_of self.old) class (ClassState.InProgress thread)) }
-        ensures fields { OnOk result
-            (fields_of self.new ≡ with_fields (fields_of self.old) class
-            (with_constants statics.now (fields_of self.old class))) }
-        ensures err { OnErr result ((states_of self.new ≡ states_of self.old)
-            × (fields_of self.new ≡ fields_of self.old)) }
+    /// Begins the initialization of a class by a thread: its state, and its constants (JVMS 5.5, step 6). The class and
+    /// these fields have places, so it takes no memory.
+    pub fn begin(&mut self, class: u32, thread: u32, statics: &[StaticField])
+        requires { IsPlaced self.old class (length statics.now) }
+        ensures states { states_of self.new ≡ with_state (states_of self.old) class (ClassState.InProgress thread) }
+        ensures fields { fields_of self.new
+            ≡ with_fields (fields_of self.old) class (with_constants statics.now (fields_of self.old class)) }
     {
-        self.reach(alloc, class as usize)?;
         let area = &mut self.areas[class as usize];
-        let fields = area.fields.with_constants(alloc, statics)?;
-        area.fields = fields;
+        area.fields.set_constants(statics);
         area.state = ClassState::InProgress(thread);
-        Ok(())
     }
 }

@@ -1,9 +1,10 @@
 //! What all threads share.
 
-ghost use Rattle.std.specs.Prelude.{◌≡◌, List, IfOk, OnOk, OnErr, option_copied, option_map, ◌<◌, length};
+ghost use Rattle.std.specs.Prelude.{◌≡◌, List, IfOk, IsOk, OnOk, OnErr, option_copied, option_map, ◌<◌, ◌+◌, length};
 ghost use Rattle.vm_state.specs.declared.text.Line.{Line};
 ghost use Rattle.vm_state.specs.SharedState.{object_of, class_at, pool_of, set_pool, slots_at, with_slot};
 ghost use Rattle.vm_state.specs.SharedState.{monitor_of, with_monitor};
+ghost use Rattle.vm_state.specs.Statics.{IsPlaced};
 ghost use Rattle.vm_state.specs.Shares.{shared_of, SharesTheSame, SetsField, SetsState, Begins, Makes, IsNextName};
 
 use crate::classes::{ClassState, Classes, NoPlace, StaticField};
@@ -62,16 +63,17 @@ impl Shared {
     #[inline(always)]
     pub fn replace_field(&mut self, class: u32, field: u32, value: Value) -> Result<(), NoPlace>
         ensures ok { OnOk result (SetsField self.old self.new class field value) }
+        ensures placed { IsPlaced self.old.classes class (field + 1) → IsOk result }
         ensures err { OnErr result (self.new ≡ self.old) }
     {
         self.classes.replace_field(class, field, value)?;
         Ok(())
     }
 
-    /// Sets a static field. It takes memory only for a field that has no place yet.
+    /// Sets a static field.
     ///
     /// # Errors
-    /// `AllocError` where memory is refused; nothing has changed then.
+    /// `AllocError` where memory is refused, but never where the field has a place; nothing has changed then.
     #[inline(always)]
     pub fn set_field(
         &mut self,
@@ -81,6 +83,7 @@ impl Shared {
         value: Value,
     ) -> Result<(), AllocError>
         ensures ok { OnOk result (SetsField self.old self.new class field value) }
+        ensures placed { IsPlaced self.old.classes class (field + 1) → IsOk result }
         ensures err { OnErr result (SharesTheSame self.old self.new) }
     {
         match self.replace_field(class, field, value) {
@@ -104,15 +107,16 @@ impl Shared {
         Ok(())
     }
 
-    /// Keeps a place for a class; nothing else changes.
+    /// Keeps a place for a class, and for the first so many of its static fields; nothing else changes.
     ///
     /// # Errors
-    /// `AllocError` where memory is refused.
-    pub fn keep_class(&mut self, alloc: Global, class: u32) -> Result<(), AllocError>
+    /// `AllocError` where memory is refused, but never where they have places.
+    pub fn keep(&mut self, alloc: Global, class: u32, count: usize) -> Result<(), AllocError>
         ensures same { SharesTheSame self.old self.new }
-        ensures ok { OnOk result (class < length self.new.classes) }
+        ensures ok { OnOk result (IsPlaced self.new.classes class count) }
+        ensures placed { IsPlaced self.old.classes class count → IsOk result }
     {
-        self.classes.keep(alloc, class)
+        self.classes.keep(alloc, class, count)
     }
 
     /// Sets the state of a class that has a place, without memory.
@@ -123,39 +127,13 @@ impl Shared {
         self.classes.replace_state(class, state);
     }
 
-    /// Sets the state of a class.
-    ///
-    /// # Errors
-    /// `AllocError` where memory is refused; nothing has changed then.
-    pub fn set_state(
-        &mut self,
-        alloc: Global,
-        class: u32,
-        state: ClassState,
-    ) -> Result<(), AllocError>
-        ensures ok { OnOk result (SetsState self.old self.new class state) }
-        ensures err { OnErr result (SharesTheSame self.old self.new) }
+    /// Begins the initialization of a class by a thread (JVMS 5.5, step 6). The class and these fields have places, so
+    /// it takes no memory.
+    pub fn begin(&mut self, class: u32, thread: u32, statics: &[StaticField])
+        requires { IsPlaced self.old.classes class (length statics.now) }
+        ensures { Begins self.old self.new class thread statics.now }
     {
-        self.classes.set_state(alloc, class, state)?;
-        Ok(())
-    }
-
-    /// Begins the initialization of a class by a thread (JVMS 5.5, step 6).
-    ///
-    /// # Errors
-    /// `AllocError` where memory is refused; nothing has changed then.
-    pub fn begin(
-        &mut self,
-        alloc: Global,
-        class: u32,
-        thread: u32,
-        statics: &[StaticField],
-    ) -> Result<(), AllocError>
-        ensures ok { OnOk result (Begins self.old self.new class thread statics.now) }
-        ensures err { OnErr result (SharesTheSame self.old self.new) }
-    {
-        self.classes.begin(alloc, class, thread, statics)?;
-        Ok(())
+        self.classes.begin(class, thread, statics);
     }
 
     /// The object of a name, if it is held.

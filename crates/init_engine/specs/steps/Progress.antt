@@ -1,5 +1,6 @@
 -- What a step of a thread says, in the words of the definition.
-use Rattle.std.specs.Prelude.{◌≡◌, ℕ, List, Option, Some, None}
+use Rattle.std.specs.Prelude.{◌≡◌, ◌<◌, ℕ, List, Option, Some, None, vec_len, vec_capacity}
+use Rattle.std.specs.Global.{Vec}
 use Rattle.vm_state.specs.declared.ends.End.{End}
 use Rattle.vm_state.specs.declared.initialization.Frames.{Frames}
 use Rattle.vm_state.specs.SharedTables.{SharedTables}
@@ -36,3 +37,14 @@ StaysPut Moved old new before after = Unit {0}
 StaysPut (Printed text) old new before after = Unit {0}
 StaysPut (Ended end) old new before after = Unit {0}
 StaysPut Waits old new before after = (new ≡ old) × (after ≡ before)
+
+-- where it printed, the list of lines has room for one more
+abbrev pub HasRoomFor : Progress → Vec Line → Type 0
+HasRoomFor Moved lines = Unit {0}
+HasRoomFor (Printed text) lines = vec_len lines < vec_capacity lines
+HasRoomFor (Ended end) lines = Unit {0}
+HasRoomFor Waits lines = Unit {0}
+
+-- it printed nothing
+abbrev pub PrintsNothing : Progress → Type 0
+PrintsNothing r = (lines : Vec Line) → HasRoomFor r lines

@@ -26,5 +26,6 @@ returns c =
     let same : length (map thread_of threads) ≡ length threads = simp length-map in
     let all : length (map thread_of threads) ≤ c.loop-thread.thread-index =
     omega (arith, same, c.loop-thread-test.false) in
-    λ p. rest_all (program_of c.args.program.now) (world_with threads c.args.shared.now p) c.loop-thread.thread-index all
+    λ p. rest_all (program_of c.args.program.now) (world_with threads c.args.shared.now p) c.loop-thread.thread-index
+    all
     c.loop-thread.rest (c.loop-thread.invariant p)

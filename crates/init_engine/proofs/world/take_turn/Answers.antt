@@ -1,11 +1,11 @@
-use Rattle.std.proofs.Common.{rules, refl}
+use Rattle.std.proofs.Common.{rules}
 use Rattle.machine.specs.Linked.{program_of}
 use Rattle.init_engine.proofs.ThreadLemmas.{turn_moved, turn_printed, turn_ended, turn_waits}
 use Rattle.init_engine.proofs.world.take_turn.Goals as goal
 
 pub returns-in-Moved-clause-turn : goal.returns-in-Moved-clause-turn
 returns-in-Moved-clause-turn c =
-    rw c.in-Going.is
+    rw (c.in-Going.is, c.in_ok-step_thread.ensures.printed)
     (turn_moved (program_of c.args.program.now) c.args.number c.in-Going.frames c.step_thread.new.frames
     c.args.shared.now
     c.step_thread.new.shared c.args.printed.now.items (search rules)
@@ -17,11 +17,12 @@ returns-in-Printed-clause-turn c =
     (turn_printed (program_of c.args.program.now) c.args.number c.in-Going.frames c.step_thread.new.frames
     c.args.shared.now
     c.step_thread.new.shared c.args.printed.now.items (search rules) c.in-Printed.text _
-    (rw c.in-Printed.is at c.in_ok-step_thread.ensures.steps) c.push_reserved.ensures.items)
+    (rw c.in-Printed.is at c.in_ok-step_thread.ensures.steps)
+    (rw c.in_ok-step_thread.ensures.printed at c.push_reserved.ensures.items))
 
 pub returns-in-Ended-clause-turn : goal.returns-in-Ended-clause-turn
 returns-in-Ended-clause-turn c =
-    rw c.in-Going.is
+    rw (c.in-Going.is, c.in_ok-step_thread.ensures.printed)
     (turn_ended (program_of c.args.program.now) c.args.number c.in-Going.frames c.step_thread.new.frames
     c.args.shared.now
     c.step_thread.new.shared c.args.printed.now.items (search rules) c.in-Ended.end
@@ -34,4 +35,4 @@ returns-in-Waits-clause-turn c =
     c.args.shared.now
     c.step_thread.new.shared c.args.printed.now.items (search rules) _
     (rw c.in-Waits.is at c.in_ok-step_thread.ensures.steps) (rw c.in-Waits.is at c.in_ok-step_thread.ensures.stays)
-    refl)
+    c.in_ok-step_thread.ensures.printed)

@@ -1,4 +1,4 @@
-use Rattle.std.proofs.Common.{◌≡◌, ◌∙◌, ap, rules}
+use Rattle.std.proofs.Common.{◌∙◌, ap, rules}
 use Rattle.machine.specs.Linked.{program_of}
 use Rattle.vm_state.proofs.ListLemmas.{item_at}
 use Rattle.vm_state.proofs.ShareLemmas.{if_refused}
@@ -13,17 +13,15 @@ returns-clause-ok c =
     let at = item_at threads c.args.thread _ (search rules) c.index_mut-stepping.ensures.value in
     rw (← c.self.view_is)
     (turn_of_world (program_of c.args.program.now) threads c.args.thread _ _ _ at
-    (rw c.in_ok-reserve.ensures.items at c.in_ok-turn.ensures.turn))
+    c.in_ok-turn.ensures.turn)
 
 pub returns-in_err-turn-clause-err : goal.returns-in_err-turn-clause-err
 returns-in_err-turn-clause-err c =
     let threads = c.self.inside.threads.items in
     let at = item_at threads c.args.thread _ (search rules) c.index_mut-stepping.ensures.value in
-    let printed : c.take_turn.new.printed.items ≡ c.self.inside.printed.items =
-    c.in_err-turn.ensures.printed ∙ c.in_ok-reserve.ensures.items in
     let shared = c.in_err-turn.ensures.shared c.take_turn.new.printed.items
-    ∙ ap (shared_of c.self.inside.shared) printed in
-    if_refused c.from_residual-in_err-turn.result (rw (← c.self.view_is)
+    ∙ ap (shared_of c.self.inside.shared) c.in_err-turn.ensures.printed in
+    if_refused c.from_residual.result (rw (← c.self.view_is)
     (stays_same threads c.args.thread (view_of _ c.self.inside.shared c.self.inside.printed.items)
     (view_of c.take_turn.new.thread c.take_turn.new.shared c.take_turn.new.printed.items) at
     c.in_err-turn.ensures.thread shared))

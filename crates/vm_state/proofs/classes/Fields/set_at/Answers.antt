@@ -7,4 +7,4 @@ pub returns-clause-ok : goal.returns-clause-ok
 returns-clause-ok c =
     let room : c.args.field < length c.self.inside.values.items = search rules in
     field_in-set c.self.inside.values.items c.args.field c.args.value room
-    ∙ ap (λ xs. with_value xs c.args.field c.args.value) (ap field_in c.self.view_is ∙ c.in_ok-reach.ensures.same)
+    ∙ ap (λ xs. with_value xs c.args.field c.args.value) (ap field_in c.self.view_is ∙ c.in_ok-keep.ensures.same)

@@ -2,7 +2,7 @@ use Rattle.std.proofs.Common.{ap, ◌∙◌}
 use Rattle.vm_state.specs.SharedTables.{SharedTables}
 use Rattle.vm_state.specs.Shares.{shared_of}
 use Rattle.vm_state.proofs.ShareLemmas.{shared_of-kept}
-use Rattle.vm_state.proofs.shared.Shared.keep_class.Goals as goal
+use Rattle.vm_state.proofs.shared.Shared.keep.Goals as goal
 
 pub returns-clause-same : goal.returns-clause-same
 returns-clause-same c p =

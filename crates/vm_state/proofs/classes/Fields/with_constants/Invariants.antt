@@ -1,7 +1,0 @@
-use Rattle.std.proofs.Common.{◌≡◌}
-use Rattle.vm_state.specs.Statics.{field_in}
-use Rattle.vm_state.proofs.StaticLemmas.{constants_below}
-use Rattle.vm_state.proofs.classes.Fields.with_constants.Given as goal
-
-abbrev pub invariant-loop-field : goal.invariant-loop-field
-invariant-loop-field l = field_in l.fields ≡ constants_below l.statics (field_in l.self) l.field
