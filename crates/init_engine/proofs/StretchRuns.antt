@@ -17,7 +17,7 @@ use Rattle.semantics.specs.Steps.{Thread as DefinedThread, Going as IsGoingOn, f
 use Rattle.semantics.specs.Worlds.{World, Run, step_of, put_thread}
 use Rattle.program.specs.Tables.{Tables}
 use Rattle.machine.specs.Linked.{program_of}
-use Rattle.machine.specs.Courses.{Above, Advances, Course, above, over}
+use Rattle.courses.specs.Courses.{Above, Advances, Course, above, over}
 use Rattle.init_engine.specs.declared.world.Thread.{Thread}
 use Rattle.init_engine.specs.declared.world.Thread.TheVariants.{Going, Ended}
 use Rattle.init_engine.specs.Numbering.{AreNumbered}

@@ -3,7 +3,7 @@
 ghost use Rattle.std.specs.Prelude.{◌≡◌, ◌+◌, ◌<◌, ◌≤◌, ◌^◌, [], length, replicate, IfOk, OnOk};
 ghost use Rattle.semantics.specs.Worlds.{Run};
 ghost use Rattle.machine.specs.Linked.{program_of};
-ghost use Rattle.machine.specs.steps.StepTables.{KeepsSteps};
+ghost use Rattle.courses.specs.steps.StepTables.{KeepsSteps};
 ghost use Rattle.init_engine.specs.Turns.{world_of};
 ghost use Rattle.init_engine.specs.Schedules.{schedule_of, AreRuns};
 ghost use Rattle.init_engine.specs.Rounds.{Turns, HasStopped};
@@ -11,7 +11,7 @@ ghost use Rattle.init_engine.specs.steps.Rounds.{IsAsking, IsRound, IsStretch};
 
 use crate::schedule::Schedule;
 use crate::world::{Turn, World};
-use machine::step_table::StepTable;
+use courses::step_table::StepTable;
 use program::Program;
 use std::alloc::{AllocError, Global};
 

@@ -10,14 +10,14 @@ ghost use Rattle.init_engine.specs.Numbering.{AreNumbered};
 ghost use Rattle.init_engine.specs.Observations.{IsObservation};
 ghost use Rattle.init_engine.specs.steps.Threads.{RunsHere, TopRuns, IsTurnOf, view_of};
 ghost use Rattle.machine.specs.Linked.{program_of};
-ghost use Rattle.machine.specs.steps.StepTables.{KeepsSteps};
+ghost use Rattle.courses.specs.steps.StepTables.{KeepsSteps};
 ghost use Rattle.init_engine.specs.Threads.{thread_of, seen_of, HasNumber};
 ghost use Rattle.init_engine.specs.Turns.{IsTurn, world_of};
 
 use crate::procedure::{Progress, step_thread};
-use machine::course::run_segment;
+use courses::course::run_segment;
+use courses::step_table::StepTable;
 use machine::effects::actor_of;
-use machine::step_table::StepTable;
 use program::Program;
 use std::alloc::{AllocError, Global};
 use std::marker::Model;

@@ -7,12 +7,6 @@ pub mod PlainRowsLemmas
 pub mod WaitingLemmas
 pub mod FailuresLemmas
 pub mod AccessesLemmas
-pub mod StretchesLemmas
-pub mod StretchRowLemmas
-pub mod WalksLemmas
-pub mod CoursesLemmas
-pub mod ObjectStepsLemmas
-pub mod StretchLocalLemmas
 pub mod HandlersLemmas
 pub mod LinkedLemmas
 pub mod TableLemmas
@@ -31,7 +25,3 @@ pub mod CallLawLemmas
 pub mod TableLawLemmas
 pub mod LawsFinalLemmas
 pub mod LawsLemmas
-pub mod SourcesLemmas
-pub mod FusedLemmas
-pub mod StepsLemmas
-pub mod StepTablesLemmas

@@ -1,8 +1,4 @@
 pub mod ArrayAccesses
-pub mod Sources
-pub mod Fused
-pub mod Steps
-pub mod StepTables
 pub mod Unwinding
 pub mod Locks
 pub mod Raising

@@ -78,6 +78,7 @@ pub fn load_element<S: Store>(
 }
 
 /// Whether the store check is made of a value: of references other than null.
+#[inline(always)]
 fn is_checked(value: Value) -> bool
     ensures { result ≡ is_checked value }
 {
@@ -85,7 +86,8 @@ fn is_checked(value: Value) -> bool
 }
 
 /// The store check of `aastore`.
-fn check_store<S: Store>(
+#[inline(always)]
+pub fn check_store<S: Store>(
     program: &Program,
     by: Actor,
     store: &S,

@@ -37,6 +37,7 @@ pub struct Element {
 ///
 /// # Errors
 /// `Fault` where none is there.
+#[inline(always)]
 pub fn third_reference(operands: &Operands) -> Result<Value, Fault>
     ensures ok { IfOk result (λ v. top_as OperandKind.Reference (rest (rest operands.now)) ≡ Some v) }
     ensures err { OnErr result (top_as OperandKind.Reference (rest (rest operands.now)) ≡ None) }
@@ -56,7 +57,8 @@ fn object_of(reference: Value) -> Result<Name, Trap>
 }
 
 /// The slot of an index in an array of this length.
-fn slot_at(index: i32, length: Option<i32>) -> Result<usize, Trap>
+#[inline(always)]
+pub fn slot_at(index: i32, length: Option<i32>) -> Result<usize, Trap>
     ensures { result ≡ slot_at index length }
 {
     let Some(length) = length else {

@@ -48,6 +48,7 @@ pub fn zero_of(kind: PrimitiveKind) -> Value
 }
 
 /// The instructions that load and store elements of a type that is no array; none of floats and doubles.
+#[inline(always)]
 fn kind_of_element(element: ElementType) -> Option<ElementKind>
     ensures { result ≡ kind_of_element element }
 {
@@ -63,6 +64,7 @@ fn kind_of_element(element: ElementType) -> Option<ElementKind>
 }
 
 /// The instructions that load and store components of an array.
+#[inline(always)]
 fn kind_of_component(array: ArrayType) -> Option<ElementKind>
     ensures { result ≡ kind_of_component array }
 {
@@ -99,6 +101,7 @@ fn component_class(array: ArrayType) -> Option<ClassId>
 }
 
 /// As what a field an element is stored that an instruction stores: a byte, char or short is narrowed.
+#[inline(always)]
 pub fn stored_as(kind: ElementKind) -> FieldKind
     ensures { result ≡ stored_as kind }
 {
@@ -116,6 +119,7 @@ pub fn stored_as(kind: ElementKind) -> FieldKind
 ///
 /// # Errors
 /// `Trap::Fault` where it is the class of no array.
+#[inline(always)]
 pub fn array_type(class: Option<ClassId>) -> Result<ArrayType, Trap>
     ensures { result ≡ array_type class }
 {
@@ -129,6 +133,7 @@ pub fn array_type(class: Option<ClassId>) -> Result<ArrayType, Trap>
 ///
 /// # Errors
 /// `Trap::Fault` where they do not, or it is the class of no array.
+#[inline(always)]
 pub fn served_type(kind: ElementKind, class: Option<ClassId>) -> Result<ArrayType, Trap>
     ensures { result ≡ served_type kind class }
 {

@@ -20,7 +20,8 @@ use vm_state::value::{Name, Value};
 
 /// How many slots an object has that is held, as an int: no array is longer than an int says, and of more it would be
 /// the low 32 bits.
-fn length_of(slots: Option<&[Value]>) -> Option<i32>
+#[inline(always)]
+pub fn length_of(slots: Option<&[Value]>) -> Option<i32>
     ensures { result ≡ option_map (λ s. int_length (length s.now)) slots.entry }
 {
     match slots {

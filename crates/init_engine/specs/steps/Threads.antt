@@ -8,7 +8,7 @@ use Rattle.vm_state.specs.Stacks.{segment_of, levels_of}
 use Rattle.semantics.specs.Programs.{Program}
 use Rattle.semantics.specs.Steps.{After, maker_of, step_thread}
 use Rattle.program.specs.Tables.{Tables}
-use Rattle.machine.specs.Courses.{Course, above}
+use Rattle.courses.specs.Courses.{Course, above}
 use Rattle.init_engine.specs.declared.world.Thread.{Thread}
 use Rattle.init_engine.specs.declared.world.Thread.TheVariants.{Going, Ended}
 use Rattle.init_engine.specs.declared.world.Turn.{Turn}

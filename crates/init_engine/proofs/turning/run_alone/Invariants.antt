@@ -1,7 +1,7 @@
 use Rattle.std.proofs.Common.{◌≡◌, ◌-◌, ◌≤◌, length, replicate}
 use Rattle.semantics.specs.Worlds.{Run}
 use Rattle.machine.specs.Linked.{program_of}
-use Rattle.machine.specs.steps.StepTables.{KeepsSteps}
+use Rattle.courses.specs.steps.StepTables.{KeepsSteps}
 use Rattle.init_engine.specs.Turns.{world_of}
 use Rattle.init_engine.proofs.turning.run_alone.Given as goal
 
