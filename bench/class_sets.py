@@ -212,7 +212,7 @@ def bare_chain(count):
 
 
 def many_below(count):
-    """So many classes below the last of a chain of as many interfaces, each named by a reference to the first's method."""
+    """So many classes below the last of a chain of as many interfaces; a reference to the first's method names each."""
     top = "I%d" % (count - 1)
 
     def naming(name):
@@ -262,7 +262,7 @@ def two_chains_below(count):
 
 
 def wide_below(count):
-    """An interface below as many others with a method each; so many classes below it, named as in `own_methods_below`."""
+    """An interface below as many others with a method each, and as many classes below it, as `own_methods_below`."""
     tops = ["I%d" % number for number in range(count)]
 
     def declaring(number):
@@ -298,7 +298,7 @@ def conflicts_below(count):
 
 
 def alternating(count):
-    """Sixteen classes below the last of a chain of interfaces; references to its methods that go from class to class."""
+    """Sixteen classes below the last of a chain of interfaces; references to its methods go from class to class."""
     top = "I%d" % (count - 1)
     names = ["C%d" % number for number in range(16)]
 
