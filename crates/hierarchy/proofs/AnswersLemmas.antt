@@ -1,11 +1,11 @@
 -- What references resolve to, as one window of declarations after another is looked at.
-use Rattle.std.proofs.Common.{◌≡◌, ◌≢◌, ◌↔◌, ◌⊎◌, ◌<◌, ◌≤◌, ◌+◌, ℕ, Bool, true, false, cond, List, [], ◌∷◌, ◌++◌}
-use Rattle.std.proofs.Common.{Option, Some, None, MatchOption, length, slice_get, take, get_or, eqb, not}
+use Rattle.std.proofs.Common.{◌≡◌, ◌↔◌, ◌⊎◌, ◌<◌, ◌≤◌, ◌+◌, ℕ, Bool, true, false, cond, List, [], ◌∷◌, ◌++◌}
+use Rattle.std.proofs.Common.{Option, Some, None, MatchOption, length, slice_get, take, not}
 use Rattle.std.proofs.Common.{refl, sym, ap, ◌∙◌, subst, inl, inr, arith, zero, suc, append-nil, ◌-◌, bit_and}
 use Rattle.std.specs.List.{Contains}
-use Rattle.std.proofs.lemmas.Bool.{cases_eq, cases_lt}
+use Rattle.std.proofs.lemmas.Bool.{cases_lt}
 use Rattle.std.proofs.lemmas.List.{take_more, take_all}
-use Rattle.std.proofs.lemmas.Option.{slice_get-get_or, slice_get_within, get_or_from_slice_get}
+use Rattle.std.proofs.lemmas.Option.{slice_get_within, get_or_from_slice_get}
 use Rattle.built_in.specs.Keys.{NameAndType}
 use Rattle.loading.proofs.PlaceLemmas.{contains_at}
 use Rattle.loading.specs.Families.{Family, IsAncestor}
@@ -15,8 +15,8 @@ use Rattle.hierarchy.specs.MemberLookup.{is_abstract}
 use Rattle.hierarchy.specs.Search.{Search}
 use Rattle.hierarchy.specs.Resolution.{AmongInterfaces}
 use Rattle.hierarchy.specs.steps.Answers.{AreBitsOf, classes_with}
-use Rattle.hierarchy.specs.steps.DeclarationBits.{Has, HasKey, IsAt, IsCoded, IsMask, Knows}
-use Rattle.hierarchy.specs.steps.Declarations.{AreDeclared, IsDeclared, IsWhole}
+use Rattle.hierarchy.specs.steps.DeclarationBits.{Has, IsMask, Knows}
+use Rattle.hierarchy.specs.steps.Declarations.{AreDeclared}
 use Rattle.hierarchy.specs.steps.Defaults.{AreFound, nothing, one, several, found_after, only_of}
 use Rattle.hierarchy.specs.steps.FoundAhead.{given_method}
 use Rattle.hierarchy.specs.steps.MemberIndexes.{same_key, AreNumbers}

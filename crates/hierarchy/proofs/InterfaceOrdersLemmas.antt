@@ -6,21 +6,20 @@ use Rattle.std.specs.List.{All, Contains, filter}
 use Rattle.std.proofs.lemmas.Bool.{cases_lt, cases_eq}
 use Rattle.std.proofs.lemmas.Grind.{common_steps}
 use Rattle.std.proofs.lemmas.List.{take_more, length_push, get_or-set_same, get_or-set_other}
-use Rattle.std.proofs.lemmas.List.Elements.{filter_agree, filter-append, All-contains, Contains-push_cases}
+use Rattle.std.proofs.lemmas.List.Elements.{filter-append, All-contains, Contains-push_cases}
 use Rattle.std.proofs.lemmas.Option.{slice_get_past}
 use Rattle.loading.specs.declared.given.GivenClass.{GivenClass}
 use Rattle.loading.specs.Families.{Family, IsFamily, parents_in, interfaces_in, is_interface_in, superclasses_in}
 use Rattle.loading.specs.Families.{passes, file_of, IsAncestor, IsParentsFirst}
-use Rattle.hierarchy.specs.Search.{SuperinterfacesFirst, none, next, firsts}
+use Rattle.hierarchy.specs.Search.{SuperinterfacesFirst, none, next}
 use Rattle.hierarchy.specs.Initialization.{is_initialized_first, declares_default, IsInitializationOrder, class}
 use Rattle.hierarchy.specs.steps.Above.{IsAmongOrAbove}
 use Rattle.hierarchy.specs.steps.InterfaceOrders.{AddsInterfaces, TellFirst, TellIdle, AreIdle}
 use Rattle.hierarchy.specs.steps.Walks.{ParentsBefore, IsPostorderOf, HasPostorder}
 use Rattle.hierarchy.specs.steps.Walks as walks
 use Rattle.hierarchy.proofs.AboveLemmas.{interface_parents, ancestor_parts}
-use Rattle.hierarchy.proofs.FirstsLemmas.{Contains-firsts}
 use Rattle.hierarchy.proofs.SearchRowLemmas.{interfaces_before}
-use Rattle.hierarchy.proofs.WalksOrderLemmas.{in_front, in_rest, cons_cases, none_in_empty, before_among}
+use Rattle.hierarchy.proofs.WalksOrderLemmas.{in_front, in_rest, cons_cases, none_in_empty}
 
 -- ---- walks up interfaces
 
@@ -43,7 +42,7 @@ get_or_past (m ∷ marks) zero past = absurd (omega (arith, past))
 get_or_past (m ∷ marks) (suc i) past = get_or_past marks i (omega arith)
 
 -- a number of no class is not initialized
-marks_tell : (family : Family) (marks : List Bool) (i : ℕ) → TellFirst family marks
+pub marks_tell : (family : Family) (marks : List Bool) (i : ℕ) → TellFirst family marks
     → get_or marks i false ≡ is_initialized_first family i
 marks_tell family marks i are = elim (cases_lt i (length marks)) [
   | inl small ↦ are.tell i small
@@ -51,20 +50,6 @@ marks_tell family marks i are = elim (cases_lt i (length marks)) [
       ∙ sym (ap (λ (g : Option GivenClass). passes declares_default (file_of g))
       (slice_get_past family i (omega (arith, are.count))))
 ]
-
-pub marked_added : (family : Family) (is seen old new : List ℕ) (marks : List Bool) → IsFamily family
-    → TellFirst family marks
-    → ((i : ℕ) → Contains is i → is_interface_in family i ≡ true) → IsPostorderOf family is seen
-    → new ≡ old ++ filter (λ c. get_or marks c false) seen
-    → AddsInterfaces family is old new
-marked_added family is seen old new marks fits marked are order added = record {
-  all = order.all;
-  stand = superinterfaces_first family fits order.stand are;
-  kept = added
-      ∙ ap (λ (xs : List ℕ). old ++ xs)
-      (filter_agree (λ c. get_or marks c false) (is_initialized_first family) (λ i. marks_tell family marks i marked)
-      seen ∙ ap (filter (is_initialized_first family)) order.first);
-}
 
 -- one more class is marked
 pub marked_next : (family : Family) (old new : List Bool) (b : Bool) (c : ℕ) → new ≡ old ++ b ∷ []
@@ -86,34 +71,10 @@ marked_next family old new b c push count is before i small = elim (cases_lt i (
 
 -- ---- interfaces above which nothing is initialized
 
-none_kept : (p : ℕ → Bool) (xs : List ℕ) → ((x : ℕ) → Contains xs x → p x ≡ false) → filter p xs ≡ []
-none_kept p [] lacks = refl
-none_kept p (x ∷ xs) lacks =
-    rw (lacks x (in_front x xs)) (none_kept p xs (λ y h. lacks y (in_rest x xs y h)))
-
--- of idle interfaces nothing is added
-pub none_added : (family : Family) (is old : List ℕ) → IsFamily family → HasPostorder family is
-    → ((i : ℕ) → Contains is i → is_interface_in family i ≡ true) → AreIdle family is → AddsInterfaces family is old old
-none_added family is old fits (all, stand) are idle = record {
-  all = all;
-  stand = superinterfaces_first family fits stand are;
-  kept = sym (ap (λ (xs : List ℕ). old ++ xs) (none_kept (is_initialized_first family) (firsts all)
-      (λ j h. idle j (before_among family stand j ((Contains-firsts all j).0 h)))) ∙ append-nil old);
-}
-
 idle_joined : (family : Family) (is : List ℕ) → ((i : ℕ) → Contains is i → AreIdle family (i ∷ []))
     → AreIdle family is
 idle_joined family is each j (inl among) = each j among j (inl (in_front j []))
 idle_joined family is each j (inr (i, among, up)) = each i among j (inr (i, in_front i [], up))
-
-pub none_marked : (family : Family) (is : List ℕ) (marks : List Bool) → TellIdle family marks
-    → All (λ i. i < length family) is
-    → ((i : ℕ) → Contains is i → is_interface_in family i ≡ true) → All (λ i. get_or marks i false ≡ false) is
-    → AreIdle family is
-none_marked family is marks told within are unmarked =
-    idle_joined family is
-    (λ i h. told.tell i (All-contains (λ i. i < length family) is i within h) (are i h)
-    (All-contains (λ i. get_or marks i false ≡ false) is i unmarked h))
 
 idle_alone : (family : Family) (c : ℕ) → IsFamily family → is_interface_in family c ≡ true
     → is_initialized_first family c ≡ false → AreIdle family (interfaces_in family c) → AreIdle family (c ∷ [])

@@ -1,10 +1,9 @@
 -- What the bits of a declaration tell, from class to class.
-use Rattle.std.proofs.Common.{◌≡◌, ◌≢◌, ◌↔◌, ◌⊎◌, ◌<◌, ◌≤◌, ℕ, Bool, List, [], ◌∷◌, ◌++◌, length, Option, Some, None}
+use Rattle.std.proofs.Common.{◌≡◌, ◌≢◌, ◌↔◌, ◌<◌, ℕ, List, [], ◌∷◌, ◌++◌, length, Option, Some, None}
 use Rattle.std.proofs.Common.{refl, sym, ap, ◌∙◌, subst, inl, inr, arith, append-nil, bit_and, bit_or, set, get_or}
 use Rattle.std.proofs.Common.{Bor, IfSome, is_some, ltb}
 use Rattle.std.proofs.lemmas.Bool.{ltb-false}
 use Rattle.std.proofs.lemmas.Option.{get_or_from_slice_get}
-use Rattle.std.specs.List.{Contains}
 use Rattle.std.proofs.lemmas.Bool.{cases_eq}
 use Rattle.std.proofs.lemmas.List.{get_or-set_same, get_or-set_other, length-set}
 use Rattle.std.proofs.lemmas.List.Elements.{Contains-push_cases}
@@ -19,7 +18,7 @@ use Rattle.hierarchy.proofs.AboveLemmas.{ancestor_parts, among_parents}
 use Rattle.hierarchy.proofs.AlongSuperclassesLemmas.{not_in_front}
 use Rattle.hierarchy.proofs.AmongLemmas.{among_one, itself_among, above_one, among_push, among_left, among_right}
 use Rattle.hierarchy.proofs.AmongLemmas.{found_in_front, read_at}
-use Rattle.hierarchy.proofs.WordLemmas.{set_or_not, either, either_left, either_right, both, no_bit}
+use Rattle.hierarchy.proofs.WordLemmas.{either, either_left, either_right, both, no_bit}
 use Rattle.hierarchy.proofs.WalksOrderLemmas.{none_in_empty}
 
 abbrev no_bits : Known

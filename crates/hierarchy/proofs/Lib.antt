@@ -19,6 +19,7 @@ pub mod MarkedLemmas
 pub mod DefaultsLemmas
 pub mod FirstsLemmas
 pub mod InterfaceOrdersLemmas
+pub mod MarkedOrdersLemmas
 pub mod UniquenessLemmas
 pub mod BuiltInMembersLemmas
 pub mod ResolutionUniqueLemmas

@@ -1,6 +1,6 @@
 -- Bits of the declarations of a window.
-use Rattle.std.proofs.Common.{◌≡◌, ◌≢◌, ◌↔◌, ◌⊎◌, ◌<◌, ◌≤◌, ◌+◌, ℕ, Bool, List, Option, Some, None, length, slice_get}
-use Rattle.std.proofs.Common.{Bor, IfSome, is_some, ltb, refl, sym, ap, ◌∙◌, subst, inl, inr, arith}
+use Rattle.std.proofs.Common.{◌≡◌, ◌≢◌, ◌↔◌, ◌⊎◌, ◌<◌, ◌+◌, ℕ, List, Option, Some, None, length, slice_get}
+use Rattle.std.proofs.Common.{Bor, is_some, ltb, refl, sym, ap, ◌∙◌, subst, inl, inr, arith}
 use Rattle.std.proofs.lemmas.Bool.{cases_eq, ltb-false}
 use Rattle.std.proofs.lemmas.Option.{slice_get_past}
 use Rattle.hierarchy.specs.steps.DeclarationBits.{Has, IsAt}

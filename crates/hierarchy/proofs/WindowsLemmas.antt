@@ -1,10 +1,10 @@
 -- What classes have of their own in a window of declarations.
-use Rattle.std.proofs.Common.{◌≡◌, ◌≢◌, ◌↔◌, ◌⊎◌, ◌<◌, ◌≤◌, ◌+◌, ℕ, List, Option, Some, None, length, slice_get, set}
-use Rattle.std.proofs.Common.{get_or, refl, sym, ap, ◌∙◌, subst, inl, inr, arith}
+use Rattle.std.proofs.Common.{◌≡◌, ◌≢◌, ◌↔◌, ◌⊎◌, ◌<◌, ◌≤◌, ◌+◌, ℕ, List, Some, length, slice_get, set}
+use Rattle.std.proofs.Common.{sym, ap, ◌∙◌, subst, inl, inr, arith}
 use Rattle.std.specs.Prelude.{bit_or}
 use Rattle.std.specs.List.{Contains}
-use Rattle.std.proofs.lemmas.Bool.{cases_eq, cases_lt}
-use Rattle.std.proofs.lemmas.List.{get_or-set_same, get_or-set_other, get_or_past}
+use Rattle.std.proofs.lemmas.Bool.{cases_eq}
+use Rattle.std.proofs.lemmas.List.{get_or-set_same, get_or-set_other}
 use Rattle.std.proofs.lemmas.Option.{slice_get-get_or, slice_get_within}
 use Rattle.built_in.specs.Keys.{NameAndType}
 use Rattle.loading.proofs.PlaceLemmas.{contains_at}
@@ -19,7 +19,7 @@ use Rattle.hierarchy.specs.declared.declarations.Declaration.{Declaration}
 use Rattle.hierarchy.specs.declared.masks.Mask.{Mask}
 use Rattle.hierarchy.specs.declared.member_index.MemberKey.{MemberKey}
 use Rattle.hierarchy.specs.declared.wanted.Wanted.{Wanted}
-use Rattle.hierarchy.proofs.WordLemmas.{either, either_left, either_right, no_bit}
+use Rattle.hierarchy.proofs.WordLemmas.{either, either_left, either_right}
 
 -- ---- the bits of a class
 

@@ -10,7 +10,7 @@ ghost use Rattle.hierarchy.specs.steps.Walks.{HasPostorder};
 ghost use Rattle.hierarchy.specs.Search.{row_in};
 
 use crate::class_lists::{ClassLists, empty_lists};
-use crate::marks::{Marks, any_marked};
+use crate::marks::Marks;
 use crate::walk::Walk;
 use graph::Visited;
 use loading::family::Family;
@@ -104,7 +104,14 @@ fn order_of(
         return Ok(ClassNumbers::new(Vec::new(alloc)));
     }
     let mut order = superclass_alone(alloc, family, class)?;
-    add_interfaces(family, family.interfaces(class), marks, walk, &mut order)?;
+    add_interfaces(
+        alloc,
+        family,
+        family.interfaces(class),
+        marks,
+        walk,
+        &mut order,
+    )?;
     Ok(ClassNumbers::new(order))
 }
 
@@ -121,8 +128,10 @@ fn superclass_alone(alloc: Global, family: &Family, class: u32) -> Result<Vec<u3
     Ok(numbers)
 }
 
-/// Adds, of some interfaces and those above them, those that are initialized first, each after its superinterfaces.
+/// Adds, of some interfaces and those above them, those that are initialized first, each after its superinterfaces. Of
+/// those where nothing is initialized, no walk goes up.
 fn add_interfaces(
+    alloc: Global,
     family: &Family,
     interfaces: &[u32],
     marks: &Marks,
@@ -144,11 +153,24 @@ fn add_interfaces(
     ensures added { OnOk result (AddsInterfaces family.now interfaces.now order.old.items order.new.items) }
     ensures within { OnOk result (All (λ c. c < length family.now) order.new.items) }
 {
-    if !any_marked(interfaces, marks.above.as_slice()) {
-        return Ok(());
-    }
-    walk.above(family, interfaces)?;
+    let marked = marked_among(alloc, interfaces, marks.above.as_slice())?;
+    walk.above(family, marked.as_slice())?;
     add_marked(walk.left(), marks.first.as_slice(), order)
+}
+
+/// Those of some classes that are marked.
+fn marked_among(alloc: Global, classes: &[u32], marks: &[bool]) -> Result<Vec<u32>, AllocError>
+    requires { All (λ c. c < length marks.now) classes.now }
+    ensures { IfOk result (λ marked.
+        marked.items ≡ filter (λ c. slice_index_or marks.now c false) classes.now) }
+{
+    let mut marked = Vec::new(alloc);
+    for class in classes {
+        if marks[*class as usize] {
+            marked.push(*class)?;
+        }
+    }
+    Ok(marked)
 }
 
 /// Adds those members that are marked.

@@ -47,7 +47,7 @@ fn mark_above(family: &Family, first: &[bool], above: &mut [bool])
 }
 
 /// Whether one of some classes is marked.
-pub(crate) fn any_marked(classes: &[u32], marks: &[bool]) -> bool
+fn any_marked(classes: &[u32], marks: &[bool]) -> bool
     requires { All (λ c. c < length marks.now) classes.now }
     ensures { result ≡ false → All (λ c. slice_index_or marks.now c false ≡ false) classes.now }
 {

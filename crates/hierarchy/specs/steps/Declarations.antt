@@ -1,6 +1,6 @@
 -- The declarations of members by some names and descriptors, as a list.
 use Rattle.std.specs.Prelude.{◌≡◌, ◌⊎◌, ℕ, not, List, Some}
-use Rattle.std.specs.List.{All, Contains}
+use Rattle.std.specs.List.{Contains}
 use Rattle.built_in.specs.Keys.{NameAndType}
 use Rattle.hierarchy.specs.Hierarchies.{NumberedFamily}
 use Rattle.hierarchy.specs.MemberLookup.{flags_in, is_abstract}

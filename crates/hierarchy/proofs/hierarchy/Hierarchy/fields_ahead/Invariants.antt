@@ -1,4 +1,4 @@
-use Rattle.std.proofs.Common.{◌≡◌, ◌≤◌, ◌-◌, length}
+use Rattle.std.proofs.Common.{◌≤◌, ◌-◌, length}
 use Rattle.hierarchy.specs.steps.Groups.{AreWays}
 use Rattle.hierarchy.specs.steps.FoundAhead.{AreFields}
 use Rattle.hierarchy.proofs.hierarchy.Hierarchy.fields_ahead.Given as goal

@@ -1,4 +1,4 @@
-use Rattle.std.proofs.Common.{◌≡◌, ◌≤◌, ◌-◌, length}
+use Rattle.std.proofs.Common.{◌≤◌, ◌-◌, length}
 use Rattle.hierarchy.specs.steps.Groups.{AreWays}
 use Rattle.hierarchy.specs.steps.FoundAhead.{AreMethods}
 use Rattle.hierarchy.proofs.hierarchy.Hierarchy.methods_ahead.Given as goal
