@@ -150,10 +150,30 @@ fn run_contents(alloc: Global, words: &Lazy<'_>, files: &[Vec<u8>]) -> Result<Ou
     ensures { IfOk result (λ outcome. IsTold outcome.status) }
 {
     let entries = entries_of(alloc, words.entries)?;
-    match run_class_files(alloc, files, entries.as_slice(), words.limit) {
-        Ok(run) => Ok(outcome_of(alloc, &run)?),
+    run_entries(alloc, files, entries.as_slice(), words.limit)
+}
+
+/// Runs the class files of these texts from these entries.
+fn run_entries(
+    alloc: Global,
+    files: &[Vec<u8>],
+    entries: &[ClassName],
+    limit: u64,
+) -> Result<Outcome, Refusal>
+    ensures { IfOk result (λ outcome. IsTold outcome.status) }
+{
+    match run_class_files(alloc, files, entries, limit) {
+        Ok(run) => told(outcome_of(alloc, &run)),
         Err(refusal) => Err(refusal),
     }
+}
+
+/// The same, where to be out of memory is a refusal.
+fn told(outcome: Result<Outcome, AllocError>) -> Result<Outcome, Refusal>
+    requires { IfOk outcome (λ outcome. IsTold outcome.status) }
+    ensures { IfOk result (λ outcome. IsTold outcome.status) }
+{
+    Ok(outcome?)
 }
 
 /// What is to be told of a run.

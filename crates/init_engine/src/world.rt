@@ -116,7 +116,6 @@ fn take_turn(
 
 /// The threads, what they share, and what they printed. A contract sees the three; `world_of` of them is the
 /// world as the definition has it.
-#[derive(Drop)]
 pub struct World {
     threads: Vec<Thread>,
     shared: Shared,
@@ -134,6 +133,17 @@ impl Model for World {
 
     // Each thread's stack has the thread's number, and there are at most 64.
     ghost invariant = { λ w. AreNumbered w.threads.items × (length w.threads.items ≤ 64) };
+}
+
+// By hand, since a derived one is proved anew wherever a world is let go.
+impl Drop for World {
+    fn drop(self) {
+        let World {
+            threads: _,
+            shared: _,
+            printed: _,
+        } = self;
+    }
 }
 
 /// What a world has shown.

@@ -133,15 +133,26 @@ pub fn shown(alloc: Global, program: &Program, entry: &str) -> Result<String, Al
 }
 
 fn shown_after(alloc: Global, program: &Program, world: World) -> Result<String, AllocError> {
-    let (world, _) = turns(alloc, program, world, 100_000_000)?;
+    match turns(alloc, program, world, 100_000_000) {
+        Ok((world, _)) => shown_of(alloc, &world),
+        Err(error) => Err(error),
+    }
+}
+
+fn shown_of(alloc: Global, world: &World) -> Result<String, AllocError> {
     let seen = world.seen(alloc)?;
     let mut text = String::new(alloc);
-    for line in &seen.printed {
-        text.push_str(from_utf8(line.text.as_bytes()).unwrap_or("no text"))?;
-    }
+    add_texts(&mut text, &seen.printed)?;
     add_endings(&mut text, &seen.threads)?;
     text.push('\n')?;
     Ok(text)
+}
+
+fn add_texts(text: &mut String, lines: &[Line]) -> Result<(), AllocError> {
+    for line in lines {
+        text.push_str(from_utf8(line.text.as_bytes()).unwrap_or("no text"))?;
+    }
+    Ok(())
 }
 
 /// Single steps of thread 0, what the last one gave and what is seen then, and what a run by turns does after it.

@@ -16,15 +16,29 @@ pub fn turned(alloc: Global, program: &Program, list: &str) -> Result<String, Al
 }
 
 fn turned_on(alloc: Global, program: &Program, world: World) -> Result<String, AllocError> {
-    let (world, schedule) = turns(alloc, program, world, 1_000_000)?;
+    match turns(alloc, program, world, 1_000_000) {
+        Ok((world, schedule)) => turned_text(alloc, program, &world, &schedule),
+        Err(error) => Err(error),
+    }
+}
+
+fn turned_text(
+    alloc: Global,
+    program: &Program,
+    world: &World,
+    schedule: &[(u32, u64)],
+) -> Result<String, AllocError> {
     let mut text = String::new(alloc);
     for number in 0..world.thread_count() {
-        let steps = steps_of(&schedule, number);
-        separate(&mut text)?;
-        write!(text, "{steps}")?;
+        add_count(&mut text, steps_of(schedule, number))?;
     }
-    add_sight(alloc, &mut text, program, &world)?;
+    add_sight(alloc, &mut text, program, world)?;
     Ok(text)
+}
+
+fn add_count(text: &mut String, steps: u64) -> Result<(), AllocError> {
+    separate(text)?;
+    write!(text, "{steps}")
 }
 
 /// How many steps of a thread a schedule has.
@@ -44,7 +58,7 @@ pub fn scheduled(alloc: Global, program: &Program, about: &str) -> Result<String
     let (list, schedule) = about.split_once(" | ").unwrap_or((about, ""));
     let entries = entries_of(alloc, list)?;
     match World::lazy(alloc, program, &entries) {
-        Ok(world) => scheduled_on(alloc, program, world, schedule),
+        Ok(mut world) => scheduled_on(alloc, program, &mut world, schedule),
         Err(fault) => fault.to_string(alloc),
     }
 }
@@ -52,7 +66,7 @@ pub fn scheduled(alloc: Global, program: &Program, about: &str) -> Result<String
 fn scheduled_on(
     alloc: Global,
     program: &Program,
-    mut world: World,
+    world: &mut World,
     schedule: &str,
 ) -> Result<String, AllocError> {
     let mut text = String::new(alloc);
@@ -62,12 +76,12 @@ fn scheduled_on(
         match thread {
             None => thread = Some(number),
             Some(stepping) => {
-                add_steps(alloc, &mut text, program, &mut world, stepping, number)?;
+                add_steps(alloc, &mut text, program, world, stepping, number)?;
                 thread = None;
             }
         }
     }
-    add_sight(alloc, &mut text, program, &world)?;
+    add_sight(alloc, &mut text, program, world)?;
     Ok(text)
 }
 

@@ -4,6 +4,8 @@ use crate::members::number_of;
 use classfile::printed;
 use program::Program;
 use program::class::{Implementation, MethodCode};
+use program::handler::Handler;
+use program::runtime_constant::FieldKind;
 use std::alloc::{AllocError, Global};
 
 fn or_nothing(mut text: String) -> Result<String, AllocError> {
@@ -82,23 +84,30 @@ fn code_text(
 ) -> Result<String, AllocError> {
     let mut text = String::from_str(alloc, "code")?;
     if let Some(signature) = program.signature(class, code.descriptor) {
-        for kind in signature.parameters.as_slice() {
-            let kind = format!(in alloc; " {kind:?}")?;
-            text.push_str(&kind)?;
-        }
+        add_kinds(&mut text, signature.parameters.as_slice())?;
     }
     let returns = code.returns;
-    let returned = format!(in alloc; " to {returns:?}")?;
-    text.push_str(&returned)?;
-    for handler in code.handlers.as_slice() {
+    write!(text, " to {returns:?}")?;
+    add_handlers(&mut text, code.handlers.as_slice())?;
+    Ok(text)
+}
+
+fn add_kinds(text: &mut String, kinds: &[FieldKind]) -> Result<(), AllocError> {
+    for kind in kinds {
+        write!(text, " {kind:?}")?;
+    }
+    Ok(())
+}
+
+fn add_handlers(text: &mut String, handlers: &[Handler]) -> Result<(), AllocError> {
+    for handler in handlers {
         let start = handler.start_pc;
         let end = handler.end_pc;
         let target = handler.handler_pc;
         let catches = handler.catches;
-        let handler = format!(in alloc; " [{start} {end} {target} {catches:?}]")?;
-        text.push_str(&handler)?;
+        write!(text, " [{start} {end} {target} {catches:?}]")?;
     }
-    Ok(text)
+    Ok(())
 }
 
 /// The place of the class initialization method of a class.

@@ -26,7 +26,6 @@ use vm_state::classes::StaticField;
 
 /// Given classes by their numbers, which are in the order of their names' bytes, with their members and parents by
 /// number.
-#[derive(Drop)]
 pub struct Program {
     pub(crate) hierarchy: Hierarchy,
     pub(crate) orders: ClassLists,
@@ -55,6 +54,19 @@ impl Model for Program {
     ghost invariant = { λ s. IsProgram
         (record { family = s.hierarchy.family; orders = s.orders; classes = s.classes.items; strings = s.strings })
         × AreSlots s.hierarchy.family s.slots };
+}
+
+// By hand, since a derived one is proved anew wherever a program is let go.
+impl Drop for Program {
+    fn drop(self) {
+        let Program {
+            hierarchy: _,
+            orders: _,
+            classes: _,
+            strings: _,
+            slots: _,
+        } = self;
+    }
 }
 
 impl Program {
