@@ -297,6 +297,13 @@ def conflicts_below(count):
             + [class_file(name, OBJECT, [top, "Other"], members=naming(name)) for name in names])
 
 
+def initialized_on_top(count):
+    """A chain of so many interfaces, of which the first alone is initialized, before each of as many classes below."""
+    abstract = bare_chain(count)[1:]
+    return [interface("I0")] + abstract + [class_file("C%d" % number, OBJECT, ["I%d" % (count - 1)])
+                                           for number in range(count)]
+
+
 def alternating(count):
     """Sixteen classes below the last of a chain of interfaces; references to its methods go from class to class."""
     top = "I%d" % (count - 1)
@@ -320,7 +327,7 @@ def equal_interfaces(count):
 KINDS = {kind.__name__: kind for kind in (small, chain, chain_of_references, interface_chain, many_defaults, long_name,
                                          equal_strings, far_references, equal_interfaces, far_fields, overloads,
                                          below_interfaces, many_below, own_methods_below, two_chains_below, wide_below,
-                                         conflicts_below, alternating, long_orders)}
+                                         conflicts_below, initialized_on_top, alternating, long_orders)}
 
 
 def main():
