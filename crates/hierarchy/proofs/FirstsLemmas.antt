@@ -123,3 +123,78 @@ firsts_joins false front old new x e (present, is) =
 -- ---- lists that go on
 
 -- ---- lists that are copied
+
+-- ---- the first of each number that passes a test
+
+kept_twice : (p : ℕ → Bool) (xs : List ℕ) → filter p (filter p xs) ≡ filter p xs
+kept_twice p xs = filter_both p p xs ∙ filter_agree (λ x. p x && p x) p (λ x. same (p x)) xs
+  where
+    same : (b : Bool) → (b && b) ≡ b
+    same true = refl
+    same false = refl
+
+-- what a filter takes out may be taken out before
+other_kept : (p : ℕ → Bool) (x : ℕ) → p x ≡ false → (ys : List ℕ)
+    → filter p (filter (λ y. not (eqb y x)) ys) ≡ filter p ys
+other_kept p x fails ys =
+    filter_both p (λ y. not (eqb y x)) ys
+    ∙ filter_agree (λ y. not (eqb y x) && p y) p (λ y. by_test y (eqb y x) refl) ys
+  where
+    by_test : (y : ℕ) (b : Bool) → eqb y x ≡ b → (not b && p y) ≡ p y
+    by_test y true e = sym (ap p (eqb-true y x e) ∙ fails)
+    by_test y false e = refl
+
+swapped : (p q : ℕ → Bool) (ys : List ℕ) → filter p (filter q ys) ≡ filter q (filter p ys)
+swapped p q ys =
+    filter_both p q ys ∙ filter_agree (λ y. q y && p y) (λ y. p y && q y) (λ y. turned (q y) (p y)) ys
+    ∙ sym (filter_both q p ys)
+  where
+    turned : (b c : Bool) → (b && c) ≡ (c && b)
+    turned true true = refl
+    turned true false = refl
+    turned false true = refl
+    turned false false = refl
+
+pub filter-firsts : (p : ℕ → Bool) (xs : List ℕ) → filter p (firsts xs) ≡ firsts (filter p xs)
+filter-firsts p [] = refl
+filter-firsts p (x ∷ xs) = by_test (p x) refl (filter-firsts p xs)
+  where
+    other : List ℕ → List ℕ
+    other = filter (λ y. not (eqb y x))
+
+    by_test : (b : Bool) → p x ≡ b → filter p (firsts xs) ≡ firsts (filter p xs)
+        → cond b (x ∷ filter p (other (firsts xs))) (filter p (other (firsts xs)))
+        ≡ firsts (cond b (x ∷ filter p xs) (filter p xs))
+    by_test true e rest =
+        ap (λ (l : List ℕ). x ∷ l) (swapped p (λ y. not (eqb y x)) (firsts xs) ∙ ap other rest)
+    by_test false e rest = other_kept p x e (firsts xs) ∙ rest
+
+pub firsts_twice : (xs : List ℕ) → firsts (firsts xs) ≡ firsts xs
+firsts_twice [] = refl
+firsts_twice (x ∷ xs) =
+    let other : ℕ → Bool = λ y. not (eqb y x) in
+    ap (λ (l : List ℕ). x ∷ l)
+    (ap (filter other) (sym (filter-firsts other (firsts xs)) ∙ ap (filter other) (firsts_twice xs))
+    ∙ kept_twice other (firsts xs))
+
+-- lists that were looked through are joined
+firsts_joined : (xs ys : List ℕ) → firsts (firsts xs ++ firsts ys) ≡ firsts (xs ++ ys)
+firsts_joined xs ys =
+    firsts-append (firsts xs) (firsts ys)
+    ∙ ap (λ (l : List ℕ). l ++ without (firsts xs) (firsts (firsts ys))) (firsts_twice xs)
+    ∙ ap (λ (l : List ℕ). firsts xs ++ without (firsts xs) l) (firsts_twice ys)
+    ∙ ap (λ (l : List ℕ). firsts xs ++ l)
+    (filter_agree (λ x. not (has x (firsts xs))) (λ x. not (has x xs)) (λ x. ap not (has-firsts x xs)) (firsts ys))
+    ∙ sym (firsts-append xs ys)
+
+pub filter_again : (p : ℕ → Bool) (list seen whole : List ℕ) → list ≡ filter p seen → filter p seen ≡ whole
+    → filter p list ≡ whole
+filter_again p list seen whole is kept = ap (filter p) is ∙ kept_twice p seen ∙ kept
+
+pub kept_joined : (p : ℕ → Bool) (seen list new xs ys : List ℕ) → filter p seen ≡ filter p (firsts xs)
+    → filter p list ≡ filter p (firsts ys) → new ≡ firsts (seen ++ list) → filter p new ≡ filter p (firsts (xs ++ ys))
+kept_joined p seen list new xs ys before more is =
+    ap (filter p) is ∙ filter-firsts p (seen ++ list)
+    ∙ ap firsts (filter-append p seen list ∙ ap (λ (l : List ℕ). l ++ filter p list) before
+    ∙ ap (λ (l : List ℕ). filter p (firsts xs) ++ l) more ∙ sym (filter-append p (firsts xs) (firsts ys)))
+    ∙ sym (filter-firsts p (firsts xs ++ firsts ys)) ∙ ap (filter p) (firsts_joined xs ys)

@@ -1,25 +1,23 @@
 -- What is initialized before a class, from a walk up its interfaces.
 use Rattle.std.proofs.Common.{◌≡◌, ℕ, zero, suc, ◌+◌, ◌<◌, ◌≤◌, Bool, true, false, cond, List, [], ◌∷◌, ◌++◌, length}
-use Rattle.std.proofs.Common.{take, get_or, set, Option, refl, sym, ap, ◌∙◌, subst, inl, inr, arith}
+use Rattle.std.proofs.Common.{take, get_or, Option, refl, sym, ap, ◌∙◌, subst, inl, inr, arith}
 use Rattle.std.proofs.Common.{append-nil, append_assoc}
-use Rattle.std.specs.List.{All, Contains, filter}
-use Rattle.std.proofs.lemmas.Bool.{cases_lt, cases_eq}
+use Rattle.std.specs.List.{Contains, filter}
+use Rattle.std.proofs.lemmas.Bool.{cases_lt}
 use Rattle.std.proofs.lemmas.Grind.{common_steps}
-use Rattle.std.proofs.lemmas.List.{take_more, length_push, get_or-set_same, get_or-set_other}
-use Rattle.std.proofs.lemmas.List.Elements.{filter-append, All-contains, Contains-push_cases}
+use Rattle.std.proofs.lemmas.List.{take_more, length_push}
+use Rattle.std.proofs.lemmas.List.Elements.{filter-append}
 use Rattle.std.proofs.lemmas.Option.{slice_get_past}
 use Rattle.loading.specs.declared.given.GivenClass.{GivenClass}
 use Rattle.loading.specs.Families.{Family, IsFamily, parents_in, interfaces_in, is_interface_in, superclasses_in}
-use Rattle.loading.specs.Families.{passes, file_of, IsAncestor, IsParentsFirst}
+use Rattle.loading.specs.Families.{passes, file_of}
 use Rattle.hierarchy.specs.Search.{SuperinterfacesFirst, none, next}
 use Rattle.hierarchy.specs.Initialization.{is_initialized_first, declares_default, IsInitializationOrder, class}
-use Rattle.hierarchy.specs.steps.Above.{IsAmongOrAbove}
-use Rattle.hierarchy.specs.steps.InterfaceOrders.{AddsInterfaces, TellFirst, TellIdle, AreIdle}
+use Rattle.hierarchy.specs.steps.InterfaceOrders.{AddsInterfaces, TellFirst}
 use Rattle.hierarchy.specs.steps.Walks.{ParentsBefore, IsPostorderOf, HasPostorder}
 use Rattle.hierarchy.specs.steps.Walks as walks
-use Rattle.hierarchy.proofs.AboveLemmas.{interface_parents, ancestor_parts}
-use Rattle.hierarchy.proofs.SearchRowLemmas.{interfaces_before}
-use Rattle.hierarchy.proofs.WalksOrderLemmas.{in_front, in_rest, cons_cases, none_in_empty}
+use Rattle.hierarchy.proofs.AboveLemmas.{interface_parents}
+use Rattle.hierarchy.proofs.WalksOrderLemmas.{in_front, in_rest}
 
 -- ---- walks up interfaces
 
@@ -68,62 +66,6 @@ marked_next family old new b c push count is before i small = elim (cases_lt i (
 
     here : get_or (old ++ b ∷ []) (length old) false ≡ b
     here = grind (arith, common_steps)
-
--- ---- interfaces above which nothing is initialized
-
-idle_joined : (family : Family) (is : List ℕ) → ((i : ℕ) → Contains is i → AreIdle family (i ∷ []))
-    → AreIdle family is
-idle_joined family is each j (inl among) = each j among j (inl (in_front j []))
-idle_joined family is each j (inr (i, among, up)) = each i among j (inr (i, in_front i [], up))
-
-idle_alone : (family : Family) (c : ℕ) → IsFamily family → is_interface_in family c ≡ true
-    → is_initialized_first family c ≡ false → AreIdle family (interfaces_in family c) → AreIdle family (c ∷ [])
-idle_alone family c fits is own over j (inl among) = elim (cons_cases c [] j among) [
-  | inl same ↦ rw (sym same) own
-  | inr more ↦ absurd (none_in_empty j more)
-]
-idle_alone family c fits is own over j (inr (i, among, up)) = elim (cons_cases c [] i among) [
-  | inl same ↦ over j (subst (λ (is : List ℕ). IsAmongOrAbove family is j) (interface_parents family c fits is)
-      (ancestor_parts (subst (λ (x : ℕ). IsAncestor family x j) (sym same) up)))
-  | inr more ↦ absurd (none_in_empty i more)
-]
-
--- the marks of one more class, all of whose parents have theirs
-pub idle_next : (family : Family) (order : List ℕ) (marks : List Bool) (k : ℕ) (b : Bool) → IsFamily family
-    → IsParentsFirst family order
-    → k < length order → get_or order k 0 < length marks
-    → (b ≡ false → (is_initialized_first family (get_or order k 0) ≡ false)
-    × All (λ i. get_or marks i false ≡ false) (interfaces_in family (get_or order k 0)))
-    → ((c : ℕ) → Contains (take k order) c → is_interface_in family c ≡ true → get_or marks c false ≡ false
-    → AreIdle family (c ∷ []))
-    → (c : ℕ) → Contains (take (k + 1) order) c → is_interface_in family c ≡ true
-    → get_or (set marks (get_or order k 0) b) c false ≡ false
-    → AreIdle family (c ∷ [])
-idle_next family order marks k b fits first small below own before d h is unmarked =
-    elim (cases_eq d (get_or order k 0)) [
-      | inl same ↦ here same
-      | inr other ↦ before d (earlier other) is
-          (sym (get_or-set_other marks (get_or order k 0) d b false other) ∙ unmarked)
-    ]
-  where
-    earlier : (d ≡ get_or order k 0 → ⊥) → Contains (take k order) d
-    earlier other =
-        elim (Contains-push_cases (take k order) (get_or order k 0) d (rw (take_more order k 0 small) at h)) [
-          | inl past ↦ past
-          | inr same ↦ absurd (other (sym same))
-        ]
-
-    here : d ≡ get_or order k 0 → AreIdle family (d ∷ [])
-    here same =
-        let class : ℕ = get_or order k 0 in
-        let off : b ≡ false = sym (ap (λ (x : ℕ). get_or (set marks class b) x false) same
-        ∙ get_or-set_same marks class b false below) ∙ unmarked in
-        let known = own off in
-        subst (λ (x : ℕ). AreIdle family (x ∷ [])) (sym same)
-        (idle_alone family class fits (subst (λ (x : ℕ). is_interface_in family x ≡ true) same is) known.0
-        (idle_joined family (interfaces_in family class)
-        (λ i among. before i (interfaces_before family order k i small first among) (fits.interfaces class i among)
-        (All-contains (λ i. get_or marks i false ≡ false) (interfaces_in family class) i known.1 among))))
 
 -- what is initialized before a class
 pub class_order : (family : Family) (c : ℕ) (list : List ℕ) → is_interface_in family c ≡ false

@@ -19,7 +19,7 @@ pub mod MarkedLemmas
 pub mod DefaultsLemmas
 pub mod FirstsLemmas
 pub mod InterfaceOrdersLemmas
-pub mod MarkedOrdersLemmas
+pub mod GatheredLemmas
 pub mod UniquenessLemmas
 pub mod BuiltInMembersLemmas
 pub mod ResolutionUniqueLemmas

@@ -35,6 +35,7 @@ mod search;
 pub mod seed;
 mod select;
 mod settled;
+mod short_orders;
 mod sought;
 mod special;
 mod subtypes;

@@ -4,6 +4,7 @@ ghost use Rattle.std.specs.Prelude.{◌≡◌, ℕ, List, ◌<◌, ◌≤◌, []
 ghost use Rattle.std.specs.List.{All};
 ghost use Rattle.loading.specs.Families.{IsFamily, AreParentsWithin, parents_in};
 ghost use Rattle.loading.specs.declared.given.GivenClass.{GivenClass};
+ghost use Rattle.hierarchy.specs.Search.{firsts};
 ghost use Rattle.hierarchy.specs.steps.Walks.{Walking, IsSearchOrder, IsPostorderOf, class_of, work_left};
 
 use graph::Visited;
@@ -90,6 +91,20 @@ impl Walk {
         self.forget();
         plan_parents(&mut self.todo, family, class)?;
         walk_on(self, family)
+    }
+
+    /// Adds those of some classes that are not among those it left, as if it left them now.
+    pub(crate) fn leave_all(&mut self, classes: &[u32]) -> Result<(), AllocError>
+        requires within { All (λ c. c < self.old.left.limit) classes.now }
+        requires once { self.old.left.items ≡ firsts self.old.left.items }
+        ensures entered { self.new.entered ≡ self.old.entered }
+        ensures left_limit { self.new.left.limit ≡ self.old.left.limit }
+        ensures left { OnOk result (self.new.left.items ≡ firsts (self.old.left.items ++ classes.now)) }
+    {
+        for class in classes {
+            self.left.add(*class as usize)?;
+        }
+        Ok(())
     }
 
     /// As if it was nowhere, with the same room.

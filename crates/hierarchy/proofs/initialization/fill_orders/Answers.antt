@@ -1,13 +1,8 @@
 use Rattle.std.proofs.Common.{ℕ, ◌<◌, sym, subst, ◌∙◌, arith}
 use Rattle.std.specs.List.{All}
-use Rattle.hierarchy.proofs.WalksOrderLemmas.{postorder_ends}
 use Rattle.hierarchy.specs.Initialization.{IsInitializationOrder}
 use Rattle.hierarchy.proofs.SearchRowLemmas.{rows_whole, filled_next}
 use Rattle.hierarchy.proofs.initialization.fill_orders.Goals as goal
-
-pub order_of-requires-clause-known : goal.order_of-requires-clause-known
-order_of-requires-clause-known c =
-    postorder_ends c.args.family.now c.parents_first-order.result.now c.parents_first-order.ensures
 
 pub loop-class-preserved : goal.loop-class-preserved
 loop-class-preserved c =

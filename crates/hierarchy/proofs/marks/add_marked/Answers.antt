@@ -1,8 +1,8 @@
 use Rattle.std.proofs.Common.{◌≡◌, ◌<◌, length, ap, arith, ◌∙◌}
 use Rattle.std.proofs.lemmas.List.Elements.{All-push}
 use Rattle.hierarchy.proofs.InterfaceOrdersLemmas.{kept_one, kept_none}
-use Rattle.hierarchy.proofs.initialization.add_marked.Goals as goal
-use Rattle.hierarchy.proofs.initialization.add_marked.Goals.{then-marks-class+in_ok-push, else-marks-class}
+use Rattle.hierarchy.proofs.marks.add_marked.Goals as goal
+use Rattle.hierarchy.proofs.marks.add_marked.Goals.{then-marks-class+in_ok-push, else-marks-class}
 
 pub loop-index-preserved : goal.loop-index-preserved
 loop-index-preserved c = elim c.if-marks-class.branch [

@@ -1,6 +1,6 @@
 use Rattle.std.proofs.Common.{◌≡◌, ◌<◌, ◌++◌, false, length, get_or, take}
 use Rattle.std.specs.List.{All, filter}
-use Rattle.hierarchy.proofs.initialization.add_marked.Given as goal
+use Rattle.hierarchy.proofs.marks.add_marked.Given as goal
 
 abbrev pub invariant-loop-index : goal.invariant-loop-index
 invariant-loop-index l = record {
