@@ -297,11 +297,21 @@ def conflicts_below(count):
             + [class_file(name, OBJECT, [top, "Other"], members=naming(name)) for name in names])
 
 
+def on_top(initialized, count):
+    """So many initialized interfaces above a chain of `count` others, before each of as many classes below."""
+    chain = interface_chain(initialized) + bare_chain(initialized + count)[initialized:]
+    top = "I%d" % (initialized + count - 1)
+    return chain + [class_file("C%d" % number, OBJECT, [top]) for number in range(count)]
+
+
 def initialized_on_top(count):
-    """A chain of so many interfaces, of which the first alone is initialized, before each of as many classes below."""
-    abstract = bare_chain(count)[1:]
-    return [interface("I0")] + abstract + [class_file("C%d" % number, OBJECT, ["I%d" % (count - 1)])
-                                           for number in range(count)]
+    """One initialized interface above a chain of so many others, before each of as many classes below."""
+    return on_top(1, count)
+
+
+def many_on_top(count):
+    """As `initialized_on_top`, with 300 of them: more than the list has that an interface keeps."""
+    return on_top(300, count)
 
 
 def alternating(count):
@@ -327,7 +337,8 @@ def equal_interfaces(count):
 KINDS = {kind.__name__: kind for kind in (small, chain, chain_of_references, interface_chain, many_defaults, long_name,
                                          equal_strings, far_references, equal_interfaces, far_fields, overloads,
                                          below_interfaces, many_below, own_methods_below, two_chains_below, wide_below,
-                                         conflicts_below, initialized_on_top, alternating, long_orders)}
+                                         conflicts_below, initialized_on_top, many_on_top,
+                                         alternating, long_orders)}
 
 
 def main():

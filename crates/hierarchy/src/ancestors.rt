@@ -20,13 +20,23 @@ const MOST_CLASSES: usize = 65_535;
 
 /// All above a class: its superinterfaces, its superclass and what stands above these, each once, in the order in which
 /// searches come to them. They are kept until those of another class are asked for.
-#[derive(Drop)]
 pub(crate) struct Ancestors {
     /// The class that they were found of.
     class: Option<u32>,
     walk: Walk,
     /// By class: where it stands among them, if it is one of them.
     places: Vec<u32>,
+}
+
+// By hand, since a derived one is proved anew wherever one is let go.
+impl Drop for Ancestors {
+    fn drop(self) {
+        let Ancestors {
+            class: _,
+            walk: _,
+            places: _,
+        } = self;
+    }
 }
 
 /// A member of one of them, and where its class stands among them, counted from 0.

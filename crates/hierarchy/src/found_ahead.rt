@@ -13,9 +13,15 @@ use std::alloc::{AllocError, Global};
 
 /// By the class that a reference names, and the numbers of its name and descriptor: the member that it resolves to, or
 /// that there is none.
-#[derive(Drop)]
 pub(crate) struct FoundAhead {
     found: IndexMap<ClassMember, Option<DeclaredMember>, Seed>,
+}
+
+// By hand, since a derived one is proved anew wherever one is let go.
+impl Drop for FoundAhead {
+    fn drop(self) {
+        let FoundAhead { found: _ } = self;
+    }
 }
 
 impl FoundAhead {

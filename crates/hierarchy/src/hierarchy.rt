@@ -36,11 +36,21 @@ use std::alloc::{AllocError, Global};
 use std::marker::Model;
 
 /// The classes of a family, found by number, and their members, found by name and descriptor.
-#[derive(Drop)]
 pub struct Hierarchy {
     family: Family,
     table: MemberTable,
     nearest: NearestMembers,
+}
+
+// By hand, since a derived one is proved anew wherever one is let go.
+impl Drop for Hierarchy {
+    fn drop(self) {
+        let Hierarchy {
+            family: _,
+            table: _,
+            nearest: _,
+        } = self;
+    }
 }
 
 impl Model for Hierarchy {

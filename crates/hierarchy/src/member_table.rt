@@ -24,13 +24,24 @@ use loading::given::GivenClass;
 use std::alloc::{AllocError, Global};
 
 /// All fields and methods that the classes of a family declare, by class, name and descriptor.
-#[derive(Drop)]
 pub(crate) struct MemberTable {
     texts: Texts,
     /// By class: the numbers of its file's texts.
     pools: Vec<PoolTexts>,
     fields: MemberIndex,
     methods: MemberIndex,
+}
+
+// By hand, since a derived one is proved anew wherever one is let go.
+impl Drop for MemberTable {
+    fn drop(self) {
+        let MemberTable {
+            texts: _,
+            pools: _,
+            fields: _,
+            methods: _,
+        } = self;
+    }
 }
 
 /// Notes one member of a class.

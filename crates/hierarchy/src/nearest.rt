@@ -25,7 +25,6 @@ use loading::family::Family;
 use std::alloc::{AllocError, Global};
 
 /// What the nearest members along superclasses are found by.
-#[derive(Drop)]
 pub(crate) struct NearestMembers {
     /// By class: its place in an order in which those below a class stand together.
     places: Vec<usize>,
@@ -34,8 +33,18 @@ pub(crate) struct NearestMembers {
     reaches: Reaches,
 }
 
+// By hand, since a derived one is proved anew wherever one is let go.
+impl Drop for NearestMembers {
+    fn drop(self) {
+        let NearestMembers {
+            places: _,
+            tops: _,
+            reaches: _,
+        } = self;
+    }
+}
+
 /// How far the nearest members reach, by kind.
-#[derive(Drop)]
 pub(crate) struct Reaches {
     fields: ReachTable,
     /// Of the fields of interfaces.
@@ -45,6 +54,19 @@ pub(crate) struct Reaches {
     instance_methods: ReachTable,
     /// The same of interfaces.
     interface_methods: ReachTable,
+}
+
+// By hand, since a derived one is proved anew wherever one is let go.
+impl Drop for Reaches {
+    fn drop(self) {
+        let Reaches {
+            fields: _,
+            interface_fields: _,
+            methods: _,
+            instance_methods: _,
+            interface_methods: _,
+        } = self;
+    }
 }
 
 impl NearestMembers {

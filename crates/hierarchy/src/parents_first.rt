@@ -18,10 +18,16 @@ pub(crate) struct Step {
 
 /// The classes of a family, each after its parents. The parents of all stand in one list, so that a look at those of a
 /// class takes no way through its class file.
-#[derive(Drop)]
 pub(crate) struct ParentsFirst {
     pub(crate) steps: Vec<Step>,
     pub(crate) parents: Vec<u32>,
+}
+
+// By hand, since a derived one is proved anew wherever one is let go.
+impl Drop for ParentsFirst {
+    fn drop(self) {
+        let ParentsFirst { steps: _, parents: _ } = self;
+    }
 }
 
 impl ParentsFirst {

@@ -19,10 +19,16 @@ pub(crate) struct Reach {
 }
 
 /// For each name and descriptor its reaches, in the order of their places.
-#[derive(Drop)]
 pub(crate) struct ReachTable {
     numbers: IndexMap<MemberKey, usize, Seed>,
     rows: Vec<Vec<Reach>>,
+}
+
+// By hand, since a derived one is proved anew wherever one is let go.
+impl Drop for ReachTable {
+    fn drop(self) {
+        let ReachTable { numbers: _, rows: _ } = self;
+    }
 }
 
 impl ReachTable {

@@ -29,7 +29,6 @@ use crate::windows::note;
 use std::alloc::{AllocError, Global};
 
 /// What a way through all classes needs, whose room is used again by the next one.
-#[derive(Drop)]
 struct Ways {
     order: ParentsFirst,
     /// By class: at most how many steps a walk up takes.
@@ -38,11 +37,29 @@ struct Ways {
     rows: Vec<Known>,
 }
 
+// By hand, since a derived one is proved anew wherever one is let go.
+impl Drop for Ways {
+    fn drop(self) {
+        let Ways {
+            order: _,
+            walks: _,
+            own: _,
+            rows: _,
+        } = self;
+    }
+}
+
 /// References whose names and descriptors are looked at together.
-#[derive(Drop)]
 struct Group {
     declared: Vec<Declaration>,
     answers: Vec<Answer>,
+}
+
+// By hand, since a derived one is proved anew wherever one is let go.
+impl Drop for Group {
+    fn drop(self) {
+        let Group { declared: _, answers: _ } = self;
+    }
 }
 
 impl Ways {
