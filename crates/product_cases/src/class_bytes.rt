@@ -30,7 +30,8 @@ fn part_of(alloc: Global, file: &[u8], asked: &str) -> Result<String, AllocError
     }
 }
 
-fn number(word: &str) -> usize {
+/// The number that a word spells, or 0.
+pub fn number(word: &str) -> usize {
     word.parse().unwrap_or(0)
 }
 

@@ -1,7 +1,8 @@
 //! The program `product_cases`: asks the questions of the files of cases that its command line names, and compares
 //! the answers with those that stand after them. The folder of a file says what its cases are about ([`About`]).
 //!
-//! What the files expect follows from the rules of the JVM specification (JVMS SE 8).
+//! What the files expect follows from the rules of the JVM specification (JVMS SE 8), and for `commands` from what
+//! `preinit` promises of its words, streams and statuses.
 //!
 //! A word that ends with `.class` names a class file, which is read and written back. One that ends with `/` has the
 //! class files since the last such word linked, and one with an entry, `=` and a file has them run, and compares what
@@ -14,6 +15,8 @@
 mod class_bytes;
 mod class_files;
 mod codes;
+mod command_runs;
+mod commands;
 mod graphs;
 mod members;
 mod programs;
@@ -21,6 +24,8 @@ mod questions;
 mod rewriting;
 mod runs;
 mod schedules;
+mod shelf;
+mod streams;
 mod tables;
 
 use cases::{Subject, run_cases};
@@ -40,6 +45,8 @@ enum About {
     ClassFiles,
     /// The text form of class files, and the bytes that it stands for.
     ClassBytes,
+    /// Commands of `preinit`, over files and streams in memory, and the steps of a run.
+    Commands,
     /// Graphs and their arrangements.
     Graphs,
     /// Classes, what linking them answers, and what is seen of their runs.
@@ -52,6 +59,7 @@ impl Subject for About {
             About::Codes => codes::answer(alloc, given, asked),
             About::ClassFiles => class_files::answer(alloc, given, asked),
             About::ClassBytes => class_bytes::answer(alloc, given, asked),
+            About::Commands => commands::answer(alloc, given, asked),
             About::Graphs => graphs::answer(alloc, given, asked),
             About::Programs => programs::answer(alloc, given, asked),
         }
@@ -64,6 +72,7 @@ fn subject_of(name: &str) -> About {
         Some(("codes", _)) => About::Codes,
         Some(("class_files", _)) => About::ClassFiles,
         Some(("class_bytes", _)) => About::ClassBytes,
+        Some(("commands", _)) => About::Commands,
         Some(("graphs", _)) => About::Graphs,
         _ => About::Programs,
     }

@@ -49,11 +49,12 @@ fn no_class(alloc: Global) -> Result<String, AllocError> {
     String::from_str(alloc, "no given class")
 }
 
-fn or_nothing(mut names: String) -> Result<String, AllocError> {
-    if names.is_empty() {
-        names.push_str("nothing")?;
+/// A text, or `nothing` in the place of an empty one.
+pub fn or_nothing(mut text: String) -> Result<String, AllocError> {
+    if text.is_empty() {
+        text.push_str("nothing")?;
     }
-    Ok(names)
+    Ok(text)
 }
 
 /// Adds the name of a class after other names.

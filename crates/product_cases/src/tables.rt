@@ -1,19 +1,12 @@
 //! What the tables of a linked program have.
 
-use crate::members::number_of;
+use crate::members::{number_of, or_nothing};
 use classfile::printed;
 use program::Program;
 use program::class::{Implementation, MethodCode};
 use program::handler::Handler;
 use program::runtime_constant::FieldKind;
 use std::alloc::{AllocError, Global};
-
-fn or_nothing(mut text: String) -> Result<String, AllocError> {
-    if text.is_empty() {
-        text.push_str("nothing")?;
-    }
-    Ok(text)
-}
 
 /// Adds a piece after others, apart by commas.
 fn add_piece(text: &mut String, piece: &str) -> Result<(), AllocError> {

@@ -1,4 +1,4 @@
-//! Commands, over files and streams in memory.
+//! Runs of commands, over files and streams in memory.
 
 use crate::shelf::Shelf;
 use crate::streams::Narrow;

@@ -1,6 +1,7 @@
-//! What is asked of commands.
+//! Commands of `preinit`, and the steps of a run that `cli` offers.
 
-use crate::commands::{self, words_of};
+use crate::class_bytes::number;
+use crate::command_runs::{self, words_of};
 use crate::shelf::Shelf;
 use cli::{
     Lazy, Refusal, Request, Rest, Status, entries_of, linked_program, request_of, status_of,
@@ -37,19 +38,15 @@ pub fn answer(alloc: Global, given: &str, asked: &str) -> Result<String, AllocEr
 
 fn of_command(alloc: Global, shelf: &mut Shelf, asked: &str) -> Result<String, AllocError> {
     let Some((words, how)) = asked.split_once(" | ") else {
-        return commands::answer(alloc, shelf, asked);
+        return command_runs::answer(alloc, shelf, asked);
     };
     match how.split_once(' ') {
-        Some(("output", room)) => commands::with_output(alloc, shelf, number(room), words),
-        Some(("errors", room)) => commands::with_errors(alloc, shelf, number(room), words),
+        Some(("output", room)) => command_runs::with_output(alloc, shelf, number(room), words),
+        Some(("errors", room)) => command_runs::with_errors(alloc, shelf, number(room), words),
         Some(("begins", length)) => beginning(alloc, shelf, number(length), words),
-        Some(("has", text)) => commands::whether_with(alloc, shelf, text, words),
+        Some(("has", text)) => command_runs::whether_with(alloc, shelf, text, words),
         _ => String::from_str(alloc, "no question"),
     }
-}
-
-fn number(word: &str) -> usize {
-    word.parse().unwrap_or(0)
 }
 
 /// The first bytes of an answer.
@@ -59,7 +56,7 @@ fn beginning(
     length: usize,
     words: &str,
 ) -> Result<String, AllocError> {
-    let whole = commands::answer(alloc, shelf, words)?;
+    let whole = command_runs::answer(alloc, shelf, words)?;
     match whole.as_str().get(..length) {
         Some(part) => String::from_str(alloc, part),
         None => Ok(whole),
