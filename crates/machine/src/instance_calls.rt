@@ -22,6 +22,7 @@ use std::alloc::Global;
 use vm_state::ends::FaultKind;
 use vm_state::frame::Frame;
 use vm_state::operands::Operands;
+use vm_state::spares::Spares;
 use vm_state::value::{Fault, Value};
 
 const FAULT: Result<Conclusion, Stop> = Ok(Conclusion::Halts(FaultKind::Fault));
@@ -59,7 +60,10 @@ fn run_method<S: Store>(
     ensures activity { frame.new.activity ≡ frame.old.activity }
 {
     match method {
-        Some(Method::Given { class, index }) => reached(alloc, program, class, index, frame, count),
+        Some(Method::Given { class, index }) => {
+            let mut spares = Spares::none(alloc);
+            reached(alloc, &mut spares, program, class, index, frame, count)
+        }
         Some(Method::BuiltIn(member)) => {
             run_member(alloc, program, by, frame, store, member, receiver, count)
         }

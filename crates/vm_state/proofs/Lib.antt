@@ -6,3 +6,4 @@ pub mod StackLemmas
 pub mod PoolLemmas
 pub mod ObjectLemmas
 pub mod SlotLemmas
+pub mod VariableLemmas

@@ -11,5 +11,6 @@ pub mod locals;
 pub mod object;
 pub mod operands;
 pub mod shared;
+pub mod spares;
 pub mod text;
 pub mod value;

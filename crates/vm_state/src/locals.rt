@@ -1,7 +1,7 @@
 //! The local variables of a frame (JVMS 2.6.1).
 
 ghost use Rattle.std.specs.Prelude.{◌≡◌, ◌+◌, ◌^◌, ◌<◌, ◌≤◌, IfOk, OnErr, OnOk, Some, None, length, option_map};
-ghost use Rattle.std.specs.Prelude.{replicate, slice_get, slice_set};
+ghost use Rattle.std.specs.Prelude.{[], replicate, slice_get, slice_set};
 ghost use Rattle.vm_state.specs.declared.value.Value.{Value};
 ghost use Rattle.vm_state.specs.Locals.{int_at, long_at, stored, value_at};
 ghost use Rattle.vm_state.specs.Variables.{value_in};
@@ -86,6 +86,28 @@ impl Locals {
         ensures { IfOk result (λ s. s ≡ replicate count None) }
     {
         let variables = vec![in alloc; Variable::Nothing; count as usize]?;
+        Ok(Locals { variables })
+    }
+
+    /// No places.
+    pub fn none(alloc: Global) -> Locals
+        ensures { result ≡ [] }
+    {
+        Locals {
+            variables: Vec::new(alloc),
+        }
+    }
+
+    /// So many places that hold nothing, in the same memory where it is enough.
+    ///
+    /// # Errors
+    /// `AllocError` where memory is refused.
+    pub fn emptied(self, count: u16) -> Result<Locals, AllocError>
+        ensures { IfOk result (λ s. s ≡ replicate count None) }
+    {
+        let mut variables = self.variables;
+        variables.clear();
+        variables.resize(count as usize, Variable::Nothing)?;
         Ok(Locals { variables })
     }
 

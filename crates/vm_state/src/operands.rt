@@ -45,6 +45,32 @@ impl Operands {
         })
     }
 
+    /// An empty stack without room.
+    pub fn none(alloc: Global) -> Operands
+        ensures { result ≡ record { free = 0; values = [] } }
+    {
+        Operands {
+            values: Vec::new(alloc),
+            free: 0,
+        }
+    }
+
+    /// An empty stack with room for so many places, in the same memory where it is enough.
+    ///
+    /// # Errors
+    /// `AllocError` where memory is refused.
+    pub fn emptied(self, room: u16) -> Result<Operands, AllocError>
+        ensures { IfOk result (λ s. s ≡ record { free = room; values = [] }) }
+    {
+        let mut values = self.values;
+        values.clear();
+        values.reserve_exact(room as usize)?;
+        Ok(Operands {
+            values,
+            free: room as u32,
+        })
+    }
+
     /// A full stack with one value of one place.
     ///
     /// # Errors

@@ -1,12 +1,8 @@
-use Rattle.std.proofs.Common.{◌≡◌, ◌∙◌, ◌∷◌, ℕ, zero, suc, map, replicate, List, Option, None, refl, ap, rules}
-use Rattle.vm_state.specs.declared.value.Value.{Value}
+use Rattle.std.proofs.Common.{◌≡◌, ◌∙◌, map, replicate, ap, rules}
 use Rattle.vm_state.specs.declared.locals.Variable.TheVariants.{Nothing}
 use Rattle.vm_state.specs.Variables.{value_in}
+use Rattle.vm_state.proofs.VariableLemmas.{holding_nothing}
 use Rattle.vm_state.proofs.locals.Locals.new.Goals as goal
-
-holding_nothing : (n : ℕ) → map value_in (replicate n Nothing) ≡ replicate n None
-holding_nothing zero = refl
-holding_nothing (suc n) = ap (λ (vs : List (Option Value)). None ∷ vs) (holding_nothing n)
 
 pub returns : goal.returns
 returns c =
