@@ -53,7 +53,6 @@ fn references_by_class(alloc: Global, file: &ClassFile) -> Result<Vec<Reference>
 }
 
 /// What references to members of a class file stand for, found before its other entries are looked at.
-#[derive(Drop)]
 pub(crate) struct MembersAhead<'a> {
     family: &'a Family,
     file: &'a ClassFile,
@@ -70,6 +69,17 @@ impl<'a> Model for MembersAhead<'a> {
     ghost view = { λ s. record { family = s.family.now; file = s.file.now } };
 
     ghost invariant = { λ s. AreAhead s.family.now s.file.now s.members };
+}
+
+// By hand, since a derived one is proved anew wherever they are let go.
+impl<'a> Drop for MembersAhead<'a> {
+    fn drop(self) {
+        let MembersAhead {
+            family: _,
+            file: _,
+            members: _,
+        } = self;
+    }
 }
 
 impl<'a> MembersAhead<'a> {
@@ -108,18 +118,49 @@ impl<'a> Resolver<'a> {
         }) }
         ensures kept { members.new ≡ members.old }
     {
-        let references = references_by_class(alloc, self.file)?;
         let mut ahead = empty(alloc);
-        let mut before = None;
-        for reference in &references {
-            self.resolve_ahead(members, before, reference.index, &mut ahead)?;
-            before = Some(reference.index);
-        }
+        self.add_ahead(alloc, members, &mut ahead)?;
         Ok(MembersAhead {
             family: self.hierarchy.family(),
             file: self.file,
             members: ahead,
         })
+    }
+
+    /// Resolves the references of the class file.
+    fn add_ahead(
+        &self,
+        alloc: Global,
+        members: &mut MemberResolver<'_>,
+        ahead: &mut BTreeMap<u16, RuntimeConstant>,
+    ) -> Result<(), AllocError>
+        requires members { members.old ≡ self.now.hierarchy.now }
+        requires ahead { AreAhead self.now.hierarchy.now.family self.now.file.now ahead.old }
+        ensures ahead { OnOk result (AreAhead self.now.hierarchy.now.family self.now.file.now ahead.new) }
+        ensures kept { members.new ≡ members.old }
+    {
+        let references = references_by_class(alloc, self.file)?;
+        self.resolve_each(members, references.as_slice(), ahead)
+    }
+
+    /// Resolves these references, in order.
+    fn resolve_each(
+        &self,
+        members: &mut MemberResolver<'_>,
+        references: &[Reference],
+        ahead: &mut BTreeMap<u16, RuntimeConstant>,
+    ) -> Result<(), AllocError>
+        requires members { members.old ≡ self.now.hierarchy.now }
+        requires ahead { AreAhead self.now.hierarchy.now.family self.now.file.now ahead.old }
+        ensures ahead { OnOk result (AreAhead self.now.hierarchy.now.family self.now.file.now ahead.new) }
+        ensures kept { members.new ≡ members.old }
+    {
+        let mut before = None;
+        for reference in references {
+            self.resolve_ahead(members, before, reference.index, ahead)?;
+            before = Some(reference.index);
+        }
+        Ok(())
     }
 
     /// Resolves one more reference, if it is not equal to the one before.

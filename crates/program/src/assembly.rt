@@ -361,6 +361,28 @@ fn runtime_pool_of(
     ensures kept { members.new ≡ members.old }
 {
     let named = NamedClasses::of_file(alloc, linker.hierarchy.family(), file)?;
+    pool_with(alloc, linker, members, strings, number, file, &named)
+}
+
+/// The same with the classes that the class file names.
+fn pool_with(
+    alloc: Global,
+    linker: &Linker<'_>,
+    members: &mut MemberResolver<'_>,
+    strings: &mut Texts,
+    number: u32,
+    file: &ClassFile,
+    named: &NamedClasses<'_>,
+) -> Result<RuntimePool, AllocError>
+    requires members { members.old ≡ linker.now.hierarchy.now }
+    requires file { file_in linker.now.hierarchy.now.family number ≡ Some file.now }
+    requires family { named.now.family ≡ linker.now.hierarchy.now.family }
+    requires named { named.now.file ≡ file.now }
+    ensures pool { IfOk result (IsRuntimePool linker.now.hierarchy.now.family strings.new file.now) }
+    ensures grows { OnOk result (Grows strings.old strings.new) }
+    ensures adds { OnOk result (Adds strings.old (strings_of file.now) strings.new) }
+    ensures kept { members.new ≡ members.old }
+{
     let none = MembersAhead::none(alloc, linker.hierarchy.family(), file);
     let first = Resolver {
         hierarchy: linker.hierarchy,
@@ -368,17 +390,33 @@ fn runtime_pool_of(
         field_slots: linker.field_slots,
         class: number,
         file,
-        named: &named,
+        named,
         ahead: &none,
     };
+    pool_ahead(alloc, &first, members, strings)
+}
+
+/// The same, with the members that the class file refers to resolved first.
+fn pool_ahead(
+    alloc: Global,
+    first: &Resolver<'_>,
+    members: &mut MemberResolver<'_>,
+    strings: &mut Texts,
+) -> Result<RuntimePool, AllocError>
+    requires members { members.old ≡ first.now.hierarchy.now }
+    ensures pool { IfOk result (IsRuntimePool first.now.hierarchy.now.family strings.new first.now.file.now) }
+    ensures grows { OnOk result (Grows strings.old strings.new) }
+    ensures adds { OnOk result (Adds strings.old (strings_of first.now.file.now) strings.new) }
+    ensures kept { members.new ≡ members.old }
+{
     let ahead = first.members_ahead(alloc, members)?;
     let resolver = Resolver {
-        hierarchy: linker.hierarchy,
-        numbers: linker.numbers,
-        field_slots: linker.field_slots,
-        class: number,
-        file,
-        named: &named,
+        hierarchy: first.hierarchy,
+        numbers: first.numbers,
+        field_slots: first.field_slots,
+        class: first.class,
+        file: first.file,
+        named: first.named,
         ahead: &ahead,
     };
     resolver.runtime_pool_of(alloc, members, strings)

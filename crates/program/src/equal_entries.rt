@@ -8,11 +8,21 @@ use std::alloc::{AllocError, Global};
 use std::collections::BTreeMap;
 
 /// Where entries that name a class, a string, or a member by its class and its name and type, stood last.
-#[derive(Drop)]
 pub(crate) struct Earlier {
     classes: BTreeMap<u16, u16>,
     strings: BTreeMap<u16, u16>,
     members: BTreeMap<(u16, u16), u16>,
+}
+
+// By hand, since a derived one is proved anew wherever they are let go.
+impl Drop for Earlier {
+    fn drop(self) {
+        let Earlier {
+            classes: _,
+            strings: _,
+            members: _,
+        } = self;
+    }
 }
 
 impl Earlier {

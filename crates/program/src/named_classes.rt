@@ -15,7 +15,6 @@ use std::collections::BTreeMap;
 use std::marker::Model;
 
 /// The classes that the Class entries of a class file name. A name is looked up once, however many entries have it.
-#[derive(Drop)]
 pub(crate) struct NamedClasses<'a> {
     family: &'a Family,
     file: &'a ClassFile,
@@ -31,6 +30,17 @@ impl<'a> Model for NamedClasses<'a> {
     ghost view = { λ s. record { family = s.family.now; file = s.file.now } };
 
     ghost invariant = { λ s. AreNamed s.family.now s.file.now s.classes };
+}
+
+// By hand, since a derived one is proved anew wherever they are let go.
+impl<'a> Drop for NamedClasses<'a> {
+    fn drop(self) {
+        let NamedClasses {
+            family: _,
+            file: _,
+            classes: _,
+        } = self;
+    }
 }
 
 impl<'a> NamedClasses<'a> {

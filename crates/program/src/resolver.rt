@@ -13,7 +13,7 @@ use classfile::ClassFile;
 use hierarchy::hierarchy::Hierarchy;
 
 /// What the references of all classes are resolved with.
-#[derive(Drop)]
+#[derive(Clone, Copy)]
 pub(crate) struct Linker<'a> {
     pub(crate) hierarchy: &'a Hierarchy,
     /// By class: the numbers of its static fields.
@@ -25,7 +25,7 @@ pub(crate) struct Linker<'a> {
 }
 
 /// What the references of one class are resolved with.
-#[derive(Drop)]
+#[derive(Clone, Copy)]
 pub(crate) struct Resolver<'a> {
     pub(crate) hierarchy: &'a Hierarchy,
     pub(crate) numbers: &'a [StaticNumbers],

@@ -8,7 +8,7 @@ use Rattle.program.proofs.RuntimePoolGrowthLemmas.{grows_twice}
 use Rattle.program.proofs.RuntimePoolLemmas.{constants_next}
 use Rattle.program.proofs.StringsLemmas.{adds_next, adds_nothing}
 use Rattle.program.proofs.ZipLemmas.{item_at}
-use Rattle.program.proofs.resolver.Resolver.add_constants.Goals as goal
+use Rattle.program.proofs.resolver.Resolver.add_each.Goals as goal
 
 pub loop-index-preserved : goal.loop-index-preserved
 loop-index-preserved c =
