@@ -20,8 +20,7 @@ use Rattle.std.specs.Prelude.{unwrap_or}
 use Rattle.classfile.specs.Lookup.{class_name_in, class_name_of}
 use Rattle.program.specs.References.{FieldOfConstant, MethodOfConstant}
 use Rattle.program.specs.RuntimePool.{IsMethodReference, IsRuntimeConstant, IsRuntimePool}
-use Rattle.program.specs.steps.ResolvedConstants.{HoldsClasses, AreRuntimeConstants, IsFieldConstant, IsMethodConstant}
-use Rattle.program.specs.steps.ResolvedConstants.{IsInterfaceMethodConstant, IsResolved}
+use Rattle.program.specs.steps.ResolvedConstants.{HoldsClasses, AreRuntimeConstants, IsFieldConstant, IsResolved}
 use Rattle.program.proofs.RuntimePoolGrowthLemmas.{constant_kept}
 use Rattle.loading.proofs.PlaceLemmas.{pushed_at}
 
@@ -33,7 +32,7 @@ constant_is family strings f index constant other held given same_constant same_
     subst (λ (k : Constant). IsRuntimeConstant family strings f index k given) (sym same_constant)
     (subst (λ (x : RuntimeConstant). IsRuntimeConstant family strings f index constant x) (sym same_held) is)
 
--- a reference to a member is resolved
+-- a reference to a field is resolved
 pub field_resolved : {E : Type 0} (family : Family) (f : ClassFile) (index c n : ℕ) (constant : Constant)
     (r : Result RuntimeConstant E) → constant ≡ constants.Fieldref c n → IfOk r (IsFieldConstant family f index n)
     → IfOk r (IsResolved family f index constant)
@@ -41,23 +40,6 @@ field_resolved family f index c n constant r same =
     IfOk-weaker r (IsFieldConstant family f index n) (IsResolved family f index constant)
     (λ held is strings plain. constant_is family strings f index (constants.Fieldref c n) constant _ held same is.2
     (IsRuntimeConstant.field is.0 is.1))
-
-pub method_resolved : {E : Type 0} (family : Family) (f : ClassFile) (index c n : ℕ) (constant : Constant)
-    (r : Result RuntimeConstant E) → constant ≡ constants.Methodref c n → IfOk r (IsMethodConstant family f index c n)
-    → IfOk r (IsResolved family f index constant)
-method_resolved family f index c n constant r same =
-    IfOk-weaker r (IsMethodConstant family f index c n) (IsResolved family f index constant)
-    (λ held is strings plain. constant_is family strings f index (constants.Methodref c n) constant _ held same is.2
-    (IsRuntimeConstant.method is.1))
-
-pub interface_method_resolved : {E : Type 0} (family : Family) (f : ClassFile) (index c n : ℕ) (constant : Constant)
-    (r : Result RuntimeConstant E) → constant ≡ constants.InterfaceMethodref c n
-    → IfOk r (IsInterfaceMethodConstant family f index c n)
-    → IfOk r (IsResolved family f index constant)
-interface_method_resolved family f index c n constant r same =
-    IfOk-weaker r (IsInterfaceMethodConstant family f index c n) (IsResolved family f index constant)
-    (λ held is strings plain. constant_is family strings f index (constants.InterfaceMethodref c n) constant _ held same
-    is.2 (IsRuntimeConstant.interface_method is.1))
 
 -- a constant of no other kind stands for nothing
 pub other_constant : (family : Family) (strings : List (List ℕ)) (f : ClassFile) (index : ℕ) (constant : Constant)

@@ -118,49 +118,18 @@ impl<'a> Resolver<'a> {
         }) }
         ensures kept { members.new ≡ members.old }
     {
+        let references = references_by_class(alloc, self.file)?;
         let mut ahead = empty(alloc);
-        self.add_ahead(alloc, members, &mut ahead)?;
+        let mut before = None;
+        for reference in &references {
+            self.resolve_ahead(members, before, reference.index, &mut ahead)?;
+            before = Some(reference.index);
+        }
         Ok(MembersAhead {
             family: self.hierarchy.family(),
             file: self.file,
             members: ahead,
         })
-    }
-
-    /// Resolves the references of the class file.
-    fn add_ahead(
-        &self,
-        alloc: Global,
-        members: &mut MemberResolver<'_>,
-        ahead: &mut BTreeMap<u16, RuntimeConstant>,
-    ) -> Result<(), AllocError>
-        requires members { members.old ≡ self.now.hierarchy.now }
-        requires ahead { AreAhead self.now.hierarchy.now.family self.now.file.now ahead.old }
-        ensures ahead { OnOk result (AreAhead self.now.hierarchy.now.family self.now.file.now ahead.new) }
-        ensures kept { members.new ≡ members.old }
-    {
-        let references = references_by_class(alloc, self.file)?;
-        self.resolve_each(members, references.as_slice(), ahead)
-    }
-
-    /// Resolves these references, in order.
-    fn resolve_each(
-        &self,
-        members: &mut MemberResolver<'_>,
-        references: &[Reference],
-        ahead: &mut BTreeMap<u16, RuntimeConstant>,
-    ) -> Result<(), AllocError>
-        requires members { members.old ≡ self.now.hierarchy.now }
-        requires ahead { AreAhead self.now.hierarchy.now.family self.now.file.now ahead.old }
-        ensures ahead { OnOk result (AreAhead self.now.hierarchy.now.family self.now.file.now ahead.new) }
-        ensures kept { members.new ≡ members.old }
-    {
-        let mut before = None;
-        for reference in references {
-            self.resolve_ahead(members, before, reference.index, ahead)?;
-            before = Some(reference.index);
-        }
-        Ok(())
     }
 
     /// Resolves one more reference, if it is not equal to the one before.

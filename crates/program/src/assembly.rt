@@ -241,8 +241,23 @@ fn linked_classes(
     ensures adds { OnOk result (Adds strings.old (all_strings linker.now.hierarchy.now.family) strings.new) }
 {
     let mut members = MemberResolver::new(alloc, linker.hierarchy)?;
+    classes_with(alloc, linker, &mut members, strings)
+}
+
+/// The same with what members are resolved by.
+fn classes_with(
+    alloc: Global,
+    linker: &Linker<'_>,
+    members: &mut MemberResolver<'_>,
+    strings: &mut Texts,
+) -> Result<Vec<Class>, AllocError>
+    requires { members.old ≡ linker.now.hierarchy.now }
+    ensures classes { IfOk result (λ classes. AreClasses linker.now.hierarchy.now.family strings.new classes.items) }
+    ensures grows { OnOk result (Grows strings.old strings.new) }
+    ensures adds { OnOk result (Adds strings.old (all_strings linker.now.hierarchy.now.family) strings.new) }
+{
     let mut classes = Vec::new(alloc);
-    add_classes(alloc, linker, &mut members, strings, &mut classes)?;
+    add_classes(alloc, linker, members, strings, &mut classes)?;
     Ok(classes)
 }
 
@@ -361,28 +376,6 @@ fn runtime_pool_of(
     ensures kept { members.new ≡ members.old }
 {
     let named = NamedClasses::of_file(alloc, linker.hierarchy.family(), file)?;
-    pool_with(alloc, linker, members, strings, number, file, &named)
-}
-
-/// The same with the classes that the class file names.
-fn pool_with(
-    alloc: Global,
-    linker: &Linker<'_>,
-    members: &mut MemberResolver<'_>,
-    strings: &mut Texts,
-    number: u32,
-    file: &ClassFile,
-    named: &NamedClasses<'_>,
-) -> Result<RuntimePool, AllocError>
-    requires members { members.old ≡ linker.now.hierarchy.now }
-    requires file { file_in linker.now.hierarchy.now.family number ≡ Some file.now }
-    requires family { named.now.family ≡ linker.now.hierarchy.now.family }
-    requires named { named.now.file ≡ file.now }
-    ensures pool { IfOk result (IsRuntimePool linker.now.hierarchy.now.family strings.new file.now) }
-    ensures grows { OnOk result (Grows strings.old strings.new) }
-    ensures adds { OnOk result (Adds strings.old (strings_of file.now) strings.new) }
-    ensures kept { members.new ≡ members.old }
-{
     let none = MembersAhead::none(alloc, linker.hierarchy.family(), file);
     let first = Resolver {
         hierarchy: linker.hierarchy,
@@ -390,7 +383,7 @@ fn pool_with(
         field_slots: linker.field_slots,
         class: number,
         file,
-        named,
+        named: &named,
         ahead: &none,
     };
     pool_ahead(alloc, &first, members, strings)

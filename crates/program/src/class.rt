@@ -95,6 +95,7 @@ impl RuntimePool {
 }
 
 /// A given class, as the machine uses it.
+#[derive(Drop)]
 pub struct Class {
     pub statics: StaticFields,
     /// What the method descriptors of its constant pool say.
@@ -105,18 +106,4 @@ pub struct Class {
     /// Its own static `main` of `([Ljava/lang/String;)V`, by its place among the methods.
     pub main: Option<u16>,
     pub runtime_pool: RuntimePool,
-}
-
-// By hand, since a derived one is proved anew wherever a class is let go.
-impl Drop for Class {
-    fn drop(self) {
-        let Class {
-            statics: _,
-            signatures: _,
-            methods: _,
-            initializer: _,
-            main: _,
-            runtime_pool: _,
-        } = self;
-    }
 }

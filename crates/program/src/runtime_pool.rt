@@ -12,8 +12,7 @@ ghost use Rattle.program.specs.declared.runtime_constant.FieldTarget.TheVariants
 ghost use Rattle.loading.specs.Families.{file_in};
 ghost use Rattle.program.specs.RuntimePool.{IsRuntimeConstant, IsRuntimePool};
 ghost use Rattle.program.specs.steps.ResolvedConstants.{IsTargetAt, IsResolved, IsPlain, IsFieldConstant};
-ghost use Rattle.program.specs.steps.ResolvedConstants.{AreRuntimeConstants, IsInterfaceMethodConstant};
-ghost use Rattle.program.specs.steps.ResolvedConstants.{IsMethodConstant};
+ghost use Rattle.program.specs.steps.ResolvedConstants.{AreRuntimeConstants};
 ghost use Rattle.hierarchy.specs.steps.GrowingTexts.{Grows};
 ghost use Rattle.program.specs.Strings.{string_of, strings_of};
 ghost use Rattle.program.specs.steps.GrowingStrings.{Adds};
@@ -160,40 +159,6 @@ impl Resolver<'_> {
         Ok(RuntimeConstant::Field(kind, target))
     }
 
-    /// A reference to a method of a class.
-    fn method_constant(
-        &self,
-        members: &mut MemberResolver<'_>,
-        index: u16,
-        class: u16,
-        name_and_type: u16,
-    ) -> Result<RuntimeConstant, AllocError>
-        requires members { members.old ≡ self.now.hierarchy.now }
-        ensures held { IfOk result (IsMethodConstant self.now.hierarchy.now.family self.now.file.now index class
-            name_and_type) }
-        ensures kept { members.new ≡ members.old }
-    {
-        let held = self.method_reference(members, index, class, name_and_type)?;
-        Ok(RuntimeConstant::Method(held))
-    }
-
-    /// The same of a method of an interface.
-    fn interface_method_constant(
-        &self,
-        members: &mut MemberResolver<'_>,
-        index: u16,
-        class: u16,
-        name_and_type: u16,
-    ) -> Result<RuntimeConstant, AllocError>
-        requires members { members.old ≡ self.now.hierarchy.now }
-        ensures held { IfOk result (IsInterfaceMethodConstant self.now.hierarchy.now.family self.now.file.now index
-            class name_and_type) }
-        ensures kept { members.new ≡ members.old }
-    {
-        let held = self.method_reference(members, index, class, name_and_type)?;
-        Ok(RuntimeConstant::InterfaceMethod(held))
-    }
-
     /// What an entry of a class file's constant pool stands for, other than a string.
     fn resolved(
         &self,
@@ -230,11 +195,17 @@ impl Resolver<'_> {
             Constant::Methodref {
                 class,
                 name_and_type,
-            } => self.method_constant(members, index, *class, *name_and_type),
+            } => {
+                let held = self.method_reference(members, index, *class, *name_and_type)?;
+                Ok(RuntimeConstant::Method(held))
+            }
             Constant::InterfaceMethodref {
                 class,
                 name_and_type,
-            } => self.interface_method_constant(members, index, *class, *name_and_type),
+            } => {
+                let held = self.method_reference(members, index, *class, *name_and_type)?;
+                Ok(RuntimeConstant::InterfaceMethod(held))
+            }
             _ => Ok(self.plain(index, constant)),
         }
     }
@@ -315,26 +286,6 @@ impl Resolver<'_> {
         ensures kept { members.new ≡ members.old }
     {
         let mut earlier = Earlier::new(alloc);
-        self.add_each(alloc, members, strings, &mut earlier, pool)
-    }
-
-    /// The same with where equal entries stood.
-    fn add_each(
-        &self,
-        alloc: Global,
-        members: &mut MemberResolver<'_>,
-        strings: &mut Texts,
-        earlier: &mut Earlier,
-        pool: &mut Vec<RuntimeConstant>,
-    ) -> Result<(), AllocError>
-        requires members { members.old ≡ self.now.hierarchy.now }
-        requires empty { pool.old.items ≡ [] }
-        ensures pool { OnOk result
-            (IsRuntimePool self.now.hierarchy.now.family strings.new self.now.file.now pool.new.items) }
-        ensures grows { OnOk result (Grows strings.old strings.new) }
-        ensures adds { OnOk result (Adds strings.old (strings_of self.now.file.now) strings.new) }
-        ensures kept { members.new ≡ members.old }
-    {
         let constants = self.file.constants();
         for (index, constant) in constants.iter().enumerate() {
             self.add_constant(
@@ -343,7 +294,7 @@ impl Resolver<'_> {
                 strings,
                 index as u16,
                 constant,
-                earlier,
+                &mut earlier,
                 pool,
             )?;
         }
@@ -375,29 +326,6 @@ impl Resolver<'_> {
             pool.push(held)?;
             return Ok(());
         }
-        self.add_new(alloc, members, strings, index, constant, earlier, pool)
-    }
-
-    /// Adds the constant of an entry that equals no earlier one.
-    fn add_new(
-        &self,
-        alloc: Global,
-        members: &mut MemberResolver<'_>,
-        strings: &mut Texts,
-        index: u16,
-        constant: &Constant,
-        earlier: &mut Earlier,
-        pool: &mut Vec<RuntimeConstant>,
-    ) -> Result<(), AllocError>
-        requires members { members.old ≡ self.now.hierarchy.now }
-        requires here { slice_get self.now.file.now.constants index ≡ Some constant.now }
-        ensures held { OnOk result ((held : Held)
-            × IsRuntimeConstant self.now.hierarchy.now.family strings.new self.now.file.now index constant.now held
-            × (pool.new.items ≡ pool.old.items ++ held ∷ [])) }
-        ensures grows { OnOk result (Grows strings.old strings.new) }
-        ensures adds { OnOk result (Adds strings.old (string_of self.now.file.now constant.now) strings.new) }
-        ensures kept { members.new ≡ members.old }
-    {
         let held = self.runtime_constant_of(alloc, members, strings, index, constant)?;
         earlier.note(constant, index)?;
         pool.push(held)?;

@@ -5,7 +5,6 @@ use Rattle.classfile.specs.ClassFile.{ClassFile}
 use Rattle.classfile.specs.declared.constant.Constant.{Constant}
 use Rattle.classfile.specs.declared.constant.Constant.TheVariants as constants
 use Rattle.built_in.specs.declared.class_id.ClassId.{ClassId}
-use Rattle.program.specs.declared.runtime_constant.MethodReference.{MethodReference}
 use Rattle.program.specs.declared.runtime_constant.RuntimeConstant.{RuntimeConstant}
 use Rattle.program.specs.declared.runtime_constant.RuntimeConstant.TheVariants as runtime
 use Rattle.program.specs.declared.runtime_constant.FieldTarget.{FieldTarget}
@@ -17,7 +16,7 @@ use Rattle.loading.specs.Names.{class_name_at}
 use Rattle.program.specs.References.{key_at, ResolvesFieldAt}
 use Rattle.program.specs.Fields.{field_kind}
 use Rattle.program.specs.FieldTargets.{targeted}
-use Rattle.program.specs.RuntimePool.{IsMethodReference, IsRuntimeConstant}
+use Rattle.program.specs.RuntimePool.{IsRuntimeConstant}
 
 -- what the field that the Fieldref at an index resolves to is for instructions
 abbrev pub IsTargetAt : Family → ClassFile → ℕ → Result FieldTarget Unresolved → Type 0
@@ -40,16 +39,6 @@ IsPlain family f index constant held = (strings : List (List ℕ)) → ((utf8 : 
 abbrev pub IsFieldConstant : Family → ClassFile → ℕ → ℕ → RuntimeConstant → Type 0
 IsFieldConstant family f index n held = (r : Result Field Unresolved) × ResolvesFieldAt family f index r
     × (held ≡ runtime.Field (field_kind (key_at f n).descriptor) (targeted family r))
-
--- what a Methodref at an index is, by the indices of its class and of its name and type
-abbrev pub IsMethodConstant : Family → ClassFile → ℕ → ℕ → ℕ → RuntimeConstant → Type 0
-IsMethodConstant family f index c n held = (r : MethodReference) × IsMethodReference family f index c n r
-    × (held ≡ runtime.Method r)
-
--- the same of an InterfaceMethodref
-abbrev pub IsInterfaceMethodConstant : Family → ClassFile → ℕ → ℕ → ℕ → RuntimeConstant → Type 0
-IsInterfaceMethodConstant family f index c n held = (r : MethodReference) × IsMethodReference family f index c n r
-    × (held ≡ runtime.InterfaceMethod r)
 
 -- each class of a run-time constant pool is the one that its entry names
 abbrev pub HoldsClasses : Family → ClassFile → List RuntimeConstant → Type 0

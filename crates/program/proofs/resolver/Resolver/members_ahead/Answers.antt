@@ -1,8 +1,10 @@
-use Rattle.std.proofs.Common.{}
+use Rattle.std.proofs.Common.{refl}
 use Rattle.program.proofs.AheadLemmas.{ahead_of_none}
 use Rattle.program.proofs.resolver.Resolver.members_ahead.Goals as goal
 
-pub add_ahead-requires-clause-ahead : goal.add_ahead-requires-clause-ahead
-add_ahead-requires-clause-ahead c =
-    ahead_of_none c.args.self.now.hierarchy.now.family c.args.self.now.file.now c.empty-ahead.result
-    c.empty-ahead.ensures
+pub loop-reference-init : goal.loop-reference-init
+loop-reference-init c = record {
+  members = refl;
+  ahead = ahead_of_none c.args.self.now.hierarchy.now.family c.args.self.now.file.now c.empty-ahead.result
+      c.empty-ahead.ensures;
+}

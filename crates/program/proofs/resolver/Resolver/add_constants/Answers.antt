@@ -8,7 +8,7 @@ use Rattle.program.proofs.RuntimePoolGrowthLemmas.{grows_twice}
 use Rattle.program.proofs.RuntimePoolLemmas.{constants_next}
 use Rattle.program.proofs.StringsLemmas.{adds_next, adds_nothing}
 use Rattle.program.proofs.ZipLemmas.{item_at}
-use Rattle.program.proofs.resolver.Resolver.add_each.Goals as goal
+use Rattle.program.proofs.resolver.Resolver.add_constants.Goals as goal
 
 pub loop-index-preserved : goal.loop-index-preserved
 loop-index-preserved c =
@@ -33,6 +33,13 @@ loop-index-preserved c =
           c.add_constant.new.strings within c.index-constants-index.is c.loop-index.invariant.adds
           c.in_ok-add_constant.ensures.adds;
     }
+
+pub add_constant-requires-clause-here : goal.add_constant-requires-clause-here
+add_constant-requires-clause-here c =
+    let i = c.loop-index.index in
+    let constant = c.index-constants-index.result in
+    subst (λ (xs : List Constant). slice_get xs i ≡ Some constant) c.constants-constants.ensures.value
+    (item_at c.constants-constants.result.now i constant (omega arith) c.index-constants-index.is)
 
 pub loop-index-init : goal.loop-index-init
 loop-index-init c = record {

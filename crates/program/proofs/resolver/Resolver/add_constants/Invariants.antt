@@ -4,7 +4,7 @@ use Rattle.hierarchy.specs.steps.GrowingTexts.{Grows}
 use Rattle.program.specs.Strings.{string_of}
 use Rattle.program.specs.steps.GrowingStrings.{Adds}
 use Rattle.program.specs.steps.ResolvedConstants.{AreRuntimeConstants}
-use Rattle.program.proofs.resolver.Resolver.add_each.Given as goal
+use Rattle.program.proofs.resolver.Resolver.add_constants.Given as goal
 
 abbrev pub invariant-loop-index : goal.invariant-loop-index
 invariant-loop-index l = record {
