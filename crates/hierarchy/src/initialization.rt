@@ -129,7 +129,12 @@ fn superclass_alone(alloc: Global, family: &Family, class: u32) -> Result<Vec<u3
 
 /// Has a walk leave what is initialized of the direct superinterfaces of a class and those above them: from the lists
 /// that they keep or, where one keeps none, by a walk through all that stands above.
-fn leave_above(family: &Family, class: u32, short: &ShortOrders, walk: &mut Walk) -> Result<(), AllocError>
+fn leave_above(
+    family: &Family,
+    class: u32,
+    short: &ShortOrders,
+    walk: &mut Walk,
+) -> Result<(), AllocError>
     requires fits { IsFamily family.now }
     requires parents { AreParentsWithin family.now }
     requires short { AreShort family.now short.now.rows.items }

@@ -46,7 +46,11 @@ fn is_default_method(method: &Member) -> bool
 }
 
 /// Adds those members that are marked.
-pub(crate) fn add_marked(seen: &Visited, marks: &[bool], numbers: &mut Vec<u32>) -> Result<(), AllocError>
+pub(crate) fn add_marked(
+    seen: &Visited,
+    marks: &[bool],
+    numbers: &mut Vec<u32>,
+) -> Result<(), AllocError>
     requires limit { seen.now.limit ≡ length marks.now }
     requires few { length marks.now ≤ 2 ^ 32 }
     requires within { All (λ c. c < length marks.now) numbers.old.items }

@@ -26,7 +26,10 @@ pub(crate) struct ParentsFirst {
 // By hand, since a derived one is proved anew wherever one is let go.
 impl Drop for ParentsFirst {
     fn drop(self) {
-        let ParentsFirst { steps: _, parents: _ } = self;
+        let ParentsFirst {
+            steps: _,
+            parents: _,
+        } = self;
     }
 }
 

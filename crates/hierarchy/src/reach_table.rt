@@ -27,7 +27,10 @@ pub(crate) struct ReachTable {
 // By hand, since a derived one is proved anew wherever one is let go.
 impl Drop for ReachTable {
     fn drop(self) {
-        let ReachTable { numbers: _, rows: _ } = self;
+        let ReachTable {
+            numbers: _,
+            rows: _,
+        } = self;
     }
 }
 

@@ -58,7 +58,10 @@ struct Group {
 // By hand, since a derived one is proved anew wherever one is let go.
 impl Drop for Group {
     fn drop(self) {
-        let Group { declared: _, answers: _ } = self;
+        let Group {
+            declared: _,
+            answers: _,
+        } = self;
     }
 }
 
