@@ -46,4 +46,5 @@ pub mod AlongSuperclassesLemmas
 pub mod FirstUpLemmas
 pub mod TheDefaultLemmas
 pub mod SelectionLemmas
+pub mod SelectableLemmas
 pub mod SpecialsLemmas

@@ -64,10 +64,10 @@ first_passing test i (x ∷ xs) k e = by (test x) refl e (first_passing test (i 
     by true passes found later = (0, x, refl, passes)
     by false fails found later = let rest = later found in (suc rest.0, rest.1, rest.2, rest.3)
 
-abbrev named_by : ClassFile → Member → NameAndType
+abbrev pub named_by : ClassFile → Member → NameAndType
 named_by f m = record { name = text_at f m.name; descriptor = text_at f m.descriptor }
 
-name_is : (f : ClassFile) (name : NameAndType) (m : Member) → is_named f name m ≡ true → named_by f m ≡ name
+pub name_is : (f : ClassFile) (name : NameAndType) (m : Member) → is_named f name m ≡ true → named_by f m ≡ name
 name_is f name m e =
     let parts = both_true (bytes_eq (text_at f m.name) name.name)
     (bytes_eq (text_at f m.descriptor) name.descriptor) e in

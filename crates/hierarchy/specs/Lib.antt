@@ -9,4 +9,5 @@ pub mod Hierarchies
 pub mod Subclasses
 pub mod Subtypes
 pub mod Selection
+pub mod Selectable
 pub mod steps

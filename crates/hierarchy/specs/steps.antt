@@ -24,3 +24,4 @@ pub mod Answers
 pub mod Groups
 pub mod FoundAhead
 pub mod Specials
+pub mod Selectable

@@ -34,6 +34,7 @@ mod resolve_method;
 mod search;
 pub mod seed;
 mod select;
+pub mod selectable;
 mod settled;
 mod short_orders;
 mod sought;
