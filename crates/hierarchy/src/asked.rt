@@ -13,7 +13,7 @@ use std::alloc::{AllocError, Global};
 use std::cmp::Ordering;
 
 /// Which references are looked at.
-#[derive(Clone, Copy, Debug)]
+#[derive(Clone, Copy)]
 pub(crate) enum MemberKind {
     Field,
     Method,
@@ -66,7 +66,7 @@ impl MemberKind {
 }
 
 /// A reference to a member of a given class.
-#[derive(Clone, Copy, Debug)]
+#[derive(Clone, Copy)]
 pub(crate) struct Asked {
     pub(crate) key: MemberKey,
     pub(crate) class: u32,

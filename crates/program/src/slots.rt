@@ -17,7 +17,7 @@ use std::alloc::{AllocError, Global};
 use std::marker::Model;
 
 /// How many slots the objects of a class have, and which class is the nearest that adds some, itself or a superclass.
-#[derive(Clone, Copy, PartialEq, Eq, Debug)]
+#[derive(Clone, Copy)]
 pub(crate) struct SlotChain {
     pub(crate) count: u32,
     pub(crate) nearest: Option<u32>,
