@@ -1,6 +1,7 @@
 //! The references of class files to members that an interface may declare (JVMS 4.4.2).
 
-ghost use Rattle.std.specs.Prelude.{◌<◌, ◌≤◌, length};
+ghost use Rattle.std.specs.Prelude.{◌≡◌, ◌<◌, ◌≤◌, length};
+ghost use Rattle.hierarchy.specs.steps.FoundAhead.{wanted_by};
 
 use crate::bits::BITS;
 use crate::hierarchy::Hierarchy;
@@ -21,7 +22,9 @@ pub(crate) enum MemberKind {
 
 impl MemberKind {
     /// What is looked for: a field of any class, or a method of an interface.
-    pub(crate) fn wanted(self) -> Wanted {
+    pub(crate) fn wanted(self) -> Wanted
+        ensures { result ≡ wanted_by self }
+    {
         match self {
             MemberKind::Field => Wanted::Field,
             MemberKind::Method => Wanted::InterfaceMethod,
