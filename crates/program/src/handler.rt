@@ -16,7 +16,7 @@ pub enum Catches {
 
 /// An entry of an exception table. Where an instruction from `start_pc` on and before `end_pc` throws what it catches,
 /// execution goes on at `handler_pc`.
-#[derive(Clone, Copy, PartialEq, Eq, Debug)]
+#[derive(Clone, Copy)]
 pub struct Handler {
     pub start_pc: u16,
     pub end_pc: u16,
