@@ -32,7 +32,6 @@ impl SlotChain {
 }
 
 /// The slots of the objects of all classes.
-#[derive(Drop)]
 pub(crate) struct Slots {
     /// By class: those that it adds to those of its given superclass.
     added: Vec<FieldKinds>,
@@ -45,6 +44,16 @@ impl Model for Slots {
     ghost Value = { SlotTables };
 
     ghost view = { λ s. record { added = s.added.items; chains = s.chains.items } };
+}
+
+// By hand, since a derived one is proved anew wherever they are let go.
+impl Drop for Slots {
+    fn drop(self) {
+        let Slots {
+            added: _,
+            chains: _,
+        } = self;
+    }
 }
 
 impl Slots {
