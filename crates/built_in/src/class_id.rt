@@ -6,7 +6,7 @@ ghost use Rattle.built_in.specs.ClassNames.{name_of_built_in};
 ghost use Rattle.built_in.specs.Subclasses.{superclasses_of_built_in, is_built_in_below};
 
 /// A class: a given one, one that is built in, or an array class.
-#[derive(Clone, Copy, PartialEq, Eq, Debug)]
+#[derive(Clone, Copy, Debug)]
 pub enum ClassId {
     /// A class handed in as a class file, by its number in the program.
     Given(u32),
@@ -93,7 +93,7 @@ const FROM_LINKAGE_ERROR: [BuiltIn; 4] = [
 ];
 
 /// An array class (JVMS 4.3.2): so many dimensions of an element type.
-#[derive(Clone, Copy, PartialEq, Eq, Debug)]
+#[derive(Clone, Copy, Debug)]
 pub struct ArrayType {
     /// 1 to 255.
     pub dimensions: u8,
@@ -101,7 +101,7 @@ pub struct ArrayType {
 }
 
 /// The element type of an array class, which is no array.
-#[derive(Clone, Copy, PartialEq, Eq, Debug)]
+#[derive(Clone, Copy, Debug)]
 pub enum ElementType {
     Boolean,
     Byte,

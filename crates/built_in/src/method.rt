@@ -9,7 +9,7 @@ ghost use Rattle.built_in.specs.declared.method.BuiltInMethod.{BuiltInMethod as 
 use crate::class_id::BuiltIn;
 
 /// What is printed by `print` and `println` of `java.io.PrintStream`.
-#[derive(Clone, Copy, PartialEq, Eq, Debug)]
+#[derive(Clone, Copy, Debug)]
 pub enum Printed {
     Int,
     Long,
@@ -19,7 +19,7 @@ pub enum Printed {
 }
 
 /// A method of a built-in class or of an array class.
-#[derive(Clone, Copy, PartialEq, Eq, Debug)]
+#[derive(Clone, Copy, Debug)]
 pub enum BuiltInMethod {
     /// `Object()`, which other classes that are no throwables have from it.
     NewObject,

@@ -15,7 +15,7 @@ use std::fmt::{self, Display, Formatter, Write};
 use std::marker::Model;
 
 /// The name of a class: a list of 16-bit units, with slashes (JVMS 4.2.1).
-#[derive(Debug, Drop)]
+#[derive(Drop, Debug)]
 pub struct ClassName {
     units: Vec<u16>,
 }

@@ -1,7 +1,7 @@
 //! The files that a command reads and writes.
 
 /// Why a file was not read or written.
-#[derive(Clone, Copy, Debug, PartialEq, Eq)]
+#[derive(Clone, Copy)]
 pub enum FileFault {
     /// Memory was refused.
     Memory,

@@ -6,7 +6,7 @@ ghost use Rattle.std.specs.List.{list_all};
 use init_engine::{Ending, Rest};
 
 /// How a command ended.
-#[derive(Clone, Copy, Debug, PartialEq, Eq)]
+#[derive(Clone, Copy, Debug)]
 pub enum Status {
     /// It did what it was asked for, and all threads of a run returned.
     Done,

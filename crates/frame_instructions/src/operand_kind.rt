@@ -7,7 +7,7 @@ use vm_state::operands::Operands;
 use vm_state::value::{Fault, Value};
 
 /// What an operand is, by the instructions that move it: `iload`, `lload` or `aload` (JVMS 2.11.1, 2.11.2).
-#[derive(Clone, Copy, PartialEq, Eq, Debug)]
+#[derive(Clone, Copy, PartialEq, Eq)]
 pub enum OperandKind {
     Int,
     Long,

@@ -6,7 +6,7 @@ use built_in::class_id::BuiltIn;
 use vm_state::value::Fault;
 
 /// What ends an instruction early. Its frame is as it was.
-#[derive(Clone, Copy, PartialEq, Eq, Debug)]
+#[derive(Clone, Copy)]
 pub enum Trap {
     /// A rule is broken that JVMS leaves to verification (JVMS 4.10).
     Fault,

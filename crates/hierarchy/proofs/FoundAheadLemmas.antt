@@ -7,7 +7,10 @@ use Rattle.loading.specs.Families.{Family}
 use Rattle.hierarchy.specs.MemberLookup.{field_in}
 use Rattle.hierarchy.specs.Resolution.{ResolvesField}
 use Rattle.hierarchy.specs.Search.{Search}
-use Rattle.hierarchy.specs.steps.FoundAhead.{found_in, given_field}
+use Rattle.hierarchy.specs.Hierarchies.{NumberedFamily}
+use Rattle.hierarchy.specs.declared.asked.MemberKind.{MemberKind}
+use Rattle.hierarchy.specs.declared.asked.MemberKind.TheVariants as asked
+use Rattle.hierarchy.specs.steps.FoundAhead.{AreAhead, found_in, given_field}
 use Rattle.hierarchy.specs.steps.MemberIndexes.{AreNumbers, same_member}
 use Rattle.hierarchy.specs.declared.found_ahead.FoundAhead.{FoundAhead}
 use Rattle.hierarchy.specs.declared.member.DeclaredMember.{DeclaredMember}
@@ -59,3 +62,11 @@ pub resolved_field : (family : Family) (name : NameAndType) (c : ℕ) (found : O
     → ResolvesField family name (class_ids.Given c) (given_field found)
 resolved_field family name c None search = ResolvesField.missing search
 resolved_field family name c (Some m) search = ResolvesField.found search
+
+-- nothing is found yet
+pub nothing_ahead : (kind : MemberKind) (h : NumberedFamily) (ahead : FoundAhead)
+    → ((c : ℕ) (k : MemberKey) → found_in ahead c k ≡ None) → AreAhead kind h ahead
+nothing_ahead asked.Field h ahead none =
+    λ c k m name at numbers. (let clash : None ≡ Some m = sym (none c k) ∙ at in absurd cc)
+nothing_ahead asked.Method h ahead none =
+    λ c k m name at numbers. (let clash : None ≡ Some m = sym (none c k) ∙ at in absurd cc)

@@ -40,7 +40,7 @@ impl Drop for Ancestors {
 }
 
 /// A member of one of them, and where its class stands among them, counted from 0.
-#[derive(Clone, Copy, Debug)]
+#[derive(Clone, Copy)]
 pub(crate) struct Standing {
     pub(crate) place: u32,
     pub(crate) member: DeclaredMember,

@@ -29,7 +29,7 @@ use crate::member_name::MemberName;
 use crate::wanted::Wanted;
 
 /// What is known of a reference to a member of a given class.
-#[derive(Clone, Copy, Debug)]
+#[derive(Clone, Copy)]
 pub(crate) struct Answer {
     pub(crate) class: u32,
     pub(crate) key: MemberKey,

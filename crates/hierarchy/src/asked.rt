@@ -1,6 +1,7 @@
 //! The references of class files to members that an interface may declare (JVMS 4.4.2).
 
-ghost use Rattle.std.specs.Prelude.{◌<◌, ◌≤◌, length};
+ghost use Rattle.std.specs.Prelude.{◌≡◌, ◌<◌, ◌≤◌, length};
+ghost use Rattle.hierarchy.specs.steps.FoundAhead.{wanted_by};
 
 use crate::bits::BITS;
 use crate::hierarchy::Hierarchy;
@@ -13,7 +14,7 @@ use std::alloc::{AllocError, Global};
 use std::cmp::Ordering;
 
 /// Which references are looked at.
-#[derive(Clone, Copy, Debug)]
+#[derive(Clone, Copy)]
 pub(crate) enum MemberKind {
     Field,
     Method,
@@ -21,7 +22,9 @@ pub(crate) enum MemberKind {
 
 impl MemberKind {
     /// What is looked for: a field of any class, or a method of an interface.
-    pub(crate) fn wanted(self) -> Wanted {
+    pub(crate) fn wanted(self) -> Wanted
+        ensures { result ≡ wanted_by self }
+    {
         match self {
             MemberKind::Field => Wanted::Field,
             MemberKind::Method => Wanted::InterfaceMethod,
@@ -66,7 +69,7 @@ impl MemberKind {
 }
 
 /// A reference to a member of a given class.
-#[derive(Clone, Copy, Debug)]
+#[derive(Clone, Copy)]
 pub(crate) struct Asked {
     pub(crate) key: MemberKey,
     pub(crate) class: u32,

@@ -20,7 +20,7 @@ use classfile::flags::{ABSTRACT, has_flag};
 use std::alloc::AllocError;
 
 /// A member that a class declares.
-#[derive(Clone, Copy, Debug)]
+#[derive(Clone, Copy)]
 pub(crate) struct Declaration {
     pub(crate) key: MemberKey,
     pub(crate) member: DeclaredMember,

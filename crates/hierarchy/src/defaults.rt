@@ -23,7 +23,7 @@ use crate::wanted::Wanted;
 use classfile::flags::{ABSTRACT, has_flag};
 
 /// The methods of some kind that were found so far, each in a class of its own.
-#[derive(Clone, Copy, Debug)]
+#[derive(Clone, Copy)]
 pub(crate) enum Found {
     Nothing,
     One { class: u32, index: u16 },

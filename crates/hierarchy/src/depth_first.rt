@@ -12,10 +12,19 @@ use loading::given::Superclass;
 use std::alloc::{AllocError, Global};
 
 /// Classes in a row: which is the first, and by class which stands behind it.
-#[derive(Drop)]
 struct Row {
     first: Option<u32>,
     behind: Vec<Option<u32>>,
+}
+
+// By hand, since a derived one is proved anew wherever one is let go.
+impl Drop for Row {
+    fn drop(self) {
+        let Row {
+            first: _,
+            behind: _,
+        } = self;
+    }
 }
 
 impl Row {
@@ -75,14 +84,26 @@ fn put(family: &Family, class: u32, placed: &mut Visited, row: &mut Row) -> Resu
     ensures holds { OnOk result (Holds family.now placed.old.items row.old.first row.old.behind.items
         → Holds family.now placed.new.items row.new.first row.new.behind.items) }
 {
-    if !placed.add(class as usize)? {
-        return Ok(());
+    if placed.add(class as usize)? {
+        link(family, class, row);
     }
+    Ok(())
+}
+
+/// Puts a class behind its superclass, or first if that is not given.
+fn link(family: &Family, class: u32, row: &mut Row)
+    requires class { class < length family.now }
+    requires len { length row.old.behind.items ≡ length family.now }
+    ensures len { length row.new.behind.items ≡ length row.old.behind.items }
+    ensures holds { (placed : List ℕ) → ¬ Contains placed class
+        → All (Contains placed) (superclasses_in family.now class)
+        → Holds family.now placed row.old.first row.old.behind.items
+        → Holds family.now (placed ++ class ∷ []) row.new.first row.new.behind.items }
+{
     match given_superclass(family, class) {
         Some(above) => row.put_behind(above, class),
         None => row.put_first(class),
     }
-    Ok(())
 }
 
 /// Puts each class of a family into a row.

@@ -3,7 +3,7 @@
 use built_in::method::BuiltInMethod;
 
 /// A field that a reference resolves to.
-#[derive(Clone, Copy, PartialEq, Eq, Debug)]
+#[derive(Clone, Copy)]
 pub enum Field {
     /// The field of this place among those that a given class declares.
     Given { class: u32, index: u16 },
@@ -12,7 +12,7 @@ pub enum Field {
 }
 
 /// A field or a method that a given class declares.
-#[derive(Clone, Copy, PartialEq, Eq, Debug)]
+#[derive(Clone, Copy)]
 pub struct DeclaredMember {
     pub class: u32,
     /// Its place among the class's members of its kind.
@@ -20,7 +20,7 @@ pub struct DeclaredMember {
 }
 
 /// A method that a reference resolves to, or that a call selects.
-#[derive(Clone, Copy, PartialEq, Eq, Debug)]
+#[derive(Clone, Copy, Debug)]
 pub enum Method {
     /// The method of this place among those that a given class declares.
     Given { class: u32, index: u16 },
@@ -28,7 +28,7 @@ pub enum Method {
 }
 
 /// Why a reference resolves to no member.
-#[derive(Clone, Copy, PartialEq, Eq, Debug)]
+#[derive(Clone, Copy, Debug)]
 pub enum Unresolved {
     /// No reference of the kind stands there.
     NoReference,

@@ -9,7 +9,7 @@ use indexmap::IndexMap;
 use std::alloc::{AllocError, Global};
 
 /// The name and the descriptor of a member, by the numbers of their texts.
-#[derive(Clone, Copy, PartialEq, Eq, Hash, Debug)]
+#[derive(Clone, Copy, PartialEq, Eq, Hash)]
 pub(crate) struct MemberKey {
     pub(crate) name: usize,
     pub(crate) descriptor: usize,
@@ -31,7 +31,7 @@ impl MemberKey {
 }
 
 /// A class and what one of its members is called.
-#[derive(Clone, Copy, PartialEq, Eq, Hash, Debug)]
+#[derive(Clone, Copy, PartialEq, Eq, Hash)]
 pub(crate) struct ClassMember {
     pub(crate) class: usize,
     pub(crate) key: MemberKey,

@@ -1,7 +1,7 @@
 //! What members are called, as class files say it.
 
 /// The name and the descriptor of a member, by their indices in the constant pool of a class (JVMS 4.4.6, 4.6).
-#[derive(Clone, Copy, Debug)]
+#[derive(Clone, Copy)]
 pub struct MemberName {
     /// The class that has the constant pool.
     pub class: u32,

@@ -8,6 +8,7 @@ ghost use Rattle.hierarchy.specs.declared.member.Method.{Method as ResolvedMetho
 ghost use Rattle.hierarchy.specs.steps.FoundAhead.{given_field, given_method};
 
 use crate::ancestors::Ancestors;
+use crate::asked::MemberKind;
 use crate::found_ahead::FoundAhead;
 use crate::hierarchy::Hierarchy;
 use crate::member::{DeclaredMember, Field, Method};
@@ -19,12 +20,23 @@ use std::marker::Model;
 /// Resolves references to members of a hierarchy. Those whose walks up would take long together are resolved ahead. For
 /// any other one what stands above a class is kept until another class is asked: a walk up serves all references to one
 /// class that come one after the other.
-#[derive(Drop)]
 pub struct MemberResolver<'a> {
     hierarchy: &'a Hierarchy,
     ancestors: Ancestors,
     fields: FoundAhead,
     methods: FoundAhead,
+}
+
+// By hand, since a derived one is proved anew wherever one is let go.
+impl<'a> Drop for MemberResolver<'a> {
+    fn drop(self) {
+        let MemberResolver {
+            hierarchy: _,
+            ancestors: _,
+            fields: _,
+            methods: _,
+        } = self;
+    }
 }
 
 impl<'a> Model for MemberResolver<'a> {
@@ -49,8 +61,8 @@ impl<'a> MemberResolver<'a> {
         ensures { IfOk result (λ resolver. resolver ≡ hierarchy.now) }
     {
         let ancestors = Ancestors::new(alloc)?;
-        let fields = hierarchy.fields_ahead(alloc)?;
-        let methods = hierarchy.methods_ahead(alloc)?;
+        let fields = hierarchy.found_ahead(alloc, MemberKind::Field)?;
+        let methods = hierarchy.found_ahead(alloc, MemberKind::Method)?;
         Ok(MemberResolver {
             hierarchy,
             ancestors,

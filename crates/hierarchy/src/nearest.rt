@@ -1,6 +1,6 @@
 //! The nearest members along superclasses, found by numbers (JVMS 5.4.3.2, 5.4.3.3; 6.5, invokevirtual).
 
-ghost use Rattle.std.specs.Prelude.{◌≡◌, ◌<◌, ℕ, None, Some, IsTrue, length, slice_get, IfOk};
+ghost use Rattle.std.specs.Prelude.{◌≡◌, ◌<◌, ℕ, None, Some, IsTrue, length, slice_get, IfOk, OnOk};
 ghost use Rattle.built_in.specs.Keys.{NameAndType};
 ghost use Rattle.hierarchy.specs.steps.MemberIndexes.{AreNumbers};
 ghost use Rattle.hierarchy.specs.steps.MemberTables.{IsTableOf};
@@ -10,14 +10,16 @@ ghost use Rattle.hierarchy.specs.steps.HierarchyTables.{wanted_in};
 ghost use Rattle.hierarchy.specs.steps.DepthFirst.{IsWholeOrder, ArePlaces};
 ghost use Rattle.std.specs.List.{Contains};
 ghost use Rattle.hierarchy.specs.steps.Reaches.{Nearest, classes_noted};
-ghost use Rattle.hierarchy.specs.steps.NearestMembers.{AreNearest, AllAreTold, rows_of};
+ghost use Rattle.hierarchy.specs.declared.wanted.Wanted.{Wanted as Kind};
+ghost use Rattle.hierarchy.specs.steps.NearestMembers.{AreNearest, AllAreTold, IsEmpty, rows_of};
 
 use crate::depth_first::{depth_first, places_in};
 use crate::member::DeclaredMember;
 use crate::member_index::MemberKey;
 use crate::member_table::MemberTable;
 use crate::reach_table::{Reach, ReachTable};
-use crate::reaches::reaches_of;
+use crate::reaches::note_reaches;
+use crate::seed::Seed;
 use crate::tops::{top_in, tops_of};
 use crate::wanted::Wanted;
 use built_in::class_id::BuiltIn;
@@ -106,39 +108,87 @@ impl Reaches {
         requires places { ArePlaces order.now places.now }
         ensures { IfOk result (AllAreTold family.now table.now order.now) }
     {
-        let fields = reaches_of(alloc, family, table, Wanted::Field, order, places)?;
-        let interface_fields = reaches_of(
+        let mut reaches = Reaches::nowhere(alloc, table.seed());
+        match reaches.note(alloc, family, table, order, places) {
+            Ok(()) => Ok(reaches),
+            Err(error) => Err(error),
+        }
+    }
+
+    /// No class is noted yet.
+    fn nowhere(alloc: Global, seed: Seed) -> Self
+        ensures { (kind : Kind) → IsEmpty (rows_of kind result) }
+    {
+        Reaches {
+            fields: ReachTable::new(alloc, seed),
+            interface_fields: ReachTable::new(alloc, seed),
+            methods: ReachTable::new(alloc, seed),
+            instance_methods: ReachTable::new(alloc, seed),
+            interface_methods: ReachTable::new(alloc, seed),
+        }
+    }
+
+    /// Notes those of each kind.
+    fn note(
+        &mut self,
+        alloc: Global,
+        family: &Family,
+        table: &MemberTable,
+        order: &[u32],
+        places: &[usize],
+    ) -> Result<(), AllocError>
+        requires fits { IsTableOf family.now table.now }
+        requires order { IsWholeOrder family.now order.now }
+        requires places { ArePlaces order.now places.now }
+        requires empty { (kind : Kind) → IsEmpty (rows_of kind self.old) }
+        ensures { OnOk result (AllAreTold family.now table.now order.now self.new) }
+    {
+        note_reaches(
+            alloc,
+            family,
+            table,
+            Wanted::Field,
+            order,
+            places,
+            &mut self.fields,
+        )?;
+        note_reaches(
             alloc,
             family,
             table,
             Wanted::InterfaceField,
             order,
             places,
+            &mut self.interface_fields,
         )?;
-        let methods = reaches_of(alloc, family, table, Wanted::Method, order, places)?;
-        let instance_methods = reaches_of(
+        note_reaches(
+            alloc,
+            family,
+            table,
+            Wanted::Method,
+            order,
+            places,
+            &mut self.methods,
+        )?;
+        note_reaches(
             alloc,
             family,
             table,
             Wanted::InstanceMethod,
             order,
             places,
+            &mut self.instance_methods,
         )?;
-        let interface_methods = reaches_of(
+        note_reaches(
             alloc,
             family,
             table,
             Wanted::InterfaceMethod,
             order,
             places,
+            &mut self.interface_methods,
         )?;
-        Ok(Reaches {
-            fields,
-            interface_fields,
-            methods,
-            instance_methods,
-            interface_methods,
-        })
+        Ok(())
     }
 
     /// The rows of a kind of members.

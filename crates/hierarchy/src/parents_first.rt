@@ -9,7 +9,7 @@ use loading::given::Superclass;
 use std::alloc::{AllocError, Global};
 
 /// A class, and where its parents stand: from one place up to another.
-#[derive(Clone, Copy, Debug)]
+#[derive(Clone, Copy)]
 pub(crate) struct Step {
     pub(crate) class: u32,
     pub(crate) from: usize,

@@ -12,7 +12,7 @@ use indexmap::IndexMap;
 use std::alloc::{AllocError, Global};
 
 /// From which place on what member is the nearest, among classes that stand depth first.
-#[derive(Clone, Copy, Debug)]
+#[derive(Clone, Copy)]
 pub(crate) struct Reach {
     pub(crate) from: usize,
     pub(crate) nearest: Option<DeclaredMember>,

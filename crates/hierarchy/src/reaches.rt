@@ -5,7 +5,7 @@
 //! the classes below one end.
 
 ghost use Rattle.std.specs.Prelude.{◌≡◌, ◌⊎◌, ◌↔◌, IsTrue, ℕ, ◌<◌, ◌++◌, ◌∷◌, [], List, Option, Some, None, take};
-ghost use Rattle.std.specs.Prelude.{IfOk, OnOk, slice_get, slice_index_or};
+ghost use Rattle.std.specs.Prelude.{OnOk, slice_get, slice_index_or};
 ghost use Rattle.std.specs.List.{Contains};
 ghost use Rattle.classfile.specs.ClassFile.{ClassFile as File};
 ghost use Rattle.classfile.specs.declared.member.Member.{Member as Declared};
@@ -20,6 +20,7 @@ ghost use Rattle.hierarchy.specs.steps.DepthFirst.{MayFollow, IsDepthFirst, IsWh
 ghost use Rattle.loading.specs.Families.{IsFamily};
 ghost use Rattle.hierarchy.specs.declared.member.DeclaredMember.{DeclaredMember as Found};
 ghost use Rattle.hierarchy.specs.steps.HierarchyTables.{wanted_in};
+ghost use Rattle.hierarchy.specs.steps.NearestMembers.{IsEmpty};
 ghost use Rattle.hierarchy.specs.steps.MemberTables.{IsTableOf};
 ghost use Rattle.hierarchy.specs.steps.Sweeps.{members_of, members_of_file, members_in, members_by};
 
@@ -301,22 +302,23 @@ impl Sweep<'_> {
     }
 }
 
-/// The nearest classes that declare members of a kind, noted along all classes of a family.
-pub(crate) fn reaches_of(
+/// Notes the nearest classes that declare members of a kind, along all classes of a family.
+pub(crate) fn note_reaches(
     alloc: Global,
     family: &Family,
     table: &MemberTable,
     wanted: Wanted,
     order: &[u32],
     places: &[usize],
-) -> Result<ReachTable, AllocError>
+    rows: &mut ReachTable,
+) -> Result<(), AllocError>
     requires fits { IsTableOf family.now table.now }
     requires order { IsWholeOrder family.now order.now }
     requires places { ArePlaces order.now places.now }
-    ensures { IfOk result (AllTell (members_by wanted family.now table.now) order.now) }
+    requires empty { IsEmpty rows.old }
+    ensures { OnOk result (AllTell (members_by wanted family.now table.now) order.now rows.new) }
 {
     let _classes = family.classes();
-    let mut rows = ReachTable::new(alloc, table.seed());
     let sweep = Sweep {
         family,
         table,
@@ -324,6 +326,5 @@ pub(crate) fn reaches_of(
         order,
         places,
     };
-    sweep.note_order(alloc, &mut rows)?;
-    Ok(rows)
+    sweep.note_order(alloc, rows)
 }

@@ -11,7 +11,7 @@ ghost use Rattle.hierarchy.specs.declared.answers.Answer.{Answer as Reference};
 ghost use Rattle.hierarchy.specs.declared.wanted.Wanted.TheVariants as kind;
 ghost use Rattle.hierarchy.specs.steps.Answers.{AreAnswers, AreResolved, IsResolved};
 ghost use Rattle.hierarchy.specs.steps.Declarations.{AreDeclared, AreWhole, IsWhole};
-ghost use Rattle.hierarchy.specs.steps.FoundAhead.{AreFields, AreMethods};
+ghost use Rattle.hierarchy.specs.steps.FoundAhead.{AreAhead, AreFields, AreMethods, wanted_by};
 ghost use Rattle.hierarchy.specs.steps.Groups.{AreWays, IsGroup};
 ghost use Rattle.hierarchy.specs.steps.ParentSteps.{AreSteps};
 
@@ -185,44 +185,78 @@ impl Group {
 }
 
 impl Hierarchy {
-    /// What references to fields resolve to, of those that are resolved ahead.
-    pub(crate) fn fields_ahead(&self, alloc: Global) -> Result<FoundAhead, AllocError>
-        ensures { IfOk result (AreFields self.now) }
+    /// What references of a kind resolve to, of those that are resolved ahead.
+    pub(crate) fn found_ahead(
+        &self,
+        alloc: Global,
+        kind: MemberKind,
+    ) -> Result<FoundAhead, AllocError>
+        ensures { IfOk result (AreAhead kind self.now) }
     {
         let mut found = FoundAhead::new(alloc, self.seed());
-        let asked = self.asked(alloc, MemberKind::Field)?;
-        if asked.is_empty() {
-            return Ok(found);
+        match self.find_ahead(alloc, kind, &mut found) {
+            Ok(()) => Ok(found),
+            Err(error) => Err(error),
         }
-        let mut ways = Ways::of_hierarchy(alloc, self)?;
-        let mut start = 0;
-        while start < asked.len() {
-            let rest = &asked[start..];
-            let count = self.batch_length(Wanted::Field, rest);
-            self.add_fields(alloc, &mut ways, &rest[..count], &mut found)?;
-            start += count;
-        }
-        Ok(found)
     }
 
-    /// What references to methods resolve to, of those that are resolved ahead.
-    pub(crate) fn methods_ahead(&self, alloc: Global) -> Result<FoundAhead, AllocError>
-        ensures { IfOk result (AreMethods self.now) }
+    /// Adds what they resolve to.
+    fn find_ahead(
+        &self,
+        alloc: Global,
+        kind: MemberKind,
+        found: &mut FoundAhead,
+    ) -> Result<(), AllocError>
+        requires { AreAhead kind self.now found.old }
+        ensures { OnOk result (AreAhead kind self.now found.new) }
     {
-        let mut found = FoundAhead::new(alloc, self.seed());
-        let asked = self.asked(alloc, MemberKind::Method)?;
-        if asked.is_empty() {
-            return Ok(found);
+        match self.asked(alloc, kind) {
+            Ok(asked) => self.add_asked_ahead(alloc, kind, &asked, found),
+            Err(error) => Err(error),
         }
-        let mut ways = Ways::of_hierarchy(alloc, self)?;
+    }
+
+    /// Adds what these resolve to, if there are any.
+    fn add_asked_ahead(
+        &self,
+        alloc: Global,
+        kind: MemberKind,
+        asked: &[Asked],
+        found: &mut FoundAhead,
+    ) -> Result<(), AllocError>
+        requires { AreAhead kind self.now found.old }
+        ensures { OnOk result (AreAhead kind self.now found.new) }
+    {
+        if asked.is_empty() {
+            return Ok(());
+        }
+        match Ways::of_hierarchy(alloc, self) {
+            Ok(mut ways) => self.add_batches(alloc, kind, asked, &mut ways, found),
+            Err(error) => Err(error),
+        }
+    }
+
+    /// The same, one batch after another.
+    fn add_batches(
+        &self,
+        alloc: Global,
+        kind: MemberKind,
+        asked: &[Asked],
+        ways: &mut Ways,
+        found: &mut FoundAhead,
+    ) -> Result<(), AllocError>
+        requires ways { AreWays self.now.family ways.old }
+        requires found { AreAhead kind self.now found.old }
+        ensures { OnOk result (AreAhead kind self.now found.new) }
+    {
         let mut start = 0;
         while start < asked.len() {
             let rest = &asked[start..];
-            let count = self.batch_length(Wanted::InterfaceMethod, rest);
-            self.add_methods(alloc, &mut ways, &rest[..count], &mut found)?;
+            let count = self.batch_length(kind.wanted(), rest);
+            self.add_batch(alloc, kind, &rest[..count], ways, found)?;
             start += count;
         }
-        Ok(found)
+        Ok(())
     }
 
     /// Some references with all declarations of their names and descriptors.
@@ -239,52 +273,80 @@ impl Hierarchy {
         Ok(group)
     }
 
-    /// Adds what references to fields resolve to.
-    fn add_fields(
+    /// Adds what some references resolve to.
+    fn add_batch(
         &self,
         alloc: Global,
-        ways: &mut Ways,
+        kind: MemberKind,
         batch: &[Asked],
+        ways: &mut Ways,
         found: &mut FoundAhead,
     ) -> Result<(), AllocError>
         requires ways { AreWays self.now.family ways.old }
-        requires found { AreFields self.now found.old }
+        requires found { AreAhead kind self.now found.old }
         ensures ways { AreWays self.now.family ways.new }
-        ensures found { OnOk result (AreFields self.now found.new) }
+        ensures found { OnOk result (AreAhead kind self.now found.new) }
     {
-        let mut group = self.group(alloc, Wanted::Field, batch)?;
-        if !ways.are_shorter(self, Wanted::Field, &group) {
+        match self.group(alloc, kind.wanted(), batch) {
+            Ok(mut group) => self.add_group(kind, ways, &mut group, found),
+            Err(error) => Err(error),
+        }
+    }
+
+    /// Adds what the references of a group resolve to, unless walks are shorter.
+    fn add_group(
+        &self,
+        kind: MemberKind,
+        ways: &mut Ways,
+        group: &mut Group,
+        found: &mut FoundAhead,
+    ) -> Result<(), AllocError>
+        requires ways { AreWays self.now.family ways.old }
+        requires group { IsGroup self.now (wanted_by kind) group.old }
+        requires found { AreAhead kind self.now found.old }
+        ensures ways { AreWays self.now.family ways.new }
+        ensures found { OnOk result (AreAhead kind self.now found.new) }
+    {
+        let wanted = kind.wanted();
+        if !ways.are_shorter(self, wanted, group) {
             return Ok(());
         }
-        self.look_through(Wanted::Field, ways, &mut group);
-        for answer in &group.answers {
-            self.add_field(answer, found)?;
+        self.look_through(wanted, ways, group);
+        self.add_answers(kind, &group.answers, found)
+    }
+
+    /// Adds what references resolve to.
+    fn add_answers(
+        &self,
+        kind: MemberKind,
+        answers: &[Answer],
+        found: &mut FoundAhead,
+    ) -> Result<(), AllocError>
+        requires answers { AreResolved self.now (wanted_by kind) answers.now }
+        requires found { AreAhead kind self.now found.old }
+        ensures { OnOk result (AreAhead kind self.now found.new) }
+    {
+        for answer in answers {
+            self.add_answer(kind, answer, found)?;
         }
         Ok(())
     }
 
-    /// The same of methods.
-    fn add_methods(
+    /// Adds what a reference resolves to.
+    fn add_answer(
         &self,
-        alloc: Global,
-        ways: &mut Ways,
-        batch: &[Asked],
+        kind: MemberKind,
+        answer: &Answer,
         found: &mut FoundAhead,
     ) -> Result<(), AllocError>
-        requires ways { AreWays self.now.family ways.old }
-        requires found { AreMethods self.now found.old }
-        ensures ways { AreWays self.now.family ways.new }
-        ensures found { OnOk result (AreMethods self.now found.new) }
+        requires answer { IsResolved self.now (wanted_by kind) answer.now }
+        requires found { AreAhead kind self.now found.old }
+        ensures { OnOk result (AreAhead kind self.now found.new) }
     {
-        let mut group = self.group(alloc, Wanted::InterfaceMethod, batch)?;
-        if !ways.are_shorter(self, Wanted::InterfaceMethod, &group) {
-            return Ok(());
+        match kind {
+            MemberKind::Field => self.add_field(answer, found),
+            MemberKind::Method => self.add_method(answer, found),
         }
-        self.look_through(Wanted::InterfaceMethod, ways, &mut group);
-        for answer in &group.answers {
-            self.add_method(answer, found)?;
-        }
-        Ok(())
     }
 
     /// Finds what the references of a group resolve to.

@@ -13,7 +13,7 @@ use crate::member_name::MemberName;
 use built_in::method::BuiltInMethod;
 
 /// A name and a descriptor, as texts for built-in classes and by their numbers for given ones.
-#[derive(Clone, Copy, Debug)]
+#[derive(Clone, Copy)]
 pub(crate) struct Sought<'a> {
     pub(crate) name: &'a [u8],
     pub(crate) descriptor: &'a [u8],

@@ -1,7 +1,7 @@
 //! What is looked for in a class.
 
 /// The kind of member that counts.
-#[derive(Clone, Copy, Debug)]
+#[derive(Clone, Copy)]
 pub(crate) enum Wanted {
     Field,
     /// A field of an interface.

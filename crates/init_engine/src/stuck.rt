@@ -22,7 +22,7 @@ use vm_state::initialization::{Frames, Level};
 use vm_state::shared::Shared;
 
 /// Whether some threads go on, or one of them.
-#[derive(Clone, Copy, Debug, PartialEq, Eq)]
+#[derive(Clone, Copy)]
 pub enum Rest {
     /// All have ended.
     Ended,

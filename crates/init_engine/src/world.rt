@@ -147,7 +147,7 @@ impl Drop for World {
 }
 
 /// What a world has shown.
-#[derive(Drop, Debug)]
+#[derive(Drop)]
 pub struct Seen {
     /// What was printed, in order.
     pub printed: Vec<Line>,

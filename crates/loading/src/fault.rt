@@ -9,7 +9,7 @@ use std::fmt::{self, Display, Formatter, Write};
 use thiserror::Error;
 
 /// What is wrong with the parents of a class.
-#[derive(Clone, Copy, PartialEq, Eq, Debug)]
+#[derive(Clone, Copy, Debug)]
 pub enum BadParent {
     /// 1: it has no superclass.
     NoSuperclass,

@@ -7,7 +7,7 @@ use classfile::ClassFile;
 use std::marker::Model;
 
 /// The superclass of a given class.
-#[derive(Clone, Copy, PartialEq, Eq, Debug)]
+#[derive(Clone, Copy)]
 pub enum Superclass {
     /// A given class, by its number.
     Given(u32),

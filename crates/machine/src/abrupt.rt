@@ -15,7 +15,7 @@ use std::alloc::Global;
 use vm_state::value::Fault;
 
 /// What ends an instruction before it has changed anything.
-#[derive(Clone, Copy, PartialEq, Eq, Debug)]
+#[derive(Clone, Copy)]
 pub enum Abrupt {
     /// The store's reason.
     Stopped(Stop),

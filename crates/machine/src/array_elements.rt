@@ -24,7 +24,7 @@ use vm_state::frame::Frame;
 use vm_state::value::Value;
 
 /// What is stored, and where.
-#[derive(Clone, Copy, PartialEq, Eq, Debug)]
+#[derive(Clone, Copy)]
 pub struct Assignment {
     pub element: Element,
     pub value: Value,

@@ -4,7 +4,7 @@ use built_in::class_id::ArrayType;
 use bytecode::{ElementKind, PrimitiveKind};
 
 /// An instruction on arrays, once what it names is looked up (JVMS 6.5).
-#[derive(Clone, Copy, PartialEq, Eq, Debug)]
+#[derive(Clone, Copy)]
 pub enum ArrayOperation {
     /// `newarray`.
     New(PrimitiveKind),

@@ -24,7 +24,7 @@ use vm_state::operands::Operands;
 use vm_state::value::{Fault, Name, Value};
 
 /// An element that there is.
-#[derive(Clone, Copy, PartialEq, Eq, Debug)]
+#[derive(Clone, Copy)]
 pub struct Element {
     /// Its array.
     pub name: Name,

@@ -18,7 +18,7 @@ use program::{BuiltInMethod, Method, Printed, Program, Unresolved};
 use vm_state::ends::FaultKind;
 
 /// A call of a static method of a given class.
-#[derive(Clone, Copy, PartialEq, Eq, Debug)]
+#[derive(Clone, Copy)]
 pub struct StaticCall {
     /// The class that declares it.
     pub class: u32,
@@ -31,7 +31,7 @@ pub struct StaticCall {
 }
 
 /// Which method a call of an instance method runs.
-#[derive(Clone, Copy, PartialEq, Eq, Debug)]
+#[derive(Clone, Copy)]
 pub enum Choice {
     /// The one that is selected for the class of the receiver, of a method that was resolved.
     Selected(Method),
@@ -40,7 +40,7 @@ pub enum Choice {
 }
 
 /// A call of an instance method.
-#[derive(Clone, Copy, PartialEq, Eq, Debug)]
+#[derive(Clone, Copy)]
 pub struct InstanceCall {
     pub choice: Choice,
     /// Whether the reference names `java.io.PrintStream`.
@@ -52,7 +52,7 @@ pub struct InstanceCall {
 }
 
 /// An instruction that calls a method (JVMS 6.5).
-#[derive(Clone, Copy, PartialEq, Eq, Debug)]
+#[derive(Clone, Copy)]
 pub enum CallOperation {
     Static(StaticCall),
     Instance(InstanceCall),

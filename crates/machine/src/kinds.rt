@@ -10,7 +10,7 @@ use vm_state::text::Text;
 use vm_state::value::{Maker, Name, Value};
 
 /// Who executes an instruction.
-#[derive(Clone, Copy, PartialEq, Eq, Debug)]
+#[derive(Clone, Copy)]
 pub struct Actor {
     /// The thread's number.
     pub thread: u32,
@@ -39,7 +39,7 @@ pub enum Conclusion {
 }
 
 /// Why an instruction was not done. Nothing has changed.
-#[derive(Clone, Copy, PartialEq, Eq, Debug)]
+#[derive(Clone, Copy)]
 pub enum Stop {
     /// The class of this number has to be initialized first.
     Needs(u32),

@@ -1,9 +1,6 @@
 //! The members that a class file refers to, resolved one class after another (JVMS 5.4.3).
 
-ghost use Rattle.std.specs.Prelude.{◌≡◌, ◌==◌, ℕ, Some, None, IfOk, OnOk, slice_get, if◌then◌else◌};
-ghost use Rattle.classfile.specs.declared.constant.Constant.{Constant as Entry};
-ghost use Rattle.program.specs.declared.runtime_constant.RuntimeConstant.{RuntimeConstant as Held};
-ghost use Rattle.program.specs.steps.ResolvedConstants.{IsResolved};
+ghost use Rattle.std.specs.Prelude.{◌≡◌, ◌==◌, ℕ, Some, None, IfOk, OnOk, if◌then◌else◌};
 ghost use Rattle.program.specs.steps.Ahead.{ahead_at, AreAhead};
 
 use crate::equal_entries::{are_equal, member_named};
@@ -11,11 +8,9 @@ use crate::resolver::Resolver;
 use crate::runtime_constant::RuntimeConstant;
 use classfile::{ClassFile, Constant};
 use hierarchy::member_resolver::MemberResolver;
-use loading::family::Family;
 use std::alloc::{AllocError, Global};
 use std::cmp::Ordering;
 use std::collections::BTreeMap;
-use std::marker::Model;
 
 /// A reference to a member: the class that it names, its name and type, and where it stands, by their indices.
 #[derive(Clone, Copy)]
@@ -52,84 +47,46 @@ fn references_by_class(alloc: Global, file: &ClassFile) -> Result<Vec<Reference>
     Ok(references)
 }
 
-/// What references to members of a class file stand for, found before its other entries are looked at.
-pub(crate) struct MembersAhead<'a> {
-    family: &'a Family,
-    file: &'a ClassFile,
-    /// By the index of a reference.
-    members: BTreeMap<u16, RuntimeConstant>,
-}
+/// What references to members of a class file stand for, by their indices, found before its other entries are looked
+/// at.
+pub(crate) type MembersAhead = BTreeMap<u16, RuntimeConstant>;
 
-impl<'a> Model for MembersAhead<'a> {
-    ghost use Rattle.program.specs.steps.Ahead.{AreAhead};
-    ghost use Rattle.program.specs.steps.NamedClasses.{NamingFile};
-
-    ghost Value = { NamingFile };
-
-    ghost view = { λ s. record { family = s.family.now; file = s.file.now } };
-
-    ghost invariant = { λ s. AreAhead s.family.now s.file.now s.members };
-}
-
-// By hand, since a derived one is proved anew wherever they are let go.
-impl<'a> Drop for MembersAhead<'a> {
-    fn drop(self) {
-        let MembersAhead {
-            family: _,
-            file: _,
-            members: _,
-        } = self;
-    }
-}
-
-impl<'a> MembersAhead<'a> {
-    /// None yet.
-    pub(crate) fn none(alloc: Global, family: &'a Family, file: &'a ClassFile) -> Self
-        ensures { result ≡ record { family = family.now; file = file.now } }
-    {
-        MembersAhead {
-            family,
-            file,
-            members: empty(alloc),
-        }
-    }
-
-    /// What the reference at an index stands for, if it was found.
-    pub(crate) fn found(&self, index: u16) -> Option<RuntimeConstant>
-        ensures { (constant : Entry) (held : Held) → slice_get self.now.file.constants index ≡ Some constant
-            → result ≡ Some held → IsResolved self.now.family self.now.file index constant held }
-    {
-        noted(&self.members, index)
-    }
-}
-
-impl<'a> Resolver<'a> {
+impl Resolver<'_> {
     /// The members that the class file refers to. Those of one class are resolved one after the other, so that what
     /// stands above it is found once; of equal references the first is resolved.
     pub(crate) fn members_ahead(
         &self,
         alloc: Global,
         members: &mut MemberResolver<'_>,
-    ) -> Result<MembersAhead<'a>, AllocError>
+    ) -> Result<MembersAhead, AllocError>
         requires members { members.old ≡ self.now.hierarchy.now }
-        ensures ahead { IfOk result (λ ahead. ahead ≡ record {
-          family = self.now.hierarchy.now.family;
-          file = self.now.file.now;
-        }) }
+        ensures ahead { IfOk result (AreAhead self.now.hierarchy.now.family self.now.file.now) }
         ensures kept { members.new ≡ members.old }
     {
         let references = references_by_class(alloc, self.file)?;
         let mut ahead = empty(alloc);
+        self.resolve_all(members, &references, &mut ahead)?;
+        Ok(ahead)
+    }
+
+    /// Resolves references, of those that are equal and stand next to one another the first.
+    fn resolve_all(
+        &self,
+        members: &mut MemberResolver<'_>,
+        references: &[Reference],
+        ahead: &mut MembersAhead,
+    ) -> Result<(), AllocError>
+        requires members { members.old ≡ self.now.hierarchy.now }
+        requires ahead { AreAhead self.now.hierarchy.now.family self.now.file.now ahead.old }
+        ensures ahead { OnOk result (AreAhead self.now.hierarchy.now.family self.now.file.now ahead.new) }
+        ensures kept { members.new ≡ members.old }
+    {
         let mut before = None;
-        for reference in &references {
-            self.resolve_ahead(members, before, reference.index, &mut ahead)?;
+        for reference in references {
+            self.resolve_ahead(members, before, reference.index, ahead)?;
             before = Some(reference.index);
         }
-        Ok(MembersAhead {
-            family: self.hierarchy.family(),
-            file: self.file,
-            members: ahead,
-        })
+        Ok(())
     }
 
     /// Resolves one more reference, if it is not equal to the one before.
@@ -138,7 +95,7 @@ impl<'a> Resolver<'a> {
         members: &mut MemberResolver<'_>,
         before: Option<u16>,
         index: u16,
-        ahead: &mut BTreeMap<u16, RuntimeConstant>,
+        ahead: &mut MembersAhead,
     ) -> Result<(), AllocError>
         requires members { members.old ≡ self.now.hierarchy.now }
         requires ahead { AreAhead self.now.hierarchy.now.family self.now.file.now ahead.old }
@@ -159,7 +116,7 @@ impl<'a> Resolver<'a> {
 
 /// Nothing resolved yet.
 #[tactic(auto, unfolding(crate::specs::steps::Ahead::ahead_at))]
-fn empty(alloc: Global) -> BTreeMap<u16, RuntimeConstant>
+fn empty(alloc: Global) -> MembersAhead
     ensures { (index : ℕ) → ahead_at result index ≡ None }
 {
     BTreeMap::new(alloc)
@@ -167,11 +124,7 @@ fn empty(alloc: Global) -> BTreeMap<u16, RuntimeConstant>
 
 /// Notes what an entry stands for.
 #[tactic(auto, unfolding(crate::specs::steps::Ahead::ahead_at))]
-fn insert(
-    ahead: &mut BTreeMap<u16, RuntimeConstant>,
-    index: u16,
-    held: RuntimeConstant,
-) -> Result<(), AllocError>
+fn insert(ahead: &mut MembersAhead, index: u16, held: RuntimeConstant) -> Result<(), AllocError>
     ensures { OnOk result ((key : ℕ)
         → ahead_at ahead.new key ≡ (if index == key then Some held else ahead_at ahead.old key)) }
 {
@@ -179,9 +132,9 @@ fn insert(
     Ok(())
 }
 
-/// What was noted of an entry.
+/// What the reference at an index stands for, if it was found.
 #[tactic(auto, unfolding(crate::specs::steps::Ahead::ahead_at))]
-fn noted(ahead: &BTreeMap<u16, RuntimeConstant>, index: u16) -> Option<RuntimeConstant>
+pub(crate) fn found_ahead(ahead: &MembersAhead, index: u16) -> Option<RuntimeConstant>
     ensures { result ≡ ahead_at ahead.now index }
 {
     match ahead.get(&index) {

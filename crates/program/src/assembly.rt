@@ -20,7 +20,6 @@ ghost use Rattle.program.specs.RuntimePool.{IsRuntimePool};
 ghost use Rattle.program.specs.Strings.{strings_of, all_strings, AreFirsts};
 ghost use Rattle.program.specs.steps.GrowingStrings.{Adds};
 
-use crate::ahead::MembersAhead;
 use crate::class::{Class, Methods, RuntimePool, StaticFields};
 use crate::field_slots::field_slots_of;
 use crate::linked_file::LinkedFile;
@@ -240,8 +239,10 @@ fn linked_classes(
     ensures grows { OnOk result (Grows strings.old strings.new) }
     ensures adds { OnOk result (Adds strings.old (all_strings linker.now.hierarchy.now.family) strings.new) }
 {
-    let mut members = MemberResolver::new(alloc, linker.hierarchy)?;
-    classes_with(alloc, linker, &mut members, strings)
+    match MemberResolver::new(alloc, linker.hierarchy) {
+        Ok(mut members) => classes_with(alloc, linker, &mut members, strings),
+        Err(error) => Err(error),
+    }
 }
 
 /// The same with what members are resolved by.
@@ -376,41 +377,13 @@ fn runtime_pool_of(
     ensures kept { members.new ≡ members.old }
 {
     let named = NamedClasses::of_file(alloc, linker.hierarchy.family(), file)?;
-    let none = MembersAhead::none(alloc, linker.hierarchy.family(), file);
-    let first = Resolver {
+    let resolver = Resolver {
         hierarchy: linker.hierarchy,
         numbers: linker.numbers,
         field_slots: linker.field_slots,
         class: number,
         file,
         named: &named,
-        ahead: &none,
-    };
-    pool_ahead(alloc, &first, members, strings)
-}
-
-/// The same, with the members that the class file refers to resolved first.
-fn pool_ahead(
-    alloc: Global,
-    first: &Resolver<'_>,
-    members: &mut MemberResolver<'_>,
-    strings: &mut Texts,
-) -> Result<RuntimePool, AllocError>
-    requires members { members.old ≡ first.now.hierarchy.now }
-    ensures pool { IfOk result (IsRuntimePool first.now.hierarchy.now.family strings.new first.now.file.now) }
-    ensures grows { OnOk result (Grows strings.old strings.new) }
-    ensures adds { OnOk result (Adds strings.old (strings_of first.now.file.now) strings.new) }
-    ensures kept { members.new ≡ members.old }
-{
-    let ahead = first.members_ahead(alloc, members)?;
-    let resolver = Resolver {
-        hierarchy: first.hierarchy,
-        numbers: first.numbers,
-        field_slots: first.field_slots,
-        class: first.class,
-        file: first.file,
-        named: first.named,
-        ahead: &ahead,
     };
     resolver.runtime_pool_of(alloc, members, strings)
 }

@@ -10,7 +10,6 @@ use std::marker::Model;
 use vm_state::classes::StaticField;
 
 /// What a method runs (JVMS 4.7.3).
-#[derive(Drop)]
 pub struct MethodCode {
     pub max_stack: u16,
     pub max_locals: u16,
@@ -20,6 +19,20 @@ pub struct MethodCode {
     /// Its exception table.
     pub handlers: Handlers,
     pub body: Body,
+}
+
+// By hand, since a derived one is proved anew wherever one is let go.
+impl Drop for MethodCode {
+    fn drop(self) {
+        let MethodCode {
+            max_stack: _,
+            max_locals: _,
+            descriptor: _,
+            returns: _,
+            handlers: _,
+            body: _,
+        } = self;
+    }
 }
 
 /// How a method is implemented.
@@ -95,7 +108,6 @@ impl RuntimePool {
 }
 
 /// A given class, as the machine uses it.
-#[derive(Drop)]
 pub struct Class {
     pub statics: StaticFields,
     /// What the method descriptors of its constant pool say.
@@ -106,4 +118,18 @@ pub struct Class {
     /// Its own static `main` of `([Ljava/lang/String;)V`, by its place among the methods.
     pub main: Option<u16>,
     pub runtime_pool: RuntimePool,
+}
+
+// By hand, since a derived one is proved anew wherever one is let go.
+impl Drop for Class {
+    fn drop(self) {
+        let Class {
+            statics: _,
+            signatures: _,
+            methods: _,
+            initializer: _,
+            main: _,
+            runtime_pool: _,
+        } = self;
+    }
 }

@@ -73,10 +73,13 @@ impl Earlier {
             × (slice_get pool.now i ≡ Some held)) }
     {
         let index = self.index(constant)?;
-        if !is_equal(file.constant(index)?, constant) {
+        if !stands_at(file, index, constant) {
             return None;
         }
-        pool.get(usize::from(index)).copied()
+        match pool.get(usize::from(index)) {
+            Some(held) => Some(*held),
+            None => None,
+        }
     }
 }
 
@@ -101,9 +104,16 @@ pub(crate) fn member_named(constant: &Constant) -> Option<(u16, u16)> {
 
 /// Whether the entry at an index, if there is one, names the same as another.
 pub(crate) fn are_equal(file: &ClassFile, index: Option<u16>, other: &Constant) -> bool {
-    let Some(index) = index else {
-        return false;
-    };
+    match index {
+        Some(index) => stands_at(file, index, other),
+        None => false,
+    }
+}
+
+/// Whether an equal entry stands at an index.
+fn stands_at(file: &ClassFile, index: u16, other: &Constant) -> bool
+    ensures { IsTrue result → slice_get file.now.constants index ≡ Some other.now }
+{
     match file.constant(index) {
         Some(constant) => is_equal(constant, other),
         None => false,

@@ -6,7 +6,7 @@ use built_in::class_id::ClassId;
 use std::marker::Model;
 
 /// What an entry of an exception table catches.
-#[derive(Clone, Copy, PartialEq, Eq, Debug)]
+#[derive(Clone, Copy, Debug)]
 pub enum Catches {
     /// Whatever is thrown.
     Anything,
@@ -16,7 +16,7 @@ pub enum Catches {
 
 /// An entry of an exception table. Where an instruction from `start_pc` on and before `end_pc` throws what it catches,
 /// execution goes on at `handler_pc`.
-#[derive(Clone, Copy, PartialEq, Eq, Debug)]
+#[derive(Clone, Copy)]
 pub struct Handler {
     pub start_pc: u16,
     pub end_pc: u16,

@@ -40,7 +40,7 @@ fn descriptor_index_at(file: &ClassFile, index: u16) -> u16
 }
 
 /// What the class is that a method reference names (JVMS 4.4.2).
-#[derive(Clone, Copy, PartialEq, Eq, Debug)]
+#[derive(Clone, Copy)]
 pub(crate) enum MethodOwner {
     /// A Methodref names a class that is no interface.
     Class,

@@ -9,7 +9,7 @@ use hierarchy::member::{Method, Unresolved};
 use vm_state::value::Value;
 
 /// How a field's value is stored, by its type (JVMS 2.11.1, 4.3.2).
-#[derive(Clone, Copy, PartialEq, Eq, Debug)]
+#[derive(Clone, Copy, Debug)]
 pub enum FieldKind {
     Boolean,
     Byte,
@@ -53,7 +53,7 @@ impl FieldKind {
 }
 
 /// A field as instructions use it.
-#[derive(Clone, Copy, PartialEq, Eq, Debug)]
+#[derive(Clone, Copy, Debug)]
 pub enum FieldTarget {
     Static {
         class: u32,
@@ -76,7 +76,7 @@ pub enum FieldTarget {
 }
 
 /// A reference to a method (JVMS 4.4.2).
-#[derive(Clone, Copy, PartialEq, Eq, Debug)]
+#[derive(Clone, Copy, Debug)]
 pub struct MethodReference {
     /// The class that it names, if it is given or built in, or an array class of such.
     pub class: Option<ClassId>,
@@ -88,7 +88,7 @@ pub struct MethodReference {
 }
 
 /// A constant of a run-time constant pool.
-#[derive(Clone, Copy, PartialEq, Eq, Debug)]
+#[derive(Clone, Copy, Debug)]
 pub enum RuntimeConstant {
     /// No instruction that is executed names it.
     Other,

@@ -3,7 +3,7 @@
 ghost use Rattle.std.specs.Prelude.{◌≡◌, ◌<◌, [], ◌∷◌, ◌++◌, length, Some, IfOk, OnOk, slice_get, if◌then◌else◌};
 ghost use Rattle.program.specs.RuntimePool.{int_of_bits, long_of_halves};
 ghost use Rattle.program.specs.Fields.{static_number_of, static_of, final_of};
-ghost use Rattle.program.specs.FieldTargets.{target_in, target_of};
+ghost use Rattle.program.specs.FieldTargets.{target_in, target_of, targeted};
 ghost use Rattle.program.specs.InstanceFields.{slot_of};
 ghost use Rattle.program.specs.steps.Slots.{field_slot_in};
 ghost use Rattle.program.specs.steps.StaticNumbers.{static_number_in};
@@ -14,9 +14,11 @@ ghost use Rattle.program.specs.RuntimePool.{IsRuntimeConstant, IsRuntimePool};
 ghost use Rattle.program.specs.steps.ResolvedConstants.{IsTargetAt, IsResolved, IsPlain, IsFieldConstant};
 ghost use Rattle.program.specs.steps.ResolvedConstants.{AreRuntimeConstants};
 ghost use Rattle.hierarchy.specs.steps.GrowingTexts.{Grows};
+ghost use Rattle.program.specs.steps.Ahead.{AreAhead};
 ghost use Rattle.program.specs.Strings.{string_of, strings_of};
 ghost use Rattle.program.specs.steps.GrowingStrings.{Adds};
 
+use crate::ahead::{MembersAhead, found_ahead};
 use crate::class::RuntimePool;
 use crate::equal_entries::Earlier;
 use crate::field_slots::FieldSlots;
@@ -96,6 +98,16 @@ impl Resolver<'_> {
         }
     }
 
+    /// The same of what a reference resolves to.
+    fn targeted(&self, field: Result<Field, Unresolved>) -> Result<FieldTarget, Unresolved>
+        ensures { result ≡ targeted self.now.hierarchy.now.family field }
+    {
+        match field {
+            Ok(field) => Ok(self.target_of(field)),
+            Err(fault) => Err(fault),
+        }
+    }
+
     /// A field of a given class as instructions use it.
     fn given_target(&self, class: u32, index: u16) -> FieldTarget
         ensures { result ≡ target_in (file_in self.now.hierarchy.now.family class) class index
@@ -135,10 +147,9 @@ impl Resolver<'_> {
         ensures target { IfOk result (IsTargetAt self.now.hierarchy.now.family self.now.file.now index) }
         ensures kept { members.new ≡ members.old }
     {
-        let resolved = self.resolve_field_at(members, index)?;
-        match resolved {
-            Ok(field) => Ok(Ok(self.target_of(field))),
-            Err(fault) => Ok(Err(fault)),
+        match self.resolve_field_at(members, index) {
+            Ok(field) => Ok(self.targeted(field)),
+            Err(error) => Err(error),
         }
     }
 
@@ -160,24 +171,6 @@ impl Resolver<'_> {
     }
 
     /// What an entry of a class file's constant pool stands for, other than a string.
-    fn resolved(
-        &self,
-        members: &mut MemberResolver<'_>,
-        index: u16,
-        constant: &Constant,
-    ) -> Result<RuntimeConstant, AllocError>
-        requires members { members.old ≡ self.now.hierarchy.now }
-        requires here { slice_get self.now.file.now.constants index ≡ Some constant.now }
-        ensures held { IfOk result (IsResolved self.now.hierarchy.now.family self.now.file.now index constant.now) }
-        ensures kept { members.new ≡ members.old }
-    {
-        match self.ahead.found(index) {
-            Some(held) => Ok(held),
-            None => self.resolved_now(members, index, constant),
-        }
-    }
-
-    /// The same where it was not found before.
     pub(crate) fn resolved_now(
         &self,
         members: &mut MemberResolver<'_>,
@@ -226,32 +219,55 @@ impl Resolver<'_> {
         }
     }
 
+    /// What an entry of a class file's constant pool stands for, other than a string. It may have been found before.
+    fn resolved(
+        &self,
+        members: &mut MemberResolver<'_>,
+        ahead: &MembersAhead,
+        index: u16,
+        constant: &Constant,
+    ) -> Result<RuntimeConstant, AllocError>
+        requires members { members.old ≡ self.now.hierarchy.now }
+        requires ahead { AreAhead self.now.hierarchy.now.family self.now.file.now ahead.now }
+        requires here { slice_get self.now.file.now.constants index ≡ Some constant.now }
+        ensures held { IfOk result (IsResolved self.now.hierarchy.now.family
+            self.now.file.now index constant.now) }
+        ensures kept { members.new ≡ members.old }
+    {
+        match found_ahead(ahead, index) {
+            Some(held) => Ok(held),
+            None => self.resolved_now(members, index, constant),
+        }
+    }
+
     /// What an entry of a class file's constant pool stands for. A string gets a number if it had none.
     fn runtime_constant_of(
         &self,
         alloc: Global,
         members: &mut MemberResolver<'_>,
         strings: &mut Texts,
+        ahead: &MembersAhead,
         index: u16,
         constant: &Constant,
     ) -> Result<RuntimeConstant, AllocError>
         requires members { members.old ≡ self.now.hierarchy.now }
+        requires ahead { AreAhead self.now.hierarchy.now.family self.now.file.now ahead.now }
         requires here { slice_get self.now.file.now.constants index ≡ Some constant.now }
-        ensures held { IfOk result
-            (IsRuntimeConstant self.now.hierarchy.now.family strings.new self.now.file.now index constant.now) }
+        ensures held { IfOk result (IsRuntimeConstant self.now.hierarchy.now.family strings.new
+            self.now.file.now index constant.now) }
         ensures grows { OnOk result (Grows strings.old strings.new) }
         ensures adds { OnOk result (Adds strings.old (string_of self.now.file.now constant.now) strings.new) }
         ensures kept { members.new ≡ members.old }
     {
         let Constant::String { text } = constant else {
-            let held = self.resolved(members, index, constant)?;
+            let held = self.resolved(members, ahead, index, constant)?;
             return Ok(held);
         };
         let number = strings.add(alloc, text_at(self.file, *text))?;
         Ok(RuntimeConstant::String(number))
     }
 
-    /// The run-time constant pool of a class.
+    /// The run-time constant pool of the class. The members that the class file refers to are resolved first.
     pub(crate) fn runtime_pool_of(
         &self,
         alloc: Global,
@@ -264,8 +280,10 @@ impl Resolver<'_> {
         ensures adds { OnOk result (Adds strings.old (strings_of self.now.file.now) strings.new) }
         ensures kept { members.new ≡ members.old }
     {
+        let ahead = self.members_ahead(alloc, members)?;
         let mut pool = Vec::with_capacity(alloc, self.file.constants().len())?;
-        self.add_constants(alloc, members, strings, &mut pool)?;
+        let mut earlier = Earlier::new(alloc);
+        self.add_constants(alloc, members, strings, &ahead, &mut earlier, &mut pool)?;
         Ok(RuntimePool { constants: pool })
     }
 
@@ -275,26 +293,29 @@ impl Resolver<'_> {
         alloc: Global,
         members: &mut MemberResolver<'_>,
         strings: &mut Texts,
+        ahead: &MembersAhead,
+        earlier: &mut Earlier,
         pool: &mut Vec<RuntimeConstant>,
     ) -> Result<(), AllocError>
         requires members { members.old ≡ self.now.hierarchy.now }
+        requires ahead { AreAhead self.now.hierarchy.now.family self.now.file.now ahead.now }
         requires empty { pool.old.items ≡ [] }
-        ensures pool { OnOk result
-            (IsRuntimePool self.now.hierarchy.now.family strings.new self.now.file.now pool.new.items) }
+        ensures pool { OnOk result (IsRuntimePool self.now.hierarchy.now.family strings.new
+            self.now.file.now pool.new.items) }
         ensures grows { OnOk result (Grows strings.old strings.new) }
         ensures adds { OnOk result (Adds strings.old (strings_of self.now.file.now) strings.new) }
         ensures kept { members.new ≡ members.old }
     {
-        let mut earlier = Earlier::new(alloc);
         let constants = self.file.constants();
         for (index, constant) in constants.iter().enumerate() {
             self.add_constant(
                 alloc,
                 members,
                 strings,
+                ahead,
                 index as u16,
                 constant,
-                &mut earlier,
+                earlier,
                 pool,
             )?;
         }
@@ -307,16 +328,20 @@ impl Resolver<'_> {
         alloc: Global,
         members: &mut MemberResolver<'_>,
         strings: &mut Texts,
+        ahead: &MembersAhead,
         index: u16,
         constant: &Constant,
         earlier: &mut Earlier,
         pool: &mut Vec<RuntimeConstant>,
     ) -> Result<(), AllocError>
         requires members { members.old ≡ self.now.hierarchy.now }
+        requires ahead { AreAhead self.now.hierarchy.now.family self.now.file.now ahead.now }
         requires here { slice_get self.now.file.now.constants index ≡ Some constant.now }
-        requires pool { AreRuntimeConstants self.now.hierarchy.now.family strings.old self.now.file.now pool.old.items }
+        requires pool { AreRuntimeConstants self.now.hierarchy.now.family strings.old
+            self.now.file.now pool.old.items }
         ensures held { OnOk result ((held : Held)
-            × IsRuntimeConstant self.now.hierarchy.now.family strings.new self.now.file.now index constant.now held
+            × IsRuntimeConstant self.now.hierarchy.now.family strings.new
+            self.now.file.now index constant.now held
             × (pool.new.items ≡ pool.old.items ++ held ∷ [])) }
         ensures grows { OnOk result (Grows strings.old strings.new) }
         ensures adds { OnOk result (Adds strings.old (string_of self.now.file.now constant.now) strings.new) }
@@ -326,7 +351,7 @@ impl Resolver<'_> {
             pool.push(held)?;
             return Ok(());
         }
-        let held = self.runtime_constant_of(alloc, members, strings, index, constant)?;
+        let held = self.runtime_constant_of(alloc, members, strings, ahead, index, constant)?;
         earlier.note(constant, index)?;
         pool.push(held)?;
         Ok(())

@@ -37,7 +37,7 @@ impl ParameterKinds {
 }
 
 /// What a method returns.
-#[derive(Clone, Copy, PartialEq, Eq, Debug)]
+#[derive(Clone, Copy, Debug)]
 pub enum ReturnKind {
     Nothing,
     Value(FieldKind),

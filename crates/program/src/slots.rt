@@ -17,7 +17,7 @@ use std::alloc::{AllocError, Global};
 use std::marker::Model;
 
 /// How many slots the objects of a class have, and which class is the nearest that adds some, itself or a superclass.
-#[derive(Clone, Copy, PartialEq, Eq, Debug)]
+#[derive(Clone, Copy)]
 pub(crate) struct SlotChain {
     pub(crate) count: u32,
     pub(crate) nearest: Option<u32>,
@@ -32,7 +32,6 @@ impl SlotChain {
 }
 
 /// The slots of the objects of all classes.
-#[derive(Drop)]
 pub(crate) struct Slots {
     /// By class: those that it adds to those of its given superclass.
     added: Vec<FieldKinds>,
@@ -45,6 +44,16 @@ impl Model for Slots {
     ghost Value = { SlotTables };
 
     ghost view = { λ s. record { added = s.added.items; chains = s.chains.items } };
+}
+
+// By hand, since a derived one is proved anew wherever they are let go.
+impl Drop for Slots {
+    fn drop(self) {
+        let Slots {
+            added: _,
+            chains: _,
+        } = self;
+    }
 }
 
 impl Slots {

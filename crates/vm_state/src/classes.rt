@@ -10,7 +10,7 @@ use std::alloc::{AllocError, Global};
 use std::marker::Model;
 
 /// How far the initialization of a class is (JVMS 5.5).
-#[derive(Clone, Copy, PartialEq, Eq, Debug)]
+#[derive(Clone, Copy)]
 pub enum ClassState {
     /// Its initialization has not begun.
     Uninitialized,
@@ -23,7 +23,7 @@ pub enum ClassState {
 }
 
 /// What a class's state is to a thread that wants to use the class (JVMS 5.5, steps 2 to 5).
-#[derive(Clone, Copy, PartialEq, Eq, Debug)]
+#[derive(Clone, Copy)]
 pub enum Usability {
     /// Initialized, or in progress by the thread itself: the thread goes on (steps 3 and 4).
     Ready,
@@ -57,7 +57,7 @@ impl ClassState {
 }
 
 /// A static field as its class declares it (JVMS 4.5).
-#[derive(Clone, Copy, PartialEq, Eq, Debug)]
+#[derive(Clone, Copy)]
 pub struct StaticField {
     pub is_final: bool,
     /// Its value before the class is initialized: zero or null (JVMS 2.3, 2.4).
@@ -67,7 +67,7 @@ pub struct StaticField {
 }
 
 /// No place was kept yet for a class or a static field.
-#[derive(Clone, Copy, PartialEq, Eq, Debug)]
+#[derive(Clone, Copy)]
 pub struct NoPlace;
 
 /// The static fields of a class, by their numbers. A field that was never set is null.

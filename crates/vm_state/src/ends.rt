@@ -7,7 +7,7 @@ use built_in::class_id::ClassId;
 use std::fmt;
 
 /// Why a thread could not go on.
-#[derive(Clone, Copy, PartialEq, Eq, Debug)]
+#[derive(Clone, Copy, Debug)]
 pub enum FaultKind {
     /// A rule was broken that JVMS leaves to verification.
     Fault,
@@ -28,7 +28,7 @@ impl fmt::Display for FaultKind {
 }
 
 /// How a thread ended.
-#[derive(Clone, Copy, PartialEq, Eq, Debug)]
+#[derive(Clone, Copy)]
 pub enum End {
     /// Its `main` returned.
     Returned,
@@ -38,7 +38,7 @@ pub enum End {
 }
 
 /// How far a thread has come, as it is seen from outside.
-#[derive(Clone, Copy, PartialEq, Eq, Debug)]
+#[derive(Clone, Copy, Debug)]
 pub enum Ending {
     /// It has not ended.
     Going,

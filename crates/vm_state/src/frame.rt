@@ -11,7 +11,7 @@ use std::marker::Model;
 use std::mem;
 
 /// What a frame is for.
-#[derive(Clone, Copy, PartialEq, Eq, Debug)]
+#[derive(Clone, Copy)]
 pub enum Activity {
     /// The start of a thread, which calls the `main` of this class (JVMS 5.2).
     Start(u32),

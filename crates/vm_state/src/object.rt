@@ -81,7 +81,7 @@ impl Slots {
 }
 
 /// The monitor of an object (JVMS 2.11.10).
-#[derive(Clone, Copy, PartialEq, Eq, Debug)]
+#[derive(Clone, Copy)]
 pub enum Monitor {
     Free,
     /// Owned by a thread, which entered it so many times.

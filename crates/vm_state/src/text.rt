@@ -9,7 +9,7 @@ use std::alloc::{AllocError, Global};
 use std::marker::Model;
 
 /// A text as its bytes in UTF-8.
-#[derive(Drop, Debug)]
+#[derive(Drop)]
 pub struct Text {
     bytes: Vec<u8>,
 }
@@ -115,7 +115,7 @@ impl Text {
 }
 
 /// One print of a thread.
-#[derive(Drop, Debug)]
+#[derive(Drop)]
 pub struct Line {
     /// The number of the thread that printed.
     pub thread: u32,

@@ -4,7 +4,7 @@ ghost use Rattle.std.specs.Prelude.{◌≡◌, Some, None, IfOk, OnErr};
 ghost use Rattle.vm_state.specs.Values.{places, int_of, long_of, value_of};
 
 /// Who counts an object: the class during whose initialization it was made, or else the thread.
-#[derive(Clone, Copy, PartialEq, Eq, Debug)]
+#[derive(Clone, Copy)]
 pub enum Maker {
     /// A given class, by its number.
     Class(u32),
@@ -13,14 +13,14 @@ pub enum Maker {
 }
 
 /// The name of an object. Numbers count from 0 within the maker.
-#[derive(Clone, Copy, PartialEq, Eq, Debug)]
+#[derive(Clone, Copy)]
 pub struct Name {
     pub maker: Maker,
     pub number: u64,
 }
 
 /// A value. `boolean`, `byte`, `char` and `short` are ints (JVMS 2.11.1).
-#[derive(Clone, Copy, PartialEq, Eq, Debug)]
+#[derive(Clone, Copy, Debug, PartialEq, Eq)]
 pub enum Value {
     Int(i32),
     Long(i64),
@@ -89,5 +89,5 @@ impl Value {
 }
 
 /// An instruction broke a rule that JVMS leaves to verification: its thread ends with a fault.
-#[derive(Clone, Copy, PartialEq, Eq, Debug)]
+#[derive(Clone, Copy)]
 pub struct Fault;

@@ -6,6 +6,8 @@ use Rattle.hierarchy.specs.Hierarchies.{NumberedFamily}
 use Rattle.hierarchy.specs.Resolution.{ResolvesField, ResolvesMethod}
 use Rattle.built_in.specs.Keys.{NameAndType}
 use Rattle.hierarchy.specs.steps.MemberIndexes.{AreNumbers, same_member}
+use Rattle.hierarchy.specs.declared.asked.MemberKind.{MemberKind}
+use Rattle.hierarchy.specs.declared.asked.MemberKind.TheVariants as asked
 use Rattle.hierarchy.specs.declared.found_ahead.FoundAhead.{FoundAhead}
 use Rattle.hierarchy.specs.declared.member.DeclaredMember.{DeclaredMember}
 use Rattle.hierarchy.specs.declared.member_index.MemberKey.{MemberKey}
@@ -13,6 +15,8 @@ use Rattle.hierarchy.specs.declared.member.Field.{Field}
 use Rattle.hierarchy.specs.declared.member.Field.TheVariants as field
 use Rattle.hierarchy.specs.declared.member.Method.{Method}
 use Rattle.hierarchy.specs.declared.member.Method.TheVariants as method
+use Rattle.hierarchy.specs.declared.wanted.Wanted.{Wanted}
+use Rattle.hierarchy.specs.declared.wanted.Wanted.TheVariants as wanted
 
 abbrev pub found_in : FoundAhead → ℕ → MemberKey → Option (Option DeclaredMember)
 found_in ahead class key = get same_member ahead.found (record { class = class; key = key })
@@ -38,3 +42,13 @@ abbrev pub AreMethods : NumberedFamily → FoundAhead → Type 0
 AreMethods h ahead = (class : ℕ) (key : MemberKey) (m : Option DeclaredMember) (name : NameAndType)
     → found_in ahead class key ≡ Some m → AreNumbers h.texts name key
     → ResolvesMethod h.family name (class_ids.Given class) (given_method m)
+
+-- what is looked for, for references of a kind
+abbrev pub wanted_by : MemberKind → Wanted
+wanted_by asked.Field = wanted.Field
+wanted_by asked.Method = wanted.InterfaceMethod
+
+-- what was found for references of a kind is what they resolve to
+abbrev pub AreAhead : MemberKind → NumberedFamily → FoundAhead → Type 0
+AreAhead asked.Field h ahead = AreFields h ahead
+AreAhead asked.Method h ahead = AreMethods h ahead

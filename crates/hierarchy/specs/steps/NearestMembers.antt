@@ -1,10 +1,11 @@
 -- What the nearest members along superclasses are found by.
-use Rattle.std.specs.Prelude.{◌≡◌, ℕ, List, length}
+use Rattle.std.specs.Prelude.{◌≡◌, ℕ, List, [], length}
 use Rattle.loading.specs.Families.{Family}
 use Rattle.hierarchy.specs.steps.DepthFirst.{IsWholeOrder, ArePlaces}
-use Rattle.hierarchy.specs.steps.Reaches.{AllTell}
+use Rattle.hierarchy.specs.steps.Reaches.{AllTell, IsReachTable, reaches_of}
 use Rattle.hierarchy.specs.steps.Sweeps.{members_by}
 use Rattle.hierarchy.specs.steps.Tops.{AreTops}
+use Rattle.hierarchy.specs.declared.member_index.MemberKey.{MemberKey}
 use Rattle.hierarchy.specs.declared.member_table.MemberTable.{MemberTable}
 use Rattle.hierarchy.specs.declared.nearest.NearestMembers.{NearestMembers}
 use Rattle.hierarchy.specs.declared.nearest.Reaches.{Reaches}
@@ -18,6 +19,11 @@ rows_of wanted.InterfaceField r = r.interface_fields
 rows_of wanted.Method r = r.methods
 rows_of wanted.InstanceMethod r = r.instance_methods
 rows_of wanted.InterfaceMethod r = r.interface_methods
+
+-- No key has reaches.
+pub record IsEmpty (table : ReachTable) : Type 0 where
+  pub keys : IsReachTable table
+  pub none : (key : MemberKey) → reaches_of table key ≡ []
 
 -- each row tells of all classes
 abbrev pub AllAreTold : Family → MemberTable → List ℕ → Reaches → Type 0

@@ -1,26 +1,35 @@
-use Rattle.std.proofs.Common.{ap, ◌∙◌, [], ◌∷◌, ◌≡◌, subst, option_to_list, arith}
-use Rattle.std.specs.List.{All, Contains}
-use Rattle.loading.specs.Families.{superclasses_in}
-use Rattle.hierarchy.proofs.DepthFirstLemmas.{holds_behind, holds_first}
+use Rattle.std.proofs.Common.{[], ◌∷◌}
+use Rattle.std.proofs.lemmas.List.Elements.{Contains-append_left, Contains-append_right}
+use Rattle.hierarchy.proofs.RowLemmas.{at_head}
 use Rattle.hierarchy.proofs.depth_first.put.Goals as goal
 
-pub returns-in-Some-clause-holds : goal.returns-in-Some-clause-holds
-returns-in-Some-clause-holds c = λ holds.
-    let family = c.args.family.now in
-    let is : superclasses_in family c.args.class ≡ c.in-Some.above ∷ [] =
-    c.given_superclass.ensures.value ∙ ap option_to_list c.in-Some.is in
-    let new = rw c.if-not-branch.false at c.in_ok-add.ensures.ok in
-    let above : Contains c.args.placed.now.items c.in-Some.above =
-    subst (All (Contains c.args.placed.now.items)) is c.requires.above 0 0 (omega arith) in
-    rw new.1 (holds_behind family c.args.placed.now.items c.args.row.now.first c.args.row.now.behind.items c.args.class
-    holds new.0 c.put_behind.new.self.first c.put_behind.new.self.behind.items c.in-Some.above is above
-    c.put_behind.ensures.row)
+pub returns-then-branch-clause-placed : goal.returns-then-branch-clause-placed
+returns-then-branch-clause-placed c =
+    let new = rw c.if-branch.true at c.in_ok-add.ensures.ok in
+    let class = c.args.class in
+    rw new.1 (Contains-append_right c.args.placed.now.items (class ∷ []) class (at_head class []))
 
-pub returns-in-None-clause-holds : goal.returns-in-None-clause-holds
-returns-in-None-clause-holds c = λ holds.
-    let family = c.args.family.now in
-    let is : superclasses_in family c.args.class ≡ [] =
-    c.given_superclass.ensures.value ∙ ap option_to_list c.in-None.is in
-    let new = rw c.if-not-branch.false at c.in_ok-add.ensures.ok in
-    rw new.1 (holds_first family c.args.placed.now.items c.args.row.now.first c.args.row.now.behind.items c.args.class
-    holds new.0 c.put_first.new.self.first c.put_first.new.self.behind.items is c.put_first.ensures.row)
+pub returns-then-branch-clause-kept : goal.returns-then-branch-clause-kept
+returns-then-branch-clause-kept c = λ x has.
+    let new = rw c.if-branch.true at c.in_ok-add.ensures.ok in
+    rw new.1 (Contains-append_left c.args.placed.now.items (c.args.class ∷ []) x has)
+
+pub returns-then-branch-clause-holds : goal.returns-then-branch-clause-holds
+returns-then-branch-clause-holds c = λ holds.
+    let new = rw c.if-branch.true at c.in_ok-add.ensures.ok in
+    rw new.1 (c.link.ensures.holds c.args.placed.now.items new.0 c.requires.above holds)
+
+pub returns-else-branch-clause-placed : goal.returns-else-branch-clause-placed
+returns-else-branch-clause-placed c =
+    let same = rw c.if-branch.false at c.in_ok-add.ensures.ok in
+    rw same.1 same.0
+
+pub returns-else-branch-clause-kept : goal.returns-else-branch-clause-kept
+returns-else-branch-clause-kept c = λ x has.
+    let same = rw c.if-branch.false at c.in_ok-add.ensures.ok in
+    rw same.1 has
+
+pub returns-else-branch-clause-holds : goal.returns-else-branch-clause-holds
+returns-else-branch-clause-holds c = λ holds.
+    let same = rw c.if-branch.false at c.in_ok-add.ensures.ok in
+    rw same.1 holds

@@ -1,6 +1,6 @@
 use Rattle.std.proofs.Common.{◌≡◌}
 use Rattle.program.specs.steps.Ahead.{AreAhead}
-use Rattle.program.proofs.resolver.Resolver.members_ahead.Given as goal
+use Rattle.program.proofs.resolver.Resolver.resolve_all.Given as goal
 
 abbrev pub invariant-loop-reference : goal.invariant-loop-reference
 invariant-loop-reference l = record {
