@@ -73,12 +73,12 @@ pub found_declares : (family : Family) (key : NameAndType) (e d k : ℕ)
     → found_from is_inherited family key (class.Given e) ≡ Some (method.Given d k)
     → instance_method_in family key d ≡ Some k
 found_declares family key e d k h = elim (or_cases (first_up family own key e) (the_default family key e) _ h) [
-    | inl up ↦ elim (or_cases (first_declared own (e ∷ given_superclasses family e)) _ _ up) [
-        | inl declared ↦ declares_of own _ d k declared
-        | inr ended ↦ absurd (not_at_end key _ d k ended)
-      ]
-    | inr default ↦ of_interface family key d k (declares_of (interface_method_in family key) _ d k default)
+  | inl up ↦ elim (or_cases (first_declared own (e ∷ given_superclasses family e)) _ _ up) [
+    | inl declared ↦ declares_of own _ d k declared
+    | inr ended ↦ absurd (not_at_end key _ d k ended)
   ]
+  | inr default ↦ of_interface family key d k (declares_of (interface_method_in family key) _ d k default)
+]
   where
     own : ℕ → Option ℕ
     own = instance_method_in family key
@@ -100,9 +100,11 @@ pub declared_is : (own : ℕ → Option ℕ) (o : Option DeclaredMember) (d k : 
     → declared_as own o ≡ Some (record { class = d; index = k }) → Contains (class_noted o) d × (own d ≡ Some k)
 declared_is own None d k h = absurd (cc)
 declared_is own (Some m) d k h =
-    let both = at_place_is m.class d k (own m.class) h in
-    (subst (λ (c : ℕ). Contains (m.class ∷ []) c) both.0 (Contains-push [] m.class), subst (λ (c : ℕ). own c ≡ Some k)
-    both.0 both.1)
+    let both = at_place_is m.class d k (own m.class) h in (
+      subst (λ (c : ℕ). Contains (m.class ∷ []) c) both.0 (Contains-push [] m.class),
+      subst (λ (c : ℕ). own c ≡ Some k)
+          both.0 both.1,
+    )
 
 pub is_declared : (own : ℕ → Option ℕ) (o : Option DeclaredMember) (d k : ℕ) → Contains (class_noted o) d
     → own d ≡ Some k → declared_as own o ≡ Some (record { class = d; index = k })
@@ -162,19 +164,19 @@ pub one_added : (own : ℕ → Option ℕ) (row : List Reach) (i : ℕ) (old now
 one_added own row i old now found small is before d k = (
   λ p. elim (Contains-push_cases now found _ p) [
     | inl was ↦ elim ((before d k).0 was) [
-        | inl first ↦ inl first
-        | inr (low, has) ↦ inr (noted_before row i d small low, has)
-      ]
+      | inl first ↦ inl first
+      | inr (low, has) ↦ inr (noted_before row i d small low, has)
+    ]
     | inr e ↦ (let told = declared_is own (noted_at row i) d k (is ∙ ap Some e) in
         inr (noted_here row i d small told.0, told.1))
   ],
   λ p. elim p [
     | inl first ↦ Contains-append_left now (found ∷ []) _ ((before d k).1 (inl first))
     | inr (among, has) ↦ elim (noted_cases row i d small among) [
-        | inl low ↦ Contains-append_left now (found ∷ []) _ ((before d k).1 (inr (low, has)))
-        | inr here ↦ (let e : found ≡ record { class = d; index = k } = (let told = is_declared own (noted_at row i) d k
-            here has in cc) in subst (λ (m : DeclaredMember). Contains (now ++ found ∷ []) m) e (Contains-push now found))
-      ]
+      | inl low ↦ Contains-append_left now (found ∷ []) _ ((before d k).1 (inr (low, has)))
+      | inr here ↦ (let e : found ≡ record { class = d; index = k } = (let told = is_declared own (noted_at row i) d k
+          here has in cc) in subst (λ (m : DeclaredMember). Contains (now ++ found ∷ []) m) e (Contains-push now found))
+    ]
   ],
 )
 
@@ -189,9 +191,9 @@ none_added own row i old now small none before d k = (
   λ p. elim p [
     | inl first ↦ (before d k).1 (inl first)
     | inr (among, has) ↦ elim (noted_cases row i d small among) [
-        | inl low ↦ (before d k).1 (inr (low, has))
-        | inr here ↦ absurd (let told = is_declared own (noted_at row i) d k here has in cc)
-      ]
+      | inl low ↦ (before d k).1 (inr (low, has))
+      | inr here ↦ absurd (let told = is_declared own (noted_at row i) d k here has in cc)
+    ]
   ],
 )
 
@@ -316,8 +318,12 @@ pub private_alone : (family : Family) (c j : ℕ) → is_private (flags_in famil
 private_alone family c j private d k = (
   λ (e, small, is). (let same : Some (method.Given c j) ≡ Some (method.Given d k) =
       sym (selects_itself family c j private e) ∙ is in (cc, cc)),
-  λ (p, q). (c, private_within family c j private, selects_itself family c j private c
-      ∙ ap (λ (x : ℕ). Some (method.Given x j)) p ∙ ap (λ (y : ℕ). Some (method.Given d y)) q),
+  λ (p, q). (
+    c,
+    private_within family c j private,
+    selects_itself family c j private c
+        ∙ ap (λ (x : ℕ). Some (method.Given x j)) p ∙ ap (λ (y : ℕ). Some (method.Given d y)) q,
+  ),
 )
 
 pub nothing_selected : (family : Family) (c j : ℕ) → is_private (flags_in family c j) ≡ false

@@ -63,7 +63,7 @@ pub enum CallOperation {
 }
 
 /// The reference to a method of a class that a constant is.
-fn of_class(constant: Option<RuntimeConstant>) -> Option<MethodReference>
+pub fn of_class(constant: Option<RuntimeConstant>) -> Option<MethodReference>
     ensures { result ≡ of_class constant }
 {
     match constant {
@@ -73,7 +73,7 @@ fn of_class(constant: Option<RuntimeConstant>) -> Option<MethodReference>
 }
 
 /// The reference to a method of an interface that a constant is.
-fn of_interface(constant: Option<RuntimeConstant>) -> Option<MethodReference>
+pub fn of_interface(constant: Option<RuntimeConstant>) -> Option<MethodReference>
     ensures { result ≡ of_interface constant }
 {
     match constant {
@@ -83,7 +83,7 @@ fn of_interface(constant: Option<RuntimeConstant>) -> Option<MethodReference>
 }
 
 /// The reference to a method of either that a constant is.
-fn of_either(constant: Option<RuntimeConstant>) -> Option<MethodReference>
+pub fn of_either(constant: Option<RuntimeConstant>) -> Option<MethodReference>
     ensures { result ≡ of_either constant }
 {
     match constant {
@@ -94,7 +94,7 @@ fn of_either(constant: Option<RuntimeConstant>) -> Option<MethodReference>
 }
 
 /// Whether values of a type are there; those of float and double are left out.
-fn has_value(kind: FieldKind) -> bool
+pub fn has_value(kind: FieldKind) -> bool
     ensures { result ≡ has_value kind }
 {
     !matches!(kind, FieldKind::Float | FieldKind::Double)
@@ -117,7 +117,7 @@ fn take_values(kinds: &[FieldKind]) -> bool
     kinds.iter().all(|kind| has_value(*kind))
 }
 
-fn has_values(signature: &Signature) -> bool
+pub fn has_values(signature: &Signature) -> bool
     ensures { result ≡ has_values signature.now }
 {
     take_values(signature.parameters.as_slice()) && returns_value(signature.returns)

@@ -12,3 +12,4 @@ pub mod FieldSlotsLemmas
 pub mod ZeroSlotsLemmas
 pub mod KeptLemmas
 pub mod SlotLawsLemmas
+pub mod CountsLemmas

@@ -45,7 +45,7 @@ beside_some (z ∷ xs) [] i x count at = absurd (omega (arith, count))
 beside_some (z ∷ xs) (y ∷ ys) zero x count at = (y, refl)
 beside_some (z ∷ xs) (y ∷ ys) (suc i) x count at = beside_some xs ys i x (omega (arith, count)) at
 
-zip_none : {A B : Type 0} (R : A → B → Type 0) (xs : List A) (ys : List B) (i : ℕ) → AllZip R xs ys
+pub zip_none : {A B : Type 0} (R : A → B → Type 0) (xs : List A) (ys : List B) (i : ℕ) → AllZip R xs ys
     → slice_get xs i ≡ None → slice_get ys i ≡ None
 zip_none R [] [] i all none = refl
 zip_none R [] (y ∷ ys) i all none = absurd all
@@ -53,7 +53,7 @@ zip_none R (x ∷ xs) [] i all none = absurd all
 zip_none R (x ∷ xs) (y ∷ ys) zero all none = absurd cc
 zip_none R (x ∷ xs) (y ∷ ys) (suc i) all none = zip_none R xs ys i all.1 none
 
-zip_some : {A B : Type 0} (R : A → B → Type 0) (xs : List A) (ys : List B) (i : ℕ) (x : A) → AllZip R xs ys
+pub zip_some : {A B : Type 0} (R : A → B → Type 0) (xs : List A) (ys : List B) (i : ℕ) (x : A) → AllZip R xs ys
     → slice_get xs i ≡ Some x → (y : B) × (slice_get ys i ≡ Some y) × R x y
 zip_some R [] ys i x all at = absurd cc
 zip_some R (z ∷ xs) [] i x all at = absurd all

@@ -6,7 +6,8 @@ ghost use Rattle.classfile.specs.Units.{units_text};
 ghost use Rattle.loading.specs.Families.{name_in};
 ghost use Rattle.hierarchy.specs.Initialization.{IsInitializationOrder};
 ghost use Rattle.program.specs.Programs.{IsProgram};
-ghost use Rattle.program.specs.Tables.{Tables, instruction_at, implementation_at, constant_at, statics_in, order_in};
+ghost use Rattle.program.specs.Tables.{Tables, implementations_of, instruction_at, implementation_at, constant_at};
+ghost use Rattle.program.specs.Tables.{statics_in, order_in};
 ghost use Rattle.program.specs.Tables.{initializer_in, main_in, signature_at};
 
 use crate::class::{Class, Implementation};
@@ -84,6 +85,17 @@ impl Program {
         ensures { result ≡ length self.now.classes }
     {
         self.classes.len()
+    }
+
+    /// How many methods a class declares: at most 65,535, and none where there is no such class.
+    pub fn method_count(&self, class: u32) -> u16
+        ensures { result ≡ length (implementations_of (slice_get self.now.classes class)) }
+    {
+        let _classes = self.classes();
+        match self.hierarchy.family().file(class) {
+            Some(file) => file.methods().len() as u16,
+            None => 0,
+        }
     }
 
     /// How a method of a class is implemented.

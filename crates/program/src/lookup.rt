@@ -1,10 +1,12 @@
 //! What a program answers about the parents and the members of its classes (JVMS 4.1, 5.4.3; 6.5, invokevirtual and
 //! invokespecial).
 
-ghost use Rattle.std.specs.Prelude.{◌≡◌};
+ghost use Rattle.std.specs.Prelude.{◌≡◌, ◌↔◌, ◌⊎◌, ℕ, OnOk};
+ghost use Rattle.std.specs.List.{Contains};
 ghost use Rattle.hierarchy.specs.Initialization.{AreSuperclasses};
 ghost use Rattle.program.specs.References.{ResolvesFieldOf, ResolvesMethodOf};
 ghost use Rattle.hierarchy.specs.Resolution.{Selects};
+ghost use Rattle.hierarchy.specs.Selectable.{IsSelectable, IsAmong, IsNamedLike};
 ghost use Rattle.hierarchy.specs.Selection.{selected, special, special_start};
 ghost use Rattle.hierarchy.specs.Subtypes.{is_below};
 ghost use Rattle.program.specs.steps.PoolFields.{found_field, pool_field, pool_method};
@@ -12,8 +14,10 @@ ghost use Rattle.program.specs.steps.PoolFields.{found_field, pool_field, pool_m
 use crate::linked_program::Program;
 use crate::runtime_constant::{FieldTarget, RuntimeConstant};
 use built_in::class_id::ClassId;
-use hierarchy::member::{Field, Method, Unresolved};
+use hierarchy::member::{DeclaredMember, Field, Method, Unresolved};
+use hierarchy::selectable::Selectable;
 use hierarchy::superclasses::Superclasses;
+use std::alloc::AllocError;
 
 impl Program {
     /// The given superclasses of a class, the nearest first. None for a number of no class.
@@ -63,6 +67,31 @@ impl Program {
         ensures value { result ≡ selected self.now.family class method }
     {
         self.hierarchy.select(class, method)
+    }
+
+    /// What calls of a resolved method may run on objects of given classes, interfaces and abstract classes among them.
+    /// For methods of one name and descriptor that are not private it is the same.
+    pub fn selectable(&self, method: Method) -> Selectable
+        ensures { (d k : ℕ) → IsSelectable self.now.family method d k ↔ IsAmong self.now.family result d k }
+    {
+        self.hierarchy.selectable(method)
+    }
+
+    /// Adds each method, neither private nor static, that a given class declares by the name and descriptor of a
+    /// method. Some may come more than once.
+    ///
+    /// # Errors
+    /// Where memory runs out.
+    pub fn add_named_like(
+        &self,
+        member: DeclaredMember,
+        methods: &mut Vec<DeclaredMember>,
+    ) -> Result<(), AllocError>
+        ensures { OnOk result ((d k : ℕ) → Contains methods.new.items (record { class = d; index = k })
+            ↔ (Contains methods.old.items (record { class = d; index = k })
+            ⊎ IsNamedLike self.now.family member d k)) }
+    {
+        self.hierarchy.add_named_like(member, methods)
     }
 
     /// The class at which invokespecial, in a class, begins to search for a method that was resolved: the class that

@@ -39,13 +39,15 @@ pub returns : goal.returns
 returns c = λ name d k lookup.
     let own = instance_method_in c.args.self.now.family name in
     let row : List Reach = c.noted-reach-items.result.now in
-    let end = c.loop-reach.invariant name d k lookup in
-    (
+    let end = c.loop-reach.invariant name d k lookup in (
       λ p. elim (end.0 p) [ inl first ↦ inl first | inr (among, has) ↦ inr has ],
       λ p. elim p [
         | inl first ↦ end.1 (inl first)
-        | inr has ↦ end.1 (inr (subst (λ (l : List Reach). Contains (classes_noted l) d)
-          (sym (take_all c.loop-reach.reach-index row c.loop-reach-test.false))
-          (c.noted-reach-items.ensures name d k lookup has), has))
+        | inr has ↦ end.1 (inr (
+          subst (λ (l : List Reach). Contains (classes_noted l) d)
+              (sym (take_all c.loop-reach.reach-index row c.loop-reach-test.false))
+              (c.noted-reach-items.ensures name d k lookup has),
+          has,
+        ))
       ],
     )

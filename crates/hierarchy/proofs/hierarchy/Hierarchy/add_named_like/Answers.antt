@@ -12,8 +12,7 @@ returns c = λ d k.
     let name : NameAndType = sought_name c.sought.result in
     let called : key_in family member.class member.index ≡ Some name =
     sym c.in-Some.ensures ∙ ap Some (sym c.sought.ensures.name) in
-    let added = c.in_ok-add_declared.ensures name d k c.sought.ensures.lookup in
-    (
+    let added = c.in_ok-add_declared.ensures name d k c.sought.ensures.lookup in (
       λ p. elim (added.0 p) [ inl first ↦ inl first | inr has ↦ inr (name, called, has) ],
       λ p. elim p [
         | inl first ↦ added.1 (inl first)

@@ -10,8 +10,7 @@ returns-in-Some c = λ name d k lookup.
     let family = c.args.self.now.family in
     let member = c.in-Some.member in
     let called : key_in family member.class member.index ≡ Some name =
-    named_so family name member.class member.index (c.in-Some.ensures name lookup) in
-    (
+    named_so family name member.class member.index (c.in-Some.ensures name lookup) in (
       λ has. (name, called, has),
       λ (other, is, has). (let same : other ≡ name = cc in
           subst (λ (n : NameAndType). instance_method_in family n d ≡ Some k) same has),
