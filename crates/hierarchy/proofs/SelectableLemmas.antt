@@ -1,6 +1,7 @@
 -- What a virtual call may select for objects of any given class.
 use Rattle.std.proofs.Common.{◌≡◌, ◌⊎◌, ◌↔◌, ℕ, ◌<◌, Bool, true, false, cond, List, [], ◌∷◌, length, Option, Some, None}
-use Rattle.std.proofs.Common.{◌+◌, ◌++◌, zero, suc, refl, sym, ap, ◌∙◌, inl, inr, subst, slice_get, get_or, take, option_map, is_some, arith}
+use Rattle.std.proofs.Common.{◌+◌, ◌++◌, zero, suc, refl, sym, ap, ◌∙◌, inl, inr, subst, slice_get, get_or, take}
+use Rattle.std.proofs.Common.{option_map, is_some, arith}
 use Rattle.std.specs.Option.{option_or}
 use Rattle.std.specs.List.{Contains, find}
 use Rattle.std.proofs.lemmas.List.Elements.{Contains-append_left, Contains-append_right, Contains-append_cases}
@@ -229,7 +230,8 @@ module _ (family : Family) (name : NameAndType) (d k : ℕ) where
   key_named : method_in family name d ≡ Some k → key_in family d k ≡ Some name
   key_named has = by (file_in family d) refl has
     where
-      by : (o : Option ClassFile) → file_in family d ≡ o → method_in_file name o ≡ Some k → key_in family d k ≡ Some name
+      by : (o : Option ClassFile) → file_in family d ≡ o → method_in_file name o ≡ Some k → key_in family d k
+          ≡ Some name
       by None at e = absurd cc
       by (Some f) at e =
           let found = placed (is_named f name) 0 f.methods k e in
@@ -247,7 +249,8 @@ module _ (family : Family) (name : NameAndType) (d k : ℕ) where
   declared_within has = by (slice_get family d) refl
       (kept_same is_inherited (flags_in family d) (method_in family name d) k has)
     where
-      by : (o : Option GivenClass) → slice_get family d ≡ o → method_in_file name (file_of (slice_get family d)) ≡ Some k
+      by : (o : Option GivenClass) → slice_get family d ≡ o → method_in_file name (file_of (slice_get family d))
+          ≡ Some k
           → d < length family
       by None at e = absurd (let none : method_in_file name (file_of None) ≡ Some k = rw at at e in cc)
       by (Some g) at e = slice_get_within family d g at
@@ -288,21 +291,24 @@ pub selects_given : (family : Family) (c j : ℕ) (name : NameAndType) → is_pr
     → selected family (class.Given e) (method.Given c j) ≡ found_from is_inherited family name (class.Given e)
 unfolding selected
 selects_given family c j name other is e =
-    ap (λ (b : Bool). cond b (Some (method.Given c j)) (found_if is_inherited family (class.Given e) (key_in family c j)))
+    ap (λ (b : Bool). cond b (Some (method.Given c j))
+    (found_if is_inherited family (class.Given e) (key_in family c j)))
     other ∙ ap (found_if is_inherited family (class.Given e)) is
 
 selects_itself : (family : Family) (c j : ℕ) → is_private (flags_in family c j) ≡ true → (e : ℕ)
     → selected family (class.Given e) (method.Given c j) ≡ Some (method.Given c j)
 unfolding selected
 selects_itself family c j private e =
-    ap (λ (b : Bool). cond b (Some (method.Given c j)) (found_if is_inherited family (class.Given e) (key_in family c j)))
+    ap (λ (b : Bool). cond b (Some (method.Given c j))
+    (found_if is_inherited family (class.Given e) (key_in family c j)))
     private
 
 selects_nothing : (family : Family) (c j : ℕ) → is_private (flags_in family c j) ≡ false → key_in family c j ≡ None
     → (e : ℕ) → selected family (class.Given e) (method.Given c j) ≡ None
 unfolding selected
 selects_nothing family c j other none e =
-    ap (λ (b : Bool). cond b (Some (method.Given c j)) (found_if is_inherited family (class.Given e) (key_in family c j)))
+    ap (λ (b : Bool). cond b (Some (method.Given c j))
+    (found_if is_inherited family (class.Given e) (key_in family c j)))
     other ∙ ap (found_if is_inherited family (class.Given e)) none
 
 private_within : (family : Family) (c j : ℕ) → is_private (flags_in family c j) ≡ true → c < length family

@@ -37,3 +37,9 @@ methods_counted P fits c = by (slice_get P.family c) refl
         P.family P.classes c given fits.classes at in
         rw (at, held.1) (same_length (IsImplementation P.family given.file) given.file.methods held.0.methods
         held.2.methods)
+
+-- each class file has one class
+pub classes_counted : (P : Tables) → IsProgram P → length P.family ≡ length P.classes
+classes_counted P fits =
+    same_length (λ (given : GivenClass) (class : Class). IsClass P.family P.strings given.file class) P.family P.classes
+    fits.classes

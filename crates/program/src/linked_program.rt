@@ -1,6 +1,6 @@
 //! The linked program.
 
-ghost use Rattle.std.specs.Prelude.{◌≡◌, ◌≢◌, ◌<◌, ℕ, [], length, Option, Some, IfOk, MatchOption, option_copied};
+ghost use Rattle.std.specs.Prelude.{◌≡◌, ◌≢◌, ◌<◌, ◌≤◌, ℕ, [], length, Option, Some, IfOk, MatchOption, option_copied};
 ghost use Rattle.std.specs.Prelude.{option_map, slice_get};
 ghost use Rattle.classfile.specs.Units.{units_text};
 ghost use Rattle.loading.specs.Families.{name_in};
@@ -85,6 +85,15 @@ impl Program {
         ensures { result ≡ length self.now.classes }
     {
         self.classes.len()
+    }
+
+    /// How many classes were given: at most 65,535.
+    pub fn given_count(&self) -> u32
+        ensures value { result ≡ length self.now.classes }
+        ensures few { result ≤ 65535 }
+    {
+        let _classes = self.classes();
+        self.hierarchy.family().classes().len() as u32
     }
 
     /// How many methods a class declares: at most 65,535, and none where there is no such class.

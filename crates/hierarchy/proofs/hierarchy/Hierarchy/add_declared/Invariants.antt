@@ -11,4 +11,5 @@ invariant-loop-reach l =
     (name : NameAndType) (d k : ℕ) → IsLookup l.self.texts name l.key
     → Contains l.methods.items (record { class = d; index = k })
     ↔ (Contains l.initial.methods.items (record { class = d; index = k })
-    ⊎ (Contains (classes_noted (take l.reach-index l.reach-items)) d × (instance_method_in l.self.family name d ≡ Some k)))
+    ⊎ (Contains (classes_noted (take l.reach-index l.reach-items)) d ×
+    (instance_method_in l.self.family name d ≡ Some k)))

@@ -49,7 +49,8 @@ returns-in-BuiltIn c = λ d k.
     (through family (method.BuiltIn member) name c.selectable_by.result
     (by_key family (method.BuiltIn member) name
     (λ e. selects_built_in family member e
-    ∙ ap (λ (n : NameAndType). found_from is_inherited family n (class_ids.Given e)) (sym c.sought_built_in.ensures.name)))
+    ∙ ap (λ (n : NameAndType). found_from is_inherited family n (class_ids.Given e))
+    (sym c.sought_built_in.ensures.name)))
     (λ d k. c.selectable_by.ensures name d k c.sought_built_in.ensures.lookup)) d k
 
 pub returns-in-Some : goal.returns-in-Some

@@ -1,0 +1,3 @@
+pub mod NumbersLemmas
+pub mod EdgesLemmas
+pub mod PartsLemmas

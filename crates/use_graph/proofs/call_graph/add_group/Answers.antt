@@ -1,0 +1,21 @@
+use Rattle.std.proofs.Common.{◌≡◌, ℕ, List, true, sym, subst, rules}
+use Rattle.std.specs.List.{Contains}
+use Rattle.std.proofs.lemmas.List.Elements.{Contains-push}
+use Rattle.use_graph.proofs.PartsLemmas.{part_grouped, joined_at_end, not_false}
+use Rattle.use_graph.proofs.call_graph.add_group.Goals as goal
+
+pub returns-clause-part : goal.returns-clause-part
+returns-clause-part c =
+    let fresh : c.in_ok-add.field-0 ≡ true = search (rules, not_false) in
+    part_grouped c.args.program.now c.args.numbers.now c.args.graph.now c.add_like.new.graph c.args.groups.now.items
+    c.add.new.self.items c.args.number c.group_vertex-vertex.result c.args.method c.requires.part c.requires.number
+    c.in_ok-add_like.ensures.len c.group_vertex-vertex.ensures
+    (joined_at_end c.in_ok-add.field-0 c.args.groups.now.items c.add.new.self.items c.args.number fresh
+    c.in_ok-add.ensures.ok) c.in_ok-add_like.ensures.extends c.in_ok-add_like.ensures.all
+
+pub returns-clause-there : goal.returns-clause-there
+returns-clause-there c =
+    let fresh : c.in_ok-add.field-0 ≡ true = search (rules, not_false) in
+    subst (λ (l : List ℕ). Contains l c.args.number)
+    (sym (joined_at_end c.in_ok-add.field-0 c.args.groups.now.items c.add.new.self.items c.args.number fresh
+    c.in_ok-add.ensures.ok)) (Contains-push c.args.groups.now.items c.args.number)

@@ -1,0 +1,63 @@
+-- A graph of calls while it is made.
+use Rattle.std.specs.Prelude.{◌≡◌, ◌⊎◌, ℕ, ◌+◌, ◌*◌, List, length, Some, slice_get}
+use Rattle.std.specs.List.{Contains}
+use Rattle.graph.specs.Rows.{Rows, successors_of}
+use Rattle.program.specs.Tables.{Tables}
+use Rattle.hierarchy.specs.declared.member.DeclaredMember.{DeclaredMember}
+use Rattle.hierarchy.specs.Selectable.{IsNamedLike}
+use Rattle.use_graph.specs.declared.callee.Callee.{Callee}
+use Rattle.use_graph.specs.Code.{MayRunFor}
+use Rattle.use_graph.specs.steps.Numbers.{HasNumber}
+use Rattle.use_graph.specs.steps.CallGraphs.{IsEdge, LeadsTo}
+
+-- no edge goes
+abbrev pub Grows : Rows → Rows → Type 0
+Grows old new = (n to : ℕ) → Contains (successors_of old n) to → Contains (successors_of new n) to
+
+-- edges come from one vertex alone, and none goes
+pub record Extends (old new : Rows) (from : ℕ) (IsNew : ℕ → Type 0) : Type 0 where
+  pub keeps : (n to : ℕ) → Contains (successors_of old n) to → Contains (successors_of new n) to
+  pub only : (n to : ℕ) → Contains (successors_of new n) to
+      → Contains (successors_of old n) to ⊎ ((n ≡ from) × IsNew to)
+
+-- an edge leads to a method
+abbrev pub EdgeTo : List DeclaredMember → Rows → ℕ → ℕ → ℕ → Type 0
+EdgeTo methods graph n e j = (to : ℕ) × (slice_get methods to ≡ Some (record { class = e; index = j }))
+    × Contains (successors_of graph n) to
+
+-- the number of one of some methods
+abbrev pub IsNumberOf : List DeclaredMember → List DeclaredMember → ℕ → Type 0
+IsNumberOf methods some to = (y : DeclaredMember) × (slice_get methods to ≡ Some y) × Contains some y
+
+-- edges lead to each of some methods that has a number
+abbrev pub LeadsToEach : List DeclaredMember → Rows → ℕ → List DeclaredMember → Type 0
+LeadsToEach methods graph n some =
+    (y : DeclaredMember) → Contains some y → HasNumber methods y.class y.index → EdgeTo methods graph n y.class y.index
+
+-- a method of this number is declared by the name and descriptor of another
+abbrev pub IsLike : Tables → List DeclaredMember → DeclaredMember → ℕ → Type 0
+IsLike P methods z to =
+    (y : DeclaredMember) × (slice_get methods to ≡ Some y) × IsNamedLike P.family z y.class y.index
+
+-- edges lead to all methods that are declared by a name and a descriptor
+abbrev pub LeadsToLike : Tables → List DeclaredMember → Rows → ℕ → DeclaredMember → Type 0
+LeadsToLike P methods graph n z =
+    (e j : ℕ) → IsNamedLike P.family z e j → HasNumber methods e j → EdgeTo methods graph n e j
+
+-- What holds at each step: edges are those of calls, and for each of some methods what is declared by its name and
+-- descriptor is there.
+pub record IsPart (P : Tables) (methods : List DeclaredMember) (graph : Rows) (groups : List ℕ) : Type 0 where
+  pub vertices : length graph ≡ 2 * length methods
+  pub sound : (n to : ℕ) → Contains (successors_of graph n) to → IsEdge P methods n to
+  pub grouped : (r : ℕ) (z : DeclaredMember) → Contains groups r → slice_get methods r ≡ Some z
+      → LeadsToLike P methods graph (length methods + r) z
+
+-- edges lead from a method to all that may run for a call
+abbrev pub LeadsToAll : Tables → List DeclaredMember → Rows → ℕ → Callee → Type 0
+LeadsToAll P methods graph n callee =
+    (e j : ℕ) → MayRunFor P callee e j → HasNumber methods e j → LeadsTo methods graph n e j
+
+-- edges lead from a method to all that are declared by a name and a descriptor
+abbrev pub LeadsToNamed : Tables → List DeclaredMember → Rows → ℕ → DeclaredMember → Type 0
+LeadsToNamed P methods graph n z =
+    (e j : ℕ) → IsNamedLike P.family z e j → HasNumber methods e j → LeadsTo methods graph n e j

@@ -1,0 +1,236 @@
+//! The graph of calls between the methods of given classes.
+
+ghost use Rattle.std.specs.Prelude.{◌≡◌, ℕ, ◌<◌, ◌≤◌, ◌+◌, ◌*◌, length, Some, OnOk, slice_get};
+ghost use Rattle.std.specs.List.{Contains};
+ghost use Rattle.graph.specs.Rows.{successors_of};
+ghost use Rattle.hierarchy.specs.Selectable.{IsNamedLike};
+ghost use Rattle.use_graph.specs.Code.{MayRunFor};
+ghost use Rattle.use_graph.specs.Uses.{Calls};
+ghost use Rattle.use_graph.specs.declared.callee.Callee.TheVariants as callees;
+ghost use Rattle.use_graph.specs.steps.Growing.{Grows, IsPart, LeadsToAll, LeadsToNamed};
+ghost use Rattle.use_graph.specs.steps.Numbers.{HasNumber};
+ghost use Rattle.use_graph.specs.steps.Growing.{Extends, EdgeTo, IsLike, LeadsToLike, IsNumberOf, LeadsToEach};
+
+use crate::callee::Callee;
+use crate::numbers::MethodNumbers;
+use graph::{Graph, Visited};
+use hierarchy::member::{DeclaredMember, Method};
+use hierarchy::selectable::Selectable;
+use program::Program;
+use std::alloc::{AllocError, Global};
+
+/// Adds an edge.
+fn add_edge(graph: &mut Graph, from: usize, to: usize) -> Result<(), AllocError>
+    requires from { from < length graph.old }
+    requires to { to < length graph.old }
+    ensures len { length graph.new ≡ length graph.old }
+    ensures extends { OnOk result (Extends graph.old graph.new from (λ t. t ≡ to)) }
+    ensures there { OnOk result (Contains (successors_of graph.new from) to) }
+{
+    graph.add(from, to)?;
+    Ok(())
+}
+
+/// Adds an edge to a method, if it has a number.
+fn add_edge_to(
+    numbers: &MethodNumbers,
+    graph: &mut Graph,
+    from: usize,
+    method: DeclaredMember,
+) -> Result<(), AllocError>
+    requires from { from < length graph.old }
+    requires vertices { length numbers.now ≤ length graph.old }
+    ensures len { length graph.new ≡ length graph.old }
+    ensures extends { OnOk result (Extends graph.old graph.new from (λ t. slice_get numbers.now t ≡ Some method)) }
+    ensures there { OnOk result (HasNumber numbers.now method.class method.index
+        → EdgeTo numbers.now graph.new from method.class method.index) }
+{
+    match numbers.number(method.class, method.index) {
+        Some(to) => {
+            add_edge(graph, from, to)?;
+            Ok(())
+        }
+        None => Ok(()),
+    }
+}
+
+/// Adds edges to methods, to those that have numbers.
+fn add_edges_to(
+    numbers: &MethodNumbers,
+    graph: &mut Graph,
+    from: usize,
+    methods: &[DeclaredMember],
+) -> Result<(), AllocError>
+    requires from { from < length graph.old }
+    requires vertices { length numbers.now ≤ length graph.old }
+    ensures len { length graph.new ≡ length graph.old }
+    ensures extends { OnOk result (Extends graph.old graph.new from (IsNumberOf numbers.now methods.now)) }
+    ensures all { OnOk result (LeadsToEach numbers.now graph.new from methods.now) }
+{
+    for method in methods {
+        add_edge_to(numbers, graph, from, *method)?;
+    }
+    Ok(())
+}
+
+/// Adds edges to all methods, neither private nor static, that are declared by the name and descriptor of one.
+fn add_like(
+    alloc: Global,
+    program: &Program,
+    numbers: &MethodNumbers,
+    graph: &mut Graph,
+    from: usize,
+    method: DeclaredMember,
+) -> Result<(), AllocError>
+    requires from { from < length graph.old }
+    requires vertices { length numbers.now ≤ length graph.old }
+    ensures len { length graph.new ≡ length graph.old }
+    ensures extends { OnOk result (Extends graph.old graph.new from (IsLike program.now numbers.now method)) }
+    ensures all { OnOk result (LeadsToLike program.now numbers.now graph.new from method) }
+{
+    let mut like = Vec::new(alloc);
+    program.add_named_like(method, &mut like)?;
+    add_edges_to(numbers, graph, from, &like)?;
+    Ok(())
+}
+
+/// Adds the edges of what is selected by the name and descriptor of a method, unless they are there.
+fn add_group(
+    alloc: Global,
+    program: &Program,
+    numbers: &MethodNumbers,
+    graph: &mut Graph,
+    groups: &mut Visited,
+    number: usize,
+    method: DeclaredMember,
+) -> Result<(), AllocError>
+    requires limit { groups.old.limit ≡ length numbers.now }
+    requires few { length numbers.now ≤ 65535 * 65535 }
+    requires part { IsPart program.now numbers.now graph.old groups.old.items }
+    requires number { slice_get numbers.now number ≡ Some method }
+    ensures limit { groups.new.limit ≡ groups.old.limit }
+    ensures part { OnOk result (IsPart program.now numbers.now graph.new groups.new.items) }
+    ensures grows { OnOk result (Grows graph.old graph.new) }
+    ensures there { OnOk result (Contains groups.new.items number) }
+{
+    let vertex = group_vertex(numbers, number);
+    if !groups.add(number)? {
+        return Ok(());
+    }
+    add_like(alloc, program, numbers, graph, vertex, method)?;
+    Ok(())
+}
+
+/// The vertex of what is selected by the name and descriptor of a method.
+fn group_vertex(numbers: &MethodNumbers, number: usize) -> usize
+    requires few { length numbers.now ≤ 65535 * 65535 }
+    requires number { number < length numbers.now }
+    ensures { result ≡ length numbers.now + number }
+{
+    numbers.len() + number
+}
+
+/// Adds edges from a method to all that are declared by the name and descriptor of another.
+fn add_named(
+    alloc: Global,
+    program: &Program,
+    numbers: &MethodNumbers,
+    graph: &mut Graph,
+    groups: &mut Visited,
+    from: usize,
+    caller: DeclaredMember,
+    method: DeclaredMember,
+) -> Result<(), AllocError>
+    requires limit { groups.old.limit ≡ length numbers.now }
+    requires few { length numbers.now ≤ 65535 * 65535 }
+    requires part { IsPart program.now numbers.now graph.old groups.old.items }
+    requires from { slice_get numbers.now from ≡ Some caller }
+    requires calls { (e j : ℕ) → IsNamedLike program.now.family method e j
+        → Calls program.now caller.class caller.index e j }
+    ensures limit { groups.new.limit ≡ groups.old.limit }
+    ensures part { OnOk result (IsPart program.now numbers.now graph.new groups.new.items) }
+    ensures grows { OnOk result (Grows graph.old graph.new) }
+    ensures leads { OnOk result (LeadsToNamed program.now numbers.now graph.new from method) }
+{
+    match numbers.number(method.class, method.index) {
+        Some(number) => {
+            add_group(alloc, program, numbers, graph, groups, number, method)?;
+            add_edge(graph, from, group_vertex(numbers, number))?;
+            Ok(())
+        }
+        None => {
+            add_like(alloc, program, numbers, graph, from, method)?;
+            Ok(())
+        }
+    }
+}
+
+/// Adds edges from a method to all that are selected for calls of another.
+fn add_selected(
+    alloc: Global,
+    program: &Program,
+    numbers: &MethodNumbers,
+    graph: &mut Graph,
+    groups: &mut Visited,
+    from: usize,
+    caller: DeclaredMember,
+    method: Method,
+) -> Result<(), AllocError>
+    requires limit { groups.old.limit ≡ length numbers.now }
+    requires few { length numbers.now ≤ 65535 * 65535 }
+    requires part { IsPart program.now numbers.now graph.old groups.old.items }
+    requires from { slice_get numbers.now from ≡ Some caller }
+    requires calls { (e j : ℕ) → MayRunFor program.now (callees.Selected method) e j
+        → Calls program.now caller.class caller.index e j }
+    ensures limit { groups.new.limit ≡ groups.old.limit }
+    ensures part { OnOk result (IsPart program.now numbers.now graph.new groups.new.items) }
+    ensures grows { OnOk result (Grows graph.old graph.new) }
+    ensures leads { OnOk result (LeadsToAll program.now numbers.now graph.new from (callees.Selected method)) }
+{
+    match program.selectable(method) {
+        Selectable::Nothing => Ok(()),
+        Selectable::Alone(member) => {
+            add_edge_to(numbers, graph, from, member)?;
+            Ok(())
+        }
+        Selectable::Named(member) => {
+            add_named(alloc, program, numbers, graph, groups, from, caller, member)?;
+            Ok(())
+        }
+    }
+}
+
+/// Adds edges from a method to all that may run for a call of its body.
+fn add_call(
+    alloc: Global,
+    program: &Program,
+    numbers: &MethodNumbers,
+    graph: &mut Graph,
+    groups: &mut Visited,
+    from: usize,
+    caller: DeclaredMember,
+    callee: Callee,
+) -> Result<(), AllocError>
+    requires limit { groups.old.limit ≡ length numbers.now }
+    requires few { length numbers.now ≤ 65535 * 65535 }
+    requires part { IsPart program.now numbers.now graph.old groups.old.items }
+    requires from { slice_get numbers.now from ≡ Some caller }
+    requires calls { (e j : ℕ) → MayRunFor program.now callee e j
+        → Calls program.now caller.class caller.index e j }
+    ensures limit { groups.new.limit ≡ groups.old.limit }
+    ensures part { OnOk result (IsPart program.now numbers.now graph.new groups.new.items) }
+    ensures grows { OnOk result (Grows graph.old graph.new) }
+    ensures leads { OnOk result (LeadsToAll program.now numbers.now graph.new from callee) }
+{
+    match callee {
+        Callee::Nobody => Ok(()),
+        Callee::Exactly { class, index } => {
+            add_edge_to(numbers, graph, from, DeclaredMember { class, index })?;
+            Ok(())
+        }
+        Callee::Selected(method) => {
+            add_selected(alloc, program, numbers, graph, groups, from, caller, method)?;
+            Ok(())
+        }
+    }
+}
