@@ -5,7 +5,7 @@ use Rattle.std.proofs.lemmas.Grind.{common_steps}
 use Rattle.std.proofs.lemmas.List.Elements.{All-contains, All-more, All-weaker}
 use Rattle.graph.specs.Rows.{Rows, successors_of}
 use Rattle.graph.specs.Reaches.{Reaches, itself, along, OnCycle}
-use Rattle.graph.specs.steps.Components.{NeverFalls}
+use Rattle.graph.specs.Components.{NeverFalls}
 
 never_falls_along : (graph : Rows) (numbers : List ℕ) (a b : ℕ) → NeverFalls graph numbers → Reaches graph a b
     → slice_index numbers a ≤ slice_index numbers b

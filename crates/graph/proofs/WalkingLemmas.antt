@@ -3,13 +3,14 @@ use Rattle.std.proofs.Common.{◌≡◌, ℕ, ◌+◌, ◌-◌, ◌<◌, ◌≤�
 use Rattle.std.proofs.Common.{inr, refl, sym, subst, arith, Bool, true, false}
 use Rattle.std.specs.List.{Contains}
 use Rattle.std.proofs.lemmas.Grind.{common_steps}
-use Rattle.std.proofs.lemmas.List.{length_push}
+use Rattle.std.proofs.lemmas.List.{length_push, take_all}
 use Rattle.std.proofs.lemmas.List.Elements.{All-push, All-contains, All-contains_itself, All-weaker, Contains-get_or}
-use Rattle.std.proofs.lemmas.List.Elements.{Contains-append_left}
+use Rattle.std.proofs.lemmas.List.Elements.{Contains-append_left, Contains-push, Contains-push_cases}
 use Rattle.graph.specs.Rows.{Rows, successors_of}
 use Rattle.graph.specs.Reaches.{Reaches, itself, along}
 use Rattle.graph.specs.Seen.{AreDistinct, Joins, count_of}
 use Rattle.graph.specs.Order.{IsPostorder}
+use Rattle.graph.specs.steps.Finishing.{IsFinishedOrLater, FinishesReached, IsFinishingOrder}
 use Rattle.graph.specs.steps.Walking.{Walking}
 use Rattle.graph.proofs.SeenLemmas.{count_of-push_same, count_of-push_other, count_of-contains, count_of-absent}
 use Rattle.graph.proofs.SeenLemmas.{Contains-counted}
@@ -118,6 +119,8 @@ walk_look graph seen path passed finished v next small bound looked w = record {
     | inr n ↦ w.looked u j (rw (else u n) at h)
   ];
   after = w.after;
+  explored = w.explored;
+  reached = w.reached;
 }
   where
     here : (u : ℕ) → u ≡ v → slice_index (set passed v next) u ≡ next
@@ -145,6 +148,8 @@ walk_down graph seen path passed finished b absent small leads w = record {
   short = w.short;
   looked = λ u j h. Contains-append_left seen (b ∷ []) _ (w.looked u j h);
   after = w.after;
+  explored = λ u d f e. Contains-append_left seen (b ∷ []) d (w.explored u d f e);
+  reached = w.reached;
 }
 
 -- the path goes on along an edge
@@ -164,6 +169,53 @@ pub walk_root : (graph : Rows) (seen seen' path' passed finished : List ℕ) (b 
     → path' ≡ b ∷ [] → Walking graph seen [] passed finished → Walking graph seen' path' passed finished
 walk_root graph seen seen' path' passed finished b small absent es ep w =
     rw (es, ep) (walk_down graph seen [] passed finished b absent small (λ i h. absurd (omega arith)) w)
+
+-- what a vertex reaches, as it goes from the path to what is finished
+reached_at_pop : (graph : Rows) (seen path finished : List ℕ) (v : ℕ) → AreDistinct seen
+    → ((x : ℕ) → count_of (finished ++ v ∷ []) x + count_of path x ≡ count_of seen x)
+    → ((u b : ℕ) → Contains (finished ++ v ∷ []) u → Contains (successors_of graph u) b → Contains seen b)
+    → ((b : ℕ) → Contains path b → Reaches graph b v)
+    → (u : ℕ) → Reaches graph v u → IsFinishedOrLater graph (finished ++ v ∷ []) v u
+reached_at_pop graph seen path finished v distinct counted explored up u itself = inl (Contains-push finished v)
+reached_at_pop graph seen path finished v distinct counted explored up u (along {a = a} p e) =
+    elim (reached_at_pop graph seen path finished v distinct counted explored up a p) [
+      | inl f ↦ either (known (explored a u f e))
+      | inr (q, absent, both, further) ↦ inr (q, absent, both, along further e)
+    ]
+  where
+    some : (a b : ℕ) → 0 < a + b → (0 < a) ⊎ (0 < b)
+    some a b h = grind arith
+
+    known : Contains seen u → Contains (finished ++ v ∷ []) u ⊎ Contains path u
+    known s = elim (some (count_of (finished ++ v ∷ []) u) (count_of path u)
+        (omega (arith, counted u, count_of-contains seen u s))) [
+          | inl f ↦ inl (Contains-counted (finished ++ v ∷ []) u f)
+          | inr p ↦ inr (Contains-counted path u p)
+        ]
+
+    either : Contains (finished ++ v ∷ []) u ⊎ Contains path u → IsFinishedOrLater graph (finished ++ v ∷ []) v u
+    either (inl f) = inl f
+    either (inr on) = inr (u, absent, (up u on, along p e), itself)
+      where
+        absent : Contains (finished ++ v ∷ []) u → ⊥
+        absent f = omega (
+          arith,
+          counted u,
+          distinct u,
+          count_of-contains (finished ++ v ∷ []) u f,
+          count_of-contains path u on,
+        )
+
+reached_push : (graph : Rows) (finished : List ℕ) (v : ℕ) → FinishesReached graph finished
+    → ((u : ℕ) → Reaches graph v u → IsFinishedOrLater graph (finished ++ v ∷ []) v u)
+    → FinishesReached graph (finished ++ v ∷ [])
+reached_push graph finished v before top i u h r = elim (less_or i (length finished)) [
+  | inl less ↦ rw (push_before finished v i less, take_push finished v (i + 1) (omega arith))
+      (before i u less (rw (push_before finished v i less) at r))
+  | inr more ↦ (let i_is : i ≡ length finished = last_of (length finished) i (rw length_push at h) more in
+      rw (push_at finished v i i_is, take_all (i + 1) (finished ++ v ∷ []) (rw length_push (omega arith)))
+      (top u (rw (push_at finished v i i_is) at r)))
+]
 
 -- the last vertex of the path is finished
 pub walk_pop : (graph : Rows) (seen path path' passed finished finished' : List ℕ) (v : ℕ) → path ≡ path' ++ v ∷ []
@@ -187,8 +239,19 @@ walk_pop graph seen path path' passed finished finished' v ep ef all w = rw ef (
         | inr more ↦ (let i_is : i ≡ length finished = last_of (length finished) i (rw length_push at h) more in
             last i b i_is (rw (push_at finished v i i_is) at e))
       ];
+      explored = explored;
+      reached = reached_push graph finished v w.reached
+          (reached_at_pop graph seen path' finished v w.distinct (counted_pop seen path' finished v w.counted) explored
+          (λ b p. reaches_top b (Contains-append_left path' (v ∷ []) b p)));
     }
       where
+        explored : (u b : ℕ) → Contains (finished ++ v ∷ []) u → Contains (successors_of graph u) b → Contains seen b
+        explored u b f e = elim (Contains-push_cases finished v u f) [
+          | inl o ↦ w.explored u b o e
+          | inr is ↦ (let at = place_of_member (successors_of graph u) b e in
+              subst (λ (y : ℕ). Contains seen y) (rw is at.2) (all at.0 (rw is at.1)))
+        ]
+
         reaches_top : (b : ℕ) → Contains (path' ++ v ∷ []) b → Reaches graph b v
         reaches_top b p = (let at = place_of_member (path' ++ v ∷ []) b p in
             subst (λ (y : ℕ). Reaches graph y v) at.2
@@ -212,10 +275,9 @@ walk_pop graph seen path path' passed finished finished' v ep ef all w = rw ef (
             whole : Contains finished b → Contains (take i (finished ++ v ∷ [])) b
             whole o = (let t : take i (finished ++ v ∷ []) ≡ finished = grind (arith, common_steps) in rw t o)
 
--- everything has been seen, and the path is empty
-pub walk_done : (graph : Rows) (seen passed finished : List ℕ) → ((v : ℕ) → v < length graph → Contains seen v)
+walk_orders : (graph : Rows) (seen passed finished : List ℕ) → ((v : ℕ) → v < length graph → Contains seen v)
     → Walking graph seen [] passed finished → IsPostorder graph finished
-walk_done graph seen passed finished all w = record {
+walk_orders graph seen passed finished all w = record {
   each = record {
     within = All-weaker (Contains finished) (λ v. v < length graph)
         (λ v h. All-contains (λ u. u < length graph) seen v w.within
@@ -224,6 +286,11 @@ walk_done graph seen passed finished all w = record {
   };
   after = w.after;
 }
+
+-- everything has been seen, and the path is empty
+pub walk_done : (graph : Rows) (seen passed finished : List ℕ) → ((v : ℕ) → v < length graph → Contains seen v)
+    → Walking graph seen [] passed finished → IsFinishingOrder graph finished
+walk_done graph seen passed finished all w = record { postorder = walk_orders graph seen passed finished all w; reached = w.reached }
 
 -- ---- plain facts
 

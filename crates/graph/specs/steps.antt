@@ -1,4 +1,4 @@
 pub mod Adds
+pub mod Finishing
 pub mod Walking
-pub mod Components
 pub mod Marks

@@ -2,7 +2,7 @@
 
 ghost use Rattle.std.specs.Prelude.{◌≡◌, ℕ, ◌<◌, ◌≤◌, ◌↔◌, length, slice_index, IsTrue, IfOk};
 ghost use Rattle.std.specs.List.{All};
-ghost use Rattle.graph.specs.steps.Components.{NeverFalls};
+ghost use Rattle.graph.specs.Components.{NeverFalls};
 ghost use Rattle.graph.specs.Reaches.{OnCycle};
 
 use crate::graph::Graph;

@@ -2,7 +2,7 @@
 
 ghost use Rattle.std.specs.Prelude.{◌≡◌, ◌<◌, ◌↔◌, length, IsTrue, IfOk};
 ghost use Rattle.std.specs.List.{All};
-ghost use Rattle.graph.specs.steps.Components.{NeverFalls};
+ghost use Rattle.graph.specs.Components.{NeverFalls};
 ghost use Rattle.graph.specs.Reaches.{OnCycle, IsLeastOnCycle};
 
 use crate::components::{component_numbers, leaves};

@@ -4,6 +4,7 @@ ghost use Rattle.std.specs.Prelude.{◌≡◌, ℕ, ◌+◌, ◌-◌, ◌*◌, �
 ghost use Rattle.std.specs.Prelude.{IfOk, OnOk, vec_len};
 ghost use Rattle.std.specs.List.{Contains};
 ghost use Rattle.graph.specs.Order.{IsPostorder};
+ghost use Rattle.graph.specs.steps.Finishing.{IsFinishingOrder};
 ghost use Rattle.graph.specs.steps.Walking.{Walking};
 
 use crate::graph::Graph;
@@ -145,7 +146,7 @@ fn walk_all(walk: &mut Walk, graph: &Graph) -> Result<(), AllocError>
     requires passed { length walk.old.passed.items ≡ length graph.now }
     requires empty { walk.old.path.items ≡ [] }
     requires walking { Walking graph.now walk.old.seen.items [] walk.old.passed.items walk.old.finished.items }
-    ensures { OnOk result (IsPostorder graph.now walk.new.finished.items) }
+    ensures { OnOk result (IsFinishingOrder graph.now walk.new.finished.items) }
 {
     for root in 0..graph.len() {
         walk_from(walk, graph, root)?;
@@ -173,6 +174,15 @@ impl Walk {
     }
 }
 
+/// The vertices in the order in which a walk in depth finishes them.
+pub(crate) fn finishing_order(alloc: Global, graph: &Graph) -> Result<Vec<usize>, AllocError>
+    ensures { IfOk result (λ order. IsFinishingOrder graph.now order.items) }
+{
+    let mut walk = Walk::new(alloc, graph.len())?;
+    walk_all(&mut walk, graph)?;
+    Ok(walk.finished)
+}
+
 /// Each vertex once, after its successors, but for those that reach it.
 ///
 /// # Errors
@@ -180,7 +190,5 @@ impl Walk {
 pub fn order(alloc: Global, graph: &Graph) -> Result<Vec<usize>, AllocError>
     ensures { IfOk result (λ order. IsPostorder graph.now order.items) }
 {
-    let mut walk = Walk::new(alloc, graph.len())?;
-    walk_all(&mut walk, graph)?;
-    Ok(walk.finished)
+    finishing_order(alloc, graph)
 }

@@ -5,6 +5,7 @@ use Rattle.graph.specs.Rows.{Rows, successors_of}
 use Rattle.graph.specs.Reaches.{Reaches}
 use Rattle.graph.specs.Seen.{AreDistinct, count_of}
 use Rattle.graph.specs.Order.{ComesAfterOrCycles}
+use Rattle.graph.specs.steps.Finishing.{FinishesReached}
 
 -- what was seen stands once, on the path or among what is finished
 pub record Walking (graph : Rows) (seen path passed finished : List ℕ) : Type 0 where
@@ -17,3 +18,6 @@ pub record Walking (graph : Rows) (seen path passed finished : List ℕ) : Type 
   pub short : (v : ℕ) → slice_index passed v ≤ length (successors_of graph v)
   pub looked : (v j : ℕ) → j < slice_index passed v → Contains seen (slice_index (successors_of graph v) j)
   pub after : ComesAfterOrCycles graph finished
+  -- all successors of a finished vertex were seen
+  pub explored : (v b : ℕ) → Contains finished v → Contains (successors_of graph v) b → Contains seen b
+  pub reached : FinishesReached graph finished

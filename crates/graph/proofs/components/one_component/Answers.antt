@@ -1,5 +1,5 @@
 use Rattle.std.proofs.Common.{◌≡◌, ℕ, List, replicate, sym, subst, rules}
-use Rattle.graph.specs.steps.Components.{NeverFalls}
+use Rattle.graph.specs.Components.{NeverFalls}
 use Rattle.graph.proofs.ComponentsLemmas.{zeros_never_fall}
 use Rattle.graph.proofs.components.one_component.Goals as goal
 
