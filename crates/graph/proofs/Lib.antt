@@ -4,5 +4,6 @@ pub mod RowsLemmas
 pub mod ReachesLemmas
 pub mod AddsLemmas
 pub mod WalkingLemmas
+pub mod ReverseLemmas
 pub mod OrderLemmas
 pub mod ComponentsLemmas

@@ -6,32 +6,10 @@ ghost use Rattle.graph.specs.Components.{NeverFalls};
 ghost use Rattle.graph.specs.Reaches.{OnCycle};
 
 use crate::graph::Graph;
+use crate::reverse::reversed;
 use crate::search::visit;
 use crate::visited::Visited;
 use std::alloc::{AllocError, Global};
-
-/// Adds an edge from each vertex of a row to this one.
-fn add_edges_to(back: &mut Graph, row: &[usize], to: usize) -> Result<(), AllocError>
-    requires row { All (λ v. v < length back.old) row.now }
-    requires to { to < length back.old }
-    ensures { length back.new ≡ length back.old }
-{
-    for from in row {
-        back.add(*from, to)?;
-    }
-    Ok(())
-}
-
-/// The graph with its edges turned round.
-fn reversed(alloc: Global, graph: &Graph) -> Result<Graph, AllocError>
-    ensures { IfOk result (λ back. length back ≡ length graph.now) }
-{
-    let mut back = Graph::new(alloc, graph.len())?;
-    for vertex in 0..graph.len() {
-        add_edges_to(&mut back, graph.successors(vertex), vertex)?;
-    }
-    Ok(back)
-}
 
 /// Gives a root, and all that reach it and have no number yet, one number: how many had one before.
 fn number_component(
