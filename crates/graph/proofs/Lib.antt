@@ -5,5 +5,6 @@ pub mod ReachesLemmas
 pub mod AddsLemmas
 pub mod WalkingLemmas
 pub mod ReverseLemmas
+pub mod NumberingLemmas
 pub mod OrderLemmas
 pub mod ComponentsLemmas

@@ -1,7 +1,8 @@
 -- At how many places of a list a number stands.
 use Rattle.std.proofs.Common.{◌≡◌, ℕ, zero, suc, ◌+◌, ◌<◌, Bool, true, false, cond, eqb, List, [], ◌∷◌, ◌++◌, refl, ap}
-use Rattle.std.proofs.Common.{arith}
+use Rattle.std.proofs.Common.{◌≤◌, length, get_or, slice_index, arith}
 use Rattle.std.specs.List.{Contains}
+use Rattle.std.proofs.lemmas.Grind.{common_steps}
 use Rattle.std.proofs.lemmas.Bool.{eqb-true, eq-eqb}
 use Rattle.std.proofs.lemmas.List.Sums.{sum_by-cons, sum_by_push}
 use Rattle.graph.specs.Seen.{count_of}
@@ -51,3 +52,21 @@ count_of-absent xs x absent = by_size (count_of xs x) refl
     by_size : (n : ℕ) → count_of xs x ≡ n → n ≡ 0
     by_size zero e = refl
     by_size (suc n) e = absurd (absent (Contains-counted xs x (omega arith)))
+
+-- a number at two places is counted twice
+pub places_counted : (xs : List ℕ) (i j x : ℕ) → i < j → j < length xs → slice_index xs i ≡ x → slice_index xs j ≡ x
+    → 2 ≤ count_of xs x
+places_counted [] i j x less small p q = absurd (omega arith)
+places_counted (y ∷ ys) i zero x less small p q = absurd (omega arith)
+places_counted (y ∷ ys) zero (suc j) x less small p q =
+    omega (
+      arith,
+      count_of-cons y ys x,
+      one_if_same (eqb y x) true (eq-eqb y x p),
+      count_of-contains ys x (j, omega arith, at ys j (omega arith) q),
+    )
+  where
+    at : (ys : List ℕ) (j : ℕ) → j < length ys → slice_index ys j ≡ x → get_or ys j x ≡ x
+    at ys j small q = grind (arith, common_steps)
+places_counted (y ∷ ys) (suc i) (suc j) x less small p q =
+    omega (arith, count_of-cons y ys x, places_counted ys i j x (omega arith) (omega arith) p q)

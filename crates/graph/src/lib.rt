@@ -5,6 +5,7 @@ mod arrangement;
 mod components;
 mod cycle;
 mod graph;
+mod numbering;
 mod reverse;
 mod search;
 mod visited;
