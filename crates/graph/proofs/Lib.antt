@@ -6,5 +6,6 @@ pub mod AddsLemmas
 pub mod WalkingLemmas
 pub mod ReverseLemmas
 pub mod NumberingLemmas
+pub mod NumberedLemmas
 pub mod OrderLemmas
 pub mod ComponentsLemmas

@@ -28,7 +28,7 @@ same_or : (u v : ℕ) → (u ≡ v) ⊎ (u ≡ v → ⊥)
 same_or u v = grind arith
 
 -- a number stands at no two places
-apart : (items : List ℕ) (i j : ℕ) → AreDistinct items → i < j → j < length items
+pub apart : (items : List ℕ) (i j : ℕ) → AreDistinct items → i < j → j < length items
     → slice_index items i ≡ slice_index items j → ⊥
 apart items i j distinct less small e =
     omega (arith, distinct (slice_index items j), places_counted items i j (slice_index items j) less small e refl)
@@ -77,7 +77,7 @@ gathering_first back root old before items false small within (was, s) = rw s (r
 })
 
 -- what is looked at is not among the old
-fresh_at : (back : Rows) (root : ℕ) (old before items numbers : List ℕ) (next k : ℕ) → AreDistinct items
+pub fresh_at : (back : Rows) (root : ℕ) (old before items numbers : List ℕ) (next k : ℕ) → AreDistinct items
     → Gathering back root old before items numbers next
     → length old ≤ k → k < length items → Contains old (slice_index items k) → ⊥
 fresh_at back root old before items numbers next k distinct g low small h =
