@@ -1,40 +1,23 @@
--- What numbers of vertices that never fall along edges tell of cycles.
-use Rattle.std.proofs.Common.{◌≡◌, ℕ, ◌+◌, ◌<◌, ◌≤◌, List, length, slice_index, replicate, take, min, arith}
-use Rattle.std.specs.List.{All}
-use Rattle.std.proofs.lemmas.Grind.{common_steps}
-use Rattle.std.proofs.lemmas.List.Elements.{All-contains, All-more, All-weaker}
+-- What components tell of cycles.
+use Rattle.std.proofs.Common.{◌≡◌, ℕ, ◌+◌, ◌<◌, ◌⊎◌, List, length, slice_index, take, inl, inr, sym, arith, ◌∙◌}
+use Rattle.std.specs.List.{All, Contains}
+use Rattle.std.proofs.lemmas.List.{take_more}
+use Rattle.std.proofs.lemmas.List.Elements.{All-contains, Contains-push_cases}
+use Rattle.std.specs.Prelude.{◌↔◌}
 use Rattle.graph.specs.Rows.{Rows, successors_of}
 use Rattle.graph.specs.Reaches.{Reaches, itself, along, OnCycle}
-use Rattle.graph.specs.Components.{NeverFalls}
+use Rattle.graph.specs.Components.{Parts, AreComponents}
+use Rattle.graph.proofs.RowsLemmas.{has_successor}
 
-never_falls_along : (graph : Rows) (numbers : List ℕ) (a b : ℕ) → NeverFalls graph numbers → Reaches graph a b
-    → slice_index numbers a ≤ slice_index numbers b
-never_falls_along graph numbers a b rises itself = omega arith
-never_falls_along graph numbers a b rises (along {a = d} path edge) =
-    omega (arith, never_falls_along graph numbers a d rises path, rises d b edge)
-
--- where all successors have higher numbers there is no way back
-pub leaves_no_cycle : (graph : Rows) (numbers : List ℕ) (v low : ℕ) → NeverFalls graph numbers
-    → All (λ b. low ≤ slice_index numbers b) (successors_of graph v)
-    → slice_index numbers v < low → OnCycle graph v → ⊥
-leaves_no_cycle graph numbers v low rises above less (d, edge, back) =
-    omega (
-      arith,
-      All-contains (λ b. low ≤ slice_index numbers b) (successors_of graph v) d above edge,
-      never_falls_along graph numbers d v rises back,
-    )
-
-pub zeros_never_fall : (graph : Rows) (n : ℕ) → NeverFalls graph (replicate n 0)
-zeros_never_fall graph n v b edge = omega (arith, zero_at n v)
+-- a vertex is on a cycle where it has an edge into its own component
+pub cycle_by_components : (graph : Rows) (parts : Parts) (v : ℕ) → AreComponents graph parts → v < length graph
+    → All (λ b. b < length graph) (successors_of graph v)
+    → ((b : ℕ) × Contains (successors_of graph v) b
+    × (slice_index parts.numbers b ≡ slice_index parts.numbers v)) ↔ OnCycle graph v
+cycle_by_components graph parts v c small within = (
+  λ (b, edge, same). (b, edge, ((c.shared b v (below b edge) small).0 same).0),
+  λ (b, edge, back). (b, edge, (c.shared b v (below b edge) small).1 (back, along itself edge)),
+)
   where
-    zero_at : (n k : ℕ) → slice_index (replicate n 0) k ≡ 0
-    zero_at n k = grind (arith, common_steps)
-
--- the lowest number so far, with one more vertex of a row
-pub lowest_more : (numbers row : List ℕ) (i low new : ℕ) → i < length row
-    → new ≡ min low (slice_index numbers (slice_index row i))
-    → All (λ v. low ≤ slice_index numbers v) (take i row) → All (λ v. new ≤ slice_index numbers v) (take (i + 1) row)
-lowest_more numbers row i low new within e before =
-    All-more (λ v. new ≤ slice_index numbers v) row i 0 within
-    (All-weaker (λ v. low ≤ slice_index numbers v) (λ v. new ≤ slice_index numbers v) (λ v h. omega arith)
-    (take i row) before) (omega arith)
+    below : (b : ℕ) → Contains (successors_of graph v) b → b < length graph
+    below b edge = All-contains (λ b. b < length graph) (successors_of graph v) b within edge

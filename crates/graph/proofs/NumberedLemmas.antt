@@ -12,7 +12,7 @@ use Rattle.graph.specs.Components.{AreMutual, Parts, AreComponents}
 use Rattle.graph.specs.Order.{HasEachOnce}
 use Rattle.graph.specs.steps.Reverse.{IsReverse}
 use Rattle.graph.specs.steps.Finishing.{IsTurnedOrder}
-use Rattle.graph.specs.steps.Numbering.{Gathering, Numbered}
+use Rattle.graph.specs.steps.Numbering.{Gathering, Numbered, AreNumbered}
 use Rattle.graph.proofs.SeenLemmas.{count_of-contains, places_counted}
 use Rattle.graph.proofs.OrderLemmas.{place_of_member, place_in_front, has_vertex}
 use Rattle.graph.proofs.RowsLemmas.{has_successor}
@@ -262,22 +262,23 @@ numbered_none back items numbers e = rw e (record {
   low = λ v h. absurd (omega (arith, h.1));
 })
 
-pub numbered_all : (graph back : Rows) (items numbers : List ℕ) → IsReverse graph back → length numbers ≡ length back
-    → Numbered back items numbers → ((v : ℕ) → v < length back → Contains items v)
-    → AreComponents graph (record { numbers = numbers; order = items })
-numbered_all graph back items numbers r len n all = record {
-  len = len ∙ r.len;
+pub numbered_all : (graph back : Rows) (parts : Parts) → IsReverse graph back → AreNumbered back parts
+    → AreComponents graph parts
+numbered_all graph back parts r s = record {
+  len = s.len ∙ r.len;
   never_falls = λ v b e.
-      n.rises b v (all b (omega (arith, r.len, has_successor back b v ((r.edges v b).1 e)))) ((r.edges v b).1 e);
-  shared = λ u v p q. (let s = n.shared u v (all u (omega (arith, r.len))) (all v (omega (arith, r.len))) in (
-    λ e. AreMutual-turned back graph u v (IsReverse-turned graph back r) (s.0 e),
-    λ both. s.1 (AreMutual-turned graph back u v r both),
-  ));
+      s.numbered.rises b v (s.all b (has_successor back b v ((r.edges v b).1 e))) ((r.edges v b).1 e);
+  shared = λ u v p q.
+      (let t = s.numbered.shared u v (s.all u (omega (arith, r.len))) (s.all v (omega (arith, r.len))) in (
+        λ e. AreMutual-turned back graph u v (IsReverse-turned graph back r) (t.0 e),
+        λ both. t.1 (AreMutual-turned graph back u v r both),
+      ));
   each = record {
-    within = subst (λ (m : ℕ). All (λ v. v < m) items) r.len n.within;
-    once = λ v small. omega (arith, n.distinct v, count_of-contains items v (all v (omega (arith, r.len))));
+    within = subst (λ (m : ℕ). All (λ v. v < m) parts.order) r.len s.numbered.within;
+    once = λ v small.
+        omega (arith, s.numbered.distinct v, count_of-contains parts.order v (s.all v (omega (arith, r.len))));
   };
-  ascending = n.ascending;
+  ascending = s.numbered.ascending;
 }
 
 -- where all of an order have numbers, all vertices do

@@ -9,7 +9,7 @@ ghost use Rattle.graph.specs.Reaches.{OnCycle};
 use crate::cycle::least_on_cycle;
 use crate::graph::Graph;
 use crate::visited::Visited;
-use crate::walk::order;
+use crate::walk::finishing_order;
 use std::alloc::{AllocError, Global};
 
 /// The vertices of a graph in an order, or why there is none.
@@ -64,7 +64,7 @@ fn first_on_cycle(
 pub fn arrange(alloc: Global, graph: &Graph) -> Result<Arrangement, AllocError>
     ensures { IfOk result (Arranges graph.now) }
 {
-    let order = order(alloc, graph)?;
+    let order = finishing_order(alloc, graph)?;
     match first_on_cycle(alloc, graph, order.as_slice())? {
         None => Ok(Arrangement::Order(order)),
         Some(known) => {

@@ -1,11 +1,12 @@
 //! Vertices on cycles.
 
-ghost use Rattle.std.specs.Prelude.{◌≡◌, ◌<◌, ◌↔◌, length, IsTrue, IfOk};
-ghost use Rattle.std.specs.List.{All};
-ghost use Rattle.graph.specs.Components.{NeverFalls};
+ghost use Rattle.std.specs.Prelude.{◌≡◌, ℕ, ◌<◌, ◌↔◌, length, slice_index, IsTrue, IfOk};
+ghost use Rattle.std.specs.List.{All, Contains};
+ghost use Rattle.graph.specs.Components.{AreComponents};
 ghost use Rattle.graph.specs.Reaches.{OnCycle, IsLeastOnCycle};
+ghost use Rattle.graph.specs.steps.Finishing.{IsFinishingOrder};
 
-use crate::components::{component_numbers, leaves};
+use crate::components::{Components, components_by};
 use crate::graph::Graph;
 use crate::search::reach_all;
 use std::alloc::{AllocError, Global};
@@ -21,40 +22,58 @@ pub fn is_on_cycle(alloc: Global, graph: &Graph, vertex: usize) -> Result<bool, 
     Ok(seen.has(vertex))
 }
 
-/// The same, with no search where the numbers tell.
-fn is_on_cycle_by(
-    alloc: Global,
-    graph: &Graph,
-    numbers: &[usize],
-    vertex: usize,
-) -> Result<bool, AllocError>
-    requires len { length numbers.now ≡ length graph.now }
-    requires vertex { vertex < length graph.now }
-    requires never_falls { NeverFalls graph.now numbers.now }
-    ensures { IfOk result (λ on. IsTrue on ↔ OnCycle graph.now vertex) }
+/// Whether one of a row is in the component of this number.
+fn leads_into(row: &[usize], components: &Components, number: usize) -> bool
+    requires { All (λ v. v < length components.now.numbers) row.now }
+    ensures { IsTrue result
+        ↔ ((b : ℕ) × Contains row.now b × (slice_index components.now.numbers b ≡ number)) }
 {
-    if leaves(graph, numbers, vertex) {
-        return Ok(false);
+    for vertex in row {
+        if components.number(*vertex) == number {
+            return true;
+        }
     }
-    is_on_cycle(alloc, graph, vertex)
+    false
 }
 
-/// The least vertex on a cycle, where one is known, and an order of the vertices.
+/// The same as `is_on_cycle`, where the components are known: it has an edge into its own component.
+pub fn is_on_cycle_by(graph: &Graph, components: &Components, vertex: usize) -> bool
+    requires components { AreComponents graph.now components.now }
+    requires vertex { vertex < length graph.now }
+    ensures { IsTrue result ↔ OnCycle graph.now vertex }
+{
+    leads_into(
+        graph.successors(vertex),
+        components,
+        components.number(vertex),
+    )
+}
+
+/// The least vertex on a cycle, where one is known.
+fn least_by(graph: &Graph, components: &Components, known: usize) -> usize
+    requires components { AreComponents graph.now components.now }
+    requires known { OnCycle graph.now known }
+    ensures { IsLeastOnCycle graph.now result }
+{
+    for vertex in 0..known {
+        if is_on_cycle_by(graph, components, vertex) {
+            return vertex;
+        }
+    }
+    known
+}
+
+/// The least vertex on a cycle, where one is known, and an order in which a walk in depth finishes the vertices.
 pub(crate) fn least_on_cycle(
     alloc: Global,
     graph: &Graph,
     order: &[usize],
     known: usize,
 ) -> Result<usize, AllocError>
-    requires order { All (λ v. v < length graph.now) order.now }
+    requires order { IsFinishingOrder graph.now order.now }
     requires known { OnCycle graph.now known }
     ensures { IfOk result (IsLeastOnCycle graph.now) }
 {
-    let numbers = component_numbers(alloc, graph, order)?;
-    for vertex in 0..known {
-        if is_on_cycle_by(alloc, graph, numbers.as_slice(), vertex)? {
-            return Ok(vertex);
-        }
-    }
-    Ok(known)
+    let components = components_by(alloc, graph, order)?;
+    Ok(least_by(graph, &components, known))
 }

@@ -12,6 +12,7 @@ mod visited;
 mod walk;
 
 pub use arrangement::{Arrangement, arrange};
+pub use components::{Components, components_of};
 pub use cycle::is_on_cycle;
 pub use graph::Graph;
 pub use search::{reach, reach_all};

@@ -61,6 +61,13 @@ impl Visited {
         self.order[index]
     }
 
+    /// The members, in the order in which they came.
+    pub fn items(&self) -> &[usize]
+        ensures { result.now ≡ self.now.items }
+    {
+        self.order.as_slice()
+    }
+
     /// Whether a number is a member.
     pub fn has(&self, member: usize) -> bool
         ensures { IsTrue result ↔ Contains self.now.items member }

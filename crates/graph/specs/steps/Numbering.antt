@@ -4,7 +4,7 @@ use Rattle.std.specs.List.{All, Contains}
 use Rattle.graph.specs.Rows.{Rows, successors_of}
 use Rattle.graph.specs.Reaches.{Reaches}
 use Rattle.graph.specs.Seen.{AreDistinct}
-use Rattle.graph.specs.Components.{AreMutual}
+use Rattle.graph.specs.Components.{AreMutual, Parts}
 
 -- a search from a root adds to a list what is not there; what it has looked at, up to a place, has one number
 pub record Gathering (back : Rows) (root : ℕ) (old before items numbers : List ℕ) (next : ℕ) : Type 0 where
@@ -32,3 +32,9 @@ pub record Numbered (back : Rows) (items numbers : List ℕ) : Type 0 where
   pub ascending : (i j : ℕ) → i ≤ j → j < length items
       → slice_index numbers (slice_index items i) ≤ slice_index numbers (slice_index items j)
   pub low : (v : ℕ) → Contains items v → slice_index numbers v < length items
+
+-- all vertices have numbers
+pub record AreNumbered (back : Rows) (parts : Parts) : Type 0 where
+  pub len : length parts.numbers ≡ length back
+  pub numbered : Numbered back parts.order parts.numbers
+  pub all : (v : ℕ) → v < length back → Contains parts.order v
