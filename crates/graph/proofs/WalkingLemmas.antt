@@ -290,7 +290,8 @@ walk_orders graph seen passed finished all w = record {
 -- everything has been seen, and the path is empty
 pub walk_done : (graph : Rows) (seen passed finished : List ℕ) → ((v : ℕ) → v < length graph → Contains seen v)
     → Walking graph seen [] passed finished → IsFinishingOrder graph finished
-walk_done graph seen passed finished all w = record { postorder = walk_orders graph seen passed finished all w; reached = w.reached }
+walk_done graph seen passed finished all w =
+    record { postorder = walk_orders graph seen passed finished all w; reached = w.reached }
 
 -- ---- plain facts
 
