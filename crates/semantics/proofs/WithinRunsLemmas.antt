@@ -1,0 +1,2 @@
+-- x
+use Rattle.std.proofs.Common.{◌≡◌}
