@@ -77,7 +77,7 @@ module _ (known : Names) where
       by_maker (Class c) n h = h
       by_maker (Thread t) n h = h
 
-  received_known : (v : Option Value) → KnowsSome known v → (g back : Frame) → KnowsFrame known g
+  pub received_known : (v : Option Value) → KnowsSome known v → (g back : Frame) → KnowsFrame known g
       → received v g ≡ Some back →
       KnowsFrame known back
   received_known None kv g back k e = subst (KnowsFrame known) (from_some e) k

@@ -217,13 +217,13 @@ module _ (P : Program) (B : Bounds) where
       may_call [] a place r b may = tt
       may_call (l ∷ ls) a place r b may = Called place r may
 
-      may_need : (ls : List Level) (a : Activity) (place d : ℕ) → RunsOn ls a → (B a place).needs ≡ Some d →
+      pub may_need : (ls : List Level) (a : Activity) (place d : ℕ) → RunsOn ls a → (B a place).needs ≡ Some d →
           (On d ls → ⊥) → BeginsOn ls d
       may_need [] a place d r needs apart = tt
       may_need (l ∷ ls) a place d r needs apart = (λ same. apart (inl same), inr (a, place, r, needs))
 
       -- a class that has not begun is not on the stack
-      fresh_apart : (states : States) (fs : List Frame) (ls : List Level) (d : ℕ) → Tower states t fs ls →
+      pub fresh_apart : (states : States) (fs : List Frame) (ls : List Level) (d : ℕ) → Tower states t fs ls →
           states d ≡ Uninitialized → On d ls → ⊥
       fresh_apart states fs ls d h fresh on_it =
           (let clash : Uninitialized ≡ InProgress t = sym fresh ∙ tower_busy states t fs ls d h on_it in cc)
