@@ -6,7 +6,7 @@ use Rattle.vm_state.specs.declared.value.Value.{Value}
 use Rattle.vm_state.specs.declared.value.Maker.TheVariants.{Class}
 use Rattle.vm_state.specs.declared.frame.Frame.{Frame}
 use Rattle.vm_state.specs.Operands.{OperandStack}
-use Rattle.vm_state.specs.SharedState.{Region, same_maker, with_field, with_slot, with_new, class_at}
+use Rattle.vm_state.specs.SharedState.{Region, same_maker, with_field}
 use Rattle.semantics.specs.Rows.{Move, Stays, Becomes, Calls, Returns, Next, Raise, Halt, Row, Ends}
 use Rattle.semantics.specs.Rows.{UseClass, ReadStatic, WriteStatic, AskClass, LookInto, Change}
 use Rattle.semantics.specs.Rows.{Make, UseMonitor, Print, part_at}
@@ -16,8 +16,7 @@ use Rattle.semantics.specs.Quiet.{Environment, is_final, pool_seen, QuietMove, R
 use Rattle.semantics.specs.Quiet.{Leaves, Stops, is_open, at_hand, if_fixed, elements_in, quiet, quiet_step}
 use Rattle.semantics.specs.Settling.{constant_region, onward, entered, RunsBody, ByReturn, ByStep, ByCall, SettlesBy}
 use Rattle.semantics.specs.Settling.{Settles}
-use Rattle.semantics.specs.Worlds.{blank_region}
-use Rattle.semantics.specs.Lawful.{Names, Knows, KnowsSome, KnowsSlots, KnowsFrame, KnowsMove, Fits, IsLawful}
+use Rattle.semantics.specs.Lawful.{Names, Knows, KnowsSome, KnowsFrame, KnowsMove, Fits, IsLawful}
 use Rattle.vm_state.proofs.ListLemmas.{tested}
 use Rattle.semantics.proofs.TestsLemmas.{from_some}
 use Rattle.semantics.proofs.PoolsLemmas.{Holds, with_slot-holds, with_new-holds, part_at-holds, open-known}

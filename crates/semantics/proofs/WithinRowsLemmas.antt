@@ -1,5 +1,5 @@
 -- What a row that stays within a scope does: what it needs, and which frames it leaves.
-use Rattle.std.proofs.Common.{◌≡◌, ℕ, Bool, true, false, List, [], ◌∷◌, Option, Some, None, option_map, refl, sym, ap, subst, ◌∙◌}
+use Rattle.std.proofs.Common.{◌≡◌, ℕ, Bool, true, false, List, [], ◌∷◌, Option, Some, None, option_map, refl, subst}
 use Rattle.std.specs.List.{AllByRecursion}
 use Rattle.vm_state.specs.declared.value.Value.{Value}
 use Rattle.vm_state.specs.declared.value.Name.{Name}
@@ -15,7 +15,7 @@ use Rattle.vm_state.specs.declared.classes.Usability.TheVariants.{Ready, Fresh, 
 use Rattle.vm_state.specs.Operands.{OperandStack, pushed}
 use Rattle.vm_state.specs.Statics.{usable}
 use Rattle.vm_state.specs.Values.{value_of}
-use Rattle.vm_state.specs.SharedState.{SharedState, pool_of, set_pool, set_region, with_field, with_slot, with_monitor}
+use Rattle.vm_state.specs.SharedState.{SharedState, pool_of, set_pool, set_region, with_field, with_monitor}
 use Rattle.vm_state.specs.SharedState.{monitor_of}
 use Rattle.semantics.specs.Rows.{Move, Stays, Becomes, Calls, Returns, Outcome, Next, Raise, Halt, Row, Ends}
 use Rattle.semantics.specs.Rows.{UseClass, ReadStatic, WriteStatic, AskClass, LookInto, Change}

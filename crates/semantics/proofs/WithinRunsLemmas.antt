@@ -1,17 +1,16 @@
 -- In each world that a run leads to from a start, what runs and begins for a class is within bounds.
-use Rattle.std.proofs.Common.{◌≡◌, ◌<◌, inl, inr, ℕ, zero, suc, ◌+◌, true, false, List, [], ◌∷◌, length, Option, Some}
+use Rattle.std.proofs.Common.{◌≡◌, ◌<◌, inl, inr, ℕ, zero, suc, ◌+◌, List, [], ◌∷◌, length, Option, Some}
 use Rattle.std.proofs.Common.{None, ◌==◌, refl, sym, ap, subst, ◌∙◌, eqb-true, slice_get, get_or, unwrap_or}
-use Rattle.std.specs.List.{AllByRecursion, Contains}
 use Rattle.std.proofs.lemmas.List.Elements.{All-contains, All-from_recursion}
 use Rattle.std.proofs.lemmas.Option.{unwrap_or-slice_get}
 use Rattle.vm_state.specs.declared.value.Maker.TheVariants.{Class}
 use Rattle.vm_state.specs.declared.frame.Frame.{Frame}
 use Rattle.vm_state.specs.declared.initialization.Level.{Level}
-use Rattle.semantics.specs.Rows.{Result, Needs, run_row}
+use Rattle.semantics.specs.Rows.{Result, Needs}
 use Rattle.semantics.specs.Programs.{Program}
 use Rattle.semantics.specs.Steps.{Thread, Going, Ended, After, step_thread}
 use Rattle.semantics.specs.Worlds.{World, put_thread, step, Run, threads_from, lazy_start}
-use Rattle.semantics.specs.Images.{Image, image_start}
+use Rattle.semantics.specs.Images.{image_start}
 use Rattle.semantics.specs.Bounds.{Bounds, IsBounded, MayRun, IsUse}
 use Rattle.semantics.specs.Soundness.{StandsOn, Highest, Under, IsBegunBy, StaysWithin, IsStart, RunsWithin}
 use Rattle.vm_state.proofs.ListLemmas.{tested}

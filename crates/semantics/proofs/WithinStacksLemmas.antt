@@ -1,9 +1,8 @@
 -- The stack of a thread whose frames run, and whose initializations are begun, within bounds; and each step keeps it so.
-use Rattle.std.proofs.Common.{◌≡◌, ◌≢◌, ◌⊎◌, inl, inr, ℕ, Bool, true, false, List, [], ◌∷◌, Option, Some, None, ◌==◌}
+use Rattle.std.proofs.Common.{◌≡◌, inl, inr, ℕ, Bool, true, false, List, [], ◌∷◌, Option, Some, None, ◌==◌}
 use Rattle.std.proofs.Common.{refl, sym, ap, subst, ◌∙◌, eqb-true, eq-eqb}
 use Rattle.std.specs.List.{AllByRecursion, Contains}
 use Rattle.vm_state.specs.declared.value.Name.{Name}
-use Rattle.vm_state.specs.declared.value.Maker.{Maker}
 use Rattle.vm_state.specs.declared.value.Maker.TheVariants as makers
 use Rattle.vm_state.specs.declared.frame.Frame.{Frame}
 use Rattle.vm_state.specs.declared.frame.Activity.{Activity}
@@ -16,13 +15,13 @@ use Rattle.vm_state.specs.declared.classes.Usability.TheVariants.{Ready, Fresh, 
 use Rattle.vm_state.specs.Statics.{usable}
 use Rattle.vm_state.specs.Shares.{begun}
 use Rattle.vm_state.specs.SharedState.{SharedState, set_state}
-use Rattle.semantics.specs.Rows.{Outcome, Result, Moved, Needs, Waits, run_row}
+use Rattle.semantics.specs.Rows.{Result, Moved, Needs, Waits, run_row}
 use Rattle.semantics.specs.Programs.{Program}
 use Rattle.semantics.specs.Moves.{Left, Stand, Throw, Stop, left_in, unwound}
-use Rattle.semantics.specs.Steps.{Thread, Going, Ended, After, maker_of, standing, settled, going_on, left_by}
+use Rattle.semantics.specs.Steps.{Thread, Going, Ended, After, maker_of, standing, settled, going_on}
 use Rattle.semantics.specs.Steps.{begins, instructed, fails, finishes, initializes, on}
 use Rattle.semantics.specs.Steps.{passes, step_parents, step_initialization, step_thread}
-use Rattle.semantics.specs.Bounds.{Bounds, MayCall, EndsWithin, nothing, IsBounded, MayRun, Initializes, Called, IsUse}
+use Rattle.semantics.specs.Bounds.{Bounds, MayCall, nothing, IsBounded, MayRun, Initializes, Called, IsUse}
 use Rattle.vm_state.proofs.ListLemmas.{tested}
 use Rattle.semantics.proofs.TestsLemmas.{from_some}
 use Rattle.semantics.proofs.UsabilitiesLemmas.{usable_fresh}
@@ -198,15 +197,14 @@ module _ (P : Program) (B : Bounds) where
     begins_stands sh d fs ls h fresh begin =
         let apart : On d ls → ⊥ =
         λ on_it. (let clash : Uninitialized ≡ InProgress t = sym fresh ∙ tower_busy sh.states t fs ls d h on_it in cc)
-        in
-        (
+        in (
           (
             tt,
             record { busy = rw (eq-eqb d d refl) refl; apart = apart; begun = begin; parents = λ p is. is },
             tower_keeps sh.states _ t fs ls (set_keeps sh d (InProgress t) ls apart) h,
           ),
           set_others sh d (InProgress t)
-          (λ u by. (let clash : Uninitialized ≡ InProgress u = sym fresh ∙ by in cc)),
+              (λ u by. (let clash : Uninitialized ≡ InProgress u = sym fresh ∙ by in cc)),
         )
 
     -- ---- a frame on top
@@ -235,9 +233,9 @@ module _ (P : Program) (B : Bounds) where
           let runs = tower_run sh.states t (f ∷ fs) ls h in
           as_after sh.states t _ a (from_some e) (
             going_stands new.states (left_in outcome (f ∷ fs)) (f ∷ fs) ls
-            (same_tower sh.states new.states t (f ∷ fs) ls keeps.1 h)
-            (left_has (RunsOn ls) (B f.activity f.place) (may_call ls f.activity f.place runs.0) outcome (f ∷ fs)
-            keeps.0 runs),
+                (same_tower sh.states new.states t (f ∷ fs) ls keeps.1 h)
+                (left_has (RunsOn ls) (B f.activity f.place) (may_call ls f.activity f.place runs.0) outcome (f ∷ fs)
+                keeps.0 runs),
             same_others sh.states new.states t keeps.1,
           )
       instructed_stands sh f fs ls h (Needs d) keeps a e =
@@ -262,9 +260,9 @@ module _ (P : Program) (B : Bounds) where
           let others = set_others new e.class Erroneous (λ u by. in_progress u (sym busy ∙ by)) in
           as_after sh.states t _ a (from_some q) (
             going_stands _ (left_in outcome under) under ls
-            (tower_keeps new.states _ t under ls (set_keeps new e.class Erroneous ls on_top.apart) tower)
-            (left_has (RunsOn ls) nothing (none_called ls) outcome under keeps.0
-            (tower_run sh.states t under ls h)),
+                (tower_keeps new.states _ t under ls (set_keeps new e.class Erroneous ls on_top.apart) tower)
+                (left_has (RunsOn ls) nothing (none_called ls) outcome under keeps.0
+                (tower_run sh.states t under ls h)),
             λ c u other by. others c u other (ap (λ (s : States). s c) keeps.1 ∙ by),
           )
       fails_stands sh e under ls on_top h (Needs d) keeps a q = cc
@@ -275,9 +273,9 @@ module _ (P : Program) (B : Bounds) where
         finishes_stands : Follows sh.states t (finishes sh e.class under ls)
         finishes_stands = (
           over _ under ls
-          (tower_under _ t under ls
-          (tower_keeps sh.states _ t under ls (set_keeps sh e.class Initialized ls on_top.apart) h))
-          (tower_run sh.states t under ls h),
+              (tower_under _ t under ls
+              (tower_keeps sh.states _ t under ls (set_keeps sh e.class Initialized ls on_top.apart) h))
+              (tower_run sh.states t under ls h),
           set_others sh e.class Initialized (λ u by. in_progress u (sym on_top.busy ∙ by)),
         )
 

@@ -1,27 +1,25 @@
 -- A class whose code bars nothing, with its uses at hand, is not barred when its initializer runs.
-use Rattle.std.proofs.Common.{◌≡◌, ◌≢◌, inl, inr, ℕ, Bool, true, false, cond, ◌||◌, List, Option, Some, None, ◌==◌}
+use Rattle.std.proofs.Common.{◌≡◌, inr, ℕ, Bool, true, false, cond, ◌||◌, List, Option, Some, None, ◌==◌}
 use Rattle.std.proofs.Common.{refl, sym, subst, ◌∙◌, ◌+◌, eq-eqb, option_map}
 use Rattle.std.specs.Option.{IsSome, is_some}
 use Rattle.vm_state.specs.declared.value.Value.{Value}
-use Rattle.vm_state.specs.declared.value.Name.{Name}
 use Rattle.vm_state.specs.declared.value.Maker.{Maker}
 use Rattle.vm_state.specs.declared.value.Maker.TheVariants.{Class, Thread}
 use Rattle.vm_state.specs.declared.frame.Frame.{Frame}
-use Rattle.vm_state.specs.SharedState.{Pool, Region, same_maker, with_field, with_slot, with_new, class_at}
-use Rattle.semantics.specs.Rows.{Move, Calls, Next, Raise, Halt, Row, Ends}
+use Rattle.vm_state.specs.SharedState.{Region, same_maker, with_field}
+use Rattle.semantics.specs.Rows.{Next, Raise, Halt, Row, Ends}
 use Rattle.semantics.specs.Rows.{UseClass, ReadStatic, WriteStatic, AskClass, LookInto, Change}
 use Rattle.semantics.specs.Rows.{Make, UseMonitor, Print, part_at}
 use Rattle.semantics.specs.Programs.{Program}
-use Rattle.semantics.specs.Quiet.{Environment, is_final, pool_seen, QuietMove, Refusal, Stop, Refused, Barred, Raised}
+use Rattle.semantics.specs.Quiet.{Environment, is_final, pool_seen, Refusal, Stop, Refused, Barred, Raised}
 use Rattle.semantics.specs.Quiet.{ForeignObject, OverBudget, Faulted, Conduct, Leaves, Stops, is_open, at_hand}
 use Rattle.semantics.specs.Quiet.{if_fixed, elements_in, quiet, quiet_step}
-use Rattle.semantics.specs.Settling.{constant_region, StopsBody, Before, At, Making, Inside, NoRoom, AfterCall}
-use Rattle.semantics.specs.Settling.{StoppedAt, entered}
-use Rattle.semantics.specs.Lawful.{Names, Knows, KnowsFrame, KnowsMove, Fits, IsLawful}
-use Rattle.semantics.specs.Bounds.{Scope, MovesWithin, IsWithin, Bounds, IsBounded, MayRun, Initializes, Called, IsUse}
+use Rattle.semantics.specs.Settling.{StopsBody, Before, At, Making, Inside, NoRoom, AfterCall}
+use Rattle.semantics.specs.Settling.{StoppedAt}
+use Rattle.semantics.specs.Lawful.{Names, KnowsFrame, KnowsMove, Fits, IsLawful}
+use Rattle.semantics.specs.Bounds.{Scope, MovesWithin, IsWithin, Bounds, IsBounded, MayRun, Initializes, Called}
 use Rattle.semantics.specs.Bounds.{IsClean}
 use Rattle.semantics.specs.Soundness.{is_made_at_hand, names_at_hand, IsClosed, HasUses, StopsWithin}
-use Rattle.semantics.proofs.BranchesLemmas.{value_in}
 use Rattle.semantics.proofs.PoolsLemmas.{with_slot-holds, with_new-holds, part_at-holds, open-known}
 use Rattle.semantics.proofs.WithinRowsLemmas.{received_has, entered_has}
 use Rattle.semantics.proofs.WithinNamesLemmas.{KnowsRegion, constant_region_known, entered_known, Suffices}
@@ -142,9 +140,10 @@ module _ (P : Program) (lawful : IsLawful P) (env : Environment) (c : ℕ) (clos
   module _ (B : Bounds) (bounded : IsBounded P B) (clean : IsClean P B c) (has : HasUses P B env c) where
     free_at : (f : Frame) → MayRun P B c f.activity → IsFree env c (B f.activity f.place)
     free_at f run = record {
-      needs = λ d is other. has d
-          (λ same. (let clash : false ≡ true = sym other ∙ eq-eqb d c same in cc),
-          inr (f.activity, f.place, run, is));
+      needs = λ d is other. has d (
+        λ same. (let clash : false ≡ true = sym other ∙ eq-eqb d c same in cc),
+        inr (f.activity, f.place, run, is),
+      );
       writes = λ d is. clean.writes f.activity f.place d run is;
       reads = λ d is. clean.reads f.activity f.place d run is;
       prints = clean.prints f.activity f.place run;

@@ -32,7 +32,12 @@ pub record Scope : Type 0 where
 -- an instruction that does nothing of this
 abbrev pub nothing : Scope
 nothing = record {
-  needs = None; calls = λ class. None; writes = None; reads = None; prints = false; locks = false;
+  needs = None;
+  calls = λ class. None;
+  writes = None;
+  reads = None;
+  prints = false;
+  locks = false;
 }
 
 -- What is said of the instruction at each place of each activity.

@@ -18,7 +18,7 @@ use Rattle.semantics.specs.Settling.{StoppedBy}
 use Rattle.semantics.specs.Lawful.{Names, Knows, IsLawful}
 use Rattle.semantics.specs.Acceptance.{Analysis, IsLower, Accepted}
 use Rattle.semantics.specs.Images.{Image, image_start, UsesParents}
-use Rattle.semantics.specs.Bounds.{Bounds, IsBounded, MayRun, MayNeed, IsUse, IsClean}
+use Rattle.semantics.specs.Bounds.{Bounds, IsBounded, MayRun, IsUse, IsClean}
 
 -- ---- in the worlds of a run
 
