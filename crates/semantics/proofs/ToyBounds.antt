@@ -13,7 +13,7 @@ use Rattle.vm_state.specs.Operands.{OperandStack, top, top_int, rest, pushed}
 use Rattle.vm_state.specs.Locals.{held}
 use Rattle.semantics.specs.Rows.{Part, Slots, Length, Move, Becomes, Calls, Row, Next, Ends}
 use Rattle.semantics.specs.Quiet.{declared_final}
-use Rattle.semantics.specs.Bounds.{Scope, nothing, Bounds, IsWithin, IsBounded}
+use Rattle.semantics.specs.Bounds.{Scope, nothing, Bounds, IsInScope, IsBounded}
 use Rattle.semantics.proofs.ToyMachine as toys
 use Rattle.semantics.proofs.ToyMachine.{Code, needing, goes_on, on_object, in_slot}
 use Rattle.semantics.proofs.ToyMachine.{method_frame, unless_initializer, enters, calls}
@@ -65,7 +65,7 @@ any_class = Given 0
 module _ (p : Code) where
   module _ (scope : Scope) where
     abbrev Suits : Row → Type 0
-    Suits row = IsWithin (toy p) scope row
+    Suits row = IsInScope (toy p) scope row
 
     admits : Admits Suits
     admits = record { halting = λ kind. tt; raising = λ class x. tt }
@@ -94,7 +94,7 @@ module _ (p : Code) where
         → Suits (in_slot x part i go)
     slot_within x part i go h o = slot_holds admits o i go (λ slots v e at. h v)
 
-  instruction_within : (f : Frame) (i : Instruction) → IsWithin (toy p) (instruction_scope p i) (instruction_row p i f)
+  instruction_within : (f : Frame) (i : Instruction) → IsInScope (toy p) (instruction_scope p i) (instruction_row p i f)
   instruction_within f (toys.PushInt n) = goes_within nothing f _
   instruction_within f (toys.Load i) =
       value_within nothing (held (slice_get f.locals i)) (λ v. goes_on f (pushed v f.operands))
@@ -148,7 +148,7 @@ module _ (p : Code) where
   instruction_within f toys.Return = tt
   instruction_within f toys.ReturnTop = value_within nothing (top f.operands) _ (λ v. tt)
 
-  active_within : (f : Frame) (a : Activity) → IsWithin (toy p) (toy_bounds p a f.place) (active_row p a f)
+  active_within : (f : Frame) (a : Activity) → IsInScope (toy p) (toy_bounds p a f.place) (active_row p a f)
   active_within f (Start c) =
       let scope = toy_bounds p (Start c) f.place in (
         refl,
@@ -158,12 +158,12 @@ module _ (p : Code) where
       )
   active_within f (Method c m) = by_place (slice_get (p.body m) f.place)
     where
-      by_place : (o : Option Instruction) → IsWithin (toy p) (scope_if p o)
+      by_place : (o : Option Instruction) → IsInScope (toy p) (scope_if p o)
           (needing Fault o (λ i. instruction_row p i f))
       by_place None = tt
       by_place (Some i) = instruction_within f i
 
-  failing_within : (x : Name) (o : Option ClassId) → IsWithin (toy p) nothing (needing Fault o (fails_by p x))
+  failing_within : (x : Name) (o : Option ClassId) → IsInScope (toy p) nothing (needing Fault o (fails_by p x))
   failing_within x o =
       value_within nothing o (fails_by p x)
       (λ class. choice_holds (admits nothing) (p.is_error class) _ _ (λ e. tt) (λ y. tt))

@@ -26,7 +26,7 @@ use Rattle.semantics.specs.Programs.{Program}
 use Rattle.semantics.specs.Moves.{advanced, with_operands, received, moved, Left, Stand, Throw, Stop, stand, left_in}
 use Rattle.semantics.specs.Moves.{emptied, caught, unwound}
 use Rattle.semantics.specs.Settling.{entered}
-use Rattle.semantics.specs.Bounds.{Scope, MayCall, MovesWithin, EndsWithin, IsWithin}
+use Rattle.semantics.specs.Bounds.{Scope, MayCall, MovesWithin, EndsWithin, IsInScope}
 use Rattle.semantics.proofs.TestsLemmas.{from_some}
 use Rattle.semantics.proofs.UsabilitiesLemmas.{usable_fresh}
 use Rattle.semantics.proofs.FrameMovesLemmas.{returned_all}
@@ -53,7 +53,7 @@ module _ (P : Program) (scope : Scope) (t : ℕ) (maker : Maker) where
   by_lock states go Blocked on = tt
   by_lock states go (Answered done m) on = on done m
 
-  pub row_keeps : (row : Row) (sh : SharedState) → IsWithin P scope row → Keeps sh.states (run_row t maker sh row)
+  pub row_keeps : (row : Row) (sh : SharedState) → IsInScope P scope row → Keeps sh.states (run_row t maker sh row)
   row_keeps (Ends outcome) sh within = (within, refl)
   row_keeps (UseClass c next) sh within =
       by_use sh.states c _ _ (usable t (sh.states c)) refl within.0 (row_keeps (next true) sh (within.1 true))

@@ -17,7 +17,7 @@ use Rattle.semantics.specs.Quiet.{if_fixed, elements_in, quiet, quiet_step}
 use Rattle.semantics.specs.Settling.{StopsBody, Before, At, Making, Inside, NoRoom, AfterCall}
 use Rattle.semantics.specs.Settling.{StoppedAt}
 use Rattle.semantics.specs.Lawful.{Names, KnowsFrame, KnowsMove, Fits, IsLawful}
-use Rattle.semantics.specs.Bounds.{Scope, MovesWithin, IsWithin, Bounds, IsBounded, MayRun, Initializes, Called}
+use Rattle.semantics.specs.Bounds.{Scope, MovesWithin, IsInScope, Bounds, IsBounded, MayRun, Initializes, Called}
 use Rattle.semantics.specs.Bounds.{IsClean}
 use Rattle.semantics.specs.Soundness.{is_made_at_hand, names_at_hand, IsClosed, HasUses, StopsWithin}
 use Rattle.semantics.proofs.PoolsLemmas.{with_slot-holds, with_new-holds, part_at-holds, open-known}
@@ -91,7 +91,7 @@ module _ (P : Program) (lawful : IsLawful P) (env : Environment) (c : ℕ) (clos
         by_test false None is = cc
         by_test false (Some r) is = refl
 
-    quiet_passes : (row : Row) (own : Region) (n : ℕ) → IsWithin P scope row → Fits P known (λ d. true) row →
+    quiet_passes : (row : Row) (own : Region) (n : ℕ) → IsInScope P scope row → Fits P known (λ d. true) row →
         KnowsRegion known own → Passes scope (quiet P env c own n row)
     quiet_passes (Ends (Next move)) own n within fits k = within
     quiet_passes (Ends (Raise x class)) own n within fits k = (Raised, refl)

@@ -61,28 +61,28 @@ EndsWithin scope (Raise x class) = Unit {0}
 EndsWithin scope (Halt kind) = Unit {0}
 
 -- Whatever is answered, a row does no more than is said of it.
-abbrev pub IsWithin : Program → Scope → Row → Type 0
-IsWithin P scope (Ends outcome) = EndsWithin scope outcome
-IsWithin P scope (UseClass c next) = (scope.needs ≡ Some c) × ((b : Bool) → IsWithin P scope (next b))
-IsWithin P scope (ReadStatic c f next) =
+abbrev pub IsInScope : Program → Scope → Row → Type 0
+IsInScope P scope (Ends outcome) = EndsWithin scope outcome
+IsInScope P scope (UseClass c next) = (scope.needs ≡ Some c) × ((b : Bool) → IsInScope P scope (next b))
+IsInScope P scope (ReadStatic c f next) =
     (scope.needs ≡ Some c) × (is_final P c f ≡ false → scope.reads ≡ Some c)
-    × ((v : Value) → IsWithin P scope (next v))
-IsWithin P scope (WriteStatic c f v next) =
-    (scope.needs ≡ Some c) × (scope.writes ≡ Some c) × IsWithin P scope next
-IsWithin P scope (AskClass x next) = (o : Option ClassId) → IsWithin P scope (next o)
-IsWithin P scope (LookInto x part next) = (o : Option (List Value)) → IsWithin P scope (next o)
-IsWithin P scope (Change x i v next) = IsWithin P scope next
-IsWithin P scope (Make class slots next) = (x : Name) → IsWithin P scope (next x)
-IsWithin P scope (UseMonitor x enter next) = (scope.locks ≡ true) × ((b : Bool) → IsWithin P scope (next b))
-IsWithin P scope (Print text next) = (scope.prints ≡ true) × IsWithin P scope next
+    × ((v : Value) → IsInScope P scope (next v))
+IsInScope P scope (WriteStatic c f v next) =
+    (scope.needs ≡ Some c) × (scope.writes ≡ Some c) × IsInScope P scope next
+IsInScope P scope (AskClass x next) = (o : Option ClassId) → IsInScope P scope (next o)
+IsInScope P scope (LookInto x part next) = (o : Option (List Value)) → IsInScope P scope (next o)
+IsInScope P scope (Change x i v next) = IsInScope P scope next
+IsInScope P scope (Make class slots next) = (x : Name) → IsInScope P scope (next x)
+IsInScope P scope (UseMonitor x enter next) = (scope.locks ≡ true) × ((b : Bool) → IsInScope P scope (next b))
+IsInScope P scope (Print text next) = (scope.prints ≡ true) × IsInScope P scope next
 
 -- What the machine owes.
 pub record IsBounded (P : Program) (B : Bounds) : Type 0 where
   -- an instruction does no more than is said of its place
-  pub row : (f : Frame) → IsWithin P (B f.activity f.place) (P.row f)
+  pub row : (f : Frame) → IsInScope P (B f.activity f.place) (P.row f)
   -- a class's failing, and its failing by a parent, call nothing
-  pub failing : (c : ℕ) (x : Name) → IsWithin P nothing (P.failing c x)
-  pub orphaned : (c : ℕ) → IsWithin P nothing (P.orphaned c)
+  pub failing : (c : ℕ) (x : Name) → IsInScope P nothing (P.failing c x)
+  pub orphaned : (c : ℕ) → IsInScope P nothing (P.orphaned c)
 
 -- ---- what is said of a class
 
