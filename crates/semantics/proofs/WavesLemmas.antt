@@ -7,13 +7,13 @@ use Rattle.semantics.proofs.BranchesLemmas.{value_in}
 
 -- ---- lists of classes
 
-Contains-nil : (c : ℕ) → Contains [] c → ⊥
+pub Contains-nil : (c : ℕ) → Contains [] c → ⊥
 Contains-nil c (k, within, is) = omega arith
 
-Contains-first : (c : ℕ) (cs : List ℕ) → Contains (c ∷ cs) c
+pub Contains-first : (c : ℕ) (cs : List ℕ) → Contains (c ∷ cs) c
 Contains-first c cs = (0, omega arith, refl)
 
-Contains-later : (c d : ℕ) (cs : List ℕ) → Contains cs d → Contains (c ∷ cs) d
+pub Contains-later : (c d : ℕ) (cs : List ℕ) → Contains cs d → Contains (c ∷ cs) d
 Contains-later c d cs (k, within, is) = (suc k, omega arith, is)
 
 above-same : (first second : ℕ → ℕ) (cs : List ℕ) → ((d : ℕ) → Contains cs d → first d ≡ second d)

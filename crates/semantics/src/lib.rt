@@ -11,6 +11,7 @@ ghost use Rattle.semantics.specs.Settling.{StopExcludes, OneStop, SettlesOrStops
 ghost use Rattle.semantics.specs.Acceptance.{OneRegion, WiderEnvironment};
 ghost use Rattle.semantics.specs.Erasure.{ErasedUnseen};
 ghost use Rattle.semantics.specs.Headline.{LazyToImage, ImageToLazy};
+ghost use Rattle.semantics.specs.Soundness.{RunsWithin, StopsWithin, LowerIsClosed, ParentsAreUsed};
 
 /// A run over one schedule, and then one over another, is a run over both, one after the other.
 pub fn runs_join()
@@ -64,4 +65,26 @@ pub fn lazy_to_image()
 /// What a run from a program's image shows under some schedule, the lazy procedure shows under some schedule.
 pub fn image_to_lazy()
     ensures { ImageToLazy }
+{}
+
+/// What an analysis says of code holds of whatever runs: in each world that a run leads to, a frame that stands on the
+/// initialization of a class is of an activity that may run for it, and what it needs or begins is a use of the class.
+pub fn runs_within()
+    ensures { RunsWithin }
+{}
+
+/// A class whose code bars nothing, with all its uses at hand, is not barred at build time: where it is stopped, it is
+/// refused.
+pub fn stops_within()
+    ensures { StopsWithin }
+{}
+
+/// With all accepted classes of lower waves at hand, finals at hand refer to objects of classes at hand alone.
+pub fn lower_is_closed()
+    ensures { LowerIsClosed }
+{}
+
+/// The parents of a class are among the uses that an analysis finds by its bounds.
+pub fn parents_are_used()
+    ensures { ParentsAreUsed }
 {}
