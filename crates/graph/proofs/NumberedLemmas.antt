@@ -270,7 +270,8 @@ pub numbered_all : (graph back : Rows) (parts : Parts) → IsReverse graph back 
 numbered_all graph back parts r s = record {
   len = s.len ∙ r.len;
   below = All-from_get_or (λ n. n < length graph) parts.numbers 0
-      (λ v small. (let low = s.numbered.low v (s.all v (omega (arith, s.len))) in omega (arith, s.numbered.few, r.len)));
+      (λ v small. (let low = s.numbered.low v (s.all v (omega (arith, s.len))) in
+      omega (arith, s.numbered.few, r.len)));
   never_falls = λ v b e.
       s.numbered.rises b v (s.all b (has_successor back b v ((r.edges v b).1 e))) ((r.edges v b).1 e);
   shared = λ u v p q.
