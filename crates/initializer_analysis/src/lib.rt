@@ -1,13 +1,6 @@
-// A library with one function.
+//! Whether the initialization of a class may run before the program does.
 #![tactic(auto)]
 
-ghost use Rattle.std.specs.Prelude.{◌≡◌};
-ghost use Rattle.initializer_analysis.specs.Echo.{echo_of};
+mod labels;
 
-// The `ensures` clause is the contract: what `echo` returns is `echo_of` of its argument, a definition
-// in `specs/Echo.antt`, which a caller's clause can cite too.
-pub fn echo(x: usize) -> usize
-    ensures { result ≡ echo_of x }
-{
-    x
-}
+pub use labels::Least;
