@@ -4,7 +4,7 @@ use Rattle.std.proofs.Common.{refl, sym, subst, arith, ◌∙◌}
 use Rattle.std.specs.List.{All, Contains}
 use Rattle.std.proofs.lemmas.Grind.{common_steps}
 use Rattle.std.proofs.lemmas.List.{length-take}
-use Rattle.std.proofs.lemmas.List.Elements.{All-contains, All-get_or, Contains-get_or}
+use Rattle.std.proofs.lemmas.List.Elements.{All-contains, All-get_or, All-from_get_or, Contains-get_or}
 use Rattle.graph.specs.Rows.{Rows, successors_of}
 use Rattle.graph.specs.Reaches.{Reaches, itself, along}
 use Rattle.graph.specs.Seen.{AreDistinct, count_of}
@@ -176,10 +176,12 @@ old_or_found back root old before new numbers v distinct g h = by_place (place_o
 pub numbered_next : (back : Rows) (order old before new numbers : List ℕ) (place : ℕ) → IsTurnedOrder back order
     → place < length order
     → ((k : ℕ) → place + 1 ≤ k → k < length order → Contains old (slice_index order k)) → AreDistinct new
+    → length new ≤ length back
     → Gathering back (slice_index order place) old before new numbers (length new) → Numbered back old before
     → Numbered back new numbers
-numbered_next back order old before new numbers place turned within later distinct g n = record {
+numbered_next back order old before new numbers place turned within later distinct few g n = record {
   distinct = distinct;
+  few = few;
   within = g.within;
   closed = closed;
   rises = λ a b h e. rises a b e (either a h) (either b (closed a b h e));
@@ -254,6 +256,7 @@ numbered_next back order old before new numbers place turned within later distin
 pub numbered_none : (back : Rows) (items numbers : List ℕ) → items ≡ [] → Numbered back items numbers
 numbered_none back items numbers e = rw e (record {
   distinct = λ x. omega arith;
+  few = omega arith;
   within = λ k d h. absurd (omega arith);
   closed = λ a b h. absurd (omega (arith, h.1));
   rises = λ a b h. absurd (omega (arith, h.1));
@@ -266,6 +269,9 @@ pub numbered_all : (graph back : Rows) (parts : Parts) → IsReverse graph back 
     → AreComponents graph parts
 numbered_all graph back parts r s = record {
   len = s.len ∙ r.len;
+  below = All-from_get_or (λ n. n < length graph) parts.numbers 0
+      (λ v small. (let low = s.numbered.low v (s.all v (omega (arith, s.len))) in
+      omega (arith, s.numbered.few, r.len)));
   never_falls = λ v b e.
       s.numbered.rises b v (s.all b (has_successor back b v ((r.edges v b).1 e))) ((r.edges v b).1 e);
   shared = λ u v p q.

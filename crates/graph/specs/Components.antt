@@ -1,6 +1,6 @@
 -- Strongly connected components: the classes of vertices that reach each other.
 use Rattle.std.specs.Prelude.{◌≡◌, ℕ, ◌<◌, ◌≤◌, ◌↔◌, List, length, slice_index}
-use Rattle.std.specs.List.{Contains}
+use Rattle.std.specs.List.{All, Contains}
 use Rattle.graph.specs.Rows.{Rows, successors_of}
 use Rattle.graph.specs.Reaches.{Reaches}
 use Rattle.graph.specs.Order.{HasEachOnce}
@@ -19,9 +19,11 @@ pub record Parts : Type 0 where
   pub numbers : List ℕ
   pub order : List ℕ
 
--- two vertices have one number where they reach each other, and the vertices stand by ascending numbers
+-- two vertices have one number where they reach each other, and the vertices stand by ascending numbers, which are
+-- places of a table with as many places as there are vertices
 pub record AreComponents (graph : Rows) (parts : Parts) : Type 0 where
   pub len : length parts.numbers ≡ length graph
+  pub below : All (λ n. n < length graph) parts.numbers
   pub never_falls : NeverFalls graph parts.numbers
   pub shared : (u v : ℕ) → u < length graph → v < length graph
       → (slice_index parts.numbers u ≡ slice_index parts.numbers v) ↔ AreMutual graph u v

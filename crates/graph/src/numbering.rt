@@ -1,6 +1,6 @@
 //! Numbers of strongly connected components.
 
-ghost use Rattle.std.specs.Prelude.{◌≡◌, ℕ, ◌<◌, [], length, OnOk};
+ghost use Rattle.std.specs.Prelude.{◌≡◌, ℕ, ◌<◌, ◌≤◌, [], length, OnOk};
 ghost use Rattle.std.specs.List.{All, Contains};
 ghost use Rattle.graph.specs.Seen.{AreDistinct};
 ghost use Rattle.graph.specs.steps.Finishing.{IsTurnedOrder};
@@ -24,6 +24,7 @@ fn number_component(
     requires numbers { length numbers.old ≡ length back.now }
     ensures limit { seen.new.limit ≡ seen.old.limit }
     ensures distinct { OnOk result (AreDistinct seen.new.items) }
+    ensures few { OnOk result (length seen.new.items ≤ length back.now) }
     ensures gathers { OnOk result
         (Gathering back.now root seen.old.items numbers.old seen.new.items numbers.new (length seen.new.items)) }
 {

@@ -23,6 +23,7 @@ pub record Gathering (back : Rows) (root : ℕ) (old before items numbers : List
 -- these vertices are whole components with all that they reach, and have their numbers
 pub record Numbered (back : Rows) (items numbers : List ℕ) : Type 0 where
   pub distinct : AreDistinct items
+  pub few : length items ≤ length back
   pub within : All (λ v. v < length back) items
   pub closed : (a b : ℕ) → Contains items a → Contains (successors_of back a) b → Contains items b
   pub rises : (a b : ℕ) → Contains items a → Contains (successors_of back a) b

@@ -20,7 +20,8 @@ loop-place-preserved c =
       limit = omega (arith, c.in_ok-number_component.ensures.limit, c.loop-place.invariant.limit);
       small = omega (arith, c.loop-place.invariant.small);
       numbered = numbered_next back order old c.loop-place.numbers new numbers place c.requires.order
-          (omega (arith, c.loop-place.invariant.small)) later c.in_ok-number_component.ensures.distinct gathers
+          (omega (arith, c.loop-place.invariant.small)) later c.in_ok-number_component.ensures.distinct
+          c.in_ok-number_component.ensures.few gathers
           c.loop-place.invariant.numbered;
       later = later_more order old new place (λ x h. gathers.keeps x h) gathers.starts later;
     }
