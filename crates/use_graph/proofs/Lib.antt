@@ -1,3 +1,11 @@
 pub mod NumbersLemmas
 pub mod EdgesLemmas
 pub mod PartsLemmas
+pub mod DeedsLemmas
+pub mod CollectedLemmas
+pub mod CallGraphLemmas
+pub mod ReachedLemmas
+pub mod SearchingLemmas
+pub mod OthersLemmas
+pub mod LeftOutLemmas
+pub mod BodiesLemmas

@@ -19,7 +19,7 @@ module _ {A : Type 0} where
   last [] x = refl
   last (y ∷ xs) x = last xs x
 
-  push_cases : (xs : List A) (x m : A) (n : ℕ) → slice_get (xs ++ x ∷ []) n ≡ Some m
+  pub push_cases : (xs : List A) (x m : A) (n : ℕ) → slice_get (xs ++ x ∷ []) n ≡ Some m
       → (slice_get xs n ≡ Some m) ⊎ ((n ≡ length xs) × (x ≡ m))
   push_cases [] x m zero e = inr (refl, cc)
   push_cases [] x m (suc n) e = absurd cc

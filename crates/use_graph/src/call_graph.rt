@@ -1,17 +1,22 @@
 //! The graph of calls between the methods of given classes.
 
-ghost use Rattle.std.specs.Prelude.{◌≡◌, ℕ, ◌<◌, ◌≤◌, ◌+◌, ◌*◌, length, Some, OnOk, slice_get};
+ghost use Rattle.std.specs.Prelude.{◌≡◌, ℕ, ◌<◌, ◌≤◌, ◌+◌, ◌*◌, length, Some, IfOk, OnOk, slice_get};
 ghost use Rattle.std.specs.List.{Contains};
 ghost use Rattle.graph.specs.Rows.{successors_of};
 ghost use Rattle.hierarchy.specs.Selectable.{IsNamedLike};
 ghost use Rattle.use_graph.specs.Code.{MayRunFor};
 ghost use Rattle.use_graph.specs.Uses.{Calls};
 ghost use Rattle.use_graph.specs.declared.callee.Callee.TheVariants as callees;
+ghost use Rattle.use_graph.specs.steps.CallGraphs.{IsCallGraph};
+ghost use Rattle.use_graph.specs.steps.Deeds.{CallsBy};
 ghost use Rattle.use_graph.specs.steps.Growing.{Grows, IsPart, LeadsToAll, LeadsToNamed};
+ghost use Rattle.use_graph.specs.steps.Growing.{LeadsByEach, LeadsByBody, LeadsByNumber};
 ghost use Rattle.use_graph.specs.steps.Numbers.{HasNumber};
 ghost use Rattle.use_graph.specs.steps.Growing.{Extends, EdgeTo, IsLike, LeadsToLike, IsNumberOf, LeadsToEach};
 
 use crate::callee::Callee;
+use crate::code::Deed;
+use crate::deeds::deeds_of;
 use crate::numbers::MethodNumbers;
 use graph::{Graph, Visited};
 use hierarchy::member::{DeclaredMember, Method};
@@ -233,4 +238,114 @@ fn add_call(
             Ok(())
         }
     }
+}
+
+/// Adds edges from a method to all that may run for the calls of some of its instructions.
+fn add_calls(
+    alloc: Global,
+    program: &Program,
+    numbers: &MethodNumbers,
+    graph: &mut Graph,
+    groups: &mut Visited,
+    from: usize,
+    caller: DeclaredMember,
+    deeds: &[Deed],
+) -> Result<(), AllocError>
+    requires limit { groups.old.limit ≡ length numbers.now }
+    requires few { length numbers.now ≤ 65535 * 65535 }
+    requires part { IsPart program.now numbers.now graph.old groups.old.items }
+    requires from { slice_get numbers.now from ≡ Some caller }
+    requires calls { (e j : ℕ) → CallsBy program.now deeds.now e j
+        → Calls program.now caller.class caller.index e j }
+    ensures limit { groups.new.limit ≡ groups.old.limit }
+    ensures part { OnOk result (IsPart program.now numbers.now graph.new groups.new.items) }
+    ensures grows { OnOk result (Grows graph.old graph.new) }
+    ensures leads { OnOk result (LeadsByEach program.now numbers.now graph.new from deeds.now) }
+{
+    for deed in deeds {
+        add_call(alloc, program, numbers, graph, groups, from, caller, deed.callee)?;
+    }
+    Ok(())
+}
+
+/// Adds edges from a method to all that may run for the calls of its body.
+fn add_body(
+    alloc: Global,
+    program: &Program,
+    numbers: &MethodNumbers,
+    graph: &mut Graph,
+    groups: &mut Visited,
+    from: usize,
+    caller: DeclaredMember,
+) -> Result<(), AllocError>
+    requires limit { groups.old.limit ≡ length numbers.now }
+    requires few { length numbers.now ≤ 65535 * 65535 }
+    requires part { IsPart program.now numbers.now graph.old groups.old.items }
+    requires from { slice_get numbers.now from ≡ Some caller }
+    ensures limit { groups.new.limit ≡ groups.old.limit }
+    ensures part { OnOk result (IsPart program.now numbers.now graph.new groups.new.items) }
+    ensures grows { OnOk result (Grows graph.old graph.new) }
+    ensures leads { OnOk result (LeadsByBody program.now numbers.now graph.new from caller) }
+{
+    let deeds = deeds_of(alloc, program, caller.class, caller.index)?;
+    add_calls(alloc, program, numbers, graph, groups, from, caller, &deeds)?;
+    Ok(())
+}
+
+/// Adds the edges of the method of a number, if it is one.
+fn add_numbered(
+    alloc: Global,
+    program: &Program,
+    numbers: &MethodNumbers,
+    graph: &mut Graph,
+    groups: &mut Visited,
+    number: usize,
+) -> Result<(), AllocError>
+    requires limit { groups.old.limit ≡ length numbers.now }
+    requires few { length numbers.now ≤ 65535 * 65535 }
+    requires part { IsPart program.now numbers.now graph.old groups.old.items }
+    ensures limit { groups.new.limit ≡ groups.old.limit }
+    ensures part { OnOk result (IsPart program.now numbers.now graph.new groups.new.items) }
+    ensures grows { OnOk result (Grows graph.old graph.new) }
+    ensures leads { OnOk result (LeadsByNumber program.now numbers.now graph.new number) }
+{
+    let Some(method) = numbers.method(number) else {
+        return Ok(());
+    };
+    add_body(alloc, program, numbers, graph, groups, number, method)?;
+    Ok(())
+}
+
+/// Adds the edges of all methods.
+fn add_bodies(
+    alloc: Global,
+    program: &Program,
+    numbers: &MethodNumbers,
+    graph: &mut Graph,
+    groups: &mut Visited,
+) -> Result<(), AllocError>
+    requires limit { groups.old.limit ≡ length numbers.now }
+    requires few { length numbers.now ≤ 65535 * 65535 }
+    requires part { IsPart program.now numbers.now graph.old groups.old.items }
+    ensures { OnOk result (IsCallGraph program.now numbers.now graph.new) }
+{
+    for number in 0..numbers.len() {
+        add_numbered(alloc, program, numbers, graph, groups, number)?;
+    }
+    Ok(())
+}
+
+/// The graph of calls between the methods of given classes.
+pub(crate) fn call_graph(
+    alloc: Global,
+    program: &Program,
+    numbers: &MethodNumbers,
+) -> Result<Graph, AllocError>
+    requires few { length numbers.now ≤ 65535 * 65535 }
+    ensures { IfOk result (IsCallGraph program.now numbers.now) }
+{
+    let mut graph = Graph::new(alloc, 2 * numbers.len())?;
+    let mut groups = Visited::new(alloc, numbers.len())?;
+    add_bodies(alloc, program, numbers, &mut graph, &mut groups)?;
+    Ok(graph)
 }

@@ -2,7 +2,8 @@
 
 ghost use Rattle.std.specs.Prelude.{◌≡◌, Some, None, option_copied, is_some};
 ghost use Rattle.frame_instructions.specs.Instructions.{local_of};
-ghost use Rattle.machine.specs.Operations.{meaning, resolved_operation, local_or};
+ghost use Rattle.machine.specs.Operations.{meaning};
+ghost use Rattle.use_graph.specs.steps.Deeds.{operation_for};
 ghost use Rattle.use_graph.specs.Code.{needed_by, needed_by_call, needed_on_object, callee_of, callee_of_call};
 ghost use Rattle.use_graph.specs.Code.{chosen_callee, found_callee, is_print, print_of, print_by, called_print};
 ghost use Rattle.use_graph.specs.Code.{written_field, read_field, written_by, read_by, resolved_feature};
@@ -11,7 +12,7 @@ ghost use Rattle.use_graph.specs.Code.{feature_on_object, operation_feature, fea
 use crate::callee::Callee;
 use crate::feature::Feature;
 use built_in::method::BuiltInMethod;
-use bytecode::Instruction;
+use bytecode::{Instruction, Placed};
 use hierarchy::member::{Method, Unresolved};
 use machine::call_operation::{
     CallOperation, Choice, InstanceCall, has_value, has_values, of_class, of_either, of_interface,
@@ -26,6 +27,8 @@ use vm_state::ends::FaultKind;
 /// What an instruction may do beyond its frame.
 #[derive(Clone, Copy)]
 pub(crate) struct Deed {
+    /// Where it begins, in bytes of the method's code.
+    pub(crate) pc: u16,
     /// The given class that it needs to be initialized.
     pub(crate) needs: Option<u32>,
     pub(crate) callee: Callee,
@@ -33,17 +36,16 @@ pub(crate) struct Deed {
 }
 
 /// What an instruction of a method may do.
-pub(crate) fn deed_of(program: &Program, class: u32, method: u16, instruction: &Instruction) -> Deed
-    ensures needs { result.needs
-        ≡ needed_by (local_or (local_of instruction.now)
-        (resolved_operation program.now class method instruction.now)) }
-    ensures callee { result.callee
-        ≡ callee_of (local_or (local_of instruction.now)
-        (resolved_operation program.now class method instruction.now)) }
-    ensures feature { result.feature ≡ feature_of program.now class method (Some instruction.now) }
+pub(crate) fn deed_of(program: &Program, class: u32, method: u16, item: &Placed) -> Deed
+    ensures pc { result.pc ≡ item.now.pc }
+    ensures needs { result.needs ≡ needed_by (operation_for program.now class method item.now.instruction) }
+    ensures callee { result.callee ≡ callee_of (operation_for program.now class method item.now.instruction) }
+    ensures feature { result.feature ≡ feature_of program.now class method (Some item.now.instruction) }
 {
+    let instruction = &item.instruction;
     if is_local(instruction) {
         return Deed {
+            pc: item.pc,
             needs: None,
             callee: Callee::Nobody,
             feature: None,
@@ -51,6 +53,7 @@ pub(crate) fn deed_of(program: &Program, class: u32, method: u16, instruction: &
     }
     let resolved = resolved_operation(program, class, method, instruction);
     Deed {
+        pc: item.pc,
         needs: needed(resolved),
         callee: callee_of(resolved),
         feature: resolved_feature(program, class, instruction).or(operation_feature(resolved)),

@@ -1,5 +1,10 @@
 //! Marks of what the initialization of a class may run.
 
+ghost use Rattle.std.specs.Prelude.{◌↔◌, IsTrue};
+ghost use Rattle.use_graph.specs.Uses.{Means};
+
+use crate::feature::Feature;
+
 /// What keeps a class from being initialized at build time, by its code alone. The least comes first.
 #[derive(Clone, Copy)]
 pub enum Mark {
@@ -17,4 +22,30 @@ pub enum Mark {
     Unsupported,
     /// A reference that resolves to nothing.
     Missing,
+}
+
+/// Where an instruction stands that bears a mark.
+#[derive(Clone, Copy)]
+pub struct Evidence {
+    /// The number of the class that declares the method.
+    pub class: u32,
+    /// The place of the method among those of its class.
+    pub index: u16,
+    /// Where the instruction begins in the method's code, in bytes.
+    pub pc: u16,
+}
+
+/// Whether what is told of an instruction is a mark, for the initializer of a class.
+pub fn means(class: u32, feature: Feature, mark: Mark) -> bool
+    ensures { IsTrue result ↔ Means class feature mark }
+{
+    match feature {
+        Feature::Prints => matches!(mark, Mark::Prints),
+        Feature::Throws => matches!(mark, Mark::Throws),
+        Feature::Locks => matches!(mark, Mark::Monitors),
+        Feature::Writes(written) => written != class && matches!(mark, Mark::ForeignWrite),
+        Feature::Reads(read) => read != class && matches!(mark, Mark::ForeignRead),
+        Feature::LeftOut => matches!(mark, Mark::Unsupported),
+        Feature::Misses => matches!(mark, Mark::Missing),
+    }
 }

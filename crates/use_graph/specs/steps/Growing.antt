@@ -6,7 +6,9 @@ use Rattle.program.specs.Tables.{Tables}
 use Rattle.hierarchy.specs.declared.member.DeclaredMember.{DeclaredMember}
 use Rattle.hierarchy.specs.Selectable.{IsNamedLike}
 use Rattle.use_graph.specs.declared.callee.Callee.{Callee}
+use Rattle.use_graph.specs.declared.code.Deed.{Deed}
 use Rattle.use_graph.specs.Code.{MayRunFor}
+use Rattle.use_graph.specs.Uses.{Calls}
 use Rattle.use_graph.specs.steps.Numbers.{HasNumber}
 use Rattle.use_graph.specs.steps.CallGraphs.{IsEdge, LeadsTo}
 
@@ -61,3 +63,17 @@ LeadsToAll P methods graph n callee =
 abbrev pub LeadsToNamed : Tables → List DeclaredMember → Rows → ℕ → DeclaredMember → Type 0
 LeadsToNamed P methods graph n z =
     (e j : ℕ) → IsNamedLike P.family z e j → HasNumber methods e j → LeadsTo methods graph n e j
+
+-- edges lead from a method to all that may run for the calls of some instructions
+abbrev pub LeadsByEach : Tables → List DeclaredMember → Rows → ℕ → List Deed → Type 0
+LeadsByEach P methods graph n deeds = (deed : Deed) → Contains deeds deed → LeadsToAll P methods graph n deed.callee
+
+-- edges lead from a method to all that it may call
+abbrev pub LeadsByBody : Tables → List DeclaredMember → Rows → ℕ → DeclaredMember → Type 0
+LeadsByBody P methods graph n m =
+    (e j : ℕ) → Calls P m.class m.index e j → HasNumber methods e j → LeadsTo methods graph n e j
+
+-- the same of the method of a number
+abbrev pub LeadsByNumber : Tables → List DeclaredMember → Rows → ℕ → Type 0
+LeadsByNumber P methods graph n =
+    (m : DeclaredMember) → slice_get methods n ≡ Some m → LeadsByBody P methods graph n m

@@ -13,10 +13,10 @@ pub returns-clause-needs : goal.returns-clause-needs
 returns-clause-needs c =
     c.needed.ensures
     ∙ ap needed_by (c.resolved_operation-resolved.ensures
-    ∙ resolved_so (local_of c.args.instruction.now) _ (sym c.is_local.ensures ∙ c.if-is_local.false))
+    ∙ resolved_so (local_of c.args.item.now.instruction) _ (sym c.is_local.ensures ∙ c.if-is_local.false))
 
 pub returns-clause-callee : goal.returns-clause-callee
 returns-clause-callee c =
     c.callee_of.ensures
     ∙ ap callee_of (c.resolved_operation-resolved.ensures
-    ∙ resolved_so (local_of c.args.instruction.now) _ (sym c.is_local.ensures ∙ c.if-is_local.false))
+    ∙ resolved_so (local_of c.args.item.now.instruction) _ (sym c.is_local.ensures ∙ c.if-is_local.false))

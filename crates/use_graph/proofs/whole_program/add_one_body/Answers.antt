@@ -1,0 +1,6 @@
+use Rattle.std.proofs.Common.{sym}
+use Rattle.use_graph.proofs.whole_program.add_one_body.Goals as goal
+
+pub returns-clause-uses : goal.returns-clause-uses
+returns-clause-uses c =
+    (c.in-Some.method, c.in_ok-uses.uses, sym c.in-Some.ensures, c.in_ok-push.ensures.items, c.in_ok-uses.ensures.uses)
