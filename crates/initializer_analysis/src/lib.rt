@@ -2,5 +2,7 @@
 #![tactic(auto)]
 
 mod labels;
+mod reached_labels;
 
 pub use labels::Least;
+pub use reached_labels::least_reached;
