@@ -1,5 +1,6 @@
 -- Labels of components, settled from the last vertex of their order to the first.
-use Rattle.std.proofs.Common.{◌≡◌, ◌≢◌, ℕ, ◌+◌, ◌<◌, ◌≤◌, ◌⊎◌, List, length, take, set, map, slice_index, slice_index_or}
+use Rattle.std.proofs.Common.{◌≡◌, ◌≢◌, ℕ, ◌+◌, ◌<◌, ◌≤◌, ◌⊎◌, List, length, take, set, map, slice_index}
+use Rattle.std.proofs.Common.{slice_index_or}
 use Rattle.std.proofs.Common.{inl, inr, refl, sym, subst, arith, ◌∙◌}
 use Rattle.std.specs.List.{All, Contains}
 use Rattle.std.proofs.lemmas.Grind.{common_steps}
@@ -27,13 +28,13 @@ same_or u v = grind arith
 
 -- ---- the labels of a row
 
-front_more : (row : List ℕ) (i b : ℕ) → i < length row → Contains (take i row) b → Contains (take (i + 1) row) b
+pub front_more : (row : List ℕ) (i b : ℕ) → i < length row → Contains (take i row) b → Contains (take (i + 1) row) b
 front_more row i b h p = rw (take_more row i 0 h) (Contains-append_left (take i row) _ b p)
 
-front_last : (row : List ℕ) (i : ℕ) → i < length row → Contains (take (i + 1) row) (slice_index row i)
+pub front_last : (row : List ℕ) (i : ℕ) → i < length row → Contains (take (i + 1) row) (slice_index row i)
 front_last row i h = rw (take_more row i 0 h) (Contains-push (take i row) (slice_index row i))
 
-front_cases : (row : List ℕ) (i b : ℕ) → i < length row → Contains (take (i + 1) row) b
+pub front_cases : (row : List ℕ) (i b : ℕ) → i < length row → Contains (take (i + 1) row) b
     → Contains (take i row) b ⊎ (slice_index row i ≡ b)
 front_cases row i b h p = Contains-push_cases (take i row) (slice_index row i) b (rw (take_more row i 0 h) at p)
 
@@ -198,15 +199,15 @@ pub settle_next : (graph : Rows) (parts : Parts) (own table : List Least) (place
     → All (λ b. b < length graph) (successors_of graph (slice_index parts.order place))
     → AreSettledFrom graph parts own (place + 1) table
     → AreLeast (λ l.
-    (IsOwn table (slice_index parts.numbers (slice_index parts.order place)) l ⊎ IsOwn own (slice_index parts.order place) l)
+    (IsOwn table (slice_index parts.numbers (slice_index parts.order place)) l
+    ⊎ IsOwn own (slice_index parts.order place) l)
     ⊎ IsBeyondLabel parts.numbers (slice_index parts.numbers (slice_index parts.order place))
     (successors_of graph (slice_index parts.order place)) table l) labels
     → AreSettledFrom graph parts own place
     (set table (slice_index parts.numbers (slice_index parts.order place)) labels)
 settle_next graph parts own table place labels c len size high within settled least n small =
     elim (same_or n number) [
-      | inl is ↦ rw (is, get_or-set_same table number labels no_labels (number_small graph parts table v c size v_small))
-          here
+      | inl is ↦ rw (is, get_or-set_same table number labels no_labels number_below) here
       | inr other ↦ rw (get_or-set_other table number n labels no_labels other)
           (AreLeast-same (IsGivenFrom graph parts own (place + 1) n) (IsGivenFrom graph parts own place n)
           (slice_index_or table n no_labels) (more n) (less n other)
@@ -221,6 +222,9 @@ settle_next graph parts own table place labels c len size high within settled le
 
     v_small : v < length graph
     v_small = All-get_or (λ u. u < length graph) parts.order place 0 high c.each.within
+
+    number_below : number < length table
+    number_below = number_small graph parts table v c size v_small
 
     more : (m l : ℕ) → IsGivenFrom graph parts own (place + 1) m l → IsGivenFrom graph parts own place m l
     more m l (k, low, below, same, given) = (k, omega arith, below, same, given)
@@ -258,7 +262,7 @@ settle_next graph parts own table place labels c len size high within settled le
         (λ l. (b : ℕ) × IsBeyond parts.numbers number row b × IsReachedLabel graph own b l)
         (Stands-joined (IsOwn table number) (IsOwn own v) (IsGivenFrom graph parts own (place + 1) number) (IsOwn own v)
         (Stands-least (IsGivenFrom graph parts own (place + 1) number) (slice_index_or table number no_labels)
-        (settled number (number_small graph parts table v c size v_small)))
+        (settled number number_below))
         (Stands-itself (IsOwn own v)))
         (Stands-each (IsBeyond parts.numbers number row) (λ b. IsOwn table (slice_index parts.numbers b))
         (λ b. IsReachedLabel graph own b)
