@@ -1,6 +1,6 @@
 -- Heights of components, found from the last vertex of their order to the first.
-use Rattle.std.proofs.Common.{◌≡◌, ◌≢◌, ℕ, zero, suc, ◌+◌, ◌-◌, ◌<◌, ◌≤◌, ◌⊎◌, Bool, true, false, IsTrue, List, length}
-use Rattle.std.proofs.Common.{take, set, map, replicate, max, cond, slice_index, slice_index_or, inl, inr, refl, sym, subst}
+use Rattle.std.proofs.Common.{◌≡◌, ◌≢◌, ℕ, zero, suc, ◌+◌, ◌<◌, ◌≤◌, ◌⊎◌, Bool, true, false, IsTrue, List, length}
+use Rattle.std.proofs.Common.{take, set, map, max, cond, slice_index, slice_index_or, inl, inr, refl, sym, subst}
 use Rattle.std.proofs.Common.{arith, ap, ◌∙◌}
 use Rattle.std.specs.List.{All, Contains}
 use Rattle.std.proofs.lemmas.Grind.{common_steps}
@@ -12,9 +12,9 @@ use Rattle.graph.specs.Components.{Parts, AreComponents}
 use Rattle.graph.proofs.OrderLemmas.{place_of_member, has_vertex}
 use Rattle.graph.proofs.ReachesLemmas.{Reaches-joined}
 use Rattle.graph.proofs.RowsLemmas.{has_successor}
-use Rattle.initializer_analysis.specs.Heights.{IsBelow, AreHeights}
+use Rattle.initializer_analysis.specs.Heights.{AreHeights}
 use Rattle.initializer_analysis.specs.steps.Settled.{IsBeyond}
-use Rattle.initializer_analysis.specs.steps.Raised.{HaveMarked, top_of, HaveRoom, IsHighest, AreRaisedFrom}
+use Rattle.initializer_analysis.specs.steps.Raised.{HaveMarked, top_of, IsHighest, AreRaisedFrom}
 use Rattle.initializer_analysis.proofs.SettledLemmas.{front_more, front_last, front_cases}
 
 less_or : (m n : ℕ) → (m < n) ⊎ (n ≤ m)
@@ -307,7 +307,7 @@ never_falls_along graph parts a b c itself = omega arith
 never_falls_along graph parts a b c (along {a = d} path edge) =
     omega (arith, never_falls_along graph parts a d c path, c.never_falls d b edge)
 
-marked_small : (marked : List Bool) (e : ℕ) → IsTrue (slice_index_or marked e false) → e < length marked
+pub marked_small : (marked : List Bool) (e : ℕ) → IsTrue (slice_index_or marked e false) → e < length marked
 marked_small marked e h = elim (less_or e (length marked)) [
   | inl less ↦ less
   | inr more ↦ absurd (let none : slice_index_or marked e false ≡ false = past marked e more in cc)
@@ -379,7 +379,8 @@ attained_step graph parts vertices components heights v c len size have s small 
         )
 
         beyond : (e : ℕ) × IsAttained graph parts vertices heights b e
-            → top_of heights components (slice_index parts.numbers b) ≡ slice_index heights (slice_index parts.numbers b)
+            → top_of heights components (slice_index parts.numbers b)
+            ≡ slice_index heights (slice_index parts.numbers b)
             → (e : ℕ) × IsAttained graph parts vertices heights v e
         beyond (e, a) up = (
           e,

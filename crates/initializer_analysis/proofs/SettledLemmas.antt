@@ -4,7 +4,7 @@ use Rattle.std.proofs.Common.{slice_index_or}
 use Rattle.std.proofs.Common.{inl, inr, refl, sym, subst, arith, ◌∙◌}
 use Rattle.std.specs.List.{All, Contains}
 use Rattle.std.proofs.lemmas.Grind.{common_steps}
-use Rattle.std.proofs.lemmas.List.{take_more, take_all, get_or-set_same, get_or-set_other, length-set, get_or-map}
+use Rattle.std.proofs.lemmas.List.{take_more, get_or-set_same, get_or-set_other, length-set, get_or-map}
 use Rattle.std.proofs.lemmas.List.Elements.{All-get_or, All-contains, Contains-push, Contains-push_cases}
 use Rattle.std.proofs.lemmas.List.Elements.{Contains-append_left}
 use Rattle.graph.specs.Rows.{Rows, successors_of}
@@ -18,7 +18,7 @@ use Rattle.initializer_analysis.specs.Least.{AreLeast, IsOf}
 use Rattle.initializer_analysis.specs.LeastReached.{no_labels, IsOwn, IsReachedLabel, AreLeastReached}
 use Rattle.initializer_analysis.specs.steps.Settled.{IsBeyond, IsBeyondLabel, IsGiven, IsGivenFrom, AreSettledFrom}
 use Rattle.initializer_analysis.proofs.LeastLemmas.{Stands, Stands-least, Stands-itself, Stands-joined, Stands-each}
-use Rattle.initializer_analysis.proofs.LeastLemmas.{AreLeast-stands, AreLeast-same, AreLeast-of_joined}
+use Rattle.initializer_analysis.proofs.LeastLemmas.{AreLeast-stands, AreLeast-same}
 
 less_or : (m n : ℕ) → (m < n) ⊎ (n ≤ m)
 less_or m n = grind arith

@@ -1,5 +1,5 @@
 -- Heights of components, found from the last vertex of their order to the first.
-use Rattle.std.specs.Prelude.{◌≡◌, ℕ, ◌+◌, ◌<◌, ◌≤◌, ◌↔◌, Bool, true, false, IsTrue, List, length, slice_index}
+use Rattle.std.specs.Prelude.{◌≡◌, ℕ, ◌+◌, ◌<◌, ◌≤◌, ◌↔◌, Bool, false, IsTrue, List, length, slice_index}
 use Rattle.std.specs.Prelude.{slice_index_or, if◌then◌else◌, ◌⊎◌}
 use Rattle.graph.specs.Rows.{Rows, successors_of}
 use Rattle.graph.specs.Components.{Parts}
@@ -28,7 +28,8 @@ abbrev pub HaveRoom : List ℕ → Type 0
 HaveRoom heights = (n : ℕ) → n < length heights → slice_index heights n + n < length heights
 
 -- vertices from a place on have raised their components to the tops of those to which they lead
-pub record AreRaisedFrom (graph : Rows) (parts : Parts) (marked : List Bool) (place : ℕ) (heights : List ℕ) : Type 0 where
+pub record AreRaisedFrom (graph : Rows) (parts : Parts) (marked : List Bool) (place : ℕ) (heights : List ℕ)
+    : Type 0 where
   pub room : HaveRoom heights
   pub all : (k b : ℕ) → place ≤ k → k < length parts.order
       → IsBeyond parts.numbers (slice_index parts.numbers (slice_index parts.order k))

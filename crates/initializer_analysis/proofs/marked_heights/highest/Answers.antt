@@ -1,4 +1,4 @@
-use Rattle.std.proofs.Common.{◌≡◌, ℕ, max, slice_index, arith, sym, ap, ◌∙◌}
+use Rattle.std.proofs.Common.{ℕ, max, arith, sym, ap, ◌∙◌}
 use Rattle.initializer_analysis.specs.steps.Raised.{top_of}
 use Rattle.initializer_analysis.proofs.RaisedLemmas.{highest_same, highest_other}
 use Rattle.initializer_analysis.proofs.marked_heights.highest.Goals as goal

@@ -1,4 +1,3 @@
-use Rattle.std.proofs.Common.{◌≡◌, length}
 use Rattle.initializer_analysis.specs.steps.Raised.{HaveMarked}
 use Rattle.initializer_analysis.proofs.marked_heights.mark_components.Given as goal
 

@@ -1,4 +1,4 @@
-use Rattle.std.proofs.Common.{◌≡◌, ◌≤◌, length}
+use Rattle.std.proofs.Common.{◌≤◌, length}
 use Rattle.initializer_analysis.specs.steps.Raised.{AreRaisedFrom}
 use Rattle.initializer_analysis.proofs.marked_heights.raise_all.Given as goal
 

@@ -1,4 +1,4 @@
-use Rattle.std.proofs.Common.{◌≡◌, ◌≤◌, length}
+use Rattle.std.proofs.Common.{◌≤◌, length}
 use Rattle.initializer_analysis.specs.steps.Settled.{AreSettledFrom}
 use Rattle.initializer_analysis.proofs.reached_labels.settle_all.Given as goal
 
