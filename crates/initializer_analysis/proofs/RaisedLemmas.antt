@@ -1,10 +1,11 @@
 -- Heights of components, found from the last vertex of their order to the first.
 use Rattle.std.proofs.Common.{◌≡◌, ◌≢◌, ℕ, zero, suc, ◌+◌, ◌<◌, ◌≤◌, ◌⊎◌, Bool, true, false, IsTrue, List, length}
+use Rattle.std.proofs.Common.{replicate, ◌++◌, ◌∷◌, []}
 use Rattle.std.proofs.Common.{take, set, map, max, cond, slice_index, slice_index_or, inl, inr, refl, sym, subst}
 use Rattle.std.proofs.Common.{arith, ap, ◌∙◌}
 use Rattle.std.specs.List.{All, Contains}
 use Rattle.std.proofs.lemmas.Grind.{common_steps}
-use Rattle.std.proofs.lemmas.List.{length-set, get_or-map}
+use Rattle.std.proofs.lemmas.List.{length-set, get_or-map, map_more}
 use Rattle.std.proofs.lemmas.List.Elements.{All-get_or, All-contains}
 use Rattle.graph.specs.Rows.{Rows, successors_of}
 use Rattle.graph.specs.Reaches.{Reaches, itself, along}
@@ -259,6 +260,31 @@ raise_next graph parts marked heights place height c size high within s h = reco
               (other_than graph parts place old.0 old.1 c (omega (arith, old.2)) old.3 at old.5.0)
               ∙ old.7 ∙ sym (set_else heights number n height other),
         ))
+
+-- where none has raised its component
+pub raised_none : (graph : Rows) (parts : Parts) (marked : List Bool) (heights : List ℕ) (place : ℕ)
+    → heights ≡ replicate (length graph) 0 → length parts.order ≤ place
+    → AreRaisedFrom graph parts marked place heights
+raised_none graph parts marked heights place zeros late = record {
+  room = λ n small. omega (arith, zero_at n);
+  all = λ k b low below. absurd (omega arith);
+  attained = λ n small some. absurd (omega (arith, zero_at n));
+}
+  where
+    zero_of : (count n : ℕ) → slice_index (replicate count 0) n ≡ 0
+    zero_of count n = grind (arith, common_steps)
+
+    zero_at : (n : ℕ) → slice_index heights n ≡ 0
+    zero_at n = rw zeros (zero_of (length graph) n)
+
+-- one vertex more has what the table has for its component
+pub heights_by_vertex_more : (table items new numbers : List ℕ) (i number : ℕ) → i < length numbers
+    → number ≡ slice_index numbers i
+    → items ≡ map (λ (n : ℕ). slice_index table n) (take i numbers)
+    → new ≡ items ++ slice_index table number ∷ []
+    → new ≡ map (λ (n : ℕ). slice_index table n) (take (i + 1) numbers)
+heights_by_vertex_more table items new numbers i number h is before pushed =
+    rw (pushed, before, is) (sym (map_more (λ (n : ℕ). slice_index table n) numbers i 0 h))
 
 -- ---- what the heights of components tell of vertices
 

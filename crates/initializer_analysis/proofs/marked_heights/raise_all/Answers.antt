@@ -1,7 +1,7 @@
 use Rattle.std.proofs.Common.{◌≡◌, ℕ, ◌+◌, ◌-◌, length, subst, ap, arith}
 use Rattle.std.proofs.lemmas.List.{length-replicate}
 use Rattle.initializer_analysis.specs.steps.Raised.{AreRaisedFrom}
-use Rattle.initializer_analysis.proofs.RaisedLemmas.{raise_next}
+use Rattle.initializer_analysis.proofs.RaisedLemmas.{raise_next, raised_none}
 use Rattle.initializer_analysis.proofs.marked_heights.raise_all.Goals as goal
 
 pub loop-place-preserved : goal.loop-place-preserved
@@ -24,3 +24,16 @@ loop-place-preserved c =
           (rw (c.successors-row.ensures.value, c.order-order.ensures) at c.successors-row.ensures.within) raised
           (rw (c.successors-row.ensures.value, c.number-number.ensures, c.order-order.ensures) at c.highest.ensures));
     }
+
+pub loop-place-init : goal.loop-place-init
+loop-place-init c = record {
+  small = omega (arith, ap length c.order-order.ensures);
+  raised = raised_none c.args.graph.now c.args.components.now c.args.marked.now c.args.heights.now
+      (length c.order-order.result.now) c.requires.heights (omega (arith, ap length c.order-order.ensures));
+}
+
+pub highest-requires-clause-row : goal.highest-requires-clause-row
+highest-requires-clause-row c = rw c.requires.components.len c.successors-row.ensures.within
+
+pub highest-requires-clause-room : goal.highest-requires-clause-room
+highest-requires-clause-room c = c.loop-place.invariant.raised.room
