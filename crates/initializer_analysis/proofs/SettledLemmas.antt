@@ -335,4 +335,5 @@ by_vertex_more table items new numbers i number h is before pushed =
 pub by_vertex_all : (table items : List Least) (numbers : List ℕ) (i : ℕ) → length numbers ≤ i
     → items ≡ map (λ (n : ℕ). slice_index_or table n no_labels) (take i numbers)
     → items ≡ map (λ (n : ℕ). slice_index_or table n no_labels) numbers
-by_vertex_all table items numbers i h e = rw e (ap (map (λ (n : ℕ). slice_index_or table n no_labels)) (take_all i numbers h))
+by_vertex_all table items numbers i h e =
+    rw e (ap (map (λ (n : ℕ). slice_index_or table n no_labels)) (take_all i numbers h))

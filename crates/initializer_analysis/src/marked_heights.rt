@@ -3,8 +3,10 @@
 ghost use Rattle.std.specs.Prelude.{◌≡◌, ◌<◌, false, length, map, replicate, slice_index, IfOk};
 ghost use Rattle.std.specs.List.{All};
 ghost use Rattle.graph.specs.Components.{AreComponents};
+ghost use Rattle.graph.specs.Rows.{successors_of};
 ghost use Rattle.initializer_analysis.specs.Heights.{AreHeights};
-ghost use Rattle.initializer_analysis.specs.steps.Raised.{HaveMarked, top_of, HaveRoom, IsHighest, AreRaisedFrom};
+ghost use Rattle.initializer_analysis.specs.steps.Raised.{HaveMarked, top_of, HaveRoom, IsHighest};
+ghost use Rattle.initializer_analysis.specs.steps.Raised.{AreRaisedFrom, AreRaised};
 
 use graph::{Components, Graph};
 use std::alloc::{AllocError, Global};
@@ -59,6 +61,29 @@ fn highest(
     highest
 }
 
+/// The height of a vertex's component, as far as a table has it, raised to the tops of those to which this vertex leads.
+fn raised(
+    graph: &Graph,
+    components: &Components,
+    heights: &[usize],
+    marked: &[bool],
+    vertex: usize,
+) -> usize
+    requires components { AreComponents graph.now components.now }
+    requires vertex { vertex < length graph.now }
+    requires heights { length heights.now ≡ length graph.now }
+    requires marked { length marked.now ≡ length graph.now }
+    requires room { HaveRoom heights.now }
+    ensures highest { let number = slice_index components.now.numbers vertex in
+        IsHighest components.now.numbers (successors_of graph.now vertex) heights.now marked.now number
+        (slice_index heights.now number) result }
+    ensures within { All (λ b. b < length graph.now) (successors_of graph.now vertex) }
+{
+    let number = components.number(vertex);
+    let row = graph.successors(vertex);
+    highest(row, components, heights, marked, number, heights[number])
+}
+
 /// Raises all components, from the last vertex of their order to the first.
 fn raise_all(graph: &Graph, components: &Components, marked: &[bool], heights: &mut [usize])
     requires components { AreComponents graph.now components.now }
@@ -71,9 +96,8 @@ fn raise_all(graph: &Graph, components: &Components, marked: &[bool], heights: &
     while place > 0 {
         place -= 1;
         let vertex = order[place];
-        let number = components.number(vertex);
-        let row = graph.successors(vertex);
-        heights[number] = highest(row, components, heights, marked, number, heights[number]);
+        let height = raised(graph, components, heights, marked, vertex);
+        heights[components.number(vertex)] = height;
     }
 }
 
@@ -127,6 +151,22 @@ fn component_heights(
     Ok(heights)
 }
 
+/// By component: its height, over the vertices that are marked.
+fn heights_by_component(
+    alloc: Global,
+    graph: &Graph,
+    components: &Components,
+    marked: &[bool],
+) -> Result<Vec<usize>, AllocError>
+    requires components { AreComponents graph.now components.now }
+    requires marked { length marked.now ≡ length graph.now }
+    ensures len { IfOk result (λ heights. length heights.items ≡ length graph.now) }
+    ensures raised { IfOk result (λ heights. AreRaised graph.now components.now marked.now heights.items) }
+{
+    let by_component = marked_components(alloc, components, marked)?;
+    component_heights(alloc, graph, components, by_component.as_slice())
+}
+
 /// For each vertex the greatest number of marked vertices below it of which each is below the one before.
 ///
 /// # Errors
@@ -142,7 +182,6 @@ pub fn heights(
     ensures len { IfOk result (λ heights. length heights.items ≡ length graph.now) }
     ensures heights { IfOk result (λ heights. AreHeights graph.now marked.now heights.items) }
 {
-    let by_component = marked_components(alloc, components, marked)?;
-    let table = component_heights(alloc, graph, components, by_component.as_slice())?;
+    let table = heights_by_component(alloc, graph, components, marked)?;
     heights_by_vertex(alloc, components, table.as_slice())
 }

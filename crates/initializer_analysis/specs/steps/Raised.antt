@@ -42,3 +42,8 @@ pub record AreRaisedFrom (graph : Rows) (parts : Parts) (marked : List Bool) (pl
       × IsBeyond parts.numbers n (successors_of graph (slice_index parts.order k)) b
       × (b < length graph)
       × (top_of heights marked (slice_index parts.numbers b) ≡ slice_index heights n)
+
+-- all vertices have, with the marks of those components that have a marked vertex
+abbrev pub AreRaised : Rows → Parts → List Bool → List ℕ → Type 0
+AreRaised graph parts marked heights =
+    (by : List Bool) × HaveMarked parts.numbers marked (length marked) by × AreRaisedFrom graph parts by 0 heights

@@ -8,12 +8,13 @@ pub returns-clause-heights : goal.returns-clause-heights
 returns-clause-heights c =
     let graph = c.args.graph.now in
     let parts = c.args.components.now in
+    let marked = c.args.marked.now in
     let table = c.in_ok-table.table.items in
+    let raised = c.in_ok-table.ensures.raised in
     IfOk-weaker c.heights_by_vertex.result
     (λ (heights : Vec ℕ Global). heights.items ≡ map (λ (n : ℕ). slice_index table n) parts.numbers)
-    (λ (heights : Vec ℕ Global). AreHeights graph c.args.marked.now heights.items)
-    (λ heights is. subst (λ (xs : List ℕ). AreHeights graph c.args.marked.now xs) (sym is)
-    (heights_of graph parts c.args.marked.now c.in_ok-by_component.by_component.items table c.requires.components
-    c.requires.marked c.in_ok-table.ensures.len c.in_ok-by_component.ensures.have
-    (rw c.as_slice.ensures.value at c.in_ok-table.ensures.raised)))
-    (rw c.as_slice-2.ensures.value at c.heights_by_vertex.ensures)
+    (λ (heights : Vec ℕ Global). AreHeights graph marked heights.items)
+    (λ heights is. subst (λ (xs : List ℕ). AreHeights graph marked xs) (sym is)
+    (heights_of graph parts marked raised.0 table c.requires.components c.requires.marked c.in_ok-table.ensures.len
+    raised.1 raised.2))
+    (rw c.as_slice.ensures.value at c.heights_by_vertex.ensures)
