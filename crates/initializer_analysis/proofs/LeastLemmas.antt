@@ -42,7 +42,8 @@ pub IsFirst-but : (least : Least) (other a b c : Option ℕ)
     → IsFirst (λ l. (a ≡ Some l) ⊎ (b ≡ Some l)) c
     → IsFirst (λ l. IsOf least l × (¬ (other ≡ Some l))) c
 IsFirst-but least other a b c p q joined =
-    IsFirst-same (λ l. ((least.first ≡ Some l) × (¬ (other ≡ Some l))) ⊎ ((least.second ≡ Some l) × (¬ (other ≡ Some l))))
+    IsFirst-same
+    (λ l. ((least.first ≡ Some l) × (¬ (other ≡ Some l))) ⊎ ((least.second ≡ Some l) × (¬ (other ≡ Some l))))
     (λ l. IsOf least l × (¬ (other ≡ Some l))) c
     (λ l h. elim h [ inl e ↦ (inl e.0, e.1) | inr e ↦ (inr e.0, e.1) ])
     (λ l h. elim h.0 [ inl e ↦ inl (e, h.1) | inr e ↦ inr (e, h.1) ])

@@ -1,1 +1,4 @@
 pub mod LeastLemmas
+pub mod SettledLemmas
+pub mod RaisedLemmas
+pub mod HeightsLemmas

@@ -2,5 +2,9 @@
 #![tactic(auto)]
 
 mod labels;
+mod marked_heights;
+mod reached_labels;
 
 pub use labels::Least;
+pub use marked_heights::heights;
+pub use reached_labels::least_reached;

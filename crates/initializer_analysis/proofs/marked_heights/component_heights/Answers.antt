@@ -1,0 +1,13 @@
+use Rattle.std.proofs.Common.{◌≡◌, length, arith}
+use Rattle.std.proofs.lemmas.List.{take_at}
+use Rattle.initializer_analysis.proofs.marked_heights.component_heights.Goals as goal
+
+pub returns-clause-len : goal.returns-clause-len
+returns-clause-len c =
+    let whole : length c.raise_all.new.heights ≡ c.in_ok-heights.heights.len = omega arith in
+    rw take_at (omega (arith, c.in_ok-heights.ensures.len))
+
+pub returns-clause-raised : goal.returns-clause-raised
+returns-clause-raised c =
+    let whole : length c.raise_all.new.heights ≡ c.in_ok-heights.heights.len = omega arith in
+    rw take_at c.raise_all.ensures

@@ -1,0 +1,187 @@
+//! How many marked vertices stand below one another, found by components.
+
+ghost use Rattle.std.specs.Prelude.{◌≡◌, ◌<◌, false, length, map, replicate, slice_index, IfOk};
+ghost use Rattle.std.specs.List.{All};
+ghost use Rattle.graph.specs.Components.{AreComponents};
+ghost use Rattle.graph.specs.Rows.{successors_of};
+ghost use Rattle.initializer_analysis.specs.Heights.{AreHeights};
+ghost use Rattle.initializer_analysis.specs.steps.Raised.{HaveMarked, top_of, HaveRoom, IsHighest};
+ghost use Rattle.initializer_analysis.specs.steps.Raised.{AreRaisedFrom, AreRaised};
+
+use graph::{Components, Graph};
+use std::alloc::{AllocError, Global};
+
+/// Marks those components that have a marked vertex.
+fn mark_components(components: &Components, marked: &[bool], table: &mut [bool])
+    requires numbers { All (λ n. n < length table.old) components.now.numbers }
+    requires marked { length marked.now ≡ length components.now.numbers }
+    requires none { table.old ≡ replicate (length components.now.numbers) false }
+    ensures { HaveMarked components.now.numbers marked.now (length marked.now) table.new }
+{
+    for vertex in 0..components.len() {
+        if marked[vertex] {
+            table[components.number(vertex)] = true;
+        }
+    }
+}
+
+/// How high a component is, with its own marked vertices.
+fn top(heights: &[usize], marked: &[bool], number: usize) -> usize
+    requires number { number < length heights.now }
+    requires marked { length marked.now ≡ length heights.now }
+    requires room { HaveRoom heights.now }
+    ensures { result ≡ top_of heights.now marked.now number }
+{
+    let height = heights[number];
+    if marked[number] { height + 1 } else { height }
+}
+
+/// The highest top of other components to which a row leads, or the start.
+fn highest(
+    row: &[usize],
+    components: &Components,
+    heights: &[usize],
+    marked: &[bool],
+    number: usize,
+    start: usize,
+) -> usize
+    requires row { All (λ v. v < length components.now.numbers) row.now }
+    requires numbers { All (λ n. n < length heights.now) components.now.numbers }
+    requires marked { length marked.now ≡ length heights.now }
+    requires room { HaveRoom heights.now }
+    ensures { IsHighest components.now.numbers row.now heights.now marked.now number start result }
+{
+    let mut highest = start;
+    for vertex in row {
+        let other = components.number(*vertex);
+        if other != number {
+            highest = highest.max(top(heights, marked, other));
+        }
+    }
+    highest
+}
+
+/// The height of a vertex's component, as far as a table has it, raised to the tops of those to which this vertex leads.
+fn raised(
+    graph: &Graph,
+    components: &Components,
+    heights: &[usize],
+    marked: &[bool],
+    vertex: usize,
+) -> usize
+    requires components { AreComponents graph.now components.now }
+    requires vertex { vertex < length graph.now }
+    requires heights { length heights.now ≡ length graph.now }
+    requires marked { length marked.now ≡ length graph.now }
+    requires room { HaveRoom heights.now }
+    ensures highest { let number = slice_index components.now.numbers vertex in
+        IsHighest components.now.numbers (successors_of graph.now vertex) heights.now marked.now number
+        (slice_index heights.now number) result }
+    ensures within { All (λ b. b < length graph.now) (successors_of graph.now vertex) }
+{
+    let number = components.number(vertex);
+    let row = graph.successors(vertex);
+    highest(row, components, heights, marked, number, heights[number])
+}
+
+/// Raises all components, from the last vertex of their order to the first.
+fn raise_all(graph: &Graph, components: &Components, marked: &[bool], heights: &mut [usize])
+    requires components { AreComponents graph.now components.now }
+    requires marked { length marked.now ≡ length graph.now }
+    requires heights { heights.old ≡ replicate (length graph.now) 0 }
+    ensures { AreRaisedFrom graph.now components.now marked.now 0 heights.new }
+{
+    let order = components.order();
+    let mut place = order.len();
+    while place > 0 {
+        place -= 1;
+        let vertex = order[place];
+        let height = raised(graph, components, heights, marked, vertex);
+        heights[components.number(vertex)] = height;
+    }
+}
+
+/// What a table by components has for each vertex.
+fn heights_by_vertex(
+    alloc: Global,
+    components: &Components,
+    table: &[usize],
+) -> Result<Vec<usize>, AllocError>
+    requires { All (λ n. n < length table.now) components.now.numbers }
+    ensures { IfOk result (λ heights. heights.items ≡ map (λ n. slice_index table.now n) components.now.numbers) }
+{
+    let mut heights = Vec::with_capacity(alloc, components.len())?;
+    for vertex in 0..components.len() {
+        heights.push(table[components.number(vertex)])?;
+    }
+    Ok(heights)
+}
+
+/// By component: whether it has a marked vertex.
+fn marked_components(
+    alloc: Global,
+    components: &Components,
+    marked: &[bool],
+) -> Result<Vec<bool>, AllocError>
+    requires numbers { All (λ n. n < length components.now.numbers) components.now.numbers }
+    requires marked { length marked.now ≡ length components.now.numbers }
+    ensures len { IfOk result (λ table. length table.items ≡ length components.now.numbers) }
+    ensures have { IfOk result
+        (λ table. HaveMarked components.now.numbers marked.now (length marked.now) table.items) }
+{
+    let mut table = vec![in alloc; false; components.len()]?;
+    mark_components(components, marked, table.as_mut_slice());
+    Ok(table)
+}
+
+/// By component: its height, of components that are marked.
+fn component_heights(
+    alloc: Global,
+    graph: &Graph,
+    components: &Components,
+    marked: &[bool],
+) -> Result<Vec<usize>, AllocError>
+    requires components { AreComponents graph.now components.now }
+    requires marked { length marked.now ≡ length graph.now }
+    ensures len { IfOk result (λ heights. length heights.items ≡ length graph.now) }
+    ensures raised { IfOk result (λ heights. AreRaisedFrom graph.now components.now marked.now 0 heights.items) }
+{
+    let mut heights = vec![in alloc; 0usize; components.len()]?;
+    raise_all(graph, components, marked, heights.as_mut_slice());
+    Ok(heights)
+}
+
+/// By component: its height, over the vertices that are marked.
+fn heights_by_component(
+    alloc: Global,
+    graph: &Graph,
+    components: &Components,
+    marked: &[bool],
+) -> Result<Vec<usize>, AllocError>
+    requires components { AreComponents graph.now components.now }
+    requires marked { length marked.now ≡ length graph.now }
+    ensures len { IfOk result (λ heights. length heights.items ≡ length graph.now) }
+    ensures raised { IfOk result (λ heights. AreRaised graph.now components.now marked.now heights.items) }
+{
+    let by_component = marked_components(alloc, components, marked)?;
+    component_heights(alloc, graph, components, by_component.as_slice())
+}
+
+/// For each vertex the greatest number of marked vertices below it of which each is below the one before.
+///
+/// # Errors
+/// Where memory runs out.
+pub fn heights(
+    alloc: Global,
+    graph: &Graph,
+    components: &Components,
+    marked: &[bool],
+) -> Result<Vec<usize>, AllocError>
+    requires components { AreComponents graph.now components.now }
+    requires marked { length marked.now ≡ length graph.now }
+    ensures len { IfOk result (λ heights. length heights.items ≡ length graph.now) }
+    ensures heights { IfOk result (λ heights. AreHeights graph.now marked.now heights.items) }
+{
+    let table = heights_by_component(alloc, graph, components, marked)?;
+    heights_by_vertex(alloc, components, table.as_slice())
+}
