@@ -20,6 +20,7 @@ use classfile::{ClassName, printed};
 use hierarchy::class_lists::ClassLists;
 use hierarchy::hierarchy::Hierarchy;
 use hierarchy::texts::Texts;
+use loading::family::Family;
 use loading::names::name_of;
 use std::alloc::{AllocError, Global};
 use std::marker::Model;
@@ -78,6 +79,13 @@ impl Program {
         ensures fits { IsProgram self.now }
     {
         self.classes.as_slice()
+    }
+
+    /// The given classes, with their files and parents.
+    pub fn family(&self) -> &Family
+        ensures { result.now ≡ self.now.family }
+    {
+        self.hierarchy.family()
     }
 
     /// How many classes were given.
