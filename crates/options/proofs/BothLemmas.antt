@@ -1,0 +1,97 @@
+-- Classes that are forced and demanded.
+use Rattle.std.proofs.Common.{◌≡◌, ℕ, ◌+◌, ◌<◌, ◌≤◌, ◌⊎◌, inl, inr, Bool, true, false, List, length, Some, slice_get, refl}
+use Rattle.std.proofs.Common.{sym, ap, ◌∙◌, subst, get_or, arith, IsTrue, ◌↔◌}
+use Rattle.std.specs.List.{All}
+use Rattle.std.specs.Option.{option_map}
+use Rattle.std.specs.Prelude.{Result, Ok, Err, IfErr, OnOk}
+use Rattle.std.proofs.lemmas.Bool.{cases_lt}
+use Rattle.std.proofs.lemmas.Option.{slice_get_read}
+use Rattle.std.proofs.lemmas.Result.{IfErr-weaker}
+use Rattle.classfile.specs.Units.{units_text}
+use Rattle.loading.specs.declared.given.GivenClass.{GivenClass}
+use Rattle.loading.specs.Names.{name_of}
+use Rattle.loading.specs.Families.{Family, name_in, file_of}
+use Rattle.initializer_analysis.specs.Forced.{has_class}
+use Rattle.options.specs.Classes.{AreClasses, IsDemanded}
+use Rattle.options.specs.Faults.{IsBoth, IsKnown, AreApart, IsLeastBoth, IsOfBoth, both}
+use Rattle.options.specs.Faults.{PatternsFail, DemandFails, unmatched, torn}
+use Rattle.options.specs.steps.Marks.{IsMarked}
+use Rattle.options.specs.steps.Both.{NamesBoth, named}
+use Rattle.options.proofs.ChainLemmas.{marked_within}
+use Rattle.options.specs.declared.fault.OptionFault.{OptionFault}
+use Rattle.options.specs.declared.fault.OptionFault.TheVariants.{Memory, Both}
+
+pub names_both : (family classes : Family) (c : ℕ) (given : GivenClass) (name read : List ℕ) → classes ≡ family
+    → c < length classes → given ≡ get_or classes c given → read ≡ name_of given.file → units_text name ≡ read
+    → (Both name ≡ Memory) ⊎ NamesBoth family c (Both name)
+names_both family classes c given name read same small is named-is text =
+    let at : slice_get classes c ≡ Some given = slice_get_read classes (length classes) c given refl small is in
+    let here : name_in classes c ≡ Some (units_text name) =
+    ap (λ o. option_map name_of (file_of o)) at ∙ ap Some (sym named-is ∙ sym text) in
+    inr (named (subst (λ (f : Family). name_in f c ≡ Some (units_text name)) same here))
+
+-- ---- the least class that is both
+
+abbrev pub NoneBelow : List Bool → List Bool → ℕ → Type 0
+NoneBelow marks forced n = (c : ℕ) → c < n → ¬ IsBoth (IsMarked marks) forced c
+
+pub none_more : (marks forced : List Bool) (n : ℕ) (b : Bool) → (IsTrue b ↔ IsBoth (IsMarked marks) forced n)
+    → b ≡ false → NoneBelow marks forced n → NoneBelow marks forced (n + 1)
+none_more marks forced n b told not_so before c small both-are = elim (cases_lt c n) [
+  | inl below ↦ before c below both-are
+  | inr past ↦
+      let same : c ≡ n = omega arith in
+      let is : b ≡ true = told.1 (subst (IsBoth (IsMarked marks) forced) same both-are) in
+      cc
+]
+
+pub none_both : (marks forced : List Bool) (n : ℕ) → length marks ≤ n → NoneBelow marks forced n
+    → AreApart (IsMarked marks) forced
+none_both marks forced n end before c both-are =
+    let small = marked_within marks c both-are.0 in before c (omega arith) both-are
+
+-- ---- of one kind, and so of another
+
+pub of_both : (family : Family) (P : ℕ → Type 0) (forced : List Bool) (c : ℕ) (fault : OptionFault)
+    → IsLeastBoth P forced c → (fault ≡ Memory) ⊎ NamesBoth family c fault
+    → (fault ≡ Memory) ⊎ IsOfBoth family P forced fault
+of_both family P forced c fault least (inl memory) = inl memory
+of_both family P forced c _ least (inr (named {name} is)) = inr (both least is)
+
+module _ (marks forced : List Bool) (P : ℕ → Type 0) (same : AreClasses marks P) where
+  pub apart_too : AreApart (IsMarked marks) forced → AreApart P forced
+  apart_too apart c both-are = apart c ((same c).1 both-are.0, both-are.1)
+
+  pub of_both_too : (family : Family) (fault : OptionFault) → IsOfBoth family (IsMarked marks) forced fault
+      → IsOfBoth family P forced fault
+  of_both_too family _ (both {class} {name} least is) = both (record {
+    here = ((same class).0 least.here.0, least.here.1);
+    before = λ c small both-are. least.before c small ((same c).1 both-are.0, both-are.1);
+  }) is
+
+-- ---- why nothing is demanded
+
+pub unmatched_fails : (family : Family) (patterns : List (List ℕ)) (forced : List Bool) (fault : OptionFault)
+    → (fault ≡ Memory) ⊎ PatternsFail family patterns fault
+    → (fault ≡ Memory) ⊎ DemandFails family patterns forced fault
+unmatched_fails family patterns forced fault (inl memory) = inl memory
+unmatched_fails family patterns forced fault (inr wrong) = inr (unmatched wrong)
+
+pub torn_fails : (family : Family) (patterns : List (List ℕ)) (marks forced : List Bool) (fault : OptionFault)
+    → All (IsKnown family) patterns → AreClasses marks (IsDemanded family patterns)
+    → (fault ≡ Memory) ⊎ IsOfBoth family (IsMarked marks) forced fault
+    → (fault ≡ Memory) ⊎ DemandFails family patterns forced fault
+torn_fails family patterns marks forced fault known are (inl memory) = inl memory
+torn_fails family patterns marks forced fault known are (inr wrong) =
+    inr (torn known (of_both_too marks forced (IsDemanded family patterns) are family fault wrong))
+
+pub demand_fails : (family : Family) (patterns : List (List ℕ)) (marks forced : List Bool) (r : Result (List Bool) OptionFault)
+    → All (IsKnown family) patterns → AreClasses marks (IsDemanded family patterns)
+    → IfErr r (λ fault. (fault ≡ Memory) ⊎ IsOfBoth family (IsMarked marks) forced fault)
+    → IfErr r (λ fault. (fault ≡ Memory) ⊎ DemandFails family patterns forced fault)
+demand_fails family patterns marks forced r known are =
+    IfErr-weaker r _ _ (λ fault. torn_fails family patterns marks forced fault known are)
+
+pub on_ok : {T E : Type 0} (r : Result T E) (P : Type 0) → P → OnOk r P
+on_ok (Ok x) P holds = holds
+on_ok (Err e) P holds = tt

@@ -1,0 +1,6 @@
+pub mod ListLemmas
+pub mod ListsLemmas
+pub mod ChainLemmas
+pub mod NameLemmas
+pub mod MatchedLemmas
+pub mod BothLemmas

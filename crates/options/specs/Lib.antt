@@ -1,0 +1,5 @@
+pub mod Lists
+pub mod Patterns
+pub mod Classes
+pub mod Faults
+pub mod steps

@@ -1,0 +1,20 @@
+//! Which classes the options `--initialize-at-build-time` and `--initialize-at-run-time` are about.
+//!
+//! [`parse`] reads a list of patterns of classes. [`force`] answers the classes that a list of the latter forces to be
+//! initialized at run time, and [`demand`] those that one of the former demands at build time.
+#![tactic(auto)]
+
+mod chains;
+mod demanded;
+mod demanding;
+mod fault;
+mod forcing;
+mod marks;
+mod matching;
+mod patterns;
+
+pub use demanded::Demand;
+pub use demanding::demand;
+pub use fault::OptionFault;
+pub use forcing::force;
+pub use patterns::{Patterns, parse};
