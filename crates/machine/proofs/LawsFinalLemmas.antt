@@ -406,24 +406,32 @@ module _ (P : Tables) (is : IsProgram P) where
           slice_get-get_or f.constants index constants.Unusable within in
           (f, constant, field_constant kind target at refl (pool.each index constant (runtime.Field kind target) at h))
 
+  -- a field that instructions name as a static one is final where its declaration says so
+  pub named_final : (d index c k : ℕ) (kind : FieldKind) (final : Bool) (place : ℕ)
+      → constant_at P d index ≡ Some (runtime.Field kind (Ok (targets.Static c k final place)))
+      → has_value kind ≡ true → is_final (program_of P) c k ≡ final
+  named_final d index c k kind final place e has_kind =
+      let target = Ok (targets.Static c k final place) in
+      let source = (constant_at_put d index kind target e).2 in
+      let static = static_target P.family c k final place source.result source.target_is in
+      let declared = finds_field c static.place static.result source.finds in
+      let named : field_of source.key (Some static.file) ≡ Some static.place =
+      ap (field_of source.key) (sym static.stands) ∙ declared in
+      let kind_is : field_kind (text_at static.file static.member.descriptor) ≡ kind =
+      ap field_kind (descriptor_is static.file source.key static.place static.member named static.is)
+      ∙ source.kind_is in
+      let has : is_static_field static.file static.member ≡ true = rw (static.static, kind_is, has_kind) refl in
+      let declares : is_final (program_of P) c k ≡ has_flag static.member.access_flags 16 =
+      static_at c k static.place static.file static.member static.stands static.is has static.slot in
+      declares ∙ sym static.flag
+
   pub finals_written : (w : FieldKind) (d m place c k : ℕ) → operation_at P d m place ≡ Some (PutStatic w c k)
       → is_final (program_of P) c k ≡ true
       → (d ≡ c) × (initializer_in P c ≡ Some m)
   finals_written w d m place c k e final =
       let put = put_at w c k P d m place e in
-      let target = Ok (targets.Static c k put.1.final put.1.place) in
-      let source = (constant_at_put d put.0 put.1.kind target put.1.constant).2 in
-      let static = static_target P.family c k put.1.final put.1.place source.result source.target_is in
-      let declared = finds_field c static.place static.result source.finds in
-      let named : field_of source.key (Some static.file) ≡ Some static.place =
-      ap (field_of source.key) (sym static.stands) ∙ declared in
-      let kind : field_kind (text_at static.file static.member.descriptor) ≡ put.1.kind =
-      ap field_kind (descriptor_is static.file source.key static.place static.member named static.is)
-      ∙ source.kind_is in
-      let has : is_static_field static.file static.member ≡ true = rw (static.static, kind, put.1.valued) refl in
-      let declares : is_final (program_of P) c k ≡ has_flag static.member.access_flags 16 =
-      static_at c k static.place static.file static.member static.stands static.is has static.slot in
-      let flagged : put.1.final ≡ true = static.flag ∙ sym declares ∙ final in
+      let flagged : put.1.final ≡ true =
+      sym (named_final d put.0 c k put.1.kind put.1.final put.1.place put.1.constant put.1.valued) ∙ final in
       let may : (c == d && is_method m (initializer_in P d)) ≡ true = rw flagged at put.1.may in
       let parts = both_true (c == d) (is_method m (initializer_in P d)) may in
       let same : c ≡ d = eqb-true c d parts.0 in

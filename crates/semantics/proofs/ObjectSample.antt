@@ -57,7 +57,7 @@ initializer zero = Some 0
 initializer (suc zero) = Some 1
 initializer (suc (suc n)) = None
 
-abbrev code : Code
+abbrev pub code : Code
 code = record {
   count = 3;
   body = body;
@@ -114,7 +114,7 @@ pub uses_parents : UsesParents program analysis
 uses_parents c p u = u
 
 -- class 0 with its final set
-abbrev first_region : Region
+abbrev pub first_region : Region
 first_region = with_field (constant_region program 0) 0 (Int (pos 6))
 
 -- class 1 with its array, first as it was made, and then changed, returned and stored again
@@ -136,7 +136,7 @@ image = record { holds = is_built; region = regions }
 abbrev alone : Environment
 alone d = None
 
-abbrev with_first : Environment
+abbrev pub with_first : Environment
 with_first zero = Some first_region
 with_first (suc d) = None
 
@@ -162,7 +162,7 @@ second_settles = (
 no_uses : (c : ℕ) → Contains [] c → ⊥
 no_uses c u = omega (arith, u.1)
 
-only_use : (c : ℕ) → Contains (0 ∷ []) c → c ≡ 0
+pub only_use : (c : ℕ) → Contains (0 ∷ []) c → c ≡ 0
 only_use c (zero, h, e) = cc
 only_use c (suc k, h, e) = omega arith
 

@@ -5,5 +5,6 @@ mod call_graph;
 pub mod callee;
 mod code;
 pub mod feature;
+pub mod laws;
 pub mod mark;
 mod numbers;
