@@ -5,4 +5,5 @@ pub mod ScopeRowsLemmas
 pub mod ScopeTableLemmas
 pub mod ScopeUsesLemmas
 pub mod ScopeMarksLemmas
+pub mod ParentsLemmas
 pub mod LawsLemmas

@@ -1,6 +1,6 @@
 -- What is said of the initialization of a class before it runs holds of whatever runs for it: in each world of a run of
 -- a linked program, and at build time.
-use Rattle.std.specs.Prelude.{◌≡◌, ℕ, List, [], ◌∷◌, Some, IsSome, slice_get}
+use Rattle.std.specs.Prelude.{◌≡◌, ℕ, ◌<◌, List, length, Some, IsSome, slice_get}
 use Rattle.std.specs.List.{Contains}
 use Rattle.vm_state.specs.declared.frame.Frame.{Frame}
 use Rattle.vm_state.specs.declared.frame.Activity.TheVariants.{Method}
@@ -11,8 +11,9 @@ use Rattle.semantics.specs.Quiet.{Environment, Refusal, Stop, Refused}
 use Rattle.semantics.specs.Settling.{StoppedBy}
 use Rattle.semantics.specs.Bounds.{IsBounded}
 use Rattle.semantics.specs.Soundness.{StandsOn, IsBegunBy, IsStart, IsClosed}
+use Rattle.loading.specs.Families.{IsFamily}
 use Rattle.program.specs.Programs.{IsProgram}
-use Rattle.program.specs.Tables.{Tables}
+use Rattle.program.specs.Tables.{Tables, order_in}
 use Rattle.machine.specs.Linked.{program_of}
 use Rattle.use_graph.specs.declared.mark.Mark.{Mark}
 use Rattle.use_graph.specs.declared.mark.Mark.TheVariants as marks
@@ -38,6 +39,12 @@ abbrev pub WorldsRunByCode : Type 0
 WorldsRunByCode =
     (P : Tables) (first last : World) (schedule : List ℕ) → IsStart (program_of P) first →
     Run (program_of P) first schedule last → RunsByCode P last
+
+-- What is initialized before a class is a use of it.
+abbrev pub ParentsAreUses : Type 0
+ParentsAreUses =
+    (P : Tables) → IsProgram P → IsFamily P.family → (c p : ℕ) → c < length P.family → Contains (order_in P c) p →
+    IsUse P c p
 
 -- ---- at build time
 
