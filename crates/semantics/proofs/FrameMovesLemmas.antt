@@ -48,7 +48,8 @@ way_of (Calls operands g) f fs gs e = Down operands g refl (sym (from_some e))
 way_of (Returns v) f fs gs e = Back v refl e
 
 -- a property of frames that a caller keeps which gets a value
-pub returned_all : (Q : Frame → Type 0) (v : Option Value) → ((g back : Frame) → Q g → received v g ≡ Some back → Q back) →
+pub returned_all : (Q : Frame → Type 0) (v : Option Value)
+    → ((g back : Frame) → Q g → received v g ≡ Some back → Q back) →
     (fs gs : List Frame) → AllByRecursion Q fs → returned v fs ≡ Some gs → AllByRecursion Q gs
 returned_all Q v keeps [] gs h e = subst (AllByRecursion Q) (from_some e) tt
 returned_all Q v keeps (g ∷ fs) gs h e = by_caller (received v g) refl e

@@ -1,4 +1,4 @@
--- The regions of accepted classes of lower waves refer to objects of such classes alone; and a class's parents are uses.
+-- The regions of accepted classes of lower waves refer to objects of such classes alone; a class's parents are uses.
 use Rattle.std.proofs.Common.{◌≡◌, inl, ℕ, Bool, true, false, ◌||◌, ◌==◌, Some, List, refl, arith}
 use Rattle.std.specs.Option.{is_some}
 use Rattle.vm_state.specs.SharedState.{Region}

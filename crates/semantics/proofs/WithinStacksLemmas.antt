@@ -1,4 +1,4 @@
--- The stack of a thread whose frames run, and whose initializations are begun, within bounds; and each step keeps it so.
+-- The stack of a thread whose frames run, and whose initializations are begun, within bounds; each step keeps it so.
 use Rattle.std.proofs.Common.{◌≡◌, inl, inr, ℕ, Bool, true, false, List, [], ◌∷◌, Option, Some, None, ◌==◌}
 use Rattle.std.proofs.Common.{refl, sym, ap, subst, ◌∙◌, eqb-true, eq-eqb}
 use Rattle.std.specs.List.{AllByRecursion, Contains}
@@ -227,7 +227,8 @@ module _ (P : Program) (B : Bounds) where
           (let clash : Uninitialized ≡ InProgress t = sym fresh ∙ tower_busy states t fs ls d h on_it in cc)
 
       instructed_stands : (sh : SharedState) (f : Frame) (fs : List Frame) (ls : List Level)
-          → Tower sh.states t (f ∷ fs) ls → (r : Result) → Keeps P (B f.activity f.place) t (maker_of t ls) sh.states r →
+          → Tower sh.states t (f ∷ fs) ls → (r : Result)
+          → Keeps P (B f.activity f.place) t (maker_of t ls) sh.states r →
           (a : After) → instructed P sh t (f ∷ fs) ls r ≡ Some a → Follows sh.states t a
       instructed_stands sh f fs ls h (Moved outcome new) keeps a e =
           let runs = tower_run sh.states t (f ∷ fs) ls h in

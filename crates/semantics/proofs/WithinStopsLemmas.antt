@@ -65,15 +65,18 @@ module _ (P : Program) (lawful : IsLawful P) (env : Environment) (c : ℕ) (clos
     hand None go has h = cc
     hand (Some a) go has h = h a refl
 
-    if_final : (b : Bool) (x : Conduct) → (b ≡ true → Passes scope x) → (b ≡ false → ⊥) → Passes scope (cond b x (Stops Barred))
+    if_final : (b : Bool) (x : Conduct) → (b ≡ true → Passes scope x) → (b ≡ false → ⊥)
+        → Passes scope (cond b x (Stops Barred))
     if_final true x h other = h refl
     if_final false x h other = absurd (other refl)
 
-    if_open : (b : Bool) (x : Conduct) → (b ≡ true → Passes scope x) → Passes scope (cond b x (Stops (Refused ForeignObject)))
+    if_open : (b : Bool) (x : Conduct) → (b ≡ true → Passes scope x)
+        → Passes scope (cond b x (Stops (Refused ForeignObject)))
     if_open true x h = h refl
     if_open false x h = (ForeignObject, refl)
 
-    fixed : (o : Option (List Value)) (go : Option (List Value) → Conduct) → Passes scope (go o) → Passes scope (if_fixed o go)
+    fixed : (o : Option (List Value)) (go : Option (List Value) → Conduct) → Passes scope (go o)
+        → Passes scope (if_fixed o go)
     fixed None go h = (ForeignObject, refl)
     fixed (Some vs) go h = h
 

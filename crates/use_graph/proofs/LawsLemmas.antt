@@ -1,5 +1,4 @@
 -- What is said of the initialization of a class before it runs holds of whatever runs for it.
-use Rattle.std.proofs.Common.{ℕ}
 use Rattle.semantics.proofs.WithinRunsLemmas.{runs_within_lem}
 use Rattle.semantics.proofs.WithinStopsLemmas.{stops_within_lem}
 use Rattle.machine.proofs.LawsLemmas.{table_is_lawful_lem}

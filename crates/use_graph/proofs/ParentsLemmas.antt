@@ -1,18 +1,14 @@
 -- What is initialized before a class stands above it.
-use Rattle.std.proofs.Common.{◌≡◌, ◌≢◌, ◌⊎◌, inl, inr, ℕ, zero, suc, ◌<◌, List, [], ◌∷◌, ◌++◌, length, sym, subst}
+use Rattle.std.proofs.Common.{◌≡◌, ◌⊎◌, inl, inr, ℕ, zero, suc, List, ◌∷◌, sym, subst}
 use Rattle.std.proofs.Common.{Bool, arith}
 use Rattle.std.specs.List.{Contains, filter}
 use Rattle.std.proofs.lemmas.List.Elements.{All-contains, All-contains_itself, All-filter, Contains-append_left}
 use Rattle.std.proofs.lemmas.List.Elements.{Contains-append_right, Contains-append_cases}
 use Rattle.semantics.proofs.WavesLemmas.{Contains-nil, Contains-first, Contains-later}
-use Rattle.loading.specs.Families.{Family, interfaces_in, superclasses_in, parents_in, IsAncestor, parent, further}
-use Rattle.loading.specs.Families.{IsFamily}
+use Rattle.loading.specs.Families.{Family, interfaces_in, superclasses_in, IsAncestor, parent, further}
 use Rattle.hierarchy.specs.Initialization.{is_initialized_first, IsInitializationOrder, interface, class}
 use Rattle.hierarchy.specs.Search.{SuperinterfacesFirst, none, next, firsts}
 use Rattle.hierarchy.proofs.FirstsLemmas.{Contains-firsts}
-use Rattle.program.specs.Programs.{IsProgram}
-use Rattle.program.specs.Tables.{Tables, order_in}
-use Rattle.use_graph.specs.Uses.{IsUse}
 use Rattle.use_graph.specs.Soundness.{ParentsAreUses}
 
 in_cons : (x y : ℕ) (ys : List ℕ) → Contains (y ∷ ys) x → (x ≡ y) ⊎ Contains ys x

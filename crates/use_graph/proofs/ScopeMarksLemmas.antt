@@ -9,12 +9,9 @@ use Rattle.built_in.specs.declared.class_id.ArrayType.{ArrayType}
 use Rattle.built_in.specs.declared.class_id.BuiltIn.{BuiltIn as BuiltInClass}
 use Rattle.built_in.specs.declared.class_id.ClassId.{ClassId}
 use Rattle.built_in.specs.declared.class_id.ClassId.TheVariants as class_ids
-use Rattle.built_in.specs.declared.method.BuiltInMethod.{BuiltInMethod}
-use Rattle.built_in.specs.declared.method.BuiltInMethod.TheVariants as members
 use Rattle.vm_state.specs.declared.ends.FaultKind.{FaultKind}
 use Rattle.vm_state.specs.declared.ends.FaultKind.TheVariants as faults
 use Rattle.vm_state.specs.declared.frame.Activity.{Activity}
-use Rattle.vm_state.specs.declared.frame.Activity.TheVariants.{Method}
 use Rattle.bytecode.specs.declared.instruction.Instruction.{Instruction}
 use Rattle.bytecode.specs.declared.instruction.Instruction.TheVariants as instructions
 use Rattle.semantics.specs.Quiet.{is_final}
@@ -43,20 +40,15 @@ use Rattle.frame_instructions.specs.Families.{Local as LocalOperation}
 use Rattle.frame_instructions.specs.Instructions.{local_of}
 use Rattle.machine.specs.declared.call_operation.CallOperation.{CallOperation}
 use Rattle.machine.specs.declared.call_operation.CallOperation.TheVariants as calls
-use Rattle.machine.specs.declared.call_operation.Choice.TheVariants.{Selected, Found}
-use Rattle.machine.specs.declared.call_operation.InstanceCall.{InstanceCall}
 use Rattle.machine.specs.declared.object_operation.InstanceField.{InstanceField}
 use Rattle.machine.specs.declared.object_operation.ObjectOperation.{ObjectOperation}
 use Rattle.machine.specs.declared.object_operation.ObjectOperation.TheVariants as objects
-use Rattle.machine.specs.CallReferences.{of_class, of_interface, of_either, has_values, may_call_static, static_call}
-use Rattle.machine.specs.CallReferences.{if_signed, static_callee, static_reference, is_static_target, instance_call}
-use Rattle.machine.specs.CallReferences.{instance_operation, virtual_callee, virtual_reference, found_special}
-use Rattle.machine.specs.CallReferences.{special_callee, special_reference}
+use Rattle.machine.specs.CallReferences.{of_class, of_interface, of_either, has_values}
 use Rattle.program.specs.InstanceFields.{is_instantiable_in}
-use Rattle.machine.specs.ObjectReferences.{named_class, new_built_in, new_class, new_named, new_of}
+use Rattle.machine.specs.ObjectReferences.{named_class, new_built_in, new_named, new_of}
 use Rattle.machine.specs.ObjectReferences.{check_cast_to, check_cast_of, instance_of_named, instance_of_of}
 use Rattle.machine.specs.ObjectReferences.{named_instance_field, get_field_by, get_field_of, put_field_by, put_field_of}
-use Rattle.machine.specs.Operations.{Operation, Local, GetStatic, PutStatic, GetOut, OnCall, Return, Refused, OnObject}
+use Rattle.machine.specs.Operations.{Operation, Local, PutStatic, GetOut, OnCall, Return, Refused, OnObject}
 use Rattle.machine.specs.Operations.{int_constant}
 use Rattle.machine.specs.Operations.{long_constant, may_write, if_valued, get_target, getstatic_of, put_target}
 use Rattle.machine.specs.Operations.{putstatic_of, on_call, returns_so, return_of, new_of_references, anewarray_of}
@@ -68,9 +60,9 @@ use Rattle.use_graph.specs.declared.feature.Feature.TheVariants as features
 use Rattle.use_graph.specs.declared.mark.Mark.{Mark}
 use Rattle.use_graph.specs.declared.mark.Mark.TheVariants as marks
 use Rattle.use_graph.specs.Code.{is_print, print_of, print_by, called_print, written_field, read_field, written_by}
-use Rattle.use_graph.specs.Code.{read_by, resolved_feature, operation_feature, feature_if, feature_of, feature_at}
+use Rattle.use_graph.specs.Code.{read_by, resolved_feature, operation_feature, feature_of, feature_at}
 use Rattle.use_graph.specs.Scopes.{writes_of, reads_of, prints_by, locks_by, scope_if, bounds_of}
-use Rattle.use_graph.specs.Uses.{MayRun, Means, Bears, HasMark}
+use Rattle.use_graph.specs.Uses.{MayRun, Means, HasMark}
 use Rattle.use_graph.specs.Soundness.{IsBarring, Prints, Monitors, ForeignWrite, ForeignRead}
 use Rattle.use_graph.proofs.ScopeUsesLemmas.{run_is_by_code}
 
@@ -248,7 +240,8 @@ module _ (P : Tables) where
 
   -- what is told of getstatic, of a target
   get_told : (target : Result FieldTarget Unresolved)
-      → ((c k place : ℕ) (final : Bool) → target ≡ Ok (targets.Static c k final place) → is_final (program_of P) c k ≡ final)
+      → ((c k place : ℕ) (final : Bool) → target ≡ Ok (targets.Static c k final place)
+      → is_final (program_of P) c k ≡ final)
       → IsToldWith (get_target target) (read_field P.family target)
   get_told (Ok (targets.Static c k final place)) declared = record {
     prints = λ h. absurd cc;
@@ -262,7 +255,8 @@ module _ (P : Tables) where
           → option_or (cond b None (Some (features.Reads c))) None ≡ Some (features.Reads e)
       by_flag true is e h = (let clash : None ≡ Some e = rw is at h in absurd cc)
       by_flag false is e h = (let same : Some c ≡ Some e = rw is at h in cc)
-  get_told (Ok (targets.Instance c k slot)) declared = silent_told (Refused faults.Fault) _ (silent_refused faults.Fault)
+  get_told (Ok (targets.Instance c k slot)) declared =
+      silent_told (Refused faults.Fault) _ (silent_refused faults.Fault)
   get_told (Ok targets.Out) declared =
       silent_told GetOut _ (record { prints = refl; locks = refl; writes = refl; reads = refl })
   get_told (Err unresolved.Missing) declared =
@@ -347,7 +341,8 @@ module _ (P : Tables) (is : IsProgram P) (d m : ℕ) where
   }
 
   told : (i : Instruction) → IsToldOf i (resolved_operation P d m i)
-  told (instructions.LoadConstant index) = silent (instructions.LoadConstant index) _ (silent_int P (constant_at P d index))
+  told (instructions.LoadConstant index) =
+      silent (instructions.LoadConstant index) _ (silent_int P (constant_at P d index))
   told (instructions.LoadWideConstant index) =
       silent (instructions.LoadWideConstant index) _ (silent_long P (constant_at P d index))
   told (instructions.GetStatic index) = getstatic_told index (constant_at P d index) refl

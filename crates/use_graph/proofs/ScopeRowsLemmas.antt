@@ -1,6 +1,6 @@
 -- The parts of instructions that touch objects alone, and the instructions that do no more, are in every scope.
-use Rattle.std.proofs.Common.{◌≡◌, ℕ, ℤ, Bool, true, false, cond, if◌then◌else◌, List, [], ◌∷◌, Option, Some, None, Ok, Err}
-use Rattle.std.proofs.Common.{nat_le, refl}
+use Rattle.std.proofs.Common.{◌≡◌, ℕ, ℤ, Bool, true, false, cond, List, Option, Some, None, Ok, Err}
+use Rattle.std.proofs.Common.{nat_le}
 use Rattle.std.specs.declared.result.Result.{Result}
 use Rattle.built_in.specs.declared.class_id.ArrayType.{ArrayType}
 use Rattle.built_in.specs.declared.class_id.BuiltIn.{BuiltIn as BuiltInClass}
@@ -15,10 +15,10 @@ use Rattle.vm_state.specs.declared.value.Name.{Name}
 use Rattle.vm_state.specs.declared.ends.FaultKind.{FaultKind}
 use Rattle.vm_state.specs.declared.ends.FaultKind.TheVariants as faults
 use Rattle.vm_state.specs.declared.frame.Frame.{Frame}
-use Rattle.vm_state.specs.Operands.{OperandStack, pushed, top, top_int, rest}
+use Rattle.vm_state.specs.Operands.{pushed, top, top_int, rest}
 use Rattle.vm_state.specs.Values.{name_of, int_of, value_of}
 use Rattle.bytecode.specs.declared.operand.ElementKind.{ElementKind}
-use Rattle.semantics.specs.Rows.{Row, Ends, Raise, AskClass, LookInto, Change, Make, UseMonitor}
+use Rattle.semantics.specs.Rows.{Row, Ends, Raise, AskClass, Change, Make, UseMonitor}
 use Rattle.semantics.specs.Moves.{advanced, with_operands}
 use Rattle.semantics.specs.Bounds.{Scope, IsInScope}
 use Rattle.hierarchy.specs.Subtypes.{is_below}
@@ -33,12 +33,12 @@ use Rattle.machine.specs.declared.array_operation.ArrayOperation.TheVariants as 
 use Rattle.machine.specs.declared.object_operation.InstanceField.{InstanceField}
 use Rattle.machine.specs.StoredKinds.{top_stored, extra_places}
 use Rattle.machine.specs.RowParts.{halts, needing, goes_on, push, raises}
-use Rattle.machine.specs.ObjectParts.{slot_in, look_into_slot, look_into_named, on_name, class_of_nameless, ask_class_of}
-use Rattle.machine.specs.ObjectParts.{set_named, without_object, on_object}
+use Rattle.machine.specs.ObjectParts.{slot_in, look_into_slot, look_into_named, on_name, class_of_nameless}
+use Rattle.machine.specs.ObjectParts.{ask_class_of, without_object, on_object}
 use Rattle.machine.specs.Objects.{new_object, is_of, check_cast, instance_of, cast_row, throw_of, throw_row, on_holder}
 use Rattle.machine.specs.Objects.{int_of_boolean, get_field, put_field}
 use Rattle.machine.specs.Monitors.{without_monitor, use_monitor, entered, left}
-use Rattle.machine.specs.Members.{on_enum, new_enum, replaced, or_slot, enum_part, copy_of, clone_if_array, clone_array}
+use Rattle.machine.specs.Members.{on_enum, new_enum, replaced, or_slot, enum_part, copy_of, clone_if_array}
 use Rattle.machine.specs.Members.{member_row}
 use Rattle.machine.specs.Arrays.{stored_as, unless_trapped, array_type, served_type, slot_at, size_of, can_hold}
 use Rattle.machine.specs.Arrays.{make_array, array_length, at_element, load_element, is_checked, if_held, check_store}
@@ -134,7 +134,8 @@ module _ (P : Tables) (scope : Scope) where
   pub get_in : (field : InstanceField) (f : Frame) → Suits (get_field P field f)
   get_in field f =
       need (top_as Reference f.operands) _ (λ v.
-      either (nat_le (extra_places field.kind) f.operands.free) _ (halts faults.Fault) (holder_in field v got got_in) tt)
+      either (nat_le (extra_places field.kind) f.operands.free) _ (halts faults.Fault)
+      (holder_in field v got got_in) tt)
     where
       got : Name → Row
       got x = look_into_slot x field.slot (λ o. needing o (λ held. push held (with_operands f (rest f.operands))))

@@ -1,5 +1,5 @@
 -- Each instruction of the table is in the scope that its code says.
-use Rattle.std.proofs.Common.{◌≡◌, ℕ, ◌+◌, Bool, true, false, ◌&&◌, not, [], ◌∷◌, List, length, Option, Some, None, Ok, Err}
+use Rattle.std.proofs.Common.{◌≡◌, ℕ, ◌+◌, true, false, ◌&&◌, not, [], ◌∷◌, List, length, Option, Some, None, Ok, Err}
 use Rattle.std.proofs.Common.{refl, ap, option_map, map}
 use Rattle.std.specs.declared.result.Result.{Result}
 use Rattle.built_in.specs.declared.class_id.ClassId.{ClassId}
@@ -12,7 +12,7 @@ use Rattle.vm_state.specs.declared.ends.FaultKind.TheVariants as faults
 use Rattle.vm_state.specs.declared.frame.Frame.{Frame}
 use Rattle.vm_state.specs.declared.frame.Activity.{Activity}
 use Rattle.vm_state.specs.declared.frame.Activity.TheVariants.{Start, Method}
-use Rattle.vm_state.specs.Operands.{OperandStack, top, rest, dropped}
+use Rattle.vm_state.specs.Operands.{top, rest}
 use Rattle.vm_state.specs.Arguments.{taken, passed}
 use Rattle.semantics.specs.Rows.{Row, Ends, Raise, Print as PrintText}
 use Rattle.semantics.specs.Bounds.{Scope, nothing, MayCall, IsInScope, IsBounded}
@@ -51,8 +51,8 @@ use Rattle.machine.specs.Operations.{OnObject, Refused, operation_at}
 use Rattle.machine.specs.Failures.{fails_by}
 use Rattle.machine.specs.Table.{local_row, call_row, operation_row, call_main, fetched, active_row, row}
 use Rattle.machine.specs.Linked.{program_of}
-use Rattle.machine.proofs.TableLemmas.{needing_any, if_usable_any, unless_null_any, chosen_any, called_any}
-use Rattle.use_graph.specs.Code.{callee_of_call, chosen_callee, found_callee}
+use Rattle.machine.proofs.TableLemmas.{if_usable_any, unless_null_any, chosen_any, called_any}
+use Rattle.use_graph.specs.Code.{chosen_callee, found_callee}
 use Rattle.use_graph.specs.Scopes.{activity_of, called_by, scope_of, scope_if, start_scope, bounds_of}
 use Rattle.use_graph.proofs.ScopeRowsLemmas as Rows
 use Rattle.use_graph.proofs.ScopeRowsLemmas.{halted, raised, either, need, push_in}
@@ -72,11 +72,13 @@ module _ (P : Tables) (scope : Scope) (f : Frame) where
   reaches_in c m count may None = tt
   reaches_in c m count may (Some implementations.Abstract) = tt
   reaches_in c m count may (Some implementations.Unsupported) = tt
-  reaches_in c m count may (Some (implementations.Code code)) = need P scope (passed _ 0 (taken count f.operands)) _ (λ locals. may)
+  reaches_in c m count may (Some (implementations.Code code)) =
+      need P scope (passed _ 0 (taken count f.operands)) _ (λ locals. may)
 
   reached_in : (c m count : ℕ) → MayCall scope (Method c m) → Suits (reached P c m count f)
   reached_in c m count may =
-      either P scope (is_method m (initializer_in P c)) (halts faults.Fault) (reaches c m count f (implementation_at P c m))
+      either P scope (is_method m (initializer_in P c)) (halts faults.Fault)
+      (reaches c m count f (implementation_at P c m))
       tt (reaches_in c m count may (implementation_at P c m))
 
   runs_in : (count : ℕ) (v : Value) (o : Option ResolvedMethod)

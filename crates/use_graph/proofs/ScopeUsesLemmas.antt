@@ -1,7 +1,6 @@
 -- What may run and be used by the scopes of instructions is what may by their code.
-use Rattle.std.proofs.Common.{◌≡◌, ◌≢◌, ◌⊎◌, inl, inr, ℕ, ◌<◌, Bool, true, false, cond, length, Option, Some, None}
-use Rattle.std.proofs.Common.{refl, sym, ap, subst, ◌∙◌, option_map}
-use Rattle.std.specs.List.{Contains, find}
+use Rattle.std.proofs.Common.{◌≡◌, inl, inr, ℕ, Bool, true, false, cond, Option, Some, None}
+use Rattle.std.proofs.Common.{refl, ap, subst, option_map}
 use Rattle.built_in.specs.Keys.{NameAndType}
 use Rattle.built_in.specs.declared.class_id.ClassId.{ClassId}
 use Rattle.built_in.specs.declared.class_id.ClassId.TheVariants as class
@@ -9,7 +8,7 @@ use Rattle.built_in.specs.declared.method.BuiltInMethod.{BuiltInMethod}
 use Rattle.built_in.specs.Methods.{key_of_member}
 use Rattle.vm_state.specs.declared.frame.Frame.{Frame}
 use Rattle.vm_state.specs.declared.frame.Activity.{Activity}
-use Rattle.vm_state.specs.declared.frame.Activity.TheVariants.{Start, Method}
+use Rattle.vm_state.specs.declared.frame.Activity.TheVariants.{Method}
 use Rattle.semantics.specs.Bounds.{nothing, MayCall}
 use Rattle.semantics.specs.Bounds as bounds
 use Rattle.loading.specs.Families.{Family}
@@ -19,14 +18,14 @@ use Rattle.hierarchy.specs.MemberLookup.{is_inherited, is_private, flags_in, key
 use Rattle.hierarchy.specs.Selectable.{IsSelectable}
 use Rattle.hierarchy.specs.Selection.{found_from, found_if, selected}
 use Rattle.hierarchy.proofs.SelectableLemmas.{found_declares, by_key, selects_built_in, selects_given, private_alone}
-use Rattle.program.specs.Tables.{Tables, initializer_in, order_in}
+use Rattle.program.specs.Tables.{Tables}
 use Rattle.machine.specs.Operations.{Operation, operation_at}
-use Rattle.machine.specs.Linked.{program_of, initializer_frame}
+use Rattle.machine.specs.Linked.{program_of}
 use Rattle.machine.proofs.LinkedLemmas.{initializer_frame_is}
 use Rattle.use_graph.specs.declared.callee.Callee.{Callee}
 use Rattle.use_graph.specs.declared.callee.Callee.TheVariants as callees
-use Rattle.use_graph.specs.Code.{needed_by, callee_of, MayRunFor}
-use Rattle.use_graph.specs.Scopes.{activity_of, called_by, scope_of, scope_if, bounds_of}
+use Rattle.use_graph.specs.Code.{callee_of, MayRunFor}
+use Rattle.use_graph.specs.Scopes.{activity_of, called_by, scope_if, bounds_of}
 use Rattle.use_graph.specs.Uses.{MayRun, initializer, called, MayNeed, IsUse}
 
 -- ---- what is selected for any receiver is selected for one of a given class

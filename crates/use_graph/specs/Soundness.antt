@@ -55,8 +55,8 @@ pub data IsBarring : Mark → Type 0 where
   ForeignWrite : IsBarring marks.ForeignWrite
   ForeignRead : IsBarring marks.ForeignRead
 
--- A class whose code bears none of them, with all its uses at hand, is not barred when its initializer runs: where it is
--- stopped it is refused.
+-- A class whose code bears none of them, with all its uses at hand, is not barred when its initializer runs: where it
+-- is stopped it is refused.
 abbrev pub StopsByCode : Type 0
 StopsByCode =
     (P : Tables) → IsProgram P → (env : Environment) (c : ℕ) →
