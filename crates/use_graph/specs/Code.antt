@@ -146,8 +146,15 @@ feature_on_object objects.EnterMonitor = Some features.Locks
 feature_on_object objects.ExitMonitor = Some features.Locks
 feature_on_object _ = None
 
+abbrev pub feature_of_call : CallOperation → Option Feature
+feature_of_call (calls.Print what line call) = Some features.Prints
+feature_of_call (calls.EndLine call) = Some features.Prints
+feature_of_call (calls.Static call) = None
+feature_of_call (calls.Instance call) = None
+
 -- by what it does
 abbrev pub operation_feature : Operation → Option Feature
+operation_feature (OnCall call) = feature_of_call call
 operation_feature (OnObject operation) = feature_on_object operation
 operation_feature (Refused faults.Unsupported) = Some features.LeftOut
 operation_feature (Refused faults.Missing) = Some features.Misses

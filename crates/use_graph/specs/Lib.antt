@@ -1,3 +1,5 @@
 pub mod Code
 pub mod Uses
+pub mod Scopes
+pub mod Soundness
 pub mod steps

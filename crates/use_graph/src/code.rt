@@ -255,6 +255,9 @@ fn operation_feature(resolved: Resolved) -> Option<Feature>
     ensures { result ≡ operation_feature (meaning resolved) }
 {
     match resolved {
+        Resolved::OnCall(CallOperation::Print(..) | CallOperation::EndLine(_)) => {
+            Some(Feature::Prints)
+        }
         Resolved::OnObject(ObjectOperation::Throw) => Some(Feature::Throws),
         Resolved::OnObject(ObjectOperation::EnterMonitor | ObjectOperation::ExitMonitor) => {
             Some(Feature::Locks)

@@ -8,6 +8,7 @@ pub mod class_uses;
 mod code;
 mod deeds;
 pub mod feature;
+pub mod laws;
 mod left_out;
 pub mod mark;
 pub mod numbers;

@@ -1,0 +1,122 @@
+-- What may run and be used by the scopes of instructions is what may by their code.
+use Rattle.std.proofs.Common.{◌≡◌, inl, inr, ℕ, Bool, true, false, cond, Option, Some, None}
+use Rattle.std.proofs.Common.{refl, ap, subst, option_map}
+use Rattle.built_in.specs.Keys.{NameAndType}
+use Rattle.built_in.specs.declared.class_id.ClassId.{ClassId}
+use Rattle.built_in.specs.declared.class_id.ClassId.TheVariants as class
+use Rattle.built_in.specs.declared.method.BuiltInMethod.{BuiltInMethod}
+use Rattle.built_in.specs.Methods.{key_of_member}
+use Rattle.vm_state.specs.declared.frame.Frame.{Frame}
+use Rattle.vm_state.specs.declared.frame.Activity.{Activity}
+use Rattle.vm_state.specs.declared.frame.Activity.TheVariants.{Method}
+use Rattle.semantics.specs.Bounds.{nothing, MayCall}
+use Rattle.semantics.specs.Bounds as bounds
+use Rattle.loading.specs.Families.{Family}
+use Rattle.hierarchy.specs.declared.member.Method.{Method as ResolvedMethod}
+use Rattle.hierarchy.specs.declared.member.Method.TheVariants as methods
+use Rattle.hierarchy.specs.MemberLookup.{is_inherited, is_private, flags_in, key_in}
+use Rattle.hierarchy.specs.Selectable.{IsSelectable}
+use Rattle.hierarchy.specs.Selection.{found_from, found_if, selected}
+use Rattle.hierarchy.proofs.SelectableLemmas.{found_declares, by_key, selects_built_in, selects_given, private_alone}
+use Rattle.program.specs.Tables.{Tables}
+use Rattle.machine.specs.Operations.{Operation, operation_at}
+use Rattle.machine.specs.Linked.{program_of}
+use Rattle.machine.proofs.LinkedLemmas.{initializer_frame_is}
+use Rattle.use_graph.specs.declared.callee.Callee.{Callee}
+use Rattle.use_graph.specs.declared.callee.Callee.TheVariants as callees
+use Rattle.use_graph.specs.Code.{callee_of, MayRunFor}
+use Rattle.use_graph.specs.Scopes.{activity_of, called_by, scope_if, bounds_of}
+use Rattle.use_graph.specs.Uses.{MayRun, initializer, called, MayNeed, IsUse}
+
+-- ---- what is selected for any receiver is selected for one of a given class
+
+module _ (family : Family) (d k : ℕ) where
+  no_member : (o : Option BuiltInMethod) → option_map (λ m. methods.BuiltIn m) o ≡ Some (methods.Given d k) → ⊥
+  no_member None h = cc
+  no_member (Some m) h = cc
+
+  from_key : (m : ResolvedMethod) (key : NameAndType)
+      → ((e : ℕ) → selected family (class.Given e) m ≡ found_from is_inherited family key (class.Given e))
+      → (x : ClassId) → found_from is_inherited family key x ≡ Some (methods.Given d k) → IsSelectable family m d k
+  from_key m key same (class.Given e) h = (by_key family m key same d k).1 (found_declares family key e d k h)
+  from_key m key same (class.BuiltIn b) h = absurd (no_member _ h)
+  from_key m key same (class.Array a) h = absurd (no_member _ h)
+
+  selected_given : (x : ClassId) (m : ResolvedMethod) → selected family x m ≡ Some (methods.Given d k)
+      → IsSelectable family m d k
+  unfolding selected
+  selected_given x (methods.BuiltIn b) h =
+      from_key (methods.BuiltIn b) (key_of_member b) (selects_built_in family b) x h
+  selected_given x (methods.Given c j) h = by_flags (is_private (flags_in family c j)) refl h
+    where
+      by_name : (o : Option NameAndType) → key_in family c j ≡ o → is_private (flags_in family c j) ≡ false
+          → found_if is_inherited family x o ≡ Some (methods.Given d k) → IsSelectable family (methods.Given c j) d k
+      by_name None is other h = absurd cc
+      by_name (Some key) is other h =
+          from_key (methods.Given c j) key (selects_given family c j key other is) x h
+
+      by_flags : (b : Bool) → is_private (flags_in family c j) ≡ b
+          → cond b (Some (methods.Given c j)) (found_if is_inherited family x (key_in family c j))
+          ≡ Some (methods.Given d k)
+          → IsSelectable family (methods.Given c j) d k
+      by_flags true private h =
+          let here : c ≡ d = cc in
+          let place : j ≡ k = cc in
+          (private_alone family c j private d k).1 (here, place)
+      by_flags false other h = by_name (key_in family c j) refl other h
+
+-- ---- what is called
+
+-- a method that may run for a call, of this activity
+abbrev RunsFor : Tables → Callee → Activity → Type 0
+RunsFor P callee a = (e : ℕ) × (j : ℕ) × (a ≡ Method e j) × MayRunFor P callee e j
+
+called_runs : (P : Tables) (callee : Callee) (x : ClassId) (a : Activity) → called_by P callee x ≡ Some a
+    → RunsFor P callee a
+called_runs P callees.Nobody x a h = absurd cc
+called_runs P (callees.Exactly d k) x a h = (d, k, cc, (refl, refl))
+called_runs P (callees.Selected m) x a h = by_found (selected P.family x m) refl h
+  where
+    by_found : (o : Option ResolvedMethod) → selected P.family x m ≡ o → activity_of o ≡ Some a
+        → RunsFor P (callees.Selected m) a
+    by_found None is h = absurd cc
+    by_found (Some (methods.Given d k)) is h = (d, k, cc, selected_given P.family d k x m is)
+    by_found (Some (methods.BuiltIn b)) is h = absurd cc
+
+-- ---- what may run
+
+-- a method that may run for a class, of this activity
+abbrev pub IsRun : Tables → ℕ → Activity → Type 0
+IsRun P c a = (d : ℕ) × (k : ℕ) × (a ≡ Method d k) × MayRun P c d k
+
+calls_run : (P : Tables) (c d k place : ℕ) (b : Activity) (o : Option Operation) → operation_at P d k place ≡ o
+    → MayRun P c d k → MayCall (scope_if P o) b → IsRun P c b
+calls_run P c d k place b None at run may = (let clash : None ≡ Some b = may.1 in absurd cc)
+calls_run P c d k place b (Some o) at run may =
+    let found = called_runs P (callee_of o) may.0 b may.1 in
+    (found.0, found.1, found.2, called run (place, o, at, found.3))
+
+pub run_is_by_code : {P : Tables} {c : ℕ} {a : Activity} → bounds.MayRun (program_of P) (bounds_of P) c a → IsRun P c a
+run_is_by_code {P = P} {c = c} (bounds.Initializes {f = f} is) =
+    let frame = initializer_frame_is P c f is in
+    (c, frame.method, ap (λ (g : Frame). g.activity) frame.is, initializer frame.has)
+run_is_by_code {P = P} {c = c} (bounds.Called {b = b} place run may) =
+    let found = run_is_by_code run in
+    calls_run P c found.0 found.1 place b (operation_at P found.0 found.1 place) refl found.3
+    (subst (λ (x : Activity). MayCall (bounds_of P x place) b) found.2 may)
+
+-- ---- what may be used
+
+needs_by_code : (P : Tables) (c d k place e : ℕ) (o : Option Operation) → operation_at P d k place ≡ o
+    → MayRun P c d k → (scope_if P o).needs ≡ Some e → MayNeed P c e
+needs_by_code P c d k place e None at run needs = absurd cc
+needs_by_code P c d k place e (Some o) at run needs = (d, k, run, (place, o, at, needs))
+
+pub use_is_by_code : (P : Tables) (c d : ℕ) → bounds.IsUse (program_of P) (bounds_of P) c d → IsUse P c d
+use_is_by_code P c d (apart, inl parent) = (apart, inl parent)
+use_is_by_code P c d (apart, inr (a, place, run, needs)) =
+    let found = run_is_by_code run in (
+      apart,
+      inr (needs_by_code P c found.0 found.1 place d (operation_at P found.0 found.1 place) refl found.3
+          (subst (λ (x : Activity). (bounds_of P x place).needs ≡ Some d) found.2 needs)),
+    )
