@@ -6,8 +6,8 @@ use Rattle.std.proofs.lemmas.Grind.{common_steps}
 use Rattle.std.proofs.lemmas.List.{length-take}
 use Rattle.std.proofs.lemmas.List.Elements.{All-contains, All-get_or, All-from_get_or, Contains-get_or}
 use Rattle.graph.specs.Rows.{Rows, successors_of}
-use Rattle.graph.specs.Reaches.{Reaches, itself}
-use Rattle.graph.specs.Seen.{AreDistinct}
+use Rattle.graph.specs.Reaches.{Reaches, itself, along}
+use Rattle.graph.specs.Seen.{AreDistinct, count_of}
 use Rattle.graph.specs.Components.{AreMutual, Parts, AreComponents}
 use Rattle.graph.specs.Order.{HasEachOnce}
 use Rattle.graph.specs.steps.Reverse.{IsReverse}

@@ -1,6 +1,6 @@
 -- Components get numbers, one search over the graph with its edges turned round after the other.
-use Rattle.std.proofs.Common.{◌≡◌, ℕ, ◌+◌, ◌<◌, ◌≤◌, ◌⊎◌, Bool, true, false, List, [], ◌∷◌, length}
-use Rattle.std.proofs.Common.{set, slice_index, inl, inr, refl, subst, arith, ◌∙◌, ap}
+use Rattle.std.proofs.Common.{◌≡◌, ℕ, ◌+◌, ◌<◌, ◌≤◌, ◌⊎◌, Bool, true, false, List, [], ◌∷◌, ◌++◌, length}
+use Rattle.std.proofs.Common.{take, set, slice_index, inl, inr, refl, sym, subst, arith, ◌∙◌, ap}
 use Rattle.std.specs.List.{All, Contains}
 use Rattle.std.proofs.lemmas.Grind.{common_steps}
 use Rattle.std.proofs.lemmas.List.{length_push}
@@ -8,11 +8,18 @@ use Rattle.std.proofs.lemmas.List.Elements.{All-push, All-contains, All-contains
 use Rattle.std.proofs.lemmas.List.Elements.{Contains-get_or, Contains-append_left, Contains-push, Contains-push_cases}
 use Rattle.graph.specs.Rows.{Rows, successors_of}
 use Rattle.graph.specs.Reaches.{Reaches, itself, along}
-use Rattle.graph.specs.Seen.{AreDistinct, Joins}
+use Rattle.graph.specs.Seen.{AreDistinct, Joins, count_of}
+use Rattle.graph.specs.Components.{AreMutual, Parts, AreComponents}
+use Rattle.graph.specs.Order.{HasEachOnce}
 use Rattle.graph.specs.steps.Adds.{Adds}
-use Rattle.graph.specs.steps.Numbering.{Gathering}
-use Rattle.graph.proofs.SeenLemmas.{places_counted}
-use Rattle.graph.proofs.OrderLemmas.{place_of_member}
+use Rattle.graph.specs.steps.Reverse.{IsReverse}
+use Rattle.graph.specs.steps.Finishing.{IsTurnedOrder}
+use Rattle.graph.specs.steps.Numbering.{Gathering, Numbered}
+use Rattle.graph.proofs.SeenLemmas.{count_of-contains, places_counted}
+use Rattle.graph.proofs.OrderLemmas.{place_of_member, place_in_front, has_vertex}
+use Rattle.graph.proofs.RowsLemmas.{has_successor}
+use Rattle.graph.proofs.ReachesLemmas.{Reaches-joined, Reaches-first}
+use Rattle.graph.proofs.ReverseLemmas.{IsReverse-turned, AreMutual-turned}
 
 less_or : (m n : ℕ) → (m < n) ⊎ (n ≤ m)
 less_or m n = grind arith

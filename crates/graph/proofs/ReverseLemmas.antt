@@ -2,11 +2,12 @@
 use Rattle.std.proofs.Common.{◌≡◌, ℕ, ◌+◌, ◌<◌, ◌≤◌, ◌↔◌, ◌⊎◌, List, [], ◌∷◌, ◌++◌, length, take, set, slice_index, inl}
 use Rattle.std.proofs.Common.{inr, refl, sym, subst, arith, ◌∙◌, replicate}
 use Rattle.std.specs.List.{All, Contains}
-use Rattle.std.proofs.lemmas.List.{length-set, length-replicate, take_more}
+use Rattle.std.proofs.lemmas.List.{length-set, length-replicate, take_all, take_more}
 use Rattle.std.proofs.lemmas.List.Elements.{Contains-push, Contains-push_cases, Contains-append_left}
 use Rattle.graph.specs.Rows.{Rows, successors_of}
 use Rattle.graph.specs.Reaches.{Reaches, itself, along}
 use Rattle.graph.specs.Components.{AreMutual}
+use Rattle.graph.specs.Order.{HasEachOnce}
 use Rattle.graph.specs.steps.Reverse.{IsReverse, IsReverseBelow, AddsEdges}
 use Rattle.graph.specs.steps.Finishing.{IsFinishingOrder, IsTurnedOrder}
 use Rattle.graph.proofs.RowsLemmas.{successors_of-set_same, successors_of-set_other, successors_of-empty, has_successor}
