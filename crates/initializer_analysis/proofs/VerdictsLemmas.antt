@@ -159,9 +159,11 @@ module _ (P : Tables) (forced : List Bool) (vs ws : List Verdict) (are : AreVerd
   same_kind c (Refused r) (Refused q) at at_w (dependent none x) (own first) = absurd (none q first.0)
   same_kind c (Refused r) (Refused q) at at_w (dependent {e = d} none (uses, refused, first))
       (dependent {e = e} nor (used, so, least)) =
-      ap (λ (x : ℕ). Refused (reasons.DependsOn x)) (omega (arith,
-      first e used (λ a. so (accepted_there P forced vs ws are also e a)),
-      least d uses (λ a. refused (accepted_there P forced ws vs also are d a))))
+      ap (λ (x : ℕ). Refused (reasons.DependsOn x)) (omega (
+        arith,
+        first e used (λ a. so (accepted_there P forced vs ws are also e a)),
+        least d uses (λ a. refused (accepted_there P forced ws vs also are d a)),
+      ))
 
   pub same_verdicts : vs ≡ ws
   same_verdicts = same_lists vs ws (are.count ∙ sym also.count) (λ c v w at at_w.

@@ -27,6 +27,7 @@ mod schedules;
 mod shelf;
 mod streams;
 mod tables;
+mod uses;
 
 use cases::{Subject, run_cases};
 use classfile::ClassFile;

@@ -45,7 +45,7 @@ pub fn before(alloc: Global, program: &Program, class: &str) -> Result<String, A
     or_nothing(text)
 }
 
-fn no_class(alloc: Global) -> Result<String, AllocError> {
+pub fn no_class(alloc: Global) -> Result<String, AllocError> {
     String::from_str(alloc, "no given class")
 }
 
@@ -58,7 +58,7 @@ pub fn or_nothing(mut text: String) -> Result<String, AllocError> {
 }
 
 /// Adds the name of a class after other names.
-fn add_name(
+pub fn add_name(
     alloc: Global,
     text: &mut String,
     program: &Program,
@@ -187,7 +187,7 @@ fn method_text(alloc: Global, program: &Program, method: Method) -> Result<Strin
 }
 
 /// A member by its class and its place there.
-fn member_text(
+pub fn member_text(
     alloc: Global,
     program: &Program,
     class: u32,

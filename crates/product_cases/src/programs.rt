@@ -1,7 +1,7 @@
 //! Classes, what linking them answers, and what is seen of their runs.
 
 use crate::questions::{Question, Verb};
-use crate::{members, runs, schedules, tables};
+use crate::{members, runs, schedules, tables, uses};
 use cases::{add_class_files, filled};
 use classfile::{ClassFault, ClassFile, read};
 use program::{Program, link};
@@ -136,6 +136,9 @@ fn of_tables(
         Verb::Methods => tables::methods(alloc, program, class),
         Verb::Initializer => tables::initializer(alloc, program, class),
         Verb::Statics => tables::statics(alloc, program, class),
+        Verb::Runs => uses::runs(alloc, program, class),
+        Verb::Uses => uses::uses(alloc, program, class),
+        Verb::Marks => uses::marks(alloc, program, class),
         _ => String::from_str(alloc, "no question"),
     }
 }

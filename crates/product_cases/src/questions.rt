@@ -44,6 +44,12 @@ pub enum Verb {
     Schedule,
     /// `step CLASS COUNT`: single steps, what the last gave, and then a run by turns.
     Step,
+    /// `runs CLASS`: the methods that may run when it is initialized.
+    Runs,
+    /// `uses CLASS`: the classes that its initialization may use.
+    Uses,
+    /// `marks CLASS`: what its code is marked for, each with a method and the pc of an instruction.
+    Marks,
     /// Anything else.
     Nothing,
 }
@@ -106,6 +112,9 @@ fn without_reference<'a>(word: &str, about: &'a str) -> Question<'a> {
         "show" => Question::plain(Verb::Show, about),
         "turns" => Question::plain(Verb::Turns, about),
         "schedule" => Question::plain(Verb::Schedule, about),
+        "runs" => Question::plain(Verb::Runs, about),
+        "uses" => Question::plain(Verb::Uses, about),
+        "marks" => Question::plain(Verb::Marks, about),
         "run" => counted(Verb::Run, about),
         "step" => counted(Verb::Step, about),
         _ => Question::plain(Verb::Nothing, about),

@@ -16,6 +16,8 @@ worlds_run_by_code_lem P first last schedule start run =
     record {
       frames = λ t fs ls at c f on. run_is_by_code (stays.frames t fs ls at c f on);
       begins = λ t fs ls at c d by. use_is_by_code P c d (stays.begins t fs ls at c d by);
+      needs = λ t f fs l ls at d is.
+          use_is_by_code P l.initialization.class d (stays.needs t f fs l ls at d is);
     }
 
 pub stops_by_code_lem : StopsByCode

@@ -16,7 +16,6 @@ use Rattle.use_graph.specs.steps.Searching.{IsAmong, AreReached}
 module _ (P : Tables) (methods : List DeclaredMember) (graph : Rows) (all : AreMethods P methods)
     (whole : IsCallGraph P methods graph) (c m s : ℕ) (begins : initializer_in P c ≡ Some m)
     (number : slice_get methods s ≡ Some (record { class = c; index = m })) where
-
   -- ---- what is reached may run
 
   -- a method that may run, or one whose likes may run
@@ -58,8 +57,11 @@ module _ (P : Tables) (methods : List DeclaredMember) (graph : Rows) (all : AreM
 
   reached_known : (v : ℕ) → Reaches graph s v → Known v
   reached_known v itself =
-      inl (record { class = c; index = m }, number,
-      initializer begins (declared s (record { class = c; index = m }) number))
+      inl (
+        record { class = c; index = m },
+        number,
+        initializer begins (declared s (record { class = c; index = m }) number),
+      )
   reached_known v (along {a = a} before edge) = step a v (whole.sound a v edge) (reached_known a before)
 
   -- ---- what may run is reached
@@ -72,9 +74,12 @@ module _ (P : Tables) (methods : List DeclaredMember) (graph : Rows) (all : AreM
   leads_on n e j before (to, at, inr (r, first, then)) = (to, along (along before first) then, at)
 
   runs_reached : (d k : ℕ) → MayRun P c d k → IsReachedAt d k
-  runs_reached d k (initializer {m = i} at there) =
-      (s, itself, number ∙ ap (λ (x : ℕ). Some (let r : DeclaredMember = record { class = c; index = x } in r))
-      (let two : Some m ≡ Some i = sym begins ∙ at in let is : m ≡ i = cc in is))
+  runs_reached d k (initializer {m = i} at there) = (
+    s,
+    itself,
+    number ∙ ap (λ (x : ℕ). Some (let r : DeclaredMember = record { class = c; index = x } in r))
+        (let two : Some m ≡ Some i = sym begins ∙ at in let is : m ≡ i = cc in is),
+  )
   runs_reached d k (called {d = x} {k = y} before goes there) =
       let (n, path, at) = runs_reached x y before in
       leads_on n d k path (whole.complete n x y d k at goes ((all d k).0 there))

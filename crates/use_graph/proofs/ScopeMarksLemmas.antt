@@ -62,7 +62,7 @@ use Rattle.use_graph.specs.declared.mark.Mark.TheVariants as marks
 use Rattle.use_graph.specs.Code.{is_print, print_of, print_by, called_print, written_field, read_field, written_by}
 use Rattle.use_graph.specs.Code.{read_by, resolved_feature, operation_feature, feature_of, feature_at}
 use Rattle.use_graph.specs.Scopes.{writes_of, reads_of, prints_by, locks_by, scope_if, bounds_of}
-use Rattle.use_graph.specs.Uses.{MayRun, Means, HasMark}
+use Rattle.use_graph.specs.Uses.{MayRun, Means, HasMark, itself}
 use Rattle.use_graph.specs.Soundness.{IsBarring, Prints, Monitors, ForeignWrite, ForeignRead}
 use Rattle.use_graph.proofs.ScopeUsesLemmas.{run_is_by_code}
 
@@ -397,7 +397,7 @@ module _ (P : Tables) (is : IsProgram P) (c : ℕ) (none : (mark : Mark) → IsB
       → feature_at P d k place ≡ Some t → ⊥
 
   untold : (d k place : ℕ) → MayRun P c d k → IsUntold d k place
-  untold d k place run t mark barring means at = none mark barring (d, k, place, run, inl (t, at, means))
+  untold d k place run t mark barring means at = none mark barring (d, k, place, run, (t, itself at, means))
 
   not_true : (b : Bool) → (b ≡ true → ⊥) → b ≡ false
   not_true true h = absurd (h refl)

@@ -1,6 +1,6 @@
 -- Each instruction of the table is in the scope that its code says.
 use Rattle.std.proofs.Common.{◌≡◌, ℕ, ◌+◌, true, false, ◌&&◌, not, [], ◌∷◌, List, length, Option, Some, None, Ok, Err}
-use Rattle.std.proofs.Common.{refl, ap, option_map, map}
+use Rattle.std.proofs.Common.{◌∙◌, Bool, if◌then◌else◌, is_some, refl, ap, option_map, map}
 use Rattle.std.specs.declared.result.Result.{Result}
 use Rattle.built_in.specs.declared.class_id.ClassId.{ClassId}
 use Rattle.built_in.specs.declared.class_id.ClassId.TheVariants.{Given, BuiltIn}
@@ -53,7 +53,7 @@ use Rattle.machine.specs.Table.{local_row, call_row, operation_row, call_main, f
 use Rattle.machine.specs.Linked.{program_of}
 use Rattle.machine.proofs.TableLemmas.{if_usable_any, unless_null_any, chosen_any, called_any}
 use Rattle.use_graph.specs.Code.{chosen_callee, found_callee}
-use Rattle.use_graph.specs.Scopes.{activity_of, called_by, scope_of, scope_if, start_scope, bounds_of}
+use Rattle.use_graph.specs.Scopes.{if_declared, activity_of, called_by, scope_of, scope_if, start_scope, bounds_of}
 use Rattle.use_graph.proofs.ScopeRowsLemmas as Rows
 use Rattle.use_graph.proofs.ScopeRowsLemmas.{halted, raised, either, need, push_in}
 
@@ -63,26 +63,34 @@ any_class = Given 0
 
 -- ---- calls
 
+declared_here : (P : Tables) (c k : ℕ) → is_some (implementation_at P c k) ≡ true
+    → if_declared P c k ≡ Some (Method c k)
+declared_here P c k there = ap (λ (b : Bool). if b then Some (Method c k) else None) there
+
 module _ (P : Tables) (scope : Scope) (f : Frame) where
   abbrev Suits : Row → Type 0
   Suits r = IsInScope (program_of P) scope r
 
-  reaches_in : (c m count : ℕ) → MayCall scope (Method c m) → (o : Option Implementation)
+  reaches_in : (c m count : ℕ) (o : Option Implementation) → (is_some o ≡ true → MayCall scope (Method c m))
       → Suits (reaches c m count f o)
-  reaches_in c m count may None = tt
-  reaches_in c m count may (Some implementations.Abstract) = tt
-  reaches_in c m count may (Some implementations.Unsupported) = tt
-  reaches_in c m count may (Some (implementations.Code code)) =
-      need P scope (passed _ 0 (taken count f.operands)) _ (λ locals. may)
+  reaches_in c m count None may = tt
+  reaches_in c m count (Some implementations.Abstract) may = tt
+  reaches_in c m count (Some implementations.Unsupported) may = tt
+  reaches_in c m count (Some (implementations.Code code)) may =
+      need P scope (passed _ 0 (taken count f.operands)) _ (λ locals. may refl)
 
-  reached_in : (c m count : ℕ) → MayCall scope (Method c m) → Suits (reached P c m count f)
+  -- a call of a method that is declared is in scope
+  abbrev MayReach : ℕ → ℕ → Type 0
+  MayReach c m = is_some (implementation_at P c m) ≡ true → MayCall scope (Method c m)
+
+  reached_in : (c m count : ℕ) → MayReach c m → Suits (reached P c m count f)
   reached_in c m count may =
       either P scope (is_method m (initializer_in P c)) (halts faults.Fault)
       (reaches c m count f (implementation_at P c m))
-      tt (reaches_in c m count may (implementation_at P c m))
+      tt (reaches_in c m count (implementation_at P c m) may)
 
   runs_in : (count : ℕ) (v : Value) (o : Option ResolvedMethod)
-      → ((c m : ℕ) → o ≡ Some (methods.Given c m) → MayCall scope (Method c m)) → Suits (runs P count v f o)
+      → ((c m : ℕ) → o ≡ Some (methods.Given c m) → MayReach c m) → Suits (runs P count v f o)
   runs_in count v None may = tt
   runs_in count v (Some (methods.Given c m)) may = reached_in c m count (may c m refl)
   runs_in count v (Some (methods.BuiltIn member)) may = Rows.member_in P scope f member count v
@@ -96,10 +104,11 @@ module _ (P : Tables) (scope : Scope) (f : Frame) where
   chosen_in (Selected m) count v covers =
       Rows.ask_class_in P scope v (λ o. needing o (λ class. runs P count v f (selected P.family class m)))
       (λ o. need P scope o (λ class. runs P count v f (selected P.family class m)) (λ class.
-      runs_in count v (selected P.family class m) (λ c k e. covers class (Method c k) (ap activity_of e))))
+      runs_in count v (selected P.family class m) (λ c k e there.
+      covers class (Method c k) (ap (activity_of P) e ∙ declared_here P c k there))))
   chosen_in (Found found) count v covers =
-      runs_in count v found (λ c k e. covers any_class (Method c k)
-      (ap (λ (o : Option ResolvedMethod). called_by P (found_callee o) any_class) e))
+      runs_in count v found (λ c k e there. covers any_class (Method c k)
+      (ap (λ (o : Option ResolvedMethod). called_by P (found_callee o) any_class) e ∙ declared_here P c k there))
 
   called_in : (k : InstanceCall) (count : ℕ) (v : Value) → Covers k.choice → Suits (called_on P k count f v)
   called_in k count v covers =
@@ -123,7 +132,8 @@ call_in P f (calls.Static k) =
           (need P scope (parameters_at P k.caller k.descriptor) (call_with P k f) (λ kinds.
           chosen_any (Suits P scope f) (halted P scope) (has_arguments kinds f.operands)
           (reached P k.class k.index (length kinds) f)
-          (reached_in P scope f k.class k.index (length kinds) (any_class, refl)))),
+          (reached_in P scope f k.class k.index (length kinds)
+          (λ there. (any_class, declared_here P k.class k.index there))))),
     )
 call_in P f (calls.Instance k) =
     let scope = scope_of P (OnCall (calls.Instance k)) in

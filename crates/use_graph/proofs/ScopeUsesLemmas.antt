@@ -1,6 +1,6 @@
 -- What may run and be used by the scopes of instructions is what may by their code.
 use Rattle.std.proofs.Common.{◌≡◌, inl, inr, ℕ, Bool, true, false, cond, Option, Some, None}
-use Rattle.std.proofs.Common.{refl, ap, subst, option_map}
+use Rattle.std.proofs.Common.{if◌then◌else◌, is_some, refl, sym, ap, subst, option_map, ◌∙◌}
 use Rattle.built_in.specs.Keys.{NameAndType}
 use Rattle.built_in.specs.declared.class_id.ClassId.{ClassId}
 use Rattle.built_in.specs.declared.class_id.ClassId.TheVariants as class
@@ -18,15 +18,16 @@ use Rattle.hierarchy.specs.MemberLookup.{is_inherited, is_private, flags_in, key
 use Rattle.hierarchy.specs.Selectable.{IsSelectable}
 use Rattle.hierarchy.specs.Selection.{found_from, found_if, selected}
 use Rattle.hierarchy.proofs.SelectableLemmas.{found_declares, by_key, selects_built_in, selects_given, private_alone}
-use Rattle.program.specs.Tables.{Tables}
+use Rattle.program.specs.Tables.{Tables, implementation_at, initializer_in}
+use Rattle.program.specs.declared.class.Implementation.{Implementation}
 use Rattle.machine.specs.Operations.{Operation, operation_at}
-use Rattle.machine.specs.Linked.{program_of}
+use Rattle.machine.specs.Linked.{program_of, initializer_called, initializer_frame_of, initializer_frame}
 use Rattle.machine.proofs.LinkedLemmas.{initializer_frame_is}
 use Rattle.use_graph.specs.declared.callee.Callee.{Callee}
 use Rattle.use_graph.specs.declared.callee.Callee.TheVariants as callees
 use Rattle.use_graph.specs.Code.{callee_of, MayRunFor}
 use Rattle.use_graph.specs.Scopes.{activity_of, called_by, scope_if, bounds_of}
-use Rattle.use_graph.specs.Uses.{MayRun, initializer, called, MayNeed, IsUse}
+use Rattle.use_graph.specs.Uses.{IsDeclared, MayRun, initializer, called, MayNeed, MayUse}
 
 -- ---- what is selected for any receiver is selected for one of a given class
 
@@ -69,18 +70,27 @@ module _ (family : Family) (d k : ℕ) where
 
 -- a method that may run for a call, of this activity
 abbrev RunsFor : Tables → Callee → Activity → Type 0
-RunsFor P callee a = (e : ℕ) × (j : ℕ) × (a ≡ Method e j) × MayRunFor P callee e j
+RunsFor P callee a = (e : ℕ) × (j : ℕ) × (a ≡ Method e j) × MayRunFor P callee e j × IsDeclared P e j
+
+declared_runs : (P : Tables) (callee : Callee) (d k : ℕ) (a : Activity) (b : Bool)
+    → is_some (implementation_at P d k) ≡ b → (if b then Some (Method d k) else None) ≡ Some a
+    → MayRunFor P callee d k → RunsFor P callee a
+declared_runs P callee d k a true there h may = (d, k, cc, may, there)
+declared_runs P callee d k a false there h may = absurd cc
 
 called_runs : (P : Tables) (callee : Callee) (x : ClassId) (a : Activity) → called_by P callee x ≡ Some a
     → RunsFor P callee a
 called_runs P callees.Nobody x a h = absurd cc
-called_runs P (callees.Exactly d k) x a h = (d, k, cc, (refl, refl))
+called_runs P (callees.Exactly d k) x a h =
+    declared_runs P (callees.Exactly d k) d k a (is_some (implementation_at P d k)) refl h (refl, refl)
 called_runs P (callees.Selected m) x a h = by_found (selected P.family x m) refl h
   where
-    by_found : (o : Option ResolvedMethod) → selected P.family x m ≡ o → activity_of o ≡ Some a
+    by_found : (o : Option ResolvedMethod) → selected P.family x m ≡ o → activity_of P o ≡ Some a
         → RunsFor P (callees.Selected m) a
     by_found None is h = absurd cc
-    by_found (Some (methods.Given d k)) is h = (d, k, cc, selected_given P.family d k x m is)
+    by_found (Some (methods.Given d k)) is h =
+        declared_runs P (callees.Selected m) d k a (is_some (implementation_at P d k)) refl h
+        (selected_given P.family d k x m is)
     by_found (Some (methods.BuiltIn b)) is h = absurd cc
 
 -- ---- what may run
@@ -94,12 +104,27 @@ calls_run : (P : Tables) (c d k place : ℕ) (b : Activity) (o : Option Operatio
 calls_run P c d k place b None at run may = (let clash : None ≡ Some b = may.1 in absurd cc)
 calls_run P c d k place b (Some o) at run may =
     let found = called_runs P (callee_of o) may.0 b may.1 in
-    (found.0, found.1, found.2, called run (place, o, at, found.3))
+    (found.0, found.1, found.2, called run (place, o, at, found.3) found.4)
+
+-- a class initialization method that runs is declared
+initializer_declared : (P : Tables) (c m : ℕ) (f : Frame) → initializer_in P c ≡ Some m
+    → initializer_frame P c ≡ Some f → IsDeclared P c m
+initializer_declared P c m f has h =
+    by (implementation_at P c m) refl (sym (ap (initializer_frame_of P c) has) ∙ h)
+  where
+    by : (o : Option Implementation) → implementation_at P c m ≡ o → initializer_called c m o ≡ Some f
+        → IsDeclared P c m
+    by None at h = absurd (let clash : None ≡ Some f = h in cc)
+    by (Some x) at h = ap is_some at
 
 pub run_is_by_code : {P : Tables} {c : ℕ} {a : Activity} → bounds.MayRun (program_of P) (bounds_of P) c a → IsRun P c a
 run_is_by_code {P = P} {c = c} (bounds.Initializes {f = f} is) =
-    let frame = initializer_frame_is P c f is in
-    (c, frame.method, ap (λ (g : Frame). g.activity) frame.is, initializer frame.has)
+    let frame = initializer_frame_is P c f is in (
+      c,
+      frame.method,
+      ap (λ (g : Frame). g.activity) frame.is,
+      initializer frame.has (initializer_declared P c frame.method f frame.has is),
+    )
 run_is_by_code {P = P} {c = c} (bounds.Called {b = b} place run may) =
     let found = run_is_by_code run in
     calls_run P c found.0 found.1 place b (operation_at P found.0 found.1 place) refl found.3
@@ -112,7 +137,7 @@ needs_by_code : (P : Tables) (c d k place e : ℕ) (o : Option Operation) → op
 needs_by_code P c d k place e None at run needs = absurd cc
 needs_by_code P c d k place e (Some o) at run needs = (d, k, run, (place, o, at, needs))
 
-pub use_is_by_code : (P : Tables) (c d : ℕ) → bounds.IsUse (program_of P) (bounds_of P) c d → IsUse P c d
+pub use_is_by_code : (P : Tables) (c d : ℕ) → bounds.IsUse (program_of P) (bounds_of P) c d → MayUse P c d
 use_is_by_code P c d (apart, inl parent) = (apart, inl parent)
 use_is_by_code P c d (apart, inr (a, place, run, needs)) =
     let found = run_is_by_code run in (

@@ -1,5 +1,5 @@
 -- What the code of a linked program says of each of its instructions before it runs, as bounds of the program.
-use Rattle.std.specs.Prelude.{ℕ, Bool, true, false, Option, Some, None, option_map, if◌then◌else◌}
+use Rattle.std.specs.Prelude.{ℕ, Bool, true, false, Option, Some, None, option_map, is_some, if◌then◌else◌}
 use Rattle.built_in.specs.declared.class_id.ClassId.{ClassId}
 use Rattle.vm_state.specs.declared.frame.Activity.{Activity}
 use Rattle.vm_state.specs.declared.frame.Activity.TheVariants.{Start, Method}
@@ -8,7 +8,7 @@ use Rattle.semantics.specs.Bounds.{Scope, nothing, Bounds}
 use Rattle.hierarchy.specs.declared.member.Method.{Method as ResolvedMethod}
 use Rattle.hierarchy.specs.declared.member.Method.TheVariants as methods
 use Rattle.hierarchy.specs.Selection.{selected}
-use Rattle.program.specs.Tables.{Tables, main_in}
+use Rattle.program.specs.Tables.{Tables, implementation_at, main_in}
 use Rattle.machine.specs.Operations.{Operation, GetStatic, PutStatic, OnCall, OnObject, operation_at}
 use Rattle.machine.specs.declared.call_operation.CallOperation.{CallOperation}
 use Rattle.machine.specs.declared.call_operation.CallOperation.TheVariants as calls
@@ -21,17 +21,21 @@ use Rattle.use_graph.specs.Code.{needed_by, callee_of}
 
 -- ---- what an operation does beyond its frame
 
+-- the frame of a method, if a given class declares it
+abbrev pub if_declared : Tables → ℕ → ℕ → Option Activity
+if_declared P d k = if is_some (implementation_at P d k) then Some (Method d k) else None
+
 -- the frame of a method of a given class
-abbrev pub activity_of : Option ResolvedMethod → Option Activity
-activity_of None = None
-activity_of (Some (methods.Given d k)) = Some (Method d k)
-activity_of (Some (methods.BuiltIn member)) = None
+abbrev pub activity_of : Tables → Option ResolvedMethod → Option Activity
+activity_of P None = None
+activity_of P (Some (methods.Given d k)) = if_declared P d k
+activity_of P (Some (methods.BuiltIn member)) = None
 
 -- what is called for a receiver of a class
 abbrev pub called_by : Tables → Callee → ClassId → Option Activity
 called_by P callees.Nobody class = None
-called_by P (callees.Exactly d k) class = Some (Method d k)
-called_by P (callees.Selected m) class = activity_of (selected P.family class m)
+called_by P (callees.Exactly d k) class = if_declared P d k
+called_by P (callees.Selected m) class = activity_of P (selected P.family class m)
 
 abbrev pub writes_of : Operation → Option ℕ
 writes_of (PutStatic kind c k) = Some c

@@ -1,10 +1,12 @@
 -- What is said of the initialization of a class before it runs holds of whatever runs for it: in each world of a run of
 -- a linked program, and at build time.
-use Rattle.std.specs.Prelude.{◌≡◌, ℕ, ◌<◌, List, length, Some, IsSome, slice_get}
+use Rattle.std.specs.Prelude.{◌≡◌, ℕ, ◌<◌, List, ◌∷◌, length, Some, IsSome, slice_get}
 use Rattle.std.specs.List.{Contains}
 use Rattle.vm_state.specs.declared.frame.Frame.{Frame}
 use Rattle.vm_state.specs.declared.frame.Activity.TheVariants.{Method}
 use Rattle.vm_state.specs.declared.initialization.Level.{Level}
+use Rattle.vm_state.specs.declared.value.Maker.TheVariants.{Class}
+use Rattle.semantics.specs.Rows.{Needs, run_row}
 use Rattle.semantics.specs.Steps.{Going}
 use Rattle.semantics.specs.Worlds.{World, Run}
 use Rattle.semantics.specs.Quiet.{Environment, Refusal, Stop, Refused}
@@ -15,10 +17,11 @@ use Rattle.loading.specs.Families.{IsFamily}
 use Rattle.program.specs.Programs.{IsProgram}
 use Rattle.program.specs.Tables.{Tables, order_in}
 use Rattle.machine.specs.Linked.{program_of}
+use Rattle.machine.specs.Table.{row}
 use Rattle.use_graph.specs.declared.mark.Mark.{Mark}
 use Rattle.use_graph.specs.declared.mark.Mark.TheVariants as marks
 use Rattle.use_graph.specs.Scopes.{bounds_of}
-use Rattle.use_graph.specs.Uses.{MayRun, IsUse, HasMark}
+use Rattle.use_graph.specs.Uses.{MayRun, MayUse, HasMark}
 
 -- Each instruction of the table does no more than its code says.
 abbrev pub TableIsBounded : Type 0
@@ -26,14 +29,18 @@ TableIsBounded = (P : Tables) → IsBounded (program_of P) (bounds_of P)
 
 -- ---- in the worlds of a run
 
--- What stands on the initialization of a class are methods that may run for it, and what is begun from there are its
--- uses.
+-- What stands on the initialization of a class are methods that may run for it, and what is begun or needed from there
+-- are classes that it may use.
 pub record RunsByCode (P : Tables) (w : World) : Type 0 where
   pub frames : (t : ℕ) (fs : List Frame) (ls : List Level) → slice_get w.threads t ≡ Some (Going fs ls)
       → (c : ℕ) (f : Frame) → StandsOn c f fs ls
       → (d : ℕ) × (k : ℕ) × (f.activity ≡ Method d k) × MayRun P c d k
   pub begins : (t : ℕ) (fs : List Frame) (ls : List Level) → slice_get w.threads t ≡ Some (Going fs ls)
-      → (c d : ℕ) → IsBegunBy c d ls → IsUse P c d
+      → (c d : ℕ) → IsBegunBy c d ls → MayUse P c d
+  -- also where the class is only now needed
+  pub needs : (t : ℕ) (f : Frame) (fs : List Frame) (l : Level) (ls : List Level)
+      → slice_get w.threads t ≡ Some (Going (f ∷ fs) (l ∷ ls)) → (d : ℕ)
+      → run_row t (Class l.initialization.class) w.shared (row P f) ≡ Needs d → MayUse P l.initialization.class d
 
 abbrev pub WorldsRunByCode : Type 0
 WorldsRunByCode =
@@ -44,7 +51,7 @@ WorldsRunByCode =
 abbrev pub ParentsAreUses : Type 0
 ParentsAreUses =
     (P : Tables) → IsProgram P → IsFamily P.family → (c p : ℕ) → c < length P.family → Contains (order_in P c) p →
-    IsUse P c p
+    MayUse P c p
 
 -- ---- at build time
 
@@ -60,6 +67,6 @@ pub data IsBarring : Mark → Type 0 where
 abbrev pub StopsByCode : Type 0
 StopsByCode =
     (P : Tables) → IsProgram P → (env : Environment) (c : ℕ) →
-    ((mark : Mark) → IsBarring mark → HasMark P c mark → ⊥) → ((d : ℕ) → IsUse P c d → IsSome (env d)) →
+    ((mark : Mark) → IsBarring mark → HasMark P c mark → ⊥) → ((d : ℕ) → MayUse P c d → IsSome (env d)) →
     IsClosed (program_of P) env c → (budget : ℕ) (stop : Stop) → StoppedBy (program_of P) env c budget stop →
     (why : Refusal) × (stop ≡ Refused why)

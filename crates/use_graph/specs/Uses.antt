@@ -38,6 +38,11 @@ Needs P d k e = (place : ℕ) × (o : Operation) × (operation_at P d k place �
 abbrev pub MayNeed : Tables → ℕ → ℕ → Type 0
 MayNeed P c e = (d : ℕ) × (k : ℕ) × MayRun P c d k × Needs P d k e
 
+-- A class's initialization may use a class: one that is initialized before it, or that the methods need that may run;
+-- not itself.
+abbrev pub MayUse : Tables → ℕ → ℕ → Type 0
+MayUse P c e = (e ≢ c) × (Contains (order_in P c) e ⊎ MayNeed P c e)
+
 -- The given classes that a class's initialization may use: those that are initialized before it, and what the methods
 -- need that may run; itself apart.
 abbrev pub IsUse : Tables → ℕ → ℕ → Type 0
