@@ -58,7 +58,7 @@ pub fn or_nothing(mut text: String) -> Result<String, AllocError> {
 }
 
 /// Adds the name of a class after other names.
-fn add_name(
+pub fn add_name(
     alloc: Global,
     text: &mut String,
     program: &Program,
