@@ -85,7 +85,8 @@ torn_fails family patterns marks forced fault known are (inl memory) = inl memor
 torn_fails family patterns marks forced fault known are (inr wrong) =
     inr (torn known (of_both_too marks forced (IsDemanded family patterns) are family fault wrong))
 
-pub demand_fails : (family : Family) (patterns : List (List ℕ)) (marks forced : List Bool) (r : Result (List Bool) OptionFault)
+pub demand_fails : (family : Family) (patterns : List (List ℕ)) (marks forced : List Bool)
+    (r : Result (List Bool) OptionFault)
     → All (IsKnown family) patterns → AreClasses marks (IsDemanded family patterns)
     → IfErr r (λ fault. (fault ≡ Memory) ⊎ IsOfBoth family (IsMarked marks) forced fault)
     → IfErr r (λ fault. (fault ≡ Memory) ⊎ DemandFails family patterns forced fault)

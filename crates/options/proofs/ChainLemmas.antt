@@ -118,7 +118,8 @@ pub below_all : (family : Family) (order : List ℕ) (first marks : List Bool) (
     → length first ≡ length family → IsParentsFirst family order → length order ≤ i
     → AreBelow family order first marks i
     → AreClasses marks (IsAtOrBelow family (IsMarked first))
-below_all family order first marks i count arranged end done class = (done.sound class, λ one. up_from class one.on one.one)
+below_all family order first marks i count arranged end done class =
+    (done.sound class, λ one. up_from class one.on one.one)
   where
     up_from : {above : ℕ} (c : ℕ) → IsOnChain family above c → IsMarked first above → IsMarked marks c
     up_from _ itself is = done.kept _ is

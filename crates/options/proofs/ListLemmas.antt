@@ -39,7 +39,10 @@ read_at items i d within =
 
 pub among : {A : Type 0} (xs : List A) (i : ℕ) (x : A) → Contains (take i xs) x
     → (k : ℕ) × (k < i) × (slice_get xs k ≡ Some x)
-among {A} xs i x held = let at = place_in (take i xs) x held in let there = of i xs at.0 at.1 in (at.0, there.0, there.1)
+among {A} xs i x held =
+    let at = place_in (take i xs) x held in
+    let there = of i xs at.0 at.1 in
+    (at.0, there.0, there.1)
   where
     of : (i : ℕ) (xs : List A) (k : ℕ) → slice_get (take i xs) k ≡ Some x → (k < i) × (slice_get xs k ≡ Some x)
     of zero xs k at = absurd cc

@@ -134,7 +134,10 @@ module _ (family : Family) (outer : List ℕ) (first old new : List Bool) (any b
     where
       to : IsMarked new c → IsMarked first c ⊎ ((c < n + 1) × IsClassIn family outer c)
       to is = elim ((grown.marks c).0 is) [
-        | inl was ↦ elim ((before.marks.marks c).0 was) [ inl at-first ↦ inl at-first | inr one ↦ inr (and_before c one) ]
+        | inl was ↦ elim ((before.marks.marks c).0 was) [
+          | inl at-first ↦ inl at-first
+          | inr one ↦ inr (and_before c one)
+        ]
         | inr fresh ↦ inr (and_here c fresh)
       ]
 
@@ -224,7 +227,10 @@ module _ (family : Family) (patterns : List (List ℕ)) (first old new : List Bo
     where
       to : (c : ℕ) → IsMarked new c → IsMarked first c ⊎ IsMatched family (take (n + 1) patterns) c
       to c is = elim ((grown.marks c).0 is) [
-        | inl was ↦ elim ((before.marks.marks c).0 was) [ inl at-first ↦ inl at-first | inr some ↦ inr (by_before c some) ]
+        | inl was ↦ elim ((before.marks.marks c).0 was) [
+          | inl at-first ↦ inl at-first
+          | inr some ↦ inr (by_before c some)
+        ]
         | inr fresh ↦ inr (by_here c fresh)
       ]
 

@@ -43,7 +43,8 @@ in_whole outer name begins short = whole (sym (take_all (length outer) name shor
 
 in_dot : (outer name : List ℕ) → take (length outer) name ≡ outer → length outer < length name
     → get_or name (length outer) 0 ≡ 46 → IsIn outer name
-in_dot outer name begins longer dot = within (drop (length outer + 1) name) (of name (length outer) outer begins longer dot)
+in_dot outer name begins longer dot =
+    within (drop (length outer + 1) name) (of name (length outer) outer begins longer dot)
   where
     of : (xs : List ℕ) (n : ℕ) (front : List ℕ) → take n xs ≡ front → n < length xs → get_or xs n 0 ≡ 46
         → xs ≡ front ++ 46 ∷ drop (n + 1) xs

@@ -23,8 +23,8 @@ use std::alloc::Global;
 /// The classes that a list of patterns demands at build time: those that a pattern matches, and all above them.
 ///
 /// # Errors
-/// `Unknown` of the first pattern that matches no class; else `Both` of the least class that is demanded and forced; and
-/// `Memory` where memory runs out.
+/// `Unknown` of the first pattern that matches no class; else `Both` of the least class that is demanded and forced;
+/// and `Memory` where memory runs out.
 pub fn demand(
     alloc: Global,
     program: &Program,

@@ -19,6 +19,7 @@ mod command_runs;
 mod commands;
 mod graphs;
 mod members;
+mod patterns;
 mod programs;
 mod questions;
 mod rewriting;
@@ -50,6 +51,8 @@ enum About {
     Commands,
     /// Graphs and their arrangements.
     Graphs,
+    /// Classes, and which of them the patterns of options are about.
+    Options,
     /// Classes, what linking them answers, and what is seen of their runs.
     Programs,
 }
@@ -62,6 +65,7 @@ impl Subject for About {
             About::ClassBytes => class_bytes::answer(alloc, given, asked),
             About::Commands => commands::answer(alloc, given, asked),
             About::Graphs => graphs::answer(alloc, given, asked),
+            About::Options => patterns::answer(alloc, given, asked),
             About::Programs => programs::answer(alloc, given, asked),
         }
     }
@@ -75,6 +79,7 @@ fn subject_of(name: &str) -> About {
         Some(("class_bytes", _)) => About::ClassBytes,
         Some(("commands", _)) => About::Commands,
         Some(("graphs", _)) => About::Graphs,
+        Some(("options", _)) => About::Options,
         _ => About::Programs,
     }
 }

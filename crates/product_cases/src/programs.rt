@@ -57,7 +57,8 @@ fn of_files(
     }
 }
 
-fn classes_of(alloc: Global, files: &[Vec<u8>]) -> Result<Vec<ClassFile>, ClassFault> {
+/// The class files of these texts, or the first fault.
+pub fn classes_of(alloc: Global, files: &[Vec<u8>]) -> Result<Vec<ClassFile>, ClassFault> {
     let mut classes = Vec::new(alloc);
     for bytes in files {
         classes.push(read(alloc, bytes)?)?;

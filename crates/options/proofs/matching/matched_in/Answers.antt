@@ -11,7 +11,8 @@ returns-in-Ok-clause-known c = subst (All (IsKnown c.args.family.now)) c.texts.e
 pub returns-in-Ok-clause-marks : goal.returns-in-Ok-clause-marks
 returns-in-Ok-clause-marks c =
     matched_written c.args.family.now c.args.patterns.now _ _ c.in_ok-marks.marks.len c.in_ok-marks.marks.items
-    c.deref_mut.result.now c.mark_all.new.marks c.texts.ensures c.in_ok-marks.ensures c.deref_mut.ensures.value (search rules) c.in-Ok.ensures.marks
+    c.deref_mut.result.now c.mark_all.new.marks c.texts.ensures c.in_ok-marks.ensures c.deref_mut.ensures.value
+    (search rules) c.in-Ok.ensures.marks
 
 pub returns-in-Err-clause-fault : goal.returns-in-Err-clause-fault
 returns-in-Err-clause-fault c =
