@@ -10,8 +10,8 @@ use Rattle.initializer_analysis.specs.declared.verdict.Reason.{Reason}
 use Rattle.initializer_analysis.specs.declared.verdict.Reason.TheVariants as reasons
 use Rattle.initializer_analysis.specs.declared.verdict.Verdict.{Verdict}
 use Rattle.initializer_analysis.specs.declared.verdict.Verdict.TheVariants.{Wave, Refused}
-use Rattle.initializer_analysis.specs.Verdicts.{Holds, rank, rank_of, IsFirst, NoneHolds, HasWave, IsAccepted, IsFirstRefused}
-use Rattle.initializer_analysis.specs.Verdicts.{IsWave, IsVerdict, AreVerdicts, OneVerdict, WavesFall}
+use Rattle.initializer_analysis.specs.Verdicts.{Holds, rank, rank_of, IsFirst, NoneHolds, HasWave, IsAccepted}
+use Rattle.initializer_analysis.specs.Verdicts.{IsFirstRefused, IsWave, IsVerdict, AreVerdicts, OneVerdict, WavesFall}
 
 -- ---- lists that agree at each place
 
@@ -150,9 +150,11 @@ module _ (P : Tables) (forced : List Bool) (vs ws : List Verdict) (are : AreVerd
   same_kind : (c : ℕ) (v w : Verdict) → slice_get vs c ≡ Some v → slice_get ws c ≡ Some w → Kind P forced vs c v
       → Kind P forced ws c w → v ≡ w
   same_kind c (Wave n) w at at_w (accepted none wave) kind =
-      (let two : Some w ≡ Some (Wave n) = sym at_w ∙ wave_there P forced vs ws are also (n + 1) n c (omega arith) at in cc)
+      (let two : Some w ≡ Some (Wave n) =
+      sym at_w ∙ wave_there P forced vs ws are also (n + 1) n c (omega arith) at in cc)
   same_kind c v (Wave n) at at_w kind (accepted none wave) =
-      (let two : Some v ≡ Some (Wave n) = sym at ∙ wave_there P forced ws vs also are (n + 1) n c (omega arith) at_w in cc)
+      (let two : Some v ≡ Some (Wave n) =
+      sym at ∙ wave_there P forced ws vs also are (n + 1) n c (omega arith) at_w in cc)
   same_kind c (Refused r) (Refused q) at at_w (own first) (own other) =
       ap (λ (x : Reason). Refused x) (same_first P forced c r q first other)
   same_kind c (Refused r) (Refused q) at at_w (own first) (dependent none x) = absurd (none r first.0)
@@ -167,7 +169,8 @@ module _ (P : Tables) (forced : List Bool) (vs ws : List Verdict) (are : AreVerd
 
   pub same_verdicts : vs ≡ ws
   same_verdicts = same_lists vs ws (are.count ∙ sym also.count) (λ c v w at at_w.
-      same_kind c v w at at_w (kind_of P forced vs c v (are.each c v at)) (kind_of P forced ws c w (also.each c w at_w)))
+      same_kind c v w at at_w (kind_of P forced vs c v (are.each c v at))
+      (kind_of P forced ws c w (also.each c w at_w)))
 
 pub one_verdict : OneVerdict
 one_verdict P forced vs ws are also = same_verdicts P forced vs ws are also

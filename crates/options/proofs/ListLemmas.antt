@@ -1,5 +1,6 @@
 -- Lists, place by place.
-use Rattle.std.proofs.Common.{◌≡◌, ℕ, ◌+◌, ◌<◌, ◌≤◌, List, [], ◌∷◌, ◌++◌, length, take, map, Some, slice_get, refl, subst}
+use Rattle.std.proofs.Common.{◌≡◌, ℕ, ◌+◌, ◌<◌, ◌≤◌, List, [], ◌∷◌, ◌++◌, length, take, map, Some}
+use Rattle.std.proofs.Common.{slice_get, refl, subst}
 use Rattle.std.proofs.Common.{get_or, sym, ap, ◌∙◌, Bor, zero, suc, ◌⊎◌, inl, inr, arith, drop}
 use Rattle.std.specs.List.{All, Contains}
 use Rattle.std.proofs.lemmas.List.Elements.{All-more}

@@ -1,6 +1,6 @@
 -- What the bodies of methods need, and what is told of them.
-use Rattle.std.proofs.Common.{◌≡◌, ◌↔◌, ◌⊎◌, ℕ, ◌+◌, ◌<◌, List, [], ◌∷◌, ◌++◌, length, Some, slice_get, refl, sym, ap, subst}
-use Rattle.std.proofs.Common.{◌∙◌, inl, inr, arith, Vec, Global}
+use Rattle.std.proofs.Common.{◌≡◌, ◌↔◌, ◌⊎◌, ℕ, ◌+◌, ◌<◌, List, [], ◌∷◌, ◌++◌, length, Some, slice_get, sym}
+use Rattle.std.proofs.Common.{ap, subst, ◌∙◌, inl, inr, arith, Vec, Global}
 use Rattle.std.specs.List.{Contains}
 use Rattle.std.proofs.lemmas.List.{length_push}
 use Rattle.std.proofs.lemmas.Option.{slice_get_within}
@@ -30,17 +30,19 @@ from_none {X} none new Q empty all x = (
 both : {A B C : Type 0} → A ↔ B → B ↔ C → A ↔ C
 both f g = (λ a. g.0 (f.0 a), λ c. f.1 (g.1 c))
 
-pub are_body_uses : (P : Tables) (m : DeclaredMember) (deeds same also : List Deed) (no_needs : List ℕ) (no_told : List Told)
-    (needs : Vec ℕ Global) (told : Vec Told Global) → deeds ≡ deeds_in P m.class m.index → same ≡ deeds → also ≡ deeds → no_needs ≡ []
-    → no_told ≡ []
+pub are_body_uses : (P : Tables) (m : DeclaredMember) (deeds same also : List Deed) (no_needs : List ℕ)
+    (no_told : List Told) (needs : Vec ℕ Global) (told : Vec Told Global) → deeds ≡ deeds_in P m.class m.index
+    → same ≡ deeds → also ≡ deeds → no_needs ≡ [] → no_told ≡ []
     → ((e : ℕ) → Contains needs.items e ↔ (Contains no_needs e ⊎ HoldsOfOne NeedsSo same e))
     → ((t : Told) → Contains told.items t ↔ (Contains no_told t ⊎ HoldsOfOne (IsToldOf P) also t))
     → AreBodyUses P m (record { needs = needs; told = told })
 are_body_uses P m deeds same also no_needs no_told needs told are is so empty bare need tell = record {
   needs = λ e. both (from_none no_needs needs.items (HoldsOfOne NeedsSo same) empty need e)
-      (subst (λ (l : List Deed). HoldsOfOne NeedsSo l e ↔ Needs P m.class m.index e) (sym (is ∙ are)) (needs_by P m.class m.index e));
+      (subst (λ (l : List Deed). HoldsOfOne NeedsSo l e ↔ Needs P m.class m.index e) (sym (is ∙ are))
+      (needs_by P m.class m.index e));
   told = λ t. both (from_none no_told told.items (HoldsOfOne (IsToldOf P) also) bare tell t)
-      (subst (λ (l : List Deed). HoldsOfOne (IsToldOf P) l t ↔ IsToldIn P m.class m.index t) (sym (so ∙ are)) (told_by P m.class m.index t));
+      (subst (λ (l : List Deed). HoldsOfOne (IsToldOf P) l t ↔ IsToldIn P m.class m.index t) (sym (so ∙ are))
+      (told_by P m.class m.index t));
 }
 
 -- ---- of all methods
@@ -58,9 +60,12 @@ module _ (P : Tables) (methods : List DeclaredMember) where
         | inr (end, same) ↦ (let two : Some m ≡ Some x =
             sym at ∙ ap (slice_get methods) (sym (end ∙ count)) ∙ here in
             let member : m ≡ x = cc in
-            subst (λ (z : DeclaredMember). AreBodyUses P z y) member (subst (λ (z : BodyUses). AreBodyUses P m z) same uses))
+            subst (λ (z : DeclaredMember). AreBodyUses P z y) member
+            (subst (λ (z : BodyUses). AreBodyUses P m z) same uses))
       ]
 
   pub bodies_count : (n : ℕ) (old new : List BodyUses) → length old ≡ n → AddsBody P methods n old new
       → length new ≡ n + 1
-  bodies_count n old new count (m, b, at, is, uses) = (let e : length new ≡ length (old ++ b ∷ []) = ap length is in let l = length_push old b in omega arith)
+  bodies_count n old new count (m, b, at, is, uses) =
+      let e : length new ≡ length (old ++ b ∷ []) = ap length is in
+      let l = length_push old b in omega arith

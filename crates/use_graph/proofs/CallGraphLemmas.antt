@@ -45,7 +45,8 @@ module _ (P : Tables) (methods : List DeclaredMember) where
     grows = grows_more P methods old graph new led.grows grows;
     leads = λ deed among. elim (Contains-push_cases (take i deeds) (get_or deeds i d) deed
         (subst (λ (l : List Deed). Contains l deed) (take_more deeds i d small) among)) [
-          | inl low ↦ (λ e j may number. leads_kept P methods graph new from e j grows (led.leads deed low e j may number))
+          | inl low ↦ (λ e j may number. leads_kept P methods graph new from e j grows
+              (led.leads deed low e j may number))
           | inr same ↦ subst (λ (x : Deed). LeadsToAll P methods new from x.callee) same leads
         ];
   }
@@ -95,7 +96,8 @@ module _ (P : Tables) (methods : List DeclaredMember) where
     vertices = done.part.vertices;
     sound = done.part.sound;
     complete = λ n d k e j at calls number.
-        done.leads n (record { class = d; index = k }) (within n (record { class = d; index = k }) at) at e j calls number;
+        done.leads n (record { class = d; index = k }) (within n (record { class = d; index = k }) at) at e j calls
+        number;
   }
     where
       within : (n : ℕ) (m : DeclaredMember) → slice_get methods n ≡ Some m → n < limit

@@ -1,6 +1,6 @@
 -- What holds of one of some things, collected from one after another.
-use Rattle.std.proofs.Common.{◌≡◌, ◌↔◌, ◌⊎◌, ℕ, ◌+◌, ◌<◌, ◌≤◌, List, [], ◌∷◌, ◌++◌, length, take, get_or, sym, subst, inl}
-use Rattle.std.proofs.Common.{inr, arith}
+use Rattle.std.proofs.Common.{◌≡◌, ◌↔◌, ◌⊎◌, ℕ, ◌+◌, ◌<◌, ◌≤◌, List, [], ◌∷◌, ◌++◌, length, take, get_or, sym}
+use Rattle.std.proofs.Common.{subst, inl, inr, arith}
 use Rattle.std.specs.List.{Contains}
 use Rattle.std.proofs.lemmas.Grind.{common_steps}
 use Rattle.std.proofs.lemmas.List.{take_more}
@@ -64,7 +64,8 @@ module _ {A X : Type 0} (R : A → X → Type 0) (items : List A) where
   pub collected_all : (old new : List X) (i : ℕ) → length items ≤ i → Collected R items i old new
       → (x : X) → Contains new x ↔ (Contains old x ⊎ HoldsOfOne R items x)
   collected_all old new i whole all =
-      subst (λ (l : List A). (x : X) → Contains new x ↔ (Contains old x ⊎ HoldsOfOne R l x)) (take_all items i whole) all
+      subst (λ (l : List A). (x : X) → Contains new x ↔ (Contains old x ⊎ HoldsOfOne R l x))
+      (take_all items i whole) all
 
 -- ---- what holds of each
 

@@ -33,10 +33,18 @@ pub deed_is : (P : Tables) (d k : ℕ) (item : Placed) (deed : Deed) → deed.pc
     → deed.feature ≡ feature_of P d k (Some item.instruction) → deed ≡ deed_for P d k item
 unfolding deed_for
 deed_is P d k item deed pc needs callee feature =
-    ap (λ (n : ℕ). let r : Deed = record { pc = n; needs = deed.needs; callee = deed.callee; feature = deed.feature } in r)
-    pc
-    ∙ ap (λ (n : Option ℕ). let r : Deed = record { pc = item.pc; needs = n; callee = deed.callee; feature = deed.feature }
-    in r) needs
+    ap (λ (n : ℕ). let r : Deed = record {
+      pc = n;
+      needs = deed.needs;
+      callee = deed.callee;
+      feature = deed.feature;
+    } in r) pc
+    ∙ ap (λ (n : Option ℕ). let r : Deed = record {
+      pc = item.pc;
+      needs = n;
+      callee = deed.callee;
+      feature = deed.feature;
+    } in r) needs
     ∙ ap (λ (x : Callee). let r : Deed = record {
       pc = item.pc;
       needs = needed_by (operation_for P d k item.instruction);
@@ -71,8 +79,8 @@ unfolding deed_for
 deed_feature P d k item = refl
 
 -- one after another
-pub deeds_more : (P : Tables) (d k : ℕ) (items : List Placed) (old mid new : List Deed) (i : ℕ) (x : Placed) (deed : Deed)
-    → i < length items → mid ≡ old ++ deeds_for P d k (take i items) → new ≡ mid ++ deed ∷ []
+pub deeds_more : (P : Tables) (d k : ℕ) (items : List Placed) (old mid new : List Deed) (i : ℕ) (x : Placed)
+    (deed : Deed) → i < length items → mid ≡ old ++ deeds_for P d k (take i items) → new ≡ mid ++ deed ∷ []
     → deed ≡ deed_for P d k (get_or items i x) → new ≡ old ++ deeds_for P d k (take (i + 1) items)
 deeds_more P d k items old mid new i x deed small before push is =
     push ∙ ap (λ (l : List Deed). l ++ deed ∷ []) before

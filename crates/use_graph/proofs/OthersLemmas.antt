@@ -35,7 +35,8 @@ others_skip used class limit classes o not = record {
     λ p. (let (low, other, among) = (o.members e).0 p in (omega arith, other, among)),
     λ (low, other, among). elim (below_or_last e limit low) [
       | inl less ↦ (o.members e).1 (less, other, among)
-      | inr same ↦ absurd (not (subst (λ (x : ℕ). x ≢ class) same other) (subst (λ (x : ℕ). Contains used x) same among))
+      | inr same ↦ absurd (not (subst (λ (x : ℕ). x ≢ class) same other)
+          (subst (λ (x : ℕ). Contains used x) same among))
     ],
   );
   ascending = o.ascending;

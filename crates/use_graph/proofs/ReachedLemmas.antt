@@ -1,6 +1,6 @@
 -- The methods that may run are those that the graph of calls reaches.
-use Rattle.std.proofs.Common.{◌≡◌, ◌↔◌, ◌⊎◌, ℕ, ◌+◌, ◌<◌, ◌≤◌, List, length, Some, None, slice_get, refl, sym, ap, subst}
-use Rattle.std.proofs.Common.{◌∙◌, inl, inr, arith}
+use Rattle.std.proofs.Common.{◌≡◌, ◌↔◌, ◌⊎◌, ℕ, ◌+◌, ◌<◌, ◌≤◌, List, length, Some, None, slice_get, refl, sym, ap}
+use Rattle.std.proofs.Common.{subst, ◌∙◌, inl, inr, arith}
 use Rattle.std.specs.List.{Contains}
 use Rattle.std.proofs.lemmas.Option.{slice_get_within, slice_get_past}
 use Rattle.graph.specs.Rows.{Rows, successors_of}
@@ -45,7 +45,8 @@ module _ (P : Tables) (methods : List DeclaredMember) (graph : Rows) (all : AreM
   like_runs v r z is at (inr (q, y, also, here, like)) =
       let same : q ≡ r = omega arith in
       let member : y ≡ z = same_method r y z (subst (λ (n : ℕ). slice_get methods n ≡ Some y) same here) at in
-      subst (λ (x : DeclaredMember). (e j : ℕ) → IsNamedLike P.family x e j → IsDeclared P e j → MayRun P c e j) member like
+      subst (λ (x : DeclaredMember). (e j : ℕ) → IsNamedLike P.family x e j → IsDeclared P e j → MayRun P c e j) member
+      like
 
   step : (a b : ℕ) → IsEdge P methods a b → Known a → Known b
   step a b (calls {y = y} at to goes) known =
@@ -94,7 +95,8 @@ module _ (P : Tables) (methods : List DeclaredMember) (graph : Rows) (all : AreM
 -- ---- a class without a class initialization method runs none
 
 pub none_run : (P : Tables) (methods : List DeclaredMember) (c : ℕ) (reached : List ℕ)
-    → ((m : ℕ) → initializer_in P c ≡ Some m → IsDeclared P c m → ⊥) → length reached ≡ 0 → AreReached P methods c reached
+    → ((m : ℕ) → initializer_in P c ≡ Some m → IsDeclared P c m → ⊥) → length reached ≡ 0
+    → AreReached P methods c reached
 none_run P methods c reached none empty x = (
   λ (n, (k, small, e), at). absurd (omega arith),
   λ runs. absurd (never x.class x.index runs),

@@ -1,6 +1,6 @@
 -- What the initialization of one class may run and use, by the vertices that are reached.
-use Rattle.std.proofs.Common.{◌≡◌, ◌≢◌, ◌↔◌, ◌⊎◌, ℕ, ◌+◌, ◌<◌, ◌≤◌, List, [], ◌∷◌, length, Option, Some, None, slice_get}
-use Rattle.std.proofs.Common.{MatchOption, get_or, refl, sym, ap, subst, ◌∙◌, inl, inr, arith}
+use Rattle.std.proofs.Common.{◌≡◌, ◌≢◌, ◌↔◌, ◌⊎◌, ℕ, ◌+◌, ◌<◌, ◌≤◌, List, [], ◌∷◌, length, Option, Some, None}
+use Rattle.std.proofs.Common.{slice_get, MatchOption, get_or, refl, sym, ap, subst, ◌∙◌, inl, inr, arith}
 use Rattle.std.specs.List.{Contains}
 use Rattle.std.proofs.lemmas.Option.{slice_get_within, slice_get-get_or}
 use Rattle.program.specs.Tables.{Tables, order_in, initializer_in}
@@ -132,8 +132,8 @@ unmarked_body graph c mark n b at none m x t here there among means =
 
 -- ---- one vertex
 
-same_body : (bodies : List BodyUses) (n : ℕ) (b x : BodyUses) → slice_get bodies n ≡ Some b → slice_get bodies n ≡ Some x
-    → b ≡ x
+same_body : (bodies : List BodyUses) (n : ℕ) (b x : BodyUses) → slice_get bodies n ≡ Some b
+    → slice_get bodies n ≡ Some x → b ≡ x
 same_body bodies n b x at here = (let two : Some b ≡ Some x = sym at ∙ here in cc)
 
 pub needed_at : (bodies : List BodyUses) (limit n : ℕ) (b : BodyUses) (row old new : List ℕ)

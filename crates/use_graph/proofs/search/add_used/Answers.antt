@@ -6,9 +6,9 @@ use Rattle.use_graph.proofs.search.add_used.Goals as goal
 pub loop-class-preserved : goal.loop-class-preserved
 loop-class-preserved c = record {
   limit = c.add_class.ensures.limit;
-  collected = collected_more (IsClassBelow c.args.limit) c.args.classes.now c.args.used.now.items c.loop-class.used.items
-      c.add_class.new.used.items c.loop-class.class-index _ c.loop-class-test.true c.loop-class.invariant.collected
-      c.in_ok-add_class.ensures.used;
+  collected = collected_more (IsClassBelow c.args.limit) c.args.classes.now c.args.used.now.items
+      c.loop-class.used.items c.add_class.new.used.items c.loop-class.class-index _ c.loop-class-test.true
+      c.loop-class.invariant.collected c.in_ok-add_class.ensures.used;
 }
 
 pub returns-clause-used : goal.returns-clause-used
