@@ -1,2 +1,4 @@
 pub mod Settled
 pub mod Raised
+pub mod Marking
+pub mod RefusedUses

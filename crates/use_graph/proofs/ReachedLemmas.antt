@@ -65,6 +65,10 @@ module _ (P : Tables) (methods : List DeclaredMember) (graph : Rows) (all : AreM
       )
   reached_known v (along {a = a} before edge) = step a v (whole.sound a v edge) (reached_known a before)
 
+  pub reached_runs : (n : ℕ) (x : DeclaredMember) → Reaches graph s n → slice_get methods n ≡ Some x
+      → MayRun P c x.class x.index
+  reached_runs n x path at = caller_runs n x at (reached_known n path)
+
   -- ---- what may run is reached
 
   abbrev IsReachedAt : ℕ → ℕ → Type 0
@@ -74,7 +78,8 @@ module _ (P : Tables) (methods : List DeclaredMember) (graph : Rows) (all : AreM
   leads_on n e j before (to, at, inl edge) = (to, along before edge, at)
   leads_on n e j before (to, at, inr (r, first, then)) = (to, along (along before first) then, at)
 
-  runs_reached : (d k : ℕ) → MayRun P c d k → IsReachedAt d k
+  pub runs_reached : (d k : ℕ) → MayRun P c d k
+      → (n : ℕ) × Reaches graph s n × (slice_get methods n ≡ Some (record { class = d; index = k }))
   runs_reached d k (initializer {m = i} at there) = (
     s,
     itself,
@@ -88,20 +93,21 @@ module _ (P : Tables) (methods : List DeclaredMember) (graph : Rows) (all : AreM
   pub are_reached : (reached : List ℕ) → ((v : ℕ) → Contains reached v ↔ Reaches graph s v)
       → AreReached P methods c reached
   are_reached reached members x = (
-    λ (n, among, at). caller_runs n x at (reached_known n ((members n).0 among)),
+    λ (n, among, at). reached_runs n x ((members n).0 among) at,
     λ runs. (let (n, path, at) = runs_reached x.class x.index runs in (n, (members n).1 path, at)),
   )
 
 -- ---- a class without a class initialization method runs none
+
+pub none_runs : (P : Tables) (c : ℕ) → ((m : ℕ) → initializer_in P c ≡ Some m → IsDeclared P c m → ⊥)
+    → (d k : ℕ) → MayRun P c d k → ⊥
+none_runs P c none d k (initializer {m = m} at there) = none m at there
+none_runs P c none d k (called {d = x} {k = y} before goes there) = none_runs P c none x y before
 
 pub none_run : (P : Tables) (methods : List DeclaredMember) (c : ℕ) (reached : List ℕ)
     → ((m : ℕ) → initializer_in P c ≡ Some m → IsDeclared P c m → ⊥) → length reached ≡ 0
     → AreReached P methods c reached
 none_run P methods c reached none empty x = (
   λ (n, (k, small, e), at). absurd (omega arith),
-  λ runs. absurd (never x.class x.index runs),
+  λ runs. absurd (none_runs P c none x.class x.index runs),
 )
-  where
-    never : (d k : ℕ) → MayRun P c d k → ⊥
-    never d k (initializer {m = m} at there) = none m at there
-    never d k (called {d = x} {k = y} before goes there) = never x y before

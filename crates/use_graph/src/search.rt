@@ -294,6 +294,14 @@ fn uses_by(
 }
 
 impl UseGraph {
+    /// The vertex of the class initialization method of a class among the calls, if it has one.
+    pub fn start(&self, program: &Program, class: u32) -> Option<usize>
+        requires { AreMethods program.now self.now.methods }
+        ensures { StartsAt program.now self.now.methods class result }
+    {
+        start_of(program, self, class)
+    }
+
     /// What the initialization of a class of the program may run and use, and what its code is marked for.
     ///
     /// # Errors
