@@ -1,11 +1,11 @@
 -- Classes have one verdict each.
-use Rattle.std.proofs.Common.{◌≡◌, ◌⊎◌, ℕ, zero, suc, ◌+◌, ◌<◌, ◌≤◌, Bool, List, [], ◌∷◌, length, Option, Some, None}
-use Rattle.std.proofs.Common.{◌==◌, if◌then◌else◌, slice_get, get_or, refl, sym, ap, subst, ◌∙◌, inl, inr, arith}
+use Rattle.std.proofs.Common.{◌≡◌, ℕ, zero, suc, ◌+◌, ◌<◌, ◌≤◌, Bool, List, [], ◌∷◌, length, Option, Some, None}
+use Rattle.std.proofs.Common.{◌==◌, if◌then◌else◌, slice_get, get_or, refl, sym, ap, ◌∙◌, inl, inr, arith}
 use Rattle.std.proofs.lemmas.Option.{slice_get_within, slice_get-get_or}
 use Rattle.program.specs.Tables.{Tables}
 use Rattle.use_graph.specs.declared.mark.Mark.{Mark}
 use Rattle.use_graph.specs.declared.mark.Mark.TheVariants as marks
-use Rattle.use_graph.specs.Uses.{IsUse, HasMark}
+use Rattle.use_graph.specs.Uses.{IsUse}
 use Rattle.initializer_analysis.specs.declared.verdict.Reason.{Reason}
 use Rattle.initializer_analysis.specs.declared.verdict.Reason.TheVariants as reasons
 use Rattle.initializer_analysis.specs.declared.verdict.Verdict.{Verdict}
@@ -16,7 +16,7 @@ use Rattle.initializer_analysis.specs.Verdicts.{IsWave, IsVerdict, AreVerdicts, 
 -- ---- lists that agree at each place
 
 module _ {A : Type 0} where
-  one_of : (xs : List A) (n : ℕ) → n < length xs → (x : A) × (slice_get xs n ≡ Some x)
+  pub one_of : (xs : List A) (n : ℕ) → n < length xs → (x : A) × (slice_get xs n ≡ Some x)
   one_of [] n low = absurd (omega arith)
   one_of (x ∷ xs) n low = (get_or (x ∷ xs) n x, slice_get-get_or (x ∷ xs) n x low)
 
@@ -159,9 +159,11 @@ module _ (P : Tables) (forced : List Bool) (vs ws : List Verdict) (are : AreVerd
   same_kind c (Refused r) (Refused q) at at_w (dependent none x) (own first) = absurd (none q first.0)
   same_kind c (Refused r) (Refused q) at at_w (dependent {e = d} none (uses, refused, first))
       (dependent {e = e} nor (used, so, least)) =
-      ap (λ (x : ℕ). Refused (reasons.DependsOn x)) (omega (arith,
-      first e used (λ a. so (accepted_there P forced vs ws are also e a)),
-      least d uses (λ a. refused (accepted_there P forced ws vs also are d a))))
+      ap (λ (x : ℕ). Refused (reasons.DependsOn x)) (omega (
+        arith,
+        first e used (λ a. so (accepted_there P forced vs ws are also e a)),
+        least d uses (λ a. refused (accepted_there P forced ws vs also are d a)),
+      ))
 
   pub same_verdicts : vs ≡ ws
   same_verdicts = same_lists vs ws (are.count ∙ sym also.count) (λ c v w at at_w.
