@@ -16,7 +16,7 @@ use Rattle.initializer_analysis.specs.Verdicts.{IsFirstRefused, IsWave, IsVerdic
 -- ---- lists that agree at each place
 
 module _ {A : Type 0} where
-  one_of : (xs : List A) (n : ℕ) → n < length xs → (x : A) × (slice_get xs n ≡ Some x)
+  pub one_of : (xs : List A) (n : ℕ) → n < length xs → (x : A) × (slice_get xs n ≡ Some x)
   one_of [] n low = absurd (omega arith)
   one_of (x ∷ xs) n low = (get_or (x ∷ xs) n x, slice_get-get_or (x ∷ xs) n x low)
 

@@ -1,6 +1,7 @@
 //! Whether the initialization of a class may run before the program does.
 #![tactic(auto)]
 
+mod dependence;
 pub mod forced;
 mod labels;
 pub mod laws;

@@ -99,10 +99,14 @@ module _ (P : Tables) (methods : List DeclaredMember) (graph : Rows) (all : AreM
 
 -- ---- a class without a class initialization method runs none
 
+pub run_begins : (P : Tables) (c d k : ℕ) → MayRun P c d k
+    → (m : ℕ) × (initializer_in P c ≡ Some m) × IsDeclared P c m
+run_begins P c d k (initializer {m = m} at there) = (m, at, there)
+run_begins P c d k (called {d = x} {k = y} before goes there) = run_begins P c x y before
+
 pub none_runs : (P : Tables) (c : ℕ) → ((m : ℕ) → initializer_in P c ≡ Some m → IsDeclared P c m → ⊥)
     → (d k : ℕ) → MayRun P c d k → ⊥
-none_runs P c none d k (initializer {m = m} at there) = none m at there
-none_runs P c none d k (called {d = x} {k = y} before goes there) = none_runs P c none x y before
+none_runs P c none d k runs = (let (m, at, there) = run_begins P c d k runs in none m at there)
 
 pub none_run : (P : Tables) (methods : List DeclaredMember) (c : ℕ) (reached : List ℕ)
     → ((m : ℕ) → initializer_in P c ≡ Some m → IsDeclared P c m → ⊥) → length reached ≡ 0

@@ -1,0 +1,16 @@
+use Rattle.std.proofs.Common.{◌≤◌, length, arith}
+use Rattle.initializer_analysis.specs.steps.Dependence.{IsVertexOf}
+use Rattle.initializer_analysis.proofs.AddsFromLemmas.{added_more, added_all}
+use Rattle.initializer_analysis.proofs.dependence.add_classes.Goals as goal
+
+pub loop-class-preserved : goal.loop-class-preserved
+loop-class-preserved c =
+    added_more (IsVertexOf c.args.program.now c.args.uses.now) c.args.classes.now c.args.graph.now c.args.from
+    c.loop-class.graph c.add_class.new.graph c.loop-class.class-index _ c.loop-class-test.true
+    c.loop-class.invariant c.in_ok-add_class.ensures
+
+pub returns : goal.returns
+returns c =
+    let whole : length c.args.classes.now ≤ c.loop-class.class-index = omega arith in
+    added_all (IsVertexOf c.args.program.now c.args.uses.now) c.args.classes.now c.args.graph.now c.args.from
+    c.loop-class.graph c.loop-class.class-index whole c.loop-class.invariant
