@@ -16,7 +16,6 @@ use Rattle.use_graph.specs.steps.Searching.{IsAmong, AreReached}
 module _ (P : Tables) (methods : List DeclaredMember) (graph : Rows) (all : AreMethods P methods)
     (whole : IsCallGraph P methods graph) (c m s : ℕ) (begins : initializer_in P c ≡ Some m)
     (number : slice_get methods s ≡ Some (record { class = c; index = m })) where
-
   -- ---- what is reached may run
 
   -- a method that may run, or one whose likes may run
@@ -58,9 +57,16 @@ module _ (P : Tables) (methods : List DeclaredMember) (graph : Rows) (all : AreM
 
   reached_known : (v : ℕ) → Reaches graph s v → Known v
   reached_known v itself =
-      inl (record { class = c; index = m }, number,
-      initializer begins (declared s (record { class = c; index = m }) number))
+      inl (
+        record { class = c; index = m },
+        number,
+        initializer begins (declared s (record { class = c; index = m }) number),
+      )
   reached_known v (along {a = a} before edge) = step a v (whole.sound a v edge) (reached_known a before)
+
+  pub reached_runs : (n : ℕ) (x : DeclaredMember) → slice_get methods n ≡ Some x → Reaches graph s n
+      → MayRun P c x.class x.index
+  reached_runs n x at path = caller_runs n x at (reached_known n path)
 
   -- ---- what may run is reached
 
@@ -71,10 +77,13 @@ module _ (P : Tables) (methods : List DeclaredMember) (graph : Rows) (all : AreM
   leads_on n e j before (to, at, inl edge) = (to, along before edge, at)
   leads_on n e j before (to, at, inr (r, first, then)) = (to, along (along before first) then, at)
 
-  runs_reached : (d k : ℕ) → MayRun P c d k → IsReachedAt d k
-  runs_reached d k (initializer {m = i} at there) =
-      (s, itself, number ∙ ap (λ (x : ℕ). Some (let r : DeclaredMember = record { class = c; index = x } in r))
-      (let two : Some m ≡ Some i = sym begins ∙ at in let is : m ≡ i = cc in is))
+  pub runs_reached : (d k : ℕ) → MayRun P c d k → IsReachedAt d k
+  runs_reached d k (initializer {m = i} at there) = (
+    s,
+    itself,
+    number ∙ ap (λ (x : ℕ). Some (let r : DeclaredMember = record { class = c; index = x } in r))
+        (let two : Some m ≡ Some i = sym begins ∙ at in let is : m ≡ i = cc in is),
+  )
   runs_reached d k (called {d = x} {k = y} before goes there) =
       let (n, path, at) = runs_reached x y before in
       leads_on n d k path (whole.complete n x y d k at goes ((all d k).0 there))
@@ -82,19 +91,20 @@ module _ (P : Tables) (methods : List DeclaredMember) (graph : Rows) (all : AreM
   pub are_reached : (reached : List ℕ) → ((v : ℕ) → Contains reached v ↔ Reaches graph s v)
       → AreReached P methods c reached
   are_reached reached members x = (
-    λ (n, among, at). caller_runs n x at (reached_known n ((members n).0 among)),
+    λ (n, among, at). reached_runs n x at ((members n).0 among),
     λ runs. (let (n, path, at) = runs_reached x.class x.index runs in (n, (members n).1 path, at)),
   )
 
 -- ---- a class without a class initialization method runs none
 
+pub run_begins : (P : Tables) (c d k : ℕ) → MayRun P c d k
+    → (m : ℕ) × (initializer_in P c ≡ Some m) × IsDeclared P c m
+run_begins P c d k (initializer {m = m} at there) = (m, at, there)
+run_begins P c d k (called {d = x} {k = y} before goes there) = run_begins P c x y before
+
 pub none_run : (P : Tables) (methods : List DeclaredMember) (c : ℕ) (reached : List ℕ)
     → ((m : ℕ) → initializer_in P c ≡ Some m → IsDeclared P c m → ⊥) → length reached ≡ 0 → AreReached P methods c reached
 none_run P methods c reached none empty x = (
   λ (n, (k, small, e), at). absurd (omega arith),
-  λ runs. absurd (never x.class x.index runs),
+  λ runs. (let (m, at, there) = run_begins P c x.class x.index runs in absurd (none m at there)),
 )
-  where
-    never : (d k : ℕ) → MayRun P c d k → ⊥
-    never d k (initializer {m = m} at there) = none m at there
-    never d k (called {d = x} {k = y} before goes there) = never x y before
