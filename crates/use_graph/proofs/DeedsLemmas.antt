@@ -38,11 +38,18 @@ deed_is P d k item deed pc needs callee feature =
     ∙ ap (λ (n : Option ℕ). let r : Deed = record { pc = item.pc; needs = n; callee = deed.callee; feature = deed.feature }
     in r) needs
     ∙ ap (λ (x : Callee). let r : Deed = record {
-      pc = item.pc; needs = needed_by (operation_for P d k item.instruction); callee = x; feature = deed.feature } in r)
+      pc = item.pc;
+      needs = needed_by (operation_for P d k item.instruction);
+      callee = x;
+      feature = deed.feature;
+    } in r)
     callee
     ∙ ap (λ (f : Option Feature). let r : Deed = record {
-      pc = item.pc; needs = needed_by (operation_for P d k item.instruction);
-      callee = callee_of (operation_for P d k item.instruction); feature = f } in r) feature
+      pc = item.pc;
+      needs = needed_by (operation_for P d k item.instruction);
+      callee = callee_of (operation_for P d k item.instruction);
+      feature = f;
+    } in r) feature
 
 deed_pc : (P : Tables) (d k : ℕ) (item : Placed) → (deed_for P d k item).pc ≡ item.pc
 unfolding deed_for
@@ -124,8 +131,12 @@ module _ (P : Tables) (d k : ℕ) where
           → (item : Placed) × (slice_get body place ≡ Some item) × (operation_for P d k item.instruction ≡ o)
       by None at = absurd (let none : operation_of P d k None ≡ Some o =
           sym (ap (operation_of P d k) (here place ∙ ap (option_map (λ (x : Placed). x.instruction)) at)) ∙ e in cc)
-      by (Some item) at = (item, at, (let is : Some (operation_for P d k item.instruction) ≡ Some o =
-          sym (operation_here place item at) ∙ e in cc))
+      by (Some item) at = (
+        item,
+        at,
+        (let is : Some (operation_for P d k item.instruction) ≡ Some o =
+            sym (operation_here place item at) ∙ e in cc),
+      )
 
   item_of_pc : (place n : ℕ) → pc_at P d k place ≡ Some n
       → (item : Placed) × (slice_get body place ≡ Some item) × (item.pc ≡ n)
@@ -154,8 +165,13 @@ module _ (P : Tables) (d k : ℕ) where
           → option_map (deed_for P d k) (slice_get body place) ≡ Some deed
           → (place : ℕ) × (item : Placed) × (slice_get body place ≡ Some item) × (deed_for P d k item ≡ deed)
       by place None at e = absurd (let none : None ≡ Some deed = sym (ap (option_map (deed_for P d k)) at) ∙ e in cc)
-      by place (Some item) at e = (place, item, at, (let is : Some (deed_for P d k item) ≡ Some deed =
-          sym (ap (option_map (deed_for P d k)) at) ∙ e in cc))
+      by place (Some item) at e = (
+        place,
+        item,
+        at,
+        (let is : Some (deed_for P d k item) ≡ Some deed =
+            sym (ap (option_map (deed_for P d k)) at) ∙ e in cc),
+      )
 
   -- ---- what a body calls and needs, and what is told of it
 
@@ -209,9 +225,12 @@ module _ (P : Tables) (d k : ℕ) where
   )
   told_of told place item at pc f is (calling {o = o} e left) = (
     sym (deed_pc P d k item ∙ pc),
-    inr (is, (let same : Some (operation_for P d k item.instruction) ≡ Some o = sym (operation_here place item at) ∙ e in
-        let so : operation_for P d k item.instruction ≡ o = cc in
-        subst (λ (x : Callee). MayRunLeftOut P x) (ap callee_of (sym so) ∙ sym (deed_callee P d k item)) left)),
+    inr (
+      is,
+      (let same : Some (operation_for P d k item.instruction) ≡ Some o = sym (operation_here place item at) ∙ e in
+          let so : operation_for P d k item.instruction ≡ o = cc in
+          subst (λ (x : Callee). MayRunLeftOut P x) (ap callee_of (sym so) ∙ sym (deed_callee P d k item)) left),
+    ),
   )
 
   pub told_by : (told : Told) → HoldsOfOne (IsToldOf P) (deeds_in P d k) told ↔ IsToldIn P d k told

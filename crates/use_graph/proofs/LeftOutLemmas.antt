@@ -24,10 +24,15 @@ module _ (P : Tables) where
   pub listed_left_out : (z : DeclaredMember) (none like : List DeclaredMember) (b : Bool) → none ≡ []
       → AreListed P.family z none like → IsTrue b ↔ HasLeftOut P like → IsTrue b ↔ SelectsLeftOut P z
   listed_left_out z none like b empty listed is = (
-    λ t. (let (y, among, left) = is.0 t in (y.class, y.index, elim ((listed y.class y.index).0 among) [
-      | inl (k, small, at) ↦ absurd (let no : length none ≡ 0 = ap length empty in omega arith)
-      | inr named ↦ named
-    ], left)),
+    λ t. (let (y, among, left) = is.0 t in (
+      y.class,
+      y.index,
+      elim ((listed y.class y.index).0 among) [
+        | inl (k, small, at) ↦ absurd (let no : length none ≡ 0 = ap length empty in omega arith)
+        | inr named ↦ named
+      ],
+      left,
+    )),
     λ (e, j, named, left). is.1 (record { class = e; index = j }, (listed e j).1 (inr named), left),
   )
 
@@ -43,7 +48,7 @@ module _ (P : Tables) where
       by : (n ≡ r) ⊎ (n ≡ r → ⊥) → (IsTrue so ↔ SelectsLeftOut P y)
       by (inl same) =
           let one : Some (Some b) ≡ Some (Some so) =
-              sym (set_here known n (Some b) small) ∙ ap (slice_get (slice_set known n (Some b))) same ∙ there in
+          sym (set_here known n (Some b) small) ∙ ap (slice_get (slice_set known n (Some b))) same ∙ there in
           let two : Some z ≡ Some y = sym at ∙ ap (slice_get methods) same ∙ here in
           let value : b ≡ so = cc in
           let member : z ≡ y = cc in

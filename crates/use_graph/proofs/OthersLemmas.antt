@@ -6,7 +6,6 @@ use Rattle.std.specs.List.Sorted.{IsStrictlyIncreasing}
 use Rattle.std.proofs.lemmas.Grind.{common_steps}
 use Rattle.std.proofs.lemmas.List.{length_push}
 use Rattle.std.proofs.lemmas.List.Elements.{Contains-push_cases, Contains-push, Contains-append_left, Contains-get_or}
-
 use Rattle.use_graph.specs.steps.Searching.{AddsOther}
 
 pub record Others (used : List ℕ) (class limit : ℕ) (classes : List ℕ) : Type 0 where

@@ -24,7 +24,6 @@ one_of (x ∷ xs) n low = (get_or (x ∷ xs) n x, slice_get-get_or (x ∷ xs) n 
 
 module _ (P : Tables) (graph : UseGraph) (c : ℕ) (reached : List ℕ) (whole : IsUseGraph P graph)
     (are : AreReached P graph.methods c reached) where
-
   -- the method beside a body, and the body beside a method
   method_of : (n : ℕ) (b : BodyUses) → slice_get graph.bodies.items n ≡ Some b
       → (m : DeclaredMember) × (slice_get graph.methods n ≡ Some m)
@@ -61,18 +60,25 @@ module _ (P : Tables) (graph : UseGraph) (c : ℕ) (reached : List ℕ) (whole :
       → ((e : ℕ) → Contains used e ↔ (Contains first e ⊎ IsNeededIn graph.bodies.items limit reached e))
       → (e : ℕ) → ((e < limit) × (e ≢ c) × Contains used e) ↔ IsUse P c e
   are_used limit none first used size empty begins goes e = (
-    λ (low, other, among). (omega (arith, size, low), other, elim ((goes e).0 among) [
-      | inl was ↦ elim ((begins e).0 was) [
-        | inl (k, small, here) ↦ absurd (let no : length none ≡ 0 = ap length empty in omega arith)
-        | inr (x, before, (less, is)) ↦ inl (subst (λ (y : ℕ). Contains (order_in P c) y) (sym is) before)
-      ]
-      | inr needed ↦ inr (needed_may limit e needed)
-    ]),
-    λ (low, other, used). (let less : e < limit = omega (arith, size, low) in
-        (less, other, elim used [
-          | inl before ↦ (goes e).1 (inl ((begins e).1 (inr (e, before, (less, refl)))))
-          | inr may ↦ (goes e).1 (inr (may_needed limit e less may))
-        ])),
+    λ (low, other, among). (
+      omega (arith, size, low),
+      other,
+      elim ((goes e).0 among) [
+        | inl was ↦ elim ((begins e).0 was) [
+          | inl (k, small, here) ↦ absurd (let no : length none ≡ 0 = ap length empty in omega arith)
+          | inr (x, before, (less, is)) ↦ inl (subst (λ (y : ℕ). Contains (order_in P c) y) (sym is) before)
+        ]
+        | inr needed ↦ inr (needed_may limit e needed)
+      ],
+    ),
+    λ (low, other, used). (let less : e < limit = omega (arith, size, low) in (
+      less,
+      other,
+      elim used [
+        | inl before ↦ (goes e).1 (inl ((begins e).1 (inr (e, before, (less, refl)))))
+        | inr may ↦ (goes e).1 (inr (may_needed limit e less may))
+      ],
+    )),
   )
 
   pub are_used_by : (limit : ℕ) (order none first used classes : List ℕ) → limit ≡ length P.classes
@@ -83,8 +89,8 @@ module _ (P : Tables) (graph : UseGraph) (c : ℕ) (reached : List ℕ) (whole :
       → (e : ℕ) → Contains classes e ↔ IsUse P c e
   are_used_by limit order none first used classes size is empty begins goes members e =
       let all = are_used limit none first used size empty
-          (subst (λ (l : List ℕ). (d : ℕ) → Contains first d
-          ↔ (Contains none d ⊎ HoldsOfOne (IsClassBelow limit) l d)) is begins) goes e in
+      (subst (λ (l : List ℕ). (d : ℕ) → Contains first d
+      ↔ (Contains none d ⊎ HoldsOfOne (IsClassBelow limit) l d)) is begins) goes e in
       (λ p. all.0 ((members e).0 p), λ p. (members e).1 (all.1 p))
 
   -- ---- marks

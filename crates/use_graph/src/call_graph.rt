@@ -263,7 +263,16 @@ fn add_calls(
     ensures leads { OnOk result (LeadsByEach program.now numbers.now graph.new from deeds.now) }
 {
     for deed in deeds {
-        add_call(alloc, program, numbers, graph, groups, from, caller, deed.callee)?;
+        add_call(
+            alloc,
+            program,
+            numbers,
+            graph,
+            groups,
+            from,
+            caller,
+            deed.callee,
+        )?;
     }
     Ok(())
 }

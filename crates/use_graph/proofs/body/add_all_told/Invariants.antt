@@ -1,4 +1,3 @@
-
 use Rattle.use_graph.specs.steps.Deeds.{IsToldOf}
 use Rattle.use_graph.specs.steps.LeftOut.{AreKnown}
 use Rattle.use_graph.proofs.CollectedLemmas.{Collected}

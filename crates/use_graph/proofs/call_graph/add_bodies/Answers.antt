@@ -13,6 +13,6 @@ loop-number-preserved c = record {
 pub returns : goal.returns
 returns c =
     let whole : length c.args.numbers.now ≤ c.loop-number.number =
-        omega (arith, c.loop-number-test.false, c.len-number-end.ensures) in
+    omega (arith, c.loop-number-test.false, c.len-number-end.ensures) in
     done_all c.args.program.now c.args.numbers.now c.loop-number.graph c.loop-number.groups.items c.loop-number.number
     whole c.loop-number.invariant.done

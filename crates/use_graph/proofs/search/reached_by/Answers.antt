@@ -18,5 +18,8 @@ returns-in_ok-nothing-in-None c =
 pub reach-requires : goal.reach-requires
 reach-requires c =
     let (m, begins, number) = c.in-Some.ensures in
-    omega (arith, c.requires.calls.vertices,
-    slice_get_within c.args.graph.now.methods c.in-Some.start (record { class = c.args.class; index = m }) number)
+    omega (
+      arith,
+      c.requires.calls.vertices,
+      slice_get_within c.args.graph.now.methods c.in-Some.start (record { class = c.args.class; index = m }) number,
+    )
