@@ -3,3 +3,7 @@ pub mod SettledLemmas
 pub mod RaisedLemmas
 pub mod HeightsLemmas
 pub mod VerdictsLemmas
+pub mod LabelsLemmas
+pub mod MarkingLemmas
+pub mod RefusedUsesLemmas
+pub mod ReasonsLemmas

@@ -1,17 +1,17 @@
 -- Classes have one verdict each.
-use Rattle.std.proofs.Common.{◌≡◌, ◌⊎◌, ℕ, zero, suc, ◌+◌, ◌<◌, ◌≤◌, Bool, List, [], ◌∷◌, length, Option, Some, None}
-use Rattle.std.proofs.Common.{◌==◌, if◌then◌else◌, slice_get, get_or, refl, sym, ap, subst, ◌∙◌, inl, inr, arith}
+use Rattle.std.proofs.Common.{◌≡◌, ℕ, zero, suc, ◌+◌, ◌<◌, ◌≤◌, Bool, List, [], ◌∷◌, length, Option, Some, None}
+use Rattle.std.proofs.Common.{◌==◌, if◌then◌else◌, slice_get, get_or, refl, sym, ap, ◌∙◌, inl, inr, arith}
 use Rattle.std.proofs.lemmas.Option.{slice_get_within, slice_get-get_or}
 use Rattle.program.specs.Tables.{Tables}
 use Rattle.use_graph.specs.declared.mark.Mark.{Mark}
 use Rattle.use_graph.specs.declared.mark.Mark.TheVariants as marks
-use Rattle.use_graph.specs.Uses.{IsUse, HasMark}
+use Rattle.use_graph.specs.Uses.{IsUse}
 use Rattle.initializer_analysis.specs.declared.verdict.Reason.{Reason}
 use Rattle.initializer_analysis.specs.declared.verdict.Reason.TheVariants as reasons
 use Rattle.initializer_analysis.specs.declared.verdict.Verdict.{Verdict}
 use Rattle.initializer_analysis.specs.declared.verdict.Verdict.TheVariants.{Wave, Refused}
-use Rattle.initializer_analysis.specs.Verdicts.{Holds, rank, rank_of, IsFirst, NoneHolds, HasWave, IsAccepted, IsFirstRefused}
-use Rattle.initializer_analysis.specs.Verdicts.{IsWave, IsVerdict, AreVerdicts, OneVerdict, WavesFall}
+use Rattle.initializer_analysis.specs.Verdicts.{Holds, rank, rank_of, IsFirst, NoneHolds, HasWave, IsAccepted}
+use Rattle.initializer_analysis.specs.Verdicts.{IsFirstRefused, IsWave, IsVerdict, AreVerdicts, OneVerdict, WavesFall}
 
 -- ---- lists that agree at each place
 
@@ -47,11 +47,11 @@ mark_back marks.ForeignRead = refl
 mark_back marks.Unsupported = refl
 mark_back marks.Missing = refl
 
-same_mark : (m n : Mark) → rank_of m ≡ rank_of n → m ≡ n
+pub same_mark : (m n : Mark) → rank_of m ≡ rank_of n → m ≡ n
 same_mark m n e = (let two : Some m ≡ Some n = sym (mark_back m) ∙ ap mark_of e ∙ mark_back n in cc)
 
 -- the rank of a mark is between those of the other reasons
-mark_between : (m : Mark) → (1 < rank_of m) × (rank_of m < 9)
+pub mark_between : (m : Mark) → (1 < rank_of m) × (rank_of m < 9)
 mark_between marks.Prints = (omega arith, omega arith)
 mark_between marks.Throws = (omega arith, omega arith)
 mark_between marks.Monitors = (omega arith, omega arith)
@@ -150,22 +150,27 @@ module _ (P : Tables) (forced : List Bool) (vs ws : List Verdict) (are : AreVerd
   same_kind : (c : ℕ) (v w : Verdict) → slice_get vs c ≡ Some v → slice_get ws c ≡ Some w → Kind P forced vs c v
       → Kind P forced ws c w → v ≡ w
   same_kind c (Wave n) w at at_w (accepted none wave) kind =
-      (let two : Some w ≡ Some (Wave n) = sym at_w ∙ wave_there P forced vs ws are also (n + 1) n c (omega arith) at in cc)
+      (let two : Some w ≡ Some (Wave n) =
+      sym at_w ∙ wave_there P forced vs ws are also (n + 1) n c (omega arith) at in cc)
   same_kind c v (Wave n) at at_w kind (accepted none wave) =
-      (let two : Some v ≡ Some (Wave n) = sym at ∙ wave_there P forced ws vs also are (n + 1) n c (omega arith) at_w in cc)
+      (let two : Some v ≡ Some (Wave n) =
+      sym at ∙ wave_there P forced ws vs also are (n + 1) n c (omega arith) at_w in cc)
   same_kind c (Refused r) (Refused q) at at_w (own first) (own other) =
       ap (λ (x : Reason). Refused x) (same_first P forced c r q first other)
   same_kind c (Refused r) (Refused q) at at_w (own first) (dependent none x) = absurd (none r first.0)
   same_kind c (Refused r) (Refused q) at at_w (dependent none x) (own first) = absurd (none q first.0)
   same_kind c (Refused r) (Refused q) at at_w (dependent {e = d} none (uses, refused, first))
       (dependent {e = e} nor (used, so, least)) =
-      ap (λ (x : ℕ). Refused (reasons.DependsOn x)) (omega (arith,
-      first e used (λ a. so (accepted_there P forced vs ws are also e a)),
-      least d uses (λ a. refused (accepted_there P forced ws vs also are d a))))
+      ap (λ (x : ℕ). Refused (reasons.DependsOn x)) (omega (
+        arith,
+        first e used (λ a. so (accepted_there P forced vs ws are also e a)),
+        least d uses (λ a. refused (accepted_there P forced ws vs also are d a)),
+      ))
 
   pub same_verdicts : vs ≡ ws
   same_verdicts = same_lists vs ws (are.count ∙ sym also.count) (λ c v w at at_w.
-      same_kind c v w at at_w (kind_of P forced vs c v (are.each c v at)) (kind_of P forced ws c w (also.each c w at_w)))
+      same_kind c v w at at_w (kind_of P forced vs c v (are.each c v at))
+      (kind_of P forced ws c w (also.each c w at_w)))
 
 pub one_verdict : OneVerdict
 one_verdict P forced vs ws are also = same_verdicts P forced vs ws are also

@@ -1,2 +1,5 @@
 pub mod Settled
 pub mod Raised
+pub mod Marking
+pub mod RefusedUses
+pub mod Reasons

@@ -59,8 +59,18 @@ impl Least {
         }
     }
 
+    /// Those of a label, if it is there.
+    pub(crate) fn of(label: Option<u32>) -> Least
+        ensures { AreLeast (λ l. label ≡ Some l) result }
+    {
+        Least {
+            first: label,
+            second: None,
+        }
+    }
+
     /// The least of them but one that may be among them.
-    fn but(self, other: Option<u32>) -> Option<u32>
+    pub(crate) fn but(self, other: Option<u32>) -> Option<u32>
         ensures { IsFirst (λ l. IsOf self l × (¬ (other ≡ Some l))) result }
     {
         lesser(unless(self.first, other), unless(self.second, other))

@@ -61,7 +61,8 @@ fn highest(
     highest
 }
 
-/// The height of a vertex's component, as far as a table has it, raised to the tops of those to which this vertex leads.
+/// The height of a vertex's component, as far as a table has it, raised to the tops of those to which the vertex
+/// leads.
 fn raised(
     graph: &Graph,
     components: &Components,
