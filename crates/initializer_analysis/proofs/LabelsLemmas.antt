@@ -1,6 +1,7 @@
 -- The least labels of some things, joined from one after another, and a table of those of each vertex.
-use Rattle.std.proofs.Common.{◌≡◌, ◌↔◌, ◌⊎◌, ℕ, ◌+◌, ◌<◌, ◌≤◌, List, [], ◌∷◌, ◌++◌, length, take, get_or, sym, subst, ap}
-use Rattle.std.proofs.Common.{slice_index_or, slice_get, Bool, true, false, IsTrue, Option, Some, None, IsSome, is_some, Result, Ok, Err, IfOk}
+use Rattle.std.proofs.Common.{◌≡◌, ◌↔◌, ◌⊎◌, ℕ, ◌+◌, ◌<◌, ◌≤◌, List, [], ◌∷◌, ◌++◌, length, take, get_or, sym, subst}
+use Rattle.std.proofs.Common.{slice_index_or, slice_get, Bool, true, false, IsTrue, Option, Some, None, IsSome}
+use Rattle.std.proofs.Common.{is_some, Result, Ok, Err, IfOk, ap}
 use Rattle.std.proofs.Common.{inl, inr, refl, ◌∙◌, arith}
 use Rattle.std.specs.List.{Contains}
 use Rattle.std.proofs.lemmas.Grind.{common_steps}
@@ -163,11 +164,13 @@ IsFirst-some P None none = (
 )
 IsFirst-some P (Some f) (is, least) = (λ h. (f, is), λ q. refl)
 
-pub IsFirst-tells : (P : ℕ → Type 0) (c : Option ℕ) (b : Bool) → IsFirst P c → b ≡ is_some c → IsTrue b ↔ ((l : ℕ) × P l)
+pub IsFirst-tells : (P : ℕ → Type 0) (c : Option ℕ) (b : Bool) → IsFirst P c → b ≡ is_some c
+    → IsTrue b ↔ ((l : ℕ) × P l)
 IsFirst-tells P c b first is =
     subst (λ (x : Bool). IsTrue x ↔ ((l : ℕ) × P l)) (sym is) (IsFirst-some P c first)
 
-pub length_pushed : (old new : List Least) (c : Least) (i : ℕ) → length old ≡ i → new ≡ old ++ c ∷ [] → length new ≡ i + 1
+pub length_pushed : (old new : List Least) (c : Least) (i : ℕ) → length old ≡ i → new ≡ old ++ c ∷ []
+    → length new ≡ i + 1
 length_pushed old new c i len pushed = rw pushed (rw length_push (omega arith))
 
 -- the table of what is reached, from that of each vertex's own

@@ -6,6 +6,4 @@ pub mod VerdictsLemmas
 pub mod LabelsLemmas
 pub mod MarkingLemmas
 pub mod RefusedUsesLemmas
-pub mod AddsFromLemmas
-pub mod RowsBelowLemmas
-pub mod DependenceLemmas
+pub mod ReasonsLemmas

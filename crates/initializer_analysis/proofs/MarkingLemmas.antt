@@ -11,11 +11,11 @@ use Rattle.use_graph.specs.declared.feature.Feature.TheVariants as features
 use Rattle.use_graph.specs.declared.mark.Mark.{Mark}
 use Rattle.use_graph.specs.declared.mark.Mark.TheVariants as marks
 use Rattle.use_graph.specs.declared.whole_program.UseGraph.{UseGraph}
-use Rattle.use_graph.specs.Uses.{Means, HasMark}
+use Rattle.use_graph.specs.Uses.{IsDeclared, MayRun, Means, HasMark}
 use Rattle.use_graph.specs.steps.Bodies.{IsUseGraph}
 use Rattle.use_graph.specs.steps.Searching.{StartsAt}
 use Rattle.use_graph.proofs.DeedsLemmas.{pc_of_told}
-use Rattle.use_graph.proofs.ReachedLemmas.{runs_reached, reached_runs, none_runs}
+use Rattle.use_graph.proofs.ReachedLemmas.{runs_reached, reached_runs, run_begins}
 use Rattle.initializer_analysis.specs.declared.labels.Least.{Least}
 use Rattle.initializer_analysis.specs.Least.{IsFirst, IsOf}
 use Rattle.initializer_analysis.specs.LeastReached.{no_labels}
@@ -80,6 +80,11 @@ pub method_small : (P : Tables) (uses : UseGraph) → IsUseGraph P uses → (n :
 method_small P uses whole n m at =
     (let low = slice_get_within uses.methods n m at in omega (arith, whole.calls.vertices))
 
+-- a class without a class initialization method runs none
+pub none_runs : (P : Tables) (c : ℕ) → ((m : ℕ) → initializer_in P c ≡ Some m → IsDeclared P c m → ⊥) → (d k : ℕ)
+    → MayRun P c d k → ⊥
+none_runs P c none d k runs = (let (m, begins, there) = run_begins P c d k runs in none m begins there)
+
 -- ---- the marks of a class
 
 module _ (P : Tables) (uses : UseGraph) (c : ℕ) (mark : Mark) (whole : IsUseGraph P uses) where
@@ -102,7 +107,7 @@ module _ (P : Tables) (uses : UseGraph) (c : ℕ) (mark : Mark) (whole : IsUseGr
       → (l : ℕ) × (ReachesMark uses mark s l × (¬ (ignored mark c ≡ Some l))) → HasMark P c mark
   reached_mark m s begins number (l, ((n, path, (b, here, (t, among, is))), counts)) =
       let (x, at) = method_of P uses whole n b here in
-      let runs = reached_runs P uses.methods uses.calls whole.methods whole.calls c m s begins number n x path at in
+      let runs = reached_runs P uses.methods uses.calls whole.methods whole.calls c m s begins number n x at path in
       let (place, first, told) = ((whole.bodies n x b at here).told t).0 among in
       (x.class, x.index, place, runs, (t.feature, told, label_means c t.feature mark l is counts))
 

@@ -12,14 +12,14 @@ use Rattle.use_graph.specs.Uses.{MayNeed}
 use Rattle.use_graph.specs.steps.Bodies.{IsUseGraph}
 use Rattle.use_graph.specs.steps.Deeds.{HoldsOfOne}
 use Rattle.use_graph.specs.steps.Searching.{StartsAt}
-use Rattle.use_graph.proofs.ReachedLemmas.{runs_reached, reached_runs, none_runs}
+use Rattle.use_graph.proofs.ReachedLemmas.{runs_reached, reached_runs}
 use Rattle.initializer_analysis.specs.declared.labels.Least.{Least}
 use Rattle.initializer_analysis.specs.Least.{IsFirst, AreLeast, IsOf}
 use Rattle.initializer_analysis.specs.LeastReached.{no_labels}
 use Rattle.initializer_analysis.specs.RefusedUses.{IsRefusedUse}
 use Rattle.initializer_analysis.specs.steps.RefusedUses.{IsRefusedOf, ReachesRefused, AreRefusedNeeds}
 use Rattle.initializer_analysis.proofs.LeastLemmas.{IsFirst-same, IsFirst-of_least, AreLeast-of_joined}
-use Rattle.initializer_analysis.proofs.MarkingLemmas.{method_of, body_of, start_small}
+use Rattle.initializer_analysis.proofs.MarkingLemmas.{method_of, body_of, start_small, none_runs}
 
 -- those of some classes that are below a limit and refused
 abbrev pub IsRefusedAmong : List Bool → ℕ → List ℕ → ℕ → Type 0
@@ -48,7 +48,7 @@ module _ (P : Tables) (uses : UseGraph) (refused : List Bool) (c : ℕ) (whole :
       → ReachesRefused uses refused (length P.classes) s e → e ≢ c → IsRefusedUse P refused c e
   reached_use m s e begins number (n, path, (b, here, (x, need, (same, low, holds)))) other =
       let (y, at) = method_of P uses whole n b here in
-      let runs = reached_runs P uses.methods uses.calls whole.methods whole.calls c m s begins number n y path at in
+      let runs = reached_runs P uses.methods uses.calls whole.methods whole.calls c m s begins number n y at path in
       let needs = ((whole.bodies n y b at here).needs e).0
       (subst (λ (z : ℕ). Contains b.needs.items z) (sym same) need) in
       ((low, other, inr (y.class, y.index, runs, needs)), holds)

@@ -47,11 +47,11 @@ mark_back marks.ForeignRead = refl
 mark_back marks.Unsupported = refl
 mark_back marks.Missing = refl
 
-same_mark : (m n : Mark) → rank_of m ≡ rank_of n → m ≡ n
+pub same_mark : (m n : Mark) → rank_of m ≡ rank_of n → m ≡ n
 same_mark m n e = (let two : Some m ≡ Some n = sym (mark_back m) ∙ ap mark_of e ∙ mark_back n in cc)
 
 -- the rank of a mark is between those of the other reasons
-mark_between : (m : Mark) → (1 < rank_of m) × (rank_of m < 9)
+pub mark_between : (m : Mark) → (1 < rank_of m) × (rank_of m < 9)
 mark_between marks.Prints = (omega arith, omega arith)
 mark_between marks.Throws = (omega arith, omega arith)
 mark_between marks.Monitors = (omega arith, omega arith)

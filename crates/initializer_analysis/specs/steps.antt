@@ -2,4 +2,4 @@ pub mod Settled
 pub mod Raised
 pub mod Marking
 pub mod RefusedUses
-pub mod Dependence
+pub mod Reasons

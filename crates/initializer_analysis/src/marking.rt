@@ -7,17 +7,18 @@ ghost use Rattle.use_graph.specs.steps.Bodies.{IsUseGraph};
 ghost use Rattle.use_graph.specs.steps.Deeds.{HoldsOfOne};
 ghost use Rattle.graph.specs.Components.{AreComponents};
 ghost use Rattle.initializer_analysis.specs.Least.{AreLeast};
-ghost use Rattle.initializer_analysis.specs.steps.Marking.{IsLabel, ignored, IsLabelOf, IsMarkedBy, HasLeastOf, AreMarks};
+ghost use Rattle.initializer_analysis.specs.steps.Marking.{IsLabel, ignored, IsLabelOf, IsMarkedBy};
+ghost use Rattle.initializer_analysis.specs.steps.Marking.{HasLeastOf, AreMarks};
 
 use crate::labels::Least;
 use crate::reached_labels::least_reached;
 use graph::Components;
 use program::Program;
 use std::alloc::{AllocError, Global};
-use use_graph::UseGraph;
 use use_graph::body::Told;
 use use_graph::feature::Feature;
 use use_graph::mark::Mark;
+use use_graph::{UseGraph, start_of};
 
 /// The label of what is told of an instruction, where it is this mark for some class.
 fn label_of(feature: Feature, mark: Mark) -> Option<u32>
@@ -124,7 +125,7 @@ pub fn bears(program: &Program, uses: &UseGraph, table: &[Least], class: u32, ma
     requires table { AreMarks uses.now mark table.now }
     ensures { IsTrue result ↔ HasMark program.now class mark }
 {
-    match uses.start(program, class) {
+    match start_of(program, uses, class) {
         Some(vertex) => {
             let label = table[vertex].but(ignored_label(mark, class));
             label.is_some()

@@ -14,7 +14,7 @@ use crate::reached_labels::least_reached;
 use graph::Components;
 use program::Program;
 use std::alloc::{AllocError, Global};
-use use_graph::UseGraph;
+use use_graph::{UseGraph, start_of};
 
 /// Whether a class is refused: a number beyond the marks is not.
 fn is_refused(refused: &[bool], class: u32) -> bool
@@ -108,7 +108,7 @@ fn first_refused_by(
 {
     let limit = program.given_count();
     let before = refused_among(program.init_order(class), limit, refused);
-    match uses.start(program, class) {
+    match start_of(program, uses, class) {
         Some(vertex) => before.join(table[vertex]).first_but(class),
         None => before.first_but(class),
     }
@@ -127,7 +127,7 @@ fn first_of_each(
     ensures { IfOk result (λ first. AreFirstRefused program.now refused.now first.items) }
 {
     let limit = program.given_count();
-    let mut first = Vec::with_capacity(alloc, limit as usize)?;
+    let mut first = Vec::new(alloc);
     for class in 0..limit {
         first.push(first_refused_by(program, uses, refused, table, class))?;
     }

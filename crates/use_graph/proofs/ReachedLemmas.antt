@@ -65,9 +65,9 @@ module _ (P : Tables) (methods : List DeclaredMember) (graph : Rows) (all : AreM
       )
   reached_known v (along {a = a} before edge) = step a v (whole.sound a v edge) (reached_known a before)
 
-  pub reached_runs : (n : ℕ) (x : DeclaredMember) → Reaches graph s n → slice_get methods n ≡ Some x
+  pub reached_runs : (n : ℕ) (x : DeclaredMember) → slice_get methods n ≡ Some x → Reaches graph s n
       → MayRun P c x.class x.index
-  reached_runs n x path at = caller_runs n x at (reached_known n path)
+  reached_runs n x at path = caller_runs n x at (reached_known n path)
 
   -- ---- what may run is reached
 
@@ -78,8 +78,7 @@ module _ (P : Tables) (methods : List DeclaredMember) (graph : Rows) (all : AreM
   leads_on n e j before (to, at, inl edge) = (to, along before edge, at)
   leads_on n e j before (to, at, inr (r, first, then)) = (to, along (along before first) then, at)
 
-  pub runs_reached : (d k : ℕ) → MayRun P c d k
-      → (n : ℕ) × Reaches graph s n × (slice_get methods n ≡ Some (record { class = d; index = k }))
+  pub runs_reached : (d k : ℕ) → MayRun P c d k → IsReachedAt d k
   runs_reached d k (initializer {m = i} at there) = (
     s,
     itself,
@@ -93,7 +92,7 @@ module _ (P : Tables) (methods : List DeclaredMember) (graph : Rows) (all : AreM
   pub are_reached : (reached : List ℕ) → ((v : ℕ) → Contains reached v ↔ Reaches graph s v)
       → AreReached P methods c reached
   are_reached reached members x = (
-    λ (n, among, at). reached_runs n x ((members n).0 among) at,
+    λ (n, among, at). reached_runs n x at ((members n).0 among),
     λ runs. (let (n, path, at) = runs_reached x.class x.index runs in (n, (members n).1 path, at)),
   )
 
@@ -104,14 +103,10 @@ pub run_begins : (P : Tables) (c d k : ℕ) → MayRun P c d k
 run_begins P c d k (initializer {m = m} at there) = (m, at, there)
 run_begins P c d k (called {d = x} {k = y} before goes there) = run_begins P c x y before
 
-pub none_runs : (P : Tables) (c : ℕ) → ((m : ℕ) → initializer_in P c ≡ Some m → IsDeclared P c m → ⊥)
-    → (d k : ℕ) → MayRun P c d k → ⊥
-none_runs P c none d k runs = (let (m, at, there) = run_begins P c d k runs in none m at there)
-
 pub none_run : (P : Tables) (methods : List DeclaredMember) (c : ℕ) (reached : List ℕ)
     → ((m : ℕ) → initializer_in P c ≡ Some m → IsDeclared P c m → ⊥) → length reached ≡ 0
     → AreReached P methods c reached
 none_run P methods c reached none empty x = (
   λ (n, (k, small, e), at). absurd (omega arith),
-  λ runs. absurd (none_runs P c none x.class x.index runs),
+  λ runs. (let (m, at, there) = run_begins P c x.class x.index runs in absurd (none m at there)),
 )

@@ -15,5 +15,5 @@ pub mod numbers;
 mod search;
 pub mod whole_program;
 
-pub use search::uses;
+pub use search::{start_of, uses};
 pub use whole_program::UseGraph;

@@ -23,7 +23,7 @@ use program::Program;
 use std::alloc::{AllocError, Global};
 
 /// The vertex of the class initialization method of a class, if it has one.
-fn start_of(program: &Program, graph: &UseGraph, class: u32) -> Option<usize>
+pub fn start_of(program: &Program, graph: &UseGraph, class: u32) -> Option<usize>
     requires { AreMethods program.now graph.now.methods }
     ensures { StartsAt program.now graph.now.methods class result }
 {

@@ -1,5 +1,5 @@
-use Rattle.std.proofs.Common.{false, refl}
-use Rattle.initializer_analysis.proofs.MarkingLemmas.{bears_by_label, bears_none}
+use Rattle.std.proofs.Common.{false, refl, arith}
+use Rattle.initializer_analysis.proofs.MarkingLemmas.{bears_by_label, bears_none, start_small}
 use Rattle.initializer_analysis.proofs.marking.bears.Goals as goal
 
 pub returns-in-Some : goal.returns-in-Some
@@ -12,3 +12,9 @@ pub returns-in-None : goal.returns-in-None
 returns-in-None c =
     bears_none c.args.program.now c.args.uses.now c.args.class c.args.mark c.requires.uses false c.in-None.ensures
     refl
+
+pub bounds-table-vertex : goal.bounds-table-vertex
+bounds-table-vertex c =
+    (let small = start_small c.args.program.now c.args.uses.now c.args.class c.in-Some.vertex c.requires.uses
+    c.in-Some.ensures in
+    omega (arith, c.requires.table.len))

@@ -16,6 +16,7 @@ returns c =
     (λ (t : Vec Least Global). AreRefusedNeeds uses refused limit t.items) c.least_reached.result
     (λ t len reached. record {
       len = len;
-      least = least_of_own uses.calls own t.items (NeedsRefused uses.bodies.items refused limit) c.in_ok-own.ensures.own reached;
+      least = least_of_own uses.calls own t.items (NeedsRefused uses.bodies.items refused limit)
+          c.in_ok-own.ensures.own reached;
     })
     c.least_reached.ensures.len (rw c.as_slice.ensures.value at c.least_reached.ensures.least)
