@@ -1,5 +1,5 @@
 -- A graph of what classes and methods depend on, while it is made.
-use Rattle.std.proofs.Common.{◌≡◌, ◌↔◌, ◌⊎◌, ℕ, ◌+◌, ◌<◌, ◌≤◌, List, [], length, Option, Some, None}
+use Rattle.std.proofs.Common.{◌≡◌, ◌↔◌, ◌⊎◌, ℕ, ◌+◌, ◌*◌, ◌<◌, ◌≤◌, List, [], length, Option, Some, None}
 use Rattle.std.proofs.Common.{slice_get, replicate, sym, ap, subst, ◌∙◌, inl, inr, arith}
 use Rattle.std.specs.List.{Contains}
 use Rattle.std.proofs.lemmas.List.{length-replicate}
@@ -8,6 +8,7 @@ use Rattle.graph.specs.Rows.{Rows, successors_of}
 use Rattle.program.specs.Tables.{Tables, order_in}
 use Rattle.use_graph.specs.declared.body.BodyUses.{BodyUses}
 use Rattle.use_graph.specs.declared.whole_program.UseGraph.{UseGraph}
+use Rattle.use_graph.specs.steps.Bodies.{IsUseGraph}
 use Rattle.use_graph.specs.steps.Deeds.{HoldsOfOne}
 use Rattle.use_graph.specs.steps.Searching.{StartsAt}
 use Rattle.initializer_analysis.specs.steps.Dependence.{vertex_of, IsVertexOf, IsNeededVertex, DependsAt}
@@ -43,6 +44,22 @@ module _ (P : Tables) (uses : UseGraph) (v : ℕ) where
   depends_at old mid new row is first then =
       adds_then old mid new v (Contains (successors_of uses.calls v)) (IsNeededVertex P uses v)
       (subst (λ (l : List ℕ). AddsFrom old mid v (Contains l)) is first) then
+
+-- ---- how many vertices there are
+
+pub calls_few : (P : Tables) (uses : UseGraph) → IsUseGraph P uses → length uses.calls ≤ 2 * (65535 * 65535)
+calls_few P uses whole = omega (arith, whole.calls.vertices, whole.few)
+
+pub vertex_low : (P : Tables) (uses : UseGraph) (graph : Rows) (class vertex : ℕ)
+    → length graph ≡ length uses.calls + length P.classes → class < length P.classes → vertex ≡ vertex_of uses class
+    → vertex < length graph
+vertex_low P uses graph class vertex vertices low is = omega (arith, vertices, low, is)
+
+pub all_vertices : (P : Tables) (uses : UseGraph) (graph : Rows) (count vertex : ℕ) → count ≡ length P.classes
+    → vertex ≡ vertex_of uses count → graph ≡ replicate vertex []
+    → graph ≡ replicate (length uses.calls + length P.classes) []
+all_vertices P uses graph count vertex counted is none =
+    none ∙ ap (λ (n : ℕ). replicate n []) (is ∙ ap (vertex_of uses) counted)
 
 -- ---- one class
 

@@ -193,8 +193,7 @@ fn add_all(program: &Program, uses: &UseGraph, graph: &mut Graph) -> Result<(), 
     ensures { OnOk result (IsDependence program.now uses.now graph.new) }
 {
     add_vertices(program, uses, graph)?;
-    add_all_uses(program, uses, graph)?;
-    Ok(())
+    add_all_uses(program, uses, graph)
 }
 
 /// What the classes and methods of a program depend on.

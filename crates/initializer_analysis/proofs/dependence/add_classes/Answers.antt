@@ -1,6 +1,6 @@
-use Rattle.std.proofs.Common.{◌≤◌, length, arith}
+use Rattle.std.proofs.Common.{◌≤◌, ◌∙◌, length, arith}
 use Rattle.initializer_analysis.specs.steps.Dependence.{IsVertexOf}
-use Rattle.initializer_analysis.proofs.AddsFromLemmas.{added_more, added_all}
+use Rattle.initializer_analysis.proofs.AddsFromLemmas.{added_none, added_more, added_all}
 use Rattle.initializer_analysis.proofs.dependence.add_classes.Goals as goal
 
 pub loop-class-preserved : goal.loop-class-preserved
@@ -14,3 +14,16 @@ returns c =
     let whole : length c.args.classes.now ≤ c.loop-class.class-index = omega arith in
     added_all (IsVertexOf c.args.program.now c.args.uses.now) c.args.classes.now c.args.graph.now c.args.from
     c.loop-class.graph c.loop-class.class-index whole c.loop-class.invariant
+
+pub loop-class-init : goal.loop-class-init
+loop-class-init c =
+    added_none (IsVertexOf c.args.program.now c.args.uses.now) c.args.classes.now c.args.graph.now c.args.from
+
+pub add_class-requires-clause-few : goal.add_class-requires-clause-few
+add_class-requires-clause-few c = c.requires.few
+
+pub add_class-requires-clause-vertices : goal.add_class-requires-clause-vertices
+add_class-requires-clause-vertices c = c.loop-class.invariant.len ∙ c.requires.vertices
+
+pub add_class-requires-clause-from : goal.add_class-requires-clause-from
+add_class-requires-clause-from c = omega (arith, c.loop-class.invariant.len, c.requires.from)
