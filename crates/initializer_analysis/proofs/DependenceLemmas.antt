@@ -169,7 +169,7 @@ module _ (P : Tables) (uses : UseGraph) (graph : Rows) (whole : IsUseGraph P use
       (let low = slice_get_within uses.bodies.items v body here in omega (arith, whole.count)) in (
         x.class,
         x.index,
-        reached_runs P uses.methods uses.calls whole.methods whole.calls c m s begins number v x path at,
+        reached_runs P uses.methods uses.calls whole.methods whole.calls c m s begins number v x at path,
         ((whole.bodies v x body at here).needs e).0 need,
       )
 

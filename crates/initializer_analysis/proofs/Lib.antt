@@ -7,3 +7,6 @@ pub mod LabelsLemmas
 pub mod MarkingLemmas
 pub mod RefusedUsesLemmas
 pub mod ReasonsLemmas
+pub mod AddsFromLemmas
+pub mod RowsBelowLemmas
+pub mod DependenceLemmas

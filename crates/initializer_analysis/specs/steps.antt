@@ -2,4 +2,5 @@ pub mod Settled
 pub mod Raised
 pub mod Marking
 pub mod RefusedUses
+pub mod Dependence
 pub mod Reasons
