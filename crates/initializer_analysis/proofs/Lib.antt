@@ -10,3 +10,7 @@ pub mod ReasonsLemmas
 pub mod AddsFromLemmas
 pub mod RowsBelowLemmas
 pub mod DependenceLemmas
+pub mod OthersLemmas
+pub mod CyclesLemmas
+pub mod LabelsOfClassesLemmas
+pub mod JudgingLemmas

@@ -4,3 +4,5 @@ pub mod Marking
 pub mod RefusedUses
 pub mod Dependence
 pub mod Reasons
+pub mod Cycles
+pub mod Judging

@@ -1,5 +1,8 @@
 //! Verdicts on classes.
 
+ghost use Rattle.std.specs.Prelude.{◌≡◌, slice_get};
+
+use std::marker::Model;
 use use_graph::mark::Mark;
 
 /// Why a class is not initialized at build time.
@@ -19,6 +22,37 @@ pub enum Reason {
 #[derive(Clone, Copy)]
 pub enum Verdict {
     /// It is accepted, after all classes of lower waves.
-    Wave(u32),
+    Wave(usize),
     Refused(Reason),
+}
+
+/// The verdicts on all given classes, by their numbers.
+#[derive(Drop)]
+pub struct Verdicts {
+    verdicts: Vec<Verdict>,
+}
+
+impl Model for Verdicts {
+    ghost use Rattle.std.specs.Prelude.{List};
+    ghost use Rattle.initializer_analysis.specs.declared.verdict.Verdict.{Verdict as Held};
+
+    ghost Value = { List Held };
+
+    ghost view = { λ v. v.verdicts.items };
+}
+
+impl Verdicts {
+    /// These verdicts, by numbers of classes.
+    pub(crate) fn of(verdicts: Vec<Verdict>) -> Verdicts
+        ensures { result ≡ verdicts.items }
+    {
+        Verdicts { verdicts }
+    }
+
+    /// The verdict on a class, if it is given.
+    pub fn of_class(&self, class: u32) -> Option<Verdict>
+        ensures { result ≡ slice_get self.now class }
+    {
+        self.verdicts.get(class as usize).copied()
+    }
 }
