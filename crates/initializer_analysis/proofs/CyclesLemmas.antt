@@ -1,6 +1,8 @@
 -- Which classes use themselves by way of others, by the classes of each component.
-use Rattle.std.proofs.Common.{◌≡◌, ◌≢◌, ◌↔◌, ◌⊎◌, ℕ, ◌+◌, ◌<◌, Bool, List, length, replicate, IsTrue, Option, Some, None}
-use Rattle.std.proofs.Common.{is_some, false, true, set, slice_index, slice_index_or, refl, sym, ap, subst, ◌∙◌, inl, inr}
+use Rattle.std.proofs.Common.{◌≡◌, ◌≢◌, ◌↔◌, ◌⊎◌, ℕ, ◌+◌, ◌<◌, Bool}
+use Rattle.std.proofs.Common.{List, length, replicate, IsTrue, Option, Some, None}
+use Rattle.std.proofs.Common.{is_some, false, true, set, slice_index, slice_index_or, refl}
+use Rattle.std.proofs.Common.{sym, ap, subst, ◌∙◌, inl, inr}
 use Rattle.std.proofs.Common.{arith}
 use Rattle.std.proofs.lemmas.Grind.{common_steps}
 use Rattle.graph.specs.Rows.{Rows}
@@ -14,7 +16,8 @@ use Rattle.initializer_analysis.specs.LeastReached.{no_labels, IsOwn}
 use Rattle.initializer_analysis.specs.OwnReasons.{AreOnCycles}
 use Rattle.initializer_analysis.specs.steps.Dependence.{vertex_of, IsDependence}
 use Rattle.initializer_analysis.specs.steps.Cycles.{IsMember, HaveMembers, AddsMember, HasOther, AreOthers}
-use Rattle.initializer_analysis.proofs.LeastLemmas.{AreLeast-stands, AreLeast-same, Stands-joined, Stands-least, Stands-itself}
+use Rattle.initializer_analysis.proofs.LeastLemmas.{AreLeast-stands, AreLeast-same, Stands-joined}
+use Rattle.initializer_analysis.proofs.LeastLemmas.{Stands-least, Stands-itself}
 use Rattle.initializer_analysis.proofs.LeastLemmas.{IsFirst-least, IsFirst-is, IsFirst-of_least}
 use Rattle.initializer_analysis.proofs.DependenceLemmas.{cycle_of_two, two_on_cycle}
 
@@ -100,9 +103,11 @@ module _ (uses : UseGraph) (numbers : List ℕ) where
       Member : ℕ → Type 0
       Member = IsMember uses numbers limit (slice_index numbers (vertex_of uses c))
 
-      by : (o : Option ℕ) → IsFirst (λ l. IsMember uses numbers limit (slice_index numbers (vertex_of uses c)) l × (l ≢ c)) o
+      by : (o : Option ℕ)
+          → IsFirst (λ l. IsMember uses numbers limit (slice_index numbers (vertex_of uses c)) l × (l ≢ c)) o
           → IsTrue (is_some o) ↔ HasOther uses numbers limit c
-      by None none = (λ t. absurd (let h : false ≡ true = t in cc), λ (d, member, other). absurd (none d (member, other)))
+      by None none =
+          (λ t. absurd (let h : false ≡ true = t in cc), λ (d, member, other). absurd (none d (member, other)))
       by (Some d) ((member, other), least) = (λ t. (d, member, other), λ h. refl)
 
 -- ---- cycles of uses
@@ -117,8 +122,14 @@ are_on_cycles P uses graph parts on_cycle whole is are others = record {
         two_on_cycle P uses graph whole is c d low less other
         ((are.shared (vertex_of uses c) (vertex_of uses d) (below c low) (below d less)).0 (sym same))),
     λ cycle. (let (d, other, less, two_ways) = cycle_of_two P uses graph whole is c low cycle in
-        (others.each c low).1 (d, (less,
-        sym ((are.shared (vertex_of uses c) (vertex_of uses d) (below c low) (below d less)).1 two_ways)), other)),
+        (others.each c low).1 (
+          d,
+          (
+            less,
+            sym ((are.shared (vertex_of uses c) (vertex_of uses d) (below c low) (below d less)).1 two_ways),
+          ),
+          other,
+        )),
   );
 }
   where

@@ -1,6 +1,7 @@
 -- Verdicts from what is known of each class.
 use Rattle.std.proofs.Common.{◌≡◌, ◌≢◌, ◌↔◌, ◌⊎◌, ℕ, ◌+◌, ◌<◌, ◌≤◌, Bool, true, false, List, length, Option, Some, None}
-use Rattle.std.proofs.Common.{IsTrue, IsSome, MatchOption, is_some, slice_get, slice_index, slice_index_or, refl, sym, ap}
+use Rattle.std.proofs.Common.{IsTrue, IsSome, MatchOption, is_some, slice_get, slice_index}
+use Rattle.std.proofs.Common.{slice_index_or, refl, sym, ap}
 use Rattle.std.proofs.Common.{subst, ◌∙◌, inl, inr, arith}
 use Rattle.std.proofs.lemmas.Option.{slice_get_within}
 use Rattle.std.proofs.lemmas.Grind.{common_steps}
@@ -21,10 +22,12 @@ use Rattle.initializer_analysis.specs.Least.{IsFirst, AreLeast}
 use Rattle.initializer_analysis.specs.LeastReached.{no_labels, IsReachedLabel, AreLeastReached}
 use Rattle.initializer_analysis.specs.OwnReasons.{AreOwnReasons}
 use Rattle.initializer_analysis.specs.RefusedUses.{IsRefusedUse, AreFirstRefused}
-use Rattle.initializer_analysis.specs.Verdicts.{UsesAlong, Holds, NoneHolds, HasWave, IsAccepted, IsVerdict, AreVerdicts}
+use Rattle.initializer_analysis.specs.Verdicts.{UsesAlong, Holds, NoneHolds, HasWave}
+use Rattle.initializer_analysis.specs.Verdicts.{IsAccepted, IsVerdict, AreVerdicts}
 use Rattle.initializer_analysis.specs.Verdicts as verdict_specs
 use Rattle.initializer_analysis.specs.steps.Dependence.{vertex_of, IsDependence}
-use Rattle.initializer_analysis.specs.steps.Judging.{own_reason, AreOwnLabels, AreFirstThere, ReachesRefused, AreRefused}
+use Rattle.initializer_analysis.specs.steps.Judging.{own_reason, AreOwnLabels, AreFirstThere}
+use Rattle.initializer_analysis.specs.steps.Judging.{ReachesRefused, AreRefused}
 use Rattle.initializer_analysis.specs.steps.Judging.{AreClassMarks, verdict_by, AreVerdictsBy}
 use Rattle.initializer_analysis.proofs.LeastLemmas.{IsFirst-least, IsFirst-is}
 use Rattle.initializer_analysis.proofs.DependenceLemmas.{use_reached, next_use, two_on_cycle}
@@ -78,11 +81,12 @@ module _ (P : Tables) (uses : UseGraph) (graph : Rows) (whole : IsUseGraph P use
 
       first_there : (c : ℕ) → c < length P.classes → (f : Option ℕ) → (slice_index_or least (at c) no_labels).first ≡ f
           → is_some (slice_index_or least (at c) no_labels).first ≡ true → ReachesRefused uses graph own c
-      first_there c low None none held = absurd (let denied : is_some (slice_index_or least (at c) no_labels).first ≡ false =
+      first_there c low None none held =
+          absurd (let denied : is_some (slice_index_or least (at c) no_labels).first ≡ false =
           ap is_some none in cc)
       first_there c low (Some e) found held =
           let (u, path, label) = IsFirst-is (IsReachedLabel graph labels (at c))
-              (slice_index_or least (at c) no_labels).first e (is_least c low).first found in
+          (slice_index_or least (at c) no_labels).first e (is_least c low).first found in
           let (same, some) = o.only u e label in
           (e, subst (λ (v : ℕ). Reaches graph (at c) v) same path, some)
 
@@ -128,7 +132,8 @@ module _ (P : Tables) (uses : UseGraph) (graph : Rows) (whole : IsUseGraph P use
             (x, Reaches-joined graph (at c) (at e) (at x) (use_reached P uses graph whole is c e used low) path, some)))
 
     wave_of : (c : ℕ) → c < length P.classes → (IsRefused c → ⊥) → HasWave verdicts c (height_of c)
-    wave_of c low denied = (let (own_is, first_is) = not_refused c low denied in verdict_is c low None None own_is first_is)
+    wave_of c low denied =
+        (let (own_is, first_is) = not_refused c low denied in verdict_is c low None None own_is first_is)
 
     decide : (b : Bool) → (b ≡ true) ⊎ (b ≡ true → ⊥)
     decide true = inl refl
@@ -145,7 +150,8 @@ module _ (P : Tables) (uses : UseGraph) (graph : Rows) (whole : IsUseGraph P use
               | inl same ↦ (let there : IsSome (own_reason own c) =
                   subst (λ (y : ℕ). IsSome (own_reason own y)) (sym same) some in
                   let denied : is_some (own_reason own c) ≡ false = ap is_some own_is in cc)
-              | inr (d, used, rest) ↦ (let found = IsFirst-least (IsRefusedUse P refused c) (first_of c) d (f.each c low)
+              | inr (d, used, rest) ↦
+                  (let found = IsFirst-least (IsRefusedUse P refused c) (first_of c) d (f.each c low)
                   (used, (r.each d used.0).1 (x, rest, some)) in
                   let clash : None ≡ Some found.0 = sym first_is ∙ found.1 in cc)
             ]
@@ -154,10 +160,10 @@ module _ (P : Tables) (uses : UseGraph) (graph : Rows) (whole : IsUseGraph P use
             → ((x : ℕ) × (first_of c ≡ Some x)) ⊎ (first_of c ≡ None) → ⊥
         by (inl (x, own_is)) found =
             (let two : Some (Wave n) ≡ Some (Refused x) =
-                sym wave ∙ verdict_is c low (Some x) (first_of c) own_is refl in cc)
+            sym wave ∙ verdict_is c low (Some x) (first_of c) own_is refl in cc)
         by (inr own_is) (inl (e, first_is)) =
             (let two : Some (Wave n) ≡ Some (Refused (reasons.DependsOn e)) =
-                sym wave ∙ verdict_is c low None (Some e) own_is first_is in cc)
+            sym wave ∙ verdict_is c low None (Some e) own_is first_is in cc)
         by (inr own_is) (inr first_is) = none_reaches own_is first_is
 
     -- ---- a class of a wave
@@ -173,7 +179,8 @@ module _ (P : Tables) (uses : UseGraph) (graph : Rows) (whole : IsUseGraph P use
     no_return c e low none less other there back =
         no_reason c low none reasons.Cycle (two_on_cycle P uses graph whole is c e low less other (there, back))
 
-    module _ (c : ℕ) (low : c < length P.classes) (own_is : own_reason own c ≡ None) (first_is : first_of c ≡ None) where
+    module _ (c : ℕ) (low : c < length P.classes) (own_is : own_reason own c ≡ None)
+      (first_is : first_of c ≡ None) where
       fine : (e : ℕ) → IsUse P c e → IsRefused e → ⊥
       fine e used held =
           let found = IsFirst-least (IsRefusedUse P refused c) (first_of c) e (f.each c low) (used, held) in
@@ -201,7 +208,7 @@ module _ (P : Tables) (uses : UseGraph) (graph : Rows) (whole : IsUseGraph P use
       used_first e d less high used rest (inr other) =
           let (d_own, d_first) = not_refused d used.0 (fine d used) in
           let falls = h.higher (at d) (at e) (below d used.0)
-              (rest, no_return d e used.0 d_own less (λ e. other (sym e)) rest, m.classes e less) in
+          (rest, no_return d e used.0 d_own less (λ e. other (sym e)) rest, m.classes e less) in
           absurd (omega (arith, falls, lower d used, high))
 
       least : (height_of c ≡ 0) ⊎ ((e : ℕ) × IsUse P c e × (n : ℕ) × HasWave verdicts e n × (height_of c ≡ n + 1))
@@ -224,9 +231,9 @@ module _ (P : Tables) (uses : UseGraph) (graph : Rows) (whole : IsUseGraph P use
           by (x, (path, no_way, marked), high) =
               let (e, less, same) = m.only x marked in
               let up : height_of c ≡ height_of e + 1 =
-                  subst (λ (y : ℕ). height_of c ≡ slice_index heights y + 1) same high in
+              subst (λ (y : ℕ). height_of c ≡ slice_index heights y + 1) same high in
               let used = reached e less up (subst (λ (y : ℕ). Reaches graph (at c) y) same path)
-                  (λ back. no_way (subst (λ (y : ℕ). Reaches graph y (at c)) (sym same) back)) in
+              (λ back. no_way (subst (λ (y : ℕ). Reaches graph y (at c)) (sym same) back)) in
               (e, used, height_of e, wave_of e less (fine e used), up)
 
     -- ---- all
@@ -251,7 +258,8 @@ module _ (P : Tables) (uses : UseGraph) (graph : Rows) (whole : IsUseGraph P use
       where
         earlier : (d : ℕ) → IsUse P c d → (IsAccepted verdicts d → ⊥) → e ≤ d
         earlier d uses_it denied = elim (decide (slice_index_or refused d false)) [
-          | inl held ↦ (let found = IsFirst-least (IsRefusedUse P refused c) (first_of c) d (f.each c low) (uses_it, held) in
+          | inl held ↦
+              (let found = IsFirst-least (IsRefusedUse P refused c) (first_of c) d (f.each c low) (uses_it, held) in
               let same : Some e ≡ Some found.0 = sym first_is ∙ found.1 in
               let is : e ≡ found.0 = cc in omega (arith, is, found.2))
           | inr fine ↦ absurd (denied (height_of d, wave_of d uses_it.0 fine))
@@ -267,7 +275,7 @@ module _ (P : Tables) (uses : UseGraph) (graph : Rows) (whole : IsUseGraph P use
       each = λ c x here.
           (let low : c < length P.classes = (let less = slice_get_within verdicts c x here in omega (arith, v.count)) in
           let two : Some (verdict_by (own_reason own c) (first_of c) (height_of c)) ≡ Some x =
-              sym (v.each c low) ∙ here in
+          sym (v.each c low) ∙ here in
           let same : verdict_by (own_reason own c) (first_of c) (height_of c) ≡ x = cc in
           subst (λ (y : Verdict). IsVerdict P forced verdicts c y) same
           (verdict_of c low (own_reason own c) (first_of c) refl refl));

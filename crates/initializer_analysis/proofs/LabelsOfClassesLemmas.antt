@@ -1,6 +1,8 @@
 -- Labels, marks and verdicts of classes, one after another.
-use Rattle.std.proofs.Common.{◌≡◌, ◌⊎◌, ℕ, ◌+◌, ◌-◌, ◌<◌, ◌≤◌, Bool, true, false, IsTrue, List, [], ◌∷◌, ◌++◌, length, Option}
-use Rattle.std.proofs.Common.{Some, None, IsSome, is_some, replicate, slice_get, slice_index, slice_index_or, refl, sym, ap}
+use Rattle.std.proofs.Common.{◌≡◌, ◌⊎◌, ℕ, ◌+◌, ◌-◌, ◌<◌, ◌≤◌, Bool, true}
+use Rattle.std.proofs.Common.{false, IsTrue, List, [], ◌∷◌, ◌++◌, length, Option}
+use Rattle.std.proofs.Common.{Some, None, IsSome, is_some, replicate, slice_get}
+use Rattle.std.proofs.Common.{slice_index, slice_index_or, refl, sym, ap}
 use Rattle.std.proofs.Common.{subst, ◌∙◌, inl, inr, arith}
 use Rattle.std.proofs.lemmas.Grind.{common_steps}
 use Rattle.std.proofs.lemmas.List.{length_push}
@@ -54,7 +56,8 @@ there_is None c some = absurd (let denied : false ≡ true = some in cc)
 there_is (Some reason) c some = refl
 
 pub own_labels_are : (uses : UseGraph) (own : List (Option Reason)) (limit : ℕ) (none labels : List Least)
-    → none ≡ replicate (length uses.calls) no_labels → Labelled own limit none labels → AreOwnLabels uses own limit labels
+    → none ≡ replicate (length uses.calls) no_labels → Labelled own limit none labels
+    → AreOwnLabels uses own limit labels
 own_labels_are uses own limit none labels is l = record {
   len = omega (arith, l.len, count);
   only = λ v x o. by v x o (less_or v (length uses.calls));
@@ -92,7 +95,7 @@ own_labels_are uses own limit none labels is l = record {
         let same : v ≡ length uses.calls + c = omega arith in
         let low : c < limit = omega (arith, l.len, count, under) in
         let found = of_class c x (subst (λ (y : Least). IsOf y x) (at c low)
-            (subst (λ (n : ℕ). IsOwn labels n x) same o)) in
+        (subst (λ (n : ℕ). IsOwn labels n x) same o)) in
         (omega (arith, same, found.0), subst (λ (n : ℕ). IsSome (own_reason own n)) found.0 found.1)
 
     by : (v x : ℕ) → IsOwn labels v x → (v < length uses.calls) ⊎ (length uses.calls ≤ v)
@@ -141,7 +144,7 @@ class_marks_are uses limit none marks is m = record {
         → (v < length marks) ⊎ (length marks ≤ v) → (c : ℕ) × (c < limit) × (v ≡ vertex_of uses c)
     by v held (inl low) under =
         absurd (let denied : slice_index_or marks v false ≡ false =
-            m.kept v (omega (arith, count)) ∙ ap (λ (xs : List Bool). slice_index_or xs v false) is ∙ blank v in cc)
+        m.kept v (omega (arith, count)) ∙ ap (λ (xs : List Bool). slice_index_or xs v false) is ∙ blank v in cc)
     by v held (inr high) (inr over) = absurd (let denied = past v over in cc)
     by v held (inr high) (inl under) =
         (v - length uses.calls, omega (arith, m.len, count), omega arith)

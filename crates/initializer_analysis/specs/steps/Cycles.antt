@@ -1,5 +1,6 @@
 -- The classes of each component of what classes and methods depend on.
-use Rattle.std.specs.Prelude.{◌≡◌, ◌≢◌, ◌↔◌, ◌⊎◌, ℕ, ◌<◌, Bool, false, IsTrue, List, length, slice_index, slice_index_or}
+use Rattle.std.specs.Prelude.{◌≡◌, ◌≢◌, ◌↔◌, ◌⊎◌, ℕ, ◌<◌, Bool}
+use Rattle.std.specs.Prelude.{false, IsTrue, List, length, slice_index, slice_index_or}
 use Rattle.use_graph.specs.declared.whole_program.UseGraph.{UseGraph}
 use Rattle.initializer_analysis.specs.declared.labels.Least.{Least}
 use Rattle.initializer_analysis.specs.Least.{AreLeast, IsOf}

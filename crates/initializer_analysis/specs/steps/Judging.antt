@@ -1,5 +1,6 @@
 -- Verdicts from what is known of each class.
-use Rattle.std.specs.Prelude.{◌≡◌, ◌↔◌, ℕ, ◌+◌, ◌<◌, ◌≤◌, Bool, true, false, IsTrue, List, length, Option, Some, None, IsSome}
+use Rattle.std.specs.Prelude.{◌≡◌, ◌↔◌, ℕ, ◌+◌, ◌<◌, ◌≤◌, Bool, true, false}
+use Rattle.std.specs.Prelude.{IsTrue, List, length, Option, Some, None, IsSome}
 use Rattle.std.specs.Prelude.{is_some, slice_get, slice_index, slice_index_or}
 use Rattle.graph.specs.Rows.{Rows}
 use Rattle.graph.specs.Reaches.{Reaches}
