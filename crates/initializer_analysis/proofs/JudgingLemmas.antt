@@ -180,7 +180,7 @@ module _ (P : Tables) (uses : UseGraph) (graph : Rows) (whole : IsUseGraph P use
         no_reason c low none reasons.Cycle (two_on_cycle P uses graph whole is c e low less other (there, back))
 
     module _ (c : ℕ) (low : c < length P.classes) (own_is : own_reason own c ≡ None)
-      (first_is : first_of c ≡ None) where
+        (first_is : first_of c ≡ None) where
       fine : (e : ℕ) → IsUse P c e → IsRefused e → ⊥
       fine e used held =
           let found = IsFirst-least (IsRefusedUse P refused c) (first_of c) e (f.each c low) (used, held) in

@@ -88,7 +88,13 @@ fn marks_text(alloc: Global, program: &Program, found: &Uses) -> Result<String, 
     add_mark(alloc, &mut text, program, "Prints", marks.prints)?;
     add_mark(alloc, &mut text, program, "Throws", marks.throws)?;
     add_mark(alloc, &mut text, program, "Monitors", marks.monitors)?;
-    add_mark(alloc, &mut text, program, "ForeignWrite", marks.foreign_write)?;
+    add_mark(
+        alloc,
+        &mut text,
+        program,
+        "ForeignWrite",
+        marks.foreign_write,
+    )?;
     add_mark(alloc, &mut text, program, "ForeignRead", marks.foreign_read)?;
     add_mark(alloc, &mut text, program, "Unsupported", marks.unsupported)?;
     add_mark(alloc, &mut text, program, "Missing", marks.missing)?;
