@@ -328,6 +328,101 @@ def alternating(count):
     return bare_chain(count) + below + [class_file("Main", members=members)]
 
 
+def with_initializer(name, fields, body, above=OBJECT, interfaces=(), others=()):
+    """A class with static fields, whose class initialization method has the code that `body` makes.
+
+    A field is (flags, name); another method is (flags, name, what makes its code). Both code makers get the pool.
+    """
+    def members(pool):
+        made = [member(flags, pool.text(field), pool.text("I")) for flags, field in fields]
+        methods = [method(pool, 0x8, "<clinit>", "()V", body(pool))]
+        methods += [method(pool, flags, other, "()V", code(pool)) for flags, other, code in others]
+        return made, methods
+    return class_file(name, above, interfaces, 0x21, members)
+
+
+def instruction(pool, opcode, owner, name, descriptor):
+    """An instruction that names a member: a field for getstatic and putstatic, else a method."""
+    tag = 9 if opcode in (178, 179) else 10
+    entry = pool.pair(tag, pool.named(7, owner), pool.name_and_type(name, descriptor))
+    return bytes([opcode]) + struct.pack(">H", entry)
+
+
+RETURN = b"\xb1"
+
+
+def initializers(count):
+    """As `small`, where each class sets a final and reads that of one before it, one in ten calls a virtual method
+    that one in twenty declares, and one in fifty prints."""
+    files = []
+
+    def body(number, name, earlier):
+        def code(pool):
+            made = bytes([4]) + instruction(pool, 179, name, "made", "I")
+            if earlier:
+                made += instruction(pool, 178, earlier, "made", "I") + bytes([87])
+            if number % 10 == 5:
+                made += bytes([1]) + instruction(pool, 182, name, "step%d" % (number % 20), "()V")
+            if number % 50 == 7:
+                made += bytes([1, 4]) + instruction(pool, 182, "java/io/PrintStream", "println", "(I)V")
+            return made + RETURN
+        return code
+
+    def step(name):
+        return lambda pool: instruction(pool, 178, name, "made", "I") + bytes([87]) + RETURN
+    for number in range(count):
+        group = number - number % 10
+        if number == group:
+            files.append(interface("org/example/Able%d" % group))
+            continue
+        name = "org/example/Class%d" % number
+        above = OBJECT if number == group + 1 else "org/example/Class%d" % (number - 1)
+        before = number // 2 + (number // 2 % 10 == 0)
+        earlier = "org/example/Class%d" % before if before < number else None
+        files.append(with_initializer(name, [(0x18, "made")], body(number, name, earlier), above,
+                                      ["org/example/Able%d" % group], [(0x1, "step%d" % (number % 20), step(name))]))
+    return files
+
+
+def reading(numbers, count, prints=()):
+    """Classes whose initializers read finals of those that `numbers` gives for each; some print besides."""
+    def body(number):
+        def code(pool):
+            read = b"".join(instruction(pool, 178, "C%05d" % other, "x", "I") + bytes([87])
+                            for other in numbers(number))
+            if number in prints:
+                read += bytes([1, 4]) + instruction(pool, 182, "java/io/PrintStream", "println", "(I)V")
+            return read + RETURN
+        return code
+    return [with_initializer("C%05d" % number, [(0x18, "x")], body(number)) for number in range(count)]
+
+
+def waves(count):
+    """Each class uses the one before: as many waves as classes."""
+    return reading(lambda number: [number - 1] if number else [], count)
+
+
+def one_cycle(count):
+    """Each class uses the next, and the last one the first."""
+    return reading(lambda number: [(number + 1) % count], count)
+
+
+def refused_below(count):
+    """Each class uses the one before, and the first one prints: each depends on the one before."""
+    return reading(lambda number: [number - 1] if number else [], count, {0})
+
+
+def virtual_calls(count):
+    """Each class's initializer calls a virtual method that each class declares, which reads the next one's final."""
+    def calling(number):
+        return lambda pool: bytes([1]) + instruction(pool, 182, "C%05d" % number, "run", "()V") + RETURN
+
+    def declared(number):
+        return lambda pool: instruction(pool, 178, "C%05d" % ((number + 1) % count), "x", "I") + bytes([87]) + RETURN
+    return [with_initializer("C%05d" % number, [(0x18, "x")], calling(number), others=[(0x1, "run", declared(number))])
+            for number in range(count)]
+
+
 def equal_interfaces(count):
     """A class that names one interface so many times among its superinterfaces, by a name of 65,000 bytes."""
     name = "a" * 65000
@@ -338,7 +433,8 @@ KINDS = {kind.__name__: kind for kind in (small, chain, chain_of_references, int
                                          equal_strings, far_references, equal_interfaces, far_fields, overloads,
                                          below_interfaces, many_below, own_methods_below, two_chains_below, wide_below,
                                          conflicts_below, initialized_on_top, many_on_top,
-                                         alternating, long_orders)}
+                                         alternating, long_orders, initializers, waves, one_cycle, refused_below,
+                                         virtual_calls)}
 
 
 def main():

@@ -18,7 +18,7 @@ use Rattle.initializer_analysis.specs.steps.Dependence.{vertex_of, IsDependence}
 use Rattle.initializer_analysis.specs.steps.Cycles.{IsMember, HaveMembers, AddsMember, HasOther, AreOthers}
 use Rattle.initializer_analysis.proofs.LeastLemmas.{AreLeast-stands, AreLeast-same, Stands-joined}
 use Rattle.initializer_analysis.proofs.LeastLemmas.{Stands-least, Stands-itself}
-use Rattle.initializer_analysis.proofs.LeastLemmas.{IsFirst-least, IsFirst-is, IsFirst-of_least}
+use Rattle.initializer_analysis.proofs.LeastLemmas.{IsFirst-of_least}
 use Rattle.initializer_analysis.proofs.DependenceLemmas.{cycle_of_two, two_on_cycle}
 
 -- ---- a table by numbers

@@ -1,5 +1,5 @@
 -- Verdicts from what is known of each class.
-use Rattle.std.proofs.Common.{◌≡◌, ◌≢◌, ◌↔◌, ◌⊎◌, ℕ, ◌+◌, ◌<◌, ◌≤◌, Bool, true, false, List, length, Option, Some, None}
+use Rattle.std.proofs.Common.{◌≡◌, ◌≢◌, ◌⊎◌, ℕ, ◌+◌, ◌<◌, ◌≤◌, Bool, true, false, List, length, Option, Some, None}
 use Rattle.std.proofs.Common.{IsTrue, IsSome, MatchOption, is_some, slice_get, slice_index}
 use Rattle.std.proofs.Common.{slice_index_or, refl, sym, ap}
 use Rattle.std.proofs.Common.{subst, ◌∙◌, inl, inr, arith}
@@ -18,13 +18,12 @@ use Rattle.initializer_analysis.specs.declared.verdict.Reason.TheVariants as rea
 use Rattle.initializer_analysis.specs.declared.verdict.Verdict.{Verdict}
 use Rattle.initializer_analysis.specs.declared.verdict.Verdict.TheVariants.{Wave, Refused}
 use Rattle.initializer_analysis.specs.Heights.{AreHeights}
-use Rattle.initializer_analysis.specs.Least.{IsFirst, AreLeast}
+use Rattle.initializer_analysis.specs.Least.{AreLeast}
 use Rattle.initializer_analysis.specs.LeastReached.{no_labels, IsReachedLabel, AreLeastReached}
 use Rattle.initializer_analysis.specs.OwnReasons.{AreOwnReasons}
 use Rattle.initializer_analysis.specs.RefusedUses.{IsRefusedUse, AreFirstRefused}
-use Rattle.initializer_analysis.specs.Verdicts.{UsesAlong, Holds, NoneHolds, HasWave}
+use Rattle.initializer_analysis.specs.Verdicts.{NoneHolds, HasWave, IsFirstReason}
 use Rattle.initializer_analysis.specs.Verdicts.{IsAccepted, IsVerdict, AreVerdicts}
-use Rattle.initializer_analysis.specs.Verdicts as verdict_specs
 use Rattle.initializer_analysis.specs.steps.Dependence.{vertex_of, IsDependence}
 use Rattle.initializer_analysis.specs.steps.Judging.{own_reason, AreOwnLabels, AreFirstThere}
 use Rattle.initializer_analysis.specs.steps.Judging.{ReachesRefused, AreRefused}
@@ -170,7 +169,7 @@ module _ (P : Tables) (uses : UseGraph) (graph : Rows) (whole : IsUseGraph P use
 
     no_reason : (c : ℕ) → c < length P.classes → own_reason own c ≡ None → NoneHolds P forced c
     no_reason c low none =
-        subst (λ (x : Option Reason). MatchOption x (NoneHolds P forced c) (verdict_specs.IsFirst P forced c)) none
+        subst (λ (x : Option Reason). MatchOption x (NoneHolds P forced c) (IsFirstReason P forced c)) none
         (o.each c low)
 
     -- what uses denied refused class uses none that uses it
@@ -238,7 +237,7 @@ module _ (P : Tables) (uses : UseGraph) (graph : Rows) (whole : IsUseGraph P use
 
     -- ---- all
 
-    own_verdict : (c : ℕ) (x : Reason) → verdict_specs.IsFirst P forced c x → IsVerdict P forced verdicts c (Refused x)
+    own_verdict : (c : ℕ) (x : Reason) → IsFirstReason P forced c x → IsVerdict P forced verdicts c (Refused x)
     own_verdict c reasons.Forced is_first = is_first
     own_verdict c (reasons.Marked mark) is_first = is_first
     own_verdict c reasons.Cycle is_first = is_first
@@ -248,7 +247,7 @@ module _ (P : Tables) (uses : UseGraph) (graph : Rows) (whole : IsUseGraph P use
         → first_of c ≡ e → IsVerdict P forced verdicts c (verdict_by x e (height_of c))
     verdict_of c low (Some x) e own_is first_is =
         own_verdict c x
-        (subst (λ (y : Option Reason). MatchOption y (NoneHolds P forced c) (verdict_specs.IsFirst P forced c)) own_is
+        (subst (λ (y : Option Reason). MatchOption y (NoneHolds P forced c) (IsFirstReason P forced c)) own_is
         (o.each c low))
     verdict_of c low None (Some e) own_is first_is =
         let (used, there) = IsFirst-is (IsRefusedUse P refused c) (first_of c) e (f.each c low) first_is in (

@@ -1,7 +1,7 @@
 -- Labels, marks and verdicts of classes, one after another.
 use Rattle.std.proofs.Common.{◌≡◌, ◌⊎◌, ℕ, ◌+◌, ◌-◌, ◌<◌, ◌≤◌, Bool, true}
 use Rattle.std.proofs.Common.{false, IsTrue, List, [], ◌∷◌, ◌++◌, length, Option}
-use Rattle.std.proofs.Common.{Some, None, IsSome, is_some, replicate, slice_get}
+use Rattle.std.proofs.Common.{Some, None, IsSome, is_some, replicate}
 use Rattle.std.proofs.Common.{slice_index, slice_index_or, refl, sym, ap}
 use Rattle.std.proofs.Common.{subst, ◌∙◌, inl, inr, arith}
 use Rattle.std.proofs.lemmas.Grind.{common_steps}

@@ -9,7 +9,7 @@ use Rattle.use_graph.specs.Uses.{HasMark}
 use Rattle.initializer_analysis.specs.Forced.{has_class}
 use Rattle.initializer_analysis.specs.declared.verdict.Reason.{Reason}
 use Rattle.initializer_analysis.specs.declared.verdict.Reason.TheVariants as reasons
-use Rattle.initializer_analysis.specs.Verdicts.{UsesAlong, Holds, IsFirst, NoneHolds, rank, rank_of}
+use Rattle.initializer_analysis.specs.Verdicts.{UsesAlong, Holds, IsFirstReason, NoneHolds, rank, rank_of}
 use Rattle.initializer_analysis.specs.OwnReasons.{AreOnCycles, AreOwnReasons}
 use Rattle.initializer_analysis.specs.steps.Reasons.{IsNext, AddsReason, IsFirstBelow, AreFirstBelow}
 use Rattle.initializer_analysis.proofs.VerdictsLemmas.{same_mark, mark_between}
@@ -164,6 +164,6 @@ cycle_last P forced on_cycle old new are adds first = record {
     none_holds c above (reasons.DependsOn d) h = h
 
     by : (told : Option Reason) (c : ℕ) → IsFirstBelow P forced 10 c told
-        → MatchOption told (NoneHolds P forced c) (IsFirst P forced c)
+        → MatchOption told (NoneHolds P forced c) (IsFirstReason P forced c)
     by (Some reason) c is = is
     by None c above = none_holds c above

@@ -10,7 +10,7 @@ use Rattle.initializer_analysis.specs.declared.verdict.Reason.{Reason}
 use Rattle.initializer_analysis.specs.declared.verdict.Reason.TheVariants as reasons
 use Rattle.initializer_analysis.specs.declared.verdict.Verdict.{Verdict}
 use Rattle.initializer_analysis.specs.declared.verdict.Verdict.TheVariants.{Wave, Refused}
-use Rattle.initializer_analysis.specs.Verdicts.{Holds, rank, rank_of, IsFirst, NoneHolds, HasWave, IsAccepted}
+use Rattle.initializer_analysis.specs.Verdicts.{Holds, rank, rank_of, IsFirstReason, NoneHolds, HasWave, IsAccepted}
 use Rattle.initializer_analysis.specs.Verdicts.{IsFirstRefused, IsWave, IsVerdict, AreVerdicts, OneVerdict, WavesFall}
 
 -- ---- lists that agree at each place
@@ -75,12 +75,12 @@ module _ (P : Tables) (forced : List Bool) where
   same_reason c (reasons.DependsOn d) q h g e = absurd h
   same_reason c r (reasons.DependsOn d) h g e = absurd g
 
-  same_first : (c : ℕ) (r q : Reason) → IsFirst P forced c r → IsFirst P forced c q → r ≡ q
+  same_first : (c : ℕ) (r q : Reason) → IsFirstReason P forced c r → IsFirstReason P forced c q → r ≡ q
   same_first c r q (h, least) (g, other) = same_reason c r q h g (omega (arith, least q g, other r h))
 
   -- a verdict, by what it is: a first reason, a first class that is refused, or a wave
   data Kind (verdicts : List Verdict) (c : ℕ) : Verdict → Type 0 where
-    own : {r : Reason} → IsFirst P forced c r → Kind verdicts c (Refused r)
+    own : {r : Reason} → IsFirstReason P forced c r → Kind verdicts c (Refused r)
     dependent : {e : ℕ} → NoneHolds P forced c → IsFirstRefused P verdicts c e
         → Kind verdicts c (Refused (reasons.DependsOn e))
     accepted : {n : ℕ} → NoneHolds P forced c → IsWave P verdicts c n → Kind verdicts c (Wave n)

@@ -3,7 +3,7 @@ use Rattle.std.specs.Prelude.{◌≡◌, ◌↔◌, ℕ, ◌<◌, Bool, false, I
 use Rattle.std.specs.Prelude.{slice_index_or}
 use Rattle.program.specs.Tables.{Tables}
 use Rattle.initializer_analysis.specs.declared.verdict.Reason.{Reason}
-use Rattle.initializer_analysis.specs.Verdicts.{UsesAlong, IsFirst, NoneHolds}
+use Rattle.initializer_analysis.specs.Verdicts.{UsesAlong, IsFirstReason, NoneHolds}
 
 -- marks tell which given classes use themselves by way of others
 pub record AreOnCycles (P : Tables) (marks : List Bool) : Type 0 where
@@ -14,4 +14,4 @@ pub record AreOnCycles (P : Tables) (marks : List Bool) : Type 0 where
 pub record AreOwnReasons (P : Tables) (forced : List Bool) (reasons : List (Option Reason)) : Type 0 where
   pub count : length reasons ≡ length P.classes
   pub each : (c : ℕ) → c < length P.classes
-      → MatchOption (slice_index_or reasons c None) (NoneHolds P forced c) (IsFirst P forced c)
+      → MatchOption (slice_index_or reasons c None) (NoneHolds P forced c) (IsFirstReason P forced c)

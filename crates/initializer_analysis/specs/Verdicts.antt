@@ -41,8 +41,8 @@ rank reasons.Cycle = 9
 rank (reasons.DependsOn e) = 10
 
 -- the first reason that holds of a class by itself
-abbrev pub IsFirst : Tables → List Bool → ℕ → Reason → Type 0
-IsFirst P forced c reason =
+abbrev pub IsFirstReason : Tables → List Bool → ℕ → Reason → Type 0
+IsFirstReason P forced c reason =
     Holds P forced c reason × ((other : Reason) → Holds P forced c other → rank reason ≤ rank other)
 
 abbrev pub NoneHolds : Tables → List Bool → ℕ → Type 0
@@ -70,9 +70,9 @@ pub record IsWave (P : Tables) (verdicts : List Verdict) (c n : ℕ) : Type 0 wh
 abbrev pub IsVerdict : Tables → List Bool → List Verdict → ℕ → Verdict → Type 0
 IsVerdict P forced verdicts c (Wave n) = NoneHolds P forced c × IsWave P verdicts c n
 IsVerdict P forced verdicts c (Refused (reasons.DependsOn e)) = NoneHolds P forced c × IsFirstRefused P verdicts c e
-IsVerdict P forced verdicts c (Refused reasons.Forced) = IsFirst P forced c reasons.Forced
-IsVerdict P forced verdicts c (Refused (reasons.Marked mark)) = IsFirst P forced c (reasons.Marked mark)
-IsVerdict P forced verdicts c (Refused reasons.Cycle) = IsFirst P forced c reasons.Cycle
+IsVerdict P forced verdicts c (Refused reasons.Forced) = IsFirstReason P forced c reasons.Forced
+IsVerdict P forced verdicts c (Refused (reasons.Marked mark)) = IsFirstReason P forced c (reasons.Marked mark)
+IsVerdict P forced verdicts c (Refused reasons.Cycle) = IsFirstReason P forced c reasons.Cycle
 
 -- The verdicts of all given classes, by their numbers.
 pub record AreVerdicts (P : Tables) (forced : List Bool) (verdicts : List Verdict) : Type 0 where

@@ -13,7 +13,7 @@ ghost use Rattle.initializer_analysis.specs.steps.Dependence.{IsDependence, Adds
 use graph::Graph;
 use program::Program;
 use std::alloc::{AllocError, Global};
-use use_graph::UseGraph;
+use use_graph::{UseGraph, start_of};
 
 /// The vertex of a class, behind those of the graph of calls.
 pub(crate) fn class_vertex(uses: &UseGraph, class: u32) -> usize
@@ -147,7 +147,7 @@ fn add_start(
     ensures { OnOk result ((start : Maybe ℕ) × StartsAt program.now uses.now.methods class start
         × AddsFrom graph.old graph.new (vertex_of uses.now class) (λ b. start ≡ Some b)) }
 {
-    match uses.start(program, class) {
+    match start_of(program, uses, class) {
         Some(start) => {
             add_edge(graph, class_vertex(uses, class), start)?;
             Ok(())

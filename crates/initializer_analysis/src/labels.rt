@@ -5,7 +5,7 @@ ghost use Rattle.initializer_analysis.specs.Least.{IsFirst, AreLeast, IsOf};
 
 /// The two least of a set of labels, as far as it has them.
 #[derive(Clone, Copy)]
-pub struct Least {
+pub(crate) struct Least {
     /// The least.
     pub first: Option<u32>,
     /// The least of the others.
@@ -40,7 +40,7 @@ fn unless(label: Option<u32>, other: Option<u32>) -> Option<u32>
 
 impl Least {
     /// Those of no labels.
-    pub fn none() -> Least
+    pub(crate) fn none() -> Least
         ensures { AreLeast (λ l. ⊥) result }
     {
         Least {
@@ -50,7 +50,7 @@ impl Least {
     }
 
     /// Those of one label.
-    pub fn one(label: u32) -> Least
+    pub(crate) fn one(label: u32) -> Least
         ensures { AreLeast (λ l. l ≡ label) result }
     {
         Least {
@@ -77,7 +77,7 @@ impl Least {
     }
 
     /// Those of the labels of both.
-    pub fn join(self, other: Least) -> Least
+    pub(crate) fn join(self, other: Least) -> Least
         ensures { AreLeast (λ l. IsOf self l ⊎ IsOf other l) result }
     {
         let first = lesser(
@@ -89,14 +89,14 @@ impl Least {
     }
 
     /// Those of these and one more label.
-    pub fn add(self, label: u32) -> Least
+    pub(crate) fn add(self, label: u32) -> Least
         ensures { AreLeast (λ l. IsOf self l ⊎ (l ≡ label)) result }
     {
         self.join(Least::one(label))
     }
 
     /// The least of them but this one.
-    pub fn first_but(self, label: u32) -> Option<u32>
+    pub(crate) fn first_but(self, label: u32) -> Option<u32>
         ensures { IsFirst (λ l. IsOf self l × (l ≢ label)) result }
     {
         self.but(Some(label))

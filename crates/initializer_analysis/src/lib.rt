@@ -1,20 +1,19 @@
 //! Whether the initialization of a class may run before the program does.
 #![tactic(auto)]
 
+mod cycles;
 mod dependence;
 pub mod forced;
+mod judging;
 mod labels;
 pub mod laws;
 mod marked_heights;
 mod marking;
 mod reached_labels;
 mod reasons;
+mod refused_classes;
 mod refused_uses;
 pub mod verdict;
+mod waves;
 
-pub use labels::Least;
-pub use marked_heights::heights;
-pub use marking::{bears, marks_of};
-pub use reached_labels::least_reached;
-pub use reasons::own_reasons;
-pub use refused_uses::first_refused;
+pub use judging::judge;

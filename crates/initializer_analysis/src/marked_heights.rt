@@ -172,7 +172,7 @@ fn heights_by_component(
 ///
 /// # Errors
 /// Where memory runs out.
-pub fn heights(
+pub(crate) fn heights(
     alloc: Global,
     graph: &Graph,
     components: &Components,

@@ -105,7 +105,7 @@ fn own_labels(alloc: Global, uses: &UseGraph, mark: Mark) -> Result<Vec<Least>, 
 ///
 /// # Errors
 /// Where memory runs out.
-pub fn marks_of(
+pub(crate) fn marks_of(
     alloc: Global,
     uses: &UseGraph,
     components: &Components,
@@ -120,7 +120,13 @@ pub fn marks_of(
 }
 
 /// Whether the code of a class bears a mark, by the table of that mark.
-pub fn bears(program: &Program, uses: &UseGraph, table: &[Least], class: u32, mark: Mark) -> bool
+pub(crate) fn bears(
+    program: &Program,
+    uses: &UseGraph,
+    table: &[Least],
+    class: u32,
+    mark: Mark,
+) -> bool
     requires uses { IsUseGraph program.now uses.now }
     requires table { AreMarks uses.now mark table.now }
     ensures { IsTrue result ↔ HasMark program.now class mark }

@@ -88,7 +88,7 @@ fn by_vertex(
 ///
 /// # Errors
 /// Where memory runs out.
-pub fn least_reached(
+pub(crate) fn least_reached(
     alloc: Global,
     graph: &Graph,
     components: &Components,

@@ -172,7 +172,7 @@ fn add_reasons(
 ///
 /// # Errors
 /// Where memory runs out.
-pub fn own_reasons(
+pub(crate) fn own_reasons(
     alloc: Global,
     program: &Program,
     uses: &UseGraph,

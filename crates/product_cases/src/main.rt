@@ -29,6 +29,7 @@ mod shelf;
 mod streams;
 mod tables;
 mod uses;
+mod verdicts;
 
 use cases::{Subject, run_cases};
 use classfile::ClassFile;
@@ -51,7 +52,7 @@ enum About {
     Commands,
     /// Graphs and their arrangements.
     Graphs,
-    /// Classes, and which of them the patterns of options are about.
+    /// Classes, which of them the patterns of options are about, and what becomes of them at build time.
     Options,
     /// Classes, what linking them answers, and what is seen of their runs.
     Programs,
@@ -79,7 +80,7 @@ fn subject_of(name: &str) -> About {
         Some(("class_bytes", _)) => About::ClassBytes,
         Some(("commands", _)) => About::Commands,
         Some(("graphs", _)) => About::Graphs,
-        Some(("options", _)) => About::Options,
+        Some(("options" | "verdicts", _)) => About::Options,
         _ => About::Programs,
     }
 }

@@ -1,19 +1,17 @@
 -- A graph of all calls, made method by method.
-use Rattle.std.proofs.Common.{◌≡◌, ◌⊎◌, ℕ, ◌+◌, ◌*◌, ◌<◌, ◌≤◌, List, [], ◌∷◌, ◌++◌, length, take, Some, None, slice_get}
-use Rattle.std.proofs.Common.{get_or, replicate, refl, sym, ap, subst, ◌∙◌, inl, inr, arith}
+use Rattle.std.proofs.Common.{◌≡◌, ◌⊎◌, ℕ, ◌+◌, ◌*◌, ◌<◌, ◌≤◌, List, [], length, take, Some, slice_get}
+use Rattle.std.proofs.Common.{get_or, replicate, sym, ap, subst, ◌∙◌, inl, inr, arith}
 use Rattle.std.specs.List.{Contains}
 use Rattle.std.proofs.lemmas.Grind.{common_steps}
 use Rattle.std.proofs.lemmas.List.{take_more}
 use Rattle.std.proofs.lemmas.Option.{slice_get_within}
-use Rattle.std.proofs.lemmas.List.Elements.{Contains-push_cases, All-get_or, All-contains_itself}
+use Rattle.std.proofs.lemmas.List.Elements.{Contains-push_cases}
 use Rattle.graph.specs.Rows.{Rows, successors_of}
 use Rattle.program.specs.Tables.{Tables}
 use Rattle.hierarchy.specs.declared.member.DeclaredMember.{DeclaredMember}
 use Rattle.use_graph.specs.declared.code.Deed.{Deed}
-use Rattle.use_graph.specs.Uses.{Calls}
-use Rattle.use_graph.specs.steps.Numbers.{HasNumber}
-use Rattle.use_graph.specs.steps.Deeds.{deeds_in, CallsBy}
-use Rattle.use_graph.specs.steps.CallGraphs.{IsEdge, LeadsTo, IsCallGraph}
+use Rattle.use_graph.specs.steps.Deeds.{deeds_in}
+use Rattle.use_graph.specs.steps.CallGraphs.{IsCallGraph}
 use Rattle.use_graph.specs.steps.Growing.{Grows, IsPart, LeadsToAll, LeadsByEach, LeadsByBody, LeadsByNumber}
 use Rattle.use_graph.proofs.DeedsLemmas.{calls_found}
 use Rattle.use_graph.proofs.PartsLemmas.{leads_kept, grows_more}

@@ -1,12 +1,11 @@
 -- What the instructions of a method may do, by its body.
-use Rattle.std.proofs.Common.{◌≡◌, ◌↔◌, ◌⊎◌, ◌∙◌, ℕ, ◌+◌, ◌<◌, List, [], ◌∷◌, ◌++◌, length, map, take, Option}
-use Rattle.std.proofs.Common.{Some, None, slice_get, get_or, option_map, refl, sym, ap, subst, inl, inr, arith}
+use Rattle.std.proofs.Common.{◌≡◌, ◌↔◌, ◌∙◌, ℕ, ◌+◌, ◌<◌, List, [], ◌∷◌, ◌++◌, length, map, take, Option}
+use Rattle.std.proofs.Common.{Some, None, slice_get, get_or, option_map, refl, sym, ap, subst, inl, inr}
 use Rattle.std.specs.List.{Contains}
 use Rattle.std.proofs.lemmas.Option.{slice_get-map, slice_get-get_or}
 use Rattle.std.proofs.lemmas.List.{take_more, map-append, append_assoc}
 use Rattle.loading.proofs.PlaceLemmas.{contains_at}
 use Rattle.bytecode.specs.declared.placed.Placed.{Placed}
-use Rattle.bytecode.specs.declared.instruction.Instruction.{Instruction}
 use Rattle.program.specs.declared.class.Implementation.{Implementation}
 use Rattle.program.specs.declared.class.Implementation.TheVariants as implementations
 use Rattle.program.specs.Tables.{Tables, implementation_at, instruction_of, instruction_at}
@@ -15,7 +14,6 @@ use Rattle.use_graph.specs.declared.code.Deed.{Deed}
 use Rattle.use_graph.specs.declared.callee.Callee.{Callee}
 use Rattle.use_graph.specs.declared.body.Told.{Told}
 use Rattle.use_graph.specs.declared.feature.Feature.{Feature}
-use Rattle.use_graph.specs.declared.feature.Feature.TheVariants as features
 use Rattle.use_graph.specs.Code.{needed_by, callee_of, feature_of, feature_at, MayRunFor}
 use Rattle.use_graph.specs.Uses.{Calls, Needs, IsTold, itself, calling, pc_of, pc_at}
 use Rattle.use_graph.specs.steps.Deeds.{operation_for, deed_for, deeds_for, body_in, deeds_in, MayRunLeftOut}

@@ -2,13 +2,11 @@
 use Rattle.std.proofs.Common.{◌≡◌, ◌↔◌, ◌⊎◌, ℕ, ◌<◌, Bool, true, false, List, [], length, Option, Some, slice_get}
 use Rattle.std.proofs.Common.{slice_set, refl, sym, ap, subst, ◌∙◌, inl, inr, arith, IsTrue}
 use Rattle.std.specs.List.{Contains}
-use Rattle.std.proofs.lemmas.List.Elements.{Contains-push_cases, Contains-push, Contains-append_left}
 use Rattle.hierarchy.proofs.RowLemmas.{set_here, set_else}
 use Rattle.hierarchy.specs.declared.member.DeclaredMember.{DeclaredMember}
 use Rattle.hierarchy.specs.declared.member.Method.{Method}
 use Rattle.hierarchy.specs.Selectable.{IsNamedLike}
 use Rattle.program.specs.Tables.{Tables}
-use Rattle.use_graph.specs.declared.callee.Callee.{Callee}
 use Rattle.use_graph.specs.declared.callee.Callee.TheVariants as callees
 use Rattle.use_graph.specs.declared.code.Deed.{Deed}
 use Rattle.use_graph.specs.declared.body.Told.{Told}

@@ -3,6 +3,7 @@ pub mod EdgesLemmas
 pub mod PartsLemmas
 pub mod DeedsLemmas
 pub mod CollectedLemmas
+pub mod ListedLemmas
 pub mod LeftOutLemmas
 pub mod BodiesLemmas
 pub mod CallGraphLemmas

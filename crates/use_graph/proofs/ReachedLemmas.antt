@@ -1,17 +1,17 @@
 -- The methods that may run are those that the graph of calls reaches.
-use Rattle.std.proofs.Common.{◌≡◌, ◌↔◌, ◌⊎◌, ℕ, ◌+◌, ◌<◌, ◌≤◌, List, length, Some, None, slice_get, refl, sym, ap}
+use Rattle.std.proofs.Common.{◌≡◌, ◌↔◌, ◌⊎◌, ℕ, ◌+◌, List, length, Some, slice_get, refl, sym, ap}
 use Rattle.std.proofs.Common.{subst, ◌∙◌, inl, inr, arith}
 use Rattle.std.specs.List.{Contains}
-use Rattle.std.proofs.lemmas.Option.{slice_get_within, slice_get_past}
-use Rattle.graph.specs.Rows.{Rows, successors_of}
+use Rattle.std.proofs.lemmas.Option.{slice_get_within}
+use Rattle.graph.specs.Rows.{Rows}
 use Rattle.graph.specs.Reaches.{Reaches, itself, along}
 use Rattle.program.specs.Tables.{Tables, initializer_in}
 use Rattle.hierarchy.specs.declared.member.DeclaredMember.{DeclaredMember}
 use Rattle.hierarchy.specs.Selectable.{IsNamedLike}
-use Rattle.use_graph.specs.Uses.{Calls, IsDeclared, MayRun, initializer, called}
-use Rattle.use_graph.specs.steps.Numbers.{HasNumber, AreMethods}
+use Rattle.use_graph.specs.Uses.{IsDeclared, MayRun, initializer, called}
+use Rattle.use_graph.specs.steps.Numbers.{AreMethods}
 use Rattle.use_graph.specs.steps.CallGraphs.{IsEdge, calls, selects, named, LeadsTo, IsCallGraph}
-use Rattle.use_graph.specs.steps.Searching.{IsAmong, AreReached}
+use Rattle.use_graph.specs.steps.Searching.{AreReached}
 
 module _ (P : Tables) (methods : List DeclaredMember) (graph : Rows) (all : AreMethods P methods)
     (whole : IsCallGraph P methods graph) (c m s : ℕ) (begins : initializer_in P c ≡ Some m)

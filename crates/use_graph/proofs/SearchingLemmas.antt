@@ -1,5 +1,5 @@
 -- What the initialization of one class may run and use, by the vertices that are reached.
-use Rattle.std.proofs.Common.{◌≡◌, ◌≢◌, ◌↔◌, ◌⊎◌, ℕ, ◌+◌, ◌<◌, ◌≤◌, List, [], ◌∷◌, length, Option, Some, None}
+use Rattle.std.proofs.Common.{◌≡◌, ◌≢◌, ◌↔◌, ◌⊎◌, ℕ, ◌<◌, List, [], ◌∷◌, length, Option, Some, None}
 use Rattle.std.proofs.Common.{slice_get, MatchOption, get_or, refl, sym, ap, subst, ◌∙◌, inl, inr, arith}
 use Rattle.std.specs.List.{Contains}
 use Rattle.std.proofs.lemmas.Option.{slice_get_within, slice_get-get_or}
@@ -10,12 +10,12 @@ use Rattle.use_graph.specs.declared.body.BodyUses.{BodyUses}
 use Rattle.use_graph.specs.declared.mark.Mark.{Mark}
 use Rattle.use_graph.specs.declared.mark.Evidence.{Evidence}
 use Rattle.use_graph.specs.declared.whole_program.UseGraph.{UseGraph}
-use Rattle.use_graph.specs.Uses.{MayRun, MayNeed, Needs, IsUse, IsTold, Means, HasMark, IsEvidence, Tells}
+use Rattle.use_graph.specs.Uses.{MayRun, MayNeed, IsUse, Means, Tells}
 use Rattle.use_graph.specs.steps.Deeds.{HoldsOfOne}
-use Rattle.use_graph.specs.steps.Bodies.{IsUseGraph, AreBodyUses}
+use Rattle.use_graph.specs.steps.Bodies.{IsUseGraph}
 use Rattle.use_graph.specs.steps.Numbers.{HasNumber, AreMethods}
 use Rattle.use_graph.specs.steps.Searching.{StartsAt, AreReached, IsAmong, IsClassBelow, IsNeededAt, IsNeededIn}
-use Rattle.use_graph.specs.steps.Searching.{Unmarked, IsMarkedAt, IsFound}
+use Rattle.use_graph.specs.steps.Searching.{Unmarked, IsFound}
 use Rattle.use_graph.proofs.DeedsLemmas.{pc_of_told}
 
 one_of : {A : Type 0} (xs : List A) (n : ℕ) → n < length xs → (x : A) × (slice_get xs n ≡ Some x)

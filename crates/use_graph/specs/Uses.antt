@@ -1,9 +1,10 @@
 -- What the initialization of a class may run and need, and what is told of its code.
-use Rattle.std.specs.Prelude.{◌≡◌, ◌≢◌, ◌⊎◌, ◌<◌, ◌↔◌, ℕ, Option, Some, None, IsSome, MatchOption, length, option_map}
-use Rattle.std.specs.Prelude.{slice_get}
+use Rattle.std.specs.Prelude.{◌≡◌, ◌≢◌, ◌⊎◌, ◌<◌, ◌↔◌, ℕ, List, Option, Some, None, IsSome, MatchOption, length}
+use Rattle.std.specs.Prelude.{option_map, slice_get}
 use Rattle.std.specs.List.{Contains}
 use Rattle.std.specs.List.Sorted.{IsStrictlyIncreasing}
 use Rattle.bytecode.specs.declared.placed.Placed.{Placed}
+use Rattle.hierarchy.specs.declared.member.DeclaredMember.{DeclaredMember}
 use Rattle.program.specs.declared.class.Implementation.{Implementation}
 use Rattle.program.specs.declared.class.Implementation.TheVariants as implementations
 use Rattle.program.specs.Tables.{Tables, implementation_at, initializer_in, order_in}
@@ -101,9 +102,15 @@ IsEvidence P c mark evidence = MayRun P c evidence.class evidence.index
 abbrev pub Tells : Tables → ℕ → Mark → Option Evidence → Type 0
 Tells P c mark found = MatchOption found (¬ HasMark P c mark) (IsEvidence P c mark)
 
+-- no method stands at two places
+abbrev pub StandOnce : List DeclaredMember → Type 0
+StandOnce methods =
+    (i j : ℕ) (m : DeclaredMember) → slice_get methods i ≡ Some m → slice_get methods j ≡ Some m → i ≡ j
+
 -- What the initialization of a class may run and use, and what its code is marked for.
 pub record AreUses (P : Tables) (c : ℕ) (uses : Uses) : Type 0 where
   pub methods : (d k : ℕ) → Contains uses.methods.items (record { class = d; index = k }) ↔ MayRun P c d k
+  pub once : StandOnce uses.methods.items
   pub classes : (e : ℕ) → Contains uses.classes.items e ↔ IsUse P c e
   pub ascending : IsStrictlyIncreasing uses.classes.items
   pub prints : Tells P c marks.Prints uses.marks.prints

@@ -2,6 +2,7 @@
 
 ghost use Rattle.std.specs.Prelude.{◌≡◌, ℕ, ◌≤◌, ◌+◌, ◌*◌, [], length, Some, None, IfOk, OnOk, MatchOption, slice_get};
 ghost use Rattle.hierarchy.specs.declared.member.DeclaredMember.{DeclaredMember as Declared};
+ghost use Rattle.use_graph.specs.Uses.{StandOnce};
 ghost use Rattle.use_graph.specs.steps.Numbers.{HasNumber, AreNumbered, AreMethods, Adds, method_count};
 
 use hierarchy::member::DeclaredMember;
@@ -92,7 +93,8 @@ impl MethodNumbers {
 
     /// The method of a number.
     pub fn method(&self, number: usize) -> Option<DeclaredMember>
-        ensures { result ≡ slice_get self.now number }
+        ensures value { result ≡ slice_get self.now number }
+        ensures once { StandOnce self.now }
     {
         self.methods.get(number).copied()
     }

@@ -6,12 +6,12 @@ ghost use Rattle.std.specs.List.Sorted.{IsStrictlyIncreasing};
 ghost use Rattle.hierarchy.specs.declared.member.DeclaredMember.{DeclaredMember as Declared};
 ghost use Rattle.use_graph.specs.declared.body.Told.{Told as Held};
 ghost use Rattle.use_graph.specs.declared.mark.Mark.TheVariants as marks;
-ghost use Rattle.use_graph.specs.Uses.{MayRun, IsUse, Means, Tells, AreUses};
+ghost use Rattle.use_graph.specs.Uses.{MayRun, IsUse, Means, Tells, StandOnce, AreUses};
 ghost use Rattle.use_graph.specs.steps.Bodies.{IsUseGraph};
 ghost use Rattle.use_graph.specs.steps.Deeds.{HoldsOfOne};
 ghost use Rattle.use_graph.specs.steps.Numbers.{AreMethods};
 ghost use Rattle.use_graph.specs.steps.Searching.{StartsAt, AreReached, IsMethodAt, IsAmong, IsClassBelow, IsNeededAt};
-ghost use Rattle.use_graph.specs.steps.Searching.{IsNeededIn, AddsOther, Unmarked, IsMarkedAt, IsFound};
+ghost use Rattle.use_graph.specs.steps.Searching.{AddsMethod, IsNeededIn, AddsOther, Unmarked, IsMarkedAt, IsFound};
 
 use crate::body::Told;
 use crate::class_uses::{Marks, Uses};
@@ -59,8 +59,10 @@ fn add_method(
     vertex: usize,
     methods: &mut Vec<DeclaredMember>,
 ) -> Result<(), AllocError>
-    ensures { OnOk result ((m : Declared) → Contains methods.new.items m
+    ensures all { OnOk result ((m : Declared) → Contains methods.new.items m
         ↔ (Contains methods.old.items m ⊎ IsMethodAt graph.now.methods vertex m)) }
+    ensures adds { OnOk result (AddsMethod graph.now.methods vertex methods.old.items methods.new.items) }
+    ensures numbered { StandOnce graph.now.methods }
 {
     match graph.methods.method(vertex) {
         Some(method) => {
@@ -71,14 +73,16 @@ fn add_method(
     }
 }
 
-/// Adds the methods among some vertices.
+/// Adds the methods among some vertices, where there are none yet.
 fn add_methods(
     graph: &UseGraph,
     reached: &Visited,
     methods: &mut Vec<DeclaredMember>,
 ) -> Result<(), AllocError>
-    ensures { OnOk result ((m : Declared) → Contains methods.new.items m
+    requires { methods.old.items ≡ [] }
+    ensures all { OnOk result ((m : Declared) → Contains methods.new.items m
         ↔ (Contains methods.old.items m ⊎ IsAmong graph.now.methods reached.now.items m)) }
+    ensures once { OnOk result (StandOnce methods.new.items) }
 {
     for place in 0..reached.len() {
         add_method(graph, reached.at(place), methods)?;
@@ -294,14 +298,6 @@ fn uses_by(
 }
 
 impl UseGraph {
-    /// The vertex of the class initialization method of a class among the calls, if it has one.
-    pub fn start(&self, program: &Program, class: u32) -> Option<usize>
-        requires { AreMethods program.now self.now.methods }
-        ensures { StartsAt program.now self.now.methods class result }
-    {
-        start_of(program, self, class)
-    }
-
     /// What the initialization of a class of the program may run and use, and what its code is marked for.
     ///
     /// # Errors

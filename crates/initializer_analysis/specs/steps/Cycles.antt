@@ -3,7 +3,7 @@ use Rattle.std.specs.Prelude.{◌≡◌, ◌≢◌, ◌↔◌, ◌⊎◌, ℕ, �
 use Rattle.std.specs.Prelude.{false, IsTrue, List, length, slice_index, slice_index_or}
 use Rattle.use_graph.specs.declared.whole_program.UseGraph.{UseGraph}
 use Rattle.initializer_analysis.specs.declared.labels.Least.{Least}
-use Rattle.initializer_analysis.specs.Least.{AreLeast, IsOf}
+use Rattle.initializer_analysis.specs.Least.{AreLeast}
 use Rattle.initializer_analysis.specs.LeastReached.{no_labels, IsOwn}
 use Rattle.initializer_analysis.specs.steps.Dependence.{vertex_of}
 

@@ -2,7 +2,7 @@
 use Rattle.std.specs.Prelude.{◌≡◌, ◌⊎◌, ℕ, ◌<◌, ◌≤◌, Bool, List, length, Option, Some, None, slice_index_or}
 use Rattle.program.specs.Tables.{Tables}
 use Rattle.initializer_analysis.specs.declared.verdict.Reason.{Reason}
-use Rattle.initializer_analysis.specs.Verdicts.{Holds, IsFirst, rank}
+use Rattle.initializer_analysis.specs.Verdicts.{Holds, IsFirstReason, rank}
 
 -- where nothing was told of a class, this reason is, if it is there
 abbrev pub IsNext : Type 0 → Reason → Option Reason → Option Reason → Type 0
@@ -17,7 +17,7 @@ pub record AddsReason (Is : ℕ → Type 0) (reason : Reason) (old new : List (O
 
 -- the first reason, as far as those below a rank tell
 abbrev pub IsFirstBelow : Tables → List Bool → ℕ → ℕ → Option Reason → Type 0
-IsFirstBelow P forced limit c (Some reason) = IsFirst P forced c reason
+IsFirstBelow P forced limit c (Some reason) = IsFirstReason P forced c reason
 IsFirstBelow P forced limit c None = (reason : Reason) → Holds P forced c reason → limit ≤ rank reason
 
 pub record AreFirstBelow (P : Tables) (forced : List Bool) (limit : ℕ) (reasons : List (Option Reason)) : Type 0 where

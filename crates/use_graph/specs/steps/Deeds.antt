@@ -1,5 +1,5 @@
 -- What the instructions of a body may do, one for each.
-use Rattle.std.specs.Prelude.{◌≡◌, ◌⊎◌, ℕ, List, [], ◌∷◌, map, Option, Some, None}
+use Rattle.std.specs.Prelude.{◌≡◌, ◌⊎◌, ℕ, List, [], map, Option, Some, None}
 use Rattle.std.specs.List.{Contains}
 use Rattle.bytecode.specs.declared.instruction.Instruction.{Instruction}
 use Rattle.bytecode.specs.declared.placed.Placed.{Placed}
@@ -11,7 +11,6 @@ use Rattle.machine.specs.Operations.{Operation, resolved_operation, local_or}
 use Rattle.use_graph.specs.declared.callee.Callee.{Callee}
 use Rattle.use_graph.specs.declared.code.Deed.{Deed}
 use Rattle.use_graph.specs.declared.body.Told.{Told}
-use Rattle.use_graph.specs.declared.feature.Feature.{Feature}
 use Rattle.use_graph.specs.declared.feature.Feature.TheVariants as features
 use Rattle.use_graph.specs.Code.{needed_by, callee_of, feature_of, MayRunFor}
 use Rattle.use_graph.specs.Uses.{IsLeftOut}

@@ -25,6 +25,11 @@ IsMethodAt methods n m = slice_get methods n ≡ Some m
 abbrev pub IsAmong : List DeclaredMember → List ℕ → DeclaredMember → Type 0
 IsAmong methods reached m = HoldsOfOne (IsMethodAt methods) reached m
 
+-- the method of a vertex stands at the end, if it is one
+abbrev pub AddsMethod : List DeclaredMember → ℕ → List DeclaredMember → List DeclaredMember → Type 0
+AddsMethod methods n old new =
+    (new ≡ old) ⊎ ((m : DeclaredMember) × (slice_get methods n ≡ Some m) × (new ≡ old ++ m ∷ []))
+
 -- the methods of these vertices are those that may run
 abbrev pub AreReached : Tables → List DeclaredMember → ℕ → List ℕ → Type 0
 AreReached P methods c reached = (m : DeclaredMember) → IsAmong methods reached m ↔ MayRun P c m.class m.index

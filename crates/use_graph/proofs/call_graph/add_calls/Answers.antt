@@ -1,4 +1,4 @@
-use Rattle.std.proofs.Common.{◌≤◌, length, sym, subst, List, arith}
+use Rattle.std.proofs.Common.{◌≤◌, length, subst, List, arith}
 use Rattle.use_graph.specs.declared.code.Deed.{Deed}
 use Rattle.use_graph.specs.steps.Growing.{LeadsByEach}
 use Rattle.use_graph.proofs.CollectedLemmas.{take_all}

@@ -5,4 +5,4 @@ use Rattle.use_graph.proofs.call_graph.add_numbered.Goals as goal
 pub returns-clause-leads : goal.returns-clause-leads
 returns-clause-leads c =
     leads_of_number c.args.program.now c.args.numbers.now c.add_body.new.graph c.args.number c.in-Some.method
-    (sym c.in-Some.ensures) c.in_ok-add_body.ensures.leads
+    (sym c.in-Some.ensures.value) c.in_ok-add_body.ensures.leads

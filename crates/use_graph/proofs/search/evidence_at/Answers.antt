@@ -8,7 +8,7 @@ returns c =
     let (t, among, pc, means) = c.in_ok-pc.ensures in (
       c.in_ok-body.body.now,
       t,
-      sym c.in_ok-method.ensures,
+      sym c.in_ok-method.ensures.value,
       sym c.in_ok-body.ensures,
       subst (λ (l : List Told). Contains l t) c.deref.ensures.value among,
       pc,

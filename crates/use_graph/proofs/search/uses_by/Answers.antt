@@ -12,7 +12,8 @@ returns c =
     let is = c.marks_of-marks.ensures in record {
       methods = are_methods_of P graph c.args.class reached c.requires.graph c.requires.reached
           c.new-methods.result.items c.add_methods.new.methods.items c.new-methods.ensures.items
-          c.in_ok-add_methods.ensures;
+          c.in_ok-add_methods.ensures.all;
+      once = c.in_ok-add_methods.ensures.once;
       classes = c.in_ok-classes.ensures.members;
       ascending = c.in_ok-classes.ensures.ascending;
       prints = has marks.Prints found.prints is.prints;
