@@ -1,10 +1,11 @@
 -- Reasons of given classes, added by their ranks.
-use Rattle.std.proofs.Common.{◌≡◌, ◌≢◌, ◌↔◌, ◌⊎◌, ℕ, ◌+◌, ◌<◌, ◌≤◌, Bool, false, IsTrue, List, length, set, replicate}
+use Rattle.std.proofs.Common.{◌≡◌, ◌≢◌, ◌↔◌, ◌⊎◌, ℕ, zero, suc, ◌+◌, ◌<◌, ◌≤◌, Bool, false, IsTrue, List, [], ◌∷◌, length, set, replicate}
 use Rattle.std.proofs.Common.{Option, Some, None, MatchOption, slice_index_or, inl, inr, refl, sym, subst, ◌∙◌, arith}
 use Rattle.std.proofs.lemmas.Grind.{common_steps}
 use Rattle.std.proofs.lemmas.List.{get_or-set_same, get_or-set_other, length-set}
 use Rattle.program.specs.Tables.{Tables}
 use Rattle.use_graph.specs.declared.mark.Mark.{Mark}
+use Rattle.use_graph.specs.declared.mark.Mark.TheVariants as marks
 use Rattle.use_graph.specs.Uses.{HasMark}
 use Rattle.initializer_analysis.specs.Forced.{has_class}
 use Rattle.initializer_analysis.specs.declared.verdict.Reason.{Reason}
@@ -136,12 +137,37 @@ forced_first P forced old new empty adds =
     none : (c : ℕ) → slice_index_or old c None ≡ None
     none c = grind (arith, common_steps)
 
-pub mark_next : (P : Tables) (forced : List Bool) (mark : Mark) (old new : List (Option Reason))
+mark_next : (P : Tables) (forced : List Bool) (mark : Mark) (old new : List (Option Reason))
     → AddsReason (λ c. HasMark P c mark) (reasons.Marked mark) old new → AreFirstBelow P forced (rank_of mark) old
     → AreFirstBelow P forced (rank_of mark + 1) new
 mark_next P forced mark old new adds first =
     next_all P forced (rank_of mark) (reasons.Marked mark) (λ c. HasMark P c mark) old new refl (λ c small h. h)
     (λ c small. only_marked P forced c mark) adds first
+
+-- the marks, the least first
+abbrev pub all_marks : List Mark
+all_marks = marks.Prints ∷ marks.Throws ∷ marks.Monitors ∷ marks.ForeignWrite ∷ marks.ForeignRead ∷ marks.Unsupported
+    ∷ marks.Missing ∷ []
+
+pub ranked : (i : ℕ) (d : Mark) → i < 7 → rank_of (slice_index_or all_marks i d) ≡ i + 2
+ranked zero d low = refl
+ranked (suc zero) d low = refl
+ranked (suc (suc zero)) d low = refl
+ranked (suc (suc (suc zero))) d low = refl
+ranked (suc (suc (suc (suc zero)))) d low = refl
+ranked (suc (suc (suc (suc (suc zero))))) d low = refl
+ranked (suc (suc (suc (suc (suc (suc zero)))))) d low = refl
+ranked (suc (suc (suc (suc (suc (suc (suc i))))))) d low = absurd (omega arith)
+
+pub marks_more : (P : Tables) (forced : List Bool) (i : ℕ) (mark : Mark) (old new : List (Option Reason))
+    → rank_of mark ≡ i + 2 → AddsReason (λ c. HasMark P c mark) (reasons.Marked mark) old new
+    → AreFirstBelow P forced (i + 2) old → AreFirstBelow P forced (i + 1 + 2) new
+marks_more P forced i mark old new ranks adds first =
+    subst (λ (n : ℕ). AreFirstBelow P forced n new) next
+    (mark_next P forced mark old new adds (subst (λ (n : ℕ). AreFirstBelow P forced n old) (sym ranks) first))
+  where
+    next : rank_of mark + 1 ≡ i + 1 + 2
+    next = omega (arith, ranks)
 
 pub cycle_last : (P : Tables) (forced on_cycle : List Bool) (old new : List (Option Reason)) → AreOnCycles P on_cycle
     → AddsReason (λ c. IsTrue (slice_index_or on_cycle c false)) reasons.Cycle old new

@@ -94,8 +94,19 @@ fn add_mark(
     Ok(())
 }
 
-/// Tells of each class which of these marks its code bears first: that it prints, throws or uses monitors.
-fn add_effect_marks(
+/// The marks, the least first.
+const MARKS: [Mark; 7] = [
+    Mark::Prints,
+    Mark::Throws,
+    Mark::Monitors,
+    Mark::ForeignWrite,
+    Mark::ForeignRead,
+    Mark::Unsupported,
+    Mark::Missing,
+];
+
+/// Tells of each class which mark its code bears first, where nothing was told.
+fn add_marks(
     alloc: Global,
     program: &Program,
     uses: &UseGraph,
@@ -106,40 +117,11 @@ fn add_effect_marks(
     requires components { AreComponents uses.now.calls components.now }
     requires len { length reasons.old ≡ length program.now.classes }
     ensures { OnOk result ((forced : List Bool) → AreFirstBelow program.now forced 2 reasons.old
-        → AreFirstBelow program.now forced 5 reasons.new) }
-{
-    add_mark(alloc, program, uses, components, Mark::Prints, reasons)?;
-    add_mark(alloc, program, uses, components, Mark::Throws, reasons)?;
-    add_mark(alloc, program, uses, components, Mark::Monitors, reasons)?;
-    Ok(())
-}
-
-/// Tells of each class which of the other marks its code bears first: those of other classes' fields, of what is left
-/// out, and of what is not there.
-fn add_outside_marks(
-    alloc: Global,
-    program: &Program,
-    uses: &UseGraph,
-    components: &Components,
-    reasons: &mut [Option<Reason>],
-) -> Result<(), AllocError>
-    requires uses { IsUseGraph program.now uses.now }
-    requires components { AreComponents uses.now.calls components.now }
-    requires len { length reasons.old ≡ length program.now.classes }
-    ensures { OnOk result ((forced : List Bool) → AreFirstBelow program.now forced 5 reasons.old
         → AreFirstBelow program.now forced 9 reasons.new) }
 {
-    add_mark(
-        alloc,
-        program,
-        uses,
-        components,
-        Mark::ForeignWrite,
-        reasons,
-    )?;
-    add_mark(alloc, program, uses, components, Mark::ForeignRead, reasons)?;
-    add_mark(alloc, program, uses, components, Mark::Unsupported, reasons)?;
-    add_mark(alloc, program, uses, components, Mark::Missing, reasons)?;
+    for mark in MARKS {
+        add_mark(alloc, program, uses, components, mark, reasons)?;
+    }
     Ok(())
 }
 
@@ -160,8 +142,7 @@ fn add_reasons(
     ensures { OnOk result (AreOwnReasons program.now forced.now reasons.new) }
 {
     add_forced(program, forced, reasons);
-    add_effect_marks(alloc, program, uses, components, reasons)?;
-    add_outside_marks(alloc, program, uses, components, reasons)?;
+    add_marks(alloc, program, uses, components, reasons)?;
     add_cycles(on_cycle, reasons);
     Ok(())
 }

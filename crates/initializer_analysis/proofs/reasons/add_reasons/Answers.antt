@@ -5,6 +5,7 @@ pub returns : goal.returns
 returns c =
     let P = c.args.program.now in
     let forced = c.args.forced.now in
-    cycle_last P forced c.args.on_cycle.now c.add_outside_marks.new.reasons c.add_cycles.new.reasons c.requires.on_cycle
-    c.add_cycles.ensures (c.in_ok-add_outside_marks.ensures forced (c.in_ok-add_effect_marks.ensures forced
-    (forced_first P forced c.args.reasons.now c.add_forced.new.reasons c.requires.none c.add_forced.ensures)))
+    let first =
+    forced_first P forced c.args.reasons.now c.add_forced.new.reasons c.requires.none c.add_forced.ensures in
+    cycle_last P forced c.args.on_cycle.now c.add_marks.new.reasons c.add_cycles.new.reasons c.requires.on_cycle
+    c.add_cycles.ensures (c.in_ok-add_marks.ensures forced first)
