@@ -3,6 +3,7 @@
 ghost use Rattle.std.specs.Prelude.{◌≡◌, ◌≤◌, ◌*◌, ◌+◌, ℕ, length, IfOk};
 ghost use Rattle.graph.specs.Components.{AreComponents};
 ghost use Rattle.use_graph.specs.steps.Bodies.{IsUseGraph};
+ghost use Rattle.initializer_analysis.specs.OwnReasons.{AreOwnReasons};
 ghost use Rattle.initializer_analysis.specs.Verdicts.{AreVerdicts};
 ghost use Rattle.initializer_analysis.specs.steps.Dependence.{IsDependence};
 ghost use Rattle.initializer_analysis.specs.steps.Judging.{verdict_by, AreVerdictsBy, IsJudged, AreJudgedBy};
@@ -88,35 +89,6 @@ fn verdicts_of(
     Ok(verdicts)
 }
 
-/// The verdicts, from what classes and methods depend on.
-fn judge_over(
-    alloc: Global,
-    program: &Program,
-    forced: &Forced,
-    uses: &UseGraph,
-    calls: &Components,
-    graph: &Graph,
-) -> Result<Verdicts, AllocError>
-    requires uses { IsUseGraph program.now uses.now }
-    requires calls { AreComponents uses.now.calls calls.now }
-    requires graph { IsDependence program.now uses.now graph.now }
-    ensures { IfOk result (AreVerdicts program.now forced.now) }
-{
-    let components = components_of(alloc, graph)?;
-    let on_cycle = cycles(alloc, program, uses, graph, &components)?;
-    let reasons = own_reasons(alloc, program, uses, calls, forced, on_cycle.as_slice())?;
-    let verdicts = judge_known(
-        alloc,
-        program,
-        uses,
-        calls,
-        graph,
-        &components,
-        reasons.as_slice(),
-    )?;
-    Ok(verdicts)
-}
-
 /// The verdicts, where the reasons of their own are known of all classes.
 fn judge_known(
     alloc: Global,
@@ -148,6 +120,98 @@ fn judge_known(
     Ok(verdicts)
 }
 
+/// The reasons of their own of all classes, from what classes and methods depend on.
+fn reasons_by(
+    alloc: Global,
+    program: &Program,
+    forced: &Forced,
+    uses: &UseGraph,
+    calls: &Components,
+    graph: &Graph,
+    components: &Components,
+) -> Result<Vec<Option<Reason>>, AllocError>
+    requires uses { IsUseGraph program.now uses.now }
+    requires calls { AreComponents uses.now.calls calls.now }
+    requires graph { IsDependence program.now uses.now graph.now }
+    requires components { AreComponents graph.now components.now }
+    ensures { IfOk result (λ reasons. AreOwnReasons program.now forced.now reasons.items) }
+{
+    match cycles(alloc, program, uses, graph, components) {
+        Ok(on_cycle) => own_reasons(alloc, program, uses, calls, forced, on_cycle.as_slice()),
+        Err(error) => Err(error),
+    }
+}
+
+/// The verdicts, from what classes and methods depend on and its components.
+fn judge_over(
+    alloc: Global,
+    program: &Program,
+    forced: &Forced,
+    uses: &UseGraph,
+    calls: &Components,
+    graph: &Graph,
+    components: &Components,
+) -> Result<Verdicts, AllocError>
+    requires uses { IsUseGraph program.now uses.now }
+    requires calls { AreComponents uses.now.calls calls.now }
+    requires graph { IsDependence program.now uses.now graph.now }
+    requires components { AreComponents graph.now components.now }
+    ensures { IfOk result (AreVerdicts program.now forced.now) }
+{
+    match reasons_by(alloc, program, forced, uses, calls, graph, components) {
+        Ok(reasons) => {
+            judge_known(
+                alloc,
+                program,
+                uses,
+                calls,
+                graph,
+                components,
+                reasons.as_slice(),
+            )
+        }
+        Err(error) => Err(error),
+    }
+}
+
+/// The verdicts, from what classes and methods depend on.
+fn judge_graph(
+    alloc: Global,
+    program: &Program,
+    forced: &Forced,
+    uses: &UseGraph,
+    calls: &Components,
+    graph: &Graph,
+) -> Result<Verdicts, AllocError>
+    requires uses { IsUseGraph program.now uses.now }
+    requires calls { AreComponents uses.now.calls calls.now }
+    requires graph { IsDependence program.now uses.now graph.now }
+    ensures { IfOk result (AreVerdicts program.now forced.now) }
+{
+    match components_of(alloc, graph) {
+        Ok(components) => judge_over(alloc, program, forced, uses, calls, graph, &components),
+        Err(error) => Err(error),
+    }
+}
+
+/// The verdicts, where the components of the graph of calls are known.
+fn judge_calls(
+    alloc: Global,
+    program: &Program,
+    forced: &Forced,
+    uses: &UseGraph,
+    calls: &Components,
+) -> Result<Verdicts, AllocError>
+    requires uses { IsUseGraph program.now uses.now }
+    requires calls { AreComponents uses.now.calls calls.now }
+    ensures { IfOk result (AreVerdicts program.now forced.now) }
+{
+    match dependence_graph(alloc, program, uses) {
+        Ok(graph) => judge_graph(alloc, program, forced, uses, calls, &graph),
+        Err(error) => Err(error),
+    }
+}
+
 /// The verdicts on the classes of a program, by what its methods may call, need and do.
 fn judge_by(
     alloc: Global,
@@ -158,10 +222,10 @@ fn judge_by(
     requires { IsUseGraph program.now uses.now }
     ensures { IfOk result (AreVerdicts program.now forced.now) }
 {
-    let calls = components_of(alloc, &uses.calls)?;
-    let graph = dependence_graph(alloc, program, uses)?;
-    let verdicts = judge_over(alloc, program, forced, uses, &calls, &graph)?;
-    Ok(verdicts)
+    match components_of(alloc, &uses.calls) {
+        Ok(calls) => judge_calls(alloc, program, forced, uses, &calls),
+        Err(error) => Err(error),
+    }
 }
 
 /// The verdicts on the classes of a program: for each a wave, or the reason for which it is not initialized at build
@@ -172,7 +236,8 @@ fn judge_by(
 pub fn judge(alloc: Global, program: &Program, forced: &Forced) -> Result<Verdicts, AllocError>
     ensures { IfOk result (AreVerdicts program.now forced.now) }
 {
-    let uses = UseGraph::of_program(alloc, program)?;
-    let verdicts = judge_by(alloc, program, forced, &uses)?;
-    Ok(verdicts)
+    match UseGraph::of_program(alloc, program) {
+        Ok(uses) => judge_by(alloc, program, forced, &uses),
+        Err(error) => Err(error),
+    }
 }
