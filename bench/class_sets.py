@@ -423,6 +423,11 @@ def virtual_calls(count):
             for number in range(count)]
 
 
+def deep_names(count):
+    """Classes in one package 500 deep, so that their names of 1,005 bytes differ at their ends alone."""
+    return [class_file("a/" * 500 + "%05d" % number) for number in range(count)]
+
+
 def equal_interfaces(count):
     """A class that names one interface so many times among its superinterfaces, by a name of 65,000 bytes."""
     name = "a" * 65000
@@ -434,7 +439,7 @@ KINDS = {kind.__name__: kind for kind in (small, chain, chain_of_references, int
                                          below_interfaces, many_below, own_methods_below, two_chains_below, wide_below,
                                          conflicts_below, initialized_on_top, many_on_top,
                                          alternating, long_orders, initializers, waves, one_cycle, refused_below,
-                                         virtual_calls)}
+                                         virtual_calls, deep_names)}
 
 
 def main():

@@ -1,6 +1,7 @@
 pub mod ListLemmas
 pub mod ListsLemmas
 pub mod ChainLemmas
-pub mod NameLemmas
+pub mod SortedNamesLemmas
+pub mod CoveringLemmas
 pub mod MatchedLemmas
 pub mod BothLemmas

@@ -1,6 +1,6 @@
 -- Lists, place by place.
-use Rattle.std.proofs.Common.{◌≡◌, ℕ, ◌+◌, ◌<◌, ◌≤◌, List, [], ◌∷◌, ◌++◌, length, take, map, Some}
-use Rattle.std.proofs.Common.{slice_get, refl, subst}
+use Rattle.std.proofs.Common.{◌≡◌, ℕ, ◌+◌, ◌<◌, List, [], ◌∷◌, ◌++◌, length, take, map, Some}
+use Rattle.std.proofs.Common.{slice_get, subst}
 use Rattle.std.proofs.Common.{get_or, sym, ap, ◌∙◌, Bor, zero, suc, ◌⊎◌, inl, inr, arith, drop}
 use Rattle.std.specs.List.{All, Contains}
 use Rattle.std.proofs.lemmas.List.Elements.{All-more}
@@ -17,14 +17,6 @@ all_more {A} P xs i x at before here =
     let read : get_or xs i x ≡ x = get_or_from_slice_get xs i x x at in
     All-more P xs i x (slice_get_within xs i x at) before (subst P (sym read) here)
 
-pub map_more : {A B : Type 0} (f : A → B) (xs : List A) (i : ℕ) (x : A) → slice_get xs i ≡ Some x
-    → map f (take (i + 1) xs) ≡ map f (take i xs) ++ f x ∷ []
-map_more {A} f xs i x at =
-    let read : get_or xs i x ≡ x = get_or_from_slice_get xs i x x at in
-    let one : take (i + 1) xs ≡ take i xs ++ x ∷ [] =
-    take_more xs i x (slice_get_within xs i x at) ∙ ap (λ (z : A). take i xs ++ z ∷ []) read in
-    ap (map f) one ∙ map_push f (take i xs) x
-
 -- ---- items as they are read
 
 -- what the items are
@@ -35,6 +27,14 @@ pub read_at : (items : List (Bor (List ℕ))) (i : ℕ) (d : Bor (List ℕ)) →
     → slice_get (read_all items) i ≡ Some (get_or items i d).now
 read_at items i d within =
     mapped_at (λ (item : Bor (List ℕ)). item.now) items i (get_or items i d) (slice_get-get_or items i d within)
+
+pub copied_more : (items : List (Bor (List ℕ))) (i : ℕ) (d : Bor (List ℕ)) (old new : List (List ℕ))
+    → i < length items → old ≡ read_all (take i items) → new ≡ old ++ (get_or items i d).now ∷ []
+    → new ≡ read_all (take (i + 1) items)
+copied_more items i d old new small before more =
+    more ∙ ap (λ (l : List (List ℕ)). l ++ (get_or items i d).now ∷ []) before
+    ∙ sym (ap read_all (take_more items i d small)
+    ∙ map_push (λ (item : Bor (List ℕ)). item.now) (take i items) (get_or items i d))
 
 -- ---- the first items of a list
 

@@ -1,12 +1,11 @@
 -- The first empty item of a list.
-use Rattle.std.proofs.Common.{◌≡◌, ℕ, ◌+◌, ◌<◌, ◌≤◌, Bool, true, false, List, [], length, take, Some, refl}
+use Rattle.std.proofs.Common.{◌≡◌, ℕ, ◌+◌, ◌<◌, ◌≤◌, Bool, true, false, List, [], length, take, Some}
 use Rattle.std.proofs.Common.{sym, ap, ◌∙◌}
-use Rattle.std.proofs.Common.{get_or, subst, eqb, Bor, arith, inr, ◌⊎◌, slice_get}
+use Rattle.std.proofs.Common.{get_or, subst, eqb, Bor, inr, ◌⊎◌}
 use Rattle.std.specs.List.{All}
 use Rattle.std.proofs.lemmas.Bool.{eqb-true}
 use Rattle.std.proofs.lemmas.List.{nil_from_length, length-map, take_all}
 use Rattle.options.specs.Lists.{IsNonEmpty, IsFirstEmpty, ListFails, empty, items_of}
-use Rattle.options.specs.declared.fault.OptionFault.{OptionFault}
 use Rattle.options.specs.declared.fault.OptionFault.TheVariants.{Memory, Empty}
 use Rattle.options.proofs.ListLemmas.{read_all, read_at, all_more}
 

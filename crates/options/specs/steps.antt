@@ -1,5 +1,5 @@
 pub mod Texts
 pub mod Marks
-pub mod Unknown
+pub mod Names
+pub mod Covering
 pub mod Both
-pub mod Matched

@@ -5,6 +5,7 @@
 #![tactic(auto)]
 
 mod chains;
+mod covering;
 mod demanded;
 mod demanding;
 mod fault;
@@ -12,6 +13,7 @@ mod forcing;
 mod marks;
 mod matching;
 mod patterns;
+mod sorted_names;
 
 pub use demanded::Demand;
 pub use demanding::demand;

@@ -1,27 +1,26 @@
 //! The classes that patterns match.
 
-ghost use Rattle.std.specs.Prelude.{◌≡◌, ◌⊎◌, ◌≢◌, ℕ, ◌<◌, ◌≤◌, ◌↔◌, IsTrue, IfErr, IfOk, OnOk, length, map, take};
-ghost use Rattle.std.specs.Prelude.{false, replicate};
-ghost use Rattle.std.specs.List.{All, Contains};
-ghost use Rattle.std.specs.String.{string_bytes};
-ghost use Rattle.loading.specs.Names.{name_of};
-ghost use Rattle.options.specs.Patterns.{dot_of, dotted, spelled, IsIn};
-ghost use Rattle.options.specs.Classes.{AreClasses, IsClassIn, IsMatched, MatchesClass};
+ghost use Rattle.std.specs.Prelude.{◌≡◌, ◌⊎◌, ℕ, ◌<◌, IfErr, IfOk, OnOk, length, map, replicate, string_bytes, false};
+ghost use Rattle.std.specs.List.{All};
+ghost use Rattle.options.specs.Patterns.{spelled};
+ghost use Rattle.options.specs.Classes.{AreClasses, IsMatched};
 ghost use Rattle.options.specs.Faults.{PatternsFail, IsKnown};
 ghost use Rattle.options.specs.steps.Marks.{Grow};
-ghost use Rattle.options.specs.steps.Unknown.{IsOfUnknown};
-ghost use Rattle.options.specs.declared.fault.OptionFault.TheVariants.{Memory};
+ghost use Rattle.options.specs.steps.Names.{AreSorted, IsRunOf};
+ghost use Rattle.options.specs.steps.Covering.{CoversMore, IsMatchedAt, IsKnownIn, IsMatchedByOne, IsMatchedClass};
+ghost use Rattle.options.specs.steps.Covering.{IsCoveredClass, IsOfUnknown, IsOfFirstUnknown};
+ghost use Rattle.options.specs.steps.Texts.{Text};
+ghost use Rattle.options.specs.declared.fault.OptionFault.TheVariants.{Memory, Unknown};
 
+use crate::covering::{cover, mark_covered};
 use crate::fault::OptionFault;
-use crate::marks::mark;
 use crate::patterns::Patterns;
+use crate::sorted_names::{DottedName, Run, run_of, sorted_names};
 use classfile::{ClassName, ModifiedUtf8};
 use loading::family::Family;
-use loading::given::GivenClass;
-use loading::names::name_of;
 use std::alloc::{AllocError, Global};
 
-/// By class: whether a pattern matches it.
+/// By class: whether a pattern matches it. It takes time near linear in the names of the classes and the patterns.
 ///
 /// # Errors
 /// `Unknown` of the first pattern that matches no class, and `Memory`.
@@ -35,56 +34,134 @@ pub(crate) fn matched_in(
     ensures known { OnOk result (All (IsKnown family.now) patterns.now) }
     ensures fault { IfErr result (λ fault. (fault ≡ Memory) ⊎ PatternsFail family.now patterns.now fault) }
 {
-    let mut marks = blank(alloc, family.classes().len())?;
-    match mark_all(alloc, family, patterns.texts(), &mut marks) {
-        Ok(()) => Ok(marks),
+    match sorted_names(alloc, family) {
+        Ok(names) => matched_among(alloc, &names, patterns.texts()),
+        Err(_) => Err(OptionFault::Memory),
+    }
+}
+
+/// By class: whether a pattern matches its name, of these names.
+fn matched_among(
+    alloc: Global,
+    names: &[DottedName],
+    patterns: &[String],
+) -> Result<Vec<bool>, OptionFault>
+    requires sorted { AreSorted names.now }
+    requires within { All (λ n. n.class < length names.now) names.now }
+    ensures len { IfOk result (λ marks. length marks.items ≡ length names.now) }
+    ensures marks { IfOk result (λ marks.
+        AreClasses marks.items (IsMatchedClass names.now (map string_bytes patterns.now))) }
+    ensures known { OnOk result (All (IsKnownIn names.now) (map string_bytes patterns.now)) }
+    ensures fault { IfErr result
+        (λ fault. (fault ≡ Memory) ⊎ IsOfFirstUnknown names.now (map string_bytes patterns.now) fault) }
+{
+    match covered_by(alloc, names, patterns) {
+        Ok(ends) => marks_of(alloc, names, &ends),
         Err(fault) => Err(fault),
     }
 }
 
+/// The marks of the classes whose names stand at covered places.
+fn marks_of(alloc: Global, names: &[DottedName], ends: &[usize]) -> Result<Vec<bool>, OptionFault>
+    requires len { length ends.now ≡ length names.now }
+    requires within { All (λ n. n.class < length names.now) names.now }
+    ensures len { IfOk result (λ marks. length marks.items ≡ length names.now) }
+    ensures marks { IfOk result (λ marks. AreClasses marks.items (IsCoveredClass names.now ends.now)) }
+    ensures fault { IfErr result (λ fault. fault ≡ Memory) }
+{
+    match no_marks(alloc, names.len()) {
+        Ok(marks) => Ok(covered_marks(names, ends, marks)),
+        Err(_) => Err(OptionFault::Memory),
+    }
+}
+
 /// No marks, for so many classes.
-fn blank(alloc: Global, count: usize) -> Result<Vec<bool>, AllocError>
+fn no_marks(alloc: Global, count: usize) -> Result<Vec<bool>, AllocError>
     ensures { IfOk result (λ marks. marks.items ≡ replicate count false) }
 {
     vec![in alloc; false; count]
 }
 
-/// Marks the classes that patterns match.
-fn mark_all(
+/// Marks, and those of the classes whose names stand at covered places.
+fn covered_marks(names: &[DottedName], ends: &[usize], marks: Vec<bool>) -> Vec<bool>
+    requires len { length ends.now ≡ length names.now }
+    requires within { All (λ n. n.class < length marks.items) names.now }
+    ensures { Grow marks.items result.items (IsCoveredClass names.now ends.now) }
+{
+    let mut marks = marks;
+    mark_covered(names, ends, &mut marks);
+    marks
+}
+
+/// By place: where the longest run from there ends that a pattern matches.
+fn covered_by(
     alloc: Global,
-    family: &Family,
+    names: &[DottedName],
     patterns: &[String],
-    marks: &mut [bool],
-) -> Result<(), OptionFault>
-    requires { length marks.old ≡ length family.now }
-    ensures marks { OnOk result (Grow marks.old marks.new (IsMatched family.now (map string_bytes patterns.now))) }
-    ensures known { OnOk result (All (IsKnown family.now) (map string_bytes patterns.now)) }
+) -> Result<Vec<usize>, OptionFault>
+    requires { AreSorted names.now }
+    ensures covers { IfOk result (λ ends. CoversMore (replicate (length names.now) 0) ends.items
+        (IsMatchedByOne names.now (map string_bytes patterns.now))) }
+    ensures known { OnOk result (All (IsKnownIn names.now) (map string_bytes patterns.now)) }
     ensures fault { IfErr result
-        (λ fault. (fault ≡ Memory) ⊎ PatternsFail family.now (map string_bytes patterns.now) fault) }
+        (λ fault. (fault ≡ Memory) ⊎ IsOfFirstUnknown names.now (map string_bytes patterns.now) fault) }
+{
+    let mut ends = vec![in alloc; 0; names.len()]?;
+    match cover_all(alloc, names, patterns, &mut ends) {
+        Ok(()) => Ok(ends),
+        Err(fault) => Err(fault),
+    }
+}
+
+/// Covers the names that patterns match.
+fn cover_all(
+    alloc: Global,
+    names: &[DottedName],
+    patterns: &[String],
+    ends: &mut [usize],
+) -> Result<(), OptionFault>
+    requires sorted { AreSorted names.now }
+    requires len { length ends.old ≡ length names.now }
+    ensures covers { OnOk result
+        (CoversMore ends.old ends.new (IsMatchedByOne names.now (map string_bytes patterns.now))) }
+    ensures known { OnOk result (All (IsKnownIn names.now) (map string_bytes patterns.now)) }
+    ensures fault { IfErr result
+        (λ fault. (fault ≡ Memory) ⊎ IsOfFirstUnknown names.now (map string_bytes patterns.now) fault) }
 {
     for pattern in patterns {
-        mark_known(alloc, family, pattern, marks)?;
+        cover_known(alloc, names, pattern, ends)?;
     }
     Ok(())
 }
 
-/// Marks the classes that a pattern matches, of which there have to be some.
-fn mark_known(
+/// Covers the names that a pattern matches, of which there have to be some.
+fn cover_known(
     alloc: Global,
-    family: &Family,
+    names: &[DottedName],
     pattern: &str,
-    marks: &mut [bool],
+    ends: &mut [usize],
 ) -> Result<(), OptionFault>
-    requires { length marks.old ≡ length family.now }
-    ensures marks { OnOk result (Grow marks.old marks.new (MatchesClass family.now pattern.now)) }
-    ensures known { OnOk result (IsKnown family.now pattern.now) }
-    ensures fault { IfErr result (λ fault. (fault ≡ Memory) ⊎ IsOfUnknown family.now pattern.now fault) }
+    requires sorted { AreSorted names.now }
+    requires len { length ends.old ≡ length names.now }
+    ensures covers { OnOk result (CoversMore ends.old ends.new (IsMatchedAt names.now pattern.now)) }
+    ensures known { OnOk result (IsKnownIn names.now pattern.now) }
+    ensures fault { IfErr result (λ fault. (fault ≡ Memory) ⊎ IsOfUnknown names.now pattern.now fault) }
 {
-    let spelled = spelled(alloc, pattern)?;
-    if mark_in(family, spelled.bytes(), marks) {
+    let run = matching_run(alloc, names, pattern)?;
+    if run.first < run.end {
+        cover(run, ends);
         return Ok(());
     }
-    Err(OptionFault::Unknown(String::from_str(alloc, pattern)?))
+    Err(unknown(alloc, pattern))
+}
+
+/// Where the names stand that a pattern matches.
+fn matching_run(alloc: Global, names: &[DottedName], pattern: &str) -> Result<Run, AllocError>
+    requires { AreSorted names.now }
+    ensures { IfOk result (IsRunOf names.now (spelled pattern.now)) }
+{
+    let spelled = spelled(alloc, pattern)?;
+    run_of(alloc, names, spelled.bytes())
 }
 
 /// A text as class files spell it.
@@ -95,65 +172,12 @@ fn spelled(alloc: Global, text: &str) -> Result<ModifiedUtf8, AllocError>
     name.modified_utf8(alloc)
 }
 
-/// Marks the classes whose name with dots is this one, or begins with it and a dot, and says whether there are any.
-fn mark_in(family: &Family, outer: &[u8], marks: &mut [bool]) -> bool
-    requires { length marks.old ≡ length family.now }
-    ensures found { IsTrue result ↔ ((class : ℕ) × IsClassIn family.now outer.now class) }
-    ensures marks { Grow marks.old marks.new (IsClassIn family.now outer.now) }
+/// The fault of a pattern that matches no class.
+fn unknown(alloc: Global, pattern: &str) -> OptionFault
+    ensures { (result ≡ Memory) ⊎ ((text : Text) × (string_bytes text ≡ pattern.now) × (result ≡ Unknown text)) }
 {
-    let mut found = false;
-    for (number, class) in family.classes().iter().enumerate() {
-        found |= mark_if_in(class, number, outer, marks);
+    match String::from_str(alloc, pattern) {
+        Ok(text) => OptionFault::Unknown(text),
+        Err(_) => OptionFault::Memory,
     }
-    found
-}
-
-/// Marks a class of this number, if its name is such a one, and says whether it is.
-fn mark_if_in(class: &GivenClass, number: usize, outer: &[u8], marks: &mut [bool]) -> bool
-    requires { number < length marks.old }
-    ensures found { IsTrue result ↔ IsIn outer.now (dotted (name_of class.now.file)) }
-    ensures marks { Grow marks.old marks.new
-        (λ c. (c ≡ number) × IsIn outer.now (dotted (name_of class.now.file))) }
-{
-    if is_in(outer, name_of(&class.file)) {
-        mark(marks, number);
-        return true;
-    }
-    false
-}
-
-/// Whether a name, with dots for slashes, is this one, or begins with it and a dot.
-fn is_in(outer: &[u8], name: &[u8]) -> bool
-    ensures { IsTrue result ↔ IsIn outer.now (dotted name.now) }
-{
-    if name.len() < outer.len() {
-        return false;
-    }
-    if !begins_with(name, outer) {
-        return false;
-    }
-    if name.len() == outer.len() {
-        return true;
-    }
-    dot_of(name[outer.len()]) == b'.'
-}
-
-/// Whether a name, with dots for slashes, begins so.
-fn begins_with(name: &[u8], start: &[u8]) -> bool
-    requires { length start.now ≤ length name.now }
-    ensures { IsTrue result ↔ (take (length start.now) (dotted name.now) ≡ start.now) }
-{
-    for (place, byte) in start.iter().enumerate() {
-        if dot_of(name[place]) != *byte {
-            return false;
-        }
-    }
-    true
-}
-
-/// A dot for a slash, and any other byte as it is.
-fn dot_of(byte: u8) -> u8
-    ensures { result ≡ dot_of byte }
-{
-    if byte == b'/' { b'.' } else { byte }
 }

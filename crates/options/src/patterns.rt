@@ -1,6 +1,6 @@
 //! Lists of patterns.
 
-ghost use Rattle.std.specs.Prelude.{◌≡◌, ◌⊎◌, [], map, IfErr, IfOk, MatchOption, OnOk};
+ghost use Rattle.std.specs.Prelude.{◌≡◌, ◌⊎◌, [], ◌∷◌, ◌++◌, map, IfErr, IfOk, MatchOption, OnOk};
 ghost use Rattle.std.specs.List.{All};
 ghost use Rattle.std.specs.String.{string_bytes};
 ghost use Rattle.options.specs.Lists.{items_of, IsNonEmpty, ListFails, IsFirstEmpty};
@@ -83,13 +83,34 @@ fn first_empty(items: &[&str]) -> Option<usize>
     None
 }
 
+/// Adds an item, to be kept.
+fn add_copy(alloc: Global, item: &str, texts: &mut Vec<String>) -> Result<(), AllocError>
+    ensures { OnOk result
+        (map string_bytes texts.new.items ≡ map string_bytes texts.old.items ++ item.now ∷ []) }
+{
+    let text = String::from_str(alloc, item)?;
+    texts.push(text)?;
+    Ok(())
+}
+
+/// Adds items, to be kept, where there are none yet.
+fn add_copies(alloc: Global, items: &[&str], texts: &mut Vec<String>) -> Result<(), AllocError>
+    requires { texts.old.items ≡ [] }
+    ensures { OnOk result (map string_bytes texts.new.items ≡ map (λ item. item.now) items.now) }
+{
+    for item in items {
+        add_copy(alloc, item, texts)?;
+    }
+    Ok(())
+}
+
 /// The items, to be kept.
 fn copies(alloc: Global, items: &[&str]) -> Result<Vec<String>, AllocError>
     ensures { IfOk result (λ texts. map string_bytes texts.items ≡ map (λ item. item.now) items.now) }
 {
-    let mut texts = Vec::with_capacity(alloc, items.len())?;
-    for item in items {
-        texts.push(String::from_str(alloc, item)?)?;
+    let mut texts = Vec::new(alloc);
+    match add_copies(alloc, items, &mut texts) {
+        Ok(()) => Ok(texts),
+        Err(error) => Err(error),
     }
-    Ok(texts)
 }

@@ -1,5 +1,5 @@
 -- Marks of classes that grow, and how far.
-use Rattle.std.specs.Prelude.{◌≡◌, ℕ, ◌<◌, ◌⊎◌, ◌↔◌, Bool, List, IsTrue, length, take, slice_get, Some, None}
+use Rattle.std.specs.Prelude.{◌≡◌, ℕ, ◌⊎◌, ◌↔◌, Bool, List, IsTrue, length, take}
 use Rattle.std.specs.List.{Contains}
 use Rattle.loading.specs.Families.{Family, superclasses_in}
 use Rattle.initializer_analysis.specs.Forced.{has_class}

@@ -1,20 +1,53 @@
-use Rattle.std.proofs.Common.{◌≡◌, ℕ, ◌⊎◌, List, subst, rules}
-use Rattle.std.specs.List.{All}
+use Rattle.std.proofs.Common.{◌≡◌, ◌<◌, ◌⊎◌, List, All, length, map, subst, sym}
+use Rattle.std.specs.String.{string_bytes}
+use Rattle.std.proofs.lemmas.Result.{IfOk-weaker, IfErr-weaker}
+use Rattle.options.specs.Classes.{AreClasses, IsMatched}
 use Rattle.options.specs.Faults.{IsKnown, PatternsFail}
+use Rattle.options.specs.steps.Covering.{IsKnownIn, IsMatchedClass, IsOfFirstUnknown}
+use Rattle.options.specs.steps.Names.{AreNames}
 use Rattle.options.specs.declared.fault.OptionFault.TheVariants.{Memory}
-use Rattle.options.proofs.MatchedLemmas.{matched_written}
+use Rattle.options.specs.declared.sorted_names.DottedName.{DottedName}
+use Rattle.options.proofs.MatchedLemmas.{names_within, classes_are, all_are_known, fails_so}
 use Rattle.options.proofs.matching.matched_in.Goals as goal
 
-pub returns-in-Ok-clause-known : goal.returns-in-Ok-clause-known
-returns-in-Ok-clause-known c = subst (All (IsKnown c.args.family.now)) c.texts.ensures c.in-Ok.ensures.known
+pub matched_among-requires-clause-within : goal.matched_among-requires-clause-within
+matched_among-requires-clause-within c =
+    subst (λ (names : List DottedName). All (λ (n : DottedName). n.class < length names) names)
+    (sym c.deref.ensures.value) (names_within c.args.family.now c.in-Ok.names.items c.in-Ok.ensures.names)
 
 pub returns-in-Ok-clause-marks : goal.returns-in-Ok-clause-marks
 returns-in-Ok-clause-marks c =
-    matched_written c.args.family.now c.args.patterns.now _ _ c.in_ok-marks.marks.len c.in_ok-marks.marks.items
-    c.deref_mut.result.now c.mark_all.new.marks c.texts.ensures c.in_ok-marks.ensures c.deref_mut.ensures.value
-    (search rules) c.in-Ok.ensures.marks
+    let family = c.args.family.now in
+    let names = c.deref.result.now in
+    let are : AreNames family (length family) names =
+    subst (AreNames family (length family)) (sym c.deref.ensures.value) c.in-Ok.ensures.names in
+    IfOk-weaker c.matched_among.result
+    (λ marks. AreClasses marks.items (IsMatchedClass names (map string_bytes c.texts.result.now)))
+    (λ marks. AreClasses marks.items (IsMatched family c.args.patterns.now))
+    (λ marks each. rw (← c.texts.ensures)
+    (classes_are family names are marks.items (map string_bytes c.texts.result.now) each))
+    c.matched_among.ensures.marks
 
-pub returns-in-Err-clause-fault : goal.returns-in-Err-clause-fault
-returns-in-Err-clause-fault c =
-    subst (λ (ps : List (List ℕ)). (c.in-Err.fault ≡ Memory) ⊎ PatternsFail c.args.family.now ps c.in-Err.fault)
-    c.texts.ensures c.in-Err.ensures.fault
+pub returns-in-Ok-clause-known : goal.returns-in-Ok-clause-known
+returns-in-Ok-clause-known c =
+    let family = c.args.family.now in
+    let names = c.deref.result.now in
+    let are : AreNames family (length family) names =
+    subst (AreNames family (length family)) (sym c.deref.ensures.value) c.in-Ok.ensures.names in
+    IfOk-weaker c.matched_among.result (λ _. All (IsKnownIn names) (map string_bytes c.texts.result.now))
+    (λ _. All (IsKnown family) c.args.patterns.now)
+    (λ _ all. rw (← c.texts.ensures) (all_are_known family names are (map string_bytes c.texts.result.now) all))
+    c.matched_among.ensures.known
+
+pub returns-in-Ok-clause-fault : goal.returns-in-Ok-clause-fault
+returns-in-Ok-clause-fault c =
+    let family = c.args.family.now in
+    let names = c.deref.result.now in
+    let are : AreNames family (length family) names =
+    subst (AreNames family (length family)) (sym c.deref.ensures.value) c.in-Ok.ensures.names in
+    IfErr-weaker c.matched_among.result
+    (λ fault. (fault ≡ Memory) ⊎ IsOfFirstUnknown names (map string_bytes c.texts.result.now) fault)
+    (λ fault. (fault ≡ Memory) ⊎ PatternsFail family c.args.patterns.now fault)
+    (λ fault why. rw (← c.texts.ensures)
+    (fails_so family names are (map string_bytes c.texts.result.now) fault why))
+    c.matched_among.ensures.fault

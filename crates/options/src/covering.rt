@@ -1,0 +1,35 @@
+//! Which names runs of names cover.
+
+ghost use Rattle.std.specs.Prelude.{◌≡◌, ℕ, ◌<◌, length};
+ghost use Rattle.std.specs.List.{All};
+ghost use Rattle.options.specs.steps.Marks.{Grow};
+ghost use Rattle.options.specs.steps.Names.{IsInRun};
+ghost use Rattle.options.specs.steps.Covering.{CoversMore, IsCoveredClass};
+
+use crate::marks::mark;
+use crate::sorted_names::{DottedName, Run};
+
+/// Covers the places of a run: where a run from its first place ends is no earlier than its own end.
+pub(crate) fn cover(run: Run, ends: &mut [usize])
+    requires { run.first < length ends.old }
+    ensures { CoversMore ends.old ends.new (IsInRun run) }
+{
+    if ends[run.first] < run.end {
+        ends[run.first] = run.end;
+    }
+}
+
+/// Marks the classes whose names stand at covered places.
+pub(crate) fn mark_covered(names: &[DottedName], ends: &[usize], marks: &mut [bool])
+    requires len { length ends.now ≡ length names.now }
+    requires within { All (λ n. n.class < length marks.old) names.now }
+    ensures { Grow marks.old marks.new (IsCoveredClass names.now ends.now) }
+{
+    let mut end = 0;
+    for place in 0..names.len() {
+        end = ends[place].max(end);
+        if place < end {
+            mark(marks, names[place].class as usize);
+        }
+    }
+}
