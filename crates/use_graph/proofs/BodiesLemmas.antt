@@ -9,7 +9,7 @@ use Rattle.use_graph.specs.declared.code.Deed.{Deed}
 use Rattle.use_graph.specs.declared.body.Told.{Told}
 use Rattle.use_graph.specs.declared.body.BodyUses.{BodyUses}
 use Rattle.use_graph.specs.steps.Deeds.{deeds_in, IsToldOf, NeedsSo, HoldsOfOne}
-use Rattle.use_graph.specs.steps.Bodies.{AreBodyUses, AreAllBodyUses, AddsBody}
+use Rattle.use_graph.specs.steps.Bodies.{AreUsesOf, AreBodyUses, AreAllBodyUses, AddsBody}
 use Rattle.use_graph.specs.Uses.{Needs}
 use Rattle.use_graph.specs.steps.Bodies.{IsToldIn}
 use Rattle.use_graph.proofs.NumbersLemmas.{push_cases}
@@ -29,18 +29,24 @@ from_none {X} none new Q empty all x = (
 both : {A B C : Type 0} → A ↔ B → B ↔ C → A ↔ C
 both f g = (λ a. g.0 (f.0 a), λ c. f.1 (g.1 c))
 
-pub are_body_uses : (P : Tables) (m : DeclaredMember) (deeds same also : List Deed) (no_needs : List ℕ)
-    (no_told : List Told) (needs : Vec ℕ Global) (told : Vec Told Global) → deeds ≡ deeds_in P m.class m.index
-    → same ≡ deeds → also ≡ deeds → no_needs ≡ [] → no_told ≡ []
-    → ((e : ℕ) → Contains needs.items e ↔ (Contains no_needs e ⊎ HoldsOfOne NeedsSo same e))
-    → ((t : Told) → Contains told.items t ↔ (Contains no_told t ⊎ HoldsOfOne (IsToldOf P) also t))
-    → AreBodyUses P m (record { needs = needs; told = told })
-are_body_uses P m deeds same also no_needs no_told needs told are is so empty bare need tell = record {
-  needs = λ e. both (from_none no_needs needs.items (HoldsOfOne NeedsSo same) empty need e)
-      (subst (λ (l : List Deed). HoldsOfOne NeedsSo l e ↔ Needs P m.class m.index e) (sym (is ∙ are))
+pub are_uses_of : (P : Tables) (deeds : List Deed) (no_needs : List ℕ) (no_told : List Told)
+    (needs : Vec ℕ Global) (told : Vec Told Global) → no_needs ≡ [] → no_told ≡ []
+    → ((e : ℕ) → Contains needs.items e ↔ (Contains no_needs e ⊎ HoldsOfOne NeedsSo deeds e))
+    → ((t : Told) → Contains told.items t ↔ (Contains no_told t ⊎ HoldsOfOne (IsToldOf P) deeds t))
+    → AreUsesOf P deeds (record { needs = needs; told = told })
+are_uses_of P deeds no_needs no_told needs told empty bare need tell = record {
+  needs = from_none no_needs needs.items (HoldsOfOne NeedsSo deeds) empty need;
+  told = from_none no_told told.items (HoldsOfOne (IsToldOf P) deeds) bare tell;
+}
+
+pub are_body_uses : (P : Tables) (m : DeclaredMember) (deeds : List Deed) (uses : BodyUses)
+    → deeds ≡ deeds_in P m.class m.index → AreUsesOf P deeds uses → AreBodyUses P m uses
+are_body_uses P m deeds uses are so = record {
+  needs = λ e. both (so.needs e)
+      (subst (λ (l : List Deed). HoldsOfOne NeedsSo l e ↔ Needs P m.class m.index e) (sym are)
       (needs_by P m.class m.index e));
-  told = λ t. both (from_none no_told told.items (HoldsOfOne (IsToldOf P) also) bare tell t)
-      (subst (λ (l : List Deed). HoldsOfOne (IsToldOf P) l t ↔ IsToldIn P m.class m.index t) (sym (so ∙ are))
+  told = λ t. both (so.told t)
+      (subst (λ (l : List Deed). HoldsOfOne (IsToldOf P) l t ↔ IsToldIn P m.class m.index t) (sym are)
       (told_by P m.class m.index t));
 }
 

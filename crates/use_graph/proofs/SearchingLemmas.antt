@@ -22,6 +22,24 @@ one_of : {A : Type 0} (xs : List A) (n : ℕ) → n < length xs → (x : A) × (
 one_of [] n low = absurd (omega arith)
 one_of (x ∷ xs) n low = (get_or (x ∷ xs) n x, slice_get-get_or (x ∷ xs) n x low)
 
+-- what two sets were added to nothing
+pub both_added : (P Q : ℕ → Type 0) (none first used : List ℕ) → none ≡ []
+    → ((e : ℕ) → Contains first e ↔ (Contains none e ⊎ P e)) → ((e : ℕ) → Contains used e ↔ (Contains first e ⊎ Q e))
+    → (e : ℕ) → Contains used e ↔ (P e ⊎ Q e)
+both_added P Q none first used empty begins goes e = (
+  λ held. elim ((goes e).0 held) [
+    | inl was ↦ elim ((begins e).0 was) [
+      | inl (k, small, here) ↦ absurd (let no : length none ≡ 0 = ap length empty in omega arith)
+      | inr one ↦ inl one
+    ]
+    | inr other ↦ inr other
+  ],
+  λ either. elim either [
+    | inl one ↦ (goes e).1 (inl ((begins e).1 (inr one)))
+    | inr other ↦ (goes e).1 (inr other)
+  ],
+)
+
 module _ (P : Tables) (graph : UseGraph) (c : ℕ) (reached : List ℕ) (whole : IsUseGraph P graph)
     (are : AreReached P graph.methods c reached) where
   -- the method beside a body, and the body beside a method
@@ -55,43 +73,36 @@ module _ (P : Tables) (graph : UseGraph) (c : ℕ) (reached : List ℕ) (whole :
         (b, here, (e, ((whole.bodies n (record { class = d; index = k }) b at here).needs e).1 needs, (low, refl))),
       )
 
-  pub are_used : (limit : ℕ) (none first used : List ℕ) → limit ≡ length P.classes → none ≡ []
-      → ((e : ℕ) → Contains first e ↔ (Contains none e ⊎ HoldsOfOne (IsClassBelow limit) (order_in P c) e))
-      → ((e : ℕ) → Contains used e ↔ (Contains first e ⊎ IsNeededIn graph.bodies.items limit reached e))
-      → (e : ℕ) → ((e < limit) × (e ≢ c) × Contains used e) ↔ IsUse P c e
-  are_used limit none first used size empty begins goes e = (
-    λ (low, other, among). (
-      omega (arith, size, low),
-      other,
-      elim ((goes e).0 among) [
-        | inl was ↦ elim ((begins e).0 was) [
-          | inl (k, small, here) ↦ absurd (let no : length none ≡ 0 = ap length empty in omega arith)
-          | inr (x, before, (less, is)) ↦ inl (subst (λ (y : ℕ). Contains (order_in P c) y) (sym is) before)
-        ]
-        | inr needed ↦ inr (needed_may limit e needed)
-      ],
-    ),
-    λ (low, other, used). (let less : e < limit = omega (arith, size, low) in (
-      less,
-      other,
-      elim used [
-        | inl before ↦ (goes e).1 (inl ((begins e).1 (inr (e, before, (less, refl)))))
-        | inr may ↦ (goes e).1 (inr (may_needed limit e less may))
-      ],
-    )),
-  )
-
-  pub are_used_by : (limit : ℕ) (order none first used classes : List ℕ) → limit ≡ length P.classes
-      → order ≡ order_in P c → none ≡ []
-      → ((e : ℕ) → Contains first e ↔ (Contains none e ⊎ HoldsOfOne (IsClassBelow limit) order e))
-      → ((e : ℕ) → Contains used e ↔ (Contains first e ⊎ IsNeededIn graph.bodies.items limit reached e))
+  pub are_used_by : (limit : ℕ) (used classes : List ℕ) → limit ≡ length P.classes
+      → ((e : ℕ) → Contains used e ↔ (HoldsOfOne (IsClassBelow limit) (order_in P c) e
+      ⊎ IsNeededIn graph.bodies.items limit reached e))
       → ((e : ℕ) → Contains classes e ↔ ((e < limit) × (e ≢ c) × Contains used e))
       → (e : ℕ) → Contains classes e ↔ IsUse P c e
-  are_used_by limit order none first used classes size is empty begins goes members e =
-      let all = are_used limit none first used size empty
-      (subst (λ (l : List ℕ). (d : ℕ) → Contains first d
-      ↔ (Contains none d ⊎ HoldsOfOne (IsClassBelow limit) l d)) is begins) goes e in
-      (λ p. all.0 ((members e).0 p), λ p. (members e).1 (all.1 p))
+  are_used_by limit used classes size goes members e = (to, from)
+    where
+      to : Contains classes e → IsUse P c e
+      to held =
+          let (low, other, among) = (members e).0 held in (
+            omega (arith, size, low),
+            other,
+            elim ((goes e).0 among) [
+              | inl (x, before, (less, is)) ↦
+                  inl (subst (λ (y : ℕ). Contains (order_in P c) y) (sym is) before)
+              | inr needed ↦ inr (needed_may limit e needed)
+            ],
+          )
+
+      from : IsUse P c e → Contains classes e
+      from (low, other, used-so) =
+          let less : e < limit = omega (arith, size, low) in
+          (members e).1 (
+            less,
+            other,
+            (goes e).1 (elim used-so [
+              | inl before ↦ inl (e, before, (less, refl))
+              | inr may ↦ inr (may_needed limit e less may)
+            ]),
+          )
 
   -- ---- marks
 

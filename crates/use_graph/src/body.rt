@@ -4,7 +4,7 @@ ghost use Rattle.std.specs.Prelude.{◌≡◌, ◌↔◌, ◌⊎◌, ℕ, Some, 
 ghost use Rattle.std.specs.List.{Contains};
 ghost use Rattle.use_graph.specs.declared.body.Told.{Told as Held};
 ghost use Rattle.use_graph.specs.declared.feature.Feature.TheVariants as features;
-ghost use Rattle.use_graph.specs.steps.Bodies.{AreBodyUses};
+ghost use Rattle.use_graph.specs.steps.Bodies.{AreUsesOf, AreBodyUses};
 ghost use Rattle.use_graph.specs.steps.Deeds.{IsToldOf, NeedsSo, HoldsOfOne};
 ghost use Rattle.use_graph.specs.steps.LeftOut.{AreKnown};
 
@@ -132,6 +132,26 @@ fn add_all_told(
     Ok(())
 }
 
+/// What some instructions need, and what is told of them.
+fn uses_of(
+    alloc: Global,
+    program: &Program,
+    numbers: &MethodNumbers,
+    known: &mut [Option<bool>],
+    deeds: &[Deed],
+) -> Result<BodyUses, AllocError>
+    requires len { length known.old ≡ length numbers.now }
+    requires known { AreKnown program.now numbers.now known.old }
+    ensures known { AreKnown program.now numbers.now known.new }
+    ensures uses { IfOk result (AreUsesOf program.now deeds.now) }
+{
+    let mut needs = Vec::new(alloc);
+    let mut told = Vec::new(alloc);
+    add_needs(deeds, &mut needs)?;
+    add_all_told(alloc, program, numbers, known, deeds, &mut told)?;
+    Ok(BodyUses { needs, told })
+}
+
 /// What the instructions of a method need, and what is told of them.
 pub(crate) fn body_uses(
     alloc: Global,
@@ -145,10 +165,8 @@ pub(crate) fn body_uses(
     ensures known { AreKnown program.now numbers.now known.new }
     ensures uses { IfOk result (AreBodyUses program.now method) }
 {
-    let deeds = deeds_of(alloc, program, method.class, method.index)?;
-    let mut needs = Vec::new(alloc);
-    let mut told = Vec::new(alloc);
-    add_needs(&deeds, &mut needs)?;
-    add_all_told(alloc, program, numbers, known, &deeds, &mut told)?;
-    Ok(BodyUses { needs, told })
+    match deeds_of(alloc, program, method.class, method.index) {
+        Ok(deeds) => uses_of(alloc, program, numbers, known, &deeds),
+        Err(error) => Err(error),
+    }
 }

@@ -1,6 +1,6 @@
 //! The graph of calls between the methods of given classes.
 
-ghost use Rattle.std.specs.Prelude.{◌≡◌, ℕ, ◌<◌, ◌≤◌, ◌+◌, ◌*◌, length, Some, IfOk, OnOk, slice_get};
+ghost use Rattle.std.specs.Prelude.{◌≡◌, ℕ, ◌<◌, ◌≤◌, ◌+◌, ◌*◌, [], length, Some, IfOk, OnOk, slice_get};
 ghost use Rattle.std.specs.List.{Contains};
 ghost use Rattle.graph.specs.Rows.{successors_of};
 ghost use Rattle.hierarchy.specs.Selectable.{IsNamedLike};
@@ -344,6 +344,22 @@ fn add_bodies(
     Ok(())
 }
 
+/// Adds the edges of all methods, where there are none yet.
+fn add_all(
+    alloc: Global,
+    program: &Program,
+    numbers: &MethodNumbers,
+    graph: &mut Graph,
+) -> Result<(), AllocError>
+    requires few { length numbers.now ≤ 65535 * 65535 }
+    requires part { IsPart program.now numbers.now graph.old [] }
+    ensures { OnOk result (IsCallGraph program.now numbers.now graph.new) }
+{
+    let mut groups = Visited::new(alloc, numbers.len())?;
+    add_bodies(alloc, program, numbers, graph, &mut groups)?;
+    Ok(())
+}
+
 /// The graph of calls between the methods of given classes.
 pub(crate) fn call_graph(
     alloc: Global,
@@ -354,7 +370,8 @@ pub(crate) fn call_graph(
     ensures { IfOk result (IsCallGraph program.now numbers.now) }
 {
     let mut graph = Graph::new(alloc, 2 * numbers.len())?;
-    let mut groups = Visited::new(alloc, numbers.len())?;
-    add_bodies(alloc, program, numbers, &mut graph, &mut groups)?;
-    Ok(graph)
+    match add_all(alloc, program, numbers, &mut graph) {
+        Ok(()) => Ok(graph),
+        Err(error) => Err(error),
+    }
 }

@@ -1,6 +1,7 @@
 //! Numbers of the methods of given classes.
 
-ghost use Rattle.std.specs.Prelude.{◌≡◌, ℕ, ◌≤◌, ◌+◌, ◌*◌, [], length, Some, None, IfOk, OnOk, MatchOption, slice_get};
+ghost use Rattle.std.specs.Prelude.{◌≡◌, ◌↔◌, ℕ, ◌≤◌, ◌+◌, ◌*◌, [], length, Some, None, IsTrue};
+ghost use Rattle.std.specs.Prelude.{IfOk, OnOk, MatchOption, slice_get};
 ghost use Rattle.hierarchy.specs.declared.member.DeclaredMember.{DeclaredMember as Declared};
 ghost use Rattle.use_graph.specs.Uses.{StandOnce};
 ghost use Rattle.use_graph.specs.steps.Numbers.{HasNumber, AreNumbered, AreMethods, Adds, method_count};
@@ -99,16 +100,33 @@ impl MethodNumbers {
         self.methods.get(number).copied()
     }
 
+    /// The number that a method has if it is declared: its place behind the first one of its class.
+    fn place(&self, class: u32, index: u16) -> Option<usize>
+        ensures { MatchOption result (¬ HasNumber self.now class index)
+            (λ place. (n : ℕ) → slice_get self.now n ≡ Some (record { class = class; index = index }) → n ≡ place) }
+    {
+        let first = *self.firsts.get(class as usize)?;
+        first.checked_add(usize::from(index))
+    }
+
+    /// Whether a number is that of a method.
+    fn is_at(&self, number: usize, class: u32, index: u16) -> bool
+        ensures { IsTrue result ↔ (slice_get self.now number ≡ Some (record { class = class; index = index })) }
+    {
+        match self.methods.get(number) {
+            Some(found) => found.class == class && found.index == index,
+            None => false,
+        }
+    }
+
     /// The number of a method, if it is declared.
     pub fn number(&self, class: u32, index: u16) -> Option<usize>
         ensures { MatchOption result (¬ HasNumber self.now class index)
             (λ n. slice_get self.now n ≡ Some (record { class = class; index = index })) }
     {
-        let first = *self.firsts.get(class as usize)?;
-        let number = first.checked_add(usize::from(index))?;
-        let found = *self.methods.get(number)?;
-        if found.class == class && found.index == index {
-            Some(number)
+        let place = self.place(class, index)?;
+        if self.is_at(place, class, index) {
+            Some(place)
         } else {
             None
         }

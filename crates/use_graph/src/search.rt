@@ -3,6 +3,7 @@
 ghost use Rattle.std.specs.Prelude.{◌≡◌, ◌≢◌, ◌↔◌, ◌⊎◌, ◌<◌, ℕ, [], length, IfOk, OnOk, MatchOption};
 ghost use Rattle.std.specs.List.{Contains};
 ghost use Rattle.std.specs.List.Sorted.{IsStrictlyIncreasing};
+ghost use Rattle.program.specs.Tables.{order_in};
 ghost use Rattle.hierarchy.specs.declared.member.DeclaredMember.{DeclaredMember as Declared};
 ghost use Rattle.use_graph.specs.declared.body.Told.{Told as Held};
 ghost use Rattle.use_graph.specs.declared.mark.Mark.TheVariants as marks;
@@ -192,6 +193,40 @@ fn add_others(
     Ok(())
 }
 
+/// The members of a set below a limit, the least first, but one.
+fn others(alloc: Global, used: &Visited, class: u32, limit: u32) -> Result<Vec<u32>, AllocError>
+    ensures members { IfOk result (λ classes. (e : ℕ) → Contains classes.items e
+        ↔ ((e < limit) × (e ≢ class) × Contains used.now.items e)) }
+    ensures ascending { IfOk result (λ classes. IsStrictlyIncreasing classes.items) }
+{
+    let mut classes = Vec::new(alloc);
+    match add_others(used, class, limit, &mut classes) {
+        Ok(()) => Ok(classes),
+        Err(error) => Err(error),
+    }
+}
+
+/// Adds the classes below a limit that are initialized before a class, it among them, or that methods need among some
+/// vertices, where there are none yet.
+fn add_all_used(
+    program: &Program,
+    graph: &UseGraph,
+    reached: &Visited,
+    class: u32,
+    used: &mut Visited,
+    limit: u32,
+) -> Result<(), AllocError>
+    requires none { used.old.items ≡ [] }
+    requires limit { used.old.limit ≡ limit }
+    ensures { OnOk result ((e : ℕ) → Contains used.new.items e
+        ↔ (HoldsOfOne (IsClassBelow limit) (order_in program.now class) e
+        ⊎ IsNeededIn graph.now.bodies.items limit reached.now.items e)) }
+{
+    add_used(used, program.init_order(class), limit)?;
+    add_needed(graph, reached, used, limit)?;
+    Ok(())
+}
+
 /// The classes that the initialization of a class may use, where these vertices are reached.
 fn used_by(
     alloc: Global,
@@ -207,11 +242,10 @@ fn used_by(
 {
     let limit = program.given_count();
     let mut used = Visited::new(alloc, limit as usize)?;
-    add_used(&mut used, program.init_order(class), limit)?;
-    add_needed(graph, reached, &mut used, limit)?;
-    let mut classes = Vec::new(alloc);
-    add_others(&used, class, limit, &mut classes)?;
-    Ok(classes)
+    match add_all_used(program, graph, reached, class, &mut used, limit) {
+        Ok(()) => others(alloc, &used, class, limit),
+        Err(error) => Err(error),
+    }
 }
 
 /// Where the first instruction of a method begins that bears a mark.

@@ -4,15 +4,22 @@ use Rattle.std.specs.List.{Contains}
 use Rattle.program.specs.Tables.{Tables}
 use Rattle.hierarchy.specs.declared.member.DeclaredMember.{DeclaredMember}
 use Rattle.use_graph.specs.declared.body.Told.{Told}
+use Rattle.use_graph.specs.declared.code.Deed.{Deed}
 use Rattle.use_graph.specs.declared.body.BodyUses.{BodyUses}
 use Rattle.use_graph.specs.declared.whole_program.UseGraph.{UseGraph}
 use Rattle.use_graph.specs.Uses.{Needs, IsTold, pc_at}
+use Rattle.use_graph.specs.steps.Deeds.{HoldsOfOne, IsToldOf, NeedsSo}
 use Rattle.use_graph.specs.steps.Numbers.{AreMethods}
 use Rattle.use_graph.specs.steps.CallGraphs.{IsCallGraph}
 
 -- something is told of an instruction of a method that begins there
 abbrev pub IsToldIn : Tables → ℕ → ℕ → Told → Type 0
 IsToldIn P d k told = (place : ℕ) × (pc_at P d k place ≡ Some told.pc) × IsTold P d k place told.feature
+
+-- what some instructions need, and what is told of them
+pub record AreUsesOf (P : Tables) (deeds : List Deed) (uses : BodyUses) : Type 0 where
+  pub needs : (e : ℕ) → Contains uses.needs.items e ↔ HoldsOfOne NeedsSo deeds e
+  pub told : (t : Told) → Contains uses.told.items t ↔ HoldsOfOne (IsToldOf P) deeds t
 
 pub record AreBodyUses (P : Tables) (method : DeclaredMember) (uses : BodyUses) : Type 0 where
   pub needs : (e : ℕ) → Contains uses.needs.items e ↔ Needs P method.class method.index e

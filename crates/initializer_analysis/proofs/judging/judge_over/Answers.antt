@@ -1,11 +1,19 @@
+use Rattle.std.proofs.lemmas.Result.{IfOk-weaker}
+use Rattle.initializer_analysis.specs.Verdicts.{AreVerdicts}
+use Rattle.initializer_analysis.specs.steps.Judging.{AreJudgedBy}
 use Rattle.initializer_analysis.proofs.JudgingLemmas.{are_verdicts}
 use Rattle.initializer_analysis.proofs.judging.judge_over.Goals as goal
 
-pub returns : goal.returns
-returns c =
-    let (refused, are, judged) = rw c.as_slice.ensures.value at c.in_ok-verdicts.ensures in
+pub returns-in-Ok : goal.returns-in-Ok
+returns-in-Ok c =
+    let P = c.args.program.now in
+    let uses = c.args.uses.now in
+    let graph = c.args.graph.now in
+    IfOk-weaker c.judge_known.result (AreJudgedBy P uses graph c.as_slice.result.now)
+    (AreVerdicts P c.args.forced.now)
+    (λ verdicts (refused, are, judged).
     let (first, heights, firsts, waves, by) = judged in
     let (marks, classes, high) = waves in
-    are_verdicts c.args.program.now c.args.uses.now c.args.graph.now c.requires.uses c.requires.graph
-    c.args.forced.now c.in_ok-reasons.reasons.items refused first heights marks c.in_ok-verdicts.verdicts
-    c.in_ok-reasons.ensures are firsts classes high by
+    are_verdicts P uses graph c.requires.uses c.requires.graph c.args.forced.now c.as_slice.result.now refused first
+    heights marks verdicts (rw c.as_slice.ensures.value c.in-Ok.ensures) are firsts classes high by)
+    c.judge_known.ensures

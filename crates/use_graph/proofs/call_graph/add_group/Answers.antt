@@ -19,3 +19,11 @@ returns-clause-there c =
     subst (λ (l : List ℕ). Contains l c.args.number)
     (sym (joined_at_end c.in_ok-add.field-0 c.args.groups.now.items c.add.new.self.items c.args.number fresh
     c.in_ok-add.ensures.ok)) (Contains-push c.args.groups.now.items c.args.number)
+
+pub returns-clause-grows : goal.returns-clause-grows
+returns-clause-grows c =
+    c.in_ok-add_like.ensures.extends.keeps
+
+pub returns-clause-limit : goal.returns-clause-limit
+returns-clause-limit c =
+    c.add.ensures.limit

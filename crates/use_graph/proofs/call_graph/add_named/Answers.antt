@@ -1,4 +1,4 @@
-use Rattle.std.proofs.Common.{◌≡◌, ◌∙◌, ℕ, sym, subst}
+use Rattle.std.proofs.Common.{◌≡◌, ◌∙◌, ℕ, refl, sym, subst}
 use Rattle.std.specs.List.{Contains}
 use Rattle.graph.specs.Rows.{successors_of}
 use Rattle.use_graph.specs.steps.CallGraphs.{IsEdge, calls, selects}
@@ -37,3 +37,20 @@ pub returns-in_ok-add_like-in-None-clause-leads : goal.returns-in_ok-add_like-in
 returns-in_ok-add_like-in-None-clause-leads c =
     leads_straight c.args.program.now c.args.numbers.now c.add_like.new.graph c.args.from c.args.method
     c.in_ok-add_like-in-None.ensures.all
+
+pub returns-in_ok-add_edge-in-Some-clause-limit : goal.returns-in_ok-add_edge-in-Some-clause-limit
+returns-in_ok-add_edge-in-Some-clause-limit c =
+    c.add_group.ensures.limit
+
+pub returns-in_ok-add_edge-in-Some-clause-grows : goal.returns-in_ok-add_edge-in-Some-clause-grows
+returns-in_ok-add_edge-in-Some-clause-grows c =
+    λ n to held.
+    c.in_ok-add_edge-in-Some.ensures.extends.keeps n to (c.in_ok-add_group-in-Some.ensures.grows n to held)
+
+pub returns-in_ok-add_like-in-None-clause-limit : goal.returns-in_ok-add_like-in-None-clause-limit
+returns-in_ok-add_like-in-None-clause-limit c =
+    refl
+
+pub returns-in_ok-add_like-in-None-clause-grows : goal.returns-in_ok-add_like-in-None-clause-grows
+returns-in_ok-add_like-in-None-clause-grows c =
+    c.in_ok-add_like-in-None.ensures.extends.keeps

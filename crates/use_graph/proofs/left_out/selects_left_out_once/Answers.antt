@@ -12,3 +12,7 @@ returns-clause-known c =
     ) in
     known_more c.args.program.now c.args.numbers.now c.args.known.now c.in-Some.number c.args.method c.in_ok-yes.yes
     c.requires.known low c.in-Some.ensures c.in_ok-yes.ensures
+
+pub returns-clause-answer : goal.returns-clause-answer
+returns-clause-answer c =
+    c.in_ok-yes.ensures
