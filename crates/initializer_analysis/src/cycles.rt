@@ -60,6 +60,13 @@ fn has_other(
     table[number].first_but(class).is_some()
 }
 
+/// No classes, for so many components.
+fn no_members(alloc: Global, count: usize) -> Result<Vec<Least>, AllocError>
+    ensures { IfOk result (λ table. table.items ≡ replicate count no_labels) }
+{
+    vec![in alloc; Least::none(); count]
+}
+
 /// By component: the two least classes that it has.
 fn members(
     alloc: Global,
@@ -73,8 +80,8 @@ fn members(
     ensures len { IfOk result (λ table. length table.items ≡ length components.now.numbers) }
     ensures members { IfOk result (λ table. HaveMembers uses.now components.now.numbers limit table.items) }
 {
-    let mut table = vec![in alloc; Least::none(); components.len()]?;
-    add_members(uses, components, limit, table.as_mut_slice());
+    let mut table = no_members(alloc, components.len())?;
+    add_members(uses, components, limit, &mut table);
     Ok(table)
 }
 

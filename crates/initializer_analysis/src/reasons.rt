@@ -147,6 +147,13 @@ fn add_reasons(
     Ok(())
 }
 
+/// No reasons, for so many classes.
+fn no_reasons(alloc: Global, count: u32) -> Result<Vec<Option<Reason>>, AllocError>
+    ensures { IfOk result (λ reasons. reasons.items ≡ replicate count None) }
+{
+    vec![in alloc; None; count as usize]
+}
+
 /// For each given class the first reason that holds of it by itself, if one does: that it is to be initialized at run
 /// time, that its code bears a mark, or that it is on a cycle of uses, as these marks tell. It takes time near linear
 /// in the program.
@@ -166,9 +173,16 @@ pub(crate) fn own_reasons(
     requires on_cycle { AreOnCycles program.now on_cycle.now }
     ensures { IfOk result (λ reasons. AreOwnReasons program.now forced.now reasons.items) }
 {
-    let mut reasons = vec![in alloc; None; program.given_count() as usize]?;
-    let told = reasons.as_mut_slice();
-    match add_reasons(alloc, program, uses, components, forced, on_cycle, told) {
+    let mut reasons = no_reasons(alloc, program.given_count())?;
+    match add_reasons(
+        alloc,
+        program,
+        uses,
+        components,
+        forced,
+        on_cycle,
+        &mut reasons,
+    ) {
         Ok(()) => Ok(reasons),
         Err(error) => Err(error),
     }

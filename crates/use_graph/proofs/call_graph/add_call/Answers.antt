@@ -1,5 +1,6 @@
-use Rattle.std.proofs.Common.{◌≡◌, Some, refl, slice_get, subst, sym}
+use Rattle.std.proofs.Common.{◌≡◌, Some, refl, slice_get, subst, sym, arith}
 use Rattle.hierarchy.specs.declared.member.DeclaredMember.{DeclaredMember}
+use Rattle.std.proofs.lemmas.Option.{slice_get_within}
 use Rattle.use_graph.specs.Code.{MayRunFor}
 use Rattle.use_graph.specs.declared.callee.Callee.{Callee}
 use Rattle.use_graph.specs.steps.CallGraphs.{calls}
@@ -18,3 +19,13 @@ returns-in_ok-add_edge_to-in-Exactly-clause-part c =
     c.in_ok-add_edge_to-in-Exactly.ensures.extends
     (λ t is. calls c.requires.from is (c.requires.calls class index
     (subst (λ (callee : Callee). MayRunFor c.args.program.now callee class index) (sym c.in-Exactly.is) (refl, refl))))
+
+pub add_edge_to-requires-clause-from : goal.add_edge_to-requires-clause-from
+add_edge_to-requires-clause-from c = omega (
+  arith,
+  c.requires.part.vertices,
+  slice_get_within c.args.numbers.now c.args.from c.args.caller c.requires.from,
+)
+
+pub add_edge_to-requires-clause-vertices : goal.add_edge_to-requires-clause-vertices
+add_edge_to-requires-clause-vertices c = omega (arith, c.requires.part.vertices)

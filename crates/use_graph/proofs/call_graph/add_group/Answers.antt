@@ -1,6 +1,7 @@
-use Rattle.std.proofs.Common.{◌≡◌, ℕ, List, true, sym, subst, rules}
+use Rattle.std.proofs.Common.{◌≡◌, ℕ, List, true, sym, subst, arith, rules}
 use Rattle.std.specs.List.{Contains}
 use Rattle.std.proofs.lemmas.List.Elements.{Contains-push}
+use Rattle.std.proofs.lemmas.Option.{slice_get_within}
 use Rattle.use_graph.proofs.PartsLemmas.{part_grouped, joined_at_end, not_false}
 use Rattle.use_graph.proofs.call_graph.add_group.Goals as goal
 
@@ -27,3 +28,24 @@ returns-clause-grows c =
 pub returns-clause-limit : goal.returns-clause-limit
 returns-clause-limit c =
     c.add.ensures.limit
+
+pub add_like-requires-clause-from : goal.add_like-requires-clause-from
+add_like-requires-clause-from c =
+    omega (
+      arith,
+      c.group_vertex-vertex.ensures,
+      c.requires.part.vertices,
+      slice_get_within c.args.numbers.now c.args.number c.args.method c.requires.number,
+    )
+
+pub add_like-requires-clause-vertices : goal.add_like-requires-clause-vertices
+add_like-requires-clause-vertices c =
+    omega (arith, c.requires.part.vertices)
+
+pub add-requires : goal.add-requires
+add-requires c =
+    omega (
+      arith,
+      c.requires.limit,
+      slice_get_within c.args.numbers.now c.args.number c.args.method c.requires.number,
+    )

@@ -1,6 +1,7 @@
-use Rattle.std.proofs.Common.{◌≡◌, ◌∙◌, ℕ, refl, sym, subst}
+use Rattle.std.proofs.Common.{◌≡◌, ◌∙◌, ℕ, refl, sym, subst, arith}
 use Rattle.std.specs.List.{Contains}
 use Rattle.graph.specs.Rows.{successors_of}
+use Rattle.std.proofs.lemmas.Option.{slice_get_within}
 use Rattle.use_graph.specs.steps.CallGraphs.{IsEdge, calls, selects}
 use Rattle.use_graph.specs.steps.Growing.{IsLike}
 use Rattle.use_graph.proofs.PartsLemmas.{part_extended, leads_by_group, leads_straight}
@@ -54,3 +55,28 @@ returns-in_ok-add_like-in-None-clause-limit c =
 pub returns-in_ok-add_like-in-None-clause-grows : goal.returns-in_ok-add_like-in-None-clause-grows
 returns-in_ok-add_like-in-None-clause-grows c =
     c.in_ok-add_like-in-None.ensures.extends.keeps
+
+pub add_edge-requires-clause-from : goal.add_edge-requires-clause-from
+add_edge-requires-clause-from c =
+    omega (
+      arith,
+      c.in_ok-add_group-in-Some.ensures.part.vertices,
+      slice_get_within c.args.numbers.now c.args.from c.args.caller c.requires.from,
+    )
+
+pub add_edge-requires-clause-to : goal.add_edge-requires-clause-to
+add_edge-requires-clause-to c =
+    omega (
+      arith,
+      c.group_vertex.ensures,
+      c.in_ok-add_group-in-Some.ensures.part.vertices,
+      slice_get_within c.args.numbers.now c.in-Some.number c.args.method c.in-Some.ensures,
+    )
+
+pub add_like-requires-clause-from : goal.add_like-requires-clause-from
+add_like-requires-clause-from c =
+    omega (arith, c.requires.part.vertices, slice_get_within c.args.numbers.now c.args.from c.args.caller c.requires.from)
+
+pub add_like-requires-clause-vertices : goal.add_like-requires-clause-vertices
+add_like-requires-clause-vertices c =
+    omega (arith, c.requires.part.vertices)

@@ -1,4 +1,5 @@
-use Rattle.std.proofs.Common.{◌≡◌, Some, refl, slice_get}
+use Rattle.std.proofs.Common.{◌≡◌, Some, refl, slice_get, arith}
+use Rattle.std.proofs.lemmas.Option.{slice_get_within}
 use Rattle.use_graph.specs.steps.CallGraphs.{calls}
 use Rattle.use_graph.proofs.PartsLemmas.{part_extended, leads_to}
 use Rattle.use_graph.proofs.call_graph.add_selected.Goals as goal
@@ -29,3 +30,13 @@ returns-in_ok-add_edge_to-in-Alone-clause-leads c = λ e j may number.
 pub returns-in_ok-add_named-in-Named-clause-leads : goal.returns-in_ok-add_named-in-Named-clause-leads
 returns-in_ok-add_named-in-Named-clause-leads c = λ e j may number.
     c.in_ok-add_named-in-Named.ensures.leads e j ((c.in-Named.ensures e j).0 may) number
+
+pub add_edge_to-requires-clause-from : goal.add_edge_to-requires-clause-from
+add_edge_to-requires-clause-from c = omega (
+  arith,
+  c.requires.part.vertices,
+  slice_get_within c.args.numbers.now c.args.from c.args.caller c.requires.from,
+)
+
+pub add_edge_to-requires-clause-vertices : goal.add_edge_to-requires-clause-vertices
+add_edge_to-requires-clause-vertices c = omega (arith, c.requires.part.vertices)

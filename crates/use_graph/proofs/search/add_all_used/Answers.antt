@@ -1,5 +1,3 @@
-use Rattle.std.proofs.Common.{ℕ, List, subst}
-use Rattle.program.specs.Tables.{order_in}
 use Rattle.use_graph.specs.steps.Deeds.{HoldsOfOne}
 use Rattle.use_graph.specs.steps.Searching.{IsClassBelow, IsNeededIn}
 use Rattle.use_graph.proofs.SearchingLemmas.{both_added}
