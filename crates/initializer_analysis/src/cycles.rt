@@ -67,6 +67,25 @@ fn no_members(alloc: Global, count: usize) -> Result<Vec<Least>, AllocError>
     vec![in alloc; Least::none(); count]
 }
 
+/// A table of no classes, with the classes below a limit added to their components.
+fn with_members(
+    uses: &UseGraph,
+    components: &Components,
+    limit: u32,
+    table: Vec<Least>,
+) -> Vec<Least>
+    requires few { length uses.now.calls ≤ 2 * (65535 * 65535) }
+    requires vertices { length components.now.numbers ≡ length uses.now.calls + limit }
+    requires numbers { All (λ n. n < length table.items) components.now.numbers }
+    requires none { table.items ≡ replicate (length components.now.numbers) no_labels }
+    ensures len { length result.items ≡ length table.items }
+    ensures members { HaveMembers uses.now components.now.numbers limit result.items }
+{
+    let mut table = table;
+    add_members(uses, components, limit, &mut table);
+    table
+}
+
 /// By component: the two least classes that it has.
 fn members(
     alloc: Global,
@@ -80,9 +99,10 @@ fn members(
     ensures len { IfOk result (λ table. length table.items ≡ length components.now.numbers) }
     ensures members { IfOk result (λ table. HaveMembers uses.now components.now.numbers limit table.items) }
 {
-    let mut table = no_members(alloc, components.len())?;
-    add_members(uses, components, limit, &mut table);
-    Ok(table)
+    match no_members(alloc, components.len()) {
+        Ok(table) => Ok(with_members(uses, components, limit, table)),
+        Err(error) => Err(error),
+    }
 }
 
 /// For each class whether its component has another one, by those of each component.

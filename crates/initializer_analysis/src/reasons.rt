@@ -154,6 +154,37 @@ fn no_reasons(alloc: Global, count: u32) -> Result<Vec<Option<Reason>>, AllocErr
     vec![in alloc; None; count as usize]
 }
 
+/// A table of no reasons, with the first reason of each class that has one.
+fn with_reasons(
+    alloc: Global,
+    program: &Program,
+    uses: &UseGraph,
+    components: &Components,
+    forced: &Forced,
+    on_cycle: &[bool],
+    reasons: Vec<Option<Reason>>,
+) -> Result<Vec<Option<Reason>>, AllocError>
+    requires uses { IsUseGraph program.now uses.now }
+    requires components { AreComponents uses.now.calls components.now }
+    requires on_cycle { AreOnCycles program.now on_cycle.now }
+    requires none { reasons.items ≡ replicate (length program.now.classes) None }
+    ensures { IfOk result (λ reasons. AreOwnReasons program.now forced.now reasons.items) }
+{
+    let mut reasons = reasons;
+    match add_reasons(
+        alloc,
+        program,
+        uses,
+        components,
+        forced,
+        on_cycle,
+        &mut reasons,
+    ) {
+        Ok(()) => Ok(reasons),
+        Err(error) => Err(error),
+    }
+}
+
 /// For each given class the first reason that holds of it by itself, if one does: that it is to be initialized at run
 /// time, that its code bears a mark, or that it is on a cycle of uses, as these marks tell. It takes time near linear
 /// in the program.
@@ -173,17 +204,8 @@ pub(crate) fn own_reasons(
     requires on_cycle { AreOnCycles program.now on_cycle.now }
     ensures { IfOk result (λ reasons. AreOwnReasons program.now forced.now reasons.items) }
 {
-    let mut reasons = no_reasons(alloc, program.given_count())?;
-    match add_reasons(
-        alloc,
-        program,
-        uses,
-        components,
-        forced,
-        on_cycle,
-        &mut reasons,
-    ) {
-        Ok(()) => Ok(reasons),
+    match no_reasons(alloc, program.given_count()) {
+        Ok(reasons) => with_reasons(alloc, program, uses, components, forced, on_cycle, reasons),
         Err(error) => Err(error),
     }
 }
