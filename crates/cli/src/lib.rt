@@ -6,6 +6,7 @@
 //! gives or takes is outside every contract: the tests show it.
 #![tactic(auto)]
 
+mod build;
 mod class_files;
 mod fault;
 mod files;
@@ -14,6 +15,8 @@ mod run;
 mod status;
 mod threads;
 
+pub use build::build_here;
+pub use building::{BuildFault, BuildOptions, Built};
 pub use class_files::linked_program;
 pub use command_line::{Lazy, Request, WordsFault, request_of};
 pub use fault::Refusal;

@@ -1,9 +1,12 @@
--- A rearranged operand stack has no new names.
+-- What holds of all values of an operand stack holds of those of a rearranged one: it has no new names.
 use Rattle.std.proofs.Common.{ℕ, zero, suc, Bool, true, false, List, [], ◌∷◌, ◌++◌, Option, Some, None}
-use Rattle.std.specs.Prelude.{if◌then◌else◌, option_map, option_and_then}
+use Rattle.std.proofs.Common.{◌-◌}
+use Rattle.std.specs.Prelude.{nat_le, if◌then◌else◌, option_map, option_and_then}
 use Rattle.std.specs.Option.{IfSome}
 use Rattle.vm_state.specs.declared.value.Value.{Value}
-use Rattle.vm_state.specs.Operands.{OperandStack, pushed, top, rest, dropped, all_pushed}
+use Rattle.std.specs.List.{AllByRecursion}
+use Rattle.vm_state.specs.Values.{places}
+use Rattle.vm_state.specs.Operands.{OperandStack, pushed, top, top_of, rest, rest_of, dropped, all_pushed}
 use Rattle.semantics.specs.Lawful.{Names, Knows, KnowsAll}
 use Rattle.bytecode.specs.declared.operand.StackOperation.{StackOperation}
 use Rattle.bytecode.specs.declared.operand.StackOperation.TheVariants.{Pop, Pop2, Dup, DupX1, DupX2, Dup2}
@@ -15,7 +18,6 @@ use Rattle.frame_instructions.specs.declared.stack_management.Group.TheVariants.
 use Rattle.frame_instructions.specs.Rearranging.{values_of, is_category_1, where_category_1, group_of, without}
 use Rattle.frame_instructions.specs.Rearranging.{removed, doubled, with_two, put_under, doubled_under, put_back}
 use Rattle.frame_instructions.specs.Rearranging.{rearranged}
-use Rattle.frame_instructions.proofs.LawsFrameLemmas.{top_known, rest_known, pushed_known}
 
 and_then_such : {A B : Type 0} (Q : A → Type 0) (R : B → Type 0) (o : Option A) (go : A → Option B) →
     IfSome o Q → ((a : A) → Q a → IfSome (go a) R) → IfSome (option_and_then go o) R
@@ -32,47 +34,74 @@ either_such : {A : Type 0} (R : A → Type 0) (b : Bool) (x y : Option A) →
 either_such R true x y hx hy = hx
 either_such R false x y hx hy = hy
 
-module _ (known : Names) where
+module _ (Q : Value → Type 0) where
+  abbrev All : List Value → Type 0
+  All vs = AllByRecursion Q vs
+
+  top_has : (s : OperandStack) → All s.values → IfSome (top s) Q
+  unfolding top
+  top_has s h = first s.values h where
+    first : (vs : List Value) → All vs → IfSome (top_of vs) Q
+    first [] h = tt
+    first (v ∷ vs) h = h.0
+
+  rest_has : (s : OperandStack) → All s.values → All (rest s).values
+  unfolding rest
+  rest_has s h = others s.values h where
+    others : (vs : List Value) → All vs → All (rest_of vs s.free).values
+    others [] h = tt
+    others (v ∷ vs) h = h.1
+
+  pushed_has : (v : Value) (s : OperandStack) → Q v → All s.values → IfSome (pushed v s) (λ t. All t.values)
+  unfolding pushed
+  pushed_has v s hv hs = room (nat_le (places v) s.free) where
+    more : OperandStack
+    more = record { free = s.free - places v; values = v ∷ s.values }
+
+    room : (b : Bool) → IfSome (if b then Some more else None) (λ t. All t.values)
+    room true = (hv, hs)
+    room false = tt
+
   abbrev KnowsStack : OperandStack → Type 0
-  KnowsStack s = KnowsAll known s.values
+  KnowsStack s = All s.values
 
   abbrev KnowsGroup : Group → Type 0
-  KnowsGroup g = KnowsAll known (values_of g)
+  KnowsGroup g = All (values_of g)
 
   dropped_known : (n : ℕ) (s : OperandStack) → KnowsStack s → KnowsStack (dropped n s)
   dropped_known zero s h = h
-  dropped_known (suc n) s h = dropped_known n (rest s) (rest_known known s h)
+  dropped_known (suc n) s h = dropped_known n (rest s) (rest_has s h)
 
   without_known : (g : Group) (s : OperandStack) → KnowsStack s → KnowsStack (without g s)
   without_known (Single a) s h = dropped_known 1 s h
   without_known (Pair b a) s h = dropped_known 2 s h
 
   all_known : (vs : List Value) (s : OperandStack) →
-      KnowsAll known vs → KnowsStack s → IfSome (all_pushed vs s) KnowsStack
+      All vs → KnowsStack s → IfSome (all_pushed vs s) KnowsStack
   unfolding all_pushed
   all_known [] s hv hs = hs
   all_known (v ∷ vs) s hv hs =
-      and_then_such KnowsStack KnowsStack (pushed v s) (all_pushed vs) (pushed_known known v s hv.0 hs)
+      and_then_such KnowsStack KnowsStack (pushed v s) (all_pushed vs) (pushed_has v s hv.0 hs)
       (λ t ht. all_known vs t hv.1 ht)
 
-  append_known : (vs ws : List Value) → KnowsAll known vs → KnowsAll known ws → KnowsAll known (vs ++ ws)
+  append_known : (vs ws : List Value) → All vs → All ws → All (vs ++ ws)
   append_known [] ws hv hw = hw
   append_known (v ∷ vs) ws hv hw = (hv.0, append_known vs ws hv.1 hw)
 
-  category_1_known : (o : Option Value) (go : Value → Option Group) → IfSome o (Knows known) →
-      ((a : Value) → Knows known a → IfSome (go a) KnowsGroup) → IfSome (where_category_1 o go) KnowsGroup
+  category_1_known : (o : Option Value) (go : Value → Option Group) → IfSome o Q →
+      ((a : Value) → Q a → IfSome (go a) KnowsGroup) → IfSome (where_category_1 o go) KnowsGroup
   category_1_known o go ho h =
-      and_then_such (Knows known) KnowsGroup o _ ho
+      and_then_such Q KnowsGroup o _ ho
       (λ a ka. either_such KnowsGroup (is_category_1 a) (go a) None (h a ka) tt)
 
   group_known : (p : Places) (s : OperandStack) → KnowsStack s → IfSome (group_of p s) KnowsGroup
   unfolding group_of
-  group_known One s hs = category_1_known (top s) (λ a. Some (Single a)) (top_known known s hs) (λ a ka. (ka, tt))
+  group_known One s hs = category_1_known (top s) (λ a. Some (Single a)) (top_has s hs) (λ a ka. (ka, tt))
   group_known Two s hs =
-      and_then_such (Knows known) KnowsGroup (top s) _ (top_known known s hs) (λ a ka.
+      and_then_such Q KnowsGroup (top s) _ (top_has s hs) (λ a ka.
       either_such KnowsGroup (is_category_1 a)
       (where_category_1 (top (rest s)) (λ b. Some (Pair b a))) (Some (Single a))
-      (category_1_known (top (rest s)) (λ b. Some (Pair b a)) (top_known known (rest s) (rest_known known s hs))
+      (category_1_known (top (rest s)) (λ b. Some (Pair b a)) (top_has (rest s) (rest_has s hs))
       (λ b kb. (kb, (ka, tt))))
       (ka, tt))
 
@@ -113,13 +142,17 @@ module _ (known : Names) where
     under_known : (p q : Places) → IfSome (doubled_under p q s) KnowsStack
     under_known p q = two_known p q put_under put_under_known
 
-    pub rearranged_known : (op : StackOperation) → IfSome (rearranged op s) KnowsStack
-    rearranged_known Pop = removed_known One
-    rearranged_known Pop2 = removed_known Two
-    rearranged_known Dup = doubled_known One
-    rearranged_known DupX1 = under_known One One
-    rearranged_known DupX2 = under_known One Two
-    rearranged_known Dup2 = doubled_known Two
-    rearranged_known Dup2X1 = under_known Two One
-    rearranged_known Dup2X2 = under_known Two Two
-    rearranged_known Swap = two_known One One put_back put_back_known
+    pub rearranged_has : (op : StackOperation) → IfSome (rearranged op s) KnowsStack
+    rearranged_has Pop = removed_known One
+    rearranged_has Pop2 = removed_known Two
+    rearranged_has Dup = doubled_known One
+    rearranged_has DupX1 = under_known One One
+    rearranged_has DupX2 = under_known One Two
+    rearranged_has Dup2 = doubled_known Two
+    rearranged_has Dup2X1 = under_known Two One
+    rearranged_has Dup2X2 = under_known Two Two
+    rearranged_has Swap = two_known One One put_back put_back_known
+
+pub rearranged_known : (known : Names) (s : OperandStack) → KnowsAll known s.values → (op : StackOperation)
+    → IfSome (rearranged op s) (λ t. KnowsAll known t.values)
+rearranged_known known s hs op = rearranged_has (Knows known) s hs op

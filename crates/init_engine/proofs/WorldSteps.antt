@@ -20,6 +20,12 @@ use Rattle.init_engine.specs.Threads.{thread_of, seen_of, HasNumber}
 use Rattle.init_engine.specs.steps.Threads.{IsGoing, HasEndedNow, ThreadView, stepped, IsTurnOf, StaysAsItWas}
 use Rattle.init_engine.specs.Numbering.{AreNumbered}
 use Rattle.init_engine.specs.Turns.{world_of, Goes, IsOver, IsTurn}
+use Rattle.vm_state.specs.declared.frame.Frame.{Frame}
+use Rattle.vm_state.specs.declared.initialization.Level.{Level}
+use Rattle.vm_state.specs.declared.initialization.Frames.{Frames}
+use Rattle.semantics.specs.Steps.{Thread as DefinedThread, Going as IsGoingOn}
+use Rattle.machine.specs.Effects.{going}
+use Rattle.init_engine.specs.Stacks.{with_thread}
 
 abbrev pub world_with : List Thread → SharedTables → List Line → World
 world_with threads shared printed = world_of (record { threads = threads; shared = shared; printed = printed })
@@ -129,3 +135,23 @@ pub map-seen_of : (threads : List Thread) → map seen_of threads ≡ map ending
 unfolding seen_of
 map-seen_of [] = refl
 map-seen_of (t ∷ ts) = ap (λ es. ending (thread_of t) ∷ es) (map-seen_of ts)
+
+-- ---- a thread's frames, exchanged
+
+same_some : (a b : DefinedThread) → Some a ≡ Some b → a ≡ b
+same_some a b h = cc
+
+pub exchanged_world : (threads : List Thread) (shared : SharedTables) (printed : List Line) (t : ℕ) (old new : Thread)
+    (given taken : Frames) → slice_get threads t ≡ Some old
+    → ((fs : List Frame) (ls : List Level) → thread_of old ≡ IsGoingOn fs ls
+    → (thread_of new ≡ going given) × (going taken ≡ IsGoingOn fs ls))
+    → (fs : List Frame) (ls : List Level) → slice_get (map thread_of threads) t ≡ Some (IsGoingOn fs ls)
+    → (world_with (slice_set threads t new) shared printed
+    ≡ with_thread (world_with threads shared printed) t (going given)) × (going taken ≡ IsGoingOn fs ls)
+exchanged_world threads shared printed t old new given taken at exchanged fs ls h =
+    let stands : thread_of old ≡ IsGoingOn fs ls = same_some _ _ (sym (thread_at threads t old at) ∙ h) in
+    let r = exchanged fs ls stands in (
+      ap (λ ts. record { shared = shared_of shared printed; threads = ts })
+          (map-set thread_of threads t new ∙ ap (slice_set (map thread_of threads) t) r.0),
+      r.1,
+    )

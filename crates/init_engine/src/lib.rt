@@ -4,6 +4,7 @@
 pub mod fault;
 mod procedure;
 pub mod schedule;
+mod stacks;
 pub mod starting;
 mod stuck;
 mod turning;

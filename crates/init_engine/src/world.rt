@@ -1,6 +1,6 @@
 //! Worlds: threads, what they share, and what they printed.
 
-ghost use Rattle.std.specs.Prelude.{◌≡◌, ◌<◌, ◌≤◌, replicate, ◌∷◌, [], ℕ, List, length, map};
+ghost use Rattle.std.specs.Prelude.{◌≡◌, ◌<◌, ◌≤◌, replicate, ◌∷◌, [], ℕ, List, length, map, slice_get};
 ghost use Rattle.std.specs.Prelude.{IfOk, OnOk, OnErr, Some, None};
 ghost use Rattle.vm_state.specs.declared.text.Line.{Line};
 ghost use Rattle.vm_state.specs.Shares.{shared_of, SharesTheSame};
@@ -13,6 +13,10 @@ ghost use Rattle.machine.specs.Linked.{program_of};
 ghost use Rattle.courses.specs.steps.StepTables.{KeepsSteps};
 ghost use Rattle.init_engine.specs.Threads.{thread_of, seen_of, HasNumber};
 ghost use Rattle.init_engine.specs.Turns.{IsTurn, world_of};
+ghost use Rattle.init_engine.specs.Stacks.{with_thread};
+ghost use Rattle.machine.specs.Effects.{going};
+ghost use Rattle.vm_state.specs.declared.frame.Frame.{Frame as Held};
+ghost use Rattle.vm_state.specs.declared.initialization.Level.{Level};
 
 use crate::procedure::{Progress, step_thread};
 use courses::course::run_segment;
@@ -21,6 +25,7 @@ use machine::effects::actor_of;
 use program::Program;
 use std::alloc::{AllocError, Global};
 use std::marker::Model;
+use std::mem;
 use vm_state::ends::{End, Ending};
 use vm_state::frame::{Frame, FrameList, Segment};
 use vm_state::initialization::Frames;
@@ -177,6 +182,19 @@ fn endings(alloc: Global, threads: &[Thread]) -> Result<Vec<Ending>, AllocError>
     Ok(endings)
 }
 
+/// Exchanges the frames of a thread that has not ended for these.
+fn exchange_in(thread: &mut Thread, frames: &mut Frames)
+    ensures exchanged { (fs : List Held) (ls : List Level) → thread_of thread.old ≡ Going fs ls
+        → (thread_of thread.new ≡ going frames.old) × (going frames.new ≡ Going fs ls) }
+    ensures number { (t : ℕ) → HasNumber thread.old t → frames.old.thread ≡ t
+        → HasNumber thread.new t × (frames.new.thread ≡ t) }
+{
+    match thread {
+        Thread::Going(own) => mem::swap(own, frames),
+        Thread::Ended(_) => {}
+    }
+}
+
 impl World {
     /// What the world has shown.
     ///
@@ -214,6 +232,28 @@ impl World {
         ensures { result.now ≡ self.now.shared }
     {
         &self.shared
+    }
+
+    /// What was printed, in order.
+    pub fn printed(&self) -> &[Line]
+        ensures { result.now ≡ self.now.printed }
+    {
+        self.printed.as_slice()
+    }
+
+    /// Exchanges the frames of a thread that has not ended for these.
+    pub fn exchange(&mut self, thread: u32, frames: &mut Frames)
+        requires thread { thread < length self.old.threads }
+        requires number { frames.old.thread ≡ thread }
+        ensures threads { length self.new.threads ≡ length self.old.threads }
+        ensures printed { self.new.printed ≡ self.old.printed }
+        ensures exchanged { (fs : List Held) (ls : List Level)
+            → slice_get (world_of self.old).threads thread ≡ Some (Going fs ls)
+            → (world_of self.new ≡ with_thread (world_of self.old) thread (going frames.old))
+            × (going frames.new ≡ Going fs ls) }
+        ensures number { frames.new.thread ≡ thread }
+    {
+        exchange_in(&mut self.threads[thread as usize], frames);
     }
 
     /// How many threads there are: at most 64.

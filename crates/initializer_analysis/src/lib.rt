@@ -17,3 +17,4 @@ pub mod verdict;
 mod waves;
 
 pub use judging::judge;
+pub use refused_uses::first_refused;

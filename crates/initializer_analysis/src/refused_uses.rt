@@ -138,7 +138,7 @@ fn first_of_each(
 ///
 /// # Errors
 /// Where memory runs out.
-pub(crate) fn first_refused(
+pub fn first_refused(
     alloc: Global,
     program: &Program,
     uses: &UseGraph,

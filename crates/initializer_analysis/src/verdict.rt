@@ -49,6 +49,13 @@ impl Verdicts {
         Verdicts { verdicts }
     }
 
+    /// The verdicts, by the numbers of the classes.
+    pub fn as_slice(&self) -> &[Verdict]
+        ensures { result.now ≡ self.now }
+    {
+        self.verdicts.as_slice()
+    }
+
     /// The verdict on a class, if it is given.
     pub fn of_class(&self, class: u32) -> Option<Verdict>
         ensures { result ≡ slice_get self.now class }

@@ -4,7 +4,7 @@ use Rattle.std.specs.declared.result.Result.{Result}
 use Rattle.vm_state.specs.declared.frame.Frame.{Frame}
 use Rattle.vm_state.specs.declared.text.Line.{Line}
 use Rattle.machine.specs.declared.kinds.Stop.{Stop}
-use Rattle.machine.specs.declared.kinds.Stop.TheVariants.{Needs, Waits, ForeignObject, Barred, Memory}
+use Rattle.machine.specs.declared.kinds.Stop.TheVariants.{Needs, Waits, ForeignObject, Barred, OverBudget, Memory}
 use Rattle.machine.specs.declared.kinds.Conclusion.{Conclusion}
 use Rattle.machine.specs.declared.kinds.Conclusion.TheVariants.{Stays, Becomes, Calls, Returns, Prints, Raises, Halts}
 use Rattle.semantics.specs.Rows.{Row, UseClass}
@@ -20,6 +20,7 @@ module _ {S T : Type 0} (state : S → List Line → T) where
   kept_same Waits s = refl
   kept_same ForeignObject s = refl
   kept_same Barred s = refl
+  kept_same OverBudget s = refl
 
   -- whatever stopped it, the state is as it was
   pub kept_state : (stop : Stop) (old new : S) → Kept state stop old new → (p : List Line) → state new p ≡ state old p
@@ -28,6 +29,7 @@ module _ {S T : Type 0} (state : S → List Line → T) where
   kept_state Waits old new kept p = ap (λ s. state s p) kept
   kept_state ForeignObject old new kept p = ap (λ s. state s p) kept
   kept_state Barred old new kept p = ap (λ s. state s p) kept
+  kept_state OverBudget old new kept p = ap (λ s. state s p) kept
 
   -- a store that an instruction did nothing to
   pub kept_by_same : (r : Result Conclusion Stop) (s : S) → KeptBy state r s s

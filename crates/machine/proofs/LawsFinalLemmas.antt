@@ -137,15 +137,15 @@ module _ (w : FieldKind) (c k : ℕ) where
 
   module _ (P : Tables) (d m : ℕ) where
     -- what a constant is that is written to
-    record IsPut (e : Option RuntimeConstant) : Type 0 where
-      kind : FieldKind
-      final : Bool
-      place : ℕ
-      valued : has_value kind ≡ true
-      constant : e ≡ Some (runtime.Field kind (Ok (targets.Static c k final place)))
-      may : may_write P d m c final ≡ true
+    pub record IsPut (e : Option RuntimeConstant) : Type 0 where
+      pub kind : FieldKind
+      pub final : Bool
+      pub place : ℕ
+      pub valued : has_value kind ≡ true
+      pub constant : e ≡ Some (runtime.Field kind (Ok (targets.Static c k final place)))
+      pub may : may_write P d m c final ≡ true
 
-    put_constant : (e : Option RuntimeConstant) → putstatic_of P d m e ≡ PutStatic w c k → IsPut e
+    pub put_constant : (e : Option RuntimeConstant) → putstatic_of P d m e ≡ PutStatic w c k → IsPut e
     put_constant (Some (runtime.Field kind target)) e =
         let has = valued kind (put_target P d m kind target) e in
         by target has.0 has.1
@@ -178,7 +178,7 @@ module _ (w : FieldKind) (c k : ℕ) where
         by (Err unresolved.Incompatible) has h = absurd cc
     put_constant other e = absurd cc
 
-    put_resolved : (i : Instruction) → resolved_operation P d m i ≡ PutStatic w c k → (index : ℕ)
+    pub put_resolved : (i : Instruction) → resolved_operation P d m i ≡ PutStatic w c k → (index : ℕ)
         × IsPut (constant_at P d index)
     put_resolved (instructions.LoadConstant index) e = absurd (no_int (constant_at P d index) e)
     put_resolved (instructions.LoadWideConstant index) e = absurd (no_long (constant_at P d index) e)
@@ -216,7 +216,7 @@ module _ (w : FieldKind) (c k : ℕ) where
     put_instruction None e = absurd cc
     put_instruction (Some i) e = put_resolved i (put_local (local_of i) (resolved_operation P d m i) (same_Some _ _ e))
 
-    put_at : (place : ℕ) → operation_at P d m place ≡ Some (PutStatic w c k) → (index : ℕ)
+    pub put_at : (place : ℕ) → operation_at P d m place ≡ Some (PutStatic w c k) → (index : ℕ)
         × IsPut (constant_at P d index)
     unfolding operation_at
     put_at place e = put_instruction (instruction_at P d m place) e
@@ -224,14 +224,14 @@ module _ (w : FieldKind) (c k : ℕ) where
 -- ---- what such a constant stands for
 
 -- the Fieldref that a constant stands for
-record IsFieldConstant (family : Family) (f : ClassFile) (constant : Constant) (kind : FieldKind)
+pub record IsFieldConstant (family : Family) (f : ClassFile) (constant : Constant) (kind : FieldKind)
     (target : Result FieldTarget Unresolved) : Type 0 where
-  class : List ℕ
-  key : NameAndType
-  result : Result Field Unresolved
-  finds : FindsField family class key result
-  kind_is : field_kind key.descriptor ≡ kind
-  target_is : targeted family result ≡ target
+  pub class : List ℕ
+  pub key : NameAndType
+  pub result : Result Field Unresolved
+  pub finds : FindsField family class key result
+  pub kind_is : field_kind key.descriptor ≡ kind
+  pub target_is : targeted family result ≡ target
 
 field_constant : {family : Family} {strings : List (List ℕ)} {f : ClassFile} {index : ℕ} {constant : Constant}
     {held : RuntimeConstant}
@@ -262,21 +262,21 @@ field_constant kind target there e IsRuntimeConstant.method_type = absurd cc
 field_constant kind target there e IsRuntimeConstant.invoke_dynamic = absurd cc
 
 -- the static field that a target is
-record IsStatic (family : Family) (c k : ℕ) (final : Bool) (r : Result Field Unresolved) : Type 0 where
-  place : ℕ
-  file : ClassFile
-  member : Member
-  result : r ≡ Ok (fields.Given c place)
-  stands : file_in family c ≡ Some file
-  is : slice_get file.fields place ≡ Some member
-  static : has_flag member.access_flags 8 ≡ true
-  slot : k ≡ static_number_of file place
-  flag : final ≡ has_flag member.access_flags 16
+pub record IsStatic (family : Family) (c k : ℕ) (final : Bool) (r : Result Field Unresolved) : Type 0 where
+  pub place : ℕ
+  pub file : ClassFile
+  pub member : Member
+  pub result : r ≡ Ok (fields.Given c place)
+  pub stands : file_in family c ≡ Some file
+  pub is : slice_get file.fields place ≡ Some member
+  pub static : has_flag member.access_flags 8 ≡ true
+  pub slot : k ≡ static_number_of file place
+  pub flag : final ≡ has_flag member.access_flags 16
 
 abbrev IsOk : FieldTarget → FieldTarget → Type 0
 IsOk a b = ◌≡◌ {A = Result FieldTarget Unresolved} (Ok a) (Ok b)
 
-static_target : (family : Family) (c k : ℕ) (final : Bool) (place : ℕ) (r : Result Field Unresolved)
+pub static_target : (family : Family) (c k : ℕ) (final : Bool) (place : ℕ) (r : Result Field Unresolved)
     → targeted family r ≡ Ok (targets.Static c k final place)
     → IsStatic family c k final r
 static_target family c k final place (Err x) e = absurd cc
@@ -340,7 +340,7 @@ found_field c j e (ResolvesField.no_out h) = absurd cc
 found_field c j e (ResolvesField.built_in h) = absurd cc
 found_field c j e ResolvesField.array = absurd cc
 
-finds_field : {family : Family} {name : List ℕ} {key : NameAndType} {r : Result Field Unresolved} (c j : ℕ)
+pub finds_field : {family : Family} {name : List ℕ} {key : NameAndType} {r : Result Field Unresolved} (c j : ℕ)
     → r ≡ Ok (fields.Given c j)
     → FindsField family name key r → field_in family key c ≡ Some j
 finds_field c j e (FindsField.unknown h) = absurd cc
@@ -349,7 +349,7 @@ finds_field c j e (FindsField.found {m = m} h resolves) = let same : m ≡ field
     found_field c j (ap Some same) resolves
 
 -- the field has the descriptor of its key
-descriptor_is : (f : ClassFile) (key : NameAndType) (j : ℕ) (m : Member) → field_of key (Some f) ≡ Some j
+pub descriptor_is : (f : ClassFile) (key : NameAndType) (j : ℕ) (m : Member) → field_of key (Some f) ≡ Some j
     → slice_get f.fields j ≡ Some m
     → text_at f m.descriptor ≡ key.descriptor
 descriptor_is f key j m found at =
@@ -363,7 +363,7 @@ descriptor_is f key j m found at =
 
 -- ---- the static field in the tables
 
-given_of : (o : Option GivenClass) (f : ClassFile) → file_of o ≡ Some f → (given : GivenClass) × (o ≡ Some given)
+pub given_of : (o : Option GivenClass) (f : ClassFile) → file_of o ≡ Some f → (given : GivenClass) × (o ≡ Some given)
     × (given.file ≡ f)
 given_of None f e = absurd cc
 given_of (Some given) f e = (given, refl, same_Some given.file f e)
@@ -386,7 +386,7 @@ module _ (P : Tables) (is : IsProgram P) where
       ap declared_final held
 
   -- the constant of an instruction that puts, and its Fieldref
-  constant_at_put : (d index : ℕ) (kind : FieldKind) (target : Result FieldTarget Unresolved)
+  pub constant_at_put : (d index : ℕ) (kind : FieldKind) (target : Result FieldTarget Unresolved)
       → constant_at P d index ≡ Some (runtime.Field kind target) →
       (f : ClassFile) × (constant : Constant) × IsFieldConstant P.family f constant kind target
   constant_at_put d index kind target e = by (slice_get P.classes d) refl e

@@ -18,7 +18,9 @@ use Rattle.semantics.specs.Rows.{Row, AskClass}
 use Rattle.semantics.specs.Lawful.{Names, Knows, KnowsAll, KnowsSlots, KnowsFrame, Fits}
 use Rattle.semantics.proofs.FrameMovesLemmas.{name_known}
 use Rattle.program.specs.Tables.{Tables}
-use Rattle.frame_instructions.proofs.LawsFrameLemmas.{top_known, rest_known}
+use Rattle.frame_instructions.specs.declared.operand_kind.OperandKind.TheVariants.{Int, Reference}
+use Rattle.frame_instructions.specs.OperandKinds.{top_as}
+use Rattle.frame_instructions.proofs.LawsFrameLemmas.{top_known, rest_known, as_kind_known}
 use Rattle.machine.specs.RowParts.{halts, drops}
 use Rattle.machine.specs.ObjectParts.{slot_in, set_named, look_into_named}
 use Rattle.machine.specs.Objects.{is_of}
@@ -59,9 +61,11 @@ module _ (P : Tables) (known : Names) (own : ℕ → Bool) where
 
     new_enum_suits : (v : Value) → Knows known v → Suits (new_enum P v f)
     new_enum_suits v hv =
-        needing_such Suits halted (Knows known) (top f.operands) _ (top_known known f.operands h.0) (λ ordinal ho.
-        needing_such Suits halted (Knows known) (top (rest f.operands)) _
-        (top_known known (rest f.operands) (rest_known known f.operands h.0)) (λ name hn.
+        needing_such Suits halted (Knows known) (top_as Int f.operands) _
+        (as_kind_known known Int (top f.operands) (top_known known f.operands h.0)) (λ ordinal ho.
+        needing_such Suits halted (Knows known) (top_as Reference (rest f.operands)) _
+        (as_kind_known known Reference (top (rest f.operands))
+        (top_known known (rest f.operands) (rest_known known f.operands h.0))) (λ name hn.
         on_enum_suits v (λ x. set_named x name ordinal (drops 3 f)) hv
         (λ x hx. (hx, hn, (hx, ho, drops_suits 3)))))
 

@@ -11,7 +11,9 @@ use Rattle.vm_state.specs.declared.value.Value.{Value}
 use Rattle.vm_state.specs.declared.value.Name.{Name}
 use Rattle.vm_state.specs.Values.{name_of}
 use Rattle.vm_state.specs.declared.frame.Frame.{Frame}
-use Rattle.vm_state.specs.Operands.{top, rest}
+use Rattle.vm_state.specs.Operands.{rest}
+use Rattle.frame_instructions.specs.declared.operand_kind.OperandKind.TheVariants.{Int, Reference}
+use Rattle.frame_instructions.specs.OperandKinds.{top_as}
 use Rattle.semantics.specs.Rows.{Row, AskClass}
 use Rattle.program.specs.Tables.{Tables}
 use Rattle.machine.specs.declared.call_operation.Choice.TheVariants.{Selected}
@@ -21,8 +23,8 @@ use Rattle.machine.specs.Objects.{is_of}
 use Rattle.machine.specs.Members.{new_enum, or_slot, enum_part, copy_of, clone_if_array, clone_array}
 use Rattle.machine.specs.Calls.{runs, runs_chosen}
 
-pub new_enum_nameless : (P : Tables) (v ordinal name : Value) (f : Frame) → top f.operands ≡ Some ordinal
-    → top (rest f.operands) ≡ Some name → name_of v ≡ None → new_enum P v f ≡ without_object v
+pub new_enum_nameless : (P : Tables) (v ordinal name : Value) (f : Frame) → top_as Int f.operands ≡ Some ordinal
+    → top_as Reference (rest f.operands) ≡ Some name → name_of v ≡ None → new_enum P v f ≡ without_object v
 new_enum_nameless P v ordinal name f on_top below none = rw (on_top, below, none) refl
 
 pub enum_part_nameless : (P : Tables) (slot : ℕ) (v : Value) (f : Frame) → name_of v ≡ None

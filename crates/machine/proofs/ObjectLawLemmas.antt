@@ -37,7 +37,7 @@ use Rattle.machine.specs.RowParts.{halts, needing, goes_on, push, raises}
 use Rattle.machine.specs.ObjectParts.{slot_in, look_into_slot, on_name, class_of_nameless, ask_class_of, without_object}
 use Rattle.machine.specs.ObjectParts.{on_object}
 use Rattle.machine.specs.Objects.{new_object, is_of, cast_row, int_of_boolean, throw_of}
-use Rattle.machine.specs.Objects.{on_holder, get_field, put_field, object_row}
+use Rattle.machine.specs.Objects.{is_holder, on_holder, get_field, put_field, object_row}
 use Rattle.machine.specs.Monitors.{without_monitor, use_monitor, entered, left}
 use Rattle.machine.specs.Linked.{program_of}
 use Rattle.machine.proofs.StoredKindsLemmas.{stored_knows}
@@ -137,10 +137,10 @@ module _ (P : Tables) (known : Names) (own : ℕ → Bool) where
         → ((x : Name) → known x ≡ true → Suits (go x)) → Suits (on_holder P field v go)
     holder_suits field v go hv on =
         on_object_suits v (λ x. AskClass x (λ o. if_holds x o)) hv
-        (λ x hx. (hx, λ o. either (is_of P (Given field.class) o) (go x) _ (on x hx) (halted Fault)))
+        (λ x hx. (hx, λ o. either (is_holder P field.class o) (go x) _ (on x hx) (halted Fault)))
       where
         if_holds : Name → Option ClassId → Row
-        if_holds x o = cond (is_of P (Given field.class) o) (go x) (halts Fault)
+        if_holds x o = cond (is_holder P field.class o) (go x) (halts Fault)
 
     get_suits : (field : InstanceField) → Suits (get_field P field f)
     get_suits field =

@@ -30,7 +30,7 @@ use Rattle.hierarchy.specs.Subtypes.{is_below}
 use Rattle.program.specs.declared.class.Implementation.{Implementation}
 use Rattle.program.specs.declared.class.Implementation.TheVariants as implementations
 use Rattle.program.specs.Tables.{Tables, implementation_at, initializer_in}
-use Rattle.frame_instructions.specs.declared.operand_kind.OperandKind.TheVariants.{Reference}
+use Rattle.frame_instructions.specs.declared.operand_kind.OperandKind.TheVariants.{Int, Reference}
 use Rattle.frame_instructions.specs.declared.trap.Trap.{Trap}
 use Rattle.frame_instructions.specs.declared.trap.Trap.TheVariants as traps
 use Rattle.frame_instructions.specs.Instructions.{is_null}
@@ -48,7 +48,7 @@ use Rattle.machine.specs.RowParts.{halts, needing, goes_on, push, raises, if_usa
 use Rattle.machine.specs.ObjectParts.{slot_in, on_name, class_of_nameless, ask_class_of}
 use Rattle.machine.specs.ObjectParts.{without_object, on_object}
 use Rattle.machine.specs.Objects.{new_object, is_of, ask_is_of, cast_row, check_cast, int_of_boolean, instance_of}
-use Rattle.machine.specs.Objects.{throw_of, throw_row, on_holder, get_field, put_field}
+use Rattle.machine.specs.Objects.{throw_of, throw_row, is_holder, on_holder, get_field, put_field}
 use Rattle.machine.specs.Arrays.{unless_trapped, array_type, served_type, slot_at, size_of, make_array, array_length}
 use Rattle.machine.specs.Arrays.{at_element, load_element, is_checked, if_held, can_hold, check_store, store_element}
 use Rattle.machine.specs.Arrays.{stored_as, array_row, type_of_primitives, zero_of}
@@ -205,7 +205,7 @@ throw_plain P f = needed (top_as Reference f.operands) _ (λ v. object_plain v _
 holder_plain : (P : Tables) (field : InstanceField) (v : Value) (go : Name → Row) → ((x : Name) → IsPlain (go x))
     → IsPlain (on_holder P field v go)
 holder_plain P field v go on =
-    object_plain v _ (λ x o. either (is_of P (Given field.class) o) (go x) _ (on x) tt)
+    object_plain v _ (λ x o. either (is_holder P field.class o) (go x) _ (on x) tt)
 
 pub got_plain : (P : Tables) (field : InstanceField) (f : Frame) → IsPlain (get_field P field f)
 got_plain P field f =
@@ -244,7 +244,8 @@ member_plain P members.NewObject count v f = tt
 member_plain P members.NewThrowable count v f = tt
 member_plain P members.NewThrowableOfText count v f = tt
 member_plain P members.NewEnum count v f =
-    needed (top f.operands) _ (λ ordinal. needed (top (rest f.operands)) _ (λ name. enum_plain P v _ (λ x. tt)))
+    needed (top_as Int f.operands) _ (λ ordinal.
+    needed (top_as Reference (rest f.operands)) _ (λ name. enum_plain P v _ (λ x. tt)))
 member_plain P members.EnumName count v f = enum_plain P v _ (λ x vs. slot_plain x 0 f (slot_in vs 0))
 member_plain P members.EnumOrdinal count v f = enum_plain P v _ (λ x vs. slot_plain x 1 f (slot_in vs 1))
 member_plain P members.CloneArray count v f = object_plain v _ (λ x o. cloned_plain x f o)

@@ -10,11 +10,13 @@ use Rattle.vm_state.specs.declared.value.Value.{Value}
 use Rattle.vm_state.specs.declared.value.Name.{Name}
 use Rattle.vm_state.specs.declared.ends.FaultKind.TheVariants as faults
 use Rattle.vm_state.specs.declared.frame.Frame.{Frame}
-use Rattle.vm_state.specs.Operands.{top, rest}
+use Rattle.vm_state.specs.Operands.{rest}
 use Rattle.vm_state.specs.Values.{value_of}
 use Rattle.semantics.specs.Rows.{Row, AskClass, LookInto, Make, Slots}
 use Rattle.semantics.specs.Moves.{with_operands}
 use Rattle.program.specs.Tables.{Tables}
+use Rattle.frame_instructions.specs.declared.operand_kind.OperandKind.TheVariants.{Int, Reference}
+use Rattle.frame_instructions.specs.OperandKinds.{top_as}
 use Rattle.machine.specs.RowParts.{halts, needing, push, drops}
 use Rattle.machine.specs.ObjectParts.{look_into_slot, look_into_named, set_named, on_object}
 use Rattle.machine.specs.Objects.{is_of}
@@ -29,8 +31,8 @@ on_enum P v go =
 -- Enum's initialization method: its arguments are the name and, on top, the ordinal
 abbrev pub new_enum : Tables → Value → Frame → Row
 new_enum P v f =
-    needing (top f.operands) (λ ordinal.
-    needing (top (rest f.operands)) (λ name.
+    needing (top_as Int f.operands) (λ ordinal.
+    needing (top_as Reference (rest f.operands)) (λ name.
     on_enum P v (λ x. set_named x name ordinal (drops 3 f))))
 
 -- in the place of the receiver

@@ -14,13 +14,12 @@ use crate::kinds::{Actor, Conclusion, Stop};
 use crate::pushing::replace_value;
 use crate::raising::{raise, trap};
 use crate::store::Store;
-use built_in::class_id::{ArrayType, BuiltIn, ClassId};
+use built_in::class_id::{ArrayType, BuiltIn};
 use frame_instructions::trap::Trap;
 use program::Program;
 use std::alloc::Global;
 use vm_state::ends::FaultKind;
 use vm_state::frame::Frame;
-use vm_state::object::Slots;
 use vm_state::value::Value;
 
 const FAULT: Result<Conclusion, Stop> = Ok(Conclusion::Halts(FaultKind::Fault));
@@ -58,8 +57,7 @@ fn make_array<S: Store>(
         Ok(size) => size,
         Err(reason) => return trap(alloc, by, store, reason),
     };
-    let slots = Slots::filled(alloc, zero, size)?;
-    let name = store.make(alloc, by, ClassId::Array(array), slots)?;
+    let name = store.make_array(alloc, by, array, zero, size)?;
     Ok(replace_value(frame, 1, Value::reference_to(name)))
 }
 

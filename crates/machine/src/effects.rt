@@ -286,7 +286,7 @@ fn stopped(stop: Stop) -> Result<Effect, AllocError>
 {
     match stop {
         Stop::Needs(class) => Ok(Effect::Needs(class)),
-        Stop::Waits | Stop::ForeignObject | Stop::Barred => Ok(Effect::Wait),
+        Stop::Waits | Stop::ForeignObject | Stop::Barred | Stop::OverBudget => Ok(Effect::Wait),
         Stop::Memory => Err(AllocError),
     }
 }

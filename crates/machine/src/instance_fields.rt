@@ -7,11 +7,10 @@ ghost use Rattle.machine.specs.Accesses.{Gives, KeptBy, Untouched};
 
 use crate::kinds::{Actor, Conclusion, Stop};
 use crate::object_operation::InstanceField;
-use crate::objects::is_of;
+use crate::objects::is_holder;
 use crate::references::{name_of, second_reference, without_object};
 use crate::store::Store;
 use crate::stored_kind::{extra_places, top_stored};
-use built_in::class_id::ClassId;
 use frame_instructions::numeric::advance;
 use frame_instructions::operand_kind::{OperandKind, top_as};
 use program::Program;
@@ -50,11 +49,7 @@ pub fn get_field<S: Store>(
     let Some(object) = name_of(holder) else {
         return without_object(alloc, by, store, holder);
     };
-    if !is_of(
-        program,
-        ClassId::Given(field.class),
-        store.class_of(by, object)?,
-    ) {
+    if !is_holder(program, field.class, store.class_of(by, object)?) {
         return FAULT;
     }
     let Some(value) = store.slot(by, object, field.slot as usize)? else {
@@ -96,11 +91,7 @@ pub fn put_field<S: Store>(
     let Some(object) = name_of(holder) else {
         return without_object(alloc, by, store, holder);
     };
-    if !is_of(
-        program,
-        ClassId::Given(field.class),
-        store.class_of(by, object)?,
-    ) {
+    if !is_holder(program, field.class, store.class_of(by, object)?) {
         return FAULT;
     }
     store.change(by, object, field.slot as usize, value)?;

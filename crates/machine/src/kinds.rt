@@ -49,6 +49,8 @@ pub enum Stop {
     ForeignObject,
     /// At build time: what no class does that may be initialized then.
     Barred,
+    /// At build time: the elements that it makes cost more than is left.
+    OverBudget,
     /// Memory is refused.
     Memory,
 }

@@ -9,10 +9,11 @@ ghost use Rattle.machine.specs.Accesses.{Gives, KeptBy, Untouched, concluded};
 
 use crate::kinds::{Actor, Conclusion, Stop};
 use crate::objects::is_of;
-use crate::references::{name_of, without_object};
+use crate::references::{name_of, second_reference, without_object};
 use crate::store::Store;
 use built_in::class_id::{ArrayType, BuiltIn, ClassId};
 use frame_instructions::numeric::advance;
+use frame_instructions::operand_kind::{OperandKind, top_as};
 use program::{BuiltInMethod, Program};
 use std::alloc::Global;
 use vm_state::ends::FaultKind;
@@ -61,10 +62,10 @@ fn new_enum<S: Store>(
     ensures frame { Untouched result frame.old frame.new }
     ensures activity { frame.new.activity ≡ frame.old.activity }
 {
-    let Ok(ordinal) = frame.operands.top() else {
+    let Ok(ordinal) = top_as(&frame.operands, OperandKind::Int) else {
         return FAULT;
     };
-    let Ok(name) = frame.operands.second() else {
+    let Ok(name) = second_reference(&frame.operands) else {
         return FAULT;
     };
     let Some(object) = name_of(receiver) else {

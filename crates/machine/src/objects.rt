@@ -3,7 +3,8 @@
 ghost use Rattle.std.specs.Prelude.{◌≡◌, List, []};
 ghost use Rattle.built_in.specs.declared.class_id.ClassId.TheVariants.{BuiltIn as BuiltInId};
 ghost use Rattle.vm_state.specs.declared.text.Line.{Line};
-ghost use Rattle.machine.specs.Objects.{new_object, new_given, is_of, ask_is_of, check_cast, int_of_boolean};
+ghost use Rattle.machine.specs.Objects.{new_object, new_given, is_of, is_holder, ask_is_of, check_cast};
+ghost use Rattle.machine.specs.Objects.{int_of_boolean};
 ghost use Rattle.machine.specs.Objects.{instance_of, throw_row};
 ghost use Rattle.machine.specs.Accesses.{Gives, KeptBy, Leads, Untouched};
 
@@ -121,6 +122,17 @@ pub fn is_of(program: &Program, class: ClassId, held: Option<ClassId>) -> bool
     match held {
         Some(held) => program.is_below(held, class),
         None => false,
+    }
+}
+
+/// Whether an object of this class has the instance fields of a given class.
+#[inline(always)]
+pub fn is_holder(program: &Program, class: u32, held: Option<ClassId>) -> bool
+    ensures { result ≡ is_holder program.now class held }
+{
+    match held {
+        Some(ClassId::Given(own)) => program.has_fields_of(own, class),
+        _ => false,
     }
 }
 

@@ -11,7 +11,7 @@ ghost use Rattle.machine.specs.Sharing.{run_shared, stopped_shared, CanUseShared
 use crate::kinds::{Actor, Stop};
 use crate::monitors::{Lock, lock_monitor};
 use crate::store::Store;
-use built_in::class_id::ClassId;
+use built_in::class_id::{ArrayType, ClassId};
 use std::alloc::{AllocError, Global};
 use vm_state::classes::Usability;
 use vm_state::object::Slots;
@@ -31,7 +31,7 @@ pub fn length_of(slots: Option<&[Value]>) -> Option<i32>
 }
 
 /// One of the first two slots of an object, the name and the ordinal of an `Enum` object, once its name is set.
-fn named_slot(slots: Option<&[Value]>, slot: usize) -> Option<Value>
+pub fn named_slot(slots: Option<&[Value]>, slot: usize) -> Option<Value>
     ensures { result ≡ slot_in (option_and_then (part_of Named) (option_map (λ s. s.now) slots.entry)) slot }
 {
     match slots? {
@@ -143,6 +143,22 @@ impl Store for Shared {
             }
             Lock::Refused => Ok(false),
             Lock::Blocked => Err(Stop::Waits),
+        }
+    }
+
+    #[tactic(auto, unfolding(crate::specs::Accesses::unless_refused))]
+    fn make_array(
+        &mut self,
+        alloc: Global,
+        by: Actor,
+        array: ArrayType,
+        zero: Value,
+        size: usize,
+    ) -> Result<Name, Stop> {
+        let slots = Slots::filled(alloc, zero, size)?;
+        match Shared::make(self, alloc, by.maker, ClassId::Array(array), slots) {
+            Ok(name) => Ok(name),
+            Err(AllocError) => Err(Stop::Memory),
         }
     }
 

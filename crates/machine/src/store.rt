@@ -1,6 +1,7 @@
 //! What an instruction touches beyond its own frame.
 
-ghost use Rattle.std.specs.Prelude.{◌≡◌, ℕ, true, false, List, IfOk, IfErr};
+ghost use Rattle.std.specs.Prelude.{◌≡◌, ℕ, true, false, List, IfOk, IfErr, replicate};
+ghost use Rattle.built_in.specs.declared.class_id.ClassId.TheVariants.{Array};
 ghost use Rattle.vm_state.specs.declared.text.Line.{Line};
 ghost use Rattle.semantics.specs.Rows.{Row, UseClass, ReadStatic, WriteStatic, AskClass, LookInto, Change};
 ghost use Rattle.semantics.specs.Rows.{Make, UseMonitor, Slots as AllSlots};
@@ -10,7 +11,7 @@ ghost use Rattle.machine.specs.declared.kinds.Actor.{Actor as By};
 ghost use Rattle.machine.specs.declared.kinds.Stop.{Stop as Reason};
 
 use crate::kinds::{Actor, Stop};
-use built_in::class_id::ClassId;
+use built_in::class_id::{ArrayType, ClassId};
 use std::alloc::Global;
 use vm_state::object::Slots;
 use vm_state::value::{Name, Value};
@@ -146,6 +147,23 @@ pub trait Store {
         ensures leads { (p : List Line) → Leads stopped (run by (state self.old p)) (run by (state self.new p))
             (UseMonitor object enter) result }
         ensures refused { IfOk result (λ done. done ≡ false → self.new ≡ self.old) }
+        ensures same { IfErr result (λ stop. Kept state stop self.old self.new) };
+
+    /// Makes an array whose components are so many times this value, and whose monitor is free, and answers its name.
+    /// Where it is stopped nothing changes; where memory stops it, nothing that definitions see.
+    ///
+    /// # Errors
+    /// The store's reason, before memory is asked for; `Memory` where memory is refused.
+    fn make_array(
+        &mut self,
+        alloc: Global,
+        by: Actor,
+        array: ArrayType,
+        zero: Value,
+        size: usize,
+    ) -> Result<Name, Stop>
+        ensures leads { (p : List Line) → Leads stopped (run by (state self.old p)) (run by (state self.new p))
+            (Make (Array array) (replicate size zero)) result }
         ensures same { IfErr result (λ stop. Kept state stop self.old self.new) };
 
     /// Makes an object, whose monitor is free, and answers its name. Where it is stopped nothing changes; where memory

@@ -5,3 +5,4 @@ pub mod SortedNamesLemmas
 pub mod CoveringLemmas
 pub mod MatchedLemmas
 pub mod BothLemmas
+pub mod UnmetLemmas

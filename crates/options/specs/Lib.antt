@@ -3,3 +3,4 @@ pub mod Patterns
 pub mod Classes
 pub mod Faults
 pub mod steps
+pub mod Demands

@@ -3,3 +3,4 @@ pub mod Marks
 pub mod Names
 pub mod Covering
 pub mod Both
+pub mod Unmet

@@ -6,6 +6,7 @@ ghost use Rattle.options.specs.declared.fault.OptionFault.TheVariants.{Memory};
 use classfile::ClassName;
 use std::alloc::{AllocError, AllocFailed};
 use thiserror::Error;
+use wave_scheduler::outcome::Outcome;
 
 /// What is wrong with the options. Names of classes are printed with slashes.
 #[derive(Debug, Drop, Error)]
@@ -21,6 +22,9 @@ pub enum OptionFault {
     /// This class is forced to run time and demanded at build time.
     #[error("Both {0}")]
     Both(ClassName),
+    /// This class is demanded at build time, and this became of it.
+    #[error("Demanded {0}")]
+    Demanded(ClassName, Outcome),
 }
 
 impl From<AllocError> for OptionFault {

@@ -5,6 +5,7 @@
 #![tactic(auto)]
 
 mod chains;
+mod checking;
 mod covering;
 mod demanded;
 mod demanding;
@@ -15,6 +16,7 @@ mod matching;
 mod patterns;
 mod sorted_names;
 
+pub use checking::check;
 pub use demanded::Demand;
 pub use demanding::demand;
 pub use fault::OptionFault;

@@ -10,6 +10,7 @@ pub mod AheadLemmas
 pub mod SlotsLemmas
 pub mod FieldSlotsLemmas
 pub mod ZeroSlotsLemmas
+pub mod FieldKindsLemmas
 pub mod KeptLemmas
 pub mod SlotLawsLemmas
 pub mod CountsLemmas

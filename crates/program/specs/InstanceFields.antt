@@ -14,7 +14,7 @@ use Rattle.loading.specs.Names.{text_at, is_interface}
 use Rattle.hierarchy.specs.Initialization.{given_superclasses}
 use Rattle.program.specs.declared.runtime_constant.FieldKind.{FieldKind}
 use Rattle.program.specs.declared.runtime_constant.FieldKind.TheVariants as kinds
-use Rattle.program.specs.Fields.{field_kind, has_value}
+use Rattle.program.specs.Fields.{field_kind, has_value, statics_of}
 
 -- whether a class has instances: it is neither an interface nor abstract (JVMS 4.1)
 abbrev pub has_instances : ClassFile → Bool
@@ -72,3 +72,13 @@ slot_in before (Some f) k = slot_after before f k (slice_get f.fields k)
 -- has no value it says nothing
 abbrev pub slot_of : Family → ℕ → ℕ → ℕ
 slot_of family c k = slot_in (length (slots_before family c)) (file_in family c) k
+
+-- ---- static fields
+
+abbrev pub static_kinds_if : Option ClassFile → List FieldKind
+static_kinds_if None = []
+static_kinds_if (Some f) = map (kind_of f) (statics_of f)
+
+-- the kinds of the static fields of a class, in the file's order; those of type float and double are left out
+abbrev pub static_kinds : Family → ℕ → List FieldKind
+static_kinds family c = static_kinds_if (file_in family c)

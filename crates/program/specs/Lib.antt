@@ -8,6 +8,7 @@ pub mod steps
 pub mod Fields
 pub mod InstanceFields
 pub mod FieldTargets
+pub mod Holders
 pub mod Signatures
 pub mod Handlers
 pub mod Strings

@@ -8,6 +8,7 @@ mod assembly;
 mod called_methods;
 pub mod class;
 mod equal_entries;
+mod field_kinds;
 mod field_slots;
 pub mod handler;
 mod instance_fields;

@@ -9,6 +9,10 @@ ghost use Rattle.hierarchy.specs.Resolution.{Selects};
 ghost use Rattle.hierarchy.specs.Selectable.{IsSelectable, IsAmong, IsNamedLike};
 ghost use Rattle.hierarchy.specs.Selection.{selected, special, special_start};
 ghost use Rattle.hierarchy.specs.Subtypes.{is_below};
+ghost use Rattle.hierarchy.specs.Initialization.{given_superclasses};
+ghost use Rattle.std.specs.Prelude.{◌==◌};
+ghost use Rattle.std.specs.List.{list_any};
+ghost use Rattle.program.specs.Holders.{has_fields_of};
 ghost use Rattle.program.specs.steps.PoolFields.{found_field, pool_field, pool_method};
 
 use crate::linked_program::Program;
@@ -58,6 +62,22 @@ impl Program {
         ensures { result ≡ is_below self.now.family class other }
     {
         self.hierarchy.is_below(class, other)
+    }
+
+    /// Whether the second of two given classes is a superclass of the first.
+    fn is_superclass(&self, class: u32, other: u32) -> bool
+        ensures { result ≡ list_any (λ d. d == other) (given_superclasses self.now.family class) }
+    {
+        let _classes = self.family().classes();
+        self.supers(class).any(|above| above == other)
+    }
+
+    /// Whether objects of the first class have the instance fields of the second: it is that class, or one of its
+    /// superclasses (JVMS 6.5, getfield and putfield).
+    pub fn has_fields_of(&self, class: u32, other: u32) -> bool
+        ensures { result ≡ has_fields_of self.now.family class other }
+    {
+        class == other || self.is_superclass(class, other)
     }
 
     /// The method that a call of a resolved method runs on an object of a class, if there is one. A private one is

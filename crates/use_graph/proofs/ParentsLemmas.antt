@@ -48,7 +48,7 @@ module _ (family : Family) where
         ]
       ]
 
-  order_above : {c : ℕ} {order : List ℕ} → IsInitializationOrder family c order → (p : ℕ) → Contains order p
+  pub order_above : {c : ℕ} {order : List ℕ} → IsInitializationOrder family c order → (p : ℕ) → Contains order p
       → IsAncestor family c p
   order_above (interface is) p at = absurd (Contains-nil p at)
   order_above {c = c} (class {all = all} is first) p at =

@@ -25,7 +25,7 @@ use Rattle.hierarchy.specs.Subtypes.{is_below}
 use Rattle.program.specs.Tables.{Tables}
 use Rattle.frame_instructions.specs.declared.trap.Trap.{Trap}
 use Rattle.frame_instructions.specs.declared.trap.Trap.TheVariants as traps
-use Rattle.frame_instructions.specs.declared.operand_kind.OperandKind.TheVariants.{Reference}
+use Rattle.frame_instructions.specs.declared.operand_kind.OperandKind.TheVariants.{Int, Reference}
 use Rattle.frame_instructions.specs.Instructions.{is_null}
 use Rattle.frame_instructions.specs.OperandKinds.{top_as}
 use Rattle.machine.specs.declared.array_operation.ArrayOperation.{ArrayOperation}
@@ -35,7 +35,8 @@ use Rattle.machine.specs.StoredKinds.{top_stored, extra_places}
 use Rattle.machine.specs.RowParts.{halts, needing, goes_on, push, raises}
 use Rattle.machine.specs.ObjectParts.{slot_in, look_into_slot, look_into_named, on_name, class_of_nameless}
 use Rattle.machine.specs.ObjectParts.{ask_class_of, without_object, on_object}
-use Rattle.machine.specs.Objects.{new_object, is_of, check_cast, instance_of, cast_row, throw_of, throw_row, on_holder}
+use Rattle.machine.specs.Objects.{new_object, is_of, check_cast, instance_of, cast_row, throw_of, throw_row}
+use Rattle.machine.specs.Objects.{is_holder, on_holder}
 use Rattle.machine.specs.Objects.{int_of_boolean, get_field, put_field}
 use Rattle.machine.specs.Monitors.{without_monitor, use_monitor, entered, left}
 use Rattle.machine.specs.Members.{on_enum, new_enum, replaced, or_slot, enum_part, copy_of, clone_if_array}
@@ -126,10 +127,10 @@ module _ (P : Tables) (scope : Scope) where
   holder_in : (field : InstanceField) (v : Value) (go : Name → Row) → ((x : Name) → Suits (go x))
       → Suits (on_holder P field v go)
   holder_in field v go on = on_object_in v (λ x. AskClass x (λ o. if_holds x o)) (λ x o.
-      either (is_of P (Given field.class) o) (go x) (halts faults.Fault) (on x) tt)
+      either (is_holder P field.class o) (go x) (halts faults.Fault) (on x) tt)
     where
       if_holds : Name → Option ClassId → Row
-      if_holds x o = cond (is_of P (Given field.class) o) (go x) (halts faults.Fault)
+      if_holds x o = cond (is_holder P field.class o) (go x) (halts faults.Fault)
 
   pub get_in : (field : InstanceField) (f : Frame) → Suits (get_field P field f)
   get_in field f =
@@ -192,7 +193,8 @@ module _ (P : Tables) (scope : Scope) where
 
     new_enum_in : (v : Value) → Suits (new_enum P v f)
     new_enum_in v =
-        need (top f.operands) _ (λ ordinal. need (top (rest f.operands)) _ (λ name. on_enum_in v _ (λ x. tt)))
+        need (top_as Int f.operands) _ (λ ordinal.
+        need (top_as Reference (rest f.operands)) _ (λ name. on_enum_in v _ (λ x. tt)))
 
     or_slot_in : (x : Name) (slot : ℕ) (o : Option Value) → Suits (or_slot x slot f o)
     or_slot_in x slot None = λ vs. need (slot_in vs slot) _ replaced_in

@@ -5,8 +5,9 @@ use Rattle.std.proofs.Common.{get_or-set_same, get_or-set_other}
 use Rattle.std.proofs.lemmas.List.{get_or_past, get_or_default, get_or-replicate, get_or_append_left}
 use Rattle.std.proofs.lemmas.List.{get_or-append_right}
 use Rattle.std.proofs.lemmas.Grind.{common_steps}
-use Rattle.std.proofs.Common.{Some, ap, slice_get}
-use Rattle.std.proofs.lemmas.Option.{slice_get-get_or}
+use Rattle.std.proofs.Common.{Some, ap, slice_get, reverse, map, option_map}
+use Rattle.std.proofs.lemmas.List.{reverse-reverse}
+use Rattle.std.proofs.lemmas.Option.{slice_get-get_or, slice_get-map}
 
 pub tested : (b : Bool) → (b ≡ true) ⊎ (b ≡ false)
 tested true = inl refl
@@ -31,3 +32,17 @@ get_or-filled xs n j d =
 -- what stands at a place of a list, with any value past the end
 pub item_at : {X : Type 0} (xs : List X) (i : ℕ) (x : X) → i < length xs → x ≡ get_or xs i x → slice_get xs i ≡ Some x
 item_at xs i x inside is = slice_get-get_or xs i x inside ∙ ap Some (sym is)
+
+pub reverse_same : {X : Type 0} (xs ys : List X) → reverse xs ≡ reverse ys → xs ≡ ys
+reverse_same xs ys h = sym (reverse-reverse xs) ∙ (ap reverse h ∙ reverse-reverse ys)
+
+-- lists whose images are apart at a place are apart
+pub apart_at : {X Y : Type 0} (f : X → Y) (xs ys : List X) (i : ℕ) (d e : X) → i < length xs → i < length ys
+    → f (get_or xs i d) ≢ f (get_or ys i e) → map f xs ≢ map f ys
+apart_at f xs ys i d e inside within apart same =
+    let a : slice_get (map f xs) i ≡ Some (f (get_or xs i d)) =
+    slice_get-map f xs i ∙ ap (option_map f) (slice_get-get_or xs i d inside) in
+    let b : slice_get (map f ys) i ≡ Some (f (get_or ys i e)) =
+    slice_get-map f ys i ∙ ap (option_map f) (slice_get-get_or ys i e within) in
+    let h : Some (f (get_or xs i d)) ≡ Some (f (get_or ys i e)) = sym a ∙ (ap (λ zs. slice_get zs i) same ∙ b) in
+    apart cc

@@ -31,7 +31,7 @@ object_in-more (x ∷ xs) n o k =
 abbrev pool : ℕ → (ℕ → Option Object) → Pool
 pool count at = record { count = count; at = at }
 
-pool_by-next : (r : ObjectRow) (class : ClassId) (slots : List Value) →
+pub pool_by-next : (r : ObjectRow) (class : ClassId) (slots : List Value) →
     pool_by (with_next r (record { class = class; slots = slots; monitor = Free })) ≡ with_new (pool_by r) class slots
 pool_by-next r class slots =
     let new : Object = record { class = class; slots = slots; monitor = Free } in

@@ -1,6 +1,6 @@
 //! Frames (JVMS 2.6), and lists of them.
 
-ghost use Rattle.std.specs.Prelude.{◌≡◌, ◌∷◌, [], IfOk, IfErr, OnOk, OnErr, None};
+ghost use Rattle.std.specs.Prelude.{◌≡◌, ◌∷◌, [], IfOk, IfErr, OnOk, OnErr, None, ◌≢◌, true, false};
 ghost use Rattle.vm_state.specs.Segments.{frames_in, first_frame, callers_of};
 ghost use Rattle.vm_state.specs.Operands.{dropped};
 
@@ -29,6 +29,84 @@ pub struct Frame {
     pub operands: Operands,
 }
 
+/// Whether two frames are for the same.
+fn same_activity(left: Activity, right: Activity) -> bool
+    ensures yes { result ≡ true → left ≡ right }
+    ensures no { result ≡ false → left ≢ right }
+{
+    match (left, right) {
+        (Activity::Start(left), Activity::Start(right)) => left == right,
+        (
+            Activity::Method { class, index },
+            Activity::Method {
+                class: other_class,
+                index: other_index,
+            },
+        ) => class == other_class && index == other_index,
+        (Activity::Start(_), Activity::Method { .. }) => false,
+        (Activity::Method { .. }, Activity::Start(_)) => false,
+    }
+}
+
+impl Frame {
+    /// Whether these are the same.
+    pub fn is_same(&self, other: &Frame) -> bool
+        ensures yes { result ≡ true → self.now ≡ other.now }
+        ensures no { result ≡ false → self.now ≢ other.now }
+    {
+        self.place == other.place
+            && same_activity(self.activity, other.activity)
+            && self.locals.is_same(&other.locals)
+            && self.operands.is_same(&other.operands)
+    }
+
+    /// The same once more.
+    ///
+    /// # Errors
+    /// `AllocError` where memory is refused.
+    pub fn copy(&self, alloc: Global) -> Result<Frame, AllocError>
+        ensures { IfOk result (λ f. f ≡ self.now) }
+    {
+        let locals = self.locals.copy(alloc)?;
+        match self.operands.copy(alloc) {
+            Ok(operands) => Ok(Frame {
+                activity: self.activity,
+                place: self.place,
+                locals,
+                operands,
+            }),
+            Err(error) => Err(error),
+        }
+    }
+}
+
+/// Whether frames are the same.
+fn same_frames(left: &Vec<Frame>, right: &Vec<Frame>) -> bool
+    ensures yes { result ≡ true → left.now.items ≡ right.now.items }
+    ensures no { result ≡ false → left.now.items ≢ right.now.items }
+{
+    if left.len() != right.len() {
+        return false;
+    }
+    for place in 0..left.len() {
+        if !left[place].is_same(&right[place]) {
+            return false;
+        }
+    }
+    true
+}
+
+/// Copies of some frames, put where there are none.
+fn copy_frames(alloc: Global, frames: &[Frame], copies: &mut Vec<Frame>) -> Result<(), AllocError>
+    requires { copies.old.items ≡ [] }
+    ensures { OnOk result (copies.new.items ≡ frames.now) }
+{
+    for frame in frames {
+        copies.push(frame.copy(alloc)?)?;
+    }
+    Ok(())
+}
+
 /// Some frames of one thread, the innermost first.
 #[derive(Drop)]
 pub struct FrameList {
@@ -45,6 +123,28 @@ impl Model for FrameList {
 }
 
 impl FrameList {
+    /// Whether these are the same.
+    pub fn is_same(&self, other: &FrameList) -> bool
+        ensures yes { result ≡ true → self.now ≡ other.now }
+        ensures no { result ≡ false → self.now ≢ other.now }
+    {
+        same_frames(&self.frames, &other.frames)
+    }
+
+    /// The same once more.
+    ///
+    /// # Errors
+    /// `AllocError` where memory is refused.
+    pub fn copy(&self, alloc: Global) -> Result<FrameList, AllocError>
+        ensures { IfOk result (λ l. l ≡ self.now) }
+    {
+        let mut frames = Vec::new(alloc);
+        match copy_frames(alloc, self.frames.as_slice(), &mut frames) {
+            Ok(()) => Ok(FrameList { frames }),
+            Err(error) => Err(error),
+        }
+    }
+
     /// No frames.
     pub fn none(alloc: Global) -> FrameList
         ensures { result ≡ [] }
@@ -125,6 +225,28 @@ pub struct Segment {
 }
 
 impl Segment {
+    /// Whether these are the same.
+    pub fn is_same(&self, other: &Segment) -> bool
+        ensures yes { result ≡ true → self.now ≡ other.now }
+        ensures no { result ≡ false → self.now ≢ other.now }
+    {
+        self.innermost.is_same(&other.innermost) && self.callers.is_same(&other.callers)
+    }
+
+    /// The same once more.
+    ///
+    /// # Errors
+    /// `AllocError` where memory is refused.
+    pub fn copy(&self, alloc: Global) -> Result<Segment, AllocError>
+        ensures { IfOk result (λ s. s ≡ self.now) }
+    {
+        let callers = self.callers.copy(alloc)?;
+        match self.innermost.copy(alloc) {
+            Ok(innermost) => Ok(Segment { innermost, callers }),
+            Err(error) => Err(error),
+        }
+    }
+
     /// All of them; where memory is refused, they as they are.
     fn into_frames(self) -> Result<FrameList, Segment>
         ensures ok { IfOk result (λ r. r ≡ self.innermost ∷ self.callers) }

@@ -55,7 +55,7 @@ fn place_of(objects: &[(u64, Object)], number: u64) -> usize
 
 impl Row {
     /// The row of a maker that made nothing.
-    fn new(alloc: Global) -> Row
+    pub fn new(alloc: Global) -> Row
         ensures { result ≡ empty_row }
     {
         Row {
@@ -96,7 +96,7 @@ impl Row {
 
     /// Puts a value into a slot of the object of a number. Where it is not held, or has no such slot, nothing changes.
     #[inline(always)]
-    fn set_slot(&mut self, number: u64, slot: usize, value: Value)
+    pub fn set_slot(&mut self, number: u64, slot: usize, value: Value)
         ensures { pool_by self.new ≡ with_slot (pool_by self.old) number slot value }
     {
         if let Some(place) = self.place(number) {
@@ -127,6 +127,23 @@ impl Row {
         };
         self.objects.push((number, object))?;
         self.count = count;
+        Ok(number)
+    }
+
+    /// One more object, whose monitor is free, and its number.
+    ///
+    /// # Errors
+    /// `AllocError` where memory is refused; nothing has changed then.
+    pub fn make(&mut self, class: ClassId, slots: Slots) -> Result<u64, AllocError>
+        ensures number { IfOk result (λ n. n ≡ (pool_by self.old).count) }
+        ensures ok { OnOk result (pool_by self.new ≡ with_new (pool_by self.old) class slots) }
+        ensures err { OnErr result (self.new ≡ self.old) }
+    {
+        let number = self.add(Object {
+            class,
+            slots,
+            monitor: Monitor::Free,
+        })?;
         Ok(number)
     }
 }

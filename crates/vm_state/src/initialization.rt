@@ -1,6 +1,6 @@
 //! Initializations of classes in progress (JVMS 5.5), and the whole stack of a thread.
 
-ghost use Rattle.std.specs.Prelude.{◌≡◌, ◌∷◌, [], IfOk, OnOk, OnErr, None, IsSome, option_copied};
+ghost use Rattle.std.specs.Prelude.{◌≡◌, ◌∷◌, [], IfOk, OnOk, OnErr, None, IsSome, option_copied, ◌≢◌, true, false};
 ghost use Rattle.vm_state.specs.Segments.{frames_in, first_frame, callers_of};
 ghost use Rattle.vm_state.specs.Stacks.{first_of, others_of, first_level, levels_in, segment_of, levels_of};
 ghost use Rattle.vm_state.specs.Stacks.{parent_taken};
@@ -26,7 +26,55 @@ impl Model for Parents {
     ghost view = { λ s. reverse s.reversed.items };
 }
 
+/// Whether classes are the same.
+fn same_classes(left: &Vec<u32>, right: &Vec<u32>) -> bool
+    ensures yes { result ≡ true → left.now.items ≡ right.now.items }
+    ensures no { result ≡ false → left.now.items ≢ right.now.items }
+{
+    if left.len() != right.len() {
+        return false;
+    }
+    for place in 0..left.len() {
+        if left[place] != right[place] {
+            return false;
+        }
+    }
+    true
+}
+
+/// Whether these are the same, or there is none.
+fn same_pending(left: Option<Name>, right: Option<Name>) -> bool
+    ensures yes { result ≡ true → left ≡ right }
+    ensures no { result ≡ false → left ≢ right }
+{
+    match (left, right) {
+        (Some(left), Some(right)) => left.is_same(right),
+        (Some(_), None) => false,
+        (None, Some(_)) => false,
+        (None, None) => true,
+    }
+}
+
 impl Parents {
+    /// Whether these are the same.
+    pub fn is_same(&self, other: &Parents) -> bool
+        ensures yes { result ≡ true → self.now ≡ other.now }
+        ensures no { result ≡ false → self.now ≢ other.now }
+    {
+        same_classes(&self.reversed, &other.reversed)
+    }
+
+    /// The same once more.
+    ///
+    /// # Errors
+    /// `AllocError` where memory is refused.
+    pub fn copy(&self, alloc: Global) -> Result<Parents, AllocError>
+        ensures { IfOk result (λ p. p ≡ self.now) }
+    {
+        let reversed = Vec::from_slice(alloc, self.reversed.as_slice())?;
+        Ok(Parents { reversed })
+    }
+
     /// These classes, in this order.
     ///
     /// # Errors
@@ -73,6 +121,78 @@ pub struct Level {
     pub under: FrameList,
 }
 
+impl Initialization {
+    /// Whether these are the same.
+    pub fn is_same(&self, other: &Initialization) -> bool
+        ensures yes { result ≡ true → self.now ≡ other.now }
+        ensures no { result ≡ false → self.now ≢ other.now }
+    {
+        self.class == other.class
+            && self.begun == other.begun
+            && same_pending(self.pending, other.pending)
+            && self.left.is_same(&other.left)
+    }
+}
+
+impl Level {
+    /// Whether these are the same.
+    pub fn is_same(&self, other: &Level) -> bool
+        ensures yes { result ≡ true → self.now ≡ other.now }
+        ensures no { result ≡ false → self.now ≢ other.now }
+    {
+        self.initialization.is_same(&other.initialization) && self.under.is_same(&other.under)
+    }
+
+    /// The same once more.
+    ///
+    /// # Errors
+    /// `AllocError` where memory is refused.
+    pub fn copy(&self, alloc: Global) -> Result<Level, AllocError>
+        ensures { IfOk result (λ l. l ≡ self.now) }
+    {
+        let under = self.under.copy(alloc)?;
+        match self.initialization.left.copy(alloc) {
+            Ok(left) => Ok(Level {
+                initialization: Initialization {
+                    class: self.initialization.class,
+                    left,
+                    begun: self.initialization.begun,
+                    pending: self.initialization.pending,
+                },
+                under,
+            }),
+            Err(error) => Err(error),
+        }
+    }
+}
+
+/// Whether levels are the same.
+fn same_levels(left: &Vec<Level>, right: &Vec<Level>) -> bool
+    ensures yes { result ≡ true → left.now.items ≡ right.now.items }
+    ensures no { result ≡ false → left.now.items ≢ right.now.items }
+{
+    if left.len() != right.len() {
+        return false;
+    }
+    for place in 0..left.len() {
+        if !left[place].is_same(&right[place]) {
+            return false;
+        }
+    }
+    true
+}
+
+/// Copies of some levels, put where there are none.
+fn copy_levels(alloc: Global, levels: &[Level], copies: &mut Vec<Level>) -> Result<(), AllocError>
+    requires { copies.old.items ≡ [] }
+    ensures { OnOk result (copies.new.items ≡ levels.now) }
+{
+    for level in levels {
+        copies.push(level.copy(alloc)?)?;
+    }
+    Ok(())
+}
+
 /// Some initializations in progress by one thread, the innermost first.
 #[derive(Drop)]
 pub struct LevelList {
@@ -89,6 +209,28 @@ impl Model for LevelList {
 }
 
 impl LevelList {
+    /// Whether these are the same.
+    pub fn is_same(&self, other: &LevelList) -> bool
+        ensures yes { result ≡ true → self.now ≡ other.now }
+        ensures no { result ≡ false → self.now ≢ other.now }
+    {
+        same_levels(&self.levels, &other.levels)
+    }
+
+    /// The same once more.
+    ///
+    /// # Errors
+    /// `AllocError` where memory is refused.
+    pub fn copy(&self, alloc: Global) -> Result<LevelList, AllocError>
+        ensures { IfOk result (λ l. l ≡ self.now) }
+    {
+        let mut levels = Vec::new(alloc);
+        match copy_levels(alloc, self.levels.as_slice(), &mut levels) {
+            Ok(()) => Ok(LevelList { levels }),
+            Err(error) => Err(error),
+        }
+    }
+
     /// None.
     pub fn none(alloc: Global) -> LevelList
         ensures { result ≡ [] }
@@ -122,6 +264,28 @@ pub struct Levels {
 }
 
 impl Levels {
+    /// Whether these are the same.
+    pub fn is_same(&self, other: &Levels) -> bool
+        ensures yes { result ≡ true → self.now ≡ other.now }
+        ensures no { result ≡ false → self.now ≢ other.now }
+    {
+        self.highest.is_same(&other.highest) && self.outer.is_same(&other.outer)
+    }
+
+    /// The same once more.
+    ///
+    /// # Errors
+    /// `AllocError` where memory is refused.
+    pub fn copy(&self, alloc: Global) -> Result<Levels, AllocError>
+        ensures { IfOk result (λ l. l ≡ self.now) }
+    {
+        let outer = self.outer.copy(alloc)?;
+        match self.highest.copy(alloc) {
+            Ok(highest) => Ok(Levels { highest, outer }),
+            Err(error) => Err(error),
+        }
+    }
+
     /// Puts an initialization on all frames above the highest one. Where memory is refused nothing changes.
     fn cover(
         &mut self,
@@ -159,7 +323,87 @@ pub struct Frames {
     pub levels: Option<Levels>,
 }
 
+/// Whether these are the same, or there is none.
+fn same_segment(left: &Option<Segment>, right: &Option<Segment>) -> bool
+    ensures yes { result ≡ true → left.now ≡ right.now }
+    ensures no { result ≡ false → left.now ≢ right.now }
+{
+    match (left, right) {
+        (Some(left), Some(right)) => left.is_same(right),
+        (Some(_), None) => false,
+        (None, Some(_)) => false,
+        (None, None) => true,
+    }
+}
+
+/// Whether these are the same, or there is none.
+fn same_levels_in(left: &Option<Levels>, right: &Option<Levels>) -> bool
+    ensures yes { result ≡ true → left.now ≡ right.now }
+    ensures no { result ≡ false → left.now ≢ right.now }
+{
+    match (left, right) {
+        (Some(left), Some(right)) => left.is_same(right),
+        (Some(_), None) => false,
+        (None, Some(_)) => false,
+        (None, None) => true,
+    }
+}
+
+/// The same frames once more, if there are some.
+fn copy_segment(alloc: Global, segment: &Option<Segment>) -> Result<Option<Segment>, AllocError>
+    ensures { IfOk result (λ s. s ≡ segment.now) }
+{
+    match segment {
+        Some(segment) => match segment.copy(alloc) {
+            Ok(segment) => Ok(Some(segment)),
+            Err(error) => Err(error),
+        },
+        None => Ok(None),
+    }
+}
+
+/// The same initializations once more, if there are some.
+fn copy_levels_in(alloc: Global, levels: &Option<Levels>) -> Result<Option<Levels>, AllocError>
+    ensures { IfOk result (λ l. l ≡ levels.now) }
+{
+    match levels {
+        Some(levels) => match levels.copy(alloc) {
+            Ok(levels) => Ok(Some(levels)),
+            Err(error) => Err(error),
+        },
+        None => Ok(None),
+    }
+}
+
 impl Frames {
+    /// Whether these are the same.
+    pub fn is_same(&self, other: &Frames) -> bool
+        ensures yes { result ≡ true → self.now ≡ other.now }
+        ensures no { result ≡ false → self.now ≢ other.now }
+    {
+        self.thread == other.thread
+            && same_segment(&self.segment, &other.segment)
+            && same_levels_in(&self.levels, &other.levels)
+    }
+
+    /// The same once more.
+    ///
+    /// # Errors
+    /// `AllocError` where memory is refused.
+    pub fn copy(&self, alloc: Global) -> Result<Frames, AllocError>
+        ensures { IfOk result (λ f. f ≡ self.now) }
+    {
+        let levels = copy_levels_in(alloc, &self.levels)?;
+        match copy_segment(alloc, &self.segment) {
+            Ok(segment) => Ok(Frames {
+                thread: self.thread,
+                segment,
+                levels,
+            }),
+            Err(error) => Err(error),
+        }
+    }
+
     /// The innermost frame above the highest initialization.
     pub fn innermost(&self) -> Option<&Frame>
         ensures { option_copied result ≡ first_frame (segment_of self.now) }

@@ -1,7 +1,7 @@
 //! The local variables of a frame (JVMS 2.6.1).
 
 ghost use Rattle.std.specs.Prelude.{◌≡◌, ◌+◌, ◌^◌, ◌<◌, ◌≤◌, IfOk, OnErr, OnOk, Some, None, length, option_map};
-ghost use Rattle.std.specs.Prelude.{[], replicate, slice_get, slice_set};
+ghost use Rattle.std.specs.Prelude.{◌≢◌, [], map, replicate, slice_get, slice_set, true, false};
 ghost use Rattle.vm_state.specs.declared.value.Value.{Value};
 ghost use Rattle.vm_state.specs.Locals.{int_at, long_at, stored, value_at};
 ghost use Rattle.vm_state.specs.Variables.{value_in};
@@ -61,6 +61,35 @@ impl Variable {
     }
 }
 
+/// Whether these are the same, or there is none.
+fn same_value(left: Option<Value>, right: Option<Value>) -> bool
+    ensures yes { result ≡ true → left ≡ right }
+    ensures no { result ≡ false → left ≢ right }
+{
+    match (left, right) {
+        (Some(left), Some(right)) => left == right,
+        (Some(_), None) => false,
+        (None, Some(_)) => false,
+        (None, None) => true,
+    }
+}
+
+/// Whether places are the same.
+fn same_variables(left: &[Variable], right: &[Variable]) -> bool
+    ensures yes { result ≡ true → map value_in left.now ≡ map value_in right.now }
+    ensures no { result ≡ false → map value_in left.now ≢ map value_in right.now }
+{
+    if left.len() != right.len() {
+        return false;
+    }
+    for place in 0..left.len() {
+        if !same_value(left[place].value(), right[place].value()) {
+            return false;
+        }
+    }
+    true
+}
+
 /// The local variables of a frame. The second place of a long holds nothing.
 #[derive(Drop)]
 pub struct Locals {
@@ -87,6 +116,25 @@ impl Locals {
     {
         let variables = vec![in alloc; Variable::Nothing; count as usize]?;
         Ok(Locals { variables })
+    }
+
+    /// The same once more.
+    ///
+    /// # Errors
+    /// `AllocError` where memory is refused.
+    pub fn copy(&self, alloc: Global) -> Result<Locals, AllocError>
+        ensures { IfOk result (λ s. s ≡ self.now) }
+    {
+        let variables = Vec::from_slice(alloc, self.variables.as_slice())?;
+        Ok(Locals { variables })
+    }
+
+    /// Whether these are the same.
+    pub fn is_same(&self, other: &Locals) -> bool
+        ensures yes { result ≡ true → self.now ≡ other.now }
+        ensures no { result ≡ false → self.now ≢ other.now }
+    {
+        same_variables(self.variables.as_slice(), other.variables.as_slice())
     }
 
     /// No places.

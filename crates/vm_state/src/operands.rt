@@ -1,6 +1,6 @@
 //! The operand stack of a frame (JVMS 2.6.2).
 
-ghost use Rattle.std.specs.Prelude.{◌≡◌, ◌+◌, ◌≤◌, ◌<◌, ◌∷◌, [], IfOk, OnErr, OnOk, Some, None, nat_le};
+ghost use Rattle.std.specs.Prelude.{◌≡◌, ◌+◌, ◌≤◌, ◌<◌, ◌∷◌, [], IfOk, OnErr, OnOk, Some, None, nat_le, vec_capacity, ◌≢◌, true, false};
 ghost use Rattle.vm_state.specs.Values.{places};
 ghost use Rattle.vm_state.specs.Operands.{OperandStack, all_places, pushed, top, top_int, top_long};
 ghost use Rattle.vm_state.specs.Operands.{rest, dropped, all_pushed};
@@ -30,6 +30,34 @@ impl Model for Operands {
         (s.free + all_places (reverse s.values.items) ≤ vec_capacity s.values) × (vec_capacity s.values ≤ 65535) };
 }
 
+/// Whether values are the same.
+fn same_values(left: &Vec<Value>, right: &Vec<Value>) -> bool
+    ensures yes { result ≡ true → left.now.items ≡ right.now.items }
+    ensures no { result ≡ false → left.now.items ≢ right.now.items }
+{
+    if left.len() != right.len() {
+        return false;
+    }
+    for place in 0..left.len() {
+        if left[place] != right[place] {
+            return false;
+        }
+    }
+    true
+}
+
+/// The same values, in as much room.
+fn copy_values(alloc: Global, values: &Vec<Value>) -> Result<Vec<Value>, AllocError>
+    ensures items { IfOk result (λ v. v.items ≡ values.now.items) }
+    ensures capacity { IfOk result (λ v. vec_capacity v ≡ vec_capacity values.now) }
+{
+    let mut copies = Vec::with_capacity(alloc, values.capacity())?;
+    for place in 0..values.len() {
+        copies.push_reserved(values[place]);
+    }
+    Ok(copies)
+}
+
 impl Operands {
     /// An empty stack with room for so many places (`max_stack`).
     ///
@@ -43,6 +71,30 @@ impl Operands {
             values,
             free: room as u32,
         })
+    }
+
+    /// The same once more.
+    ///
+    /// # Errors
+    /// `AllocError` where memory is refused.
+    pub fn copy(&self, alloc: Global) -> Result<Operands, AllocError>
+        ensures { IfOk result (λ s. s ≡ self.now) }
+    {
+        match copy_values(alloc, &self.values) {
+            Ok(values) => Ok(Operands {
+                values,
+                free: self.free,
+            }),
+            Err(error) => Err(error),
+        }
+    }
+
+    /// Whether these are the same.
+    pub fn is_same(&self, other: &Operands) -> bool
+        ensures yes { result ≡ true → self.now ≡ other.now }
+        ensures no { result ≡ false → self.now ≢ other.now }
+    {
+        self.free == other.free && same_values(&self.values, &other.values)
     }
 
     /// An empty stack without room.

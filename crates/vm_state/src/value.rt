@@ -1,6 +1,6 @@
 //! Values of local variables, operands, fields and elements (JVMS 2.2 to 2.4).
 
-ghost use Rattle.std.specs.Prelude.{◌≡◌, Some, None, IfOk, OnErr};
+ghost use Rattle.std.specs.Prelude.{◌≡◌, ◌≢◌, Some, None, IfOk, OnErr, true, false};
 ghost use Rattle.vm_state.specs.Values.{places, int_of, long_of, value_of};
 
 /// Who counts an object: the class during whose initialization it was made, or else the thread.
@@ -17,6 +17,29 @@ pub enum Maker {
 pub struct Name {
     pub maker: Maker,
     pub number: u64,
+}
+
+/// Whether two makers are the same.
+fn same_maker(left: Maker, right: Maker) -> bool
+    ensures yes { result ≡ true → left ≡ right }
+    ensures no { result ≡ false → left ≢ right }
+{
+    match (left, right) {
+        (Maker::Class(left), Maker::Class(right)) => left == right,
+        (Maker::Thread(left), Maker::Thread(right)) => left == right,
+        (Maker::Class(_), Maker::Thread(_)) => false,
+        (Maker::Thread(_), Maker::Class(_)) => false,
+    }
+}
+
+impl Name {
+    /// Whether these are the same.
+    pub fn is_same(self, other: Name) -> bool
+        ensures yes { result ≡ true → self ≡ other }
+        ensures no { result ≡ false → self ≢ other }
+    {
+        same_maker(self.maker, other.maker) && self.number == other.number
+    }
 }
 
 /// A value. `boolean`, `byte`, `char` and `short` are ints (JVMS 2.11.1).

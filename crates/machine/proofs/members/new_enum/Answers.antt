@@ -9,7 +9,7 @@ returns-in_default-name_of-clause-gives g c =
     (g.S.Store.run c.args.by (g.S.Store.state c.without_object.new.store p)) _ _ c.args.frame.now
     c.without_object.result
     (ap (g.S.Store.run c.args.by (g.S.Store.state c.args.store.now p))
-    (new_enum_nameless c.args.program.now c.args.receiver c.in-Ok.ordinal c.in-Ok-second.name c.args.frame.now
+    (new_enum_nameless c.args.program.now c.args.receiver c.in-Ok.ordinal c.in-Ok-second_reference.name c.args.frame.now
     c.in-Ok.ensures.ok
-    c.in-Ok-second.ensures.ok (sym c.name_of.ensures ∙ c.in_default-name_of.is)))
+    c.in-Ok-second_reference.ensures.ok (sym c.name_of.ensures ∙ c.in_default-name_of.is)))
     (c.without_object.ensures.gives p c.args.frame.now)

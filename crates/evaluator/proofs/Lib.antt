@@ -1,0 +1,5 @@
+pub mod WithinLemmas
+pub mod TurnsLemmas
+pub mod StoreLemmas
+pub mod MakesLastLemmas
+pub mod SettlesLemmas

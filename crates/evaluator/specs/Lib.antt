@@ -1,0 +1,3 @@
+pub mod Regions
+pub mod Outcomes
+pub mod steps

@@ -1,0 +1,4 @@
+pub mod Within
+pub mod Builds
+pub mod BuildTables
+pub mod Turns

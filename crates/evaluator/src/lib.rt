@@ -1,0 +1,8 @@
+//! A class's class initialization method at build time, alone and within a budget.
+#![tactic(auto)]
+
+mod build;
+pub mod outcome;
+pub mod regions;
+pub mod settling;
+mod turn;

@@ -1,0 +1,150 @@
+//! A class's initializer, from its ConstantValues to its region.
+
+ghost use Rattle.std.specs.Prelude.{◌≡◌, IfOk};
+ghost use Rattle.vm_state.specs.Segments.{frames_of};
+ghost use Rattle.semantics.specs.Alone.{body};
+ghost use Rattle.semantics.specs.Settling.{constant_region};
+ghost use Rattle.machine.specs.Linked.{program_of};
+ghost use Rattle.evaluator.specs.Regions.{region_of, environment_of};
+ghost use Rattle.evaluator.specs.Outcomes.{IsEnding, IsOutcome, IsUnbarred, HoldsMade};
+ghost use Rattle.semantics.specs.Lawful.{IsLawful};
+ghost use Rattle.semantics.specs.MadeNames.{FinalsAreMade};
+ghost use Rattle.evaluator.specs.steps.Turns.{IsEnd};
+
+use crate::build::Build;
+use crate::outcome::{Ending, Halt, Outcome, Refusal};
+use crate::regions::{Region, Regions};
+use crate::turn::{Turn, take_turn};
+use machine::entering::initializer_frame;
+use program::Program;
+use std::alloc::{AllocError, Global};
+use vm_state::classes::Fields;
+use vm_state::frame::{FrameList, Segment};
+use vm_state::heap::Row;
+
+/// A class's region before its initializer runs: each static field is zero, null or its ConstantValue, and no object
+/// was made (JVMS 5.5, step 6).
+fn constant_region(alloc: Global, program: &Program, class: u32) -> Result<Region, AllocError>
+    ensures { IfOk result (λ region. region_of region ≡ constant_region (program_of program.now) class) }
+{
+    let statics = program.statics(class);
+    let mut fields = Fields::zeros(alloc, statics)?;
+    fields.set_constants(statics);
+    Ok(Region {
+        fields,
+        objects: Row::new(alloc),
+    })
+}
+
+/// Runs the frames of an initializer to their end, as long as their cost is within a budget.
+///
+/// # Errors
+/// `AllocError` where memory is refused.
+fn run_frames<'a>(
+    alloc: Global,
+    program: &'a Program,
+    regions: &'a Regions,
+    class: u32,
+    store: &mut Build<'a>,
+    segment: &mut Segment,
+    budget: u64,
+) -> Result<Option<Halt>, AllocError>
+    ensures { IfOk result (λ halt. IsEnd (program_of program.now) (environment_of regions.now) class
+        (frames_of segment.old) (region_of store.old.own) budget halt (region_of store.new.own)) }
+{
+    let mut left = budget;
+    while left > 0 {
+        let most = left - 1;
+        match take_turn(alloc, program, regions, class, store, segment, most)? {
+            Turn::On => left = most.saturating_sub(store.made),
+            Turn::Over => return Ok(None),
+            Turn::Stopped(halt) => return Ok(Some(halt)),
+        }
+    }
+    Ok(Some(Halt::Refused(Refusal::OverBudget)))
+}
+
+/// Runs a class's initializer, if it has one.
+///
+/// # Errors
+/// `AllocError` where memory is refused.
+fn run_initializer<'a>(
+    alloc: Global,
+    program: &'a Program,
+    regions: &'a Regions,
+    class: u32,
+    store: &mut Build<'a>,
+    budget: u64,
+) -> Result<Option<Halt>, AllocError>
+    ensures { IfOk result (λ halt. IsEnd (program_of program.now) (environment_of regions.now) class
+        (body ((program_of program.now).initializer class)) (region_of store.old.own) budget halt
+        (region_of store.new.own)) }
+{
+    match initializer_frame(alloc, program, class)? {
+        Some(innermost) => {
+            let mut segment = Segment {
+                innermost,
+                callers: FrameList::none(alloc),
+            };
+            run_frames(alloc, program, regions, class, store, &mut segment, budget)
+        }
+        None => Ok(None),
+    }
+}
+
+/// Sets a class's ConstantValues and runs its class initialization method alone, with the regions of other classes at
+/// hand. Each instruction costs 1, and 1 more for each element of an array that it makes.
+///
+/// # Errors
+/// `AllocError` where memory is refused.
+pub fn evaluate(
+    alloc: Global,
+    program: &Program,
+    regions: &Regions,
+    class: u32,
+    budget: u64,
+) -> Result<Ending, AllocError>
+    ensures { IfOk result (λ ending. IsEnding (program_of program.now) (environment_of regions.now) class budget
+        ending) }
+{
+    let own = constant_region(alloc, program, class)?;
+    let mut store = Build {
+        program,
+        regions,
+        class,
+        own,
+        most: 0,
+        made: 0,
+    };
+    match run_initializer(alloc, program, regions, class, &mut store, budget) {
+        Ok(None) => Ok(Ending::Settled(store.own)),
+        Ok(Some(halt)) => Ok(Ending::Stopped(halt)),
+        Err(error) => Err(error),
+    }
+}
+
+/// Settles a class at build time whose code bars nothing, with the regions of other classes at hand.
+///
+/// # Errors
+/// `AllocError` where memory is refused.
+pub fn settle(
+    alloc: Global,
+    program: &Program,
+    regions: &Regions,
+    class: u32,
+    budget: u64,
+) -> Result<Outcome, AllocError>
+    requires { IsUnbarred (program_of program.now) (environment_of regions.now) class budget }
+    ensures outcome { IfOk result (λ outcome. IsOutcome (program_of program.now) (environment_of regions.now) class budget
+        outcome) }
+    ensures names { IfOk result (λ outcome. IsLawful (program_of program.now) →
+        FinalsAreMade (program_of program.now) (environment_of regions.now) class →
+        HoldsMade (environment_of regions.now) class outcome) }
+{
+    match evaluate(alloc, program, regions, class, budget) {
+        Ok(Ending::Settled(region)) => Ok(Outcome::Settled(region)),
+        Ok(Ending::Stopped(Halt::Refused(refusal))) => Ok(Outcome::Refused(refusal)),
+        Ok(Ending::Stopped(Halt::Barred)) => unreachable!(),
+        Err(error) => Err(error),
+    }
+}

@@ -1,0 +1,172 @@
+//! One instruction of a class's initializer that runs alone.
+
+ghost use Rattle.std.specs.Prelude.{◌≡◌, ◌-◌, ℕ, suc, ◌∷◌, IfOk, IfErr, OnErr, Ok};
+ghost use Rattle.vm_state.specs.declared.frame.Frame.{Frame as Held};
+ghost use Rattle.vm_state.specs.SharedState.{Region as RegionOf};
+ghost use Rattle.vm_state.specs.Segments.{frames_of};
+ghost use Rattle.semantics.specs.Programs.{Program as Linked};
+ghost use Rattle.semantics.specs.Quiet.{Environment, quiet_step};
+ghost use Rattle.machine.specs.Accesses.{Untouched};
+ghost use Rattle.machine.specs.Linked.{program_of};
+ghost use Rattle.evaluator.specs.Regions.{region_of, environment_of};
+ghost use Rattle.evaluator.specs.Outcomes.{stop_of};
+ghost use Rattle.evaluator.specs.steps.Within.{capped};
+ghost use Rattle.evaluator.specs.steps.Builds.{stopped_build};
+ghost use Rattle.evaluator.specs.steps.Turns.{conduct_of, Performs, IsTurn};
+ghost use Rattle.semantics.specs.Quiet.{Stops};
+ghost use Rattle.machine.specs.declared.kinds.Stop.{Stop as Reason};
+
+use crate::build::Build;
+use crate::outcome::{Halt, Refusal};
+use crate::regions::Regions;
+use machine::effects::receive;
+use machine::execute::execute;
+use machine::kinds::{Actor, Conclusion, Stop};
+use program::Program;
+use std::alloc::{AllocError, Global};
+use vm_state::frame::{Frame, Segment};
+use vm_state::value::{Fault, Maker, Value};
+
+/// What one instruction of an initializer did.
+#[derive(Clone, Copy)]
+pub enum Turn {
+    /// Its frames go on.
+    On,
+    /// The last frame returned.
+    Over,
+    /// Nothing that counts: the initializer is stopped.
+    Stopped(Halt),
+}
+
+/// The next instruction of a frame, which may make so many elements. The store is set up for it first, since what an
+/// instruction promises of a store is what definitions see alone.
+#[tactic(auto, unfolding(machine::specs::Accesses::unless_refused))]
+fn perform<'a>(
+    alloc: Global,
+    program: &'a Program,
+    regions: &'a Regions,
+    class: u32,
+    store: &mut Build<'a>,
+    frame: &mut Frame,
+    most: u64,
+) -> Result<Conclusion, Stop>
+    ensures performs { Performs
+        (capped most (quiet_step (program_of program.now) (environment_of regions.now) class frame.old
+        (region_of store.old.own)))
+        frame.new (region_of store.new.own) store.new.made result }
+    ensures frame { Untouched result frame.old frame.new }
+    ensures activity { frame.new.activity ≡ frame.old.activity }
+{
+    store.program = program;
+    store.regions = regions;
+    store.class = class;
+    store.most = most;
+    store.made = 0;
+    let by = Actor {
+        thread: 0,
+        maker: Maker::Class(class),
+    };
+    execute(alloc, program, by, frame, store)
+}
+
+/// A call: the frame of the method called stands on its caller, which loses so many operands.
+fn call(segment: &mut Segment, callee: Frame, arguments: usize) -> Result<Turn, AllocError>
+    ensures { IfOk result (λ turn. (P : Linked) (env : Environment) (c most : ℕ) (f : Held) (own new : RegionOf)
+        (made : ℕ) → Untouched (Ok (Conclusion.Calls callee arguments)) f segment.old.innermost →
+        capped most (quiet_step P env c f own)
+        ≡ conduct_of (Conclusion.Calls callee arguments) segment.old.innermost new made →
+        IsTurn P env c (f ∷ segment.old.callers) own (suc most) turn (frames_of segment.new) new (most - made)) }
+{
+    segment.innermost.operands.drop_many(arguments);
+    segment.call(callee)?;
+    Ok(Turn::On)
+}
+
+/// A return to the caller, where there is one.
+fn return_from(segment: &mut Segment, value: Option<Value>) -> Turn
+    ensures { (P : Linked) (env : Environment) (c most : ℕ) (f : Held) (own new : RegionOf) (made : ℕ) →
+        capped most (quiet_step P env c f own) ≡ conduct_of (Conclusion.Returns value) segment.old.innermost new made →
+        IsTurn P env c (f ∷ segment.old.callers) own (suc most) result (frames_of segment.new) new (most - made) }
+{
+    let Some(caller) = segment.callers.pop() else {
+        return Turn::Over;
+    };
+    segment.innermost = caller;
+    match receive(&mut segment.innermost, value) {
+        Ok(()) => Turn::On,
+        Err(Fault) => Turn::Stopped(Halt::Refused(Refusal::Faulted)),
+    }
+}
+
+/// What the conclusion of an instruction makes of its frames.
+///
+/// # Errors
+/// `AllocError` where memory is refused to a call.
+fn conclude(segment: &mut Segment, conclusion: Conclusion) -> Result<Turn, AllocError>
+    ensures { IfOk result (λ turn. (P : Linked) (env : Environment) (c most : ℕ) (f : Held) (own new : RegionOf)
+        (made : ℕ) → f.activity ≡ segment.old.innermost.activity →
+        Untouched (Ok conclusion) f segment.old.innermost →
+        capped most (quiet_step P env c f own) ≡ conduct_of conclusion segment.old.innermost new made →
+        IsTurn P env c (f ∷ segment.old.callers) own (suc most) turn (frames_of segment.new) new (most - made)) }
+{
+    match conclusion {
+        Conclusion::Stays => Ok(Turn::On),
+        Conclusion::Becomes(frame) => {
+            segment.innermost = frame;
+            Ok(Turn::On)
+        }
+        Conclusion::Calls { callee, arguments } => call(segment, callee, arguments),
+        Conclusion::Returns(value) => Ok(return_from(segment, value)),
+        Conclusion::Prints { .. } => Ok(Turn::Stopped(Halt::Barred)),
+        Conclusion::Raises(..) => Ok(Turn::Stopped(Halt::Refused(Refusal::Raised))),
+        Conclusion::Halts(_) => Ok(Turn::Stopped(Halt::Refused(Refusal::Faulted))),
+    }
+}
+
+/// What stopped an instruction, as that of the initializer.
+///
+/// # Errors
+/// `AllocError` where it was memory.
+fn halted(stop: Stop) -> Result<Halt, AllocError>
+    ensures ok { IfOk result (λ halt. stopped_build stop ≡ Stops (stop_of halt)) }
+    ensures other { IfOk result (λ halt. stop ≡ Reason.Memory → ⊥) }
+    ensures err { OnErr result (stop ≡ Reason.Memory) }
+{
+    match stop {
+        Stop::ForeignObject => Ok(Halt::Refused(Refusal::ForeignObject)),
+        Stop::OverBudget => Ok(Halt::Refused(Refusal::OverBudget)),
+        Stop::Barred | Stop::Needs(_) | Stop::Waits => Ok(Halt::Barred),
+        Stop::Memory => Err(AllocError),
+    }
+}
+
+/// The next instruction of an initializer, which may make so many elements.
+///
+/// # Errors
+/// `AllocError` where memory is refused.
+pub fn take_turn<'a>(
+    alloc: Global,
+    program: &'a Program,
+    regions: &'a Regions,
+    class: u32,
+    store: &mut Build<'a>,
+    segment: &mut Segment,
+    most: u64,
+) -> Result<Turn, AllocError>
+    ensures { IfOk result (λ turn. IsTurn (program_of program.now) (environment_of regions.now) class
+        (frames_of segment.old) (region_of store.old.own) (suc most) turn (frames_of segment.new)
+        (region_of store.new.own) (most - store.new.made)) }
+{
+    match perform(
+        alloc,
+        program,
+        regions,
+        class,
+        store,
+        &mut segment.innermost,
+        most,
+    ) {
+        Ok(conclusion) => conclude(segment, conclusion),
+        Err(stop) => Ok(Turn::Stopped(halted(stop)?)),
+    }
+}

@@ -1,0 +1,5 @@
+pub mod Elements
+pub mod Texts
+pub mod Names
+pub mod Shapes
+pub mod Images

@@ -1,0 +1,13 @@
+pub mod EachLemmas
+pub mod Lawful
+pub mod RuleLawful
+pub mod EachLawful
+pub mod ValueLawful
+pub mod ClassNameLemmas
+pub mod ElementLawful
+pub mod ObjectLawful
+pub mod RegionLemmas
+pub mod MarkLemmas
+pub mod MarkLawful
+pub mod NamesLemmas
+pub mod AllRegionsLemmas

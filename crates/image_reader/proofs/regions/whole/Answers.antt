@@ -1,0 +1,23 @@
+use Rattle.std.proofs.Common.{List, Option, subst}
+use Rattle.std.specs.List.{All}
+use Rattle.image_format.specs.declared.region.ImageRegion.{ImageRegion}
+use Rattle.image_reader.specs.Nameless.{MarkNames, IsNameless}
+use Rattle.image_reader.proofs.AllRegionsLemmas.{are_regions, left_over, is_nameless}
+use Rattle.image_reader.proofs.regions.whole.Goals as goal
+
+pub returns-then-not-is_done-clause-fault : goal.returns-then-not-is_done-clause-fault
+returns-then-not-is_done-clause-fault c =
+    left_over c.args.program.now.family c.args.bytes.now c.args.rest.now c.args.regions c.requires
+    (λ e. let on = c.is_done.ensures.1 e in let off = c.if-not-is_done.true in cc)
+
+pub returns-in-Some-clause-fault : goal.returns-in-Some-clause-fault
+returns-in-Some-clause-fault c =
+    is_nameless c.args.program.now.family c.args.bytes.now c.args.rest.now c.args.regions c.in-Some.class c.requires
+    (c.is_done.ensures.0 (let on = c.if-not-is_done.false in cc))
+    (subst (λ (z : List (Option ImageRegion)). IsNameless z c.in-Some.class) c.as_slice.ensures c.in-Some.ensures)
+
+pub returns-in-None-clause-text : goal.returns-in-None-clause-text
+returns-in-None-clause-text c =
+    are_regions c.args.program.now.family c.args.bytes.now c.args.rest.now c.args.regions c.requires
+    (c.is_done.ensures.0 (let on = c.if-not-is_done.false in cc))
+    (subst (λ (z : List (Option ImageRegion)). All (MarkNames z) z) c.as_slice.ensures c.in-None.ensures)

@@ -1,0 +1,27 @@
+-- What stands after the class files of an image: the marks and regions of all classes, and nothing more.
+use Rattle.std.specs.Prelude.{◌≡◌, ◌≢◌, ℕ, List, [], ◌++◌, Option}
+use Rattle.std.specs.List.{flat_map}
+use Rattle.loading.specs.Families.{Family}
+use Rattle.image_format.specs.declared.region.ImageRegion.{ImageRegion}
+use Rattle.image_format.specs.Images.{AreRegions}
+use Rattle.image_format.specs.Texts.{mark_text}
+use Rattle.image_reader.specs.declared.fault.MarksFault.TheVariants as marks
+use Rattle.image_reader.specs.declared.fault.RegionsFault.{RegionsFault}
+use Rattle.image_reader.specs.declared.fault.RegionsFault.TheVariants as faults
+use Rattle.image_reader.specs.MarkFaults.{AreMarks, MarksFail}
+use Rattle.image_reader.specs.Nameless.{IsNameless}
+
+-- the bytes are the text of regions of the classes
+pub record RegionsText (family : Family) (bytes : List ℕ) (regions : List (Option ImageRegion)) : Type 0 where
+  pub fits : AreRegions family regions
+  pub spelled : bytes ≡ flat_map (mark_text family) regions
+
+-- What is wrong first: a part, then what is left, then a name. Memory may run out.
+pub data RegionsFail (family : Family) (bytes : List ℕ) : RegionsFault → Type 0 where
+  memory : RegionsFail family bytes faults.Memory
+  truncated : MarksFail family bytes marks.Truncated → RegionsFail family bytes faults.Truncated
+  shape : {c : ℕ} → MarksFail family bytes (marks.Shape c) → RegionsFail family bytes (faults.Shape c)
+  extra : (regions : List (Option ImageRegion)) (text rest : List ℕ) → AreMarks family regions text
+      → bytes ≡ text ++ rest → rest ≢ [] → RegionsFail family bytes faults.Extra
+  name : (regions : List (Option ImageRegion)) {c : ℕ} → AreMarks family regions bytes → IsNameless regions c
+      → RegionsFail family bytes (faults.Name c)

@@ -1,0 +1,21 @@
+-- Regions that name an object that there is not.
+use Rattle.std.specs.Prelude.{◌≡◌, ℕ, ◌<◌, List, length, take, Option, Some, None, slice_get}
+use Rattle.std.specs.List.{All}
+use Rattle.image_format.specs.declared.object.ImageObject.{ImageObject}
+use Rattle.image_format.specs.declared.region.ImageRegion.{ImageRegion}
+use Rattle.image_format.specs.Images.{IsThere, NamesObjects}
+
+abbrev pub SlotsAreThere : List (Option ImageRegion) → ImageObject → Type 0
+SlotsAreThere regions object = All (IsThere regions) object.slots
+
+-- a class that is not initialized names nothing
+abbrev pub MarkNames : List (Option ImageRegion) → Option ImageRegion → Type 0
+MarkNames regions None = Unit {0}
+MarkNames regions (Some region) = NamesObjects regions region
+
+-- the least class whose region names one
+pub record IsNameless (regions : List (Option ImageRegion)) (c : ℕ) : Type 0 where
+  pub mark : Option ImageRegion
+  pub is : slice_get regions c ≡ Some mark
+  pub names : ¬ MarkNames regions mark
+  pub least : All (MarkNames regions) (take c regions)

@@ -1,0 +1,5 @@
+pub mod Results
+pub mod Values
+pub mod ClassNames
+pub mod Objects
+pub mod Marks

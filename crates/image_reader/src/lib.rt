@@ -1,0 +1,20 @@
+//! Reads images.
+#![tactic(auto)]
+
+mod fault;
+mod header;
+mod marks;
+mod names;
+mod numbers;
+mod objects;
+mod region;
+mod regions;
+mod tag;
+mod values;
+
+pub use fault::{MarksFault, RegionFault, RegionsFault};
+pub use header::{HeaderFault, parts_of};
+pub use marks::read_marks;
+pub use names::nameless;
+pub use region::{read_region, region_or_fault};
+pub use regions::read_regions;

@@ -1,0 +1,3 @@
+pub mod AppendsLemmas
+pub mod TextLemmas
+pub mod SizesLemmas

@@ -1,0 +1,7 @@
+use Rattle.std.proofs.Common.{◌≡◌, ◌++◌, take}
+use Rattle.std.specs.List.{flat_map}
+use Rattle.image_format.specs.Texts.{element_text}
+use Rattle.image_writer.proofs.values.push_elements.Given as goal
+
+abbrev pub invariant-loop-value : goal.invariant-loop-value
+invariant-loop-value l = l.out.items ≡ l.fn.out.items ++ flat_map (element_text l.kind) (take l.value-index l.values)

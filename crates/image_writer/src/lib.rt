@@ -1,0 +1,14 @@
+//! Writes images: their text goes out to a sink.
+#![tactic(auto)]
+
+mod numbers;
+mod objects;
+mod sending;
+pub mod sink;
+mod text;
+mod values;
+mod writing;
+
+pub use sending::WriteFault;
+pub use text::image_text;
+pub use writing::write;

@@ -1,0 +1,93 @@
+//! The text of an image.
+
+ghost use Rattle.std.specs.Prelude.{◌≡◌, ◌++◌, ◌<◌, ◌^◌, length, IfOk, OnOk};
+ghost use Rattle.std.specs.List.{flat_map, All};
+ghost use Rattle.sha2.specs.Sha256.{sha256};
+ghost use Rattle.classfile.specs.Spelling.{u2, u4};
+ghost use Rattle.classfile.specs.Text.{class_text};
+ghost use Rattle.image_format.specs.Texts.{given_text, body_text, image_text, file_text};
+ghost use Rattle.image_format.specs.Images.{AreShort};
+ghost use Rattle.image_writer.specs.Sizes.{IsSizedMark};
+
+use crate::numbers::{push_u16, push_u32};
+use crate::objects::push_marks;
+use classfile::ClassFile;
+use image_format::image::Image;
+use image_format::region::ImageRegion;
+use loading::family::Family;
+use loading::given::GivenClass;
+use sha2::{Digest, Sha256};
+use std::alloc::{AllocError, Global};
+
+/// A length, and a class file.
+fn push_file(alloc: Global, out: &mut Vec<u8>, file: &ClassFile) -> Result<(), AllocError>
+    requires { length (class_text file.now) < 2 ^ 32 }
+    ensures { OnOk result (out.new.items ≡ out.old.items ++ file_text file.now) }
+{
+    let bytes = classfile::write(alloc, file)?;
+    push_u32(out, bytes.len() as u32)?;
+    out.extend_from_slice(&bytes)
+}
+
+/// The class files of all classes.
+fn push_files(alloc: Global, out: &mut Vec<u8>, classes: &[GivenClass]) -> Result<(), AllocError>
+    requires { AreShort classes.now }
+    ensures { OnOk result (out.new.items ≡ out.old.items ++ flat_map given_text classes.now) }
+{
+    for given in classes {
+        push_file(alloc, out, &given.file)?;
+    }
+    Ok(())
+}
+
+/// `JPIM`, the version, and the count of classes.
+fn push_header(out: &mut Vec<u8>, count: u32) -> Result<(), AllocError>
+    ensures { OnOk result (out.new.items ≡ out.old.items ++ (u4 1246775629 ++ (u2 1 ++ u4 count))) }
+{
+    push_u32(out, 0x4A50_494D)?;
+    push_u16(out, 1)?;
+    push_u32(out, count)
+}
+
+/// All before the digest.
+fn push_body(
+    alloc: Global,
+    out: &mut Vec<u8>,
+    family: &Family,
+    regions: &[Option<ImageRegion>],
+) -> Result<(), AllocError>
+    requires short { AreShort family.now }
+    requires marks { All (IsSizedMark family.now) regions.now }
+    ensures { OnOk result (out.new.items ≡ out.old.items ++ body_text family.now regions.now) }
+{
+    let classes = family.classes();
+    push_header(out, classes.len() as u32)?;
+    push_files(alloc, out, classes)?;
+    push_marks(alloc, out, family, regions)
+}
+
+/// The digest of what stands before.
+fn push_digest(out: &mut Vec<u8>) -> Result<(), AllocError>
+    ensures { OnOk result (out.new.items ≡ out.old.items ++ sha256 out.old.items) }
+{
+    let mut hasher = Sha256::new();
+    hasher.update(out.as_slice());
+    let digest = hasher.finalize();
+    out.extend_from_slice(&digest)
+}
+
+/// The text of an image whose class files are shorter than 2^32 bytes.
+///
+/// # Errors
+/// Where memory runs out.
+pub fn image_text(alloc: Global, image: &Image) -> Result<Vec<u8>, AllocError>
+    requires { AreShort image.now.program.family }
+    ensures { IfOk result (λ bytes. bytes.items ≡ image_text image.now.program.family image.now.regions) }
+{
+    let family = image.program().family();
+    let regions = image.regions();
+    let mut out = Vec::new(alloc);
+    push_body(alloc, &mut out, family, regions)?;
+    push_digest(&mut out)?;
+    Ok(out)
+}

@@ -1,0 +1,83 @@
+//! The stacks of a world's threads, one by one.
+
+ghost use Rattle.std.specs.Prelude.{◌≡◌, ◌<◌, ℕ, List, true, false, Some, IfOk, length, slice_get};
+ghost use Rattle.vm_state.specs.declared.frame.Frame.{Frame};
+ghost use Rattle.vm_state.specs.declared.initialization.Level.{Level};
+ghost use Rattle.vm_state.specs.declared.classes.ClassState.TheVariants.{Initialized};
+ghost use Rattle.vm_state.specs.declared.text.Line.{Line};
+ghost use Rattle.semantics.specs.Steps.{Going as IsGoingOn};
+ghost use Rattle.machine.specs.Effects.{going};
+ghost use Rattle.init_engine.specs.Stacks.{IsStackOf, AreFrames, with_thread};
+ghost use Rattle.init_engine.specs.Threads.{thread_of, HasNumber};
+ghost use Rattle.init_engine.specs.Turns.{world_of};
+
+use crate::world::{Thread, World};
+use std::alloc::{AllocError, Global};
+use vm_state::classes::ClassState;
+use vm_state::initialization::Frames;
+use vm_state::text::Line;
+
+/// The frames of a thread; none where it has ended.
+fn copy_of(alloc: Global, number: u32, thread: &Thread) -> Result<Frames, AllocError>
+    requires { HasNumber thread.now number }
+    ensures number { IfOk result (λ s. s.thread ≡ number) }
+    ensures stack { IfOk result (λ s. IsStackOf (Some (thread_of thread.now)) s) }
+{
+    match thread {
+        Thread::Going(frames) => frames.copy(alloc),
+        Thread::Ended(_) => Ok(Frames {
+            thread: number,
+            segment: None,
+            levels: None,
+        }),
+    }
+}
+
+/// Whether these are the frames of a thread.
+fn is_copy_of(number: u32, thread: &Thread, frames: &Frames) -> bool
+    requires { HasNumber thread.now number }
+    ensures yes { result ≡ true → (frames.now.thread ≡ number) × IsStackOf (Some (thread_of thread.now)) frames.now }
+    ensures no { result ≡ false → ¬ ((frames.now.thread ≡ number) × IsStackOf (Some (thread_of thread.now)) frames.now) }
+{
+    match thread {
+        Thread::Going(own) => own.is_same(frames),
+        Thread::Ended(_) => {
+            frames.thread == number && frames.segment.is_none() && frames.levels.is_none()
+        }
+    }
+}
+
+impl World {
+    /// The frames of a thread; none where it has ended.
+    ///
+    /// # Errors
+    /// `AllocError` where memory is refused.
+    pub fn frames(&self, alloc: Global, thread: u32) -> Result<Frames, AllocError>
+        requires { thread < length self.now.threads }
+        ensures { IfOk result (λ s. AreFrames (world_of self.now) thread s) }
+    {
+        copy_of(alloc, thread, &self.threads()[thread as usize])
+    }
+
+    /// Whether these are the frames of a thread.
+    pub fn has_frames(&self, thread: u32, frames: &Frames) -> bool
+        requires { thread < length self.now.threads }
+        ensures yes { result ≡ true → AreFrames (world_of self.now) thread frames.now }
+        ensures no { result ≡ false → ¬ AreFrames (world_of self.now) thread frames.now }
+    {
+        is_copy_of(thread, &self.threads()[thread as usize], frames)
+    }
+
+    /// Whether a class is initialized.
+    pub fn is_initialized(&self, class: u32) -> bool
+        ensures yes { result ≡ true → (world_of self.now).shared.states class ≡ Initialized }
+        ensures no { result ≡ false → ¬ ((world_of self.now).shared.states class ≡ Initialized) }
+    {
+        match self.shared().state(class) {
+            ClassState::Initialized => true,
+            ClassState::Uninitialized => false,
+            ClassState::InProgress(_) => false,
+            ClassState::Erroneous => false,
+        }
+    }
+}

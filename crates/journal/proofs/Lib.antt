@@ -1,0 +1,5 @@
+pub mod NumberLemmas
+pub mod LineLemmas
+pub mod RunsLemmas
+pub mod ReadingLemmas
+pub mod UniqueLemmas

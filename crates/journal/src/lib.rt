@@ -1,0 +1,12 @@
+//! Journals: schedules by their runs, and their texts.
+#![tactic(auto)]
+
+mod fault;
+mod journal_text;
+pub mod laws;
+mod line;
+mod number;
+pub mod runs;
+
+pub use fault::JournalFault;
+pub use journal_text::Journal;

@@ -1,0 +1,6 @@
+//! Images: a program, and the regions of classes that are initialized before it runs.
+#![tactic(auto)]
+
+mod image;
+
+pub use image::{Image, gather};

@@ -1,0 +1,77 @@
+-- Classes that are demanded and not accepted.
+use Rattle.std.proofs.Common.{◌≡◌, ℕ, ◌+◌, ◌<◌, ◌≤◌, ◌⊎◌, inl, inr, Bool, true, List, length, map, option_map, IsTrue}
+use Rattle.std.proofs.Common.{Option, Some, None, slice_get, refl, sym, ap, ◌∙◌, subst, get_or, arith}
+use Rattle.std.proofs.lemmas.Bool.{cases_lt}
+use Rattle.std.proofs.lemmas.Option.{slice_get-map, slice_get_read}
+use Rattle.classfile.specs.Units.{units_text}
+use Rattle.loading.specs.declared.given.GivenClass.{GivenClass}
+use Rattle.loading.specs.Names.{name_of}
+use Rattle.loading.specs.Families.{Family, name_in, file_of}
+use Rattle.program.specs.Tables.{Tables}
+use Rattle.program.specs.Programs.{IsProgram, IsClass}
+use Rattle.program.specs.declared.class.Class.{Class}
+use Rattle.std.proofs.lemmas.Slice.Zip.{AllZip-long}
+use Rattle.initializer_analysis.specs.Forced.{has_class}
+use Rattle.wave_scheduler.specs.declared.outcome.Outcome.{Outcome as Told}
+use Rattle.wave_scheduler.specs.declared.outcome.Outcome.TheVariants.{Wave as ToldWave}
+use Rattle.wave_scheduler.specs.declared.outcome.Settled.{Settled as Answer}
+use Rattle.wave_scheduler.specs.Outcomes.{outcome_of, settled_of}
+use Rattle.wave_scheduler.specs.Settled.{Wave}
+use Rattle.wave_scheduler.proofs.FindingLemmas.{accepted_or, refused_or}
+use Rattle.options.specs.Demands.{AreMet, IsOff, IsFirstOff, IsUnmet, unmet}
+use Rattle.options.specs.steps.Unmet.{IsUnmetOf, NoneOffBelow, NamesUnmet, named}
+use Rattle.options.specs.declared.fault.OptionFault.{OptionFault}
+use Rattle.options.specs.declared.fault.OptionFault.TheVariants.{Memory, Demanded}
+
+pub names_unmet : (family classes : Family) (c : ℕ) (o : Told) (given : GivenClass) (name read : List ℕ)
+    → classes ≡ family → c < length classes → given ≡ get_or classes c given → read ≡ name_of given.file
+    → units_text name ≡ read → (Demanded name o ≡ Memory) ⊎ NamesUnmet family c o (Demanded name o)
+names_unmet family classes c o given name read same small is named-is text =
+    let at : slice_get classes c ≡ Some given = slice_get_read classes (length classes) c given refl small is in
+    let here : name_in classes c ≡ Some (units_text name) =
+    ap (λ o. option_map name_of (file_of o)) at ∙ ap Some (sym named-is ∙ sym text) in
+    inr (named (subst (λ (f : Family). name_in f c ≡ Some (units_text name)) same here))
+
+module _ (P : Tables) (demand : List Bool) (s : Answer) where
+  seen_at : (c : ℕ) (o : Told) → slice_get s.outcomes.items c ≡ Some o
+      → slice_get (settled_of s).outcomes c ≡ Some (outcome_of o)
+  seen_at c o at = slice_get-map outcome_of s.outcomes.items c ∙ ap (option_map outcome_of) at
+
+  pub none_off_more : (c : ℕ) (r : Option Told) → r ≡ None → NoneOffBelow demand (settled_of s) c
+      → IsUnmetOf s.outcomes.items demand c r → NoneOffBelow demand (settled_of s) (c + 1)
+  none_off_more c None none before fine d low (held, never) = elim (cases_lt d c) [
+    | inl below ↦ before d below (held, never)
+    | inr past ↦
+        let same : d ≡ c = omega arith in
+        let (n, at) = fine (subst (λ (x : ℕ). IsTrue (has_class demand x)) same held) in
+        never (
+          n,
+          subst (λ (x : ℕ). slice_get (settled_of s).outcomes x ≡ Some (Wave n)) (sym same)
+              (seen_at c (ToldWave n) at),
+        )
+  ]
+  none_off_more c (Some o) none before fine d low both = absurd (let clash : Some o ≡ None = none in cc)
+
+  pub all_met : (limit : ℕ) → limit ≡ length P.classes → NoneOffBelow demand (settled_of s) limit
+      → AreMet P demand (settled_of s)
+  all_met limit end before c low held = elim (accepted_or (settled_of s) c) [
+    | inl accepted ↦ accepted
+    | inr never ↦ absurd (before c (omega arith) (held, never))
+  ]
+
+  pub one_unmet : (c limit : ℕ) (o : Told) (fault : OptionFault) → limit ≡ length P.classes → c < limit
+      → NoneOffBelow demand (settled_of s) c → IsUnmetOf s.outcomes.items demand c (Some o)
+      → (fault ≡ Memory) ⊎ NamesUnmet P.family c o fault
+      → (fault ≡ Memory) ⊎ IsUnmet P demand (settled_of s) fault
+  one_unmet c limit o fault end low before off (inl memory) = inl memory
+  one_unmet c limit o _ end low before (held, at, refused) (inr (named {name} is)) =
+      inr (unmet (record {
+        low = omega arith;
+        here = (held, (refused_or (settled_of s) c (outcome_of o) (seen_at c o at)).0 refused);
+        before = before;
+      }) (seen_at c o at) is)
+
+pub as_many : (P : Tables) → IsProgram P → length P.classes ≡ length P.family
+as_many P is =
+    AllZip-long (λ (given : GivenClass) (class : Class). IsClass P.family P.strings given.file class) P.family P.classes
+    is.classes

@@ -1,0 +1,31 @@
+-- Which demands are met.
+use Rattle.std.specs.Prelude.{◌≡◌, ℕ, ◌<◌, Bool, List, length, Some, IsTrue, slice_get}
+use Rattle.classfile.specs.Units.{units_text}
+use Rattle.loading.specs.Families.{name_in}
+use Rattle.program.specs.Tables.{Tables}
+use Rattle.initializer_analysis.specs.Forced.{has_class}
+use Rattle.wave_scheduler.specs.declared.outcome.Outcome.{Outcome}
+use Rattle.wave_scheduler.specs.Outcomes.{outcome_of}
+use Rattle.wave_scheduler.specs.Settled.{Settled, IsAccepted}
+use Rattle.options.specs.declared.fault.OptionFault.{OptionFault}
+use Rattle.options.specs.declared.fault.OptionFault.TheVariants.{Demanded}
+
+-- each class that is demanded is accepted
+abbrev pub AreMet : Tables → List Bool → Settled → Type 0
+AreMet P demand S = (c : ℕ) → c < length P.classes → IsTrue (has_class demand c) → IsAccepted S c
+
+-- a class is demanded, and not accepted
+abbrev pub IsOff : List Bool → Settled → ℕ → Type 0
+IsOff demand S c = IsTrue (has_class demand c) × (¬ IsAccepted S c)
+
+-- the least such class
+pub record IsFirstOff (P : Tables) (demand : List Bool) (S : Settled) (c : ℕ) : Type 0 where
+  pub low : c < length P.classes
+  pub here : IsOff demand S c
+  pub before : (d : ℕ) → d < c → ¬ IsOff demand S d
+
+-- what is wrong with the demands, but for want of memory
+pub data IsUnmet (P : Tables) (demand : List Bool) (S : Settled) : OptionFault → Type 0 where
+  unmet : {class : ℕ} {name : List ℕ} {outcome : Outcome} → IsFirstOff P demand S class
+      → slice_get S.outcomes class ≡ Some (outcome_of outcome) → name_in P.family class ≡ Some (units_text name)
+      → IsUnmet P demand S (Demanded name outcome)

@@ -1,0 +1,69 @@
+//! Whether the classes that are demanded at build time are initialized then.
+
+ghost use Rattle.std.specs.Prelude.{◌≡◌, ◌⊎◌, ◌<◌, length, IfErr, OnOk};
+ghost use Rattle.wave_scheduler.specs.Outcomes.{settled_of};
+ghost use Rattle.options.specs.Demands.{AreMet, IsUnmet};
+ghost use Rattle.options.specs.steps.Unmet.{IsUnmetOf, NamesUnmet};
+ghost use Rattle.options.specs.declared.fault.OptionFault.TheVariants.{Memory};
+
+use crate::demanded::Demand;
+use crate::fault::OptionFault;
+use classfile::ClassName;
+use loading::family::Family;
+use loading::names::name_of;
+use program::Program;
+use std::alloc::Global;
+use wave_scheduler::outcome::{Outcome, Settled};
+
+/// What became of a class, if it is demanded and not accepted.
+fn unmet(outcomes: &[Outcome], demand: &Demand, class: u32) -> Option<Outcome>
+    requires { class < length outcomes.now }
+    ensures { IsUnmetOf outcomes.now demand.now class result }
+{
+    if !demand.has(class) {
+        return None;
+    }
+    match outcomes[class as usize] {
+        Outcome::Wave(_) => None,
+        outcome => Some(outcome),
+    }
+}
+
+/// The fault of a class that is demanded, and of which this became.
+fn demanded(alloc: Global, family: &Family, class: u32, outcome: Outcome) -> OptionFault
+    requires { class < length family.now }
+    ensures { (result ≡ Memory) ⊎ NamesUnmet family.now class outcome result }
+{
+    let classes = family.classes();
+    let class = &classes[class as usize];
+    match ClassName::from_modified_utf8(alloc, name_of(&class.file)) {
+        Ok(name) => OptionFault::Demanded(name, outcome),
+        Err(_) => OptionFault::Memory,
+    }
+}
+
+/// Checks that each class that is demanded is accepted.
+///
+/// # Errors
+/// `Demanded` of the least class that is not, with what became of it; and `Memory` where memory runs out.
+pub fn check(
+    alloc: Global,
+    program: &Program,
+    settled: &Settled,
+    demand: &Demand,
+) -> Result<(), OptionFault>
+    requires { length settled.now.outcomes.items ≡ length program.now.classes }
+    ensures met { OnOk result (AreMet program.now demand.now (settled_of settled.now)) }
+    ensures fault { IfErr result
+        (λ fault. (fault ≡ Memory) ⊎ IsUnmet program.now demand.now (settled_of settled.now) fault) }
+{
+    let _tables = program.classes();
+    let outcomes = settled.outcomes.as_slice();
+    for class in 0..program.given_count() {
+        match unmet(outcomes, demand, class) {
+            Some(outcome) => return Err(demanded(alloc, program.family(), class, outcome)),
+            None => {}
+        }
+    }
+    Ok(())
+}

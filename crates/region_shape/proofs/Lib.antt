@@ -1,0 +1,16 @@
+pub mod SuitsLemmas
+pub mod SlotChainLemmas
+pub mod RowPartsLemmas
+pub mod ArrayRowsLemmas
+pub mod ObjectRowsLemmas
+pub mod MemberRowsLemmas
+pub mod CallRowsLemmas
+pub mod OperationLemmas
+pub mod TableRowsLemmas
+pub mod BranchesLemmas
+pub mod QuietShapeLemmas
+pub mod NamesLemmas
+pub mod SizesLemmas
+pub mod StaticsLemmas
+pub mod SamplesLemmas
+pub mod LawsLemmas

@@ -1,0 +1,7 @@
+pub mod Suits
+pub mod Shapes
+pub mod Rows
+pub mod Counts
+pub mod Sizes
+pub mod Laws
+pub mod Wholes

@@ -1,0 +1,4 @@
+pub mod EndLemmas
+pub mod LocalLemmas
+pub mod BookLemmas
+pub mod ReplayLemmas

@@ -1,0 +1,7 @@
+pub mod Local
+pub mod Stacks
+pub mod Stretches
+pub mod Kept
+pub mod Replays
+pub mod Commits
+pub mod steps

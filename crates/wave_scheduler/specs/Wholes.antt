@@ -1,0 +1,12 @@
+-- What holds of the regions of settled classes.
+use Rattle.std.specs.Prelude.{ℕ, Bool, List}
+use Rattle.program.specs.Tables.{Tables}
+use Rattle.region_shape.specs.Laws.{IsLinked, IsFromFile}
+use Rattle.region_shape.specs.Wholes.{AreWhole}
+use Rattle.wave_scheduler.specs.Settled.{Settled, region_in, AreSettled}
+
+-- The regions of settled classes are whole.
+abbrev pub SettledAreWhole : Type 0
+SettledAreWhole =
+    (P : Tables) (forced : List Bool) (budget : ℕ) (S : Settled) → IsLinked P → ((c : ℕ) → IsFromFile P c)
+    → AreSettled P forced budget S → AreWhole P (region_in S)

@@ -1,0 +1,86 @@
+-- What is found of one class after another in a wave.
+use Rattle.std.specs.Prelude.{◌≡◌, ◌≢◌, ◌⊎◌, ℕ, ◌<◌, ◌≤◌, Bool, true, false, List, length, Option, Some, None, slice_get}
+use Rattle.std.specs.Prelude.{slice_index_or}
+use Rattle.vm_state.specs.SharedState.{Region}
+use Rattle.semantics.specs.Programs.{Program}
+use Rattle.semantics.specs.Quiet.{Environment, Refusal}
+use Rattle.semantics.specs.Quiet as quiet
+use Rattle.semantics.specs.Settling.{Settles, StoppedBy}
+use Rattle.program.specs.Tables.{Tables}
+use Rattle.initializer_analysis.specs.declared.verdict.Reason.TheVariants as reasons
+use Rattle.initializer_analysis.specs.declared.verdict.Verdict.{Verdict}
+use Rattle.initializer_analysis.specs.Verdicts as before
+use Rattle.initializer_analysis.specs.RefusedUses.{AreFirstRefused}
+use Rattle.wave_scheduler.specs.Settled.{Outcome, Wave, Refused, Stopped, Settled, region_in}
+use Rattle.wave_scheduler.specs.steps.Waves.{IsTriedIn, AreRefusedIn, dependent}
+
+-- of each class the first that is not accepted of those that it uses
+abbrev pub AreFirstIn : Tables → Settled → List (Option ℕ) → Type 0
+AreFirstIn P S first = (marks : List Bool) × AreRefusedIn P S marks × AreFirstRefused P marks first
+
+-- nothing that the code alone bars stops the initializer of a class none of whose uses is refused
+abbrev pub CanRun : Program → Environment → ℕ → ℕ → Option ℕ → Type 0
+CanRun P env budget c (Some e) = Unit {0}
+CanRun P env budget c None = StoppedBy P env c budget quiet.Barred → ⊥
+
+-- its initializer left this region, or was refused
+abbrev pub HasRun : Program → Environment → ℕ → ℕ → ℕ → Outcome → Option Region → Type 0
+HasRun P env budget n c outcome (Some region) =
+    (outcome ≡ Wave n) × (cost : ℕ) × Settles P env c cost region × (cost ≤ budget)
+HasRun P env budget n c outcome None =
+    (why : Refusal) × (outcome ≡ Stopped why) × StoppedBy P env c budget (quiet.Refused why)
+
+-- What is found of a class: the first refused class that it uses, or what its initializer does.
+abbrev pub IsFound : Program → Environment → ℕ → ℕ → ℕ → Option ℕ → Outcome → Option Region → Type 0
+IsFound P env budget n c (Some e) outcome held = (outcome ≡ Refused (reasons.DependsOn e)) × (held ≡ None)
+IsFound P env budget n c None outcome held = HasRun P env budget n c outcome held
+
+-- of one class another outcome and another region, or none, and of others the same
+pub record SetsClass (c : ℕ) (outcome : Outcome) (held : Option Region) (old new : Settled) : Type 0 where
+  pub count : length new.outcomes ≡ length old.outcomes
+  pub regions : length new.regions ≡ length old.regions
+  pub here : slice_get new.outcomes c ≡ Some outcome
+  pub region : region_in new c ≡ held
+  pub others : (d : ℕ) → d ≢ c
+      → (slice_get new.outcomes d ≡ slice_get old.outcomes d) × (region_in new d ≡ region_in old d)
+
+-- what was found of a class was put in its place
+abbrev pub FindsClass : Program → Environment → ℕ → ℕ → ℕ → Option ℕ → Settled → Settled → Type 0
+FindsClass P env budget n c first old new =
+    (outcome : Outcome) × (held : Option Region) × IsFound P env budget n c first outcome held
+    × SetsClass c outcome held old new
+
+-- the same, of a class of this wave, and of another one nothing
+pub record FindsInWave (P : Program) (env : Environment) (budget : ℕ) (judged : List Verdict) (n c : ℕ)
+    (first : List (Option ℕ)) (old new : Settled) : Type 0 where
+  pub here : before.HasWave judged c n → FindsClass P env budget n c (slice_index_or first c None) old new
+  pub other : (¬ before.HasWave judged c n) → new ≡ old
+
+-- the classes of a wave below a limit are tried
+pub record TriesBelow (P : Tables) (budget : ℕ) (judged : List Verdict) (n limit : ℕ) (old new : Settled) :
+    Type 0 where
+  pub count : length new.outcomes ≡ length P.classes
+  pub regions : length new.regions ≡ length P.classes
+  pub here : (c : ℕ) (outcome : Outcome) → c < limit → before.HasWave judged c n
+      → slice_get new.outcomes c ≡ Some outcome → IsTriedIn P budget old c n outcome (region_in new c)
+  pub others : (c : ℕ) → ((limit ≤ c) ⊎ (¬ before.HasWave judged c n))
+      → (slice_get new.outcomes c ≡ slice_get old.outcomes c) × (region_in new c ≡ region_in old c)
+
+-- ---- which classes are not accepted
+
+abbrev pub is_refused : Outcome → Bool
+is_refused (Wave n) = false
+is_refused (Refused reason) = true
+is_refused (Stopped why) = true
+
+-- ---- at the end
+
+-- classes below a limit are told the first refused class that they use, and the others not yet
+pub record TellsBelow (first : List (Option ℕ)) (limit : ℕ) (old new : List Outcome) : Type 0 where
+  pub count : length new ≡ length old
+  pub each : (c : ℕ) (outcome : Outcome) → c < limit → slice_get old c ≡ Some outcome
+      → slice_get new c ≡ Some (dependent (slice_index_or first c None) outcome)
+  pub rest : (c : ℕ) → limit ≤ c → slice_get new c ≡ slice_get old c
+
+abbrev pub TellsEach : List (Option ℕ) → List Outcome → List Outcome → Type 0
+TellsEach first old new = TellsBelow first (length old) old new

@@ -1,0 +1,162 @@
+//! What becomes of one class in its wave.
+
+ghost use Rattle.std.specs.Prelude.{◌≡◌, ◌<◌, length, slice_index_or, slice_set, option_map, None, IfOk, OnOk};
+ghost use Rattle.machine.specs.Linked.{program_of};
+ghost use Rattle.evaluator.specs.Regions.{region_of, region_in, environment_of};
+ghost use Rattle.initializer_analysis.specs.Verdicts.{HasWave};
+ghost use Rattle.wave_scheduler.specs.Outcomes.{outcome_of, settled_of};
+ghost use Rattle.wave_scheduler.specs.steps.Finding.{CanRun, HasRun, IsFound, SetsClass, FindsClass, FindsInWave};
+
+use crate::outcome::{Outcome, Settled};
+use evaluator::outcome::Outcome as Ran;
+use evaluator::regions::{Region, Regions};
+use evaluator::settling::settle;
+use initializer_analysis::verdict::{Reason, Verdict};
+use program::Program;
+use std::alloc::{AllocError, Global};
+
+/// What was found of a class.
+#[derive(Drop)]
+struct Found {
+    outcome: Outcome,
+    /// Its region, if it is accepted.
+    region: Option<Region>,
+}
+
+/// Runs the initializer of a class.
+fn run(
+    alloc: Global,
+    program: &Program,
+    regions: &Regions,
+    class: u32,
+    budget: u64,
+    wave: usize,
+) -> Result<Found, AllocError>
+    requires { CanRun (program_of program.now) (environment_of regions.now) budget class None }
+    ensures { IfOk result (λ found. HasRun (program_of program.now) (environment_of regions.now) budget wave class
+        (outcome_of found.outcome) (option_map region_of found.region)) }
+{
+    match settle(alloc, program, regions, class, budget) {
+        Ok(Ran::Settled(region)) => Ok(Found {
+            outcome: Outcome::Wave(wave),
+            region: Some(region),
+        }),
+        Ok(Ran::Refused(refusal)) => Ok(Found {
+            outcome: Outcome::Stopped(refusal),
+            region: None,
+        }),
+        Err(error) => Err(error),
+    }
+}
+
+/// What becomes of a class in this wave, where this is the first refused class that it uses.
+fn find(
+    alloc: Global,
+    program: &Program,
+    regions: &Regions,
+    class: u32,
+    budget: u64,
+    wave: usize,
+    first: Option<u32>,
+) -> Result<Found, AllocError>
+    requires { CanRun (program_of program.now) (environment_of regions.now) budget class first }
+    ensures { IfOk result (λ found. IsFound (program_of program.now) (environment_of regions.now) budget wave class
+        first (outcome_of found.outcome) (option_map region_of found.region)) }
+{
+    match first {
+        Some(refused) => Ok(Found {
+            outcome: Outcome::Refused(Reason::DependsOn(refused)),
+            region: None,
+        }),
+        None => run(alloc, program, regions, class, budget, wave),
+    }
+}
+
+/// Puts a region at the place of a class, where there is none yet.
+fn put_region(regions: &mut Regions, class: u32, region: Option<Region>)
+    requires class { class < length regions.old }
+    requires none { region_in regions.old class ≡ None }
+    ensures { regions.new ≡ slice_set regions.old class region }
+{
+    match region {
+        Some(region) => regions.put(class, region),
+        None => {}
+    }
+}
+
+/// Puts what became of a class in its place.
+fn put_outcome(outcomes: &mut Vec<Outcome>, class: u32, outcome: Outcome)
+    requires { class < length outcomes.old.items }
+    ensures { outcomes.new.items ≡ slice_set outcomes.old.items class outcome }
+{
+    outcomes[class as usize] = outcome;
+}
+
+/// Puts what was found of a class in its place.
+fn put(settled: &mut Settled, class: u32, found: Found)
+    requires class { class < length settled.old.outcomes.items }
+    requires place { class < length settled.old.regions }
+    requires none { region_in settled.old.regions class ≡ None }
+    ensures { SetsClass class (outcome_of found.outcome) (option_map region_of found.region) (settled_of settled.old)
+        (settled_of settled.new) }
+{
+    put_outcome(&mut settled.outcomes, class, found.outcome);
+    put_region(&mut settled.regions, class, found.region);
+}
+
+/// Finds what becomes of a class in this wave, where this is the first refused class that it uses.
+fn find_class(
+    alloc: Global,
+    program: &Program,
+    class: u32,
+    budget: u64,
+    wave: usize,
+    first: Option<u32>,
+    settled: &mut Settled,
+) -> Result<(), AllocError>
+    requires class { class < length settled.old.outcomes.items }
+    requires place { class < length settled.old.regions }
+    requires none { region_in settled.old.regions class ≡ None }
+    requires run { CanRun (program_of program.now) (environment_of settled.old.regions) budget class first }
+    ensures { OnOk result (FindsClass (program_of program.now) (environment_of settled.old.regions) budget wave class
+        first (settled_of settled.old) (settled_of settled.new)) }
+{
+    match find(alloc, program, &settled.regions, class, budget, wave, first) {
+        Ok(found) => {
+            put(settled, class, found);
+            Ok(())
+        }
+        Err(error) => Err(error),
+    }
+}
+
+/// The same, if it is a class of this wave.
+pub(crate) fn find_in_wave(
+    alloc: Global,
+    program: &Program,
+    verdicts: &[Verdict],
+    class: u32,
+    budget: u64,
+    wave: usize,
+    first: &[Option<u32>],
+    settled: &mut Settled,
+) -> Result<(), AllocError>
+    requires class { class < length settled.old.outcomes.items }
+    requires place { class < length settled.old.regions }
+    requires first { class < length first.now }
+    requires verdicts { class < length verdicts.now }
+    requires none { HasWave verdicts.now class wave → region_in settled.old.regions class ≡ None }
+    requires run { HasWave verdicts.now class wave
+        → CanRun (program_of program.now) (environment_of settled.old.regions) budget class
+        (slice_index_or first.now class None) }
+    ensures { OnOk result (FindsInWave (program_of program.now) (environment_of settled.old.regions) budget
+        verdicts.now wave class first.now (settled_of settled.old) (settled_of settled.new)) }
+{
+    let place = class as usize;
+    match verdicts[place] {
+        Verdict::Wave(at) if at == wave => {
+            find_class(alloc, program, class, budget, wave, first[place], settled)
+        }
+        _ => Ok(()),
+    }
+}

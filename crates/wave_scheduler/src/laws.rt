@@ -1,0 +1,82 @@
+//! What holds of settled classes.
+
+ghost use Rattle.wave_scheduler.specs.Laws.{OneSettled, SettledAreExact, HasAnalysis, SettledShowTheSame};
+ghost use Rattle.wave_scheduler.specs.Laws.{UsesAreWithin, NeverBarred, MoreAtHand};
+ghost use Rattle.wave_scheduler.specs.Judged.{FollowersAreSettled, FewWaves, HasFollower};
+ghost use Rattle.wave_scheduler.specs.Wholes.{SettledAreWhole};
+ghost use Rattle.wave_scheduler.specs.steps.Waves.{WavesStart, WavesGoOn, WavesEnd, TriesDecide};
+
+/// The program, the options and the budget determine what becomes of all classes.
+pub fn one_settled()
+    ensures { OneSettled }
+{}
+
+/// The image of the settled regions holds exactly the accepted classes, each with its region.
+pub fn settled_are_exact()
+    ensures { SettledAreExact }
+{}
+
+/// Each linked program has an analysis.
+pub fn has_analysis()
+    ensures { HasAnalysis }
+{}
+
+/// A run from the image of the settled regions and the lazy procedure show the same.
+pub fn settled_show_the_same()
+    ensures { SettledShowTheSame }
+{}
+
+/// What a class of a linked program may use is a given class.
+pub fn uses_are_within()
+    ensures { UsesAreWithin }
+{}
+
+/// A class that is tried settles, or is refused for one of the evaluator's reasons.
+pub fn never_barred()
+    ensures { NeverBarred }
+{}
+
+/// The regions of settled classes are whole.
+pub fn settled_are_whole()
+    ensures { SettledAreWhole }
+{}
+
+/// What follows the verdicts solves the equation.
+pub fn followers_are_settled()
+    ensures { FollowersAreSettled }
+{}
+
+/// There are no more waves than classes.
+pub fn few_waves()
+    ensures { FewWaves }
+{}
+
+/// Something follows the verdicts.
+pub fn has_follower()
+    ensures { HasFollower }
+{}
+
+/// With more regions at hand than those of lower waves a class does as it does in its wave.
+pub fn more_at_hand()
+    ensures { MoreAtHand }
+{}
+
+/// Before the first wave nothing is tried.
+pub fn waves_start()
+    ensures { WavesStart }
+{}
+
+/// A wave that is tried leaves the lower ones as they are.
+pub fn waves_go_on()
+    ensures { WavesGoOn }
+{}
+
+/// After the last wave all follows the verdicts, once each class is told the first refused one that it uses.
+pub fn waves_end()
+    ensures { WavesEnd }
+{}
+
+/// What is found of a class of the next wave is what comes of it there.
+pub fn tries_decide()
+    ensures { TriesDecide }
+{}
