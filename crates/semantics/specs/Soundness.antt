@@ -1,6 +1,6 @@
 -- What an analysis says of the initialization of a class holds of whatever runs for it: in each world that a run leads
 -- to, and at build time.
-use Rattle.std.specs.Prelude.{◌≡◌, ◌≢◌, ◌⊎◌, ◌↔◌, ℕ, Bool, true, false, ◌||◌, ◌==◌, List, ◌∷◌, Some, IsSome}
+use Rattle.std.specs.Prelude.{◌≡◌, ◌≢◌, ◌⊎◌, ◌↔◌, ℕ, ◌<◌, Bool, true, false, ◌||◌, ◌==◌, List, ◌∷◌, Some, IsSome}
 use Rattle.std.specs.Prelude.{slice_get}
 use Rattle.std.specs.List.{Contains}
 use Rattle.std.specs.Option.{is_some}
@@ -93,12 +93,12 @@ LowerIsClosed =
 
 -- ---- what an analysis uses
 
--- its uses are those that are found by these bounds
+-- the uses of each class of the program are those that are found by these bounds
 abbrev pub FindsUses : Program → Bounds → Analysis → Type 0
-FindsUses P B A = (c d : ℕ) → Contains (A.uses c) d ↔ IsUse P B c d
+FindsUses P B A = (c d : ℕ) → c < P.count → Contains (A.uses c) d ↔ IsUse P B c d
 
--- The parents of a class are among its uses, where no class is its own parent.
+-- The parents of a class of the program are among its uses, where no class is its own parent.
 abbrev pub ParentsAreUsed : Type 0
 ParentsAreUsed =
-    (P : Program) (B : Bounds) (A : Analysis) → FindsUses P B A → ((c p : ℕ) → Contains (P.parents c) p → p ≢ c) →
-    UsesParents P A
+    (P : Program) (B : Bounds) (A : Analysis) → FindsUses P B A →
+    ((c p : ℕ) → c < P.count → Contains (P.parents c) p → p ≢ c) → UsesParents P A

@@ -102,7 +102,7 @@ pub fn lower_is_closed()
     ensures { LowerIsClosed }
 {}
 
-/// The parents of a class are among the uses that an analysis finds by its bounds.
+/// The parents of a class of the program are among the uses that an analysis finds by its bounds.
 pub fn parents_are_used()
     ensures { ParentsAreUsed }
 {}
