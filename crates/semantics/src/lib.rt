@@ -91,8 +91,8 @@ pub fn runs_within()
     ensures { RunsWithin }
 {}
 
-/// A class whose code bars nothing, with all its uses at hand, is not barred at build time: where it is stopped, it is
-/// refused.
+/// A class whose code bars nothing, with all its uses at hand, whose finals refer to objects of classes at hand, is not
+/// barred at build time: where it is stopped, it is refused.
 pub fn stops_within()
     ensures { StopsWithin }
 {}
