@@ -9,8 +9,9 @@ nothing, since the verifier wants one. A JVM loads them with a class loader for 
 
 Compared are how the thread ends and, where it is not with a Fault, what is printed; steps are not. A Fault is the same
 as a LinkageError (the verifier's, or that of resolution), Missing as an error of a class or member that is not there.
-What the verifier refuses, and runs here, since operands are asked for their kinds one by one, is counted apart, and
-so are access checks, which are not made here; `--list` shows each. It ends in 1 where anything else differs that
+What the verifier refuses, and runs here, since operands are asked for their kinds one by one, is counted apart, and so
+are classes that a JVM's reader of class files refuses (an interface with an instance field), and access checks, which
+are not made here; `--list` shows each. It ends in 1 where anything else differs that
 DIFFERENCES does not name.
 
 Of the programs of data/java, which the crate's `args` name with their texts, all run but those that end with a Fault.
@@ -31,6 +32,7 @@ NO_CONSTANT = "this JVM gives a static field that is not final its ConstantValue
 ANY_WRITER = "up to version 52 this JVM lets every method of a class write its final static fields"
 NO_RECEIVER = "a JVM asks that the receiver implements the interface that is named"
 MORE_ROOM = "the stack has two places more here, for the call of the constructor"
+TAKEN = "a handler takes the error that a JVM raises where it refuses a class or finds no member"
 
 # What is known to differ: a part of a file's name and heading and of the question, and why.
 DIFFERENCES = [
@@ -51,6 +53,10 @@ DIFFERENCES = [
     ("Default methods: the one that is", "A invokeinterface interface:J", NO_RECEIVER),
     ("Default methods: the one that is", "P invokeinterface interface:I", NO_RECEIVER),
     ("Receivers of invokeinterface that", "new class:V", NO_RECEIVER),
+    ("exceptions.txt And in a class initialization method", "", TAKEN),
+    ("faults.txt A Fault ends all the thread's frames", "getstatic No.x:I", TAKEN),
+    ("interface_fields.txt A handler takes the exception", "", TAKEN),
+    ("returns.txt The same, where `main` needs the class", "J / ", TAKEN),
 ]
 
 MISSING = ("NoSuchFieldError", "NoSuchMethodError", "NoClassDefFoundError", "AbstractMethodError",
