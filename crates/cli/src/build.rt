@@ -2,6 +2,7 @@
 
 ghost use Rattle.std.specs.Prelude.{map, option_map, IfOk};
 ghost use Rattle.building.specs.Builds.{patterns_in, IsBuilt, ShowsTheSame};
+ghost use Rattle.report.specs.Waves.{GiveWaves};
 ghost use Rattle.wave_scheduler.specs.Outcomes.{outcome_of};
 ghost use Rattle.cli.specs.Runs.{IsProgramOf, texts_of};
 
@@ -35,6 +36,8 @@ pub fn build_here(
         options.now.budget built.image (map outcome_of built.verdicts)) }
     // Runs from the image and the lazy procedure show the same.
     ensures shows { IfOk result (λ built. ShowsTheSame built.image) }
+    // The classes that have a wave are those that have a region.
+    ensures waves { IfOk result (λ built. GiveWaves built.image built.verdicts) }
 {
     if options.budget == 0 || options.budget > 1_000_000_000 {
         return Err(BuildFault::Budget);

@@ -243,7 +243,7 @@ module _ (P : Tables) (forced : List Bool) (budget : ℕ) (judged : List Verdict
 
 -- ---- which classes are not accepted
 
-no_wave : (reason : Reason) (k : ℕ) → outcome_of (verdicts.Refused reason) ≡ Wave k → ⊥
+pub no_wave : (reason : Reason) (k : ℕ) → outcome_of (verdicts.Refused reason) ≡ Wave k → ⊥
 no_wave _ k is = absurd cc
 
 pub refused_or : (S : Settled) (c : ℕ) (v : Verdict) → slice_get S.outcomes c ≡ Some (outcome_of v)
