@@ -1,6 +1,7 @@
 //! The start of the lazy procedure.
 
-ghost use Rattle.std.specs.Prelude.{◌≡◌, ◌⊎◌, ◌≤◌, ◌∷◌, [], length, map, replicate, IfErr, IfOk, OnOk};
+ghost use Rattle.std.specs.Prelude.{◌≡◌, ◌↔◌, ◌⊎◌, ◌<◌, ◌≤◌, ◌∷◌, [], length, map, replicate};
+ghost use Rattle.std.specs.Prelude.{Err, IfErr, IfOk, OnOk};
 ghost use Rattle.vm_state.specs.Objects.{row_of};
 ghost use Rattle.semantics.specs.Worlds.{argument, lazy_start, threads_from};
 ghost use Rattle.machine.specs.Linked.{program_of, start_frame};
@@ -11,7 +12,7 @@ ghost use Rattle.semantics.specs.Steps.{Going};
 ghost use Rattle.init_engine.specs.Turns.{world_of};
 ghost use Rattle.init_engine.specs.Starts.{IsEntryCount, IsCountFault, IsEntry, AreEntries, IsStart, IsAtFault};
 ghost use Rattle.init_engine.specs.Starts.{IsFirstAtFault, EntriesFail};
-ghost use Rattle.init_engine.specs.declared.fault.EntryFault.TheVariants.{Memory};
+ghost use Rattle.init_engine.specs.declared.fault.EntryFault.TheVariants.{Memory, Count};
 
 use crate::fault::EntryFault;
 use crate::world::{Thread, World};
@@ -141,8 +142,9 @@ impl World {
     /// (JVMS 5.2, 5.5). One class may be the entry of several threads.
     ///
     /// # Errors
-    /// `Count` where there is no entry or more than 64, else the first entry at fault: `Unknown` where no class of its
-    /// name was given, `NoMain` where the class declares no such `main` itself.
+    /// `Count` where there is no entry or more than 64, before memory is asked for. Else the first entry at fault:
+    /// `Unknown` where no class of its name was given, `NoMain` where the class declares no such `main` itself; or
+    /// `Memory`.
     pub fn lazy(
         alloc: Global,
         program: &Program,
@@ -150,6 +152,9 @@ impl World {
     ) -> Result<World, EntryFault>
         // The world is the start of the classes of these names, each with a `main` of its own.
         ensures start { IfOk result (λ w. IsStart program.now entries.now (world_of w)) }
+
+        // A wrong number of entries is answered by `Count`, whatever memory does, and nothing else is.
+        ensures count { (result ≡ Err Count) ↔ ((length entries.now ≡ 0) ⊎ (64 < length entries.now)) }
 
         // What is answered otherwise is what is wrong with the entries, or that memory ran out.
         ensures fault { IfErr result (λ fault. (fault ≡ Memory) ⊎ EntriesFail program.now entries.now fault) }

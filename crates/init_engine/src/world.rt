@@ -297,7 +297,7 @@ impl World {
     ///
     /// # Errors
     /// `AllocError` where memory is refused; the thread may have lost its frames then.
-    pub fn run_stretch(
+    pub(crate) fn run_stretch(
         &mut self,
         alloc: Global,
         program: &Program,

@@ -20,7 +20,7 @@ ghost use Rattle.machine.specs.Accesses.{Kept, KeptBy, Untouched, concluded, unl
 ghost use Rattle.vm_state.specs.declared.initialization.Frames.{Frames};
 ghost use Rattle.vm_state.specs.declared.initialization.Level.{Level};
 ghost use Rattle.machine.specs.Sharing.{stopped_shared};
-ghost use Rattle.machine.specs.Effects.{HasRoom, IsStep, IsStopped, IsEffect, PrintsNothing, Stays};
+ghost use Rattle.machine.specs.Effects.{HasRoom, IsEmpty, IsStep, IsStopped, IsEffect, PrintsNothing, Stays};
 
 use crate::execute::execute;
 use crate::kinds::{Actor, Conclusion, Effect, Stop};
@@ -73,6 +73,17 @@ pub fn receive(frame: &mut Frame, value: Option<Value>) -> Result<(), Fault>
     Ok(())
 }
 
+/// Ends a thread: nothing is left of its stack.
+fn halt(frames: &mut Frames, end: End) -> Effect
+    ensures effect { result ≡ Effect.Halt end }
+    ensures empty { IsEmpty frames.new }
+    ensures thread { frames.new.thread ≡ frames.old.thread }
+{
+    frames.segment = None;
+    frames.levels = None;
+    Effect::Halt(end)
+}
+
 /// Returns to the caller, where there is one above the highest initialization.
 fn return_to(frames: &mut Frames, callers: FrameList, value: Option<Value>) -> Effect
     ensures step { (P : Tables) (f : Frame) (before after : SharedState)
@@ -81,17 +92,17 @@ fn return_to(frames: &mut Frames, callers: FrameList, value: Option<Value>) -> E
     ensures moves { ((old new : Frames) → Stays result old new)
         × ((before after : SharedTables) → Stays result before after) }
     ensures silent { PrintsNothing result }
-    ensures kept { (frames.new.thread ≡ frames.old.thread) × (frames.new.levels ≡ frames.old.levels) }
+    ensures thread { frames.new.thread ≡ frames.old.thread }
 {
     frames.segment = callers.into_segment();
     match &mut frames.segment {
         Some(segment) => match receive(&mut segment.innermost, value) {
             Ok(()) => Effect::Next,
-            Err(Fault) => Effect::Halt(End::Faulted(FaultKind::Fault)),
+            Err(Fault) => halt(frames, End::Faulted(FaultKind::Fault)),
         },
         None => match &frames.levels {
             Some(_) => Effect::Next,
-            None => Effect::Halt(End::Returned),
+            None => halt(frames, End::Returned),
         },
     }
 }
@@ -116,7 +127,7 @@ fn leave_uncaught(frames: &mut Frames, exception: Name, class: ClassId) -> Effec
     ensures thread { frames.new.thread ≡ frames.old.thread }
 {
     if frames.levels.is_none() {
-        return Effect::Halt(End::Uncaught(class));
+        return halt(frames, End::Uncaught(class));
     }
     frames.set_pending(exception);
     Effect::Raise
@@ -144,7 +155,7 @@ fn throw(
             stand(frames, frame, callers);
             Effect::Raise
         }
-        Unwound::NoRoom => Effect::Halt(End::Faulted(FaultKind::Fault)),
+        Unwound::NoRoom => halt(frames, End::Faulted(FaultKind::Fault)),
         Unwound::Uncaught => leave_uncaught(frames, exception, class),
     }
 }
@@ -269,7 +280,7 @@ fn conclude(
         Conclusion::Raises(exception, class) => {
             Ok(throw(program, frames, frame, callers, exception, class))
         }
-        Conclusion::Halts(kind) => Ok(Effect::Halt(End::Faulted(kind))),
+        Conclusion::Halts(kind) => Ok(halt(frames, End::Faulted(kind))),
     }
 }
 
@@ -292,7 +303,7 @@ fn stopped(stop: Stop) -> Result<Effect, AllocError>
 }
 
 /// One instruction of a thread, on top of whose stack a frame stands. Where it prints, the list of lines has room for
-/// one more. Where memory is refused nothing changes.
+/// one more. Where it ends the thread nothing is left of the stack. Where memory is refused nothing changes.
 ///
 /// # Errors
 /// `AllocError` where memory is refused: then the thread's stack is as it was, and so is what definitions see of

@@ -87,7 +87,7 @@ module _ (P : Program) (A : Analysis) (I : Image) (lawful : IsLawful P) (parents
     wave = wave;
     settled = λ c a. at_hand c (I.region c) a (exact.sound c a);
     parents = λ c a. all_from_contains (λ p. is_below I wave c p ≡ true) (P.parents c)
-        (λ p is. use_below c p a (parents c p is));
+        (λ p is. use_below c p a (parents c p (accepted_within (exact.sound c a)) is));
     bound = P.count;
     bounded = λ c a. accepted_within (exact.sound c a);
   }

@@ -1,26 +1,24 @@
 -- An initializer that runs alone comes to know the names alone of objects that are made: its own below the count that it
 -- leaves, and those that finals at hand hold.
 use Rattle.std.proofs.Common.{◌≡◌, inl, inr, ℕ, Bool, true, false, cond, List, [], ◌∷◌, Option, Some, None, ◌==◌}
-use Rattle.std.proofs.Common.{refl, subst, sym, ap, ◌+◌, ◌<◌, ◌≤◌, zero, suc, nat_lt, arith}
+use Rattle.std.proofs.Common.{refl, subst, ◌+◌, ◌<◌, ◌≤◌, nat_lt, arith}
 use Rattle.vm_state.specs.declared.value.Value.{Value}
 use Rattle.vm_state.specs.declared.value.Maker.TheVariants.{Class, Thread}
 use Rattle.vm_state.specs.declared.frame.Frame.{Frame}
 use Rattle.vm_state.specs.Operands.{OperandStack}
 use Rattle.vm_state.specs.SharedState.{Region, same_maker, with_field, with_slot, with_new}
-use Rattle.semantics.specs.Rows.{Move, Stays, Becomes, Calls, Returns, Next, Raise, Halt, Row, Ends}
+use Rattle.semantics.specs.Rows.{Move, Calls, Next, Raise, Halt, Row, Ends}
 use Rattle.semantics.specs.Rows.{UseClass, ReadStatic, WriteStatic, AskClass, LookInto, Change}
 use Rattle.semantics.specs.Rows.{Make, UseMonitor, Print, part_at}
 use Rattle.semantics.specs.Moves.{with_operands, received}
 use Rattle.semantics.specs.Programs.{Program}
 use Rattle.semantics.specs.Quiet.{Environment, is_final, pool_seen, QuietMove, Stop, Refused, Barred, ForeignObject, Conduct}
 use Rattle.semantics.specs.Quiet.{Leaves, Stops, is_open, at_hand, if_fixed, elements_in, quiet, quiet_step}
-use Rattle.semantics.specs.Settling.{constant_region, onward, entered, RunsBody, ByReturn, ByStep, ByCall, SettlesBy}
+use Rattle.semantics.specs.Settling.{onward, RunsBody, ByReturn, ByStep, ByCall, SettlesBy}
 use Rattle.semantics.specs.Settling.{Settles}
 use Rattle.semantics.specs.Lawful.{Names, Knows, KnowsSome, KnowsFrame, KnowsMove, Fits, IsLawful}
 use Rattle.vm_state.proofs.ListLemmas.{tested}
-use Rattle.semantics.proofs.TestsLemmas.{from_some}
-use Rattle.semantics.proofs.PoolsLemmas.{Holds, with_slot-holds, with_new-holds, part_at-holds, open-known}
-use Rattle.semantics.proofs.ConstantsLemmas.{zeros_known, constants_known}
+use Rattle.semantics.proofs.PoolsLemmas.{with_slot-holds, with_new-holds, part_at-holds, open-known}
 use Rattle.semantics.proofs.WithinNamesLemmas.{KnowsRegion, constant_region_known}
 use Rattle.semantics.proofs.KnownNamesLemmas.{Fewer, Knows-mono}
 use Rattle.semantics.specs.MadeNames.{is_made_by, made_names, SettledAreMade}

@@ -1,12 +1,11 @@
 -- Regions that refer to objects alone that one of their classes made, and one more.
 use Rattle.std.proofs.Common.{◌≡◌, inl, inr, ℕ, Bool, true, false, ◌||◌, Option, Some, None, ◌==◌, nat_lt, sym, ap, ◌∙◌}
-use Rattle.std.proofs.Common.{subst, refl, eqb-true, arith, if◌then◌else◌}
+use Rattle.std.proofs.Common.{subst, refl, eqb-true, arith}
 use Rattle.std.specs.Option.{is_some}
 use Rattle.vm_state.specs.declared.value.Maker.{Maker}
 use Rattle.vm_state.specs.declared.value.Maker.TheVariants.{Class, Thread}
 use Rattle.vm_state.specs.SharedState.{Region, slots_at}
 use Rattle.vm_state.proofs.ListLemmas.{tested}
-use Rattle.semantics.specs.Programs.{Program}
 use Rattle.semantics.specs.Quiet.{Environment}
 use Rattle.semantics.specs.Lawful.{Names}
 use Rattle.semantics.specs.Soundness.{is_made_at_hand, names_at_hand}
@@ -86,7 +85,9 @@ module _ (env : Environment) (c : ℕ) where
 
 pub made_stay_lem : MadeStay
 made_stay_lem P env c made none = (
-  λ d f r is final. Knows-mono (held_names env) (made_names env c 0) (fresh env c none) (r.fields f) ((made d r is).0 f),
-  λ d f r is final. Knows-mono (held_names env) (names_at_hand env c) (at_hand_of env c) (r.fields f) ((made d r is).0 f),
+  λ d f r is final.
+      Knows-mono (held_names env) (made_names env c 0) (fresh env c none) (r.fields f) ((made d r is).0 f),
+  λ d f r each is final.
+      Knows-mono (held_names env) (names_at_hand env c) (at_hand_of env c) (r.fields f) ((made d r is).0 f),
   λ r holds. joins env c r made none holds,
 )

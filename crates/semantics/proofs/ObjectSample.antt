@@ -111,7 +111,7 @@ abbrev pub analysis : Analysis
 analysis = record { uses = parents; allowed = is_built; budget = 17 }
 
 pub uses_parents : UsesParents program analysis
-uses_parents c p u = u
+uses_parents c p low u = u
 
 -- class 0 with its final set
 abbrev pub first_region : Region

@@ -81,7 +81,7 @@ abbrev pub analysis : Analysis
 analysis = record { uses = λ c. []; allowed = λ c. c == 0; budget = 3 }
 
 pub uses_parents : UsesParents program analysis
-uses_parents c p u = u
+uses_parents c p low u = u
 
 -- class 0 with its final set
 abbrev region : Region

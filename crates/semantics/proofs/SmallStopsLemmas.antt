@@ -1,14 +1,14 @@
 -- What stops an initializer in big steps stops it in small ones, and the other way round.
-use Rattle.std.proofs.Common.{◌≡◌, ◌⊎◌, inl, inr, ℕ, zero, suc, ◌+◌, ◌-◌, ◌<◌, ◌≤◌, List, [], ◌∷◌, Option, Some, None}
+use Rattle.std.proofs.Common.{◌≡◌, inl, inr, ℕ, ◌+◌, ◌-◌, ◌≤◌, List, [], ◌∷◌, Option, Some, None}
 use Rattle.std.proofs.Common.{option_map, refl, sym, ap, subst, ◌∙◌, arith}
 use Rattle.std.proofs.Math.Path.{subst₃}
 use Rattle.vm_state.specs.declared.value.Value.{Value}
 use Rattle.vm_state.specs.declared.frame.Frame.{Frame}
 use Rattle.vm_state.specs.SharedState.{Region}
 use Rattle.semantics.specs.Rows.{Move, Stays, Becomes, Calls, Returns}
-use Rattle.semantics.specs.Moves.{with_operands, received, returned, moved}
+use Rattle.semantics.specs.Moves.{with_operands, returned, moved}
 use Rattle.semantics.specs.Programs.{Program}
-use Rattle.semantics.specs.Quiet.{Environment, QuietMove, Conduct, Faulted, Stop, Refused, Leaves, Stops, quiet_step}
+use Rattle.semantics.specs.Quiet.{Environment, QuietMove, Conduct, Faulted, Stop, Refused, Leaves, quiet_step}
 use Rattle.semantics.specs.Settling.{constant_region, entered, RunsBody, ByReturn, ByStep, ByCall}
 use Rattle.semantics.specs.Settling.{StopsBody, Before, At, Making, Inside, NoRoom, AfterCall, StoppedAt, StoppedBy}
 use Rattle.semantics.specs.Alone.{RunsAlone, Over, Step, body, StopsAlone, Unpaid, Failing, Unmade, Full, Later}

@@ -34,9 +34,9 @@ module _ (P : Program) (A : Analysis) (lawful : IsLawful P) (env : Environment) 
       n region settles
 
 pub lower_is_closed_lem : LowerIsClosed
-lower_is_closed_lem P A lawful env c has d f r at final =
+lower_is_closed_lem P A lawful env c has d f r each at final =
     let found = (has d r).0 at in
     (accepted_known P A lawful env c has found.0 found.1).0 f
 
 pub parents_are_used_lem : ParentsAreUsed
-parents_are_used_lem P B A finds apart c p is = (finds c p).1 (apart c p is, inl is)
+parents_are_used_lem P B A finds apart c p low is = (finds c p low).1 (apart c p low is, inl is)

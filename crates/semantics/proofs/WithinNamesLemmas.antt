@@ -42,6 +42,31 @@ entered_known known (Becomes h) f g km k e = subst (KnowsFrame known) (from_some
 entered_known known (Calls operands h) f g km k e = subst (KnowsFrame known) (from_some e) km.1
 entered_known known (Returns v) f g km k e = cc
 
+module _ (known : Names) where
+  -- a region in which a known value is written
+  pub field_known : (r : Region) (f : ℕ) (v : Value) → KnowsRegion known r → Knows known v
+      → KnowsRegion known (with_field r f v)
+  field_known r f v k kv = (
+    λ g. elim (tested (g == f)) [ inl e ↦ rw e kv | inr e ↦ rw e (k.0 g) ],
+    k.1,
+  )
+
+  -- a caller goes on with what was returned
+  pub back_known : (f g : Frame) (operands : OperandStack) (callee : Frame) (move : Move) (result : Option Value)
+      → KnowsFrame known f → KnowsMove known move → move ≡ Calls operands callee → KnowsSome known result
+      → received result (with_operands f operands) ≡ Some g → KnowsFrame known g
+  back_known f g operands callee move result k km is kv back =
+      let both = subst (KnowsMove known) is km in
+      received_known known result kv (with_operands f operands) g (both.0, k.1) back
+
+-- a row that was given known names alone
+abbrev pub Suits : Program → Names → Row → Type 0
+Suits P known row = Fits P known (λ d. true) row
+
+pub frame_suits : (P : Program) → IsLawful P → (known : Names) (f : Frame) → KnowsFrame known f
+    → Suits P known (P.row f)
+frame_suits P lawful known f k = lawful.row known (λ d. true) f k (λ d is. refl)
+
 -- c's own objects are known, and so is what finals at hand hold
 pub record Suffices (P : Program) (env : Environment) (c : ℕ) (known : Names) : Type 0 where
   pub own : (n : ℕ) → known (record { maker = Class c; number = n }) ≡ true
@@ -78,17 +103,7 @@ module _ (P : Program) (lawful : IsLawful P) (env : Environment) (c : ℕ) (know
   if_open true x h = h refl
   if_open false x h = tt
 
-  pub field_known : (r : Region) (f : ℕ) (v : Value) → KnowsRegion known r → Knows known v
-      → KnowsRegion known (with_field r f v)
-  field_known r f v k kv = (
-    λ g. elim (tested (g == f)) [ inl e ↦ rw e kv | inr e ↦ rw e (k.0 g) ],
-    k.1,
-  )
-
-  abbrev pub Suits : Row → Type 0
-  Suits row = Fits P known (λ d. true) row
-
-  pub quiet_knows : (row : Row) (own : Region) (n : ℕ) → Suits row → KnowsRegion known own
+  pub quiet_knows : (row : Row) (own : Region) (n : ℕ) → Suits P known row → KnowsRegion known own
       → KnowsConduct (quiet P env c own n row)
   quiet_knows (Ends (Next move)) own n fits k = (fits.0, k)
   quiet_knows (Ends (Raise x class)) own n fits k = tt
@@ -101,7 +116,8 @@ module _ (P : Program) (lawful : IsLawful P) (env : Environment) (c : ℕ) (know
       (λ other. hand (env d) _ (λ r is. if_final (is_final P d f) _
       (λ final. quiet_knows (next (r.fields f)) own n (fits (r.fields f) (suffices.finals d f r is final)) k)))
   quiet_knows (WriteStatic d f v next) own n fits k =
-      either (d == c) _ _ (quiet_knows next (with_field own f v) n fits.2 (field_known own f v k fits.0)) (λ other. tt)
+      either (d == c) _ _
+      (quiet_knows next (with_field own f v) n fits.2 (field_known known own f v k fits.0)) (λ other. tt)
   quiet_knows (AskClass x next) own n fits k =
       hand (pool_seen env c own x.maker) _ (λ p is. quiet_knows (next _) own n (fits.1 _) k)
   quiet_knows (LookInto x part next) own n fits k =
@@ -120,13 +136,10 @@ module _ (P : Program) (lawful : IsLawful P) (env : Environment) (c : ℕ) (know
   quiet_knows (UseMonitor x enter next) own n fits k = tt
   quiet_knows (Print text next) own n fits k = tt
 
-  pub frame_suits : (f : Frame) → KnowsFrame known f → Suits (P.row f)
-  frame_suits f k = lawful.row known (λ d. true) f k (λ d is. refl)
-
   pub step_knows : (f : Frame) (own : Region) (m : QuietMove) → quiet_step P env c f own ≡ Leaves m
       → KnowsFrame known f → KnowsRegion known own → KnowsMove known m.move × KnowsRegion known m.region
   step_knows f own m moves k kr =
-      subst KnowsConduct moves (quiet_knows (P.row f) own 0 (frame_suits f k) kr)
+      subst KnowsConduct moves (quiet_knows (P.row f) own 0 (frame_suits P lawful known f k) kr)
 
   -- ---- whole bodies
 
@@ -134,14 +147,6 @@ module _ (P : Program) (lawful : IsLawful P) (env : Environment) (c : ℕ) (know
       → KnowsFrame known g
   onward_known move f g km k e =
       (moved_known known move f [] (g ∷ []) km (k, tt) (onward_moved move f g [] e)).0
-
-  -- a caller goes on with what was returned
-  pub back_known : (f g : Frame) (operands : OperandStack) (callee : Frame) (move : Move) (result : Option Value)
-      → KnowsFrame known f → KnowsMove known move → move ≡ Calls operands callee → KnowsSome known result
-      → received result (with_operands f operands) ≡ Some g → KnowsFrame known g
-  back_known f g operands callee move result k km is kv back =
-      let both = subst (KnowsMove known) is km in
-      received_known known result kv (with_operands f operands) g (both.0, k.1) back
 
   pub runs_know : {f : Frame} {own last : Region} {n : ℕ} {v : Option Value} → RunsBody P env c f own n v last →
       KnowsFrame known f → KnowsRegion known own → KnowsSome known v × KnowsRegion known last
@@ -155,7 +160,7 @@ module _ (P : Program) (lawful : IsLawful P) (env : Environment) (c : ℕ) (know
       moves is called back on) k kr =
       let known_move = step_knows f own m moves k kr in
       let inner = runs_know called (subst (KnowsMove known) is known_move.0).1 known_move.1 in
-      runs_know on (back_known f g operands callee m.move result k known_move.0 is inner.0 back) inner.1
+      runs_know on (back_known known f g operands callee m.move result k known_move.0 is inner.0 back) inner.1
 
   -- ---- initializers
 

@@ -9,7 +9,7 @@ use Rattle.vm_state.specs.SharedState.{Region}
 use Rattle.semantics.specs.Quiet.{Stop, Refusal, Refused}
 use Rattle.semantics.specs.Settling.{StoppedBy}
 use Rattle.semantics.specs.Lawful.{Knows}
-use Rattle.semantics.specs.Bounds.{Scope, nothing, MayRun, Initializes, Called, IsClean}
+use Rattle.semantics.specs.Bounds.{Scope, nothing, MayRun, Initializes, Called, IsUse, IsClean}
 use Rattle.semantics.specs.Soundness.{names_at_hand, IsClosed, HasUses}
 use Rattle.vm_state.proofs.ListLemmas.{tested}
 use Rattle.semantics.proofs.TestsLemmas.{from_some}
@@ -121,13 +121,13 @@ has_uses d (apart, inr (a, place, run, needs)) = elim ((fine a place (runs run))
   | inr e ↦ absurd (apart e)
 ]
 
-closed : IsClosed program with_first 1
-closed zero f r is final =
+closed : IsClosed program (IsUse program (toy_bounds code) 1) with_first 1
+closed zero f r used is final =
     subst (λ (s : Region). Knows (names_at_hand with_first 1) (s.fields f)) (from_some is) (elim (tested (f == 0)) [
       | inl e ↦ rw e tt
       | inr e ↦ rw e ((constant_region_known program program_is_lawful (names_at_hand with_first 1) 0).0 f)
     ])
-closed (suc d) f r is final = cc
+closed (suc d) f r used is final = cc
 
 pub not_barred : (budget : ℕ) (stop : Stop) → StoppedBy program with_first 1 budget stop
     → (why : Refusal) × (stop ≡ Refused why)

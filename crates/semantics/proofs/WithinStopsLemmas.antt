@@ -7,55 +7,59 @@ use Rattle.vm_state.specs.declared.value.Maker.{Maker}
 use Rattle.vm_state.specs.declared.value.Maker.TheVariants.{Class, Thread}
 use Rattle.vm_state.specs.declared.frame.Frame.{Frame}
 use Rattle.vm_state.specs.SharedState.{Region, same_maker, with_field}
-use Rattle.semantics.specs.Rows.{Next, Raise, Halt, Row, Ends}
+use Rattle.semantics.specs.Rows.{Move, Stays, Becomes, Calls, Returns, Next, Raise, Halt, Row, Ends}
 use Rattle.semantics.specs.Rows.{UseClass, ReadStatic, WriteStatic, AskClass, LookInto, Change}
 use Rattle.semantics.specs.Rows.{Make, UseMonitor, Print, part_at}
 use Rattle.semantics.specs.Programs.{Program}
 use Rattle.semantics.specs.Quiet.{Environment, is_final, pool_seen, Refusal, Stop, Refused, Barred, Raised}
 use Rattle.semantics.specs.Quiet.{ForeignObject, OverBudget, Faulted, Conduct, Leaves, Stops, is_open, at_hand}
 use Rattle.semantics.specs.Quiet.{if_fixed, elements_in, quiet, quiet_step}
-use Rattle.semantics.specs.Settling.{StopsBody, Before, At, Making, Inside, NoRoom, AfterCall}
-use Rattle.semantics.specs.Settling.{StoppedAt}
-use Rattle.semantics.specs.Lawful.{Names, KnowsFrame, KnowsMove, Fits, IsLawful}
+use Rattle.semantics.specs.Settling.{RunsBody, ByReturn, ByStep, ByCall, onward, entered, StopsBody, Before, At}
+use Rattle.semantics.specs.Settling.{Making, Inside, NoRoom, AfterCall, StoppedAt}
+use Rattle.semantics.specs.Lawful.{Names, KnowsFrame, KnowsMove, KnowsSome, IsLawful}
 use Rattle.semantics.specs.Bounds.{Scope, MovesWithin, IsInScope, Bounds, IsBounded, MayRun, Initializes, Called}
-use Rattle.semantics.specs.Bounds.{IsClean}
+use Rattle.semantics.specs.Bounds.{IsUse, IsClean}
 use Rattle.semantics.specs.Soundness.{is_made_at_hand, names_at_hand, IsClosed, HasUses, StopsWithin}
 use Rattle.semantics.proofs.PoolsLemmas.{with_slot-holds, with_new-holds, part_at-holds, open-known}
 use Rattle.semantics.proofs.WithinRowsLemmas.{received_has, entered_has}
-use Rattle.semantics.proofs.WithinNamesLemmas.{KnowsRegion, constant_region_known, entered_known, Suffices}
-use Rattle.semantics.proofs.WithinNamesLemmas.{field_known, frame_suits, step_knows, runs_know, back_known}
+use Rattle.semantics.proofs.WithinNamesLemmas.{KnowsRegion, constant_region_known, entered_known}
+use Rattle.semantics.proofs.WithinNamesLemmas.{field_known, back_known, Suits, frame_suits}
 
 -- what was stopped was refused
 abbrev pub IsRefused : Stop → Type 0
 IsRefused stop = (why : Refusal) × (stop ≡ Refused why)
 
-pub at_hand_suffices : (P : Program) (env : Environment) (c : ℕ) → IsClosed P env c
-    → Suffices P env c (names_at_hand env c)
-at_hand_suffices P env c closed = record { own = λ n. rw (eq-eqb c c refl) refl; finals = closed }
+-- a frame that goes on is the one on top
+onward_entered : (move : Move) (f g : Frame) → onward move f ≡ Some g → entered move f ≡ Some g
+onward_entered (Stays place locals operands) f g e = e
+onward_entered (Becomes h) f g e = e
+onward_entered (Calls operands h) f g e = cc
+onward_entered (Returns v) f g e = cc
 
--- It moves as is said of it, or is refused.
-abbrev Passes : Scope → Conduct → Type 0
-Passes scope (Leaves m) = MovesWithin scope m.move
-Passes scope (Stops stop) = IsRefused stop
-
--- What is said of an instruction bars nothing, and what it needs is at hand.
-record IsFree (env : Environment) (c : ℕ) (scope : Scope) : Type 0 where
-  needs : (d : ℕ) → scope.needs ≡ Some d → (d == c) ≡ false → IsSome (env d)
+-- What is said of an instruction bars nothing, and what it needs is used.
+record IsFree (used : ℕ → Type 0) (c : ℕ) (scope : Scope) : Type 0 where
+  needs : (d : ℕ) → scope.needs ≡ Some d → (d == c) ≡ false → used d
   writes : (d : ℕ) → scope.writes ≡ Some d → d ≡ c
   reads : (d : ℕ) → scope.reads ≡ Some d → d ≡ c
   prints : scope.prints ≡ false
   locks : scope.locks ≡ false
 
-module _ (P : Program) (lawful : IsLawful P) (env : Environment) (c : ℕ) (closed : IsClosed P env c) where
+module _ (P : Program) (lawful : IsLawful P) (B : Bounds) (env : Environment) (c : ℕ) (has : HasUses P B env c)
+    (closed : IsClosed P (IsUse P B c) env c) where
   abbrev known : Names
   known = names_at_hand env c
 
-  suffices : Suffices P env c known
-  suffices = at_hand_suffices P env c closed
+  own_known : (n : ℕ) → known (record { maker = Class c; number = n }) ≡ true
+  own_known n = rw (eq-eqb c c refl) refl
+
+  -- It moves as is said of it, and to what is known, or is refused.
+  abbrev Passes : Scope → Conduct → Type 0
+  Passes scope (Leaves m) = MovesWithin scope m.move × KnowsMove known m.move × KnowsRegion known m.region
+  Passes scope (Stops stop) = IsRefused stop
 
   -- ---- one instruction
 
-  module _ (scope : Scope) (free : IsFree env c scope) where
+  module _ (scope : Scope) (free : IsFree (IsUse P B c) c scope) where
     either : (b : Bool) (x y : Conduct) → Passes scope x → (b ≡ false → Passes scope y) → Passes scope (cond b x y)
     either true x y one other = one
     either false x y one other = other refl
@@ -94,25 +98,25 @@ module _ (P : Program) (lawful : IsLawful P) (env : Environment) (c : ℕ) (clos
         by_test false None is = cc
         by_test false (Some r) is = refl
 
-    quiet_passes : (row : Row) (own : Region) (n : ℕ) → IsInScope P scope row → Fits P known (λ d. true) row →
+    quiet_passes : (row : Row) (own : Region) (n : ℕ) → IsInScope P scope row → Suits P known row →
         KnowsRegion known own → Passes scope (quiet P env c own n row)
-    quiet_passes (Ends (Next move)) own n within fits k = within
+    quiet_passes (Ends (Next move)) own n within fits k = (within, fits.0, k)
     quiet_passes (Ends (Raise x class)) own n within fits k = (Raised, refl)
     quiet_passes (Ends (Halt kind)) own n within fits k = (Faulted, refl)
     quiet_passes (UseClass d next) own n within fits k =
         let on = quiet_passes (next true) own n (within.1 true) (fits true) k in
-        either (d == c) _ _ on (λ other. hand (env d) _ (free.needs d within.0 other) (λ r is. on))
+        either (d == c) _ _ on (λ other. hand (env d) _ (has d (free.needs d within.0 other)) (λ r is. on))
     quiet_passes (ReadStatic d f next) own n within fits k =
         either (d == c) _ _
         (quiet_passes (next (own.fields f)) own n (within.2 (own.fields f)) (fits (own.fields f) (k.0 f)) k)
-        (λ other. hand (env d) _ (free.needs d within.0 other) (λ r is. if_final (is_final P d f) _
+        (λ other. (let used = free.needs d within.0 other in
+        hand (env d) _ (has d used) (λ r is. if_final (is_final P d f) _
         (λ final. quiet_passes (next (r.fields f)) own n (within.2 (r.fields f))
-        (fits (r.fields f) (closed d f r is final)) k)
-        (λ plain. apart d other (free.reads d (within.1 plain)))))
+        (fits (r.fields f) (closed d f r used is final)) k)
+        (λ plain. apart d other (free.reads d (within.1 plain))))))
     quiet_passes (WriteStatic d f v next) own n within fits k =
         either (d == c) _ _
-        (quiet_passes next (with_field own f v) n within.2 fits.2
-        (field_known P lawful env c known suffices own f v k fits.0))
+        (quiet_passes next (with_field own f v) n within.2 fits.2 (field_known known own f v k fits.0))
         (λ other. absurd (apart d other (free.writes d within.1)))
     quiet_passes (AskClass x next) own n within fits k =
         hand (pool_seen env c own x.maker) _ (seen own x.maker fits.0)
@@ -131,7 +135,7 @@ module _ (P : Program) (lawful : IsLawful P) (env : Environment) (c : ℕ) (clos
         (quiet_passes next _ n within fits.2 (k.0, with_slot-holds known own.pool x.number i v k.1 fits.1))
         (λ other. (ForeignObject, refl))
     quiet_passes (Make class slots next) own n within fits k =
-        quiet_passes (next _) _ (n + elements_in class slots) (within _) (fits.1 _ (suffices.own own.pool.count))
+        quiet_passes (next _) _ (n + elements_in class slots) (within _) (fits.1 _ (own_known own.pool.count))
         (k.0, with_new-holds known own.pool class slots k.1 fits.0)
     quiet_passes (UseMonitor x enter next) own n within fits k =
         (let clash : false ≡ true = sym free.locks ∙ within.0 in cc)
@@ -140,10 +144,10 @@ module _ (P : Program) (lawful : IsLawful P) (env : Environment) (c : ℕ) (clos
 
   -- ---- whole bodies
 
-  module _ (B : Bounds) (bounded : IsBounded P B) (clean : IsClean P B c) (has : HasUses P B env c) where
-    free_at : (f : Frame) → MayRun P B c f.activity → IsFree env c (B f.activity f.place)
+  module _ (bounded : IsBounded P B) (clean : IsClean P B c) where
+    free_at : (f : Frame) → MayRun P B c f.activity → IsFree (IsUse P B c) c (B f.activity f.place)
     free_at f run = record {
-      needs = λ d is other. has d (
+      needs = λ d is other. (
         λ same. (let clash : false ≡ true = sym other ∙ eq-eqb d c same in cc),
         inr (f.activity, f.place, run, is),
       );
@@ -158,7 +162,33 @@ module _ (P : Program) (lawful : IsLawful P) (env : Environment) (c : ℕ) (clos
     step_passes f own run k kr o is =
         subst (Passes (B f.activity f.place)) is
         (quiet_passes (B f.activity f.place) (free_at f run) (P.row f) own 0 (bounded.row f)
-        (frame_suits P lawful env c known suffices f k) kr)
+        (frame_suits P lawful known f k) kr)
+
+    -- the frame on top after a move may run
+    enters_run : (f g : Frame) (move : Move) → MayRun P B c f.activity → MovesWithin (B f.activity f.place) move →
+        entered move f ≡ Some g → MayRun P B c g.activity
+    enters_run f g move run within deep =
+        entered_has (MayRun P B c) (B f.activity f.place) (λ a may. Called f.place run may) move f g within run deep
+
+    -- of a whole body: what it returns and leaves is known
+    body_passes : {f : Frame} {own last : Region} {n : ℕ} {v : Option Value} → RunsBody P env c f own n v last →
+        MayRun P B c f.activity → KnowsFrame known f → KnowsRegion known own →
+        KnowsSome known v × KnowsRegion known last
+    body_passes (ByReturn {f = f} {own = own} {m = m} moves is) run k kr =
+        let passes = step_passes f own run k kr (Leaves m) moves in
+        (subst (KnowsMove known) is passes.1, passes.2)
+    body_passes (ByStep {f = f} {g = g} {own = own} {m = m} moves is on) run k kr =
+        let passes = step_passes f own run k kr (Leaves m) moves in
+        let deep = onward_entered m.move f g is in
+        body_passes on (enters_run f g m.move run passes.0 deep) (entered_known known m.move f g passes.1 k deep)
+        passes.2
+    body_passes (ByCall {f = f} {g = g} {callee = callee} {operands = operands} {own = own} {m = m} {result = result}
+        moves is body room on) run k kr =
+        let passes = step_passes f own run k kr (Leaves m) moves in
+        let inner = body_passes body (Called f.place run (subst (MovesWithin (B f.activity f.place)) is passes.0))
+        (subst (KnowsMove known) is passes.1).1 passes.2 in
+        body_passes on (received_has (MayRun P B c) result (record f { operands = operands }) g run room)
+        (back_known known f g operands callee m.move result k passes.1 is inner.0 room) inner.1
 
     stops_refused : {f : Frame} {own : Region} {budget : ℕ} {stop : Stop} → StopsBody P env c f own budget stop →
         MayRun P B c f.activity → KnowsFrame known f → KnowsRegion known own → IsRefused stop
@@ -167,20 +197,17 @@ module _ (P : Program) (lawful : IsLawful P) (env : Environment) (c : ℕ) (clos
         step_passes f own run k kr (Stops stop) stops
     stops_refused (Making moves over) run k kr = (OverBudget, refl)
     stops_refused (Inside {f = f} {g = g} {own = own} {m = m} moves deep fits stops) run k kr =
-        let names = step_knows P lawful env c known suffices f own m moves k kr in
-        stops_refused stops
-        (entered_has (MayRun P B c) (B f.activity f.place) (λ a may. Called f.place run may) m.move f g
-        (step_passes f own run k kr (Leaves m) moves) run deep)
-        (entered_known known m.move f g names.0 k deep) names.1
+        let passes = step_passes f own run k kr (Leaves m) moves in
+        stops_refused stops (enters_run f g m.move run passes.0 deep)
+        (entered_known known m.move f g passes.1 k deep) passes.2
     stops_refused (NoRoom moves is body fits full) run k kr = (Faulted, refl)
     stops_refused (AfterCall {f = f} {g = g} {callee = callee} {operands = operands} {own = own} {m = m}
         {result = result} moves is body fits room stops) run k kr =
-        let names = step_knows P lawful env c known suffices f own m moves k kr in
-        let inner = runs_know P lawful env c known suffices body (subst (KnowsMove known) is names.0).1 names.1 in
-        stops_refused stops
-        (received_has (MayRun P B c) result (record f { operands = operands }) g run room)
-        (back_known P lawful env c known suffices f g operands callee m.move result k names.0 is inner.0 room)
-        inner.1
+        let passes = step_passes f own run k kr (Leaves m) moves in
+        let inner = body_passes body (Called f.place run (subst (MovesWithin (B f.activity f.place)) is passes.0))
+        (subst (KnowsMove known) is passes.1).1 passes.2 in
+        stops_refused stops (received_has (MayRun P B c) result (record f { operands = operands }) g run room)
+        (back_known known f g operands callee m.move result k passes.1 is inner.0 room) inner.1
 
     initializer_refused : (budget : ℕ) (stop : Stop) (o : Option Frame) → P.initializer c ≡ o →
         StoppedAt P env c o budget stop → IsRefused stop
@@ -191,4 +218,4 @@ module _ (P : Program) (lawful : IsLawful P) (env : Environment) (c : ℕ) (clos
 
 pub stops_within_lem : StopsWithin
 stops_within_lem P B lawful bounded env c clean has closed budget stop stopped =
-    initializer_refused P lawful env c closed B bounded clean has budget stop (P.initializer c) refl stopped
+    initializer_refused P lawful B env c has closed bounded clean budget stop (P.initializer c) refl stopped

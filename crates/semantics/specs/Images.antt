@@ -1,5 +1,5 @@
 -- The start of a run from an image, in which the accepted classes are initialized.
-use Rattle.std.specs.Prelude.{◌≡◌, ℕ, Bool, true, if◌then◌else◌, List}
+use Rattle.std.specs.Prelude.{◌≡◌, ℕ, ◌<◌, Bool, true, if◌then◌else◌, List}
 use Rattle.std.specs.List.{Contains}
 use Rattle.vm_state.specs.declared.classes.ClassState.TheVariants.{Initialized}
 use Rattle.vm_state.specs.SharedState.{Region, SharedState}
@@ -30,6 +30,7 @@ pub record IsExact (P : Program) (A : Analysis) (I : Image) : Type 0 where
   -- each accepted class is in it (wave_scheduler)
   pub complete : (c : ℕ) (r : Region) → Accepted P A c r → I.holds c ≡ true
 
--- What the analysis owes (use_graph): what is initialized before a class, JVMS 5.5 step 7, is among its uses.
+-- What the analysis owes (use_graph): what is initialized before a class of the program, JVMS 5.5 step 7, is among its
+-- uses.
 abbrev pub UsesParents : Program → Analysis → Type 0
-UsesParents P A = (c p : ℕ) → Contains (P.parents c) p → Contains (A.uses c) p
+UsesParents P A = (c p : ℕ) → c < P.count → Contains (P.parents c) p → Contains (A.uses c) p

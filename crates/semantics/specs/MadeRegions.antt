@@ -6,7 +6,7 @@ use Rattle.vm_state.specs.SharedState.{Region}
 use Rattle.semantics.specs.Programs.{Program}
 use Rattle.semantics.specs.Quiet.{Environment}
 use Rattle.semantics.specs.Lawful.{Names}
-use Rattle.semantics.specs.Soundness.{IsClosed}
+use Rattle.semantics.specs.Soundness.{IsClosed, EachClass}
 use Rattle.semantics.specs.MadeNames.{is_counted, made_names, HoldsKnown, FinalsAreMade}
 
 abbrev pub is_held_by : Environment → Maker → ℕ → Bool
@@ -28,5 +28,5 @@ with_class env c r d = if d == c then Some r else env d
 abbrev pub MadeStay : Type 0
 MadeStay =
     (P : Program) (env : Environment) (c : ℕ) → AreMade env → env c ≡ None →
-    FinalsAreMade P env c × IsClosed P env c
+    FinalsAreMade P env c × IsClosed P EachClass env c
     × ((r : Region) → HoldsKnown (made_names env c r.pool.count) r → AreMade (with_class env c r))

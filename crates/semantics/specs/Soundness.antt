@@ -1,6 +1,6 @@
 -- What an analysis says of the initialization of a class holds of whatever runs for it: in each world that a run leads
 -- to, and at build time.
-use Rattle.std.specs.Prelude.{◌≡◌, ◌≢◌, ◌⊎◌, ◌↔◌, ℕ, Bool, true, false, ◌||◌, ◌==◌, List, ◌∷◌, Some, IsSome}
+use Rattle.std.specs.Prelude.{◌≡◌, ◌≢◌, ◌⊎◌, ◌↔◌, ℕ, ◌<◌, Bool, true, false, ◌||◌, ◌==◌, List, ◌∷◌, Some, IsSome}
 use Rattle.std.specs.Prelude.{slice_get}
 use Rattle.std.specs.List.{Contains}
 use Rattle.std.specs.Option.{is_some}
@@ -65,20 +65,24 @@ is_made_at_hand env c (Thread t) = false
 abbrev pub names_at_hand : Environment → ℕ → Names
 names_at_hand env c x = is_made_at_hand env c x.maker
 
--- The finals of classes at hand refer to objects of classes at hand alone.
-abbrev pub IsClosed : Program → Environment → ℕ → Type 0
-IsClosed P env c =
-    (d f : ℕ) (r : Region) → env d ≡ Some r → is_final P d f ≡ true → Knows (names_at_hand env c) (r.fields f)
+-- The finals of these classes, where they are at hand, refer to objects of classes at hand alone.
+abbrev pub IsClosed : Program → (ℕ → Type 0) → Environment → ℕ → Type 0
+IsClosed P these env c =
+    (d f : ℕ) (r : Region) → these d → env d ≡ Some r → is_final P d f ≡ true →
+    Knows (names_at_hand env c) (r.fields f)
+
+abbrev pub EachClass : ℕ → Type 0
+EachClass d = Unit {0}
 
 abbrev pub HasUses : Program → Bounds → Environment → ℕ → Type 0
 HasUses P B env c = (d : ℕ) → IsUse P B c d → IsSome (env d)
 
--- A class whose code bars nothing, with all its uses at hand, is not barred when its initializer runs: where it is
--- stopped it is refused, for one of the four reasons.
+-- A class whose code bars nothing, with all its uses at hand, whose finals refer to objects of classes at hand, is not
+-- barred when its initializer runs: where it is stopped it is refused, for one of the four reasons.
 abbrev pub StopsWithin : Type 0
 StopsWithin =
     (P : Program) (B : Bounds) → IsLawful P → IsBounded P B → (env : Environment) (c : ℕ) → IsClean P B c →
-    HasUses P B env c → IsClosed P env c → (budget : ℕ) (stop : Stop) → StoppedBy P env c budget stop →
+    HasUses P B env c → IsClosed P (IsUse P B c) env c → (budget : ℕ) (stop : Stop) → StoppedBy P env c budget stop →
     (why : Refusal) × (stop ≡ Refused why)
 
 -- the regions of all accepted classes of lower waves, and no others
@@ -86,19 +90,20 @@ abbrev pub HasLower : Program → Analysis → Environment → ℕ → Type 0
 HasLower P A env c =
     (d : ℕ) (r : Region) → (env d ≡ Some r) ↔ (Accepted P A d r × IsLower A.uses d c)
 
--- With these at hand finals refer to objects of classes at hand.
+-- With these at hand all finals at hand refer to objects of classes at hand.
 abbrev pub LowerIsClosed : Type 0
 LowerIsClosed =
-    (P : Program) (A : Analysis) → IsLawful P → (env : Environment) (c : ℕ) → HasLower P A env c → IsClosed P env c
+    (P : Program) (A : Analysis) → IsLawful P → (env : Environment) (c : ℕ) → HasLower P A env c →
+    IsClosed P EachClass env c
 
 -- ---- what an analysis uses
 
--- its uses are those that are found by these bounds
+-- the uses of each class of the program are those that are found by these bounds
 abbrev pub FindsUses : Program → Bounds → Analysis → Type 0
-FindsUses P B A = (c d : ℕ) → Contains (A.uses c) d ↔ IsUse P B c d
+FindsUses P B A = (c d : ℕ) → c < P.count → Contains (A.uses c) d ↔ IsUse P B c d
 
--- The parents of a class are among its uses, where no class is its own parent.
+-- The parents of a class of the program are among its uses, where no class is its own parent.
 abbrev pub ParentsAreUsed : Type 0
 ParentsAreUsed =
-    (P : Program) (B : Bounds) (A : Analysis) → FindsUses P B A → ((c p : ℕ) → Contains (P.parents c) p → p ≢ c) →
-    UsesParents P A
+    (P : Program) (B : Bounds) (A : Analysis) → FindsUses P B A →
+    ((c p : ℕ) → c < P.count → Contains (P.parents c) p → p ≢ c) → UsesParents P A

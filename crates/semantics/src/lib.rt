@@ -91,8 +91,8 @@ pub fn runs_within()
     ensures { RunsWithin }
 {}
 
-/// A class whose code bars nothing, with all its uses at hand, is not barred at build time: where it is stopped, it is
-/// refused.
+/// A class whose code bars nothing, with all its uses at hand, whose finals refer to objects of classes at hand, is not
+/// barred at build time: where it is stopped, it is refused.
 pub fn stops_within()
     ensures { StopsWithin }
 {}
@@ -102,7 +102,7 @@ pub fn lower_is_closed()
     ensures { LowerIsClosed }
 {}
 
-/// The parents of a class are among the uses that an analysis finds by its bounds.
+/// The parents of a class of the program are among the uses that an analysis finds by its bounds.
 pub fn parents_are_used()
     ensures { ParentsAreUsed }
 {}

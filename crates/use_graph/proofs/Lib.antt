@@ -15,4 +15,6 @@ pub mod ScopeTableLemmas
 pub mod ScopeUsesLemmas
 pub mod ScopeMarksLemmas
 pub mod ParentsLemmas
+pub mod NeedsLemmas
+pub mod UsesWithinLemmas
 pub mod LawsLemmas

@@ -13,7 +13,7 @@ use Rattle.semantics.specs.Quiet.{Environment, Refusal, Stop, Refused}
 use Rattle.semantics.specs.Settling.{StoppedBy}
 use Rattle.semantics.specs.Bounds.{IsBounded}
 use Rattle.semantics.specs.Soundness.{StandsOn, IsBegunBy, IsStart, IsClosed}
-use Rattle.loading.specs.Families.{IsFamily}
+use Rattle.loading.specs.Families.{IsFamily, AreParentsWithin}
 use Rattle.program.specs.Programs.{IsProgram}
 use Rattle.program.specs.Tables.{Tables, order_in}
 use Rattle.machine.specs.Linked.{program_of}
@@ -21,7 +21,7 @@ use Rattle.machine.specs.Table.{row}
 use Rattle.use_graph.specs.declared.mark.Mark.{Mark}
 use Rattle.use_graph.specs.declared.mark.Mark.TheVariants as marks
 use Rattle.use_graph.specs.Scopes.{bounds_of}
-use Rattle.use_graph.specs.Uses.{MayRun, MayUse, HasMark}
+use Rattle.use_graph.specs.Uses.{MayRun, MayUse, IsUse, HasMark}
 
 -- Each instruction of the table does no more than its code says.
 abbrev pub TableIsBounded : Type 0
@@ -53,6 +53,12 @@ ParentsAreUses =
     (P : Tables) → IsProgram P → IsFamily P.family → (c p : ℕ) → c < length P.family → Contains (order_in P c) p →
     MayUse P c p
 
+-- Whatever a class of a linked program may use is one of its classes.
+abbrev pub UsesAreWithin : Type 0
+UsesAreWithin =
+    (P : Tables) → IsProgram P → IsFamily P.family → AreParentsWithin P.family → (c e : ℕ) → c < length P.classes →
+    MayUse P c e → IsUse P c e
+
 -- ---- at build time
 
 -- the marks of what is barred at build time
@@ -62,11 +68,11 @@ pub data IsBarring : Mark → Type 0 where
   ForeignWrite : IsBarring marks.ForeignWrite
   ForeignRead : IsBarring marks.ForeignRead
 
--- A class whose code bears none of them, with all its uses at hand, is not barred when its initializer runs: where it
--- is stopped it is refused.
+-- A class whose code bears none of them, with all its uses at hand, whose finals refer to objects of classes at hand,
+-- is not barred when its initializer runs: where it is stopped it is refused.
 abbrev pub StopsByCode : Type 0
 StopsByCode =
-    (P : Tables) → IsProgram P → (env : Environment) (c : ℕ) →
-    ((mark : Mark) → IsBarring mark → HasMark P c mark → ⊥) → ((d : ℕ) → MayUse P c d → IsSome (env d)) →
-    IsClosed (program_of P) env c → (budget : ℕ) (stop : Stop) → StoppedBy (program_of P) env c budget stop →
-    (why : Refusal) × (stop ≡ Refused why)
+    (P : Tables) → IsProgram P → IsFamily P.family → AreParentsWithin P.family → (env : Environment) (c : ℕ) →
+    c < length P.classes → ((mark : Mark) → IsBarring mark → HasMark P c mark → ⊥) →
+    ((d : ℕ) → IsUse P c d → IsSome (env d)) → IsClosed (program_of P) (IsUse P c) env c →
+    (budget : ℕ) (stop : Stop) → StoppedBy (program_of P) env c budget stop → (why : Refusal) × (stop ≡ Refused why)

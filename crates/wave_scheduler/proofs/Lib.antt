@@ -5,7 +5,6 @@ pub mod OneSettledLemmas
 pub mod UsesLemmas
 pub mod AnalysisLemmas
 pub mod HeadlineLemmas
-pub mod NeedsLemmas
 pub mod TriedLemmas
 pub mod JudgedLemmas
 pub mod FewWavesLemmas

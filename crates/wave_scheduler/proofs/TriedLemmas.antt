@@ -1,5 +1,5 @@
 -- A class that is tried is not barred: the regions at hand in a wave are closed, and all that its code may use is there.
-use Rattle.std.proofs.Common.{◌≡◌, inl, inr, ℕ, zero, suc, ◌<◌, Bool, true, false, ◌||◌, ◌==◌}
+use Rattle.std.proofs.Common.{◌≡◌, ℕ, zero, suc, ◌<◌, Bool, true, false, ◌||◌, ◌==◌}
 use Rattle.std.proofs.Common.{Some, is_some, refl, arith}
 use Rattle.vm_state.specs.SharedState.{Region}
 use Rattle.semantics.specs.Soundness.{names_at_hand, IsClosed}
@@ -8,19 +8,11 @@ use Rattle.machine.specs.Linked.{program_of}
 use Rattle.machine.proofs.LawsLemmas.{table_is_lawful_lem}
 use Rattle.program.specs.Programs.{IsProgram}
 use Rattle.program.specs.Tables.{Tables}
+use Rattle.use_graph.specs.Uses.{IsUse}
 use Rattle.use_graph.proofs.LawsLemmas.{stops_by_code_lem}
 use Rattle.wave_scheduler.specs.Settled.{Settled, HasWave, region_in, below}
-use Rattle.wave_scheduler.specs.Laws.{AreSettledBelow, UsesAreWithin, NeverBarred}
+use Rattle.wave_scheduler.specs.Laws.{AreSettledBelow, NeverBarred}
 use Rattle.wave_scheduler.proofs.SettledLemmas.{below_there, from_below}
-use Rattle.wave_scheduler.proofs.NeedsLemmas.{need_within}
-use Rattle.wave_scheduler.proofs.AnalysisLemmas.{as_many, order_is_used}
-
-pub uses_are_within_lem : UsesAreWithin
-uses_are_within_lem P is fits within c e low (other, inl before) = order_is_used P is fits within c e low before
-uses_are_within_lem P is fits within c e low (other, inr need) =
-    let few = as_many P is in
-    let small = need_within P is c e need in
-    (omega arith, other, inr need)
 
 or_true : (b : Bool) → (b || true) ≡ true
 or_true true = refl
@@ -44,13 +36,12 @@ module _ (P : Tables) (is : IsProgram P) (budget : ℕ) (S : Settled) (n : ℕ) 
       })
       cost r settles
 
-  closed : IsClosed (program_of P) (below S n) c
-  closed d f r at final =
+  closed : IsClosed (program_of P) (IsUse P c) (below S n) c
+  closed d f r used at final =
       let (m, has, less, region) = from_below S n d r at in
       (region_known (suc m) m d r (omega arith) less has region).0 f
 
 pub never_barred_lem : NeverBarred
 never_barred_lem P budget S n is fits within are c low unmarked some stop stopped =
-    stops_by_code_lem P is (below S n) c (λ mark barring has. unmarked mark has)
-    (λ e may. some e (uses_are_within_lem P is fits within c e low may)) (closed P is budget S n are c) budget stop
-    stopped
+    stops_by_code_lem P is fits within (below S n) c low (λ mark barring has. unmarked mark has) some
+    (closed P is budget S n are c) budget stop stopped

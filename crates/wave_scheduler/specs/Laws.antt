@@ -12,7 +12,7 @@ use Rattle.loading.specs.Families.{IsFamily, AreParentsWithin}
 use Rattle.program.specs.Programs.{IsProgram}
 use Rattle.program.specs.Tables.{Tables}
 use Rattle.machine.specs.Linked.{program_of}
-use Rattle.use_graph.specs.Uses.{MayUse, IsUse, HasMark}
+use Rattle.use_graph.specs.Uses.{IsUse, HasMark}
 use Rattle.use_graph.specs.declared.mark.Mark.{Mark}
 use Rattle.initializer_analysis.specs.Forced.{has_class}
 use Rattle.wave_scheduler.specs.Settled.{Settled, HasWave, region_in, below, LeavesRegion, AreSettled}
@@ -50,7 +50,8 @@ SettledAreExact =
 
 -- ---- what shows
 
--- Each linked program has such an analysis, in which what is initialized before a class is among its uses.
+-- Each linked program has such an analysis, in which what is initialized before one of its classes is among the uses of
+-- that class.
 abbrev pub HasAnalysis : Type 0
 HasAnalysis =
     (P : Tables) (forced : List Bool) (budget : ℕ) → IsProgram P → IsFamily P.family → AreParentsWithin P.family
@@ -66,12 +67,6 @@ SettledShowTheSame =
     ↔ Shows (program_of P) (image_start (program_of P) I entries) s
 
 -- ---- what the evaluator and the scheduler ask for
-
--- What a class of a linked program may use is a given class.
-abbrev pub UsesAreWithin : Type 0
-UsesAreWithin =
-    (P : Tables) → IsProgram P → IsFamily P.family → AreParentsWithin P.family → (c e : ℕ) → c < length P.classes
-    → MayUse P c e → IsUse P c e
 
 -- The regions of the waves below this one are those that the initializers leave.
 abbrev pub AreSettledBelow : Tables → ℕ → Settled → ℕ → Type 0

@@ -1,7 +1,7 @@
 //! What holds of settled classes.
 
 ghost use Rattle.wave_scheduler.specs.Laws.{OneSettled, SettledAreExact, HasAnalysis, SettledShowTheSame};
-ghost use Rattle.wave_scheduler.specs.Laws.{UsesAreWithin, NeverBarred, MoreAtHand};
+ghost use Rattle.wave_scheduler.specs.Laws.{NeverBarred, MoreAtHand};
 ghost use Rattle.wave_scheduler.specs.Judged.{FollowersAreSettled, FewWaves, HasFollower};
 ghost use Rattle.wave_scheduler.specs.Wholes.{SettledAreWhole, SettledAreSmall};
 ghost use Rattle.wave_scheduler.specs.steps.Waves.{WavesStart, WavesGoOn, WavesEnd, TriesDecide};
@@ -16,7 +16,8 @@ pub fn settled_are_exact()
     ensures { SettledAreExact }
 {}
 
-/// Each linked program has an analysis.
+/// Each linked program has an analysis: lists of the uses of its classes, which classes are allowed, and the budget.
+/// What is initialized before one of its classes is among the uses of it.
 pub fn has_analysis()
     ensures { HasAnalysis }
 {}
@@ -24,11 +25,6 @@ pub fn has_analysis()
 /// A run from the image of the settled regions and the lazy procedure show the same.
 pub fn settled_show_the_same()
     ensures { SettledShowTheSame }
-{}
-
-/// What a class of a linked program may use is a given class.
-pub fn uses_are_within()
-    ensures { UsesAreWithin }
 {}
 
 /// A class that is tried settles, or is refused for one of the evaluator's reasons.

@@ -118,7 +118,8 @@ static_given family c k final place (Ok (fields.Given x j)) e = by_file (file_in
         (let class : x ≡ c = cc in subst (IsGiven family) class (ap is_some file))
     by_static f false file h = cc
 
-    by_file : (o : Option ClassFile) → file_in family x ≡ o → IsOk (target_in o x j (slot_of family x j)) (targets.Static c k final place)
+    by_file : (o : Option ClassFile) → file_in family x ≡ o
+        → IsOk (target_in o x j (slot_of family x j)) (targets.Static c k final place)
         → IsGiven family c
     by_file None file h = cc
     by_file (Some f) file h = by_static f (static_of (slice_get f.fields j)) file h

@@ -1,0 +1,22 @@
+"""What scripts here have in common about the kit that `rt` is of, and about edits."""
+import glob
+import importlib.machinery
+import importlib.util
+import os
+import subprocess
+
+ROOT = os.path.dirname(os.path.dirname(os.path.realpath(__file__)))
+
+
+def rt():
+    """The kit's own script as a module."""
+    kit = os.path.dirname(subprocess.run(["rt", "doc"], capture_output=True, text=True, check=True).stdout.strip())
+    loader = importlib.machinery.SourceFileLoader("rt_module", f"{kit}/bin/rt")
+    made = importlib.util.module_from_spec(importlib.util.spec_from_loader("rt_module", loader))
+    loader.exec_module(made)
+    return made
+
+
+def edits_beside(crate):
+    """The files edits/CRATE/*.edit, which the gate does not try."""
+    return sorted(glob.glob(f"{ROOT}/edits/{crate}/*.edit"))
