@@ -13,8 +13,9 @@ pub(crate) fn count_of(objects: &Row) -> u32
     ensures { result ≡ (pool_by objects.now).count }
 {
     for number in 0..u32::MAX {
-        if objects.object(u64::from(number)).is_none() {
-            return number;
+        match objects.object(u64::from(number)) {
+            Some(_) => {}
+            None => return number,
         }
     }
     u32::MAX
