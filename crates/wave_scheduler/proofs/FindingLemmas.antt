@@ -244,6 +244,7 @@ module _ (P : Tables) (forced : List Bool) (budget : ℕ) (judged : List Verdict
 -- ---- which classes are not accepted
 
 pub no_wave : (reason : Reason) (k : ℕ) → outcome_of (verdicts.Refused reason) ≡ Wave k → ⊥
+no_wave reasons.Raised k is = absurd cc
 no_wave _ k is = absurd cc
 
 pub refused_or : (S : Settled) (c : ℕ) (v : Verdict) → slice_get S.outcomes c ≡ Some (outcome_of v)
