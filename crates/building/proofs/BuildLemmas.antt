@@ -1,20 +1,29 @@
 -- What an image is of.
-use Rattle.std.proofs.Common.{◌≡◌, ℕ, List, Option, Vec, Global, map, is_some, sym, ap, subst, ◌∙◌}
+use Rattle.std.proofs.Common.{◌≡◌, ◌↔◌, ℕ, ◌<◌, ◌^◌, List, length, map, Option, Some, option_map, IsSome, is_some}
+use Rattle.std.proofs.Common.{slice_get, sym, ap, subst, ◌∙◌, arith}
 use Rattle.std.proofs.Math.Path.{fun_ext}
+use Rattle.std.proofs.lemmas.List.{length-map}
+use Rattle.std.proofs.lemmas.Option.{slice_get-map, slice_get_within}
+use Rattle.vm_state.specs.SharedState.{Region}
+use Rattle.semantics.proofs.BranchesLemmas.{value_in}
+use Rattle.semantics.proofs.TestsLemmas.{from_some}
 use Rattle.program.specs.Tables.{Tables}
 use Rattle.evaluator.specs.declared.regions.Region.{Region as Held}
 use Rattle.evaluator.specs.Regions.{environment_of}
 use Rattle.region_shape.specs.Laws.{IsLinked, IsFromFile}
 use Rattle.region_shape.specs.Wholes.{AreWhole}
-use Rattle.wave_scheduler.specs.Settled.{Settled, region_in}
+use Rattle.wave_scheduler.specs.Settled.{Outcome, Wave, Settled, HasWave, region_in}
 use Rattle.wave_scheduler.specs.Laws.{HasRegions}
 use Rattle.wave_scheduler.specs.Outcomes.{outcome_of, settled_of}
-use Rattle.wave_scheduler.specs.declared.outcome.Outcome.{Outcome as Told}
+use Rattle.initializer_analysis.specs.declared.verdict.Verdict.{Verdict}
+use Rattle.initializer_analysis.specs.declared.verdict.Verdict.TheVariants as verdicts_are
+use Rattle.initializer_analysis.specs.Verdicts.{IsAccepted}
 use Rattle.wave_scheduler.specs.declared.outcome.Settled.{Settled as Answer}
-use Rattle.wave_scheduler.proofs.FindingLemmas.{region_seen}
+use Rattle.wave_scheduler.proofs.FindingLemmas.{region_seen, no_wave}
+use Rattle.wave_scheduler.proofs.ReachesLemmas.{one_of}
 use Rattle.wave_scheduler.proofs.HeadlineLemmas.{settled_show_the_same_lem}
-use Rattle.wave_scheduler.proofs.WholesLemmas.{settled_are_whole_lem}
-use Rattle.object_graph.specs.Images.{ImageTables, start_image, region_or}
+use Rattle.wave_scheduler.proofs.WholesLemmas.{settled_are_whole_lem, settled_are_small_lem}
+use Rattle.object_graph.specs.Images.{ImageTables, AreSmall, start_image, region_or}
 use Rattle.building.specs.Builds.{IsSettledBy, IsBuilt, ShowsTheSame}
 
 -- ---- regions
@@ -35,6 +44,13 @@ module _ (P : Tables) (patterns : List (List ℕ)) (budget : ℕ) (linked : IsLi
       subst (AreWhole P) (sym (seen_regions s))
       (settled_are_whole_lem P forced budget (settled_of s) linked from settled)
 
+  pub small_by : (s : Answer) → budget < 2 ^ 32 → ((c : ℕ) → IsFromFile P c)
+      → IsSettledBy P patterns budget (settled_of s) → AreSmall (environment_of s.regions)
+  small_by s less from (forced, are, settled) c r here =
+      let has : region_in (settled_of s) c ≡ Some r = sym (region_seen s.regions c) ∙ here in
+      let few = settled_are_small_lem P forced budget (settled_of s) linked from settled c r has in
+      omega arith
+
   pub shows_by : (S : Settled) (I : ImageTables) → I.program ≡ P → IsSettledBy P patterns budget S
       → ((c : ℕ) → environment_of I.regions c ≡ region_in S c) → ShowsTheSame I
   shows_by S I is by same entries s =
@@ -44,18 +60,58 @@ module _ (P : Tables) (patterns : List (List ℕ)) (budget : ℕ) (linked : IsLi
       settled (has_regions S I same) s
 
 module _ (P : Tables) (patterns : List (List ℕ)) (budget : ℕ) (s : Answer) (I : ImageTables)
-    (outcomes : Vec Told Global) (program : I.program ≡ P) (regions : I.regions ≡ s.regions)
-    (same : outcomes ≡ s.outcomes) (by : IsSettledBy P patterns budget (settled_of s)) where
+    (verdicts : List Verdict) (program : I.program ≡ P) (regions : I.regions ≡ s.regions)
+    (same : verdicts ≡ s.verdicts) (by : IsSettledBy P patterns budget (settled_of s)) where
   seen_in : (c : ℕ) → environment_of I.regions c ≡ region_in (settled_of s) c
   seen_in c = ap (λ (rs : List (Option Held)). environment_of rs c) regions ∙ region_seen s.regions c
 
-  pub built_by : IsBuilt patterns budget I (map outcome_of outcomes.items)
+  pub built_by : IsBuilt patterns budget I (map outcome_of verdicts)
   built_by = record {
     settled = settled_of s;
     by = subst (λ (Q : Tables). IsSettledBy Q patterns budget (settled_of s)) (sym program) by;
     regions = seen_in;
-    told = ap (λ (o : Vec Told Global). map outcome_of o.items) (sym same);
+    told = ap (map outcome_of) (sym same);
   }
+
+  pub count_built : length verdicts ≡ length I.program.classes
+  count_built =
+      let (forced, are, settled) = by in
+      sym (length-map verdicts outcome_of) ∙ ap (λ (vs : List Verdict). length (map outcome_of vs)) same
+      ∙ settled.count ∙ ap (λ (Q : Tables). length Q.classes) (sym program)
+
+  outcomes_are : map outcome_of verdicts ≡ (settled_of s).outcomes
+  outcomes_are = ap (map outcome_of) same
+
+  pub waves_built : (c : ℕ) → IsAccepted verdicts c ↔ IsSome (environment_of I.regions c)
+  waves_built c = (there, back)
+    where
+      there : IsAccepted verdicts c → IsSome (environment_of I.regions c)
+      there (n, at) =
+          let (forced, are, settled) = by in
+          let here : HasWave (settled_of s) c n =
+          ap (λ (os : List Outcome). slice_get os c) (sym outcomes_are)
+          ∙ slice_get-map outcome_of verdicts c ∙ ap (option_map outcome_of) at in
+          let (none, wave, r, has, leaves) = settled.each c (Wave n) here in
+          ap is_some (seen_in c ∙ has)
+
+      one : (n : ℕ) (v : Verdict) → slice_get verdicts c ≡ Some v → outcome_of v ≡ Wave n → IsAccepted verdicts c
+      one n (verdicts_are.Wave m) at is = (m, at)
+      one n (verdicts_are.Refused reason) at is = absurd (no_wave reason n is)
+
+      held : (r : Region) → environment_of I.regions c ≡ Some r → IsAccepted verdicts c
+      held r here =
+          let (forced, are, settled) = by in
+          let (n, at) = settled.only c r (sym (seen_in c) ∙ here) in
+          let low = slice_get_within (settled_of s).outcomes c (Wave n) at in
+          let (v, there) = one_of verdicts c
+          (omega (arith, ap (λ (os : List Outcome). length os) outcomes_are, length-map verdicts outcome_of)) in
+          let seen : slice_get (settled_of s).outcomes c ≡ Some (outcome_of v) =
+          ap (λ (os : List Outcome). slice_get os c) (sym outcomes_are)
+          ∙ slice_get-map outcome_of verdicts c ∙ ap (option_map outcome_of) there in
+          one n v there (from_some (sym seen ∙ at))
+
+      back : IsSome (environment_of I.regions c) → IsAccepted verdicts c
+      back some = let (r, here) = value_in (environment_of I.regions c) some in held r here
 
   pub shows_built : IsLinked P → ShowsTheSame I
   shows_built linked = shows_by P patterns budget linked (settled_of s) I program by seen_in

@@ -1,12 +1,13 @@
 //! From a program to an image: the classes that may be are initialized.
 
-ghost use Rattle.std.specs.Prelude.{◌≡◌, ℕ, length, map, option_map, IfOk};
+ghost use Rattle.std.specs.Prelude.{◌≡◌, ◌↔◌, ℕ, ◌<◌, ◌^◌, length, map, option_map, IfOk, IsSome};
 ghost use Rattle.evaluator.specs.Regions.{environment_of};
-ghost use Rattle.initializer_analysis.specs.Verdicts.{AreVerdicts};
+ghost use Rattle.initializer_analysis.specs.Verdicts.{AreVerdicts, IsAccepted};
 ghost use Rattle.region_shape.specs.Laws.{IsFromFile};
 ghost use Rattle.region_shape.specs.Wholes.{AreWhole};
 ghost use Rattle.wave_scheduler.specs.Settled.{AreSettled};
 ghost use Rattle.wave_scheduler.specs.Outcomes.{outcome_of, settled_of};
+ghost use Rattle.object_graph.specs.Images.{AreSmall};
 ghost use Rattle.building.specs.Builds.{patterns_in, IsSettledBy, IsBuilt, ShowsTheSame};
 
 use classfile::ClassFault;
@@ -17,10 +18,11 @@ use object_graph::{Image, gather};
 use options::{Demand, OptionFault, Patterns, check, demand, force, parse};
 use program::{LinkFault, Program};
 use std::alloc::{AllocError, Global};
-use wave_scheduler::outcome::{Outcome, Settled, WaveFault};
+use wave_scheduler::outcome::{Settled, WaveFault};
 use wave_scheduler::settle_all_here;
 
 /// What is asked of a build.
+#[derive(Drop)]
 pub struct BuildOptions<'a> {
     /// The classes that are to be initialized at run time, as a list of patterns.
     pub run_time: Option<&'a str>,
@@ -30,11 +32,11 @@ pub struct BuildOptions<'a> {
     pub budget: u64,
 }
 
-/// An image, and what became of all classes.
+/// An image, and the last verdicts on all classes.
 #[derive(Drop)]
 pub struct Built {
     pub image: Image,
-    pub outcomes: Vec<Outcome>,
+    pub verdicts: Verdicts,
 }
 
 /// Why nothing was built.
@@ -77,7 +79,7 @@ fn checked(
     settled: Settled,
     demand: &Demand,
 ) -> Result<Settled, BuildFault>
-    requires { length settled.outcomes.items ≡ length program.now.classes }
+    requires { length settled.verdicts ≡ length program.now.classes }
     ensures same { IfOk result (λ last. last ≡ settled) }
 {
     match check(alloc, program, &settled, demand) {
@@ -185,15 +187,16 @@ fn settle_program(
 
 /// The image of what became of all classes.
 fn image_of(program: Program, settled: Settled) -> Built
-    requires { AreWhole program (environment_of settled.regions) }
+    requires whole { AreWhole program (environment_of settled.regions) }
+    requires small { AreSmall (environment_of settled.regions) }
     ensures program { result.image.program ≡ program }
     ensures regions { result.image.regions ≡ settled.regions }
-    ensures outcomes { result.outcomes ≡ settled.outcomes }
+    ensures verdicts { result.verdicts ≡ settled.verdicts }
 {
-    let Settled { outcomes, regions } = settled;
+    let Settled { verdicts, regions } = settled;
     Built {
         image: gather(program, regions),
-        outcomes,
+        verdicts,
     }
 }
 
@@ -206,11 +209,16 @@ pub fn build_program(
     program: Program,
     options: &BuildOptions<'_>,
 ) -> Result<Built, BuildFault>
-    requires { (class : ℕ) → IsFromFile program class }
+    requires files { (class : ℕ) → IsFromFile program class }
+    requires budget { options.now.budget < 2 ^ 32 }
     ensures program { IfOk result (λ built. built.image.program ≡ program) }
     ensures built { IfOk result (λ built. IsBuilt (patterns_in (option_map (λ s. s.now) options.now.run_time))
-        options.now.budget built.image (map outcome_of built.outcomes.items)) }
+        options.now.budget built.image (map outcome_of built.verdicts)) }
     ensures shows { IfOk result (λ built. ShowsTheSame built.image) }
+    // The classes that have a wave are those that have a region.
+    ensures count { IfOk result (λ built. length built.verdicts ≡ length built.image.program.classes) }
+    ensures waves { IfOk result (λ built. (class : ℕ)
+        → IsAccepted built.verdicts class ↔ IsSome (environment_of built.image.regions class)) }
 {
     region_shape::is_linked(&program);
     match settle_program(alloc, &program, options) {

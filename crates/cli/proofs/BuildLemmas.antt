@@ -1,6 +1,6 @@
--- The classes of a program of class files are from files.
+-- The classes of a program of class files are from files; the classes of an image that have a wave have a region.
 use Rattle.std.proofs.Common.{◌≡◌, ◌↔◌, ℕ, ◌<◌, List, map, Option, Some, None, option_map, slice_get}
-use Rattle.std.proofs.Common.{refl, sym, ap, subst, ◌∙◌, MatchOption, IsSomeAnd}
+use Rattle.std.proofs.Common.{refl, sym, ap, subst, ◌∙◌, MatchOption, IsSomeAnd, length, IsSome, Result, Ok, Err, IfOk}
 use Rattle.std.specs.List.{Contains}
 use Rattle.std.proofs.lemmas.Option.{slice_get-map, slice_get-get_or, slice_get_within, get_or_from_slice_get}
 use Rattle.std.proofs.lemmas.Slice.Zip.{AllZip-right}
@@ -10,6 +10,11 @@ use Rattle.loading.specs.declared.given.GivenClass.{GivenClass}
 use Rattle.loading.specs.Families.{file_of}
 use Rattle.program.specs.Tables.{Tables}
 use Rattle.region_shape.specs.Laws.{IsFromFile}
+use Rattle.evaluator.specs.Regions.{environment_of}
+use Rattle.initializer_analysis.specs.Verdicts.{IsAccepted}
+use Rattle.building.specs.declared.build.Built.{Built}
+use Rattle.building.specs.declared.build.BuildFault.{BuildFault}
+use Rattle.report.specs.Waves.{GiveWaves}
 use Rattle.cli.specs.Runs.{IsProgramOf}
 
 pub is_from_file : (texts : List (List ℕ)) (P : Tables) → IsProgramOf texts P → (c : ℕ) → IsFromFile P c
@@ -40,3 +45,10 @@ is_from_file texts P of c f at = by (slice_get P.family c) refl
           slice_get_within (map (λ (x : GivenClass). x.file) P.family) c f there,
           get_or_from_slice_get (map (λ (x : GivenClass). x.file) P.family) c f f there,
         ))
+
+pub give_waves : (r : Result Built BuildFault)
+    → IfOk r (λ built. length built.verdicts ≡ length built.image.program.classes)
+    → IfOk r (λ built. (c : ℕ) → IsAccepted built.verdicts c ↔ IsSome (environment_of built.image.regions c))
+    → IfOk r (λ built. GiveWaves built.image built.verdicts)
+give_waves (Ok built) count each = record { count = count; each = each }
+give_waves (Err fault) count each = tt

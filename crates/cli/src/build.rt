@@ -2,6 +2,7 @@
 
 ghost use Rattle.std.specs.Prelude.{map, option_map, IfOk};
 ghost use Rattle.building.specs.Builds.{patterns_in, IsBuilt, ShowsTheSame};
+ghost use Rattle.report.specs.Waves.{GiveWaves};
 ghost use Rattle.wave_scheduler.specs.Outcomes.{outcome_of};
 ghost use Rattle.cli.specs.Runs.{IsProgramOf, texts_of};
 
@@ -32,9 +33,11 @@ pub fn build_here(
     ensures program { IfOk result (λ built. IsProgramOf (texts_of files.now) built.image.program) }
     // Its regions are those of the classes that are accepted, where those are forced that the options say.
     ensures built { IfOk result (λ built. IsBuilt (patterns_in (option_map (λ s. s.now) options.now.run_time))
-        options.now.budget built.image (map outcome_of built.outcomes.items)) }
+        options.now.budget built.image (map outcome_of built.verdicts)) }
     // Runs from the image and the lazy procedure show the same.
     ensures shows { IfOk result (λ built. ShowsTheSame built.image) }
+    // The classes that have a wave are those that have a region.
+    ensures waves { IfOk result (λ built. GiveWaves built.image built.verdicts) }
 {
     if options.budget == 0 || options.budget > 1_000_000_000 {
         return Err(BuildFault::Budget);

@@ -25,6 +25,12 @@ pub enum Refusal {
     /// An entry can't be run.
     #[error("Entry {0}")]
     Entry(EntryFault),
+    /// A list of patterns of classes is wrong, as this text says.
+    #[error("Option {0}")]
+    Option(String),
+    /// The budget is 0, or over 1,000,000,000.
+    #[error("Budget")]
+    Budget,
     /// The file of this name, as given, was not read or written.
     #[error("File {0}")]
     File(String),

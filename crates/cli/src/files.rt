@@ -1,5 +1,8 @@
 //! The files that a command reads and writes.
 
+use crate::Refusal;
+use std::alloc::{AllocError, Global};
+
 /// Why a file was not read or written.
 #[derive(Clone, Copy)]
 pub enum FileFault {
@@ -23,4 +26,27 @@ pub trait Files {
     /// `Device` where the file can't be written, `Memory` where memory was refused. What the file
     /// then holds is open.
     fn put(&mut self, name: &str, bytes: &[u8]) -> Result<(), FileFault>;
+}
+
+/// What the files of these names hold.
+///
+/// # Errors
+/// `File` of the first that can't be read, or `Memory`.
+pub(crate) fn contents<F: Files>(
+    alloc: Global,
+    names: &[&str],
+    files: &mut F,
+) -> Result<Vec<Vec<u8>>, Refusal> {
+    let mut contents = Vec::new(alloc);
+    for name in names {
+        match files.get(name) {
+            Ok(bytes) => add_bytes(&mut contents, bytes)?,
+            Err(fault) => return Err(Refusal::of_file(alloc, name, fault)),
+        }
+    }
+    Ok(contents)
+}
+
+fn add_bytes(contents: &mut Vec<Vec<u8>>, bytes: Vec<u8>) -> Result<(), AllocError> {
+    Ok(contents.push(bytes)?)
 }

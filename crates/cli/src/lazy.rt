@@ -8,9 +8,11 @@ ghost use Rattle.cli.specs.steps.Refusals.{IsRefusedEntry};
 ghost use Rattle.cli.specs.declared.fault.Refusal.TheVariants.{Memory};
 
 use crate::class_files::linked_program;
+use crate::files::contents;
+use crate::outcome::Outcome;
 use crate::status::status_of;
 use crate::threads::thread_lines;
-use crate::{Files, Lazy, Refusal, Status};
+use crate::{Files, Lazy, Refusal};
 use classfile::ClassName;
 use init_engine::{Line, Rest, Seen, World};
 use program::Program;
@@ -98,16 +100,6 @@ fn run_world(
     })
 }
 
-/// What the command `lazy` has to tell.
-#[derive(Drop)]
-pub(crate) struct Outcome {
-    /// What the threads printed, in order.
-    pub printed: Vec<u8>,
-    /// A line for each thread, how it ended.
-    pub threads: String,
-    pub status: Status,
-}
-
 /// Reads the class files and runs them, as the words say.
 ///
 /// # Errors
@@ -123,26 +115,6 @@ pub(crate) fn run<F: Files>(
         Ok(contents) => run_contents(alloc, words, contents.as_slice()),
         Err(refusal) => Err(refusal),
     }
-}
-
-/// What the files of these names hold.
-fn contents<F: Files>(
-    alloc: Global,
-    names: &[&str],
-    files: &mut F,
-) -> Result<Vec<Vec<u8>>, Refusal> {
-    let mut contents = Vec::new(alloc);
-    for name in names {
-        match files.get(name) {
-            Ok(bytes) => add_bytes(&mut contents, bytes)?,
-            Err(fault) => return Err(Refusal::of_file(alloc, name, fault)),
-        }
-    }
-    Ok(contents)
-}
-
-fn add_bytes(contents: &mut Vec<Vec<u8>>, bytes: Vec<u8>) -> Result<(), AllocError> {
-    Ok(contents.push(bytes)?)
 }
 
 /// Runs the class files of these texts, as the words say.

@@ -3,8 +3,10 @@ ghost use Rattle.std.specs.Prelude.{◌≡◌, ◌≢◌, ◌≤◌};
 ghost use Rattle.cli.specs.Refusal.{refusal_status};
 ghost use Rattle.cli.specs.Status.{IsTold};
 
-use crate::lazy::{self, Outcome};
-use crate::{Files, Lazy, Refusal, Request, Status, WordsFault, request_of};
+use crate::outcome::Outcome;
+use crate::{
+    Files, Lazy, Refusal, Report, Request, Status, WordsFault, lazy, reporting, request_of,
+};
 use std::alloc::Global;
 use std::io;
 use std::io::Write;
@@ -12,7 +14,7 @@ use std::io::Write;
 /// Does one command for the words after the program's name, and answers the exit status and standard
 /// output back.
 ///
-/// - 0: done; all threads returned. Help that was asked for is 0 too.
+/// - 0: done; all threads of a run returned. Help that was asked for is 0 too.
 /// - 1: refused. Standard error gets `preinit: ` and the refusal's text.
 /// - 2: the words are no command. Standard error gets what is wrong with them.
 /// - 3: a file or standard output failed, told as a refusal is.
@@ -20,8 +22,8 @@ use std::io::Write;
 ///   and not all returned.
 ///
 /// With 1 and 2 nothing went to standard output. After a run it gets what was printed, and then
-/// standard error a line for each thread, but none where standard output failed. A failure of standard
-/// error is ignored.
+/// standard error a line for each thread, but none where standard output failed. After a build it gets
+/// the report. A failure of standard error is ignored.
 pub fn command<F: Files, W: Write + Send, E: Write>(
     alloc: Global,
     words: &[&str],
@@ -35,6 +37,7 @@ pub fn command<F: Files, W: Write + Send, E: Write>(
 {
     let status = match request_of(alloc, words) {
         Ok(Request::Lazy(words)) => run_lazily(alloc, &words, files, &mut out, errors),
+        Ok(Request::Report(words)) => report_build(alloc, &words, files, &mut out, errors),
         Err(fault) => tell_words(&fault, &mut out, errors),
     };
     (status.code(), out)
@@ -57,7 +60,24 @@ fn run_lazily<F: Files, W: Write, E: Write>(
     }
 }
 
-/// Tells what a run printed and how its threads ended.
+/// Does the command `report`.
+fn report_build<F: Files, W: Write, E: Write>(
+    alloc: Global,
+    words: &Report<'_>,
+    files: &mut F,
+    out: &mut W,
+    errors: &mut E,
+) -> Status
+    ensures refused { result ≡ Status.Refused → out.new ≡ out.old }
+    ensures words { result ≢ Status.Words }
+{
+    match reporting::run(alloc, words, files) {
+        Ok(outcome) => tell(&outcome, out, errors),
+        Err(refusal) => refuse(&refusal, errors),
+    }
+}
+
+/// Tells what a run printed and how its threads ended, or a report.
 fn tell<W: Write, E: Write>(outcome: &Outcome, out: &mut W, errors: &mut E) -> Status
     requires { IsTold outcome.now.status }
     ensures told { IsTold result }

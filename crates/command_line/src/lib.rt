@@ -9,5 +9,5 @@ mod request;
 mod words;
 
 pub use fault::WordsFault;
-pub use request::{Lazy, Request};
+pub use request::{Lazy, Report, Request};
 pub use words::request_of;

@@ -5,6 +5,8 @@
 pub enum Request<'a> {
     /// `lazy`: run class files by turns.
     Lazy(Lazy<'a>),
+    /// `report`: tell which classes are initialized at build time.
+    Report(Report<'a>),
 }
 
 /// What the words of `lazy` ask for.
@@ -14,6 +16,19 @@ pub struct Lazy<'a> {
     pub entries: &'a str,
     /// The greatest number of steps of the run, from 1 to 10^15.
     pub limit: u64,
+    /// The names of the class files, in the order given.
+    pub files: Vec<&'a str>,
+}
+
+/// What the words of `report` ask for.
+#[derive(Drop)]
+pub struct Report<'a> {
+    /// The list of the option `--initialize-at-run-time`.
+    pub run_time: Option<&'a str>,
+    /// The list of the option `--initialize-at-build-time`.
+    pub build_time: Option<&'a str>,
+    /// What the initializer of each class may cost.
+    pub budget: u64,
     /// The names of the class files, in the order given.
     pub files: Vec<&'a str>,
 }

@@ -1,10 +1,13 @@
 //! The words of the command line.
 
 use crate::parsed::fault_of;
-use crate::{Lazy, Request, WordsFault};
+use crate::{Lazy, Report, Request, WordsFault};
 use clap::error::ErrorKind;
 use clap::{Arg, ArgMatches, Command, value_parser};
 use std::alloc::{AllocError, Global};
+
+/// What the initializer of each class may cost, where the words name no budget.
+const DEFAULT_BUDGET: &str = "1000000";
 
 /// The steps after which a run ends, where the words name no limit.
 const DEFAULT_LIMIT: &str = "100000000";
@@ -12,12 +15,13 @@ const DEFAULT_LIMIT: &str = "100000000";
 const GREATEST_LIMIT: i64 = 1_000_000_000_000_000;
 
 const PROGRAM_ABOUT: &str = "\
-Runs Java class files of version 52 (Java 8), by single steps of their threads.";
+Runs Java class files of version 52 (Java 8), by single steps of their threads, and tells which classes can be
+initialized before a program runs.";
 
 const STATUSES: &str = "\
 Exit status:
-  0  done: all threads returned
-  1  refused: a class file, the classes together, an entry, or memory
+  0  done: the report is told, or all threads returned
+  1  refused: a class file, the classes together, an entry, an option of a build, or memory
   2  the command line is wrong
   3  a file or standard output failed
   4  stuck: no thread has a step, and one has not ended
@@ -43,6 +47,27 @@ Standard output gets what the program prints. Then standard error gets a line fo
 A class file at fault is named by its place among the files, from 0, and an entry at fault by its place in the list.
 
 For example: preinit lazy --entries app.Main app/Main.class app/Table.class";
+
+const REPORT_ABOUT: &str = "\
+Tells which classes can be initialized at build time, and why the others can't";
+
+const REPORT_LONG_ABOUT: &str = "\
+Builds in memory: runs the initializer of each class that may be initialized before the program is run, alone and
+within a budget. A class may, where its code does nothing that another class or a user could see, and where all classes
+that it uses are initialized before it.
+
+Standard output gets a line for each class, in the order of their names:
+  app/Table build 0 12              initialized at build time, in wave 0; its initializer made 12 objects
+  app/Main run Prints               initialized at run time, since its initializer may print
+The other reasons: Forced (by an option), Throws, Monitors, ForeignWrite, ForeignRead (a field of another class that is
+not final), Unsupported, Missing, Cycle, DependsOn CLASS (a class that it uses is initialized at run time), and of the
+run of its initializer Raised (an exception, also one that is caught), ForeignObject (it looks into an object of
+another class), Budget and Faulted.
+
+An option's fault is told by its text: Empty and the place of an item, Unknown and the item, Both and a class that is
+asked for at both times, Demanded and a class that can't be initialized at build time, with the reason.
+
+For example: preinit report --initialize-at-run-time app.log app/Main.class app/Table.class";
 
 /// Reads the words after the program's name.
 ///
@@ -77,6 +102,7 @@ fn command_of<'a>(
 ) -> Result<Option<Request<'a>>, AllocError> {
     match matches.subcommand() {
         Some(("lazy", matches)) => lazy_of(alloc, matches),
+        Some(("report", matches)) => report_of(alloc, matches),
         _ => Ok(None),
     }
 }
@@ -92,6 +118,24 @@ fn lazy_of<'a>(alloc: Global, matches: &ArgMatches<'a>) -> Result<Option<Request
             })))
         }
         _ => Ok(None),
+    }
+}
+
+fn report_of<'a>(
+    alloc: Global,
+    matches: &ArgMatches<'a>,
+) -> Result<Option<Request<'a>>, AllocError> {
+    match matches.get_one::<u64>("budget") {
+        Some(budget) => {
+            let files = files_of(alloc, matches)?;
+            Ok(Some(Request::Report(Report {
+                run_time: matches.get_str("run_time"),
+                build_time: matches.get_str("build_time"),
+                budget,
+                files,
+            })))
+        }
+        None => Ok(None),
     }
 }
 
@@ -115,13 +159,21 @@ fn missing(alloc: Global, program: &mut Command<'_>) -> WordsFault {
 }
 
 fn program<'a>(alloc: Global) -> Result<Command<'a>, AllocError> {
+    let report = report_command(alloc)?;
     let lazy = lazy_command(alloc)?;
-    with_lazy(described_program(alloc), lazy)
+    with_commands(described_program(alloc), report, lazy)
 }
 
-/// The program with its command.
-fn with_lazy<'a>(program: Command<'a>, lazy: Command<'a>) -> Result<Command<'a>, AllocError> {
-    program.subcommand(lazy)?.bin_name("preinit")
+/// The program with its commands.
+fn with_commands<'a>(
+    program: Command<'a>,
+    report: Command<'a>,
+    lazy: Command<'a>,
+) -> Result<Command<'a>, AllocError> {
+    program
+        .subcommand(report)?
+        .subcommand(lazy)?
+        .bin_name("preinit")
 }
 
 /// The program without its commands.
@@ -141,7 +193,8 @@ fn lazy_command<'a>(alloc: Global) -> Result<Command<'a>, AllocError> {
 
 /// The command `lazy` with its further arguments.
 fn with_limit_and_file<'a>(alloc: Global, lazy: Command<'a>) -> Result<Command<'a>, AllocError> {
-    lazy.arg(limit(alloc))?.arg(file(alloc))
+    lazy.arg(limit(alloc))?
+        .arg(file(alloc, "The class files to run, in any order"))
 }
 
 /// The command `lazy` without its arguments.
@@ -171,9 +224,62 @@ fn limit<'a>(alloc: Global) -> Arg<'a> {
         .help("Ends the run after this many steps, from 1 to 10^15")
 }
 
-fn file<'a>(alloc: Global) -> Arg<'a> {
+fn file<'a>(alloc: Global, help: &'a str) -> Arg<'a> {
     Arg::new(alloc, "file")
         .value_name("FILE")
         .num_args(0..)
-        .help("The class files to run, in any order")
+        .help(help)
+}
+
+fn report_command<'a>(alloc: Global) -> Result<Command<'a>, AllocError> {
+    let report = with_lists(alloc, described_report(alloc))?;
+    with_budget_and_file(alloc, report)
+}
+
+/// The command `report` without its arguments.
+fn described_report<'a>(alloc: Global) -> Command<'a> {
+    Command::new(alloc, "report")
+        .about(REPORT_ABOUT)
+        .long_about(REPORT_LONG_ABOUT)
+        .after_help(STATUSES)
+}
+
+/// A command with the two lists of a build.
+fn with_lists<'a>(alloc: Global, command: Command<'a>) -> Result<Command<'a>, AllocError> {
+    command.arg(build_time(alloc))?.arg(run_time(alloc))
+}
+
+/// The command `report` with its further arguments.
+fn with_budget_and_file<'a>(alloc: Global, report: Command<'a>) -> Result<Command<'a>, AllocError> {
+    report
+        .arg(budget(alloc))?
+        .arg(file(alloc, "The class files, in any order"))
+}
+
+fn build_time<'a>(alloc: Global) -> Arg<'a> {
+    Arg::new(alloc, "build_time")
+        .long("initialize-at-build-time")
+        .value_name("LIST")
+        .help(
+            "Classes and packages, with dots, separated by commas, that have to be initialized at build time; with their \
+             superclasses",
+        )
+}
+
+fn run_time<'a>(alloc: Global) -> Arg<'a> {
+    Arg::new(alloc, "run_time")
+        .long("initialize-at-run-time")
+        .value_name("LIST")
+        .help("The same that are initialized at run time, whatever they do; with their subclasses")
+}
+
+fn budget<'a>(alloc: Global) -> Arg<'a> {
+    Arg::new(alloc, "budget")
+        .long("budget")
+        .value_name("N")
+        .default_value(DEFAULT_BUDGET)
+        .value_parser(value_parser!(u64))
+        .help(
+            "What each initializer may cost, in instructions and elements of new arrays, from 1 to 10^9",
+        )
 }

@@ -9,6 +9,6 @@ mod text;
 mod values;
 mod writing;
 
-pub use sending::WriteFault;
+pub use sending::{WriteFault, send};
 pub use text::image_text;
 pub use writing::write;

@@ -35,11 +35,11 @@ fn put_all<S: Sink>(bytes: &[u8], sink: &mut S) -> (usize, bool)
     (at, true)
 }
 
-/// Sends bytes.
+/// Sends bytes to a sink.
 ///
 /// # Errors
-/// `Device` where the sink failed.
-pub(crate) fn send<S: Sink>(bytes: &[u8], sink: &mut S) -> Result<(), WriteFault>
+/// `Device` where the sink failed: the first bytes have gone out then, as many as it says, and nothing else.
+pub fn send<S: Sink>(bytes: &[u8], sink: &mut S) -> Result<(), WriteFault>
     ensures whole { OnOk result (Appends (S.got sink.old) (S.got sink.new) bytes.now) }
     ensures begun { IfErr result (IsBegun bytes.now (S.got sink.old) (S.got sink.new)) }
     ensures failed { IfErr result (HasFailed (S.failures sink.old) (S.failures sink.new)) }

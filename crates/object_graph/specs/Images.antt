@@ -1,6 +1,7 @@
 -- An image, and the start of a run from it.
-use Rattle.std.specs.Prelude.{List, Option, Some, None, is_some}
-use Rattle.vm_state.specs.SharedState.{Region}
+use Rattle.std.specs.Prelude.{◌≡◌, ℕ, ◌<◌, ◌≤◌, ◌^◌, true, List, Option, Some, None, is_some}
+use Rattle.vm_state.specs.SharedState.{Pool, Region}
+use Rattle.semantics.specs.Quiet.{Environment}
 use Rattle.semantics.specs.Settling.{constant_region}
 use Rattle.semantics.specs.Images.{Image as Start}
 use Rattle.program.specs.Tables.{Tables}
@@ -11,6 +12,24 @@ use Rattle.evaluator.specs.Regions.{environment_of}
 pub record ImageTables : Type 0 where
   pub program : Tables
   pub regions : List (Option Held)
+
+-- ---- objects
+
+-- Each region has fewer than 2^32 objects.
+abbrev pub AreSmall : Environment → Type 0
+AreSmall env = (c : ℕ) (region : Region) → env c ≡ Some region → region.pool.count < 2 ^ 32
+
+-- how many objects a region has, if there is one
+abbrev pub object_count : Option Region → ℕ
+object_count None = 0
+object_count (Some region) = region.pool.count
+
+-- The object of each number below the count is held, and no other one.
+pub record HoldsAll (p : Pool) : Type 0 where
+  pub held : (n : ℕ) → n < p.count → is_some (p.at n) ≡ true
+  pub no_more : (n : ℕ) → p.count ≤ n → p.at n ≡ None
+
+-- ---- the start of a run
 
 -- the region of a class, or that of one that is not initialized
 abbrev pub region_or : Region → Option Region → Region

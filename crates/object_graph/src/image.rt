@@ -3,7 +3,9 @@
 ghost use Rattle.std.specs.Prelude.{◌≡◌, option_map};
 ghost use Rattle.evaluator.specs.Regions.{region_of, environment_of};
 ghost use Rattle.region_shape.specs.Wholes.{AreWhole};
+ghost use Rattle.object_graph.specs.Images.{object_count, AreSmall};
 
+use crate::counting::count_of;
 use evaluator::regions::{Region, Regions};
 use program::Program;
 use std::marker::Model;
@@ -18,13 +20,13 @@ pub struct Image {
 impl Model for Image {
     ghost use Rattle.evaluator.specs.Regions.{environment_of as regions_of};
     ghost use Rattle.region_shape.specs.Wholes.{AreWhole as HasWhole};
-    ghost use Rattle.object_graph.specs.Images.{ImageTables};
+    ghost use Rattle.object_graph.specs.Images.{ImageTables, AreSmall as HasSmall};
 
     ghost Value = { ImageTables };
 
     ghost view = { λ i. record { program = i.program; regions = i.regions } };
 
-    ghost invariant = { λ i. HasWhole i.program (regions_of i.regions) };
+    ghost invariant = { λ i. HasWhole i.program (regions_of i.regions) × HasSmall (regions_of i.regions) };
 }
 
 impl Image {
@@ -40,15 +42,27 @@ impl Image {
         ensures value { option_map (λ r. region_of r.now) result ≡ environment_of self.now.regions class }
         // What holds of every image.
         ensures whole { AreWhole self.now.program (environment_of self.now.regions) }
+        ensures small { AreSmall (environment_of self.now.regions) }
     {
         self.regions.get(class)
     }
+
+    /// How many objects the region of a class has; none, where the class is not initialized.
+    pub fn object_count(&self, class: u32) -> u32
+        ensures { result ≡ object_count (environment_of self.now.regions class) }
+    {
+        match self.region(class) {
+            Some(region) => count_of(&region.objects),
+            None => 0,
+        }
+    }
 }
 
-/// The image of a program and regions of some of its classes. Each region has shape, and names such objects alone as
-/// these regions have.
+/// The image of a program and regions of some of its classes. Each region has shape, names such objects alone as these
+/// regions have, and has fewer than 2^32 objects.
 pub fn gather(program: Program, regions: Regions) -> Image
-    requires { AreWhole program (environment_of regions) }
+    requires whole { AreWhole program (environment_of regions) }
+    requires small { AreSmall (environment_of regions) }
     ensures program { result.program ≡ program }
     ensures regions { result.regions ≡ regions }
 {

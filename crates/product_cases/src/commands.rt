@@ -4,8 +4,8 @@ use crate::class_bytes::number;
 use crate::command_runs::{self, words_of};
 use crate::shelf::Shelf;
 use cli::{
-    Lazy, Refusal, Request, Rest, Status, entries_of, linked_program, request_of, status_of,
-    thread_lines,
+    Lazy, Refusal, Report, Request, Rest, Status, entries_of, linked_program, request_of,
+    status_of, thread_lines,
 };
 use init_engine::Ending;
 use program::Program;
@@ -82,6 +82,7 @@ fn request(alloc: Global, text: &str) -> Result<String, AllocError> {
     let words = words_of(alloc, text)?;
     match request_of(alloc, &words) {
         Ok(Request::Lazy(lazy)) => lazy_text(alloc, &lazy),
+        Ok(Request::Report(report)) => report_request_text(alloc, &report),
         Err(_) => String::from_str(alloc, "no command"),
     }
 }
@@ -91,6 +92,17 @@ fn lazy_text(alloc: Global, lazy: &Lazy<'_>) -> Result<String, AllocError> {
     let limit = lazy.limit;
     let mut text = format!(in alloc; "lazy [{entries}] {limit}")?;
     for file in &lazy.files {
+        write!(text, " [{file}]")?;
+    }
+    Ok(text)
+}
+
+fn report_request_text(alloc: Global, report: &Report<'_>) -> Result<String, AllocError> {
+    let build_time = report.build_time.unwrap_or("none");
+    let run_time = report.run_time.unwrap_or("none");
+    let budget = report.budget;
+    let mut text = format!(in alloc; "report [{build_time}] [{run_time}] {budget}")?;
+    for file in &report.files {
         write!(text, " [{file}]")?;
     }
     Ok(text)

@@ -10,11 +10,11 @@ use Rattle.region_shape.specs.Shapes.{HasShape}
 use Rattle.region_shape.specs.Counts.{NamesObjects, AreClosed}
 use Rattle.region_shape.specs.Laws.{IsLinked, IsFromFile, HaveShape}
 use Rattle.region_shape.specs.Wholes.{AreWhole}
-use Rattle.region_shape.proofs.LawsLemmas.{settled_have_shape_lem, settled_name_objects_lem}
+use Rattle.region_shape.proofs.LawsLemmas.{settled_have_shape_lem, settled_are_within_lem, settled_name_objects_lem}
 use Rattle.region_shape.proofs.NamesLemmas.{names_wider}
 use Rattle.wave_scheduler.specs.Settled.{Outcome, Wave, Refused, Stopped, Settled, HasWave, region_in, if_below, below}
 use Rattle.wave_scheduler.specs.Settled.{LeavesRegion, AreSettled}
-use Rattle.wave_scheduler.specs.Wholes.{SettledAreWhole}
+use Rattle.wave_scheduler.specs.Wholes.{SettledAreWhole, SettledAreSmall}
 use Rattle.wave_scheduler.proofs.SettledLemmas.{same_wave, from_below, below_there}
 
 module _ (P : Tables) (forced : List Bool) (budget : ℕ) (S : Settled) (linked : IsLinked P)
@@ -71,6 +71,16 @@ module _ (P : Tables) (forced : List Bool) (budget : ℕ) (S : Settled) (linked 
         names_wider (below S n) (region_in S) d r (λ e q here. all_there n e q here)
         (closed_below n n (omega arith) d r is);
   }
+
+  small : (c : ℕ) (r : Region) → region_in S c ≡ Some r → r.pool.count ≤ budget
+  small c r has =
+      let (n, at) = are.only c r has in
+      let (cost, settles, within) = leaves c n r at has in
+      let sizes = settled_are_within_lem P linked (below S n) (shape_below n n (omega arith)) c cost r (from c) settles in
+      omega (arith, sizes.count, within)
+
+pub settled_are_small_lem : SettledAreSmall
+settled_are_small_lem P forced budget S linked from are = small P forced budget S linked from are
 
 pub settled_are_whole_lem : SettledAreWhole
 settled_are_whole_lem P forced budget S linked from are = whole P forced budget S linked from are

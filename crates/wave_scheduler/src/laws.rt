@@ -3,7 +3,7 @@
 ghost use Rattle.wave_scheduler.specs.Laws.{OneSettled, SettledAreExact, HasAnalysis, SettledShowTheSame};
 ghost use Rattle.wave_scheduler.specs.Laws.{NeverBarred, MoreAtHand};
 ghost use Rattle.wave_scheduler.specs.Judged.{FollowersAreSettled, FewWaves, HasFollower};
-ghost use Rattle.wave_scheduler.specs.Wholes.{SettledAreWhole};
+ghost use Rattle.wave_scheduler.specs.Wholes.{SettledAreWhole, SettledAreSmall};
 ghost use Rattle.wave_scheduler.specs.steps.Waves.{WavesStart, WavesGoOn, WavesEnd, TriesDecide};
 
 /// The program, the options and the budget determine what becomes of all classes.
@@ -35,6 +35,11 @@ pub fn never_barred()
 /// The regions of settled classes are whole.
 pub fn settled_are_whole()
     ensures { SettledAreWhole }
+{}
+
+/// The regions of settled classes have no more objects than the budget.
+pub fn settled_are_small()
+    ensures { SettledAreSmall }
 {}
 
 /// What follows the verdicts solves the equation.

@@ -19,13 +19,17 @@ try_all-requires-clause-tried c =
 
 pub first_in-requires-clause-count : goal.first_in-requires-clause-count
 first_in-requires-clause-count c =
-    sym (length-map c.try_all.new.settled.outcomes.items outcome_of) ∙ c.in_ok-try_all.ensures.count
+    sym (length-map c.try_all.new.settled.verdicts outcome_of) ∙ c.in_ok-try_all.ensures.count
 
-pub tell_first-requires : goal.tell_first-requires
-tell_first-requires c =
+pub tell_first-requires-clause-count : goal.tell_first-requires-clause-count
+tell_first-requires-clause-count c =
+    sym (length-map c.try_all.new.settled.verdicts outcome_of) ∙ c.in_ok-try_all.ensures.count
+    ∙ sym c.given_count-count.ensures.value
+
+pub tell_first-requires-clause-first : goal.tell_first-requires-clause-first
+tell_first-requires-clause-first c =
     let (marks, refused, firsts) = c.in_ok-first.ensures in
-    rw c.as_slice.ensures.value
-    (firsts.count ∙ sym c.in_ok-try_all.ensures.count ∙ length-map c.try_all.new.settled.outcomes.items outcome_of)
+    rw c.as_slice.ensures.value (firsts.count ∙ sym c.given_count-count.ensures.value)
 
 pub returns : goal.returns
 returns c =
