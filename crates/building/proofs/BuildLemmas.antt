@@ -1,5 +1,5 @@
 -- What an image is of.
-use Rattle.std.proofs.Common.{◌≡◌, ℕ, List, Option, Vec, Global, map, is_some, sym, ap, subst, ◌∙◌}
+use Rattle.std.proofs.Common.{◌≡◌, ℕ, List, Option, map, is_some, sym, ap, subst, ◌∙◌}
 use Rattle.std.proofs.Math.Path.{fun_ext}
 use Rattle.program.specs.Tables.{Tables}
 use Rattle.evaluator.specs.declared.regions.Region.{Region as Held}
@@ -9,7 +9,7 @@ use Rattle.region_shape.specs.Wholes.{AreWhole}
 use Rattle.wave_scheduler.specs.Settled.{Settled, region_in}
 use Rattle.wave_scheduler.specs.Laws.{HasRegions}
 use Rattle.wave_scheduler.specs.Outcomes.{outcome_of, settled_of}
-use Rattle.wave_scheduler.specs.declared.outcome.Outcome.{Outcome as Told}
+use Rattle.initializer_analysis.specs.declared.verdict.Verdict.{Verdict}
 use Rattle.wave_scheduler.specs.declared.outcome.Settled.{Settled as Answer}
 use Rattle.wave_scheduler.proofs.FindingLemmas.{region_seen}
 use Rattle.wave_scheduler.proofs.HeadlineLemmas.{settled_show_the_same_lem}
@@ -44,17 +44,17 @@ module _ (P : Tables) (patterns : List (List ℕ)) (budget : ℕ) (linked : IsLi
       settled (has_regions S I same) s
 
 module _ (P : Tables) (patterns : List (List ℕ)) (budget : ℕ) (s : Answer) (I : ImageTables)
-    (outcomes : Vec Told Global) (program : I.program ≡ P) (regions : I.regions ≡ s.regions)
-    (same : outcomes ≡ s.outcomes) (by : IsSettledBy P patterns budget (settled_of s)) where
+    (verdicts : List Verdict) (program : I.program ≡ P) (regions : I.regions ≡ s.regions)
+    (same : verdicts ≡ s.verdicts) (by : IsSettledBy P patterns budget (settled_of s)) where
   seen_in : (c : ℕ) → environment_of I.regions c ≡ region_in (settled_of s) c
   seen_in c = ap (λ (rs : List (Option Held)). environment_of rs c) regions ∙ region_seen s.regions c
 
-  pub built_by : IsBuilt patterns budget I (map outcome_of outcomes.items)
+  pub built_by : IsBuilt patterns budget I (map outcome_of verdicts)
   built_by = record {
     settled = settled_of s;
     by = subst (λ (Q : Tables). IsSettledBy Q patterns budget (settled_of s)) (sym program) by;
     regions = seen_in;
-    told = ap (λ (o : Vec Told Global). map outcome_of o.items) (sym same);
+    told = ap (map outcome_of) (sym same);
   }
 
   pub shows_built : IsLinked P → ShowsTheSame I

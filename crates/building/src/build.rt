@@ -17,7 +17,7 @@ use object_graph::{Image, gather};
 use options::{Demand, OptionFault, Patterns, check, demand, force, parse};
 use program::{LinkFault, Program};
 use std::alloc::{AllocError, Global};
-use wave_scheduler::outcome::{Outcome, Settled, WaveFault};
+use wave_scheduler::outcome::{Settled, WaveFault};
 use wave_scheduler::settle_all_here;
 
 /// What is asked of a build.
@@ -30,11 +30,11 @@ pub struct BuildOptions<'a> {
     pub budget: u64,
 }
 
-/// An image, and what became of all classes.
+/// An image, and the last verdicts on all classes.
 #[derive(Drop)]
 pub struct Built {
     pub image: Image,
-    pub outcomes: Vec<Outcome>,
+    pub verdicts: Verdicts,
 }
 
 /// Why nothing was built.
@@ -77,7 +77,7 @@ fn checked(
     settled: Settled,
     demand: &Demand,
 ) -> Result<Settled, BuildFault>
-    requires { length settled.outcomes.items ≡ length program.now.classes }
+    requires { length settled.verdicts ≡ length program.now.classes }
     ensures same { IfOk result (λ last. last ≡ settled) }
 {
     match check(alloc, program, &settled, demand) {
@@ -188,12 +188,12 @@ fn image_of(program: Program, settled: Settled) -> Built
     requires { AreWhole program (environment_of settled.regions) }
     ensures program { result.image.program ≡ program }
     ensures regions { result.image.regions ≡ settled.regions }
-    ensures outcomes { result.outcomes ≡ settled.outcomes }
+    ensures verdicts { result.verdicts ≡ settled.verdicts }
 {
-    let Settled { outcomes, regions } = settled;
+    let Settled { verdicts, regions } = settled;
     Built {
         image: gather(program, regions),
-        outcomes,
+        verdicts,
     }
 }
 
@@ -209,7 +209,7 @@ pub fn build_program(
     requires { (class : ℕ) → IsFromFile program class }
     ensures program { IfOk result (λ built. built.image.program ≡ program) }
     ensures built { IfOk result (λ built. IsBuilt (patterns_in (option_map (λ s. s.now) options.now.run_time))
-        options.now.budget built.image (map outcome_of built.outcomes.items)) }
+        options.now.budget built.image (map outcome_of built.verdicts)) }
     ensures shows { IfOk result (λ built. ShowsTheSame built.image) }
 {
     region_shape::is_linked(&program);

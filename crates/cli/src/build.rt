@@ -32,7 +32,7 @@ pub fn build_here(
     ensures program { IfOk result (λ built. IsProgramOf (texts_of files.now) built.image.program) }
     // Its regions are those of the classes that are accepted, where those are forced that the options say.
     ensures built { IfOk result (λ built. IsBuilt (patterns_in (option_map (λ s. s.now) options.now.run_time))
-        options.now.budget built.image (map outcome_of built.outcomes.items)) }
+        options.now.budget built.image (map outcome_of built.verdicts)) }
     // Runs from the image and the lazy procedure show the same.
     ensures shows { IfOk result (λ built. ShowsTheSame built.image) }
 {

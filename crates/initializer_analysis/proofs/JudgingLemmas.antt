@@ -238,10 +238,8 @@ module _ (P : Tables) (uses : UseGraph) (graph : Rows) (whole : IsUseGraph P use
     -- ---- all
 
     own_verdict : (c : ℕ) (x : Reason) → IsFirstReason P forced c x → IsVerdict P forced verdicts c (Refused x)
-    own_verdict c reasons.Forced is_first = is_first
-    own_verdict c (reasons.Marked mark) is_first = is_first
-    own_verdict c reasons.Cycle is_first = is_first
     own_verdict c (reasons.DependsOn e) is_first = absurd is_first.0
+    own_verdict c reason is_first = is_first
 
     verdict_of : (c : ℕ) → c < length P.classes → (x : Option Reason) (e : Option ℕ) → own_reason own c ≡ x
         → first_of c ≡ e → IsVerdict P forced verdicts c (verdict_by x e (height_of c))

@@ -98,27 +98,25 @@ only_forced : (P : Tables) (forced : List Bool) (c : ℕ) (q : Reason) → Holds
 only_forced P forced c reasons.Forced h e = h
 only_forced P forced c (reasons.Marked mark) h e = absurd (omega (arith, mark_between mark))
 only_forced P forced c reasons.Cycle h e = absurd (omega arith)
-only_forced P forced c (reasons.DependsOn d) h e = absurd h
+only_forced P forced c _ h e = absurd h
 
 only_marked : (P : Tables) (forced : List Bool) (c : ℕ) (mark : Mark) (q : Reason) → Holds P forced c q
     → rank q ≡ rank_of mark → HasMark P c mark
 only_marked P forced c mark reasons.Forced h e = absurd (omega (arith, mark_between mark))
 only_marked P forced c mark (reasons.Marked other) h e = subst (HasMark P c) (same_mark other mark e) h
 only_marked P forced c mark reasons.Cycle h e = absurd (omega (arith, mark_between mark))
-only_marked P forced c mark (reasons.DependsOn d) h e = absurd h
+only_marked P forced c mark _ h e = absurd h
 
 only_cycle : (P : Tables) (forced : List Bool) (c : ℕ) (q : Reason) → Holds P forced c q → rank q ≡ 9
     → UsesAlong P c c
 only_cycle P forced c reasons.Forced h e = absurd (omega arith)
 only_cycle P forced c (reasons.Marked mark) h e = absurd (omega (arith, mark_between mark))
 only_cycle P forced c reasons.Cycle h e = h
-only_cycle P forced c (reasons.DependsOn d) h e = absurd h
+only_cycle P forced c _ h e = absurd h
 
 rank_positive : (q : Reason) → 1 ≤ rank q
-rank_positive reasons.Forced = omega arith
 rank_positive (reasons.Marked mark) = omega (arith, mark_between mark)
-rank_positive reasons.Cycle = omega arith
-rank_positive (reasons.DependsOn d) = omega arith
+rank_positive _ = omega arith
 
 -- at first nothing is told
 pub forced_first : (P : Tables) (forced : List Bool) (old new : List (Option Reason))
@@ -187,7 +185,7 @@ cycle_last P forced on_cycle old new are adds first = record {
     none_holds c above (reasons.Marked mark) h =
         absurd (omega (arith, above (reasons.Marked mark) h, mark_between mark))
     none_holds c above reasons.Cycle h = absurd (omega (arith, above reasons.Cycle h))
-    none_holds c above (reasons.DependsOn d) h = h
+    none_holds c above _ h = h
 
     by : (told : Option Reason) (c : ℕ) → IsFirstBelow P forced 10 c told
         → MatchOption told (NoneHolds P forced c) (IsFirstReason P forced c)

@@ -72,10 +72,12 @@ module _ (P : Tables) (forced : List Bool) where
   same_reason c reasons.Cycle reasons.Forced h g e = absurd (omega arith)
   same_reason c reasons.Cycle (reasons.Marked n) h g e = absurd (omega (arith, mark_between n))
   same_reason c reasons.Cycle reasons.Cycle h g e = refl
-  same_reason c (reasons.DependsOn d) q h g e = absurd h
-  same_reason c r (reasons.DependsOn d) h g e = absurd g
+  same_reason c reasons.Forced q h g e = absurd g
+  same_reason c (reasons.Marked m) q h g e = absurd g
+  same_reason c reasons.Cycle q h g e = absurd g
+  same_reason c r q h g e = absurd h
 
-  same_first : (c : ℕ) (r q : Reason) → IsFirstReason P forced c r → IsFirstReason P forced c q → r ≡ q
+  pub same_first : (c : ℕ) (r q : Reason) → IsFirstReason P forced c r → IsFirstReason P forced c q → r ≡ q
   same_first c r q (h, least) (g, other) = same_reason c r q h g (omega (arith, least q g, other r h))
 
   -- a verdict, by what it is: a first reason, a first class that is refused, or a wave
@@ -88,9 +90,7 @@ module _ (P : Tables) (forced : List Bool) where
   kind_of : (verdicts : List Verdict) (c : ℕ) (v : Verdict) → IsVerdict P forced verdicts c v → Kind verdicts c v
   kind_of verdicts c (Wave n) (none, wave) = accepted none wave
   kind_of verdicts c (Refused (reasons.DependsOn e)) (none, first) = dependent none first
-  kind_of verdicts c (Refused reasons.Forced) first = own first
-  kind_of verdicts c (Refused (reasons.Marked mark)) first = own first
-  kind_of verdicts c (Refused reasons.Cycle) first = own first
+  kind_of verdicts c (Refused reason) first = own first
 
   module _ (vs ws : List Verdict) (are : AreVerdicts P forced vs) (also : AreVerdicts P forced ws) where
     there : (c : ℕ) (v : Verdict) → slice_get vs c ≡ Some v → (w : Verdict) × (slice_get ws c ≡ Some w)

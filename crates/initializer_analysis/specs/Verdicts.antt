@@ -17,12 +17,12 @@ pub data UsesAlong (P : Tables) (c : ℕ) : ℕ → Type 0 where
   one : {e : ℕ} → IsUse P c e → UsesAlong P c e
   more : {d e : ℕ} → UsesAlong P c d → IsUse P d e → UsesAlong P c e
 
--- A reason holds of a class by itself, whatever becomes of the classes that it uses.
+-- A reason holds of a class by itself, whatever becomes of the classes that it uses, and before any initializer runs.
 abbrev pub Holds : Tables → List Bool → ℕ → Reason → Type 0
 Holds P forced c reasons.Forced = has_class forced c ≡ true
 Holds P forced c (reasons.Marked mark) = HasMark P c mark
 Holds P forced c reasons.Cycle = UsesAlong P c c
-Holds P forced c (reasons.DependsOn e) = ⊥
+Holds P forced c _ = ⊥
 
 abbrev pub rank_of : Mark → ℕ
 rank_of marks.Prints = 2
@@ -39,6 +39,10 @@ rank reasons.Forced = 1
 rank (reasons.Marked mark) = rank_of mark
 rank reasons.Cycle = 9
 rank (reasons.DependsOn e) = 10
+rank reasons.Raised = 11
+rank reasons.ForeignObject = 12
+rank reasons.Budget = 13
+rank reasons.Faulted = 14
 
 -- the first reason that holds of a class by itself
 abbrev pub IsFirstReason : Tables → List Bool → ℕ → Reason → Type 0
@@ -70,9 +74,7 @@ pub record IsWave (P : Tables) (verdicts : List Verdict) (c n : ℕ) : Type 0 wh
 abbrev pub IsVerdict : Tables → List Bool → List Verdict → ℕ → Verdict → Type 0
 IsVerdict P forced verdicts c (Wave n) = NoneHolds P forced c × IsWave P verdicts c n
 IsVerdict P forced verdicts c (Refused (reasons.DependsOn e)) = NoneHolds P forced c × IsFirstRefused P verdicts c e
-IsVerdict P forced verdicts c (Refused reasons.Forced) = IsFirstReason P forced c reasons.Forced
-IsVerdict P forced verdicts c (Refused (reasons.Marked mark)) = IsFirstReason P forced c (reasons.Marked mark)
-IsVerdict P forced verdicts c (Refused reasons.Cycle) = IsFirstReason P forced c reasons.Cycle
+IsVerdict P forced verdicts c (Refused reason) = IsFirstReason P forced c reason
 
 -- The verdicts of all given classes, by their numbers.
 pub record AreVerdicts (P : Tables) (forced : List Bool) (verdicts : List Verdict) : Type 0 where

@@ -1,11 +1,12 @@
 //! Verdicts on classes.
 
-ghost use Rattle.std.specs.Prelude.{◌≡◌, slice_get};
+ghost use Rattle.std.specs.Prelude.{◌≡◌, ◌<◌, length, slice_get, slice_set};
 
+use std::fmt;
 use std::marker::Model;
 use use_graph::mark::Mark;
 
-/// Why a class is not initialized at build time.
+/// Why a class is not initialized at build time. The last four are found by running its initializer, and by nothing else.
 #[derive(Clone, Copy)]
 pub enum Reason {
     /// It was asked to be initialized at run time.
@@ -16,6 +17,30 @@ pub enum Reason {
     Cycle,
     /// It uses the given class of this number, which is not accepted, and none before it that is not.
     DependsOn(u32),
+    /// Its initializer raises an exception, also one that it would catch.
+    Raised,
+    /// Its initializer looks into an object of another class, or changes one.
+    ForeignObject,
+    /// Its initializer costs more than the budget.
+    Budget,
+    /// Its initializer could not go on.
+    Faulted,
+}
+
+// By hand, since a derived one would ask for one of each mark.
+impl fmt::Debug for Reason {
+    fn fmt<W: fmt::Write>(&self, f: &mut fmt::Formatter<W>) -> fmt::Result {
+        match self {
+            Reason::Forced => f.write_str("Forced"),
+            Reason::Marked(_) => f.write_str("Marked"),
+            Reason::Cycle => f.write_str("Cycle"),
+            Reason::DependsOn(class) => write!(f, "DependsOn({class})"),
+            Reason::Raised => f.write_str("Raised"),
+            Reason::ForeignObject => f.write_str("ForeignObject"),
+            Reason::Budget => f.write_str("Budget"),
+            Reason::Faulted => f.write_str("Faulted"),
+        }
+    }
 }
 
 /// What becomes of a class at build time.
@@ -43,7 +68,7 @@ impl Model for Verdicts {
 
 impl Verdicts {
     /// These verdicts, by numbers of classes.
-    pub(crate) fn of(verdicts: Vec<Verdict>) -> Verdicts
+    pub fn of(verdicts: Vec<Verdict>) -> Verdicts
         ensures { result ≡ verdicts.items }
     {
         Verdicts { verdicts }
@@ -54,6 +79,14 @@ impl Verdicts {
         ensures { result.now ≡ self.now }
     {
         self.verdicts.as_slice()
+    }
+
+    /// Puts the verdict on a class in its place.
+    pub fn put(&mut self, class: u32, verdict: Verdict)
+        requires { class < length self.old }
+        ensures { self.new ≡ slice_set self.old class verdict }
+    {
+        self.verdicts[class as usize] = verdict;
     }
 
     /// The verdict on a class, if it is given.

@@ -12,8 +12,9 @@ use Rattle.program.specs.Programs.{IsProgram, IsClass}
 use Rattle.program.specs.declared.class.Class.{Class}
 use Rattle.std.proofs.lemmas.Slice.Zip.{AllZip-long}
 use Rattle.initializer_analysis.specs.Forced.{has_class}
-use Rattle.wave_scheduler.specs.declared.outcome.Outcome.{Outcome as Told}
-use Rattle.wave_scheduler.specs.declared.outcome.Outcome.TheVariants.{Wave as ToldWave}
+use Rattle.initializer_analysis.specs.declared.verdict.Reason.{Reason}
+use Rattle.initializer_analysis.specs.declared.verdict.Verdict.{Verdict}
+use Rattle.initializer_analysis.specs.declared.verdict.Verdict.TheVariants as verdicts
 use Rattle.wave_scheduler.specs.declared.outcome.Settled.{Settled as Answer}
 use Rattle.wave_scheduler.specs.Outcomes.{outcome_of, settled_of}
 use Rattle.wave_scheduler.specs.Settled.{Wave}
@@ -23,7 +24,7 @@ use Rattle.options.specs.steps.Unmet.{IsUnmetOf, NoneOffBelow, NamesUnmet, named
 use Rattle.options.specs.declared.fault.OptionFault.{OptionFault}
 use Rattle.options.specs.declared.fault.OptionFault.TheVariants.{Memory, Demanded}
 
-pub names_unmet : (family classes : Family) (c : ℕ) (o : Told) (given : GivenClass) (name read : List ℕ)
+pub names_unmet : (family classes : Family) (c : ℕ) (o : Reason) (given : GivenClass) (name read : List ℕ)
     → classes ≡ family → c < length classes → given ≡ get_or classes c given → read ≡ name_of given.file
     → units_text name ≡ read → (Demanded name o ≡ Memory) ⊎ NamesUnmet family c o (Demanded name o)
 names_unmet family classes c o given name read same small is named-is text =
@@ -33,12 +34,12 @@ names_unmet family classes c o given name read same small is named-is text =
     inr (named (subst (λ (f : Family). name_in f c ≡ Some (units_text name)) same here))
 
 module _ (P : Tables) (demand : List Bool) (s : Answer) where
-  seen_at : (c : ℕ) (o : Told) → slice_get s.outcomes.items c ≡ Some o
-      → slice_get (settled_of s).outcomes c ≡ Some (outcome_of o)
-  seen_at c o at = slice_get-map outcome_of s.outcomes.items c ∙ ap (option_map outcome_of) at
+  seen_at : (c : ℕ) (v : Verdict) → slice_get s.verdicts c ≡ Some v
+      → slice_get (settled_of s).outcomes c ≡ Some (outcome_of v)
+  seen_at c v at = slice_get-map outcome_of s.verdicts c ∙ ap (option_map outcome_of) at
 
-  pub none_off_more : (c : ℕ) (r : Option Told) → r ≡ None → NoneOffBelow demand (settled_of s) c
-      → IsUnmetOf s.outcomes.items demand c r → NoneOffBelow demand (settled_of s) (c + 1)
+  pub none_off_more : (c : ℕ) (r : Option Reason) → r ≡ None → NoneOffBelow demand (settled_of s) c
+      → IsUnmetOf s.verdicts demand c r → NoneOffBelow demand (settled_of s) (c + 1)
   none_off_more c None none before fine d low (held, never) = elim (cases_lt d c) [
     | inl below ↦ before d below (held, never)
     | inr past ↦
@@ -47,7 +48,7 @@ module _ (P : Tables) (demand : List Bool) (s : Answer) where
         never (
           n,
           subst (λ (x : ℕ). slice_get (settled_of s).outcomes x ≡ Some (Wave n)) (sym same)
-              (seen_at c (ToldWave n) at),
+              (seen_at c (verdicts.Wave n) at),
         )
   ]
   none_off_more c (Some o) none before fine d low both = absurd (let clash : Some o ≡ None = none in cc)
@@ -59,17 +60,18 @@ module _ (P : Tables) (demand : List Bool) (s : Answer) where
     | inr never ↦ absurd (before c (omega arith) (held, never))
   ]
 
-  pub one_unmet : (c limit : ℕ) (o : Told) (fault : OptionFault) → limit ≡ length P.classes → c < limit
-      → NoneOffBelow demand (settled_of s) c → IsUnmetOf s.outcomes.items demand c (Some o)
+  pub one_unmet : (c limit : ℕ) (o : Reason) (fault : OptionFault) → limit ≡ length P.classes → c < limit
+      → NoneOffBelow demand (settled_of s) c → IsUnmetOf s.verdicts demand c (Some o)
       → (fault ≡ Memory) ⊎ NamesUnmet P.family c o fault
       → (fault ≡ Memory) ⊎ IsUnmet P demand (settled_of s) fault
   one_unmet c limit o fault end low before off (inl memory) = inl memory
-  one_unmet c limit o _ end low before (held, at, refused) (inr (named {name} is)) =
+  one_unmet c limit o _ end low before (held, at) (inr (named {name} is)) =
+      let there = seen_at c (verdicts.Refused o) at in
       inr (unmet (record {
         low = omega arith;
-        here = (held, (refused_or (settled_of s) c (outcome_of o) (seen_at c o at)).0 refused);
+        here = (held, (refused_or (settled_of s) c (verdicts.Refused o) there).0 refl);
         before = before;
-      }) (seen_at c o at) is)
+      }) there is)
 
 pub as_many : (P : Tables) → IsProgram P → length P.classes ≡ length P.family
 as_many P is =

@@ -4,7 +4,8 @@ use Rattle.classfile.specs.Units.{units_text}
 use Rattle.loading.specs.Families.{name_in}
 use Rattle.program.specs.Tables.{Tables}
 use Rattle.initializer_analysis.specs.Forced.{has_class}
-use Rattle.wave_scheduler.specs.declared.outcome.Outcome.{Outcome}
+use Rattle.initializer_analysis.specs.declared.verdict.Reason.{Reason}
+use Rattle.initializer_analysis.specs.declared.verdict.Verdict.TheVariants.{Refused}
 use Rattle.wave_scheduler.specs.Outcomes.{outcome_of}
 use Rattle.wave_scheduler.specs.Settled.{Settled, IsAccepted}
 use Rattle.options.specs.declared.fault.OptionFault.{OptionFault}
@@ -26,6 +27,6 @@ pub record IsFirstOff (P : Tables) (demand : List Bool) (S : Settled) (c : ℕ) 
 
 -- what is wrong with the demands, but for want of memory
 pub data IsUnmet (P : Tables) (demand : List Bool) (S : Settled) : OptionFault → Type 0 where
-  unmet : {class : ℕ} {name : List ℕ} {outcome : Outcome} → IsFirstOff P demand S class
-      → slice_get S.outcomes class ≡ Some (outcome_of outcome) → name_in P.family class ≡ Some (units_text name)
-      → IsUnmet P demand S (Demanded name outcome)
+  unmet : {class : ℕ} {name : List ℕ} {reason : Reason} → IsFirstOff P demand S class
+      → slice_get S.outcomes class ≡ Some (outcome_of (Refused reason))
+      → name_in P.family class ≡ Some (units_text name) → IsUnmet P demand S (Demanded name reason)

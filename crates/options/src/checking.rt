@@ -9,35 +9,36 @@ ghost use Rattle.options.specs.declared.fault.OptionFault.TheVariants.{Memory};
 use crate::demanded::Demand;
 use crate::fault::OptionFault;
 use classfile::ClassName;
+use initializer_analysis::verdict::{Reason, Verdict};
 use loading::family::Family;
 use loading::names::name_of;
 use program::Program;
 use std::alloc::Global;
-use wave_scheduler::outcome::{Outcome, Settled};
+use wave_scheduler::outcome::Settled;
 
-/// What became of a class, if it is demanded and not accepted.
-fn unmet(outcomes: &[Outcome], demand: &Demand, class: u32) -> Option<Outcome>
-    requires { class < length outcomes.now }
-    ensures { IsUnmetOf outcomes.now demand.now class result }
+/// Why a class is not accepted, if it is demanded and is not.
+fn unmet(verdicts: &[Verdict], demand: &Demand, class: u32) -> Option<Reason>
+    requires { class < length verdicts.now }
+    ensures { IsUnmetOf verdicts.now demand.now class result }
 {
     if !demand.has(class) {
         return None;
     }
-    match outcomes[class as usize] {
-        Outcome::Wave(_) => None,
-        outcome => Some(outcome),
+    match verdicts[class as usize] {
+        Verdict::Wave(_) => None,
+        Verdict::Refused(reason) => Some(reason),
     }
 }
 
-/// The fault of a class that is demanded, and of which this became.
-fn demanded(alloc: Global, family: &Family, class: u32, outcome: Outcome) -> OptionFault
+/// The fault of a class that is demanded and not accepted for this reason.
+fn demanded(alloc: Global, family: &Family, class: u32, reason: Reason) -> OptionFault
     requires { class < length family.now }
-    ensures { (result ≡ Memory) ⊎ NamesUnmet family.now class outcome result }
+    ensures { (result ≡ Memory) ⊎ NamesUnmet family.now class reason result }
 {
     let classes = family.classes();
     let class = &classes[class as usize];
     match ClassName::from_modified_utf8(alloc, name_of(&class.file)) {
-        Ok(name) => OptionFault::Demanded(name, outcome),
+        Ok(name) => OptionFault::Demanded(name, reason),
         Err(_) => OptionFault::Memory,
     }
 }
@@ -45,23 +46,23 @@ fn demanded(alloc: Global, family: &Family, class: u32, outcome: Outcome) -> Opt
 /// Checks that each class that is demanded is accepted.
 ///
 /// # Errors
-/// `Demanded` of the least class that is not, with what became of it; and `Memory` where memory runs out.
+/// `Demanded` of the least class that is not, with the reason; and `Memory` where memory runs out.
 pub fn check(
     alloc: Global,
     program: &Program,
     settled: &Settled,
     demand: &Demand,
 ) -> Result<(), OptionFault>
-    requires { length settled.now.outcomes.items ≡ length program.now.classes }
+    requires { length settled.now.verdicts ≡ length program.now.classes }
     ensures met { OnOk result (AreMet program.now demand.now (settled_of settled.now)) }
     ensures fault { IfErr result
         (λ fault. (fault ≡ Memory) ⊎ IsUnmet program.now demand.now (settled_of settled.now) fault) }
 {
     let _tables = program.classes();
-    let outcomes = settled.outcomes.as_slice();
+    let verdicts = settled.verdicts.as_slice();
     for class in 0..program.given_count() {
-        match unmet(outcomes, demand, class) {
-            Some(outcome) => return Err(demanded(alloc, program.family(), class, outcome)),
+        match unmet(verdicts, demand, class) {
+            Some(reason) => return Err(demanded(alloc, program.family(), class, reason)),
             None => {}
         }
     }

@@ -4,9 +4,9 @@ ghost use Rattle.std.specs.Prelude.{◌≡◌};
 ghost use Rattle.options.specs.declared.fault.OptionFault.TheVariants.{Memory};
 
 use classfile::ClassName;
+use initializer_analysis::verdict::Reason;
 use std::alloc::{AllocError, AllocFailed};
 use thiserror::Error;
-use wave_scheduler::outcome::Outcome;
 
 /// What is wrong with the options. Names of classes are printed with slashes.
 #[derive(Debug, Drop, Error)]
@@ -22,9 +22,10 @@ pub enum OptionFault {
     /// This class is forced to run time and demanded at build time.
     #[error("Both {0}")]
     Both(ClassName),
-    /// This class is demanded at build time, and this became of it.
+    /// This class is demanded at build time, and is not accepted for this reason. The reason is not printed, since it
+    /// may be about a class that is known by its number alone.
     #[error("Demanded {0}")]
-    Demanded(ClassName, Outcome),
+    Demanded(ClassName, Reason),
 }
 
 impl From<AllocError> for OptionFault {

@@ -56,6 +56,10 @@ fn add_reason(
         Reason::Marked(mark) => text.push_str(mark_word(mark)),
         Reason::Cycle => text.push_str(" Cycle"),
         Reason::DependsOn(class) => add_dependence(alloc, text, program, class),
+        Reason::Raised => text.push_str(" Raised"),
+        Reason::ForeignObject => text.push_str(" ForeignObject"),
+        Reason::Budget => text.push_str(" Budget"),
+        Reason::Faulted => text.push_str(" Faulted"),
     }
 }
 

@@ -109,6 +109,7 @@ module _ (P : Tables) (forced : List Bool) (budget : ℕ) (S : Settled) (A : Ana
     by_outcome (Refused (reasons.Marked mark)) at first = absurd (((is.allowed c low).0 allowed).1 mark first.0)
     by_outcome (Refused reasons.Cycle) at first =
         absurd (let (s, again, down) = along_lower r accepted first.0 in never_lower c down)
+    by_outcome (Refused _) at first = absurd first.0
 
     settled : region_in S c ≡ Some r
     settled =

@@ -12,6 +12,7 @@ use Rattle.program.specs.Programs.{IsProgram}
 use Rattle.program.specs.Tables.{Tables}
 use Rattle.machine.specs.Linked.{program_of}
 use Rattle.use_graph.specs.Uses.{IsUse}
+use Rattle.initializer_analysis.specs.declared.verdict.Reason.{Reason}
 use Rattle.initializer_analysis.specs.declared.verdict.Reason.TheVariants as reasons
 use Rattle.initializer_analysis.specs.declared.verdict.Verdict.{Verdict}
 use Rattle.initializer_analysis.specs.declared.verdict.Verdict.TheVariants as verdicts
@@ -21,13 +22,12 @@ use Rattle.initializer_analysis.specs.RefusedUses.{IsRefusedUse}
 use Rattle.evaluator.specs.declared.regions.Region.{Region as Held}
 use Rattle.evaluator.specs.Regions.{region_of, environment_of}
 use Rattle.evaluator.specs.Regions as held
-use Rattle.wave_scheduler.specs.declared.outcome.Outcome.{Outcome as Told}
 use Rattle.wave_scheduler.specs.declared.outcome.Settled.{Settled as Answer}
 use Rattle.wave_scheduler.specs.Settled.{Outcome, Wave, Refused, Stopped, Settled, IsAccepted, region_in, below}
 use Rattle.wave_scheduler.specs.Judged.{UsesAccepted}
 use Rattle.wave_scheduler.specs.Outcomes.{outcome_of, settled_of}
 use Rattle.wave_scheduler.specs.steps.Waves.{IsTriedIn, AreTriedBelow, TriesWave, Decides, StartsFrom}
-use Rattle.wave_scheduler.specs.steps.Waves.{AreRefusedIn, dependent, started}
+use Rattle.wave_scheduler.specs.steps.Waves.{AreRefusedIn, dependent}
 use Rattle.wave_scheduler.specs.steps.Finding.{AreFirstIn, CanRun, IsFound, SetsClass, FindsInWave, TriesBelow}
 use Rattle.wave_scheduler.specs.steps.Finding.{is_refused, TellsBelow}
 use Rattle.wave_scheduler.proofs.SettledLemmas.{from_below}
@@ -71,10 +71,10 @@ pub none_seen : (r : Option Held) → seen r ≡ None → r ≡ None
 none_seen None is = refl
 none_seen (Some r) is = cc
 
-abbrev answer : List Told → List (Option Held) → Settled
+abbrev answer : List Verdict → List (Option Held) → Settled
 answer outs rs = record { outcomes = map outcome_of outs; regions = map seen rs }
 
-pub sets_class : (outs more : List Told) (rs held : List (Option Held)) (c : ℕ) (o : Told) (r : Option Held)
+pub sets_class : (outs more : List Verdict) (rs held : List (Option Held)) (c : ℕ) (o : Verdict) (r : Option Held)
     → c < length outs → c < length rs → more ≡ slice_set outs c o → held ≡ slice_set rs c r
     → SetsClass c (outcome_of o) (seen r) (answer outs rs) (answer more held)
 sets_class outs more rs held c o r low less out_is region_is =
@@ -243,30 +243,30 @@ module _ (P : Tables) (forced : List Bool) (budget : ℕ) (judged : List Verdict
 
 -- ---- which classes are not accepted
 
-pub refused_or : (S : Settled) (c : ℕ) (o : Outcome) → slice_get S.outcomes c ≡ Some o
-    → (is_refused o ≡ true) ↔ (¬ IsAccepted S c)
-refused_or S c (Wave k) at = (λ held. absurd cc, λ never. absurd (never (k, at)))
-refused_or S c (Refused r) at =
-    (λ held (k, here). let clash : Some (Refused r) ≡ Some (Wave k) = sym at ∙ here in cc, λ never. refl)
-refused_or S c (Stopped w) at =
-    (λ held (k, here). let clash : Some (Stopped w) ≡ Some (Wave k) = sym at ∙ here in cc, λ never. refl)
+no_wave : (reason : Reason) (k : ℕ) → outcome_of (verdicts.Refused reason) ≡ Wave k → ⊥
+no_wave _ k is = absurd cc
+
+pub refused_or : (S : Settled) (c : ℕ) (v : Verdict) → slice_get S.outcomes c ≡ Some (outcome_of v)
+    → (is_refused v ≡ true) ↔ (¬ IsAccepted S c)
+refused_or S c (verdicts.Wave k) at = (λ held. absurd cc, λ never. absurd (never (k, at)))
+refused_or S c (verdicts.Refused r) at = (λ held (k, here). no_wave r k (from_some (sym at ∙ here)), λ never. refl)
 
 index_map : {A B : Type 0} (f : A → B) (xs : List A) (c : ℕ) (d : B) (x : A) → slice_get xs c ≡ Some x
     → slice_index_or (map f xs) c d ≡ f x
 index_map f xs c d x at =
     get_or_from_slice_get (map f xs) c (f x) d (slice_get-map f xs c ∙ ap (option_map f) at)
 
-pub marks_are : (P : Tables) (outs : List Told) (rs : List (Option Held)) (marks : List Bool)
-    → length outs ≡ length P.classes → marks ≡ map (λ o. is_refused (outcome_of o)) outs
+pub marks_are : (P : Tables) (outs : List Verdict) (rs : List (Option Held)) (marks : List Bool)
+    → length outs ≡ length P.classes → marks ≡ map is_refused outs
     → AreRefusedIn P (answer outs rs) marks
 marks_are P outs rs marks count are = rw are record {
-  count = length-map outs (λ o. is_refused (outcome_of o)) ∙ count;
+  count = length-map outs is_refused ∙ count;
   each = λ c low.
       let (o, at) = one_of outs c (omega (arith, count)) in
-      let same = index_map (λ (x : Told). is_refused (outcome_of x)) outs c false o at in
+      let same = index_map is_refused outs c false o at in
       let there : slice_get (map outcome_of outs) c ≡ Some (outcome_of o) =
       slice_get-map outcome_of outs c ∙ ap (option_map outcome_of) at in
-      rw same (refused_or (answer outs rs) c (outcome_of o) there);
+      rw same (refused_or (answer outs rs) c o there);
 }
 
 -- ---- at the end
@@ -274,8 +274,8 @@ marks_are P outs rs marks count are = rw are record {
 pub tells_none : (first : List (Option ℕ)) (old : List Outcome) → TellsBelow first 0 old old
 tells_none first old = record { count = refl; each = λ c o low at. absurd (omega arith); rest = λ c low. refl }
 
-pub tells_more : (first : List (Option ℕ)) (limit : ℕ) (old : List Outcome) (cur more : List Told) (o : Told)
-    (x : Told) → limit < length cur → slice_index_or cur limit x ≡ x → TellsBelow first limit old (map outcome_of cur)
+pub tells_more : (first : List (Option ℕ)) (limit : ℕ) (old : List Outcome) (cur more : List Verdict) (o x : Verdict)
+    → limit < length cur → slice_index_or cur limit x ≡ x → TellsBelow first limit old (map outcome_of cur)
     → outcome_of o ≡ dependent (slice_index_or first limit None) (outcome_of x) → more ≡ slice_set cur limit o
     → TellsBelow first (limit + 1) old (map outcome_of more)
 tells_more first limit old cur more o x low was tells told is = rw (is, map-set outcome_of cur limit o) record {
@@ -305,13 +305,12 @@ region_none zero c = refl
 region_none (suc n) zero = refl
 region_none (suc n) (suc c) = region_none n c
 
-pub starts_from : (judged : List Verdict) (outs : List Told) (rs : List (Option Held))
-    → map outcome_of outs ≡ map started judged → rs ≡ replicate (length judged) None
-    → StartsFrom judged (answer outs rs)
+pub starts_from : (judged outs : List Verdict) (rs : List (Option Held)) → outs ≡ judged
+    → rs ≡ replicate (length judged) None → StartsFrom judged (answer outs rs)
 starts_from judged outs rs are none = record {
-  count = ap length are ∙ length-map judged started;
-  each = λ c v at. ap (λ (os : List Outcome). slice_get os c) are
-      ∙ slice_get-map started judged c ∙ ap (option_map started) at;
+  count = length-map outs outcome_of ∙ ap length are;
+  each = λ c v at. slice_get-map outcome_of outs c
+      ∙ ap (option_map outcome_of) (ap (λ (vs : List Verdict). slice_get vs c) are ∙ at);
   regions = length-map rs seen ∙ ap length none ∙ length-replicate (length judged) None;
   none = λ c. ap (λ (x : List (Option Held)). slice_index_or (map seen x) c None) none
       ∙ region_none (length judged) c;

@@ -17,6 +17,7 @@ use Rattle.program.specs.Programs.{IsProgram}
 use Rattle.program.specs.Tables.{Tables}
 use Rattle.machine.specs.Linked.{program_of}
 use Rattle.use_graph.specs.Uses.{IsUse}
+use Rattle.initializer_analysis.specs.declared.verdict.Reason.{Reason}
 use Rattle.initializer_analysis.specs.declared.verdict.Reason.TheVariants as reasons
 use Rattle.initializer_analysis.specs.declared.verdict.Verdict.{Verdict}
 use Rattle.initializer_analysis.specs.declared.verdict.Verdict.TheVariants as verdicts
@@ -207,9 +208,7 @@ module _ (P : Tables) (budget : ℕ) where
     abbrev outcome : ℕ → Option Verdict → Outcome
     outcome c None = Refused (reasons.DependsOn 0)
     outcome c (Some (verdicts.Refused (reasons.DependsOn d))) = Refused (reasons.DependsOn (first c))
-    outcome c (Some (verdicts.Refused reasons.Forced)) = Refused reasons.Forced
-    outcome c (Some (verdicts.Refused (reasons.Marked mark))) = Refused (reasons.Marked mark)
-    outcome c (Some (verdicts.Refused reasons.Cycle)) = Refused reasons.Cycle
+    outcome c (Some (verdicts.Refused reason)) = Refused reason
     outcome c (Some (verdicts.Wave n)) = by_attempt c n (attempt (hand n) c)
 
     all_of : Settled
@@ -293,6 +292,10 @@ module _ (P : Tables) (forced : List Bool) (budget : ℕ) (judged : List Verdict
       same : (v : Verdict) → slice_get judged c ≡ Some v → outcome P budget judged c (Some v) ≡ Wave n
       same v at = from_some (sym (outcome_at c v at) ∙ here)
 
+      never : (r : Reason) → outcome P budget judged c (Some (verdicts.Refused r)) ≡ Wave n → Has c n
+      never (reasons.DependsOn d) is = absurd cc
+      never reason is = absurd cc
+
       by_tried : (m : ℕ) (a : Attempt P budget (at_hand m) c) → attempt P budget (at_hand m) c ≡ a
           → before.HasWave judged c m → by_attempt P budget judged c m a ≡ Wave n → Has c n
       by_tried m (Stops stop all stops) is at wave = cc
@@ -311,10 +314,7 @@ module _ (P : Tables) (forced : List Bool) (budget : ℕ) (judged : List Verdict
       by None at = absurd (let high = none_past c at in
           let low = slice_get_within S.outcomes c (Wave n) here in
           omega (arith, outcomes_count))
-      by (Some (verdicts.Refused (reasons.DependsOn d))) at = absurd (let clash = same _ at in cc)
-      by (Some (verdicts.Refused reasons.Forced)) at = absurd (let clash = same _ at in cc)
-      by (Some (verdicts.Refused (reasons.Marked mark))) at = absurd (let clash = same _ at in cc)
-      by (Some (verdicts.Refused reasons.Cycle)) at = absurd (let clash = same _ at in cc)
+      by (Some (verdicts.Refused reason)) at = never reason (same (verdicts.Refused reason) at)
       by (Some (verdicts.Wave m)) at =
           by_tried m (attempt P budget (at_hand m) c) refl at (same (verdicts.Wave m) at)
 
@@ -459,12 +459,10 @@ module _ (P : Tables) (forced : List Bool) (budget : ℕ) (judged : List Verdict
 
     follows : (c : ℕ) (v : Verdict) → slice_get judged c ≡ Some v
         → Follows P budget S c v (outcome P budget judged c (Some v))
-    follows c (verdicts.Refused reasons.Forced) at = refl
-    follows c (verdicts.Refused (reasons.Marked mark)) at = refl
-    follows c (verdicts.Refused reasons.Cycle) at = refl
     follows c (verdicts.Refused (reasons.DependsOn d)) at =
         let (none, (used, refused, least)) = are.each c (verdicts.Refused (reasons.DependsOn d)) at in
         (first P budget judged c, refl, depends c d used (refused_nothing d refused))
+    follows c (verdicts.Refused reason) at = refl
     follows c (verdicts.Wave n) at = follows_tried c n (attempt P budget (at_hand n) c) refl at
 
     all_follow : FollowVerdicts P budget judged S

@@ -39,19 +39,14 @@ module _ (P : Tables) (forced : List Bool) (budget : ℕ) (judged : List Verdict
       (none, wave_there c n wave accepted, region, there, leaves)
   by_wave c n (Stopped why) none wave (accepted, stops) = (none, n, wave_there c n wave accepted, stops)
   by_wave c n (Refused (reasons.DependsOn e)) none wave first = (none, first)
-  by_wave c n (Refused reasons.Forced) none wave never = absurd never
-  by_wave c n (Refused (reasons.Marked mark)) none wave never = absurd never
-  by_wave c n (Refused reasons.Cycle) none wave never = absurd never
+  by_wave c n (Refused _) none wave never = absurd never
 
   by_verdict : (c : ℕ) (v : Verdict) (o : Outcome) → before.IsVerdict P forced judged c v → Follows P budget S c v o
       → IsOutcome P forced budget S c o
   by_verdict c (verdicts.Wave n) o (none, wave) tried = by_wave c n o none wave tried
   by_verdict c (verdicts.Refused (reasons.DependsOn d)) o (none, was) (e, is, first) =
       subst (IsOutcome P forced budget S c) (sym is) (none, first)
-  by_verdict c (verdicts.Refused reasons.Forced) o first is = subst (IsOutcome P forced budget S c) (sym is) first
-  by_verdict c (verdicts.Refused (reasons.Marked mark)) o first is =
-      subst (IsOutcome P forced budget S c) (sym is) first
-  by_verdict c (verdicts.Refused reasons.Cycle) o first is = subst (IsOutcome P forced budget S c) (sym is) first
+  by_verdict c (verdicts.Refused reason) o first is = subst (IsOutcome P forced budget S c) (sym is) first
 
   settled : AreSettled P forced budget S
   settled = record {

@@ -1,5 +1,4 @@
 pub mod ReachesLemmas
-pub mod ReasonsLemmas
 pub mod SettledLemmas
 pub mod ExactLemmas
 pub mod OneSettledLemmas

@@ -18,12 +18,12 @@ use Rattle.use_graph.specs.Uses.{IsUse}
 use Rattle.initializer_analysis.specs.declared.verdict.Reason.{Reason}
 use Rattle.initializer_analysis.specs.declared.verdict.Reason.TheVariants as reasons
 use Rattle.initializer_analysis.specs.Verdicts.{NoneHolds, IsFirstReason}
+use Rattle.initializer_analysis.proofs.VerdictsLemmas.{same_first}
 use Rattle.wave_scheduler.specs.Settled.{Outcome, Wave, Refused, Stopped, Settled, HasWave, region_in, below}
 use Rattle.wave_scheduler.specs.Settled.{IsFirstRefused, IsWave, LeavesRegion, IsOutcome, AreSettled}
 use Rattle.wave_scheduler.specs.Laws.{OneSettled}
 use Rattle.wave_scheduler.proofs.ReachesLemmas.{one_of, same_lists, same_by_places}
 use Rattle.wave_scheduler.proofs.SettledLemmas.{same_wave, below_there, from_below}
-use Rattle.wave_scheduler.proofs.ReasonsLemmas.{same_first}
 
 -- two environments that extend each other are one
 same_at_hand : (first second : Environment) → Extends first second → Extends second first → first ≡ second
@@ -52,9 +52,7 @@ module _ (P : Tables) (forced : List Bool) (budget : ℕ) where
   kind_of S c (Wave n) (none, wave, r, there, leaves) = accepted none wave there leaves
   kind_of S c (Stopped why) (none, n, wave, stops) = stopped none wave stops
   kind_of S c (Refused (reasons.DependsOn e)) (none, first) = dependent none first
-  kind_of S c (Refused reasons.Forced) first = own first
-  kind_of S c (Refused (reasons.Marked mark)) first = own first
-  kind_of S c (Refused reasons.Cycle) first = own first
+  kind_of S c (Refused reason) first = own first
 
   -- all uses are accepted in both, in the same waves
   abbrev AreUsedIn : Settled → Settled → ℕ → Type 0

@@ -34,9 +34,7 @@ dependent-wave (Some e) k = refl
 dependent-own : (f : Option ℕ) (r : Reason) → (q : Reason) × (dependent f (Refused r) ≡ Refused q)
 dependent-own None r = (r, refl)
 dependent-own (Some e) (reasons.DependsOn d) = (reasons.DependsOn e, refl)
-dependent-own (Some e) reasons.Forced = (reasons.Forced, refl)
-dependent-own (Some e) (reasons.Marked mark) = (reasons.Marked mark, refl)
-dependent-own (Some e) reasons.Cycle = (reasons.Cycle, refl)
+dependent-own (Some e) reason = (reason, refl)
 
 dependent-below : (f : Option ℕ) (n : ℕ) (o : Outcome) (held : Option Region)
     → if_below n (Some (dependent f o)) held ≡ if_below n (Some o) held
@@ -44,18 +42,14 @@ dependent-below None n o held = refl
 dependent-below (Some e) n (Wave k) held = refl
 dependent-below (Some e) n (Stopped why) held = refl
 dependent-below (Some e) n (Refused (reasons.DependsOn d)) held = refl
-dependent-below (Some e) n (Refused reasons.Forced) held = refl
-dependent-below (Some e) n (Refused (reasons.Marked mark)) held = refl
-dependent-below (Some e) n (Refused reasons.Cycle) held = refl
+dependent-below (Some e) n (Refused reason) held = refl
 
 dependent-back : (f : Option ℕ) (o : Outcome) (k : ℕ) → dependent f o ≡ Wave k → o ≡ Wave k
 dependent-back None o k is = is
 dependent-back (Some e) (Wave j) k is = is
 dependent-back (Some e) (Stopped why) k is = cc
 dependent-back (Some e) (Refused (reasons.DependsOn d)) k is = cc
-dependent-back (Some e) (Refused reasons.Forced) k is = cc
-dependent-back (Some e) (Refused (reasons.Marked mark)) k is = cc
-dependent-back (Some e) (Refused reasons.Cycle) k is = cc
+dependent-back (Some e) (Refused reason) k is = cc
 
 module _ (P : Tables) (forced : List Bool) (budget : ℕ) (judged : List Verdict) (n : ℕ) (S : Settled)
     (are : before.AreVerdicts P forced judged) (tried : AreTriedBelow P budget judged n S) where
@@ -68,9 +62,7 @@ module _ (P : Tables) (forced : List Bool) (budget : ℕ) (judged : List Verdict
     where
       never : (r : Reason) → slice_get judged d ≡ Some (verdicts.Refused r) → StaysRefused r (Wave k) → ⊥
       never (reasons.DependsOn x) was (e, is) = cc
-      never reasons.Forced was is = cc
-      never (reasons.Marked mark) was is = cc
-      never reasons.Cycle was is = cc
+      never reason was is = cc
 
       by : (v : Verdict) → slice_get judged d ≡ Some v → before.IsAccepted judged d
       by (verdicts.Wave m) was = (m, was)
@@ -175,17 +167,13 @@ module _ (P : Tables) (forced : List Bool) (budget : ℕ) (judged : List Verdict
   by_tried c m (Refused (reasons.DependsOn e)) low (d, used, never, none) =
       let (l, at, one) = first_told c d low used never in
       subst (IsTried P budget T c m) (sym (ap (λ (f : Option ℕ). dependent f (Refused (reasons.DependsOn e))) at)) one
-  by_tried c m (Refused reasons.Forced) low never = absurd never
-  by_tried c m (Refused (reasons.Marked mark)) low never = absurd never
-  by_tried c m (Refused reasons.Cycle) low never = absurd never
+  by_tried c m (Refused _) low never = absurd never
 
   same_own : (r : Reason) (f : Option ℕ) → ((d : ℕ) → r ≡ reasons.DependsOn d → ⊥)
       → dependent f (Refused r) ≡ Refused r
   same_own r None apart = refl
   same_own (reasons.DependsOn d) (Some e) apart = absurd (apart d refl)
-  same_own reasons.Forced (Some e) apart = refl
-  same_own (reasons.Marked mark) (Some e) apart = refl
-  same_own reasons.Cycle (Some e) apart = refl
+  same_own reason (Some e) apart = refl
 
   follows : (c : ℕ) (v : Verdict) (p : Outcome) → c < length P.classes → slice_get judged c ≡ Some v
       → slice_get S.outcomes c ≡ Some p → Follows P budget T c v (dependent (slice_index_or first c None) p)
@@ -197,15 +185,9 @@ module _ (P : Tables) (forced : List Bool) (budget : ℕ) (judged : List Verdict
       depends c d e (dependent (slice_index_or first c None) p) low used
       (λ accepted. never (accepted_before P forced budget judged n S are tried d accepted))
       (ap (dependent (slice_index_or first c None)) (sym is))
-  follows c (verdicts.Refused reasons.Forced) p low at here =
-      ap (dependent (slice_index_or first c None)) (tried.refused c reasons.Forced p at here)
-      ∙ same_own reasons.Forced (slice_index_or first c None) (λ d is. cc)
-  follows c (verdicts.Refused (reasons.Marked mark)) p low at here =
-      ap (dependent (slice_index_or first c None)) (tried.refused c (reasons.Marked mark) p at here)
-      ∙ same_own (reasons.Marked mark) (slice_index_or first c None) (λ d is. cc)
-  follows c (verdicts.Refused reasons.Cycle) p low at here =
-      ap (dependent (slice_index_or first c None)) (tried.refused c reasons.Cycle p at here)
-      ∙ same_own reasons.Cycle (slice_index_or first c None) (λ d is. cc)
+  follows c (verdicts.Refused reason) p low at here =
+      ap (dependent (slice_index_or first c None)) (tried.refused c reason p at here)
+      ∙ same_own reason (slice_index_or first c None) (λ d is. cc)
 
   pub last_wave : FollowVerdicts P budget judged T
   last_wave = record {

@@ -20,6 +20,7 @@ use Rattle.initializer_analysis.specs.declared.verdict.Verdict.TheVariants as ve
 use Rattle.initializer_analysis.specs.Verdicts as before
 use Rattle.wave_scheduler.specs.Settled.{Outcome, Wave, Refused, Stopped, Settled, IsAccepted, region_in}
 use Rattle.wave_scheduler.specs.Settled.{if_below, below, LeavesRegion}
+use Rattle.wave_scheduler.specs.Outcomes.{outcome_of}
 use Rattle.wave_scheduler.specs.steps.Waves.{IsTriedIn, StaysRefused, AreTriedBelow, TriesWave, StartsFrom}
 use Rattle.wave_scheduler.proofs.ReachesLemmas.{Decided, decided_same, one_of}
 
@@ -103,9 +104,7 @@ module _ (P : Tables) (forced : List Bool) (budget : ℕ) (judged : List Verdict
   )
   moved c m (Refused (reasons.DependsOn e)) held at small (d, used, never, none) =
       (d, used, λ accepted. never (was_accepted d (use_apart c m d at small used) accepted), none)
-  moved c m (Refused reasons.Forced) held at small never = never
-  moved c m (Refused (reasons.Marked mark)) held at small never = never
-  moved c m (Refused reasons.Cycle) held at small never = never
+  moved c m (Refused _) held at small never = never
 
   held_accepted : (c : ℕ) (o : Outcome) (r : Region) → slice_get new.outcomes c ≡ Some o
       → IsTriedIn P budget old c n o (region_in new c) → region_in new c ≡ Some r → IsAccepted new c
@@ -114,9 +113,7 @@ module _ (P : Tables) (forced : List Bool) (budget : ℕ) (judged : List Verdict
       absurd (let clash : None ≡ Some r = sym none ∙ has in cc)
   held_accepted c (Refused (reasons.DependsOn e)) r at (d, used, never, none) has =
       absurd (let clash : None ≡ Some r = sym none ∙ has in cc)
-  held_accepted c (Refused reasons.Forced) r at never has = absurd never
-  held_accepted c (Refused (reasons.Marked mark)) r at never has = absurd never
-  held_accepted c (Refused reasons.Cycle) r at never has = absurd never
+  held_accepted c (Refused _) r at never has = absurd never
 
   pub next_wave : AreTriedBelow P budget judged (suc n) new
   next_wave = record {
@@ -152,11 +149,14 @@ module _ (P : Tables) (forced : List Bool) (budget : ℕ) (judged : List Verdict
 
 -- ---- at the start
 
-starts_refused : (reason : Reason) (o : Outcome) → o ≡ Refused reason → StaysRefused reason o
-starts_refused (reasons.DependsOn d) o is = (d, is)
-starts_refused reasons.Forced o is = is
-starts_refused (reasons.Marked mark) o is = is
-starts_refused reasons.Cycle o is = is
+starts_refused : (P : Tables) (forced : List Bool) (judged : List Verdict) (c : ℕ) (reason : Reason) (o : Outcome)
+    → before.IsVerdict P forced judged c (verdicts.Refused reason) → o ≡ outcome_of (verdicts.Refused reason)
+    → StaysRefused reason o
+starts_refused P forced judged c (reasons.DependsOn d) o own is = (d, is)
+starts_refused P forced judged c reasons.Forced o own is = is
+starts_refused P forced judged c (reasons.Marked mark) o own is = is
+starts_refused P forced judged c reasons.Cycle o own is = is
+starts_refused P forced judged c _ o own is = absurd own.0
 
 pub first_wave : (P : Tables) (forced : List Bool) (budget : ℕ) (judged : List Verdict) (S : Settled)
     → before.AreVerdicts P forced judged → StartsFrom judged S → AreTriedBelow P budget judged 0 S
@@ -165,6 +165,8 @@ first_wave P forced budget judged S are starts = record {
   regions = starts.regions ∙ are.count;
   tried = λ c m o at low here. absurd (omega arith);
   waits = λ c m at high. (starts.each c (verdicts.Wave m) at, starts.none c);
-  refused = λ c r o at here. starts_refused r o (from_some (sym here ∙ starts.each c (verdicts.Refused r) at));
+  refused = λ c r o at here.
+      starts_refused P forced judged c r o (are.each c (verdicts.Refused r) at)
+      (from_some (sym here ∙ starts.each c (verdicts.Refused r) at));
   only = λ c r has. (let clash : None ≡ Some r = sym (starts.none c) ∙ has in absurd cc);
 }

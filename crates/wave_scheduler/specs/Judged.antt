@@ -27,9 +27,7 @@ IsTried P budget S c n (Wave k) =
 IsTried P budget S c n (Stopped why) =
     UsesAccepted P S c × StoppedBy (program_of P) (below S n) c budget (quiet.Refused why)
 IsTried P budget S c n (Refused (reasons.DependsOn e)) = IsFirstRefused P S c e
-IsTried P budget S c n (Refused reasons.Forced) = ⊥
-IsTried P budget S c n (Refused (reasons.Marked mark)) = ⊥
-IsTried P budget S c n (Refused reasons.Cycle) = ⊥
+IsTried P budget S c n (Refused reason) = ⊥
 
 -- What becomes of a class of a verdict. One that is refused stays so: it is told anew which of its uses is the first
 -- that is refused.
@@ -37,9 +35,7 @@ abbrev pub Follows : Tables → ℕ → Settled → ℕ → Verdict → Outcome 
 Follows P budget S c (verdicts.Wave n) outcome = IsTried P budget S c n outcome
 Follows P budget S c (verdicts.Refused (reasons.DependsOn d)) outcome =
     (e : ℕ) × (outcome ≡ Refused (reasons.DependsOn e)) × IsFirstRefused P S c e
-Follows P budget S c (verdicts.Refused reasons.Forced) outcome = outcome ≡ Refused reasons.Forced
-Follows P budget S c (verdicts.Refused (reasons.Marked mark)) outcome = outcome ≡ Refused (reasons.Marked mark)
-Follows P budget S c (verdicts.Refused reasons.Cycle) outcome = outcome ≡ Refused reasons.Cycle
+Follows P budget S c (verdicts.Refused reason) outcome = outcome ≡ Refused reason
 
 -- each class's outcome follows its verdict
 pub record FollowVerdicts (P : Tables) (budget : ℕ) (judged : List Verdict) (S : Settled) : Type 0 where

@@ -1,22 +1,26 @@
 -- What is answered of all classes, as definitions see it.
 use Rattle.std.specs.Prelude.{List, Bool, map, option_map}
+use Rattle.semantics.specs.Quiet as quiet
 use Rattle.program.specs.Tables.{Tables}
+use Rattle.initializer_analysis.specs.declared.verdict.Reason.TheVariants as reasons
 use Rattle.initializer_analysis.specs.declared.verdict.Verdict.{Verdict}
+use Rattle.initializer_analysis.specs.declared.verdict.Verdict.TheVariants as verdicts
 use Rattle.initializer_analysis.specs.Verdicts.{AreVerdicts}
-use Rattle.evaluator.specs.Outcomes.{reason_of}
 use Rattle.evaluator.specs.Regions.{region_of}
-use Rattle.wave_scheduler.specs.declared.outcome.Outcome.{Outcome as Told}
-use Rattle.wave_scheduler.specs.declared.outcome.Outcome.TheVariants as told
 use Rattle.wave_scheduler.specs.declared.outcome.Settled.{Settled as Answer}
 use Rattle.wave_scheduler.specs.Settled.{Outcome, Wave, Refused, Stopped, Settled}
 
-abbrev pub outcome_of : Told → Outcome
-outcome_of (told.Wave n) = Wave n
-outcome_of (told.Refused reason) = Refused reason
-outcome_of (told.Stopped why) = Stopped (reason_of why)
+-- what becomes of a class of this verdict: the last four reasons are those of a run of its initializer
+abbrev pub outcome_of : Verdict → Outcome
+outcome_of (verdicts.Wave n) = Wave n
+outcome_of (verdicts.Refused reasons.Raised) = Stopped quiet.Raised
+outcome_of (verdicts.Refused reasons.ForeignObject) = Stopped quiet.ForeignObject
+outcome_of (verdicts.Refused reasons.Budget) = Stopped quiet.OverBudget
+outcome_of (verdicts.Refused reasons.Faulted) = Stopped quiet.Faulted
+outcome_of (verdicts.Refused reason) = Refused reason
 
 abbrev pub settled_of : Answer → Settled
-settled_of s = record { outcomes = map outcome_of s.outcomes.items; regions = map (option_map region_of) s.regions }
+settled_of s = record { outcomes = map outcome_of s.verdicts; regions = map (option_map region_of) s.regions }
 
 -- these are the verdicts on all classes, for some forced ones
 abbrev pub AreJudged : Tables → List Verdict → Type 0

@@ -75,9 +75,7 @@ IsOutcome P forced budget S c (Stopped why) =
     NoneHolds P forced c × (n : ℕ) × IsWave P S c n
     × StoppedBy (program_of P) (below S n) c budget (quiet.Refused why)
 IsOutcome P forced budget S c (Refused (reasons.DependsOn e)) = NoneHolds P forced c × IsFirstRefused P S c e
-IsOutcome P forced budget S c (Refused reasons.Forced) = IsFirstReason P forced c reasons.Forced
-IsOutcome P forced budget S c (Refused (reasons.Marked mark)) = IsFirstReason P forced c (reasons.Marked mark)
-IsOutcome P forced budget S c (Refused reasons.Cycle) = IsFirstReason P forced c reasons.Cycle
+IsOutcome P forced budget S c (Refused reason) = IsFirstReason P forced c reason
 
 -- What becomes of all given classes, by their numbers: an equation that the whole lists meet.
 pub record AreSettled (P : Tables) (forced : List Bool) (budget : ℕ) (S : Settled) : Type 0 where

@@ -4,11 +4,13 @@ ghost use Rattle.std.specs.Prelude.{◌≡◌, ◌<◌, length, slice_index_or, 
 ghost use Rattle.machine.specs.Linked.{program_of};
 ghost use Rattle.evaluator.specs.Regions.{region_of, region_in, environment_of};
 ghost use Rattle.initializer_analysis.specs.Verdicts.{HasWave};
+ghost use Rattle.evaluator.specs.Outcomes.{reason_of as why_of};
+ghost use Rattle.wave_scheduler.specs.Settled.{Stopped};
 ghost use Rattle.wave_scheduler.specs.Outcomes.{outcome_of, settled_of};
 ghost use Rattle.wave_scheduler.specs.steps.Finding.{CanRun, HasRun, IsFound, SetsClass, FindsClass, FindsInWave};
 
-use crate::outcome::{Outcome, Settled};
-use evaluator::outcome::Outcome as Ran;
+use crate::outcome::Settled;
+use evaluator::outcome::{Outcome, Refusal};
 use evaluator::regions::{Region, Regions};
 use evaluator::settling::settle;
 use initializer_analysis::verdict::{Reason, Verdict};
@@ -18,9 +20,21 @@ use std::alloc::{AllocError, Global};
 /// What was found of a class.
 #[derive(Drop)]
 struct Found {
-    outcome: Outcome,
+    verdict: Verdict,
     /// Its region, if it is accepted.
     region: Option<Region>,
+}
+
+/// The reason that a refusal of the evaluator is.
+fn reason_of(refusal: Refusal) -> Reason
+    ensures { outcome_of (Verdict.Refused result) ≡ Stopped (why_of refusal) }
+{
+    match refusal {
+        Refusal::Raised => Reason::Raised,
+        Refusal::ForeignObject => Reason::ForeignObject,
+        Refusal::OverBudget => Reason::Budget,
+        Refusal::Faulted => Reason::Faulted,
+    }
 }
 
 /// Runs the initializer of a class.
@@ -34,15 +48,15 @@ fn run(
 ) -> Result<Found, AllocError>
     requires { CanRun (program_of program.now) (environment_of regions.now) budget class None }
     ensures { IfOk result (λ found. HasRun (program_of program.now) (environment_of regions.now) budget wave class
-        (outcome_of found.outcome) (option_map region_of found.region)) }
+        (outcome_of found.verdict) (option_map region_of found.region)) }
 {
     match settle(alloc, program, regions, class, budget) {
-        Ok(Ran::Settled(region)) => Ok(Found {
-            outcome: Outcome::Wave(wave),
+        Ok(Outcome::Settled(region)) => Ok(Found {
+            verdict: Verdict::Wave(wave),
             region: Some(region),
         }),
-        Ok(Ran::Refused(refusal)) => Ok(Found {
-            outcome: Outcome::Stopped(refusal),
+        Ok(Outcome::Refused(refusal)) => Ok(Found {
+            verdict: Verdict::Refused(reason_of(refusal)),
             region: None,
         }),
         Err(error) => Err(error),
@@ -61,11 +75,11 @@ fn find(
 ) -> Result<Found, AllocError>
     requires { CanRun (program_of program.now) (environment_of regions.now) budget class first }
     ensures { IfOk result (λ found. IsFound (program_of program.now) (environment_of regions.now) budget wave class
-        first (outcome_of found.outcome) (option_map region_of found.region)) }
+        first (outcome_of found.verdict) (option_map region_of found.region)) }
 {
     match first {
         Some(refused) => Ok(Found {
-            outcome: Outcome::Refused(Reason::DependsOn(refused)),
+            verdict: Verdict::Refused(Reason::DependsOn(refused)),
             region: None,
         }),
         None => run(alloc, program, regions, class, budget, wave),
@@ -84,23 +98,15 @@ fn put_region(regions: &mut Regions, class: u32, region: Option<Region>)
     }
 }
 
-/// Puts what became of a class in its place.
-fn put_outcome(outcomes: &mut Vec<Outcome>, class: u32, outcome: Outcome)
-    requires { class < length outcomes.old.items }
-    ensures { outcomes.new.items ≡ slice_set outcomes.old.items class outcome }
-{
-    outcomes[class as usize] = outcome;
-}
-
 /// Puts what was found of a class in its place.
 fn put(settled: &mut Settled, class: u32, found: Found)
-    requires class { class < length settled.old.outcomes.items }
+    requires class { class < length settled.old.verdicts }
     requires place { class < length settled.old.regions }
     requires none { region_in settled.old.regions class ≡ None }
-    ensures { SetsClass class (outcome_of found.outcome) (option_map region_of found.region) (settled_of settled.old)
+    ensures { SetsClass class (outcome_of found.verdict) (option_map region_of found.region) (settled_of settled.old)
         (settled_of settled.new) }
 {
-    put_outcome(&mut settled.outcomes, class, found.outcome);
+    settled.verdicts.put(class, found.verdict);
     put_region(&mut settled.regions, class, found.region);
 }
 
@@ -114,7 +120,7 @@ fn find_class(
     first: Option<u32>,
     settled: &mut Settled,
 ) -> Result<(), AllocError>
-    requires class { class < length settled.old.outcomes.items }
+    requires class { class < length settled.old.verdicts }
     requires place { class < length settled.old.regions }
     requires none { region_in settled.old.regions class ≡ None }
     requires run { CanRun (program_of program.now) (environment_of settled.old.regions) budget class first }
@@ -141,7 +147,7 @@ pub(crate) fn find_in_wave(
     first: &[Option<u32>],
     settled: &mut Settled,
 ) -> Result<(), AllocError>
-    requires class { class < length settled.old.outcomes.items }
+    requires class { class < length settled.old.verdicts }
     requires place { class < length settled.old.regions }
     requires first { class < length first.now }
     requires verdicts { class < length verdicts.now }

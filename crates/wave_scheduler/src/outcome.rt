@@ -1,37 +1,13 @@
 //! What becomes of classes in the end.
 
-use evaluator::outcome::Refusal;
 use evaluator::regions::Regions;
-use initializer_analysis::verdict::Reason;
+use initializer_analysis::verdict::Verdicts;
 use std::alloc::AllocError;
-use std::fmt;
 
-/// What becomes of a class in the end.
-#[derive(Clone, Copy)]
-pub enum Outcome {
-    /// It is accepted, after all classes of lower waves.
-    Wave(usize),
-    /// It is refused for what is known before any initializer runs, or since it uses a class that is refused.
-    Refused(Reason),
-    /// Its initializer was run, and is refused.
-    Stopped(Refusal),
-}
-
-// By hand, since a derived one would ask for one of each reason.
-impl fmt::Debug for Outcome {
-    fn fmt<W: fmt::Write>(&self, f: &mut fmt::Formatter<W>) -> fmt::Result {
-        match self {
-            Outcome::Wave(wave) => write!(f, "Wave({wave})"),
-            Outcome::Refused(_) => f.write_str("Refused"),
-            Outcome::Stopped(_) => f.write_str("Stopped"),
-        }
-    }
-}
-
-/// What became of all given classes, by their numbers, and the regions of those that are accepted.
+/// The last verdicts on all given classes, after their initializers were run, and the regions of those that are accepted.
 #[derive(Drop)]
 pub struct Settled {
-    pub outcomes: Vec<Outcome>,
+    pub verdicts: Verdicts,
     pub regions: Regions,
 }
 

@@ -7,31 +7,31 @@ ghost use Rattle.wave_scheduler.specs.Outcomes.{outcome_of, settled_of};
 ghost use Rattle.wave_scheduler.specs.steps.Waves.{dependent, ToldFirst};
 ghost use Rattle.wave_scheduler.specs.steps.Finding.{is_refused, AreFirstIn, TellsEach};
 
-use crate::outcome::{Outcome, Settled};
+use crate::outcome::Settled;
 use graph::Components;
 use initializer_analysis::first_refused;
-use initializer_analysis::verdict::Reason;
+use initializer_analysis::verdict::{Reason, Verdict, Verdicts};
 use program::Program;
 use std::alloc::{AllocError, Global};
 use use_graph::UseGraph;
 
 /// Whether a class is not accepted.
-fn is_refused(outcome: Outcome) -> bool
-    ensures { result ≡ is_refused (outcome_of outcome) }
+fn is_refused(verdict: Verdict) -> bool
+    ensures { result ≡ is_refused verdict }
 {
-    match outcome {
-        Outcome::Wave(_) => false,
-        Outcome::Refused(_) | Outcome::Stopped(_) => true,
+    match verdict {
+        Verdict::Wave(_) => false,
+        Verdict::Refused(_) => true,
     }
 }
 
 /// Which classes are not accepted.
-fn refused_marks(alloc: Global, outcomes: &[Outcome]) -> Result<Vec<bool>, AllocError>
-    ensures { IfOk result (λ marks. marks.items ≡ map (λ o. is_refused (outcome_of o)) outcomes.now) }
+fn refused_marks(alloc: Global, verdicts: &[Verdict]) -> Result<Vec<bool>, AllocError>
+    ensures { IfOk result (λ marks. marks.items ≡ map is_refused verdicts.now) }
 {
-    let mut marks = Vec::with_capacity(alloc, outcomes.len())?;
-    for outcome in outcomes {
-        marks.push(is_refused(*outcome))?;
+    let mut marks = Vec::with_capacity(alloc, verdicts.len())?;
+    for verdict in verdicts {
+        marks.push(is_refused(*verdict))?;
     }
     Ok(marks)
 }
@@ -46,39 +46,43 @@ pub(crate) fn first_in(
 ) -> Result<Vec<Option<u32>>, AllocError>
     requires uses { IsUseGraph program.now uses.now }
     requires calls { AreComponents uses.now.calls calls.now }
-    requires count { length settled.now.outcomes.items ≡ length program.now.classes }
+    requires count { length settled.now.verdicts ≡ length program.now.classes }
     ensures { IfOk result (λ first. AreFirstIn program.now (settled_of settled.now) first.items) }
 {
-    let marks = refused_marks(alloc, settled.outcomes.as_slice())?;
+    let marks = refused_marks(alloc, settled.verdicts.as_slice())?;
     first_refused(alloc, program, uses, calls, marks.as_slice())
 }
 
-/// What becomes of a class, where this is the first refused class that it uses.
-fn told(first: Option<u32>, outcome: Outcome) -> Outcome
-    ensures { outcome_of result ≡ dependent first (outcome_of outcome) }
+/// The verdict on a class, where this is the first refused class that it uses.
+fn told(first: Option<u32>, verdict: Verdict) -> Verdict
+    ensures { outcome_of result ≡ dependent first (outcome_of verdict) }
 {
-    match (first, outcome) {
-        (Some(class), Outcome::Refused(Reason::DependsOn(_))) => {
-            Outcome::Refused(Reason::DependsOn(class))
+    match (first, verdict) {
+        (Some(class), Verdict::Refused(Reason::DependsOn(_))) => {
+            Verdict::Refused(Reason::DependsOn(class))
         }
-        _ => outcome,
+        _ => verdict,
     }
 }
 
 /// Tells each class that depends on a refused one the first such.
-fn tell_each(first: &[Option<u32>], outcomes: &mut Vec<Outcome>)
-    requires { length first.now ≡ length outcomes.old.items }
-    ensures { TellsEach first.now (map outcome_of outcomes.old.items) (map outcome_of outcomes.new.items) }
+fn tell_each(first: &[Option<u32>], count: u32, verdicts: &mut Verdicts)
+    requires count { length verdicts.old ≡ count }
+    requires first { length first.now ≡ count }
+    ensures { TellsEach first.now (map outcome_of verdicts.old) (map outcome_of verdicts.new) }
 {
-    for class in 0..outcomes.len() {
-        outcomes[class] = told(first[class], outcomes[class]);
+    for class in 0..count {
+        let place = class as usize;
+        let verdict = told(first[place], verdicts.as_slice()[place]);
+        verdicts.put(class, verdict);
     }
 }
 
 /// The same, where all classes are settled.
-pub(crate) fn tell_first(first: &[Option<u32>], settled: &mut Settled)
-    requires { length first.now ≡ length settled.old.outcomes.items }
+pub(crate) fn tell_first(first: &[Option<u32>], count: u32, settled: &mut Settled)
+    requires count { length settled.old.verdicts ≡ count }
+    requires first { length first.now ≡ count }
     ensures { ToldFirst first.now (settled_of settled.old) (settled_of settled.new) }
 {
-    tell_each(first, &mut settled.outcomes);
+    tell_each(first, count, &mut settled.verdicts);
 }

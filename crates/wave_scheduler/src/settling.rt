@@ -35,13 +35,13 @@ fn settle_from(
     requires starts { StartsFrom verdicts.now (settled_of settled.old) }
     ensures { OnOk result (FollowVerdicts program.now budget verdicts.now (settled_of settled.new)) }
 {
-    let _count = program.given_count();
+    let count = program.given_count();
     let waves = wave_count(verdicts);
     try_all(
         alloc, program, uses, calls, verdicts, budget, waves, settled,
     )?;
     let first = first_in(alloc, program, uses, calls, settled)?;
-    tell_first(first.as_slice(), settled);
+    tell_first(first.as_slice(), count, settled);
     Ok(())
 }
 

@@ -1,35 +1,23 @@
 //! What is known of classes before any initializer runs.
 
-ghost use Rattle.std.specs.Prelude.{◌≡◌, ℕ, ◌<◌, ◌≤◌, ◌^◌, map, IfOk};
+ghost use Rattle.std.specs.Prelude.{◌≡◌, ℕ, ◌<◌, ◌≤◌, ◌^◌, IfOk};
 ghost use Rattle.initializer_analysis.specs.Verdicts.{HasWave};
 ghost use Rattle.initializer_analysis.specs.declared.verdict.Verdict.TheVariants.{Wave};
-ghost use Rattle.wave_scheduler.specs.Outcomes.{outcome_of, settled_of};
-ghost use Rattle.wave_scheduler.specs.steps.Waves.{started, StartsFrom};
+ghost use Rattle.wave_scheduler.specs.Outcomes.{settled_of};
+ghost use Rattle.wave_scheduler.specs.steps.Waves.{StartsFrom};
 
-use crate::outcome::{Outcome, Settled};
+use crate::outcome::Settled;
 use evaluator::regions::Regions;
-use initializer_analysis::verdict::Verdict;
+use initializer_analysis::verdict::{Verdict, Verdicts};
 use std::alloc::{AllocError, Global};
 
-/// What a verdict says.
-fn started(verdict: Verdict) -> Outcome
-    ensures { outcome_of result ≡ started verdict }
+/// The same verdicts, to be changed.
+fn copy_of(alloc: Global, verdicts: &[Verdict]) -> Result<Verdicts, AllocError>
+    ensures { IfOk result (λ copy. copy ≡ verdicts.now) }
 {
-    match verdict {
-        Verdict::Wave(wave) => Outcome::Wave(wave),
-        Verdict::Refused(reason) => Outcome::Refused(reason),
-    }
-}
-
-/// What all verdicts say.
-fn start_outcomes(alloc: Global, verdicts: &[Verdict]) -> Result<Vec<Outcome>, AllocError>
-    ensures { IfOk result (λ outcomes. map outcome_of outcomes.items ≡ map started verdicts.now) }
-{
-    let mut outcomes = Vec::with_capacity(alloc, verdicts.len())?;
-    for verdict in verdicts {
-        outcomes.push(started(*verdict))?;
-    }
-    Ok(outcomes)
+    let mut copy = Vec::with_capacity(alloc, verdicts.len())?;
+    copy.extend_from_slice(verdicts)?;
+    Ok(Verdicts::of(copy))
 }
 
 /// All classes as their verdicts say, and no regions.
@@ -37,8 +25,8 @@ pub(crate) fn start(alloc: Global, verdicts: &[Verdict]) -> Result<Settled, Allo
     ensures { IfOk result (λ settled. StartsFrom verdicts.now (settled_of settled)) }
 {
     let regions = Regions::of_classes(alloc, verdicts.len())?;
-    match start_outcomes(alloc, verdicts) {
-        Ok(outcomes) => Ok(Settled { outcomes, regions }),
+    match copy_of(alloc, verdicts) {
+        Ok(verdicts) => Ok(Settled { verdicts, regions }),
         Err(error) => Err(error),
     }
 }

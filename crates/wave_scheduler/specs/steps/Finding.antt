@@ -9,6 +9,7 @@ use Rattle.semantics.specs.Settling.{Settles, StoppedBy}
 use Rattle.program.specs.Tables.{Tables}
 use Rattle.initializer_analysis.specs.declared.verdict.Reason.TheVariants as reasons
 use Rattle.initializer_analysis.specs.declared.verdict.Verdict.{Verdict}
+use Rattle.initializer_analysis.specs.declared.verdict.Verdict.TheVariants as verdicts
 use Rattle.initializer_analysis.specs.Verdicts as before
 use Rattle.initializer_analysis.specs.RefusedUses.{AreFirstRefused}
 use Rattle.wave_scheduler.specs.Settled.{Outcome, Wave, Refused, Stopped, Settled, region_in}
@@ -68,10 +69,9 @@ pub record TriesBelow (P : Tables) (budget : ℕ) (judged : List Verdict) (n lim
 
 -- ---- which classes are not accepted
 
-abbrev pub is_refused : Outcome → Bool
-is_refused (Wave n) = false
-is_refused (Refused reason) = true
-is_refused (Stopped why) = true
+abbrev pub is_refused : Verdict → Bool
+is_refused (verdicts.Wave n) = false
+is_refused (verdicts.Refused reason) = true
 
 -- ---- at the end
 

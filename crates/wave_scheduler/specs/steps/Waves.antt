@@ -19,6 +19,7 @@ use Rattle.initializer_analysis.specs.RefusedUses.{AreFirstRefused}
 use Rattle.wave_scheduler.specs.Settled.{Outcome, Wave, Refused, Stopped, Settled, HasWave, IsAccepted, region_in, below}
 use Rattle.wave_scheduler.specs.Settled.{LeavesRegion}
 use Rattle.wave_scheduler.specs.Judged.{UsesAccepted, FollowVerdicts}
+use Rattle.wave_scheduler.specs.Outcomes.{outcome_of}
 
 -- ---- wave by wave
 
@@ -31,16 +32,12 @@ IsTriedIn P budget S c n (Stopped why) held =
     UsesAccepted P S c × StoppedBy (program_of P) (below S n) c budget (quiet.Refused why) × (held ≡ None)
 IsTriedIn P budget S c n (Refused (reasons.DependsOn e)) held =
     (d : ℕ) × IsUse P c d × (¬ IsAccepted S d) × (held ≡ None)
-IsTriedIn P budget S c n (Refused reasons.Forced) held = ⊥
-IsTriedIn P budget S c n (Refused (reasons.Marked mark)) held = ⊥
-IsTriedIn P budget S c n (Refused reasons.Cycle) held = ⊥
+IsTriedIn P budget S c n (Refused reason) held = ⊥
 
 -- a class that was refused before stays so
 abbrev pub StaysRefused : Reason → Outcome → Type 0
 StaysRefused (reasons.DependsOn d) outcome = (e : ℕ) × (outcome ≡ Refused (reasons.DependsOn e))
-StaysRefused reasons.Forced outcome = outcome ≡ Refused reasons.Forced
-StaysRefused (reasons.Marked mark) outcome = outcome ≡ Refused (reasons.Marked mark)
-StaysRefused reasons.Cycle outcome = outcome ≡ Refused reasons.Cycle
+StaysRefused reason outcome = outcome ≡ Refused reason
 
 -- The classes of waves below n are tried, and those of others wait: they have their waves, and no regions.
 pub record AreTriedBelow (P : Tables) (budget : ℕ) (judged : List Verdict) (n : ℕ) (S : Settled) : Type 0 where
@@ -64,15 +61,11 @@ pub record TriesWave (P : Tables) (budget : ℕ) (judged : List Verdict) (n : �
 
 -- ---- at the start
 
-abbrev pub started : Verdict → Outcome
-started (verdicts.Wave n) = Wave n
-started (verdicts.Refused reason) = Refused reason
-
 -- as the verdicts say, and without regions
 pub record StartsFrom (judged : List Verdict) (S : Settled) : Type 0 where
   pub count : length S.outcomes ≡ length judged
   pub each : (c : ℕ) (verdict : Verdict) → slice_get judged c ≡ Some verdict
-      → slice_get S.outcomes c ≡ Some (started verdict)
+      → slice_get S.outcomes c ≡ Some (outcome_of verdict)
   pub regions : length S.regions ≡ length judged
   pub none : (c : ℕ) → region_in S c ≡ None
 

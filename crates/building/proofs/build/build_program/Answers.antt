@@ -11,12 +11,12 @@ image_of-requires c =
 pub returns-in-Ok-clause-built : goal.returns-in-Ok-clause-built
 returns-in-Ok-clause-built c =
     built_by c.args.program (patterns_in (option_map (λ (s : Bor (List ℕ)). s.now) c.args.options.now.run_time))
-    c.args.options.now.budget c.in-Ok.settled c.image_of.result.image c.image_of.result.outcomes
-    c.image_of.ensures.program c.image_of.ensures.regions c.image_of.ensures.outcomes c.in-Ok.ensures
+    c.args.options.now.budget c.in-Ok.settled c.image_of.result.image c.image_of.result.verdicts
+    c.image_of.ensures.program c.image_of.ensures.regions c.image_of.ensures.verdicts c.in-Ok.ensures
 
 pub returns-in-Ok-clause-shows : goal.returns-in-Ok-clause-shows
 returns-in-Ok-clause-shows c =
     shows_built c.args.program (patterns_in (option_map (λ (s : Bor (List ℕ)). s.now) c.args.options.now.run_time))
-    c.args.options.now.budget c.in-Ok.settled c.image_of.result.image c.image_of.result.outcomes
-    c.image_of.ensures.program c.image_of.ensures.regions c.image_of.ensures.outcomes c.in-Ok.ensures
+    c.args.options.now.budget c.in-Ok.settled c.image_of.result.image c.image_of.result.verdicts
+    c.image_of.ensures.program c.image_of.ensures.regions c.image_of.ensures.verdicts c.in-Ok.ensures
     c.is_linked.ensures

@@ -10,7 +10,7 @@ demanded-requires c =
 pub loop-class-preserved : goal.loop-class-preserved
 loop-class-preserved c =
     none_off_more c.args.program.now c.args.demand.now c.args.settled.now c.loop-class.class c.unmet.result c.in-None.is
-    c.loop-class.invariant (rw c.as_slice-outcomes.ensures.value at c.unmet.ensures)
+    c.loop-class.invariant (rw c.as_slice-verdicts.ensures at c.unmet.ensures)
 
 pub returns-clause-met : goal.returns-clause-met
 returns-clause-met c =
@@ -20,6 +20,6 @@ returns-clause-met c =
 pub returns-in-Some-clause-fault : goal.returns-in-Some-clause-fault
 returns-in-Some-clause-fault c =
     one_unmet c.args.program.now c.args.demand.now c.args.settled.now c.loop-class.class c.given_count-class-end.result
-    c.in-Some.outcome c.demanded.result c.given_count-class-end.ensures.value c.loop-class-test.true
-    c.loop-class.invariant (rw c.as_slice-outcomes.ensures.value at c.in-Some.ensures)
+    c.in-Some.reason c.demanded.result c.given_count-class-end.ensures.value c.loop-class-test.true
+    c.loop-class.invariant (rw c.as_slice-verdicts.ensures at c.in-Some.ensures)
     (rw c.family.ensures at c.demanded.ensures)

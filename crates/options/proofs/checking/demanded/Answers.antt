@@ -7,6 +7,6 @@ pub returns-in-Ok : goal.returns-in-Ok
 returns-in-Ok c =
     let small = subst (λ (f : List GivenClass). c.args.class < length f) (sym c.classes-classes.ensures.value)
     c.requires in
-    names_unmet c.args.family.now c.classes-classes.result.now c.args.class c.args.outcome _ c.in-Ok.name
+    names_unmet c.args.family.now c.classes-classes.result.now c.args.class c.args.reason _ c.in-Ok.name
     c.name_of.result.now c.classes-classes.ensures.value small c.index-classes-class.is c.name_of.ensures.value
     (c.in-Ok.ensures c.name_of.ensures.modified)

@@ -3,6 +3,6 @@ use Rattle.wave_scheduler.proofs.finding.put.Goals as goal
 
 pub returns : goal.returns
 returns c =
-    sets_class c.args.settled.now.outcomes.items c.put_outcome.new.outcomes.items c.args.settled.now.regions
-    c.put_region.new.regions c.args.class c.args.found.outcome c.args.found.region c.requires.class c.requires.place
-    c.put_outcome.ensures c.put_region.ensures
+    sets_class c.args.settled.now.verdicts c.put.new.self c.args.settled.now.regions
+    c.put_region.new.regions c.args.class c.args.found.verdict c.args.found.region c.requires.class c.requires.place
+    c.put.ensures c.put_region.ensures

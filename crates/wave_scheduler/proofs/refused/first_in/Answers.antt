@@ -8,8 +8,8 @@ returns c =
     IfOk-weaker c.first_refused.result _ _
     (λ first are. (
       c.in_ok-marks.marks.items,
-      marks_are c.args.program.now c.args.settled.now.outcomes.items c.args.settled.now.regions
-          c.in_ok-marks.marks.items c.requires.count (rw c.as_slice.ensures.value at c.in_ok-marks.ensures),
+      marks_are c.args.program.now c.args.settled.now.verdicts c.args.settled.now.regions
+          c.in_ok-marks.marks.items c.requires.count (rw c.as_slice.ensures at c.in_ok-marks.ensures),
       rw c.as_slice-2.ensures.value at are,
     ))
     c.first_refused.ensures

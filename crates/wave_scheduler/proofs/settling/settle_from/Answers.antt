@@ -19,13 +19,13 @@ try_all-requires-clause-tried c =
 
 pub first_in-requires-clause-count : goal.first_in-requires-clause-count
 first_in-requires-clause-count c =
-    sym (length-map c.try_all.new.settled.outcomes.items outcome_of) ∙ c.in_ok-try_all.ensures.count
+    sym (length-map c.try_all.new.settled.verdicts outcome_of) ∙ c.in_ok-try_all.ensures.count
 
 pub tell_first-requires : goal.tell_first-requires
 tell_first-requires c =
     let (marks, refused, firsts) = c.in_ok-first.ensures in
     rw c.as_slice.ensures.value
-    (firsts.count ∙ sym c.in_ok-try_all.ensures.count ∙ length-map c.try_all.new.settled.outcomes.items outcome_of)
+    (firsts.count ∙ sym c.in_ok-try_all.ensures.count ∙ length-map c.try_all.new.settled.verdicts outcome_of)
 
 pub returns : goal.returns
 returns c =
