@@ -16,7 +16,7 @@ use std::alloc::{AllocError, Global};
 use use_graph::{UseGraph, start_of};
 
 /// The vertex of a class, behind those of the graph of calls.
-pub(crate) fn class_vertex(uses: &UseGraph, class: u32) -> usize
+pub fn class_vertex(uses: &UseGraph, class: u32) -> usize
     requires { length uses.now.calls ≤ 2 * (65535 * 65535) }
     ensures { result ≡ vertex_of uses.now class }
 {
@@ -200,7 +200,7 @@ fn add_all(program: &Program, uses: &UseGraph, graph: &mut Graph) -> Result<(), 
 ///
 /// # Errors
 /// Where memory runs out.
-pub(crate) fn dependence_graph(
+pub fn dependence_graph(
     alloc: Global,
     program: &Program,
     uses: &UseGraph,

@@ -16,5 +16,6 @@ mod refused_uses;
 pub mod verdict;
 mod waves;
 
+pub use dependence::{class_vertex, dependence_graph};
 pub use judging::judge;
 pub use refused_uses::first_refused;
