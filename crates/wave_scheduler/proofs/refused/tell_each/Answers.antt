@@ -1,14 +1,21 @@
-use Rattle.std.proofs.Common.{map, refl, sym, arith}
+use Rattle.std.proofs.Common.{◌≡◌, ℕ, length, map, refl, subst, arith}
 use Rattle.std.proofs.lemmas.List.{length-map}
 use Rattle.wave_scheduler.specs.Outcomes.{outcome_of}
+use Rattle.wave_scheduler.specs.steps.Finding.{TellsBelow}
 use Rattle.wave_scheduler.proofs.FindingLemmas.{tells_more}
 use Rattle.wave_scheduler.proofs.refused.tell_each.Goals as goal
 
 pub loop-class-preserved : goal.loop-class-preserved
 loop-class-preserved c =
-    let cur = c.loop-class.outcomes.items in
-    let now = length-map cur outcome_of in
-    let first = length-map c.args.outcomes.now.items outcome_of in
-    tells_more c.args.first.now c.loop-class.class (map outcome_of c.args.outcomes.now.items) cur _ c.told.result
-    c.index.result.now (omega (arith, c.loop-class.invariant.count, c.len-class-end.ensures)) (sym c.index.ensures)
-    c.loop-class.invariant c.told.ensures refl
+    let now = length-map c.loop-class.verdicts outcome_of in
+    let first = length-map c.args.verdicts.now outcome_of in
+    tells_more c.args.first.now c.loop-class.class (map outcome_of c.args.verdicts.now) c.loop-class.verdicts
+    c.put.new.self c.told-verdict.result _ _ (omega (arith, c.loop-class.invariant.count)) refl
+    c.loop-class.invariant (rw c.as_slice.ensures at c.told-verdict.ensures) c.put.ensures
+
+pub returns : goal.returns
+returns c =
+    let same : c.loop-class.class ≡ length (map outcome_of c.args.verdicts.now) =
+    omega (arith, length-map c.args.verdicts.now outcome_of) in
+    subst (λ (n : ℕ). TellsBelow c.args.first.now n (map outcome_of c.args.verdicts.now)
+    (map outcome_of c.loop-class.verdicts)) same c.loop-class.invariant
