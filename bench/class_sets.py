@@ -384,17 +384,24 @@ def initializers(count):
     return files
 
 
-def reading(numbers, count, prints=()):
-    """Classes whose initializers read finals of those that `numbers` gives for each; some print besides."""
+def reading(numbers, count, prints=(), raises=()):
+    """Classes whose initializers read finals of those that `numbers` gives for each; some print or raise besides."""
     def body(number):
         def code(pool):
             read = b"".join(instruction(pool, 178, "C%05d" % other, "x", "I") + bytes([87])
                             for other in numbers(number))
             if number in prints:
                 read += bytes([1, 4]) + instruction(pool, 182, "java/io/PrintStream", "println", "(I)V")
+            if number in raises:
+                read += bytes([4, 3, 108, 87])  # iconst_1, iconst_0, idiv, pop
             return read + RETURN
         return code
     return [with_initializer("C%05d" % number, [(0x18, "x")], body(number)) for number in range(count)]
+
+
+def apart(count):
+    """Each class uses no other: one wave."""
+    return reading(lambda number: [], count)
 
 
 def waves(count):
@@ -410,6 +417,16 @@ def one_cycle(count):
 def refused_below(count):
     """Each class uses the one before, and the first one prints: each depends on the one before."""
     return reading(lambda number: [number - 1] if number else [], count, {0})
+
+
+def stopped_below(count):
+    """Each class uses the one before, and the first one raises: each depends on the one before."""
+    return reading(lambda number: [number - 1] if number else [], count, raises={0})
+
+
+def stopped_apart(count):
+    """Each class uses no other, and raises."""
+    return reading(lambda number: [], count, raises=range(count))
 
 
 def virtual_calls(count):
@@ -438,8 +455,8 @@ KINDS = {kind.__name__: kind for kind in (small, chain, chain_of_references, int
                                          equal_strings, far_references, equal_interfaces, far_fields, overloads,
                                          below_interfaces, many_below, own_methods_below, two_chains_below, wide_below,
                                          conflicts_below, initialized_on_top, many_on_top,
-                                         alternating, long_orders, initializers, waves, one_cycle, refused_below,
-                                         virtual_calls, deep_names)}
+                                         alternating, long_orders, initializers, waves, apart, one_cycle,
+                                         refused_below, stopped_below, stopped_apart, virtual_calls, deep_names)}
 
 
 def main():

@@ -28,7 +28,7 @@ use Rattle.wave_scheduler.specs.Judged.{UsesAccepted}
 use Rattle.wave_scheduler.specs.Outcomes.{outcome_of, settled_of}
 use Rattle.wave_scheduler.specs.steps.Waves.{IsTriedIn, AreTriedBelow, TriesWave, Decides, StartsFrom}
 use Rattle.wave_scheduler.specs.steps.Waves.{AreRefusedIn, dependent}
-use Rattle.wave_scheduler.specs.steps.Finding.{AreFirstIn, CanRun, IsFound, SetsClass, FindsInWave, TriesBelow}
+use Rattle.wave_scheduler.specs.steps.Finding.{SetsClass}
 use Rattle.wave_scheduler.specs.steps.Finding.{is_refused, TellsBelow}
 use Rattle.wave_scheduler.proofs.SettledLemmas.{from_below}
 use Rattle.wave_scheduler.proofs.WavesLemmas.{had_wave}
@@ -103,144 +103,6 @@ accepted_or S e = by (slice_get S.outcomes e) refl
 less_or : (c limit : ℕ) → c < limit + 1 → (c < limit) ⊎ (c ≡ limit)
 less_or c limit low = grind arith
 
-module _ (P : Tables) (forced : List Bool) (budget : ℕ) (judged : List Verdict) (n : ℕ) (old : Settled)
-    (first : List (Option ℕ)) (is : IsProgram P) (fits : IsFamily P.family) (within : AreParentsWithin P.family)
-    (are : before.AreVerdicts P forced judged) (tried : AreTriedBelow P budget judged n old)
-    (firsts : AreFirstIn P old first) where
-  first_of : ℕ → Option ℕ
-  first_of c = slice_index_or first c None
-
-  is_given : (c m : ℕ) → before.HasWave judged c m → c < length P.classes
-  is_given c m at = let low = slice_get_within judged c (verdicts.Wave m) at in omega (arith, are.count)
-
-  none_refused : (c : ℕ) → c < length P.classes → slice_index_or first c None ≡ None → UsesAccepted P old c
-  none_refused c low none e used =
-      let (marks, refused, all) = firsts in
-      let no = subst (IsFirst (IsRefusedUse P marks c)) none (all.each c low) in
-      elim (accepted_or old e) [
-        | inl accepted ↦ accepted
-        | inr never ↦ absurd (no e (used, (refused.each e used.0).1 never))
-      ]
-
-  one_refused : (c e : ℕ) → c < length P.classes → slice_index_or first c None ≡ Some e
-      → IsUse P c e × (¬ IsAccepted old e)
-  one_refused c e low some =
-      let (marks, refused, all) = firsts in
-      let (used, marked) = (subst (IsFirst (IsRefusedUse P marks c)) some (all.each c low)).0 in
-      (used, (refused.each e used.0).0 marked)
-
-  pub tries_none : TriesBelow P budget judged n 0 old old
-  tries_none = record {
-    count = tried.count;
-    regions = tried.regions;
-    here = λ c o low wave at. absurd (omega arith);
-    others = λ c which. (refl, refl);
-  }
-
-  pub tries_all : (limit : ℕ) (new : Settled) → limit ≡ length P.classes → TriesBelow P budget judged n limit old new
-      → TriesWave P budget judged n old new
-  tries_all limit new end tries = record {
-    count = tries.count;
-    regions = tries.regions;
-    here = λ c o wave at. tries.here c o (let low = is_given c n wave in omega arith) wave at;
-    others = λ c never. tries.others c (inr never);
-  }
-
-  module _ (limit : ℕ) (cur : Settled) (tries : TriesBelow P budget judged n limit old cur) where
-    at_hand : (d : ℕ) (r : Region) → below old n d ≡ Some r → region_in cur d ≡ Some r
-    at_hand d r here =
-        let (m, at, less, has) = from_below old n d r here in
-        elim (had_wave judged d n) [
-          | inl wave ↦ absurd (let none = (tried.waits d n wave (omega arith)).1 in
-              let clash : None ≡ Some r = sym none ∙ has in cc)
-          | inr never ↦ (tries.others d (inr never)).1 ∙ has
-        ]
-
-    pub nothing_yet : before.HasWave judged limit n → region_in cur limit ≡ None
-    nothing_yet wave =
-        (tries.others limit (inl (omega arith))).1 ∙ (tried.waits limit n wave (omega arith)).1
-
-    module _ (env : Environment) (same : (d : ℕ) → env d ≡ region_in cur d) where
-      decides : (c : ℕ) → before.HasWave judged c n → slice_index_or first c None ≡ None → Decides P budget old n c env
-      decides c wave none =
-          tries_decide_lem P forced budget judged n old is fits within are tried c wave
-          (none_refused c (is_given c n wave) none) env (λ d r here. same d ∙ at_hand d r here)
-
-      pub can_run : before.HasWave judged limit n
-          → CanRun (program_of P) env budget limit (slice_index_or first limit None)
-      can_run wave = by (slice_index_or first limit None) refl
-        where
-          by : (f : Option ℕ) → slice_index_or first limit None ≡ f → CanRun (program_of P) env budget limit f
-          by (Some e) some = tt
-          by None none = (decides limit wave none).unbarred
-
-      is_tried : (c : ℕ) (o : Outcome) (r : Option Region) → before.HasWave judged c n
-          → IsFound (program_of P) env budget n c (slice_index_or first c None) o r → IsTriedIn P budget old c n o r
-      is_tried c o r wave = by (slice_index_or first c None) refl r
-        where
-          by : (f : Option ℕ) → slice_index_or first c None ≡ f → (r : Option Region)
-              → IsFound (program_of P) env budget n c f o r → IsTriedIn P budget old c n o r
-          by (Some e) some r (so, none) =
-              let (used, never) = one_refused c e (is_given c n wave) some in
-              rw so (e, used, never, none)
-          by None none (Some region) (so, cost, settles, small) =
-              rw so ((decides c wave none).settles cost region settles small)
-          by None none None (why, so, stops) = rw so ((decides c wave none).stops why stops)
-
-      pub tries_more : (new : Settled) → FindsInWave (program_of P) env budget judged n limit first cur new
-          → TriesBelow P budget judged n (limit + 1) old new
-      tries_more new finds = elim (had_wave judged limit n) [
-        | inr never ↦ subst (TriesBelow P budget judged n (limit + 1) old) (sym (finds.other never)) record {
-          count = tries.count;
-          regions = tries.regions;
-          here = λ c o low wave at. elim (less_or c limit low) [
-            | inl less ↦ tries.here c o less wave at
-            | inr last ↦ absurd (never (subst (λ (x : ℕ). before.HasWave judged x n) last wave))
-          ];
-          others = λ c which. elim which [
-            | inl high ↦ tries.others c (inl (omega arith))
-            | inr other ↦ tries.others c (inr other)
-          ];
-        }
-        | inl wave ↦ by wave (finds.here wave)
-      ]
-        where
-          apart : (c : ℕ) → before.HasWave judged limit n
-              → ((limit + 1 ≤ c) ⊎ (¬ before.HasWave judged c n)) → c ≢ limit
-          apart c wave (inl high) e = omega arith
-          apart c wave (inr other) e = other (subst (λ (x : ℕ). before.HasWave judged x n) (sym e) wave)
-
-          weaker : (c : ℕ) → ((limit + 1 ≤ c) ⊎ (¬ before.HasWave judged c n))
-              → (limit ≤ c) ⊎ (¬ before.HasWave judged c n)
-          weaker c (inl high) = inl (omega arith)
-          weaker c (inr other) = inr other
-
-          by : before.HasWave judged limit n → (o : Outcome) × (r : Option Region)
-              × IsFound (program_of P) env budget n limit (slice_index_or first limit None) o r
-              × SetsClass limit o r cur new → TriesBelow P budget judged n (limit + 1) old new
-          by wave (outcome, r, found, sets) = record {
-            count = sets.count ∙ tries.count;
-            regions = sets.regions ∙ tries.regions;
-            here = λ c o low at_wave at. elim (less_or c limit low) [
-              | inl less ↦
-                  let (same_o, same_r) = sets.others c (omega arith) in
-                  subst (IsTriedIn P budget old c n o) (sym same_r)
-                  (tries.here c o less at_wave (sym same_o ∙ at))
-              | inr last ↦
-                  let now : slice_get new.outcomes limit ≡ Some o =
-                  subst (λ (x : ℕ). slice_get new.outcomes x ≡ Some o) last at in
-                  let one : outcome ≡ o = from_some (sym sets.here ∙ now) in
-                  subst (λ (x : ℕ). IsTriedIn P budget old x n o (region_in new x)) (sym last)
-                  (subst (IsTriedIn P budget old limit n o) (sym sets.region)
-                  (subst (λ (x : Outcome). IsTriedIn P budget old limit n x r) one
-                  (is_tried limit outcome r wave found)))
-            ];
-            others = λ c which.
-                let (same_o, same_r) = sets.others c (apart c wave which) in
-                let (was_o, was_r) = tries.others c (weaker c which) in
-                (same_o ∙ was_o, same_r ∙ was_r);
-          }
-
 -- ---- which classes are not accepted
 
 pub no_wave : (reason : Reason) (k : ℕ) → outcome_of (verdicts.Refused reason) ≡ Wave k → ⊥
@@ -275,17 +137,17 @@ marks_are P outs rs marks count are = rw are record {
 pub tells_none : (first : List (Option ℕ)) (old : List Outcome) → TellsBelow first 0 old old
 tells_none first old = record { count = refl; each = λ c o low at. absurd (omega arith); rest = λ c low. refl }
 
-pub tells_more : (first : List (Option ℕ)) (limit : ℕ) (old : List Outcome) (cur more : List Verdict) (o x : Verdict)
-    → limit < length cur → slice_index_or cur limit x ≡ x → TellsBelow first limit old (map outcome_of cur)
+pub tells_more : (first : List (Option ℕ)) (limit : ℕ) (old : List Outcome) (cur more : List Verdict) (o x d : Verdict)
+    → limit < length cur → x ≡ slice_index_or cur limit d → TellsBelow first limit old (map outcome_of cur)
     → outcome_of o ≡ dependent (slice_index_or first limit None) (outcome_of x) → more ≡ slice_set cur limit o
     → TellsBelow first (limit + 1) old (map outcome_of more)
-tells_more first limit old cur more o x low was tells told is = rw (is, map-set outcome_of cur limit o) record {
+tells_more first limit old cur more o x d low was tells told is = rw (is, map-set outcome_of cur limit o) record {
   count = length-set (map outcome_of cur) limit (outcome_of o) ∙ tells.count;
   each = λ c y small at. elim (less_or c limit small) [
     | inl less ↦
         set_other (map outcome_of cur) limit c (outcome_of o) (omega arith) ∙ tells.each c y less at
     | inr last ↦
-        let here : slice_get cur limit ≡ Some x = slice_get-get_or cur limit x low ∙ ap Some was in
+        let here : slice_get cur limit ≡ Some x = slice_get-get_or cur limit d low ∙ ap Some (sym was) in
         let seen : slice_get (map outcome_of cur) limit ≡ Some (outcome_of x) =
         slice_get-map outcome_of cur limit ∙ ap (option_map outcome_of) here in
         let before : slice_get old limit ≡ Some y = subst (λ (k : ℕ). slice_get old k ≡ Some y) last at in

@@ -16,3 +16,7 @@ pub mod WavesEndLemmas
 pub mod TriesLemmas
 pub mod FindingLemmas
 pub mod WholesLemmas
+pub mod SpreadingLemmas
+pub mod TaintedLemmas
+pub mod WaveRowsLemmas
+pub mod TryingLemmas

@@ -37,7 +37,7 @@ had_wave judged c n = by (slice_get judged c)
     ]
 
 -- a class had one wave
-one_before : (judged : List Verdict) (c m n : ℕ) → before.HasWave judged c m → before.HasWave judged c n → m ≡ n
+pub one_before : (judged : List Verdict) (c m n : ℕ) → before.HasWave judged c m → before.HasWave judged c n → m ≡ n
 one_before judged c m n first second =
     (let two : Some (verdicts.Wave m) ≡ Some (verdicts.Wave n) = sym first ∙ second in
     let one : verdicts.Wave m ≡ verdicts.Wave n = cc in cc)

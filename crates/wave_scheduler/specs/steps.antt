@@ -1,2 +1,4 @@
 pub mod Waves
 pub mod Finding
+pub mod Tainting
+pub mod WaveRows

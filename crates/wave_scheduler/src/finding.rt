@@ -1,13 +1,12 @@
 //! What becomes of one class in its wave.
 
-ghost use Rattle.std.specs.Prelude.{◌≡◌, ◌<◌, length, slice_index_or, slice_set, option_map, None, IfOk, OnOk};
+ghost use Rattle.std.specs.Prelude.{◌≡◌, ◌<◌, length, slice_set, option_map, None, IfOk, OnOk};
 ghost use Rattle.machine.specs.Linked.{program_of};
 ghost use Rattle.evaluator.specs.Regions.{region_of, region_in, environment_of};
-ghost use Rattle.initializer_analysis.specs.Verdicts.{HasWave};
 ghost use Rattle.evaluator.specs.Outcomes.{reason_of as why_of};
 ghost use Rattle.wave_scheduler.specs.Settled.{Stopped};
 ghost use Rattle.wave_scheduler.specs.Outcomes.{outcome_of, settled_of};
-ghost use Rattle.wave_scheduler.specs.steps.Finding.{CanRun, HasRun, IsFound, SetsClass, FindsClass, FindsInWave};
+ghost use Rattle.wave_scheduler.specs.steps.Finding.{CanRun, HasRun, IsFound, SetsClass, FindsClass};
 
 use crate::outcome::Settled;
 use evaluator::outcome::{Outcome, Refusal};
@@ -63,7 +62,7 @@ fn run(
     }
 }
 
-/// What becomes of a class in this wave, where this is the first refused class that it uses.
+/// What becomes of a class in this wave, where it is told that it depends on a refused class, or nothing.
 fn find(
     alloc: Global,
     program: &Program,
@@ -71,13 +70,13 @@ fn find(
     class: u32,
     budget: u64,
     wave: usize,
-    first: Option<u32>,
+    told: Option<u32>,
 ) -> Result<Found, AllocError>
-    requires { CanRun (program_of program.now) (environment_of regions.now) budget class first }
+    requires { CanRun (program_of program.now) (environment_of regions.now) budget class told }
     ensures { IfOk result (λ found. IsFound (program_of program.now) (environment_of regions.now) budget wave class
-        first (outcome_of found.verdict) (option_map region_of found.region)) }
+        told (outcome_of found.verdict) (option_map region_of found.region)) }
 {
-    match first {
+    match told {
         Some(refused) => Ok(Found {
             verdict: Verdict::Refused(Reason::DependsOn(refused)),
             region: None,
@@ -110,59 +109,28 @@ fn put(settled: &mut Settled, class: u32, found: Found)
     put_region(&mut settled.regions, class, found.region);
 }
 
-/// Finds what becomes of a class in this wave, where this is the first refused class that it uses.
-fn find_class(
+/// Finds what becomes of a class in this wave, where it is told that it depends on a refused class, or nothing.
+pub(crate) fn find_class(
     alloc: Global,
     program: &Program,
     class: u32,
     budget: u64,
     wave: usize,
-    first: Option<u32>,
+    told: Option<u32>,
     settled: &mut Settled,
 ) -> Result<(), AllocError>
     requires class { class < length settled.old.verdicts }
     requires place { class < length settled.old.regions }
     requires none { region_in settled.old.regions class ≡ None }
-    requires run { CanRun (program_of program.now) (environment_of settled.old.regions) budget class first }
+    requires run { CanRun (program_of program.now) (environment_of settled.old.regions) budget class told }
     ensures { OnOk result (FindsClass (program_of program.now) (environment_of settled.old.regions) budget wave class
-        first (settled_of settled.old) (settled_of settled.new)) }
+        told (settled_of settled.old) (settled_of settled.new)) }
 {
-    match find(alloc, program, &settled.regions, class, budget, wave, first) {
+    match find(alloc, program, &settled.regions, class, budget, wave, told) {
         Ok(found) => {
             put(settled, class, found);
             Ok(())
         }
         Err(error) => Err(error),
-    }
-}
-
-/// The same, if it is a class of this wave.
-pub(crate) fn find_in_wave(
-    alloc: Global,
-    program: &Program,
-    verdicts: &[Verdict],
-    class: u32,
-    budget: u64,
-    wave: usize,
-    first: &[Option<u32>],
-    settled: &mut Settled,
-) -> Result<(), AllocError>
-    requires class { class < length settled.old.verdicts }
-    requires place { class < length settled.old.regions }
-    requires first { class < length first.now }
-    requires verdicts { class < length verdicts.now }
-    requires none { HasWave verdicts.now class wave → region_in settled.old.regions class ≡ None }
-    requires run { HasWave verdicts.now class wave
-        → CanRun (program_of program.now) (environment_of settled.old.regions) budget class
-        (slice_index_or first.now class None) }
-    ensures { OnOk result (FindsInWave (program_of program.now) (environment_of settled.old.regions) budget
-        verdicts.now wave class first.now (settled_of settled.old) (settled_of settled.new)) }
-{
-    let place = class as usize;
-    match verdicts[place] {
-        Verdict::Wave(at) if at == wave => {
-            find_class(alloc, program, class, budget, wave, first[place], settled)
-        }
-        _ => Ok(()),
     }
 }

@@ -5,8 +5,10 @@ mod finding;
 pub mod laws;
 pub mod outcome;
 mod refused;
+mod rows;
 mod settling;
 mod starting;
+mod tainted;
 mod waves;
 
 pub use settling::settle_all_here;

@@ -11,8 +11,8 @@ ghost use Rattle.wave_scheduler.specs.steps.Waves.{StartsFrom};
 
 use crate::outcome::{Settled, WaveFault};
 use crate::refused::{first_in, tell_first};
-use crate::starting::{start, wave_count};
-use crate::waves::try_all;
+use crate::starting::start;
+use crate::waves::try_waves;
 use graph::{Components, components_of};
 use initializer_analysis::verdict::{Verdict, Verdicts};
 use program::Program;
@@ -36,10 +36,7 @@ fn settle_from(
     ensures { OnOk result (FollowVerdicts program.now budget verdicts.now (settled_of settled.new)) }
 {
     let count = program.given_count();
-    let waves = wave_count(verdicts);
-    try_all(
-        alloc, program, uses, calls, verdicts, budget, waves, settled,
-    )?;
+    try_waves(alloc, program, uses, verdicts, budget, settled)?;
     let first = first_in(alloc, program, uses, calls, settled)?;
     tell_first(first.as_slice(), count, settled);
     Ok(())

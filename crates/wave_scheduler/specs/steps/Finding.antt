@@ -1,6 +1,7 @@
 -- What is found of one class after another in a wave.
-use Rattle.std.specs.Prelude.{◌≡◌, ◌≢◌, ◌⊎◌, ℕ, ◌<◌, ◌≤◌, Bool, true, false, List, length, Option, Some, None, slice_get}
+use Rattle.std.specs.Prelude.{◌≡◌, ◌≢◌, ℕ, ◌<◌, ◌≤◌, Bool, true, false, List, length, Option, Some, None, slice_get}
 use Rattle.std.specs.Prelude.{slice_index_or}
+use Rattle.std.specs.List.{Contains}
 use Rattle.vm_state.specs.SharedState.{Region}
 use Rattle.semantics.specs.Programs.{Program}
 use Rattle.semantics.specs.Quiet.{Environment, Refusal}
@@ -19,7 +20,7 @@ use Rattle.wave_scheduler.specs.steps.Waves.{IsTriedIn, AreRefusedIn, dependent}
 abbrev pub AreFirstIn : Tables → Settled → List (Option ℕ) → Type 0
 AreFirstIn P S first = (marks : List Bool) × AreRefusedIn P S marks × AreFirstRefused P marks first
 
--- nothing that the code alone bars stops the initializer of a class none of whose uses is refused
+-- nothing that the code alone bars stops the initializer of a class that depends on no refused one
 abbrev pub CanRun : Program → Environment → ℕ → ℕ → Option ℕ → Type 0
 CanRun P env budget c (Some e) = Unit {0}
 CanRun P env budget c None = StoppedBy P env c budget quiet.Barred → ⊥
@@ -31,7 +32,7 @@ HasRun P env budget n c outcome (Some region) =
 HasRun P env budget n c outcome None =
     (why : Refusal) × (outcome ≡ Stopped why) × StoppedBy P env c budget (quiet.Refused why)
 
--- What is found of a class: the first refused class that it uses, or what its initializer does.
+-- What is found of a class: that it depends on a refused class, or what its initializer does.
 abbrev pub IsFound : Program → Environment → ℕ → ℕ → ℕ → Option ℕ → Outcome → Option Region → Type 0
 IsFound P env budget n c (Some e) outcome held = (outcome ≡ Refused (reasons.DependsOn e)) × (held ≡ None)
 IsFound P env budget n c None outcome held = HasRun P env budget n c outcome held
@@ -51,20 +52,15 @@ FindsClass P env budget n c first old new =
     (outcome : Outcome) × (held : Option Region) × IsFound P env budget n c first outcome held
     × SetsClass c outcome held old new
 
--- the same, of a class of this wave, and of another one nothing
-pub record FindsInWave (P : Program) (env : Environment) (budget : ℕ) (judged : List Verdict) (n c : ℕ)
-    (first : List (Option ℕ)) (old new : Settled) : Type 0 where
-  pub here : before.HasWave judged c n → FindsClass P env budget n c (slice_index_or first c None) old new
-  pub other : (¬ before.HasWave judged c n) → new ≡ old
-
--- the classes of a wave below a limit are tried
-pub record TriesBelow (P : Tables) (budget : ℕ) (judged : List Verdict) (n limit : ℕ) (old new : Settled) :
+-- these classes of a wave are tried
+pub record TriesThese (P : Tables) (budget : ℕ) (judged : List Verdict) (n : ℕ) (done : List ℕ) (old new : Settled) :
     Type 0 where
   pub count : length new.outcomes ≡ length P.classes
   pub regions : length new.regions ≡ length P.classes
-  pub here : (c : ℕ) (outcome : Outcome) → c < limit → before.HasWave judged c n
-      → slice_get new.outcomes c ≡ Some outcome → IsTriedIn P budget old c n outcome (region_in new c)
-  pub others : (c : ℕ) → ((limit ≤ c) ⊎ (¬ before.HasWave judged c n))
+  pub wave : (c : ℕ) → Contains done c → before.HasWave judged c n
+  pub here : (c : ℕ) (outcome : Outcome) → Contains done c → slice_get new.outcomes c ≡ Some outcome
+      → IsTriedIn P budget old c n outcome (region_in new c)
+  pub others : (c : ℕ) → (¬ Contains done c)
       → (slice_get new.outcomes c ≡ slice_get old.outcomes c) × (region_in new c ≡ region_in old c)
 
 -- ---- which classes are not accepted

@@ -1,4 +1,4 @@
-use Rattle.std.proofs.Common.{◌≡◌, ℕ, length, map, refl, sym, subst, arith}
+use Rattle.std.proofs.Common.{◌≡◌, ℕ, length, map, refl, subst, arith}
 use Rattle.std.proofs.lemmas.List.{length-map}
 use Rattle.wave_scheduler.specs.Outcomes.{outcome_of}
 use Rattle.wave_scheduler.specs.steps.Finding.{TellsBelow}
@@ -7,8 +7,11 @@ use Rattle.wave_scheduler.proofs.refused.tell_each.Goals as goal
 
 pub loop-class-preserved : goal.loop-class-preserved
 loop-class-preserved c =
+    let now = length-map c.loop-class.verdicts outcome_of in
+    let first = length-map c.args.verdicts.now outcome_of in
     tells_more c.args.first.now c.loop-class.class (map outcome_of c.args.verdicts.now) c.loop-class.verdicts
-    c.put.new.self c.told-verdict.result ? ? ? c.loop-class.invariant c.told-verdict.ensures c.put.ensures
+    c.put.new.self c.told-verdict.result _ _ (omega (arith, c.loop-class.invariant.count)) refl
+    c.loop-class.invariant (rw c.as_slice.ensures at c.told-verdict.ensures) c.put.ensures
 
 pub returns : goal.returns
 returns c =

@@ -1,0 +1,139 @@
+-- The classes of each wave, as they join it.
+use Rattle.std.proofs.Common.{◌≡◌, ◌≢◌, ◌⊎◌, ℕ, ◌+◌, ◌<◌, ◌≤◌, List, [], ◌∷◌, ◌++◌, length, take, replicate}
+use Rattle.std.proofs.Common.{slice_index, slice_index_or, slice_set, slice_get, Some, inl, inr, refl, sym, ap, subst}
+use Rattle.std.proofs.Common.{◌∙◌, arith}
+use Rattle.std.specs.List.{Contains}
+use Rattle.std.proofs.lemmas.Grind.{common_steps}
+use Rattle.std.proofs.lemmas.List.{length-set, length-replicate, take-append-le}
+use Rattle.std.proofs.lemmas.List.Elements.{Contains-push, Contains-push_cases, Contains-append_left}
+use Rattle.std.proofs.lemmas.Option.{slice_get_within, slice_get-get_or}
+use Rattle.std.specs.declared.vec.Vec.{Vec}
+use Rattle.std.specs.declared.alloc.Global.{Global}
+use Rattle.graph.specs.Rows.{Rows, rows_of}
+use Rattle.graph.proofs.RowsLemmas.{successors_of-set_same, successors_of-set_other, successors_of-empty, has_successor}
+use Rattle.graph.proofs.RowsLemmas.{row_pushed, length-rows_of}
+use Rattle.initializer_analysis.specs.declared.verdict.Verdict.{Verdict}
+use Rattle.initializer_analysis.specs.declared.verdict.Verdict.TheVariants.{Wave, Refused}
+use Rattle.initializer_analysis.specs.Verdicts.{HasWave}
+use Rattle.wave_scheduler.specs.steps.WaveRows.{row_in, AreEachOnce, IsRow, AreRows, IsRowBelow, AreRowsBelow, JoinsWave}
+use Rattle.wave_scheduler.proofs.WavesLemmas.{one_before}
+
+same_or : (n m : ℕ) → (n ≡ m) ⊎ (n ≢ m)
+same_or n m = grind arith
+
+less_or : (c limit : ℕ) → c < limit + 1 → (c < limit) ⊎ (c ≡ limit)
+less_or c limit low = grind arith
+
+-- ---- one more class
+
+take_before : (row : List ℕ) (c j : ℕ) → j < length row → take j (row ++ c ∷ []) ≡ take j row
+take_before row c j small = grind (arith, common_steps)
+
+take_whole : (row : List ℕ) (c : ℕ) → take (length row) (row ++ c ∷ []) ≡ row
+take_whole row c = grind (arith, common_steps)
+
+index_before : (row : List ℕ) (c j : ℕ) → j < length row → slice_index (row ++ c ∷ []) j ≡ slice_index row j
+index_before row c j small = grind (arith, common_steps)
+
+index_last : (row : List ℕ) (c : ℕ) → slice_index (row ++ c ∷ []) (length row) ≡ c
+index_last row c = grind (arith, common_steps)
+
+length_more : (row : List ℕ) (c : ℕ) → length (row ++ c ∷ []) ≡ length row + 1
+length_more row c = grind (arith, common_steps)
+
+once_more : (row : List ℕ) (c : ℕ) → AreEachOnce row → (¬ Contains row c) → AreEachOnce (row ++ c ∷ [])
+once_more row c once new j small = elim (less_or j (length row) (omega (arith, length_more row c))) [
+  | inl less ↦ rw (take_before row c j less, index_before row c j less) (once j less)
+  | inr last ↦ rw (last, take_whole row c, index_last row c) new
+]
+
+joined : (judged : List Verdict) (c n : ℕ) (row : List ℕ) → HasWave judged c n → IsRowBelow judged c n row
+    → IsRowBelow judged (c + 1) n (row ++ c ∷ [])
+joined judged c n row wave below = record {
+  has = λ x there. elim (Contains-push_cases row c x there) [
+    | inl before ↦ (let (low, had) = below.has x before in (omega arith, had))
+    | inr is ↦ (omega arith, subst (λ (y : ℕ). HasWave judged y n) is wave)
+  ];
+  all = λ x low had. elim (less_or x c low) [
+    | inl less ↦ Contains-append_left row (c ∷ []) x (below.all x less had)
+    | inr same ↦ subst (Contains (row ++ c ∷ [])) (sym same) (Contains-push row c)
+  ];
+  once = once_more row c below.once (λ there. (let (low, had) = below.has c there in omega arith));
+}
+
+kept : (judged : List Verdict) (c n : ℕ) (row : List ℕ) → (¬ HasWave judged c n) → IsRowBelow judged c n row
+    → IsRowBelow judged (c + 1) n row
+kept judged c n row never below = record {
+  has = λ x there. (let (low, had) = below.has x there in (omega arith, had));
+  all = λ x low had. elim (less_or x c low) [
+    | inl less ↦ below.all x less had
+    | inr same ↦ absurd (never (subst (λ (y : ℕ). HasWave judged y n) same had))
+  ];
+  once = below.once;
+}
+
+verdict_there : (judged : List Verdict) (c : ℕ) (v d : Verdict) → c < length judged → v ≡ slice_index_or judged c d
+    → slice_get judged c ≡ Some v
+verdict_there judged c v d low is = slice_get-get_or judged c d low ∙ ap Some (sym is)
+
+pub rows_more : (judged : List Verdict) (c count : ℕ) (old new : Rows) (v d : Verdict) → c < length judged
+    → v ≡ slice_index_or judged c d → ((n : ℕ) → v ≡ Wave n → n < count) → AreRowsBelow judged c count old
+    → JoinsWave c v old new → AreRowsBelow judged (c + 1) count new
+rows_more judged c count old new (Wave m) d low is above below joins = rw joins (record {
+  len = length-set old m (row_in old m ++ c ∷ []) ∙ below.len;
+  each = λ n. elim (same_or n m) [
+    | inl same ↦ rw (same, successors_of-set_same old m (row_in old m ++ c ∷ []) small)
+        (joined judged c m (row_in old m) wave (below.each m))
+    | inr apart ↦ rw (successors_of-set_other old m n (row_in old m ++ c ∷ []) apart)
+        (kept judged c n (row_in old n) (λ had. apart (one_before judged c n m had wave)) (below.each n))
+  ];
+})
+  where
+    wave : HasWave judged c m
+    wave = verdict_there judged c (Wave m) d low is
+
+    small : m < length old
+    small = (let less = above m refl in omega (arith, below.len))
+rows_more judged c count old new (Refused r) d low is above below joins = rw joins (record {
+  len = below.len;
+  each = λ n. kept judged c n (row_in old n) (never n) (below.each n);
+})
+  where
+    never : (n : ℕ) → ¬ HasWave judged c n
+    never n had = (let clash : Some (Refused r) ≡ Some (Wave n) = sym (verdict_there judged c (Refused r) d low is) ∙ had in cc)
+
+pub verdict_wave : (judged : List Verdict) (c n : ℕ) (v d : Verdict) → c < length judged
+    → v ≡ slice_index_or judged c d → v ≡ Wave n → HasWave judged c n
+verdict_wave judged c n v d low is wave = verdict_there judged c v d low is ∙ ap Some wave
+
+pub joins_pushed : (rows : List (Vec ℕ Global)) (c m : ℕ) (v : Verdict) (row new : Vec ℕ Global) → v ≡ Wave m
+    → m < length rows → row ≡ slice_index_or rows m row → new.items ≡ row.items ++ c ∷ []
+    → JoinsWave c v (rows_of rows) (rows_of (slice_set rows m new))
+joins_pushed rows c m v row new is low read pushed =
+    rw is (row_pushed rows (rows_of rows) m c row new refl (omega (arith, length-rows_of rows)) read pushed)
+
+-- ---- none, and all
+
+pub rows_none : (judged : List Verdict) (count : ℕ) (rows : Rows) → rows ≡ replicate count []
+    → AreRowsBelow judged 0 count rows
+rows_none judged count rows are = rw are (record {
+  len = length-replicate count [];
+  each = λ n. rw (successors_of-empty count n) (record {
+    has = λ c there. absurd (omega (arith, there.1));
+    all = λ c low had. absurd (omega arith);
+    once = λ i small. absurd (omega arith);
+  });
+})
+
+pub rows_all : (judged : List Verdict) (limit count : ℕ) (rows : Rows) → length judged ≤ limit
+    → AreRowsBelow judged limit count rows → AreRows judged rows
+rows_all judged limit count rows high below n = record {
+  has = λ c there. ((below.each n).has c there).1;
+  all = λ c had. (let small = slice_get_within judged c (Wave n) had in (below.each n).all c (omega arith) had);
+  once = (below.each n).once;
+}
+
+-- each wave has a row
+pub waves_low : (judged : List Verdict) (rows : Rows) → AreRows judged rows → (c n : ℕ) → HasWave judged c n
+    → n < length rows
+waves_low judged rows are c n had = has_successor rows n c ((are n).all c had)

@@ -1,0 +1,205 @@
+//! Which classes depend on one that is not accepted.
+
+ghost use Rattle.std.specs.Prelude.{◌≡◌, ◌+◌, ◌*◌, ◌<◌, ◌≤◌, ◌↔◌, [], length, IsTrue, IfOk, OnOk};
+ghost use Rattle.std.specs.List.{All};
+ghost use Rattle.graph.specs.steps.Adds.{Adds};
+ghost use Rattle.graph.specs.steps.Reverse.{IsReverse, AddsEdges};
+ghost use Rattle.use_graph.specs.steps.Bodies.{IsUseGraph};
+ghost use Rattle.wave_scheduler.specs.Settled.{IsAccepted};
+ghost use Rattle.wave_scheduler.specs.Outcomes.{settled_of};
+ghost use Rattle.wave_scheduler.specs.steps.Tainting.{IsClosedIn, AddsReached, AreDependents, vertex_in, IsSeen};
+ghost use Rattle.wave_scheduler.specs.steps.Tainting.{IsSearched, Spreads, IsOver, SeesOver, AreTainted};
+
+use crate::outcome::Settled;
+use graph::{Graph, Visited};
+use initializer_analysis::verdict::Verdict;
+use initializer_analysis::{class_vertex, dependence_graph};
+use program::Program;
+use std::alloc::{AllocError, Global};
+use use_graph::UseGraph;
+
+/// What depends on classes that are not accepted. All searches for it together look at each vertex and edge once.
+#[derive(Drop)]
+pub(crate) struct Tainted {
+    /// From each method and class to what depends on it.
+    dependents: Graph,
+    /// The vertex of the first class: those of methods come before.
+    first: usize,
+    /// The vertices that depend on a class that is not accepted.
+    seen: Visited,
+}
+
+/// Adds an edge from each vertex of a row to this one.
+fn add_edges_to(back: &mut Graph, row: &[usize], to: usize) -> Result<(), AllocError>
+    requires row { All (λ v. v < length back.old) row.now }
+    requires to { to < length back.old }
+    ensures { OnOk result (AddsEdges back.old row.now to back.new) }
+{
+    for from in row {
+        back.add(*from, to)?;
+    }
+    Ok(())
+}
+
+/// A graph with its edges turned round.
+fn reversed(alloc: Global, graph: &Graph) -> Result<Graph, AllocError>
+    ensures { IfOk result (IsReverse graph.now) }
+{
+    let mut back = Graph::new(alloc, graph.len())?;
+    for vertex in 0..graph.len() {
+        add_edges_to(&mut back, graph.successors(vertex), vertex)?;
+    }
+    Ok(back)
+}
+
+/// Adds the members of a row that are new.
+fn visit(row: &[usize], seen: &mut Visited) -> Result<(), AllocError>
+    requires { All (λ b. b < seen.old.limit) row.now }
+    ensures limit { seen.new.limit ≡ seen.old.limit }
+    ensures adds { OnOk result (Adds seen.old.items row.now seen.new.items) }
+{
+    for vertex in row {
+        seen.add(*vertex)?;
+    }
+    Ok(())
+}
+
+/// Adds a vertex and all that it reaches, to vertices that have among them what they reach.
+fn add_reached(graph: &Graph, vertex: usize, seen: &mut Visited) -> Result<(), AllocError>
+    requires vertex { vertex < length graph.now }
+    requires limit { seen.old.limit ≡ length graph.now }
+    requires closed { IsClosedIn graph.now seen.old.items }
+    ensures limit { seen.new.limit ≡ seen.old.limit }
+    ensures members { OnOk result (AddsReached graph.now vertex seen.old.items seen.new.items) }
+{
+    let mut next = seen.len();
+    seen.add(vertex)?;
+    while next < seen.len() {
+        let at = seen.at(next);
+        visit(graph.successors(at), seen)?;
+        next += 1;
+    }
+    Ok(())
+}
+
+/// What classes and methods depend on, turned round: from each of them to what depends on it.
+fn dependents_of(alloc: Global, program: &Program, uses: &UseGraph) -> Result<Graph, AllocError>
+    requires { IsUseGraph program.now uses.now }
+    ensures { IfOk result (AreDependents program.now uses.now) }
+{
+    match dependence_graph(alloc, program, uses) {
+        Ok(graph) => reversed(alloc, &graph),
+        Err(error) => Err(error),
+    }
+}
+
+impl Tainted {
+    /// Nothing yet, over a graph and from this first class's vertex on.
+    fn none(alloc: Global, dependents: Graph, first: usize) -> Result<Tainted, AllocError>
+        ensures over { IfOk result (IsOver dependents first) }
+        ensures items { IfOk result (λ t. t.seen.items ≡ []) }
+    {
+        let seen = Visited::new(alloc, dependents.len())?;
+        Ok(Tainted {
+            dependents,
+            first,
+            seen,
+        })
+    }
+
+    /// Whether a class depends on one that is not accepted.
+    pub(crate) fn has(&self, class: u32) -> bool
+        requires { IsSearched self.now }
+        ensures { IsTrue result ↔ IsSeen self.now (vertex_in self.now class) }
+    {
+        self.seen.has(self.first + class as usize)
+    }
+
+    /// Adds what depends on a class.
+    fn add(&mut self, class: u32) -> Result<(), AllocError>
+        requires searched { IsSearched self.old }
+        requires vertex { vertex_in self.old class < length self.old.dependents }
+        ensures { OnOk result (Spreads class (Unit {0}) self.old self.new) }
+    {
+        let vertex = self.first + class as usize;
+        add_reached(&self.dependents, vertex, &mut self.seen)?;
+        Ok(())
+    }
+
+    /// Adds what depends on a class, if it is not accepted.
+    pub(crate) fn add_refused(&mut self, settled: &Settled, class: u32) -> Result<(), AllocError>
+        requires searched { IsSearched self.old }
+        requires vertex { vertex_in self.old class < length self.old.dependents }
+        requires class { class < length settled.now.verdicts }
+        ensures { OnOk result (Spreads class (¬ IsAccepted (settled_of settled.now) class) self.old self.new) }
+    {
+        match settled.verdicts.as_slice()[class as usize] {
+            Verdict::Wave(_) => Ok(()),
+            Verdict::Refused(_) => {
+                self.add(class)?;
+                Ok(())
+            }
+        }
+    }
+
+    /// Adds what depends on any class that is not accepted.
+    fn add_all_refused(&mut self, settled: &Settled, count: u32) -> Result<(), AllocError>
+        requires few { self.old.first ≤ 2 * (65535 * 65535) }
+        requires over { IsOver self.old.dependents self.old.first self.old }
+        requires none { self.old.seen.items ≡ [] }
+        requires vertices { length self.old.dependents ≡ self.old.first + count }
+        requires count { length settled.now.verdicts ≡ count }
+        ensures { OnOk result
+            (SeesOver (settled_of settled.now) self.old.dependents self.old.first count self.new) }
+    {
+        for class in 0..count {
+            self.add_refused(settled, class)?;
+        }
+        Ok(())
+    }
+
+    /// What depends on the classes that are not accepted, over a graph and from this first class's vertex on.
+    fn over(
+        alloc: Global,
+        dependents: Graph,
+        first: usize,
+        settled: &Settled,
+        count: u32,
+    ) -> Result<Tainted, AllocError>
+        requires few { first ≤ 2 * (65535 * 65535) }
+        requires vertices { length dependents ≡ first + count }
+        requires count { length settled.now.verdicts ≡ count }
+        ensures { IfOk result (SeesOver (settled_of settled.now) dependents first count) }
+    {
+        match Tainted::none(alloc, dependents, first) {
+            Ok(tainted) => {
+                let mut tainted = tainted;
+                match tainted.add_all_refused(settled, count) {
+                    Ok(()) => Ok(tainted),
+                    Err(error) => Err(error),
+                }
+            }
+            Err(error) => Err(error),
+        }
+    }
+
+    /// What depends on the classes of a program that are not accepted.
+    pub(crate) fn of(
+        alloc: Global,
+        program: &Program,
+        uses: &UseGraph,
+        settled: &Settled,
+    ) -> Result<Tainted, AllocError>
+        requires uses { IsUseGraph program.now uses.now }
+        requires count { length settled.now.verdicts ≡ length program.now.classes }
+        ensures { IfOk result (AreTainted program.now (settled_of settled.now)) }
+    {
+        match dependents_of(alloc, program, uses) {
+            Ok(dependents) => {
+                let first = class_vertex(uses, 0);
+                Tainted::over(alloc, dependents, first, settled, program.given_count())
+            }
+            Err(error) => Err(error),
+        }
+    }
+}
