@@ -261,8 +261,8 @@ fn build_time<'a>(alloc: Global) -> Arg<'a> {
         .long("initialize-at-build-time")
         .value_name("LIST")
         .help(
-            "Classes and packages, with dots, separated by commas, that have to be initialized at build time; with their \
-             superclasses",
+            "Classes and packages, with dots, separated by commas, that have to be initialized at build time; with \
+             their superclasses",
         )
 }
 

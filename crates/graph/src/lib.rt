@@ -15,6 +15,7 @@ pub use arrangement::{Arrangement, arrange};
 pub use components::{Components, components_of};
 pub use cycle::is_on_cycle;
 pub use graph::Graph;
-pub use search::{reach, reach_all};
+pub use reverse::reversed;
+pub use search::{reach, reach_all, visit};
 pub use visited::Visited;
 pub use walk::order;

@@ -20,7 +20,10 @@ fn add_edges_to(back: &mut Graph, row: &[usize], to: usize) -> Result<(), AllocE
 }
 
 /// The graph with its edges turned round.
-pub(crate) fn reversed(alloc: Global, graph: &Graph) -> Result<Graph, AllocError>
+///
+/// # Errors
+/// Where memory runs out.
+pub fn reversed(alloc: Global, graph: &Graph) -> Result<Graph, AllocError>
     ensures { IfOk result (IsReverse graph.now) }
 {
     let mut back = Graph::new(alloc, graph.len())?;

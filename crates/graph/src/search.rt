@@ -11,7 +11,10 @@ use crate::visited::Visited;
 use std::alloc::{AllocError, Global};
 
 /// Adds the members of a row that are new.
-pub(crate) fn visit(row: &[usize], seen: &mut Visited) -> Result<(), AllocError>
+///
+/// # Errors
+/// Where memory runs out.
+pub fn visit(row: &[usize], seen: &mut Visited) -> Result<(), AllocError>
     requires { All (λ b. b < seen.old.limit) row.now }
     ensures limit { seen.new.limit ≡ seen.old.limit }
     ensures adds { OnOk result (Adds seen.old.items row.now seen.new.items) }

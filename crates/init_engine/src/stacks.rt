@@ -37,7 +37,8 @@ fn copy_of(alloc: Global, number: u32, thread: &Thread) -> Result<Frames, AllocE
 fn is_copy_of(number: u32, thread: &Thread, frames: &Frames) -> bool
     requires { HasNumber thread.now number }
     ensures yes { result ≡ true → (frames.now.thread ≡ number) × IsStackOf (Some (thread_of thread.now)) frames.now }
-    ensures no { result ≡ false → ¬ ((frames.now.thread ≡ number) × IsStackOf (Some (thread_of thread.now)) frames.now) }
+    ensures no { result ≡ false
+        → ¬ ((frames.now.thread ≡ number) × IsStackOf (Some (thread_of thread.now)) frames.now) }
 {
     match thread {
         Thread::Going(own) => own.is_same(frames),

@@ -6,7 +6,8 @@ use std::fmt;
 use std::marker::Model;
 use use_graph::mark::Mark;
 
-/// Why a class is not initialized at build time. The last four are found by running its initializer, and by nothing else.
+/// Why a class is not initialized at build time. The last four are found by running its initializer, and by nothing
+/// else.
 #[derive(Clone, Copy)]
 pub enum Reason {
     /// It was asked to be initialized at run time.

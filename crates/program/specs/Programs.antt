@@ -126,8 +126,9 @@ abbrev pub AreClasses : Family → List (List ℕ) → List Class → Type 0
 AreClasses family strings classes =
     AllZip (λ (given : GivenClass) (class : Class). IsClass family strings given.file class) family classes
 
--- The tables are those of their family: a class for each given one, and the strings of all, each once.
+-- The tables are those of their family: an order and a class for each given one, and the strings of all, each once.
 pub record IsProgram (P : Tables) : Type 0 where
+  pub order_count : length P.orders ≡ length P.family
   pub orders : (c : ℕ) → c < length P.family → IsInitializationOrder P.family c (order_in P c)
   pub classes : AreClasses P.family P.strings P.classes
   pub distinct : AreDistinct P.strings

@@ -137,6 +137,7 @@ struct Tables {
 /// The tables of a hierarchy.
 fn tables_of(alloc: Global, hierarchy: &Hierarchy, slots: &Slots) -> Result<Tables, AllocError>
     requires { AreSlots hierarchy.now.family slots.now }
+    ensures order_count { IfOk result (λ tables. length tables.orders ≡ length hierarchy.now.family) }
     ensures orders { IfOk result (λ tables. AreOrders hierarchy.now.family tables.orders) }
     ensures classes { IfOk result (λ tables. AreClasses hierarchy.now.family tables.strings tables.classes.items) }
     ensures distinct { IfOk result (λ tables. AreDistinct tables.strings) }
@@ -190,6 +191,7 @@ fn class_tables(
 /// A program of its parts.
 fn joined(hierarchy: Hierarchy, slots: Slots, tables: Tables) -> Program
     requires slots { AreSlots hierarchy.family slots }
+    requires order_count { length tables.orders ≡ length hierarchy.family }
     requires orders { AreOrders hierarchy.family tables.orders }
     requires classes { AreClasses hierarchy.family tables.strings tables.classes.items }
     requires distinct { AreDistinct tables.strings }

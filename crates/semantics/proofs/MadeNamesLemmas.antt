@@ -1,5 +1,5 @@
--- An initializer that runs alone comes to know the names alone of objects that are made: its own below the count that it
--- leaves, and those that finals at hand hold.
+-- An initializer that runs alone comes to know the names alone of objects that are made: its own below the count that
+-- it leaves, and those that finals at hand hold.
 use Rattle.std.proofs.Common.{◌≡◌, inl, inr, ℕ, Bool, true, false, cond, List, [], ◌∷◌, Option, Some, None, ◌==◌}
 use Rattle.std.proofs.Common.{refl, subst, ◌+◌, ◌<◌, ◌≤◌, nat_lt, arith}
 use Rattle.vm_state.specs.declared.value.Value.{Value}
@@ -12,7 +12,8 @@ use Rattle.semantics.specs.Rows.{UseClass, ReadStatic, WriteStatic, AskClass, Lo
 use Rattle.semantics.specs.Rows.{Make, UseMonitor, Print, part_at}
 use Rattle.semantics.specs.Moves.{with_operands, received}
 use Rattle.semantics.specs.Programs.{Program}
-use Rattle.semantics.specs.Quiet.{Environment, is_final, pool_seen, QuietMove, Stop, Refused, Barred, ForeignObject, Conduct}
+use Rattle.semantics.specs.Quiet.{Environment, is_final, pool_seen, QuietMove, Stop, Refused, Barred, ForeignObject}
+use Rattle.semantics.specs.Quiet.{Conduct}
 use Rattle.semantics.specs.Quiet.{Leaves, Stops, is_open, at_hand, if_fixed, elements_in, quiet, quiet_step}
 use Rattle.semantics.specs.Settling.{onward, RunsBody, ByReturn, ByStep, ByCall, SettlesBy}
 use Rattle.semantics.specs.Settling.{Settles}

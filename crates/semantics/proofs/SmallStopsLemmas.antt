@@ -108,7 +108,8 @@ module _ (P : Program) (env : Environment) (c : ℕ) where
   pub alone_excludes : {fs : List Frame} {own last : Region} {n budget : ℕ} {stop : Stop}
       → RunsAlone P env c fs own n last → StopsAlone P env c fs own budget stop → n ≤ budget → ⊥
   alone_excludes (Step moves leads rest) Unpaid within = omega arith
-  alone_excludes (Step {f = f} {own = own} moves leads rest) (Failing stops) within = (let clash = sym moves ∙ stops in cc)
+  alone_excludes (Step {f = f} {own = own} moves leads rest) (Failing stops) within =
+      (let clash = sym moves ∙ stops in cc)
   alone_excludes (Step moves leads rest) (Unmade second over) within = omega (arith, same_elements moves second)
   alone_excludes (Step {f = f} {fs = fs} {gs = gs} moves leads rest) (Full second fits none) within =
       let clash : Some gs ≡ None = same_of (λ (x : Move). moved x f fs) moves second leads none in cc
@@ -134,7 +135,8 @@ module _ (P : Program) (env : Environment) (c : ℕ) where
   alone_once (Full first fits none) (Full second fit again) = refl
   alone_once (Full {f = f} {fs = fs} first fits none) (Later {gs = gs} second fit leads stops) =
       let clash : None ≡ Some gs = same_of (λ (x : Move). moved x f fs) first second none leads in cc
-  alone_once (Later first fits leads stops) (Failing {f = f} {own = own} second) = (let clash = sym first ∙ second in cc)
+  alone_once (Later first fits leads stops) (Failing {f = f} {own = own} second) =
+      (let clash = sym first ∙ second in cc)
   alone_once (Later first fits leads stops) (Unmade second over) = absurd (omega (arith, same_elements first second))
   alone_once (Later {f = f} {fs = fs} {gs = gs} first fits leads stops) (Full second fit none) =
       let clash : Some gs ≡ None = same_of (λ (x : Move). moved x f fs) first second leads none in cc

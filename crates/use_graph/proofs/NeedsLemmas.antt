@@ -278,7 +278,8 @@ module _ (P : Tables) where
       by_values true = on
       by_values false = λ e h. cc
 
-  from_static : (c descriptor : ℕ) (t : Result Method Unresolved) → NeedsGiven (on_call (static_callee P c descriptor t))
+  from_static : (c descriptor : ℕ) (t : Result Method Unresolved)
+      → NeedsGiven (on_call (static_callee P c descriptor t))
   from_static c descriptor (Ok (methods.BuiltIn member)) = λ e h. cc
   from_static c descriptor (Err unresolved.Missing) = λ e h. cc
   from_static c descriptor (Err unresolved.NoReference) = λ e h. cc

@@ -1,6 +1,7 @@
 //! The operand stack of a frame (JVMS 2.6.2).
 
-ghost use Rattle.std.specs.Prelude.{◌≡◌, ◌+◌, ◌≤◌, ◌<◌, ◌∷◌, [], IfOk, OnErr, OnOk, Some, None, nat_le, vec_capacity, ◌≢◌, true, false};
+ghost use Rattle.std.specs.Prelude.{◌≡◌, ◌≢◌, ◌+◌, ◌≤◌, ◌<◌, ◌∷◌, [], IfOk, OnErr, OnOk, Some, None, true, false};
+ghost use Rattle.std.specs.Prelude.{nat_le, vec_capacity};
 ghost use Rattle.vm_state.specs.Values.{places};
 ghost use Rattle.vm_state.specs.Operands.{OperandStack, all_places, pushed, top, top_int, top_long};
 ghost use Rattle.vm_state.specs.Operands.{rest, dropped, all_pushed};

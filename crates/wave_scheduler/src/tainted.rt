@@ -1,9 +1,6 @@
 //! Which classes depend on one that is not accepted.
 
 ghost use Rattle.std.specs.Prelude.{◌≡◌, ◌+◌, ◌*◌, ◌<◌, ◌≤◌, ◌↔◌, [], length, IsTrue, IfOk, OnOk};
-ghost use Rattle.std.specs.List.{All};
-ghost use Rattle.graph.specs.steps.Adds.{Adds};
-ghost use Rattle.graph.specs.steps.Reverse.{IsReverse, AddsEdges};
 ghost use Rattle.use_graph.specs.steps.Bodies.{IsUseGraph};
 ghost use Rattle.wave_scheduler.specs.Settled.{IsAccepted};
 ghost use Rattle.wave_scheduler.specs.Outcomes.{settled_of};
@@ -11,7 +8,7 @@ ghost use Rattle.wave_scheduler.specs.steps.Tainting.{IsClosedIn, AddsReached, A
 ghost use Rattle.wave_scheduler.specs.steps.Tainting.{IsSearched, Spreads, IsOver, SeesOver, AreTainted};
 
 use crate::outcome::Settled;
-use graph::{Graph, Visited};
+use graph::{Graph, Visited, reversed, visit};
 use initializer_analysis::verdict::Verdict;
 use initializer_analysis::{class_vertex, dependence_graph};
 use program::Program;
@@ -27,41 +24,6 @@ pub(crate) struct Tainted {
     first: usize,
     /// The vertices that depend on a class that is not accepted.
     seen: Visited,
-}
-
-/// Adds an edge from each vertex of a row to this one.
-fn add_edges_to(back: &mut Graph, row: &[usize], to: usize) -> Result<(), AllocError>
-    requires row { All (λ v. v < length back.old) row.now }
-    requires to { to < length back.old }
-    ensures { OnOk result (AddsEdges back.old row.now to back.new) }
-{
-    for from in row {
-        back.add(*from, to)?;
-    }
-    Ok(())
-}
-
-/// A graph with its edges turned round.
-fn reversed(alloc: Global, graph: &Graph) -> Result<Graph, AllocError>
-    ensures { IfOk result (IsReverse graph.now) }
-{
-    let mut back = Graph::new(alloc, graph.len())?;
-    for vertex in 0..graph.len() {
-        add_edges_to(&mut back, graph.successors(vertex), vertex)?;
-    }
-    Ok(back)
-}
-
-/// Adds the members of a row that are new.
-fn visit(row: &[usize], seen: &mut Visited) -> Result<(), AllocError>
-    requires { All (λ b. b < seen.old.limit) row.now }
-    ensures limit { seen.new.limit ≡ seen.old.limit }
-    ensures adds { OnOk result (Adds seen.old.items row.now seen.new.items) }
-{
-    for vertex in row {
-        seen.add(*vertex)?;
-    }
-    Ok(())
 }
 
 /// Adds a vertex and all that it reaches, to vertices that have among them what they reach.

@@ -75,7 +75,11 @@ add_edge-requires-clause-to c =
 
 pub add_like-requires-clause-from : goal.add_like-requires-clause-from
 add_like-requires-clause-from c =
-    omega (arith, c.requires.part.vertices, slice_get_within c.args.numbers.now c.args.from c.args.caller c.requires.from)
+    omega (
+      arith,
+      c.requires.part.vertices,
+      slice_get_within c.args.numbers.now c.args.from c.args.caller c.requires.from,
+    )
 
 pub add_like-requires-clause-vertices : goal.add_like-requires-clause-vertices
 add_like-requires-clause-vertices c =

@@ -11,11 +11,13 @@ resolved_so : (o : Option LocalOperation) (operation : Operation) → is_some o 
 resolved_so None operation none = refl
 resolved_so (Some local) operation none = absurd cc
 
-local_needs : (o : Option LocalOperation) (operation : Operation) → is_some o ≡ true → None ≡ needed_by (local_or o operation)
+local_needs : (o : Option LocalOperation) (operation : Operation) → is_some o ≡ true
+    → None ≡ needed_by (local_or o operation)
 local_needs None operation some = absurd cc
 local_needs (Some local) operation some = refl
 
-local_calls : (o : Option LocalOperation) (operation : Operation) → is_some o ≡ true → Nobody ≡ callee_of (local_or o operation)
+local_calls : (o : Option LocalOperation) (operation : Operation) → is_some o ≡ true
+    → Nobody ≡ callee_of (local_or o operation)
 local_calls None operation some = absurd cc
 local_calls (Some local) operation some = refl
 

@@ -23,7 +23,8 @@ loop-place-preserved c =
           ↔ (Contains c.loop-place.methods.items m ⊎ IsMethodAt methods v m)) c.at.ensures.value
           c.in_ok-add_method.ensures.all);
       listed = listed_more methods reached c.loop-place.place c.loop-place.methods.items
-          c.len-place-end.ensures.distinct low c.in_ok-add_method.ensures.numbered c.loop-place.invariant.listed c.add_method.new.methods.items
+          c.len-place-end.ensures.distinct low c.in_ok-add_method.ensures.numbered c.loop-place.invariant.listed
+          c.add_method.new.methods.items
           (subst (λ (v : ℕ). AddsMethod methods v c.loop-place.methods.items c.add_method.new.methods.items)
           c.at.ensures.value c.in_ok-add_method.ensures.adds);
     }

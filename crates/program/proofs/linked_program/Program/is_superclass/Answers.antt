@@ -12,7 +12,8 @@ returns c =
     let family = c.args.self.now.family in
     let supers : List ℕ = given_superclasses family c.args.class in
     let fits : IsFamily family = subst IsFamily c.family.ensures c.classes-classes.ensures.fits in
-    let within : AreParentsWithin family = subst (λ (f : Family). AreParentsWithin f) c.family.ensures c.classes-classes.ensures.within in
+    let within : AreParentsWithin family =
+    subst (λ (f : Family). AreParentsWithin f) c.family.ensures c.classes-classes.ensures.within in
     let same : c.supers.result ≡ supers =
     same_superclasses c.supers.ensures (superclasses_of family c.args.class fits within) in
     any_from_yields_List (λ d. d == c.args.other) _ _ c.any.result c.any.ensures.ran
