@@ -1,6 +1,7 @@
 -- Something follows the verdicts: wave by wave, each class is tried where all that it uses is at hand.
 use Rattle.std.proofs.Common.{◌≡◌, ◌≢◌, ◌⊎◌, inl, inr, ℕ, zero, suc, ◌<◌, ◌≤◌, Bool, List, []}
-use Rattle.std.proofs.Common.{◌∷◌, length, Option, Some, None, IsSome, is_some, slice_get, slice_index_or, refl, sym, ap}
+use Rattle.std.proofs.Common.{◌∷◌, length, Option, Some, None, IsSome, is_some, slice_get, slice_index_or, refl, sym}
+use Rattle.std.proofs.Common.{ap}
 use Rattle.std.proofs.Common.{subst, ◌∙◌, arith}
 use Rattle.std.proofs.Math.Path.{fun_ext}
 use Rattle.std.proofs.lemmas.Bool.{cases_lt, le-ltb}
@@ -273,7 +274,8 @@ module _ (P : Tables) (forced : List Bool) (budget : ℕ) (judged : List Verdict
   tried_wave c n at there = outcome_at c (verdicts.Wave n) at ∙ ap Some (by (attempt P budget (at_hand n) c)
       (subst (λ (o : Option Region). IsSome o) (last_tried c n at) there))
     where
-      by : (a : Attempt P budget (at_hand n) c) → IsSome (region_of P budget a) → by_attempt P budget judged c n a ≡ Wave n
+      by : (a : Attempt P budget (at_hand n) c) → IsSome (region_of P budget a)
+          → by_attempt P budget judged c n a ≡ Wave n
       by (Leaves region cost all settles fits) is = refl
       by (Stops stop all stops) is = cc
       by (Lacks e missing) is = cc

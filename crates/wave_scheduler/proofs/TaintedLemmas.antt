@@ -23,7 +23,8 @@ use Rattle.wave_scheduler.specs.declared.outcome.Settled.{Settled as Answer}
 use Rattle.wave_scheduler.specs.declared.tainted.Tainted.{Tainted}
 use Rattle.wave_scheduler.specs.Settled.{Settled, Wave, IsAccepted}
 use Rattle.wave_scheduler.specs.Outcomes.{outcome_of, settled_of}
-use Rattle.wave_scheduler.specs.steps.Tainting.{IsClosedIn, AddsReached, AreDependents, vertex_in, IsSeen, IsSearched, Spreads}
+use Rattle.wave_scheduler.specs.steps.Tainting.{IsClosedIn, AddsReached, AreDependents, vertex_in, IsSeen, IsSearched}
+use Rattle.wave_scheduler.specs.steps.Tainting.{Spreads}
 use Rattle.wave_scheduler.specs.steps.Tainting.{DependsOnRefused, SeesBelow, IsOver, SeesOver, AreTainted}
 use Rattle.wave_scheduler.specs.steps.Finding.{is_refused}
 use Rattle.wave_scheduler.proofs.FindingLemmas.{refused_or}
@@ -186,7 +187,8 @@ module _ (P : Tables) (S : Settled) (t : Tainted) (are : AreTainted P S t) where
   IsFrom c e = (graph : Rows) × IsDependence P are.uses graph
       × Reaches graph (vertex_of are.uses c) (vertex_of are.uses e)
 
-  pub seen_from : (c : ℕ) → IsSeen t (vertex_in t c) → (e : ℕ) × (e < length P.classes) × (¬ IsAccepted S e) × IsFrom c e
+  pub seen_from : (c : ℕ) → IsSeen t (vertex_in t c)
+      → (e : ℕ) × (e < length P.classes) × (¬ IsAccepted S e) × IsFrom c e
   seen_from c seen =
       let (e, low, never, path) = (are.sees (vertex_in t c)).0 seen in
       let (graph, is, turned) = are.dependents in

@@ -31,7 +31,8 @@ module _ (P : Tables) (forced : List Bool) (budget : ℕ) (S : Settled) (linked 
       by : (o : Option Region) → below S n c ≡ o → o ≡ None
       by None is = refl
       by (Some r) is =
-          absurd (let (m, here, less, has) = from_below S n c r is in let same = same_wave S c m n here at in omega arith)
+          absurd (let (m, here, less, has) = from_below S n c r is in
+          let same = same_wave S c m n here at in omega arith)
 
   -- what is at hand in a wave is at hand in a later one
   later : (m n d : ℕ) (r : Region) → m ≤ n → below S m d ≡ Some r → below S n d ≡ Some r
@@ -76,7 +77,8 @@ module _ (P : Tables) (forced : List Bool) (budget : ℕ) (S : Settled) (linked 
   small c r has =
       let (n, at) = are.only c r has in
       let (cost, settles, within) = leaves c n r at has in
-      let sizes = settled_are_within_lem P linked (below S n) (shape_below n n (omega arith)) c cost r (from c) settles in
+      let sizes =
+      settled_are_within_lem P linked (below S n) (shape_below n n (omega arith)) c cost r (from c) settles in
       omega (arith, sizes.count, within)
 
 pub settled_are_small_lem : SettledAreSmall

@@ -4,7 +4,6 @@ ghost use Rattle.wave_scheduler.specs.Laws.{OneSettled, SettledAreExact, HasAnal
 ghost use Rattle.wave_scheduler.specs.Laws.{NeverBarred, MoreAtHand};
 ghost use Rattle.wave_scheduler.specs.Judged.{FollowersAreSettled, FewWaves, HasFollower};
 ghost use Rattle.wave_scheduler.specs.Wholes.{SettledAreWhole, SettledAreSmall};
-ghost use Rattle.wave_scheduler.specs.steps.Waves.{WavesStart, WavesGoOn, WavesEnd, TriesDecide};
 
 /// The program, the options and the budget determine what becomes of all classes.
 pub fn one_settled()
@@ -60,24 +59,4 @@ pub fn has_follower()
 /// With more regions at hand than those of lower waves a class does as it does in its wave.
 pub fn more_at_hand()
     ensures { MoreAtHand }
-{}
-
-/// Before the first wave nothing is tried.
-pub fn waves_start()
-    ensures { WavesStart }
-{}
-
-/// A wave that is tried leaves the lower ones as they are.
-pub fn waves_go_on()
-    ensures { WavesGoOn }
-{}
-
-/// After the last wave all follows the verdicts, once each class is told the first refused one that it uses.
-pub fn waves_end()
-    ensures { WavesEnd }
-{}
-
-/// What is found of a class of the next wave is what comes of it there.
-pub fn tries_decide()
-    ensures { TriesDecide }
 {}
