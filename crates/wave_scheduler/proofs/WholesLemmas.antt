@@ -9,6 +9,7 @@ use Rattle.machine.specs.Linked.{program_of}
 use Rattle.region_shape.specs.Shapes.{HasShape}
 use Rattle.region_shape.specs.Counts.{NamesObjects, AreClosed}
 use Rattle.region_shape.specs.Laws.{IsLinked, IsFromFile, HaveShape}
+use Rattle.region_shape.specs.Sizes.{IsWithin}
 use Rattle.region_shape.specs.Wholes.{AreWhole}
 use Rattle.region_shape.proofs.LawsLemmas.{settled_have_shape_lem, settled_are_within_lem, settled_name_objects_lem}
 use Rattle.region_shape.proofs.NamesLemmas.{names_wider}
@@ -73,13 +74,16 @@ module _ (P : Tables) (forced : List Bool) (budget : ℕ) (S : Settled) (linked 
         (closed_below n n (omega arith) d r is);
   }
 
-  small : (c : ℕ) (r : Region) → region_in S c ≡ Some r → r.pool.count ≤ budget
+  small : (c : ℕ) (r : Region) → region_in S c ≡ Some r → IsWithin budget r
   small c r has =
       let (n, at) = are.only c r has in
       let (cost, settles, within) = leaves c n r at has in
       let sizes =
       settled_are_within_lem P linked (below S n) (shape_below n n (omega arith)) c cost r (from c) settles in
-      omega (arith, sizes.count, within)
+      record {
+        count = omega (arith, sizes.count, within);
+        arrays = λ k o at. omega (arith, sizes.arrays k o at, within);
+      }
 
 pub settled_are_small_lem : SettledAreSmall
 settled_are_small_lem P forced budget S linked from are = small P forced budget S linked from are

@@ -36,7 +36,7 @@ pub fn settled_are_whole()
     ensures { SettledAreWhole }
 {}
 
-/// The regions of settled classes have no more objects than the budget.
+/// The regions of settled classes have no more objects, and no array of more elements, than the budget.
 pub fn settled_are_small()
     ensures { SettledAreSmall }
 {}
