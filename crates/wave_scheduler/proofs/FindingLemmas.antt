@@ -24,7 +24,7 @@ use Rattle.evaluator.specs.Regions.{region_of, environment_of}
 use Rattle.evaluator.specs.Regions as held
 use Rattle.wave_scheduler.specs.declared.outcome.Settled.{Settled as Answer}
 use Rattle.wave_scheduler.specs.Settled.{Outcome, Wave, Refused, Stopped, Settled, IsAccepted, region_in, below}
-use Rattle.wave_scheduler.specs.Judged.{UsesAccepted}
+use Rattle.wave_scheduler.specs.steps.Judged.{UsesAccepted}
 use Rattle.wave_scheduler.specs.Outcomes.{outcome_of, settled_of}
 use Rattle.wave_scheduler.specs.steps.Waves.{IsTriedIn, AreTriedBelow, TriesWave, Decides, StartsFrom}
 use Rattle.wave_scheduler.specs.steps.Waves.{AreRefusedIn, dependent}

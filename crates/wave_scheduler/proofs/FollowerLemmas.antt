@@ -25,12 +25,13 @@ use Rattle.initializer_analysis.specs.declared.verdict.Verdict.TheVariants as ve
 use Rattle.initializer_analysis.specs.Verdicts as before
 use Rattle.wave_scheduler.specs.Settled.{Outcome, Wave, Refused, Stopped, Settled, HasWave, IsAccepted, region_in}
 use Rattle.wave_scheduler.specs.Settled.{if_below, below, IsFirstRefused, LeavesRegion}
-use Rattle.wave_scheduler.specs.Laws.{AreSettledBelow}
-use Rattle.wave_scheduler.specs.Judged.{UsesAccepted, IsTried, Follows, FollowVerdicts, HasFollower}
+use Rattle.wave_scheduler.specs.Laws.{AreSettledBelow, HasSettled}
+use Rattle.wave_scheduler.specs.steps.Judged.{UsesAccepted, IsTried, Follows, FollowVerdicts, HasFollower}
 use Rattle.wave_scheduler.proofs.ReachesLemmas.{Decided, decided_both, decided_same, one_of}
 use Rattle.wave_scheduler.proofs.UsesLemmas.{decided_use}
 use Rattle.wave_scheduler.proofs.SettledLemmas.{below_there}
 use Rattle.wave_scheduler.proofs.FewWavesLemmas.{few_waves_lem}
+use Rattle.wave_scheduler.proofs.JudgedLemmas.{followers_are_settled_lem}
 use Rattle.wave_scheduler.proofs.TriedLemmas.{never_barred_lem}
 
 -- ---- tables
@@ -477,6 +478,11 @@ module _ (P : Tables) (forced : List Bool) (budget : ℕ) (judged : List Verdict
       only = λ c r there. region_accepted c r (sym (region_at c) ∙ there);
     }
 
-pub has_follower_lem : HasFollower
+has_follower_lem : HasFollower
 has_follower_lem P forced budget judged is fits within are =
     (S P forced budget judged are, all_follow P forced budget judged are is fits within)
+
+pub has_settled_lem : HasSettled
+has_settled_lem P forced budget judged is fits within are =
+    let (last, follow) = has_follower_lem P forced budget judged is fits within are in
+    (last, followers_are_settled_lem P forced budget judged last are follow)

@@ -23,7 +23,7 @@ use Rattle.initializer_analysis.specs.Verdicts as before
 use Rattle.initializer_analysis.proofs.VerdictsLemmas.{waves_fall}
 use Rattle.wave_scheduler.specs.declared.tainted.Tainted.{Tainted}
 use Rattle.wave_scheduler.specs.Settled.{Outcome, Wave, Settled, HasWave, IsAccepted, region_in, below}
-use Rattle.wave_scheduler.specs.Judged.{UsesAccepted}
+use Rattle.wave_scheduler.specs.steps.Judged.{UsesAccepted}
 use Rattle.wave_scheduler.specs.steps.Waves.{IsTriedIn, AreTriedBelow, TriesWave, Decides}
 use Rattle.wave_scheduler.specs.steps.Finding.{CanRun, IsFound, SetsClass, TriesThese}
 use Rattle.wave_scheduler.specs.steps.Tainting.{vertex_in, IsSeen, IsTold, TriesClass, AreTainted}
