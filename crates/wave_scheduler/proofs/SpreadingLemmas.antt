@@ -1,5 +1,5 @@
 -- A search that goes on over what earlier ones have seen.
-use Rattle.std.proofs.Common.{◌≡◌, ◌⊎◌, ◌↔◌, ℕ, ◌+◌, ◌<◌, ◌≤◌, Bool, true, false, List, [], ◌∷◌, ◌++◌, length}
+use Rattle.std.proofs.Common.{◌≡◌, ◌⊎◌, ℕ, ◌+◌, ◌<◌, ◌≤◌, Bool, true, false, List, [], ◌∷◌, ◌++◌, length}
 use Rattle.std.proofs.Common.{slice_index}
 use Rattle.std.proofs.Common.{slice_index_or, inl, inr, refl, subst, arith}
 use Rattle.std.specs.List.{All, Contains}

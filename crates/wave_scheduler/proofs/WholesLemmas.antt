@@ -1,19 +1,16 @@
 -- The regions of settled classes are whole.
-use Rattle.std.proofs.Common.{◌≡◌, inl, inr, ℕ, zero, suc, ◌+◌, ◌<◌, ◌≤◌, Bool, true, false, List, Option, Some, None}
-use Rattle.std.proofs.Common.{slice_get, refl, sym, ap, subst, ◌∙◌, arith}
+use Rattle.std.proofs.Common.{◌≡◌, ℕ, zero, suc, ◌+◌, ◌≤◌, Bool, List, Option, Some, None}
+use Rattle.std.proofs.Common.{refl, sym, subst, ◌∙◌, arith}
 use Rattle.vm_state.specs.SharedState.{Region}
-use Rattle.semantics.specs.Quiet.{Environment}
 use Rattle.semantics.proofs.TestsLemmas.{from_some}
 use Rattle.program.specs.Tables.{Tables}
-use Rattle.machine.specs.Linked.{program_of}
-use Rattle.region_shape.specs.Shapes.{HasShape}
-use Rattle.region_shape.specs.Counts.{NamesObjects, AreClosed}
+use Rattle.region_shape.specs.Counts.{AreClosed}
 use Rattle.region_shape.specs.Laws.{IsLinked, IsFromFile, HaveShape}
 use Rattle.region_shape.specs.Sizes.{IsWithin}
 use Rattle.region_shape.specs.Wholes.{AreWhole}
 use Rattle.region_shape.proofs.LawsLemmas.{settled_have_shape_lem, settled_are_within_lem, settled_name_objects_lem}
 use Rattle.region_shape.proofs.NamesLemmas.{names_wider}
-use Rattle.wave_scheduler.specs.Settled.{Outcome, Wave, Refused, Stopped, Settled, HasWave, region_in, if_below, below}
+use Rattle.wave_scheduler.specs.Settled.{Wave, Settled, HasWave, region_in, below}
 use Rattle.wave_scheduler.specs.Settled.{LeavesRegion, AreSettled}
 use Rattle.wave_scheduler.specs.Wholes.{SettledAreWhole, SettledAreSmall}
 use Rattle.wave_scheduler.proofs.SettledLemmas.{same_wave, from_below, below_there}
