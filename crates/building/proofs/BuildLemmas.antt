@@ -48,7 +48,7 @@ module _ (P : Tables) (patterns : List (List ℕ)) (budget : ℕ) (linked : IsLi
       → IsSettledBy P patterns budget (settled_of s) → AreSmall (environment_of s.regions)
   small_by s less from (forced, are, settled) c r here =
       let has : region_in (settled_of s) c ≡ Some r = sym (region_seen s.regions c) ∙ here in
-      let few = settled_are_small_lem P forced budget (settled_of s) linked from settled c r has in
+      let few = (settled_are_small_lem P forced budget (settled_of s) linked from settled c r has).count in
       omega arith
 
   pub shows_by : (S : Settled) (I : ImageTables) → I.program ≡ P → IsSettledBy P patterns budget S

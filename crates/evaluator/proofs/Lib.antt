@@ -3,3 +3,5 @@ pub mod TurnsLemmas
 pub mod StoreLemmas
 pub mod MakesLastLemmas
 pub mod SettlesLemmas
+pub mod WiderStopsLemmas
+pub mod LentLemmas

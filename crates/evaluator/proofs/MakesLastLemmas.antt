@@ -209,7 +209,8 @@ length_makes f =
     (λ n. pushed_makes (values.Int n) (with_operands f (rest f.operands))))))
 
 element_makes : (kind : ElementKind) (array : Value) (index : ℤ) (go : Name → ArrayType → ℕ → Row)
-    → ((name : Name) (a : ArrayType) (slot : ℕ) → MakesLast (go name a slot)) → MakesLast (at_element kind array index go)
+    → ((name : Name) (a : ArrayType) (slot : ℕ) → MakesLast (go name a slot))
+    → MakesLast (at_element kind array index go)
 element_makes kind array index go on =
     object_makes array _ (λ name class.
     trapped_makes (served_type kind class) _ (λ a vs.

@@ -28,7 +28,8 @@ module _ (P : Program) (env : Environment) (c most : ℕ) (own : RegionOf) (n : 
   pub wrote : (d f : ℕ) (v : Value) (fields : ℕ → Value) (next : Row) → d ≡ c → fields ≡ with_value own.fields f v →
       within P env c most own n (WriteStatic d f v next) ≡ within P env c most (record own { fields = fields }) n next
   wrote d f v fields next same is =
-      rw same (rw (itself c) (ap (λ (fs : ℕ → Value). within P env c most (record own { fields = fs }) n next) (sym is)))
+      rw same (rw (itself c)
+      (ap (λ (fs : ℕ → Value). within P env c most (record own { fields = fs }) n next) (sym is)))
 
   pub set_both : (x : Name) (name ordinal : Value) (first second : Pool) (next : Row) →
       same_maker (Class c) x.maker ≡ true → first ≡ with_slot own.pool x.number 0 name →

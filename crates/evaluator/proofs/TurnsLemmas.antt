@@ -1,6 +1,7 @@
 -- What the conduct of one instruction makes of an initializer.
 use Rattle.std.proofs.Common.{◌≡◌, ℕ, suc, ◌+◌, ◌-◌, ◌<◌, ◌≤◌, true, false, nat_lt, List, [], ◌∷◌}
-use Rattle.std.proofs.Common.{Option, Some, None, Ok, Err, option_map, inl, inr, refl, sym, ap, subst, subst₂, ◌∙◌, arith}
+use Rattle.std.proofs.Common.{Option, Some, None, Ok, Err, option_map, inl, inr, refl, sym, ap, subst, subst₂, ◌∙◌}
+use Rattle.std.proofs.Common.{arith}
 use Rattle.std.proofs.lemmas.Bool.{cases_lt}
 use Rattle.vm_state.specs.declared.frame.Activity.{Activity}
 use Rattle.vm_state.specs.declared.frame.Frame.{Frame}
@@ -152,7 +153,8 @@ module _ (P : Program) (env : Environment) (c : ℕ) where
     cost = first.cost + second.cost;
     paid = omega (arith, first.paid, second.paid);
     runs = λ n end run.
-        subst (λ (k : ℕ). RunsAlone P env c fs own k end) (omega arith) (first.runs (second.cost + n) end (second.runs n end run));
+        subst (λ (k : ℕ). RunsAlone P env c fs own k end) (omega arith)
+        (first.runs (second.cost + n) end (second.runs n end run));
     stops = λ stop stops. first.stops stop (second.stops stop stops);
   }
 

@@ -1,3 +1,4 @@
 pub mod Regions
 pub mod Outcomes
+pub mod Settleable
 pub mod steps

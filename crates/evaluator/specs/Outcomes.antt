@@ -5,7 +5,6 @@ use Rattle.semantics.specs.Quiet.{Environment, Stop, Refused as RefusedFor, Barr
 use Rattle.semantics.specs.Quiet.{Refusal as Reason, Raised as IsRaised, ForeignObject as IsForeign}
 use Rattle.semantics.specs.Quiet.{OverBudget as IsOverBudget, Faulted as IsFaulted}
 use Rattle.semantics.specs.Settling.{Settles, StoppedBy}
-use Rattle.semantics.specs.MadeNames.{made_names, HoldsKnown}
 use Rattle.evaluator.specs.declared.outcome.Refusal.{Refusal}
 use Rattle.evaluator.specs.declared.outcome.Refusal.TheVariants.{Raised, ForeignObject, OverBudget, Faulted}
 use Rattle.evaluator.specs.declared.outcome.Halt.{Halt}
@@ -39,9 +38,3 @@ IsUnbarred P env c budget = StoppedBy P env c budget IsBarred → ⊥
 abbrev pub IsOutcome : Program → Environment → ℕ → ℕ → Outcome → Type 0
 IsOutcome P env c budget (outcomes.Settled region) = (n : ℕ) × Settles P env c n (region_of region) × (n ≤ budget)
 IsOutcome P env c budget (outcomes.Refused why) = StoppedBy P env c budget (RefusedFor (reason_of why))
-
--- The region refers to objects alone that the class, of which it has the count, or a class at hand made.
-abbrev pub HoldsMade : Environment → ℕ → Outcome → Type 0
-HoldsMade env c (outcomes.Settled region) =
-    HoldsKnown (made_names env c (region_of region).pool.count) (region_of region)
-HoldsMade env c (outcomes.Refused why) = Unit {0}

@@ -2,6 +2,7 @@
 #![tactic(auto)]
 
 mod build;
+pub mod laws;
 pub mod outcome;
 pub mod regions;
 pub mod settling;

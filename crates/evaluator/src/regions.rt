@@ -1,7 +1,8 @@
 //! What belongs to classes that are settled.
 
-ghost use Rattle.std.specs.Prelude.{◌≡◌, [], ◌<◌, length, Some, None, replicate, slice_set, option_copied, IfOk, OnOk};
-ghost use Rattle.evaluator.specs.Regions.{region_in};
+ghost use Rattle.std.specs.Prelude.{◌≡◌, [], ◌<◌, ◌^◌, length, Some, None, replicate, slice_set, option_copied, IfOk};
+ghost use Rattle.std.specs.Prelude.{OnErr, OnOk};
+ghost use Rattle.evaluator.specs.Regions.{region_in, with_region};
 
 use std::alloc::{AllocError, Global};
 use std::marker::Model;
@@ -72,12 +73,41 @@ impl Regions {
         self.regions.len()
     }
 
-    /// Puts the region of a class at its place.
-    pub fn put(&mut self, class: u32, region: Region)
+    /// Puts the region of a class here.
+    ///
+    /// # Errors
+    /// `AllocError` where memory is refused; the regions are the same then.
+    pub fn put(&mut self, class: u32, region: Region) -> Result<(), AllocError>
+        ensures ok { OnOk result (region_in self.new ≡ with_region (region_in self.old) class region) }
+        ensures err { OnErr result (region_in self.new ≡ region_in self.old) }
+    {
+        match self.keep(class as usize) {
+            Ok(()) => {
+                self.set(class, region);
+                Ok(())
+            }
+            Err(error) => Err(error),
+        }
+    }
+
+    /// Puts the region of a class at its place, without memory.
+    pub fn set(&mut self, class: u32, region: Region)
         requires { class < length self.old }
         ensures { self.new ≡ slice_set self.old class (Some region) }
     {
         self.regions[class as usize] = Some(region);
+    }
+
+    /// Keeps a place for a class; the regions are the same.
+    fn keep(&mut self, class: usize) -> Result<(), AllocError>
+        requires { class < 2 ^ 32 }
+        ensures same { region_in self.new ≡ region_in self.old }
+        ensures ok { OnOk result (class < length self.new) }
+    {
+        while self.regions.len() <= class {
+            self.regions.push(None)?;
+        }
+        Ok(())
     }
 }
 

@@ -6,9 +6,8 @@ ghost use Rattle.semantics.specs.Alone.{body};
 ghost use Rattle.semantics.specs.Settling.{constant_region};
 ghost use Rattle.machine.specs.Linked.{program_of};
 ghost use Rattle.evaluator.specs.Regions.{region_of, environment_of};
-ghost use Rattle.evaluator.specs.Outcomes.{IsEnding, IsOutcome, IsUnbarred, HoldsMade};
-ghost use Rattle.semantics.specs.Lawful.{IsLawful};
-ghost use Rattle.semantics.specs.MadeNames.{FinalsAreMade};
+ghost use Rattle.evaluator.specs.Outcomes.{IsEnding, IsOutcome, IsUnbarred};
+ghost use Rattle.evaluator.specs.Settleable.{IsSettleable, LeavesWhole};
 ghost use Rattle.evaluator.specs.steps.Turns.{IsEnd};
 
 use crate::build::Build;
@@ -17,6 +16,7 @@ use crate::regions::{Region, Regions};
 use crate::turn::{Turn, take_turn};
 use machine::entering::initializer_frame;
 use program::Program;
+use region_shape::{is_from_file, is_linked};
 use std::alloc::{AllocError, Global};
 use vm_state::classes::Fields;
 use vm_state::frame::{FrameList, Segment};
@@ -123,7 +123,9 @@ pub fn evaluate(
     }
 }
 
-/// Settles a class at build time whose code bars nothing, with the regions of other classes at hand.
+/// Settles a class at build time whose code bars nothing, with the regions of other classes at hand. So it is of each
+/// class whose code bears no mark, where its uses have whole regions (`laws::settleable_are_unbarred`); and then the
+/// region that it leaves is whole too.
 ///
 /// # Errors
 /// `AllocError` where memory is refused.
@@ -135,12 +137,13 @@ pub fn settle(
     budget: u64,
 ) -> Result<Outcome, AllocError>
     requires { IsUnbarred (program_of program.now) (environment_of regions.now) class budget }
-    ensures outcome { IfOk result (λ outcome. IsOutcome (program_of program.now) (environment_of regions.now) class budget
-        outcome) }
-    ensures names { IfOk result (λ outcome. IsLawful (program_of program.now) →
-        FinalsAreMade (program_of program.now) (environment_of regions.now) class →
-        HoldsMade (environment_of regions.now) class outcome) }
+    ensures outcome { IfOk result (λ outcome. IsOutcome (program_of program.now) (environment_of regions.now) class
+        budget outcome) }
+    ensures whole { IfOk result (λ outcome. IsSettleable program.now (environment_of regions.now) class
+        → LeavesWhole program.now (environment_of regions.now) class budget outcome) }
 {
+    is_linked(program);
+    is_from_file(program, class);
     match evaluate(alloc, program, regions, class, budget) {
         Ok(Ending::Settled(region)) => Ok(Outcome::Settled(region)),
         Ok(Ending::Stopped(Halt::Refused(refusal))) => Ok(Outcome::Refused(refusal)),

@@ -12,8 +12,8 @@ use Rattle.use_graph.specs.declared.whole_program.UseGraph.{UseGraph}
 use Rattle.use_graph.specs.steps.Bodies.{IsUseGraph}
 use Rattle.initializer_analysis.specs.declared.labels.Least.{Least}
 use Rattle.initializer_analysis.specs.Least.{IsFirst, AreLeast, IsOf}
-use Rattle.initializer_analysis.specs.LeastReached.{no_labels, IsOwn}
-use Rattle.initializer_analysis.specs.OwnReasons.{AreOnCycles}
+use Rattle.initializer_analysis.specs.steps.LeastReached.{no_labels, IsOwn}
+use Rattle.initializer_analysis.specs.steps.OwnReasons.{AreOnCycles}
 use Rattle.initializer_analysis.specs.steps.Dependence.{vertex_of, IsDependence}
 use Rattle.initializer_analysis.specs.steps.Cycles.{IsMember, HaveMembers, AddsMember, HasOther, AreOthers}
 use Rattle.initializer_analysis.proofs.LeastLemmas.{AreLeast-stands, AreLeast-same, Stands-joined}

@@ -4,7 +4,7 @@ use Rattle.std.specs.List.{Contains}
 use Rattle.graph.specs.Rows.{Rows, successors_of}
 use Rattle.graph.specs.Reaches.{Reaches, itself, along}
 use Rattle.graph.proofs.ReachesLemmas.{Reaches-joined}
-use Rattle.initializer_analysis.specs.Heights.{AreHeights}
+use Rattle.initializer_analysis.specs.steps.Heights.{AreHeights}
 use Rattle.initializer_analysis.proofs.RaisedLemmas.{marked_small}
 
 -- no vertex is lower than what it reaches

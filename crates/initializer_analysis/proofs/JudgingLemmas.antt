@@ -17,10 +17,10 @@ use Rattle.initializer_analysis.specs.declared.verdict.Reason.{Reason}
 use Rattle.initializer_analysis.specs.declared.verdict.Reason.TheVariants as reasons
 use Rattle.initializer_analysis.specs.declared.verdict.Verdict.{Verdict}
 use Rattle.initializer_analysis.specs.declared.verdict.Verdict.TheVariants.{Wave, Refused}
-use Rattle.initializer_analysis.specs.Heights.{AreHeights}
+use Rattle.initializer_analysis.specs.steps.Heights.{AreHeights}
 use Rattle.initializer_analysis.specs.Least.{AreLeast}
-use Rattle.initializer_analysis.specs.LeastReached.{no_labels, IsReachedLabel, AreLeastReached}
-use Rattle.initializer_analysis.specs.OwnReasons.{AreOwnReasons}
+use Rattle.initializer_analysis.specs.steps.LeastReached.{no_labels, IsReachedLabel, AreLeastReached}
+use Rattle.initializer_analysis.specs.steps.OwnReasons.{AreOwnReasons}
 use Rattle.initializer_analysis.specs.RefusedUses.{IsRefusedUse, AreFirstRefused}
 use Rattle.initializer_analysis.specs.Verdicts.{NoneHolds, HasWave, IsFirstReason}
 use Rattle.initializer_analysis.specs.Verdicts.{IsAccepted, IsVerdict, AreVerdicts}

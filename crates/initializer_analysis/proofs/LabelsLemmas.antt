@@ -12,7 +12,7 @@ use Rattle.graph.specs.Reaches.{Reaches}
 use Rattle.use_graph.specs.steps.Deeds.{HoldsOfOne}
 use Rattle.initializer_analysis.specs.declared.labels.Least.{Least}
 use Rattle.initializer_analysis.specs.Least.{IsFirst, AreLeast, IsOf}
-use Rattle.initializer_analysis.specs.LeastReached.{no_labels, AreLeastReached}
+use Rattle.initializer_analysis.specs.steps.LeastReached.{no_labels, AreLeastReached}
 use Rattle.initializer_analysis.specs.steps.Marking.{HasLeastOf}
 use Rattle.initializer_analysis.proofs.LeastLemmas.{AreLeast-same, AreLeast-of_joined, Stands, Stands-least}
 use Rattle.initializer_analysis.proofs.SettledLemmas.{AreLeast-of_own}

@@ -13,7 +13,7 @@ use Rattle.initializer_analysis.specs.declared.verdict.Reason.{Reason}
 use Rattle.initializer_analysis.specs.declared.verdict.Verdict.{Verdict}
 use Rattle.initializer_analysis.specs.declared.verdict.Verdict.TheVariants.{Wave}
 use Rattle.initializer_analysis.specs.Least.{IsOf}
-use Rattle.initializer_analysis.specs.LeastReached.{no_labels, IsOwn}
+use Rattle.initializer_analysis.specs.steps.LeastReached.{no_labels, IsOwn}
 use Rattle.initializer_analysis.specs.steps.Dependence.{vertex_of}
 use Rattle.initializer_analysis.specs.steps.Judging.{label_by, own_reason, Labelled, AreOwnLabels, AreMarkedFrom}
 use Rattle.initializer_analysis.specs.steps.Judging.{AreClassMarks, verdict_by, AreVerdictsBy, AreFirstThere}

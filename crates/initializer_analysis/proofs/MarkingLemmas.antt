@@ -18,7 +18,7 @@ use Rattle.use_graph.proofs.DeedsLemmas.{pc_of_told}
 use Rattle.use_graph.proofs.ReachedLemmas.{runs_reached, reached_runs, run_begins}
 use Rattle.initializer_analysis.specs.declared.labels.Least.{Least}
 use Rattle.initializer_analysis.specs.Least.{IsFirst, IsOf}
-use Rattle.initializer_analysis.specs.LeastReached.{no_labels}
+use Rattle.initializer_analysis.specs.steps.LeastReached.{no_labels}
 use Rattle.initializer_analysis.specs.steps.Marking.{IsLabel, ignored, ReachesMark, AreMarks}
 use Rattle.initializer_analysis.proofs.LabelsLemmas.{IsFirst-of_but, IsFirst-tells}
 

@@ -13,7 +13,7 @@ use Rattle.graph.specs.Components.{Parts, AreComponents}
 use Rattle.graph.proofs.OrderLemmas.{place_of_member, has_vertex}
 use Rattle.graph.proofs.ReachesLemmas.{Reaches-joined}
 use Rattle.graph.proofs.RowsLemmas.{has_successor}
-use Rattle.initializer_analysis.specs.Heights.{AreHeights}
+use Rattle.initializer_analysis.specs.steps.Heights.{AreHeights}
 use Rattle.initializer_analysis.specs.steps.Settled.{IsBeyond}
 use Rattle.initializer_analysis.specs.steps.Raised.{HaveMarked, top_of, IsHighest, AreRaisedFrom}
 use Rattle.initializer_analysis.proofs.SettledLemmas.{front_more, front_last, front_cases}

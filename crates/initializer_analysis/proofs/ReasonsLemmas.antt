@@ -12,7 +12,7 @@ use Rattle.initializer_analysis.specs.Forced.{has_class}
 use Rattle.initializer_analysis.specs.declared.verdict.Reason.{Reason}
 use Rattle.initializer_analysis.specs.declared.verdict.Reason.TheVariants as reasons
 use Rattle.initializer_analysis.specs.Verdicts.{UsesAlong, Holds, IsFirstReason, NoneHolds, rank, rank_of}
-use Rattle.initializer_analysis.specs.OwnReasons.{AreOnCycles, AreOwnReasons}
+use Rattle.initializer_analysis.specs.steps.OwnReasons.{AreOnCycles, AreOwnReasons}
 use Rattle.initializer_analysis.specs.steps.Reasons.{IsNext, AddsReason, IsFirstBelow, AreFirstBelow}
 use Rattle.initializer_analysis.proofs.VerdictsLemmas.{same_mark, mark_between}
 

@@ -15,7 +15,7 @@ use Rattle.use_graph.specs.steps.Searching.{StartsAt}
 use Rattle.use_graph.proofs.ReachedLemmas.{runs_reached, reached_runs}
 use Rattle.initializer_analysis.specs.declared.labels.Least.{Least}
 use Rattle.initializer_analysis.specs.Least.{IsFirst, AreLeast, IsOf}
-use Rattle.initializer_analysis.specs.LeastReached.{no_labels}
+use Rattle.initializer_analysis.specs.steps.LeastReached.{no_labels}
 use Rattle.initializer_analysis.specs.RefusedUses.{IsRefusedUse}
 use Rattle.initializer_analysis.specs.steps.RefusedUses.{IsRefusedOf, ReachesRefused, AreRefusedNeeds}
 use Rattle.initializer_analysis.proofs.LeastLemmas.{IsFirst-same, IsFirst-of_least, AreLeast-of_joined}

@@ -16,7 +16,7 @@ use Rattle.graph.proofs.ReachesLemmas.{Reaches-joined}
 use Rattle.graph.proofs.RowsLemmas.{has_successor}
 use Rattle.initializer_analysis.specs.declared.labels.Least.{Least}
 use Rattle.initializer_analysis.specs.Least.{AreLeast, IsOf}
-use Rattle.initializer_analysis.specs.LeastReached.{no_labels, IsOwn, IsReachedLabel, AreLeastReached}
+use Rattle.initializer_analysis.specs.steps.LeastReached.{no_labels, IsOwn, IsReachedLabel, AreLeastReached}
 use Rattle.initializer_analysis.specs.steps.Settled.{IsBeyond, IsBeyondLabel, IsGiven, IsGivenFrom, AreSettledFrom}
 use Rattle.initializer_analysis.proofs.LeastLemmas.{Stands, Stands-least, Stands-itself, Stands-joined, Stands-each}
 use Rattle.initializer_analysis.proofs.LeastLemmas.{AreLeast-stands, AreLeast-same}

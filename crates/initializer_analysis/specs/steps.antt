@@ -1,3 +1,6 @@
+pub mod LeastReached
+pub mod Heights
+pub mod OwnReasons
 pub mod Settled
 pub mod Raised
 pub mod Marking

@@ -4,8 +4,8 @@ ghost use Rattle.std.specs.Prelude.{◌≡◌, ◌≢◌, ◌↔◌, ◌≤◌, 
 ghost use Rattle.std.specs.List.{All};
 ghost use Rattle.graph.specs.Components.{AreComponents};
 ghost use Rattle.use_graph.specs.steps.Bodies.{IsUseGraph};
-ghost use Rattle.initializer_analysis.specs.LeastReached.{no_labels};
-ghost use Rattle.initializer_analysis.specs.OwnReasons.{AreOnCycles};
+ghost use Rattle.initializer_analysis.specs.steps.LeastReached.{no_labels};
+ghost use Rattle.initializer_analysis.specs.steps.OwnReasons.{AreOnCycles};
 ghost use Rattle.initializer_analysis.specs.steps.Cycles.{AddsMember, HaveMembers, HasOther, AreOthers};
 ghost use Rattle.initializer_analysis.specs.steps.Dependence.{vertex_of, IsDependence};
 

@@ -3,7 +3,7 @@
 ghost use Rattle.std.specs.Prelude.{◌≡◌, ◌≤◌, ◌*◌, ◌+◌, ℕ, length, IfOk};
 ghost use Rattle.graph.specs.Components.{AreComponents};
 ghost use Rattle.use_graph.specs.steps.Bodies.{IsUseGraph};
-ghost use Rattle.initializer_analysis.specs.OwnReasons.{AreOwnReasons};
+ghost use Rattle.initializer_analysis.specs.steps.OwnReasons.{AreOwnReasons};
 ghost use Rattle.initializer_analysis.specs.Verdicts.{AreVerdicts};
 ghost use Rattle.initializer_analysis.specs.steps.Dependence.{IsDependence};
 ghost use Rattle.initializer_analysis.specs.steps.Judging.{verdict_by, AreVerdictsBy, IsJudged, AreJudgedBy};

@@ -4,7 +4,7 @@ ghost use Rattle.std.specs.Prelude.{◌≡◌, ◌<◌, false, length, map, repl
 ghost use Rattle.std.specs.List.{All};
 ghost use Rattle.graph.specs.Components.{AreComponents};
 ghost use Rattle.graph.specs.Rows.{successors_of};
-ghost use Rattle.initializer_analysis.specs.Heights.{AreHeights};
+ghost use Rattle.initializer_analysis.specs.steps.Heights.{AreHeights};
 ghost use Rattle.initializer_analysis.specs.steps.Raised.{HaveMarked, top_of, HaveRoom, IsHighest};
 ghost use Rattle.initializer_analysis.specs.steps.Raised.{AreRaisedFrom, AreRaised};
 

@@ -5,7 +5,7 @@ ghost use Rattle.std.specs.List.{All};
 ghost use Rattle.graph.specs.Components.{AreComponents};
 ghost use Rattle.graph.specs.Rows.{successors_of};
 ghost use Rattle.initializer_analysis.specs.Least.{AreLeast};
-ghost use Rattle.initializer_analysis.specs.LeastReached.{no_labels, IsOwn, AreLeastReached};
+ghost use Rattle.initializer_analysis.specs.steps.LeastReached.{no_labels, IsOwn, AreLeastReached};
 ghost use Rattle.initializer_analysis.specs.steps.Settled.{IsBeyondLabel, AreSettledFrom};
 
 use crate::labels::Least;

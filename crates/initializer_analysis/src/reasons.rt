@@ -6,7 +6,7 @@ ghost use Rattle.graph.specs.Components.{AreComponents};
 ghost use Rattle.use_graph.specs.Uses.{HasMark};
 ghost use Rattle.use_graph.specs.steps.Bodies.{IsUseGraph};
 ghost use Rattle.initializer_analysis.specs.Forced.{has_class};
-ghost use Rattle.initializer_analysis.specs.OwnReasons.{AreOnCycles, AreOwnReasons};
+ghost use Rattle.initializer_analysis.specs.steps.OwnReasons.{AreOnCycles, AreOwnReasons};
 ghost use Rattle.initializer_analysis.specs.steps.Marking.{AreMarks};
 ghost use Rattle.initializer_analysis.specs.steps.Reasons.{IsNext, AddsReason, AreFirstBelow};
 

@@ -30,7 +30,8 @@ use Rattle.machine.specs.declared.array_operation.ArrayOperation.{ArrayOperation
 use Rattle.machine.specs.declared.array_operation.ArrayOperation.TheVariants as operations
 use Rattle.machine.specs.Arrays.{type_of_primitives, zero_of, kind_of_component, stored_as, array_type}
 use Rattle.machine.specs.Arrays.{is_same_kind, is_served, served_type, slot_at, size_of, can_hold, make_array}
-use Rattle.machine.specs.Arrays.{array_length, at_element, load_element, is_checked, if_held, check_store, store_element}
+use Rattle.machine.specs.Arrays.{array_length, at_element, load_element, is_checked, if_held, check_store}
+use Rattle.machine.specs.Arrays.{store_element}
 use Rattle.machine.specs.Arrays.{array_row}
 use Rattle.machine.specs.ObjectParts.{slot_in, ask_class_of}
 use Rattle.machine.specs.RowParts.{needing, goes_on, push}
@@ -38,7 +39,7 @@ use Rattle.machine.specs.StoredKinds.{top_stored}
 use Rattle.machine.proofs.TableLemmas.{needing_any, needing_such}
 use Rattle.region_shape.specs.Suits.{suits}
 use Rattle.region_shape.specs.Shapes.{HasObjects, AreElements}
-use Rattle.region_shape.specs.Rows.{Types, SuitsSlot, KeepsShape}
+use Rattle.region_shape.proofs.KeepsShape.{Types, SuitsSlot, KeepsShape}
 use Rattle.region_shape.proofs.SuitsLemmas.{stored_suits}
 use Rattle.region_shape.proofs.RowPartsLemmas.{halted, raised, push_ends, pushes, trapped, makes, ask_class_keeps}
 use Rattle.region_shape.proofs.RowPartsLemmas.{on_object_keeps}

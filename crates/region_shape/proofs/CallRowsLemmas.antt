@@ -29,7 +29,7 @@ use Rattle.machine.specs.Calls.{runs, runs_chosen, is_out, called_on}
 use Rattle.machine.specs.Printing.{printed_text, ended, print_on}
 use Rattle.machine.specs.Table.{call_row}
 use Rattle.machine.proofs.TableLemmas.{needing_any, if_usable_any, unless_null_any, chosen_any}
-use Rattle.region_shape.specs.Rows.{Types, KeepsShape}
+use Rattle.region_shape.proofs.KeepsShape.{Types, KeepsShape}
 use Rattle.region_shape.proofs.RowPartsLemmas.{halted, raised, either, ask_class_keeps}
 use Rattle.region_shape.proofs.MemberRowsLemmas.{member_keeps}
 

@@ -1,26 +1,14 @@
 -- The laws of this crate.
 use Rattle.std.proofs.Common.{◌≡◌, ℕ, ◌+◌, subst, arith}
 use Rattle.region_shape.specs.Sizes.{IsWithin}
-use Rattle.region_shape.specs.Laws.{TableKeepsShape, StepsKeepShape, RunsKeepShape, SettledHaveShape, SettledAreWithin}
-use Rattle.region_shape.specs.Laws.{SettledNameObjects, RegionsStayClosed}
-use Rattle.region_shape.proofs.TableRowsLemmas.{row_keeps}
+use Rattle.region_shape.specs.Laws.{SettledHaveShape, SettledAreWithin, SettledNameObjects}
 use Rattle.machine.specs.Linked.{program_of}
 use Rattle.semantics.proofs.BigStepsLemmas.{steps_agree_lem}
 use Rattle.machine.proofs.LawsLemmas.{table_is_lawful_lem}
-use Rattle.region_shape.proofs.NamesLemmas.{closed_more, settled_names}
+use Rattle.region_shape.proofs.NamesLemmas.{settled_names}
 use Rattle.region_shape.proofs.SizesLemmas.{run_within}
 use Rattle.region_shape.proofs.StaticsLemmas.{first_shape}
-use Rattle.region_shape.proofs.QuietShapeLemmas.{step_keeps, run_keeps}
-
-pub table_keeps_shape_lem : TableKeepsShape
-table_keeps_shape_lem P linked types f = row_keeps P linked types f
-
-pub steps_keep_shape_lem : StepsKeepShape
-steps_keep_shape_lem P linked env shaped c f own m q shape =
-    (step_keeps P linked env shaped c f own m q shape).shape
-
-pub runs_keep_shape_lem : RunsKeepShape
-runs_keep_shape_lem P linked env shaped c fs own n last runs shape = run_keeps P linked env shaped c runs shape
+use Rattle.region_shape.proofs.QuietShapeLemmas.{run_keeps}
 
 pub settled_have_shape_lem : SettledHaveShape
 settled_have_shape_lem P linked env shaped c n region from settles =
@@ -30,9 +18,6 @@ settled_have_shape_lem P linked env shaped c n region from settles =
 pub settled_name_objects_lem : SettledNameObjects
 settled_name_objects_lem P is env all c n region none settles =
     settled_names (program_of P) (table_is_lawful_lem P is) env all c none n region settles
-
-pub regions_stay_closed_lem : RegionsStayClosed
-regions_stay_closed_lem env c region all none names = closed_more env c region all none names
 
 pub settled_are_within_lem : SettledAreWithin
 settled_are_within_lem P linked env shaped c n region from settles =

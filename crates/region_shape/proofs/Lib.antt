@@ -1,3 +1,4 @@
+pub mod KeepsShape
 pub mod SuitsLemmas
 pub mod SlotChainLemmas
 pub mod RowPartsLemmas

@@ -29,7 +29,7 @@ use Rattle.machine.specs.RowParts.{drops}
 use Rattle.machine.proofs.TableLemmas.{needing_any, needing_such}
 use Rattle.region_shape.specs.Suits.{suits}
 use Rattle.region_shape.specs.Shapes.{AreSlots}
-use Rattle.region_shape.specs.Rows.{Types, HasObjectsIfKnown, AreSlotsSeen, SuitsSlot, KeepsShape}
+use Rattle.region_shape.proofs.KeepsShape.{Types, HasObjectsIfKnown, AreSlotsSeen, SuitsSlot, KeepsShape}
 use Rattle.region_shape.proofs.SuitsLemmas.{name_suits, ordinal_suits}
 use Rattle.region_shape.proofs.SlotChainLemmas.{enum_slots}
 use Rattle.region_shape.proofs.RowPartsLemmas.{halted, push_ends, pushes, either, makes, on_object_keeps}

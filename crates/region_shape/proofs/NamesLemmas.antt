@@ -1,9 +1,7 @@
 -- What quiet instructions leave names such objects alone as there are.
 use Rattle.std.proofs.Common.{◌≡◌, ℕ, ◌+◌, ◌<◌, ◌≤◌, ◌==◌, nat_lt, Bool, true, false, cond, inl, inr, List, ◌∷◌}
 use Rattle.std.proofs.Common.{Option, Some, None, refl, sym, ap, ◌∙◌, subst, arith, eqb-true, eq-eqb, option_map}
-use Rattle.std.proofs.Common.{if◌then◌else◌}
 use Rattle.std.proofs.lemmas.Bool.{lt-ltb, ltb-true}
-use Rattle.std.proofs.lemmas.Option.{same_Some}
 use Rattle.vm_state.specs.declared.value.Value.{Value}
 use Rattle.vm_state.specs.declared.value.Name.{Name}
 use Rattle.vm_state.specs.declared.value.Maker.{Maker}
@@ -26,7 +24,7 @@ use Rattle.semantics.proofs.FrameMovesLemmas.{moved_known}
 use Rattle.semantics.proofs.KnownNamesLemmas.{Fewer, Knows-mono, KnowsSlots-mono, KnowsFrames-mono}
 use Rattle.semantics.proofs.PoolsLemmas.{Holds, with_slot-holds, with_new-holds, part_at-holds}
 use Rattle.semantics.proofs.BigStepsLemmas.{steps_agree_lem}
-use Rattle.region_shape.specs.Counts.{count_of, is_there, NamesObjects, AreClosed, with_region}
+use Rattle.region_shape.specs.Counts.{count_of, is_there, NamesObjects, AreClosed}
 use Rattle.region_shape.proofs.BranchesLemmas.{branch, at_hand_some, closed}
 
 module _ (P : Program) (env : Environment) (c : ℕ) where
@@ -108,8 +106,8 @@ module _ (P : Program) (env : Environment) (c : ℕ) where
           let at = at_hand_some (env d) other.1 in
           elim (branch (is_final P d f) at.2) [
             | inl final ↦
-                keeps_names (next (at.0.fields f)) own n m (fits (at.0.fields f) (finals d at.0 at.1 f)) statics slots few
-                final.1
+                keeps_names (next (at.0.fields f)) own n m (fits (at.0.fields f) (finals d at.0 at.1 f)) statics slots
+                few final.1
             | inr shut ↦ absurd (let clash : Stops Barred ≡ Leaves m = shut.1 in cc)
           ]
     ]
@@ -126,8 +124,7 @@ module _ (P : Program) (env : Environment) (c : ℕ) where
           | inl on ↦
               keeps_names (next (part_at part own.pool x.number)) own n m
               (fits.1 (part_at part own.pool x.number) (part_at-holds known part own.pool x.number slots)) statics slots
-              few
-              on.1
+              few on.1
           | inr other ↦ elim (branch (is_open part) other.1) [
             | inl open_part ↦ absurd (let clash : true ≡ false = sym open_part.0 ∙ closed part in cc)
             | inr shut ↦ absurd (let clash : Stops (Refused ForeignObject) ≡ Leaves m = shut.1 in cc)
@@ -202,40 +199,6 @@ names_more env more c own fewer names = record {
   statics = λ k. Knows-mono (is_there env c own) (is_there more c own) fewer (own.fields k) (names.statics k);
   slots = λ n. KnowsSlots-mono (is_there env c own) (is_there more c own) fewer (slots_at own.pool n) (names.slots n);
 }
-
--- with its region at hand too, regions are still closed
-pub closed_more : (env : Environment) (c : ℕ) (region : Region) → AreClosed env → env c ≡ None
-    → NamesObjects env c region → AreClosed (with_region env c region)
-closed_more env c region all none names d r at = by (d == c) refl at
-  where
-    more : Environment
-    more = with_region env c region
-
-    kept : (b : Bool) (x : Name) (e : ℕ) → (e == c) ≡ b → counts x.number (pool_in env e)
-        → counts x.number (option_map (λ (r : Region). r.pool) (if b then Some region else env e))
-    kept true x e same h =
-        let here : env e ≡ None = ap env (eqb-true e c same) ∙ none in
-        absurd (none_counts x.number (rw here at h))
-    kept false x e same h = h
-
-    fewer : (j : ℕ) (own : Region) → Fewer (is_there env j own) (is_there more j own)
-    fewer j own x h = by_maker x.maker h
-      where
-        by_class : (b : Bool) (e : ℕ) → counts x.number (cond b (Some own.pool) (pool_in env e))
-            → counts x.number (cond b (Some own.pool) (pool_in more e))
-        by_class true e h = h
-        by_class false e h = kept (e == c) x e refl h
-
-        by_maker : (maker : Maker) → counts x.number (pool_seen env j own maker)
-            → counts x.number (pool_seen more j own maker)
-        by_maker (Thread t) h = h
-        by_maker (Class e) h = by_class (e == j) e h
-
-    by : (b : Bool) → (d == c) ≡ b → (if b then Some region else env d) ≡ Some r → NamesObjects more d r
-    by true same h =
-        let is : region ≡ r = same_Some region r h in
-        rw (eqb-true d c same) (subst (NamesObjects more c) is (names_more env more c region (fewer c region) names))
-    by false same h = names_more env more d r (fewer d r) (all d r h)
 
 -- ---- runs
 

@@ -35,7 +35,7 @@ use Rattle.machine.specs.StoredKinds.{top_stored, extra_places}
 use Rattle.machine.proofs.TableLemmas.{needing_any, needing_such, if_usable_any}
 use Rattle.region_shape.specs.Suits.{suits}
 use Rattle.region_shape.specs.Shapes.{has_objects, HasObjects, AreSlots}
-use Rattle.region_shape.specs.Rows.{Types, SuitsSlot, KeepsShape}
+use Rattle.region_shape.proofs.KeepsShape.{Types, SuitsSlot, KeepsShape}
 use Rattle.region_shape.proofs.SuitsLemmas.{stored_suits}
 use Rattle.region_shape.proofs.SlotChainLemmas.{holder_keeps, zeros_suit}
 use Rattle.region_shape.proofs.RowPartsLemmas.{halted, raised, push_ends, pushes, either, makes, on_name_keeps}
@@ -125,7 +125,8 @@ module _ (P : Tables) (types : Types) where
     without_monitor_keeps (values.Int n) = tt
     without_monitor_keeps (values.Long n) = tt
 
-    monitor_keeps : (enter : Bool) (next : Bool → Row) → ((b : Bool) → Keeps (next b)) → Keeps (use_monitor enter f next)
+    monitor_keeps : (enter : Bool) (next : Bool → Row) → ((b : Bool) → Keeps (next b))
+        → Keeps (use_monitor enter f next)
     monitor_keeps enter next on =
         needing_any Keeps (halted P types) (top_as Reference f.operands) _ (λ v at.
         on_name_keeps P types (name_of v) (without_monitor v) (λ x. UseMonitor x enter next) (without_monitor_keeps v)

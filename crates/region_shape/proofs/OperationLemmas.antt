@@ -40,9 +40,12 @@ use Rattle.program.specs.declared.runtime_constant.FieldTarget.{FieldTarget}
 use Rattle.program.specs.declared.runtime_constant.FieldTarget.TheVariants as targets
 use Rattle.program.specs.declared.runtime_constant.RuntimeConstant.{RuntimeConstant}
 use Rattle.program.specs.declared.runtime_constant.RuntimeConstant.TheVariants as runtime
-use Rattle.program.specs.Fields.{field_kind, has_value, is_static_field, statics_of, static_number_of, static_of, final_of}
+use Rattle.program.specs.Fields.{field_kind, has_value, is_static_field, statics_of, static_number_of, static_of}
+use Rattle.program.specs.Fields.{final_of}
 use Rattle.program.specs.FieldTargets.{target_in, targeted}
 use Rattle.program.specs.InstanceFields.{is_instantiable_in, is_instance_field, kind_of, slot_of, slots_of}
+use Rattle.program.specs.InstanceFields.{static_kinds}
+use Rattle.program.specs.InstanceFields.{static_kinds_if}
 use Rattle.program.specs.Programs.{IsProgram}
 use Rattle.program.specs.RuntimePool.{IsRuntimeConstant}
 use Rattle.program.specs.Tables.{Tables, instruction_at, implementation_at, runtime_pool_of, constant_at}
@@ -61,14 +64,14 @@ use Rattle.machine.specs.ObjectReferences.{named_class, new_built_in, new_class,
 use Rattle.machine.specs.ObjectReferences.{check_cast_of, instance_of_named, instance_of_of, instance_field}
 use Rattle.machine.specs.ObjectReferences.{of_valued_kind, named_instance_field, get_field_by, get_field_of}
 use Rattle.machine.specs.ObjectReferences.{put_field_by, put_field_of}
-use Rattle.machine.specs.Operations.{Operation, PutStatic, OnArray, OnObject, Return, Refused, int_constant, long_constant}
+use Rattle.machine.specs.Operations.{Operation, PutStatic, OnArray, OnObject, Return, Refused, int_constant}
+use Rattle.machine.specs.Operations.{long_constant}
 use Rattle.machine.specs.Operations.{may_write, if_valued, get_target, getstatic_of, put_target, putstatic_of, on_call}
 use Rattle.machine.specs.Operations.{returns_so, return_of, new_of_references, anewarray_of, on_object}
 use Rattle.machine.specs.Operations.{resolved_operation, local_or, operation_of, operation_at}
 use Rattle.machine.proofs.ListLemmas.{left_of_pair, kept_place, first_passes}
 use Rattle.machine.proofs.LawsStaticLemmas.{IsClassIn}
 use Rattle.machine.proofs.LawsFinalLemmas.{static_target, finds_field, descriptor_is, constant_at_put}
-use Rattle.region_shape.specs.Shapes.{static_kinds, static_kinds_if}
 use Rattle.region_shape.proofs.ArrayRowsLemmas.{IsArrayTyped}
 use Rattle.region_shape.proofs.ObjectRowsLemmas.{IsObjectTyped}
 
@@ -371,8 +374,8 @@ module _ (P : Tables) (is : IsProgram P) where
       ap field_kind (descriptor_is f source.key static.place m named static.is) ∙ source.kind_is in
       let passes : is_static_field f m ≡ true = rw (static.static, kind_is, has) refl in
       let at : slice_get (statics_of f) k ≡ Some m =
-      ap (slice_get (statics_of f)) static.slot ∙ kept_place (is_static_field f) f.fields static.place m static.is passes
-      in
+      ap (slice_get (statics_of f)) static.slot
+      ∙ kept_place (is_static_field f) f.fields static.place m static.is passes in
       ap (λ o. slice_get (static_kinds_if o) k) static.stands ∙ mapped_at (kind_of f) (statics_of f) k m at
       ∙ ap Some kind_is
 

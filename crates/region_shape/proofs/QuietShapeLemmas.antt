@@ -31,8 +31,9 @@ use Rattle.machine.specs.Arrays.{kind_of_component, stored_as}
 use Rattle.machine.specs.Linked.{program_of}
 use Rattle.machine.specs.Table.{row}
 use Rattle.region_shape.specs.Suits.{suits}
-use Rattle.region_shape.specs.Shapes.{static_kinds, SuitsStatic, HasObjects, AreElements, AreSlots, ObjectHasShape, HasShape}
-use Rattle.region_shape.specs.Rows.{Types, HasObjectsIfKnown, AreSlotsSeen, SuitsSlot, IsRaise, IsEnd, KeepsShape}
+use Rattle.region_shape.specs.Shapes.{SuitsStatic, HasObjects, AreElements, AreSlots, ObjectHasShape, HasShape}
+use Rattle.region_shape.proofs.KeepsShape.{Types, HasObjectsIfKnown, AreSlotsSeen, SuitsSlot, IsRaise, IsEnd}
+use Rattle.region_shape.proofs.KeepsShape.{KeepsShape}
 use Rattle.region_shape.specs.Laws.{IsLinked, HaveShape}
 use Rattle.region_shape.proofs.BranchesLemmas.{branch, at_hand_some, closed}
 use Rattle.region_shape.proofs.TableRowsLemmas.{row_keeps}
@@ -155,9 +156,9 @@ module _ (P : Tables) (env : Environment) (shaped : HaveShape P env) (c : ℕ) w
   field_written : (own : Region) (f : ℕ) (v : Value) → HasShape P c own → SuitsStatic P c f v
       → HasShape P c (with_field own f v)
   field_written own f v shape h = record {
-    statics = λ k kind at. elim (tested (k == f)) [
-      | inl e ↦ rw e (h kind (subst (λ (g : ℕ). slice_get (static_kinds P.family c) g ≡ Some kind) (eqb-true k f e) at))
-      | inr e ↦ rw e (shape.statics k kind at)
+    statics = λ k. elim (tested (k == f)) [
+      | inl e ↦ rw e (subst (λ (g : ℕ). SuitsStatic P c g v) (sym (eqb-true k f e)) h)
+      | inr e ↦ rw e (shape.statics k)
     ];
     objects = shape.objects;
     held = shape.held;
@@ -199,7 +200,9 @@ module _ (P : Tables) (env : Environment) (shaped : HaveShape P env) (c : ℕ) w
   object_made own class slots shape has are = record {
     statics = shape.statics;
     objects = λ k o at. elim (tested (k == own.pool.count)) [
-      | inl e ↦ subst (ObjectHasShape P) (same_Some _ o (rw e at at)) (record { class = has; slots = are; monitor = refl })
+      | inl e ↦
+          subst (ObjectHasShape P) (same_Some _ o (rw e at at))
+          (record { class = has; slots = are; monitor = refl })
       | inr e ↦ shape.objects k o (rw e at at)
     ];
     held = λ k small. elim (tested (k == own.pool.count)) [

@@ -22,7 +22,7 @@ use Rattle.machine.specs.RowParts.{halts, needing, goes_on, push, raises}
 use Rattle.semantics.specs.Moves.{advanced, with_operands}
 use Rattle.machine.proofs.TableLemmas.{needing_any}
 use Rattle.region_shape.specs.Shapes.{HasObjects, AreSlots}
-use Rattle.region_shape.specs.Rows.{Types, IsEnd, KeepsShape}
+use Rattle.region_shape.proofs.KeepsShape.{Types, IsEnd, KeepsShape}
 
 pub push_ends : (v : Value) (f : Frame) → IsEnd (push v f)
 push_ends v f = by (pushed v f.operands)

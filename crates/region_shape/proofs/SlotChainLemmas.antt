@@ -1,5 +1,6 @@
 -- The slots of objects of a class and of those below it by superclasses, and those of enums.
-use Rattle.std.proofs.Common.{◌≡◌, ◌⊎◌, ℕ, zero, suc, ◌==◌, Bool, true, false, ◌||◌, List, [], ◌∷◌, ◌++◌, map, reverse, not, cond}
+use Rattle.std.proofs.Common.{◌≡◌, ◌⊎◌, ℕ, zero, suc, ◌==◌, Bool, true, false, ◌||◌, List, [], ◌∷◌, ◌++◌, map, reverse}
+use Rattle.std.proofs.Common.{not, cond}
 use Rattle.std.proofs.Common.{Option, Some, None, slice_get, refl, sym, ap, ◌∙◌, subst, inl, inr, eqb-true, eq-eqb}
 use Rattle.std.specs.List.{list_any, filter, flat_map, AllByRecursion, AllZip}
 use Rattle.built_in.specs.declared.class_id.BuiltIn.{BuiltIn}
@@ -170,5 +171,6 @@ module _ (family : Family) where
   zeros_of (k ∷ ks) h = (zero_suits k h.0, zeros_of ks h.1)
 
   -- zero or null
-  pub zeros_suit : (c : ℕ) → AllZip (λ kind v. suits kind v ≡ true) (slots_of family c) (map zero_of (slots_of family c))
+  pub zeros_suit : (c : ℕ)
+      → AllZip (λ kind v. suits kind v ≡ true) (slots_of family c) (map zero_of (slots_of family c))
   zeros_suit c = zeros_of (slots_of family c) (added_have (reverse (c ∷ given_superclasses family c)))

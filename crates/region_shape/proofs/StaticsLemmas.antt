@@ -1,9 +1,9 @@
 -- A region before its initializer runs has shape: each static is zero, null or a constant that suits its field.
 use Rattle.std.proofs.Common.{◌≡◌, ℕ, zero, suc, Bool, true, false, cond, List, [], ◌∷◌, map}
-use Rattle.std.proofs.Common.{Option, Some, None, slice_get, refl, sym, ap, ◌∙◌, subst, arith}
+use Rattle.std.proofs.Common.{Option, Some, None, slice_get, option_map, refl, sym, ap, ◌∙◌, subst, arith}
 use Rattle.std.specs.Prelude.{unwrap_or, IsSomeAnd}
 use Rattle.std.specs.List.{All, Contains, filter}
-use Rattle.std.proofs.lemmas.Option.{same_Some, slice_get_within, get_or_from_slice_get}
+use Rattle.std.proofs.lemmas.Option.{same_Some, slice_get_within, slice_get-map, get_or_from_slice_get}
 use Rattle.classfile.specs.Class.{IsClassFile}
 use Rattle.classfile.specs.ClassFile.{ClassFile}
 use Rattle.classfile.specs.Flags.{has_flag}
@@ -17,25 +17,27 @@ use Rattle.classfile.specs.declared.constant.Constant.TheVariants as constants
 use Rattle.classfile.specs.declared.member.Member.{Member}
 use Rattle.vm_state.specs.declared.value.Value.{Value}
 use Rattle.vm_state.specs.declared.value.Value.TheVariants as values
+use Rattle.vm_state.specs.declared.classes.StaticField.{StaticField}
 use Rattle.vm_state.specs.Statics.{constant_or, zero_of as zero_in}
-use Rattle.loading.specs.Families.{Family, file_in}
+use Rattle.loading.specs.Families.{Family, file_of, file_in}
 use Rattle.loading.specs.Names.{text_at}
-use Rattle.loading.proofs.PlaceLemmas.{mapped_at, unmapped_at}
 use Rattle.semantics.specs.Settling.{constant_region}
+use Rattle.program.specs.declared.class.Class.{Class}
 use Rattle.program.specs.declared.runtime_constant.RuntimeConstant.{RuntimeConstant}
 use Rattle.program.specs.Fields.{field_kind, has_value, is_static_field, statics_of}
-use Rattle.program.specs.InstanceFields.{kind_of}
-use Rattle.program.specs.Programs.{zero_of, value_of_constant, constant_value_at, constant_value_of, static_field, IsProgram}
+use Rattle.program.specs.InstanceFields.{kind_of, static_kinds_if}
+use Rattle.program.specs.Programs.{zero_of, value_of_constant, constant_value_at, constant_value_of, static_field}
+use Rattle.program.specs.Programs.{IsProgram}
 use Rattle.program.specs.RuntimePool.{IsRuntimeConstant, IsRuntimePool, int_of_bits, long_of_halves}
 use Rattle.program.specs.Tables.{Tables, statics_if, statics_in}
 use Rattle.frame_instructions.specs.declared.operand_kind.OperandKind.TheVariants as operands
 use Rattle.machine.specs.Linked.{program_of}
 use Rattle.machine.specs.StoredKinds.{operand_kind}
-use Rattle.machine.proofs.ListLemmas.{right_of_pair, both_true}
+use Rattle.machine.proofs.ListLemmas.{left_of_pair, right_of_pair, both_true}
 use Rattle.machine.proofs.LawsStaticLemmas.{IsClassIn}
 use Rattle.machine.proofs.LawsFinalLemmas.{given_of}
 use Rattle.region_shape.specs.Suits.{suits}
-use Rattle.region_shape.specs.Shapes.{static_kinds_if, SuitsStatic, HasShape}
+use Rattle.region_shape.specs.Shapes.{SuitsField, SuitsStatic, HasShape}
 use Rattle.region_shape.specs.Laws.{IsFromFile}
 use Rattle.region_shape.proofs.SuitsLemmas.{int_suits, reference_of, long_of, zero_suits}
 
@@ -172,32 +174,51 @@ module _ (P : Tables) (is : IsProgram P) (f : ClassFile) (file : IsClassFile f) 
 
 -- ---- the region
 
+-- what a static field begins with, and null where there is no such field
+abbrev begins_with : Option StaticField → Value
+begins_with field = constant_or field (zero_in field)
+
 module _ (P : Tables) (is : IsProgram P) (c : ℕ) (from : IsFromFile P c) where
-  statics_suit : (k : ℕ) → SuitsStatic P c k ((constant_region (program_of P) c).fields k)
-  statics_suit k kind at = by (file_in P.family c) refl at
+  member_suits : (f : ClassFile) → file_in P.family c ≡ Some f → (pool : List RuntimeConstant)
+      → IsRuntimePool P.family P.strings f pool → (k : ℕ) (o : Option Member) → slice_get (statics_of f) k ≡ o
+      → SuitsField (option_map (kind_of f) o) (begins_with (option_map (static_field f pool) o))
+  member_suits f file pool of k None at = refl
+  member_suits f file pool of k (Some m) at =
+      let passes = kept_at (is_static_field f) f.fields k m at in
+      let whole = from f file in
+      let field = all_at (IsField f.constants) f.fields passes.1.0 m whole.fields passes.1.1 in
+      begins_so P is f whole pool of m field passes.0
+
+  -- a class that is not given has no static field
+  none_of : file_in P.family c ≡ None → (k : ℕ) → slice_get (statics_in P c) k ≡ None
+  none_of no_file k = by (slice_get P.classes c) refl
     where
-      by : (o : Option ClassFile) → file_in P.family c ≡ o → slice_get (static_kinds_if o) k ≡ Some kind
-          → suits kind (constant_or (slice_get (statics_in P c) k) (zero_in (slice_get (statics_in P c) k))) ≡ true
-      by None e h = absurd cc
-      by (Some f) e h =
-          let of = unmapped_at (kind_of f) (statics_of f) k kind h in
-          let m = of.0 in
+      by : (o : Option Class) → slice_get P.classes c ≡ o → slice_get (statics_if o) k ≡ None
+      by None there = refl
+      by (Some class) there =
+          let given = left_of_pair (IsClassIn P) P.family P.classes c class is.classes there in
+          let clash : None ≡ Some given.0.file = sym no_file ∙ ap file_of given.1 in
+          cc
+
+  statics_suit : (k : ℕ) → SuitsStatic P c k ((constant_region (program_of P) c).fields k)
+  statics_suit k = by (file_in P.family c) refl
+    where
+      by : (o : Option ClassFile) → file_in P.family c ≡ o
+          → SuitsField (slice_get (static_kinds_if o) k) (begins_with (slice_get (statics_in P c) k))
+      by None e = rw (none_of e k) refl
+      by (Some f) e =
           let given = given_of (slice_get P.family c) f e in
           let class = right_of_pair (IsClassIn P) P.family P.classes c given.0 is.classes given.1 in
           let pool = class.0.runtime_pool in
           let all : statics_in P c ≡ map (static_field f pool) (statics_of f) =
           ap statics_if class.1 ∙ class.2.statics
           ∙ ap (λ (g : ClassFile). map (static_field g pool) (statics_of g)) given.2 in
-          let held : slice_get (statics_in P c) k ≡ Some (static_field f pool m) =
-          rw all (mapped_at (static_field f pool) (statics_of f) k m of.1) in
-          let passes = kept_at (is_static_field f) f.fields k m of.1 in
-          let file = from f e in
-          let field = all_at (IsField f.constants) f.fields passes.1.0 m file.fields passes.1.1 in
+          let kinds = slice_get-map (kind_of f) (statics_of f) k in
+          let fields : slice_get (statics_in P c) k ≡ option_map (static_field f pool) (slice_get (statics_of f) k) =
+          ap (λ xs. slice_get xs k) all ∙ slice_get-map (static_field f pool) (statics_of f) k in
           let runtime_pool : IsRuntimePool P.family P.strings f pool =
           subst (λ (g : ClassFile). IsRuntimePool P.family P.strings g pool) given.2 class.2.runtime_pool in
-          rw held (subst (λ w. suits w
-          (unwrap_or (constant_value_of pool (kind_of f m) m) (zero_of (kind_of f m))) ≡ true) of.2
-          (begins_so P is f file pool runtime_pool m field passes.0))
+          rw (kinds, fields) (member_suits f e pool runtime_pool k (slice_get (statics_of f) k) refl)
 
   pub first_shape : HasShape P c (constant_region (program_of P) c)
   first_shape = record {

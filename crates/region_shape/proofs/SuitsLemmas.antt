@@ -51,7 +51,8 @@ abbrev pub Suits : FieldKind → Value → Type 0
 Suits kind v = suits kind v ≡ true
 
 -- an int of a type that is held as ints
-pub int_suits : (kind : FieldKind) (n : ℤ) → operand_kind kind ≡ Some operands.Int → Suits kind (values.Int (narrowed kind n))
+pub int_suits : (kind : FieldKind) (n : ℤ) → operand_kind kind ≡ Some operands.Int
+    → Suits kind (values.Int (narrowed kind n))
 int_suits kinds.Boolean n e = narrowed_in kinds.Boolean n
 int_suits kinds.Byte n e = narrowed_in kinds.Byte n
 int_suits kinds.Char n e = narrowed_in kinds.Char n

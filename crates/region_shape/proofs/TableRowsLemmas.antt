@@ -1,5 +1,5 @@
 -- Each row of the table keeps shape.
-use Rattle.std.proofs.Common.{◌≡◌, ℕ, Option, Some, None, Ok, Err, refl}
+use Rattle.std.proofs.Common.{◌≡◌, ℕ, true, Option, Some, None, Ok, Err, refl, sym, subst}
 use Rattle.std.specs.declared.result.Result.{Result}
 use Rattle.vm_state.specs.declared.value.Value.TheVariants as values
 use Rattle.vm_state.specs.declared.frame.Frame.{Frame}
@@ -12,15 +12,14 @@ use Rattle.program.specs.Tables.{Tables, implementation_at, main_in}
 use Rattle.frame_instructions.specs.declared.trap.Trap.{Trap}
 use Rattle.frame_instructions.specs.declared.trap.Trap.TheVariants as traps
 use Rattle.frame_instructions.specs.Families.{local_after}
-use Rattle.std.proofs.lemmas.Option.{same_Some}
-use Rattle.std.proofs.Common.{sym, ◌∙◌, subst, true}
 use Rattle.machine.specs.Operations.{Operation, Local, PushText, GetStatic, PutStatic, GetOut, OnArray, OnCall, Return}
 use Rattle.machine.specs.Operations.{OnObject, Refused, operation_at}
 use Rattle.machine.specs.StoredKinds.{top_stored}
 use Rattle.machine.specs.Table.{local_row, return_row, operation_row, call_main, fetched, active_row, row}
 use Rattle.machine.proofs.TableLemmas.{needing_any, needing_such, if_usable_any, called_any}
 use Rattle.region_shape.specs.Suits.{suits}
-use Rattle.region_shape.specs.Rows.{Types, KeepsShape}
+use Rattle.region_shape.specs.Shapes.{SuitsField}
+use Rattle.region_shape.proofs.KeepsShape.{Types, KeepsShape}
 use Rattle.region_shape.specs.Laws.{IsLinked}
 use Rattle.region_shape.proofs.SuitsLemmas.{stored_suits}
 use Rattle.region_shape.proofs.RowPartsLemmas.{halted, raised, pushes}
@@ -52,7 +51,7 @@ module _ (P : Tables) (linked : IsLinked P) (types : Types) where
       λ b. if_usable_any Keeps (halted P types) (raised P types) _ b (
       needing_such Keeps (halted P types) (λ v. suits kind v ≡ true) (top_stored kind f.operands) _
       (stored_suits kind f.operands) (λ v h.
-      ((λ other at. subst (λ w. suits w v ≡ true) (same_Some kind other (sym typed ∙ at)) h), tt)))
+      (subst (λ o. SuitsField o v) (sym typed) h, tt)))
   operation_keeps GetOut typed f = pushes P types values.Out f
   operation_keeps (OnArray operation) typed f = array_keeps P types f operation typed
   operation_keeps (OnCall operation) typed f = call_keeps P linked.family linked.within types f operation

@@ -1,5 +1,5 @@
 -- Names of objects that there are.
-use Rattle.std.specs.Prelude.{◌≡◌, ℕ, ◌==◌, nat_lt, Option, Some, None, if◌then◌else◌}
+use Rattle.std.specs.Prelude.{◌≡◌, ℕ, nat_lt, Option, Some, None}
 use Rattle.vm_state.specs.SharedState.{Pool, Region, slots_at}
 use Rattle.semantics.specs.Lawful.{Names, Knows, KnowsSlots}
 use Rattle.semantics.specs.Quiet.{Environment, pool_seen}
@@ -21,7 +21,3 @@ pub record NamesObjects (env : Environment) (c : ℕ) (own : Region) : Type 0 wh
 -- regions at hand that name objects of one another alone
 abbrev pub AreClosed : Environment → Type 0
 AreClosed env = (d : ℕ) (region : Region) → env d ≡ Some region → NamesObjects env d region
-
--- with one more region
-abbrev pub with_region : Environment → ℕ → Region → Environment
-with_region env c region d = if d == c then Some region else env d

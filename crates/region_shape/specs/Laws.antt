@@ -2,21 +2,16 @@
 use Rattle.std.specs.Prelude.{◌≡◌, ℕ, Some, None}
 use Rattle.classfile.specs.ClassFile.{ClassFile}
 use Rattle.classfile.specs.Class.{IsClassFile}
-use Rattle.vm_state.specs.declared.frame.Frame.{Frame}
 use Rattle.vm_state.specs.SharedState.{Region}
-use Rattle.semantics.specs.Quiet.{Environment, QuietMove, Leaves, quiet_step}
+use Rattle.semantics.specs.Quiet.{Environment}
 use Rattle.semantics.specs.Settling.{Settles}
-use Rattle.semantics.specs.Alone.{RunsAlone}
 use Rattle.loading.specs.Families.{IsFamily, AreParentsWithin, file_in}
 use Rattle.program.specs.Programs.{IsProgram}
 use Rattle.program.specs.Tables.{Tables}
-use Rattle.machine.specs.Table.{row}
 use Rattle.machine.specs.Linked.{program_of}
-use Rattle.std.specs.Prelude.{List}
 use Rattle.region_shape.specs.Shapes.{HasShape}
-use Rattle.region_shape.specs.Rows.{Types, KeepsShape}
 use Rattle.region_shape.specs.Sizes.{IsWithin}
-use Rattle.region_shape.specs.Counts.{NamesObjects, AreClosed, with_region}
+use Rattle.region_shape.specs.Counts.{NamesObjects, AreClosed}
 
 -- A linked program.
 pub record IsLinked (P : Tables) : Type 0 where
@@ -32,21 +27,7 @@ IsFromFile P c = (f : ClassFile) → file_in P.family c ≡ Some f → IsClassFi
 abbrev pub HaveShape : Tables → Environment → Type 0
 HaveShape P env = (d : ℕ) (region : Region) → env d ≡ Some region → HasShape P d region
 
--- Each row of the table keeps shape, whatever its frame holds.
-abbrev pub TableKeepsShape : Type 0
-TableKeepsShape = (P : Tables) → IsLinked P → (types : Types) (f : Frame) → KeepsShape P types (row P f)
-
--- A quiet instruction leaves a region with shape.
-abbrev pub StepsKeepShape : Type 0
-StepsKeepShape =
-    (P : Tables) → IsLinked P → (env : Environment) → HaveShape P env → (c : ℕ) (f : Frame) (own : Region)
-    (m : QuietMove) → quiet_step (program_of P) env c f own ≡ Leaves m → HasShape P c own → HasShape P c m.region
-
--- And so does a whole run alone.
-abbrev pub RunsKeepShape : Type 0
-RunsKeepShape =
-    (P : Tables) → IsLinked P → (env : Environment) → HaveShape P env → (c : ℕ) (fs : List Frame) (own : Region)
-    (n : ℕ) (last : Region) → RunsAlone (program_of P) env c fs own n last → HasShape P c own → HasShape P c last
+-- ---- shape
 
 -- What an initializer leaves has shape.
 abbrev pub SettledHaveShape : Type 0
@@ -68,9 +49,3 @@ abbrev pub SettledNameObjects : Type 0
 SettledNameObjects =
     (P : Tables) → IsProgram P → (env : Environment) → AreClosed env → (c n : ℕ) (region : Region) → env c ≡ None
     → Settles (program_of P) env c n region → NamesObjects env c region
-
--- With such a region the regions at hand still do.
-abbrev pub RegionsStayClosed : Type 0
-RegionsStayClosed =
-    (env : Environment) (c : ℕ) (region : Region) → AreClosed env → env c ≡ None → NamesObjects env c region
-    → AreClosed (with_region env c region)

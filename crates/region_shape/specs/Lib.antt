@@ -1,6 +1,5 @@
 pub mod Suits
 pub mod Shapes
-pub mod Rows
 pub mod Counts
 pub mod Sizes
 pub mod Laws

@@ -1,39 +1,35 @@
--- The shape of a region: each static suits its field, and each object is an instance of a class that has instances,
--- with just the slots that such an instance has, or an array, each slot suiting its field or the elements' type.
-use Rattle.std.specs.Prelude.{◌≡◌, ℕ, ◌<◌, ◌≤◌, Bool, true, false, List, [], map, Option, Some, None, slice_get, is_some}
+-- The shape of a region: it has a value for each static field of its class, which suits the field, and for no other;
+-- each object is an instance of a class that has instances, with just the slots that such an instance has, or an array,
+-- each slot suiting its field or the elements' type.
+use Rattle.std.specs.Prelude.{◌≡◌, ℕ, ◌<◌, ◌≤◌, Bool, true, false, List, [], Option, Some, None, slice_get, is_some}
 use Rattle.std.specs.List.{AllByRecursion, AllZip}
-use Rattle.classfile.specs.ClassFile.{ClassFile}
 use Rattle.bytecode.specs.declared.operand.ElementKind.{ElementKind}
 use Rattle.built_in.specs.declared.class_id.BuiltIn.{BuiltIn}
 use Rattle.built_in.specs.declared.class_id.BuiltIn.TheVariants as builtins
 use Rattle.built_in.specs.declared.class_id.ClassId.{ClassId}
 use Rattle.built_in.specs.declared.class_id.ClassId.TheVariants as classes
 use Rattle.vm_state.specs.declared.value.Value.{Value}
+use Rattle.vm_state.specs.declared.value.Value.TheVariants.{Null}
 use Rattle.vm_state.specs.declared.object.Object.{Object}
 use Rattle.vm_state.specs.declared.object.Monitor.TheVariants.{Free}
 use Rattle.vm_state.specs.SharedState.{Region}
-use Rattle.loading.specs.Families.{Family, file_in}
 use Rattle.program.specs.declared.runtime_constant.FieldKind.{FieldKind}
 use Rattle.program.specs.Arrays.{is_array_class}
-use Rattle.program.specs.Fields.{statics_of}
-use Rattle.program.specs.InstanceFields.{is_instantiable_in, kind_of, slots_of}
+use Rattle.program.specs.InstanceFields.{is_instantiable_in, slots_of, static_kinds}
 use Rattle.program.specs.Tables.{Tables}
 use Rattle.machine.specs.Arrays.{kind_of_component, stored_as}
 use Rattle.region_shape.specs.Suits.{suits}
 
 -- ---- statics
 
-abbrev pub static_kinds_if : Option ClassFile → List FieldKind
-static_kinds_if None = []
-static_kinds_if (Some f) = map (kind_of f) (statics_of f)
+-- A value suits the field, if there is one. Where there is none nothing was set, and that is seen as null.
+abbrev pub SuitsField : Option FieldKind → Value → Type 0
+SuitsField None v = v ≡ Null
+SuitsField (Some kind) v = suits kind v ≡ true
 
--- the kinds of the static fields of a class, in the file's order; those of type float and double are left out
-abbrev pub static_kinds : Family → ℕ → List FieldKind
-static_kinds family c = static_kinds_if (file_in family c)
-
--- a value for a static field of a class, by the field's number
+-- a value for the static field of a class, by the field's number
 abbrev pub SuitsStatic : Tables → ℕ → ℕ → Value → Type 0
-SuitsStatic P c k v = (kind : FieldKind) → slice_get (static_kinds P.family c) k ≡ Some kind → suits kind v ≡ true
+SuitsStatic P c k v = SuitsField (slice_get (static_kinds P.family c) k) v
 
 -- ---- objects
 

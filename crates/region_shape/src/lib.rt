@@ -1,9 +1,8 @@
-//! The regions that class initialization methods leave have the shape that an image wants. Each function here is a law:
-//! its contract is what is proved, and calling it does nothing.
+//! The regions that class initialization methods leave have the shape that an image wants, and name objects alone that
+//! there are. Each function here is a law: its contract is what is proved, and calling it does nothing.
 #![tactic(auto)]
 
-ghost use Rattle.region_shape.specs.Laws.{TableKeepsShape, StepsKeepShape, RunsKeepShape, SettledHaveShape, SettledAreWithin};
-ghost use Rattle.region_shape.specs.Laws.{SettledNameObjects, RegionsStayClosed, IsLinked, IsFromFile};
+ghost use Rattle.region_shape.specs.Laws.{SettledHaveShape, SettledAreWithin, SettledNameObjects, IsLinked, IsFromFile};
 
 use program::Program;
 
@@ -24,21 +23,13 @@ pub fn is_from_file(program: &Program, class: u32)
     }
 }
 
-/// No instruction writes a value that does not suit its field, or makes an object that there cannot be.
-pub fn table_keeps_shape()
-    ensures { TableKeepsShape }
-{}
-
-/// What a quiet instruction leaves, a run alone, and a whole initializer, has shape, and is no larger than what it cost.
+/// What an initializer leaves has shape, and is no larger than what it cost.
 pub fn regions_have_shape()
-    ensures step { StepsKeepShape }
-    ensures run { RunsKeepShape }
     ensures settled { SettledHaveShape }
     ensures within { SettledAreWithin }
 {}
 
 /// Each object that such a region names is one of a region at hand or of itself.
 pub fn regions_name_objects()
-    ensures settled { SettledNameObjects }
-    ensures closed { RegionsStayClosed }
+    ensures { SettledNameObjects }
 {}

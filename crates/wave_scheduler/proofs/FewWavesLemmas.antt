@@ -6,7 +6,7 @@ use Rattle.program.specs.Tables.{Tables}
 use Rattle.initializer_analysis.specs.declared.verdict.Verdict.{Verdict}
 use Rattle.initializer_analysis.specs.declared.verdict.Verdict.TheVariants.{Wave}
 use Rattle.initializer_analysis.specs.Verdicts.{HasWave, AreVerdicts}
-use Rattle.wave_scheduler.specs.Judged.{FewWaves}
+use Rattle.wave_scheduler.specs.steps.Judged.{FewWaves}
 use Rattle.wave_scheduler.proofs.ReachesLemmas.{decided_same}
 
 -- each of some numbers has a place, and no two of them the same one

@@ -3,36 +3,23 @@ use Rattle.std.proofs.Common.{◌≡◌, ◌≢◌, ◌⊎◌, inl, inr, ℕ, ze
 use Rattle.std.proofs.Common.{Option, Some, None, option_map, slice_get, slice_set, slice_index_or}
 use Rattle.std.proofs.Common.{true, false, ◌↔◌, replicate, refl, sym, ap, subst, ◌∙◌, arith}
 use Rattle.std.proofs.lemmas.List.{length-set, length-map, length-replicate, get_or-set_same, map-set}
-use Rattle.std.proofs.lemmas.Option.{slice_get_within, slice_get-get_or, slice_get-map, get_or_from_slice_get}
+use Rattle.std.proofs.lemmas.Option.{slice_get-get_or, slice_get-map, get_or_from_slice_get}
 use Rattle.vm_state.specs.SharedState.{Region}
-use Rattle.semantics.specs.Quiet.{Environment}
 use Rattle.semantics.proofs.TestsLemmas.{from_some}
-use Rattle.loading.specs.Families.{IsFamily, AreParentsWithin}
-use Rattle.program.specs.Programs.{IsProgram}
 use Rattle.program.specs.Tables.{Tables}
-use Rattle.machine.specs.Linked.{program_of}
-use Rattle.use_graph.specs.Uses.{IsUse}
 use Rattle.initializer_analysis.specs.declared.verdict.Reason.{Reason}
 use Rattle.initializer_analysis.specs.declared.verdict.Reason.TheVariants as reasons
 use Rattle.initializer_analysis.specs.declared.verdict.Verdict.{Verdict}
 use Rattle.initializer_analysis.specs.declared.verdict.Verdict.TheVariants as verdicts
 use Rattle.initializer_analysis.specs.Verdicts as before
-use Rattle.initializer_analysis.specs.Least.{IsFirst}
-use Rattle.initializer_analysis.specs.RefusedUses.{IsRefusedUse}
 use Rattle.evaluator.specs.declared.regions.Region.{Region as Held}
 use Rattle.evaluator.specs.Regions.{region_of, environment_of}
-use Rattle.evaluator.specs.Regions as held
-use Rattle.wave_scheduler.specs.declared.outcome.Settled.{Settled as Answer}
-use Rattle.wave_scheduler.specs.Settled.{Outcome, Wave, Refused, Stopped, Settled, IsAccepted, region_in, below}
-use Rattle.wave_scheduler.specs.Judged.{UsesAccepted}
-use Rattle.wave_scheduler.specs.Outcomes.{outcome_of, settled_of}
-use Rattle.wave_scheduler.specs.steps.Waves.{IsTriedIn, AreTriedBelow, TriesWave, Decides, StartsFrom}
+use Rattle.wave_scheduler.specs.Settled.{Outcome, Wave, Refused, Stopped, Settled, IsAccepted}
+use Rattle.wave_scheduler.specs.Outcomes.{outcome_of}
+use Rattle.wave_scheduler.specs.steps.Waves.{StartsFrom}
 use Rattle.wave_scheduler.specs.steps.Waves.{AreRefusedIn, dependent}
 use Rattle.wave_scheduler.specs.steps.Finding.{SetsClass}
 use Rattle.wave_scheduler.specs.steps.Finding.{is_refused, TellsBelow}
-use Rattle.wave_scheduler.proofs.SettledLemmas.{from_below}
-use Rattle.wave_scheduler.proofs.WavesLemmas.{had_wave}
-use Rattle.wave_scheduler.proofs.TriesLemmas.{tries_decide_lem}
 use Rattle.wave_scheduler.proofs.ReachesLemmas.{one_of}
 
 -- ---- a place of a list

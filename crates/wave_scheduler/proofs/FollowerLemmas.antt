@@ -1,6 +1,7 @@
 -- Something follows the verdicts: wave by wave, each class is tried where all that it uses is at hand.
 use Rattle.std.proofs.Common.{◌≡◌, ◌≢◌, ◌⊎◌, inl, inr, ℕ, zero, suc, ◌<◌, ◌≤◌, Bool, List, []}
-use Rattle.std.proofs.Common.{◌∷◌, length, Option, Some, None, IsSome, is_some, slice_get, slice_index_or, refl, sym, ap}
+use Rattle.std.proofs.Common.{◌∷◌, length, Option, Some, None, IsSome, is_some, slice_get, slice_index_or, refl, sym}
+use Rattle.std.proofs.Common.{ap}
 use Rattle.std.proofs.Common.{subst, ◌∙◌, arith}
 use Rattle.std.proofs.Math.Path.{fun_ext}
 use Rattle.std.proofs.lemmas.Bool.{cases_lt, le-ltb}
@@ -24,12 +25,13 @@ use Rattle.initializer_analysis.specs.declared.verdict.Verdict.TheVariants as ve
 use Rattle.initializer_analysis.specs.Verdicts as before
 use Rattle.wave_scheduler.specs.Settled.{Outcome, Wave, Refused, Stopped, Settled, HasWave, IsAccepted, region_in}
 use Rattle.wave_scheduler.specs.Settled.{if_below, below, IsFirstRefused, LeavesRegion}
-use Rattle.wave_scheduler.specs.Laws.{AreSettledBelow}
-use Rattle.wave_scheduler.specs.Judged.{UsesAccepted, IsTried, Follows, FollowVerdicts, HasFollower}
+use Rattle.wave_scheduler.specs.Laws.{AreSettledBelow, HasSettled}
+use Rattle.wave_scheduler.specs.steps.Judged.{UsesAccepted, IsTried, Follows, FollowVerdicts, HasFollower}
 use Rattle.wave_scheduler.proofs.ReachesLemmas.{Decided, decided_both, decided_same, one_of}
 use Rattle.wave_scheduler.proofs.UsesLemmas.{decided_use}
 use Rattle.wave_scheduler.proofs.SettledLemmas.{below_there}
 use Rattle.wave_scheduler.proofs.FewWavesLemmas.{few_waves_lem}
+use Rattle.wave_scheduler.proofs.JudgedLemmas.{followers_are_settled_lem}
 use Rattle.wave_scheduler.proofs.TriedLemmas.{never_barred_lem}
 
 -- ---- tables
@@ -273,7 +275,8 @@ module _ (P : Tables) (forced : List Bool) (budget : ℕ) (judged : List Verdict
   tried_wave c n at there = outcome_at c (verdicts.Wave n) at ∙ ap Some (by (attempt P budget (at_hand n) c)
       (subst (λ (o : Option Region). IsSome o) (last_tried c n at) there))
     where
-      by : (a : Attempt P budget (at_hand n) c) → IsSome (region_of P budget a) → by_attempt P budget judged c n a ≡ Wave n
+      by : (a : Attempt P budget (at_hand n) c) → IsSome (region_of P budget a)
+          → by_attempt P budget judged c n a ≡ Wave n
       by (Leaves region cost all settles fits) is = refl
       by (Stops stop all stops) is = cc
       by (Lacks e missing) is = cc
@@ -475,6 +478,11 @@ module _ (P : Tables) (forced : List Bool) (budget : ℕ) (judged : List Verdict
       only = λ c r there. region_accepted c r (sym (region_at c) ∙ there);
     }
 
-pub has_follower_lem : HasFollower
+has_follower_lem : HasFollower
 has_follower_lem P forced budget judged is fits within are =
     (S P forced budget judged are, all_follow P forced budget judged are is fits within)
+
+pub has_settled_lem : HasSettled
+has_settled_lem P forced budget judged is fits within are =
+    let (last, follow) = has_follower_lem P forced budget judged is fits within are in
+    (last, followers_are_settled_lem P forced budget judged last are follow)

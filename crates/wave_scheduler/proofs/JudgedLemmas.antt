@@ -9,7 +9,7 @@ use Rattle.initializer_analysis.specs.declared.verdict.Verdict.TheVariants as ve
 use Rattle.initializer_analysis.specs.Verdicts as before
 use Rattle.wave_scheduler.specs.Settled.{Outcome, Wave, Refused, Stopped, Settled, HasWave, IsWave}
 use Rattle.wave_scheduler.specs.Settled.{IsOutcome, AreSettled}
-use Rattle.wave_scheduler.specs.Judged.{UsesAccepted, IsTried, Follows, FollowVerdicts, FollowersAreSettled}
+use Rattle.wave_scheduler.specs.steps.Judged.{UsesAccepted, IsTried, Follows, FollowVerdicts, FollowersAreSettled}
 use Rattle.wave_scheduler.proofs.ReachesLemmas.{one_of}
 
 module _ (P : Tables) (forced : List Bool) (budget : ℕ) (judged : List Verdict) (S : Settled)

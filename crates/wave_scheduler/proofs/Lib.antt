@@ -9,7 +9,6 @@ pub mod TriedLemmas
 pub mod JudgedLemmas
 pub mod FewWavesLemmas
 pub mod FollowerLemmas
-pub mod WiderStopsLemmas
 pub mod MoreAtHandLemmas
 pub mod WavesLemmas
 pub mod WavesEndLemmas

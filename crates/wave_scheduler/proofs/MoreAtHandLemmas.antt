@@ -13,10 +13,10 @@ use Rattle.program.specs.Tables.{Tables}
 use Rattle.machine.specs.Linked.{program_of}
 use Rattle.use_graph.specs.declared.mark.Mark.{Mark}
 use Rattle.use_graph.specs.Uses.{IsUse, HasMark}
+use Rattle.evaluator.proofs.WiderStopsLemmas.{stopped-wider}
 use Rattle.wave_scheduler.specs.Settled.{Settled, below, LeavesRegion}
 use Rattle.wave_scheduler.specs.Laws.{AreSettledBelow, MoreAtHand}
 use Rattle.wave_scheduler.proofs.TriedLemmas.{never_barred_lem}
-use Rattle.wave_scheduler.proofs.WiderStopsLemmas.{stopped-wider}
 
 module _ (P : Tables) (budget : ℕ) (S : Settled) (n : ℕ) (is : IsProgram P) (fits : IsFamily P.family)
     (within : AreParentsWithin P.family) (are : AreSettledBelow P budget S n) (c : ℕ) (low : c < length P.classes)

@@ -74,7 +74,8 @@ module _ {V : Type 0} where
   in_none x (k, low, is) = omega arith
 
   -- whether one of a list has a property
-  pub decided_among : (xs : List V) (Q : V → Type 0) → ((x : V) → Decided (Q x)) → Decided ((x : V) × Contains xs x × Q x)
+  pub decided_among : (xs : List V) (Q : V → Type 0) → ((x : V) → Decided (Q x))
+      → Decided ((x : V) × Contains xs x × Q x)
   decided_among [] Q each = inr (λ (x, at, q). in_none x at)
   decided_among (x ∷ xs) Q each = elim (each x) [
     | inl q ↦ inl (x, in_first x xs, q)

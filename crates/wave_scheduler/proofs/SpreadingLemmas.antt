@@ -1,5 +1,6 @@
 -- A search that goes on over what earlier ones have seen.
-use Rattle.std.proofs.Common.{◌≡◌, ◌⊎◌, ◌↔◌, ℕ, ◌+◌, ◌<◌, ◌≤◌, Bool, true, false, List, [], ◌∷◌, ◌++◌, length, slice_index}
+use Rattle.std.proofs.Common.{◌≡◌, ◌⊎◌, ℕ, ◌+◌, ◌<◌, ◌≤◌, Bool, true, false, List, [], ◌∷◌, ◌++◌, length}
+use Rattle.std.proofs.Common.{slice_index}
 use Rattle.std.proofs.Common.{slice_index_or, inl, inr, refl, subst, arith}
 use Rattle.std.specs.List.{All, Contains}
 use Rattle.std.proofs.lemmas.Grind.{common_steps}
@@ -63,7 +64,8 @@ less_or_same : (k next : ℕ) → k < next + 1 → (k < next) ⊎ (k ≡ next)
 less_or_same k next small = grind arith
 
 pub spreading_next : (graph : Rows) (from : ℕ) (old items new : List ℕ) (next : ℕ) → IsClosedIn graph old
-    → next < length items → Spreading graph from old items next → Adds items (successors_of graph (slice_index items next)) new
+    → next < length items → Spreading graph from old items next
+    → Adds items (successors_of graph (slice_index items next)) new
     → Spreading graph from old new (next + 1)
 spreading_next graph from old items new next closed low s a = record {
   starts = a.keeps from s.starts;

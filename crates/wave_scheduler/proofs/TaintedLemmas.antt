@@ -1,14 +1,12 @@
 -- What depends on classes that are not accepted.
-use Rattle.std.proofs.Common.{◌≡◌, ◌≢◌, ◌⊎◌, ◌↔◌, ℕ, ◌+◌, ◌*◌, ◌<◌, ◌≤◌, List, [], length, inl, inr, refl, sym, subst}
-use Rattle.std.proofs.Common.{◌∙◌, ap, map, Some, slice_get, slice_index_or, option_map, arith}
+use Rattle.std.proofs.Common.{◌≡◌, ◌≢◌, ◌⊎◌, ℕ, ◌+◌, ◌*◌, ◌<◌, ◌≤◌, List, [], length, inl, inr, refl, sym, subst}
+use Rattle.std.proofs.Common.{◌∙◌, ap, Some, slice_get, slice_index_or, option_map, arith}
 use Rattle.std.specs.List.{Contains}
 use Rattle.std.proofs.lemmas.Option.{slice_get-get_or, slice_get-map}
 use Rattle.graph.specs.Rows.{Rows}
 use Rattle.graph.specs.Reaches.{Reaches, along}
 use Rattle.graph.specs.Seen.{Seen}
-use Rattle.graph.specs.steps.Reverse.{IsReverse}
 use Rattle.graph.proofs.ReverseLemmas.{Reaches-turned, IsReverse-turned}
-use Rattle.semantics.proofs.TestsLemmas.{from_some}
 use Rattle.program.specs.Tables.{Tables}
 use Rattle.use_graph.specs.declared.whole_program.UseGraph.{UseGraph}
 use Rattle.use_graph.specs.steps.Bodies.{IsUseGraph}
@@ -21,11 +19,11 @@ use Rattle.initializer_analysis.proofs.DependenceLemmas.{next_use, use_reached}
 use Rattle.initializer_analysis.proofs.RowsBelowLemmas.{calls_few}
 use Rattle.wave_scheduler.specs.declared.outcome.Settled.{Settled as Answer}
 use Rattle.wave_scheduler.specs.declared.tainted.Tainted.{Tainted}
-use Rattle.wave_scheduler.specs.Settled.{Settled, Wave, IsAccepted}
+use Rattle.wave_scheduler.specs.Settled.{Settled, IsAccepted}
 use Rattle.wave_scheduler.specs.Outcomes.{outcome_of, settled_of}
-use Rattle.wave_scheduler.specs.steps.Tainting.{IsClosedIn, AddsReached, AreDependents, vertex_in, IsSeen, IsSearched, Spreads}
+use Rattle.wave_scheduler.specs.steps.Tainting.{IsClosedIn, AddsReached, AreDependents, vertex_in, IsSeen, IsSearched}
+use Rattle.wave_scheduler.specs.steps.Tainting.{Spreads}
 use Rattle.wave_scheduler.specs.steps.Tainting.{DependsOnRefused, SeesBelow, IsOver, SeesOver, AreTainted}
-use Rattle.wave_scheduler.specs.steps.Finding.{is_refused}
 use Rattle.wave_scheduler.proofs.FindingLemmas.{refused_or}
 
 same_or : (n m : ℕ) → (n ≡ m) ⊎ (n ≢ m)
@@ -186,7 +184,8 @@ module _ (P : Tables) (S : Settled) (t : Tainted) (are : AreTainted P S t) where
   IsFrom c e = (graph : Rows) × IsDependence P are.uses graph
       × Reaches graph (vertex_of are.uses c) (vertex_of are.uses e)
 
-  pub seen_from : (c : ℕ) → IsSeen t (vertex_in t c) → (e : ℕ) × (e < length P.classes) × (¬ IsAccepted S e) × IsFrom c e
+  pub seen_from : (c : ℕ) → IsSeen t (vertex_in t c)
+      → (e : ℕ) × (e < length P.classes) × (¬ IsAccepted S e) × IsFrom c e
   seen_from c seen =
       let (e, low, never, path) = (are.sees (vertex_in t c)).0 seen in
       let (graph, is, turned) = are.dependents in

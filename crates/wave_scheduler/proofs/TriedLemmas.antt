@@ -1,4 +1,5 @@
--- A class that is tried is not barred: the regions at hand in a wave are closed, and all that its code may use is there.
+-- A class that is tried is not barred: the regions at hand in a wave are closed, and all that its code may use is
+-- there.
 use Rattle.std.proofs.Common.{◌≡◌, ℕ, zero, suc, ◌<◌, Bool, true, false, ◌||◌, ◌==◌}
 use Rattle.std.proofs.Common.{Some, is_some, refl, arith}
 use Rattle.vm_state.specs.SharedState.{Region}

@@ -20,7 +20,7 @@ use Rattle.initializer_analysis.specs.Verdicts as before
 use Rattle.wave_scheduler.specs.Settled.{Wave, Settled, HasWave, region_in, below}
 use Rattle.wave_scheduler.specs.Settled.{LeavesRegion}
 use Rattle.wave_scheduler.specs.Laws.{AreSettledBelow}
-use Rattle.wave_scheduler.specs.Judged.{UsesAccepted}
+use Rattle.wave_scheduler.specs.steps.Judged.{UsesAccepted}
 use Rattle.wave_scheduler.specs.steps.Waves.{IsTriedIn, AreTriedBelow, Decides, WavesStart, WavesGoOn}
 use Rattle.wave_scheduler.specs.steps.Waves.{WavesEnd, TriesDecide}
 use Rattle.wave_scheduler.proofs.SettledLemmas.{same_wave, below_there}

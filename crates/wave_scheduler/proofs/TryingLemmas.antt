@@ -1,6 +1,7 @@
 -- The classes of a wave, tried one after another.
-use Rattle.std.proofs.Common.{◌≡◌, ◌≢◌, ◌⊎◌, inl, inr, ℕ, zero, suc, ◌+◌, ◌<◌, ◌≤◌, Bool, List, [], ◌∷◌, ◌++◌, length, take}
-use Rattle.std.proofs.Common.{Option, Some, None, slice_get, slice_index, MatchOption, refl, sym, ap, subst, ◌∙◌, arith}
+use Rattle.std.proofs.Common.{◌≡◌, ◌≢◌, ◌⊎◌, inl, inr, ℕ, zero, suc, ◌+◌, ◌<◌, Bool, List, [], ◌∷◌, ◌++◌, length}
+use Rattle.std.proofs.Common.{take}
+use Rattle.std.proofs.Common.{Option, Some, None, slice_get, slice_index, refl, sym, subst, ◌∙◌, arith}
 use Rattle.std.specs.List.{Contains}
 use Rattle.std.proofs.lemmas.List.{take_more}
 use Rattle.std.proofs.lemmas.List.Elements.{Contains-push, Contains-push_cases, Contains-append_left}
@@ -21,14 +22,13 @@ use Rattle.initializer_analysis.specs.declared.verdict.Verdict.TheVariants as ve
 use Rattle.initializer_analysis.specs.Verdicts as before
 use Rattle.initializer_analysis.proofs.VerdictsLemmas.{waves_fall}
 use Rattle.wave_scheduler.specs.declared.tainted.Tainted.{Tainted}
-use Rattle.wave_scheduler.specs.Settled.{Outcome, Wave, Settled, HasWave, IsAccepted, region_in, below}
-use Rattle.wave_scheduler.specs.Judged.{UsesAccepted}
+use Rattle.wave_scheduler.specs.Settled.{Outcome, Wave, Settled, IsAccepted, region_in, below}
+use Rattle.wave_scheduler.specs.steps.Judged.{UsesAccepted}
 use Rattle.wave_scheduler.specs.steps.Waves.{IsTriedIn, AreTriedBelow, TriesWave, Decides}
-use Rattle.wave_scheduler.specs.steps.Finding.{CanRun, IsFound, SetsClass, TriesThese}
+use Rattle.wave_scheduler.specs.steps.Finding.{IsFound, SetsClass, TriesThese}
 use Rattle.wave_scheduler.specs.steps.Tainting.{vertex_in, IsSeen, IsTold, TriesClass, AreTainted}
 use Rattle.wave_scheduler.specs.steps.WaveRows.{IsRow}
 use Rattle.wave_scheduler.proofs.SettledLemmas.{from_below}
-use Rattle.wave_scheduler.proofs.ReachesLemmas.{one_of}
 use Rattle.wave_scheduler.proofs.WavesLemmas.{had_wave, one_before}
 use Rattle.wave_scheduler.proofs.TriesLemmas.{tries_decide_lem}
 use Rattle.wave_scheduler.proofs.FindingLemmas.{accepted_or}

@@ -28,7 +28,8 @@ use Rattle.use_graph.specs.declared.mark.Mark.TheVariants as marks
 use Rattle.initializer_analysis.specs.Verdicts.{rank_of}
 use Rattle.initializer_analysis.proofs.VerdictsLemmas.{same_mark}
 use Rattle.use_graph.specs.Code.{needed_by, callee_of, MayRunFor, feature_of, feature_at}
-use Rattle.use_graph.specs.Uses.{Calls, IsDeclared, MayRun, initializer, called, Needs, MayNeed, IsUse, Means, IsLeftOut}
+use Rattle.use_graph.specs.Uses.{Calls, IsDeclared, MayRun, initializer, called, Needs, MayNeed, IsUse, Means}
+use Rattle.use_graph.specs.Uses.{IsLeftOut}
 use Rattle.use_graph.specs.Uses.{CallsLeftOut, IsTold, itself, calling, Bears, HasMark}
 use Rattle.wave_scheduler.proofs.ReachesLemmas.{Decided, decided_as, decided_both, decided_either, decided_not}
 use Rattle.wave_scheduler.proofs.ReachesLemmas.{decided_same, decided_less, decided_same_some, decided_below, in_first}

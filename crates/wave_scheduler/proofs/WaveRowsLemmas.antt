@@ -4,7 +4,7 @@ use Rattle.std.proofs.Common.{slice_index, slice_index_or, slice_set, slice_get,
 use Rattle.std.proofs.Common.{◌∙◌, arith}
 use Rattle.std.specs.List.{Contains}
 use Rattle.std.proofs.lemmas.Grind.{common_steps}
-use Rattle.std.proofs.lemmas.List.{length-set, length-replicate, take-append-le}
+use Rattle.std.proofs.lemmas.List.{length-set, length-replicate}
 use Rattle.std.proofs.lemmas.List.Elements.{Contains-push, Contains-push_cases, Contains-append_left}
 use Rattle.std.proofs.lemmas.Option.{slice_get_within, slice_get-get_or}
 use Rattle.std.specs.declared.vec.Vec.{Vec}
@@ -15,7 +15,8 @@ use Rattle.graph.proofs.RowsLemmas.{row_pushed, length-rows_of}
 use Rattle.initializer_analysis.specs.declared.verdict.Verdict.{Verdict}
 use Rattle.initializer_analysis.specs.declared.verdict.Verdict.TheVariants.{Wave, Refused}
 use Rattle.initializer_analysis.specs.Verdicts.{HasWave}
-use Rattle.wave_scheduler.specs.steps.WaveRows.{row_in, AreEachOnce, IsRow, AreRows, IsRowBelow, AreRowsBelow, JoinsWave}
+use Rattle.wave_scheduler.specs.steps.WaveRows.{row_in, AreEachOnce, AreRows, IsRowBelow, AreRowsBelow}
+use Rattle.wave_scheduler.specs.steps.WaveRows.{JoinsWave}
 use Rattle.wave_scheduler.proofs.WavesLemmas.{one_before}
 
 same_or : (n m : ℕ) → (n ≡ m) ⊎ (n ≢ m)
@@ -100,7 +101,8 @@ rows_more judged c count old new (Refused r) d low is above below joins = rw joi
 })
   where
     never : (n : ℕ) → ¬ HasWave judged c n
-    never n had = (let clash : Some (Refused r) ≡ Some (Wave n) = sym (verdict_there judged c (Refused r) d low is) ∙ had in cc)
+    never n had =
+        (let clash : Some (Refused r) ≡ Some (Wave n) = sym (verdict_there judged c (Refused r) d low is) ∙ had in cc)
 
 pub verdict_wave : (judged : List Verdict) (c n : ℕ) (v d : Verdict) → c < length judged
     → v ≡ slice_index_or judged c d → v ≡ Wave n → HasWave judged c n

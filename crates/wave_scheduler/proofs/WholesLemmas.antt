@@ -1,18 +1,16 @@
 -- The regions of settled classes are whole.
-use Rattle.std.proofs.Common.{◌≡◌, inl, inr, ℕ, zero, suc, ◌+◌, ◌<◌, ◌≤◌, Bool, true, false, List, Option, Some, None}
-use Rattle.std.proofs.Common.{slice_get, refl, sym, ap, subst, ◌∙◌, arith}
+use Rattle.std.proofs.Common.{◌≡◌, ℕ, zero, suc, ◌+◌, ◌≤◌, Bool, List, Option, Some, None}
+use Rattle.std.proofs.Common.{refl, sym, subst, ◌∙◌, arith}
 use Rattle.vm_state.specs.SharedState.{Region}
-use Rattle.semantics.specs.Quiet.{Environment}
 use Rattle.semantics.proofs.TestsLemmas.{from_some}
 use Rattle.program.specs.Tables.{Tables}
-use Rattle.machine.specs.Linked.{program_of}
-use Rattle.region_shape.specs.Shapes.{HasShape}
-use Rattle.region_shape.specs.Counts.{NamesObjects, AreClosed}
+use Rattle.region_shape.specs.Counts.{AreClosed}
 use Rattle.region_shape.specs.Laws.{IsLinked, IsFromFile, HaveShape}
+use Rattle.region_shape.specs.Sizes.{IsWithin}
 use Rattle.region_shape.specs.Wholes.{AreWhole}
 use Rattle.region_shape.proofs.LawsLemmas.{settled_have_shape_lem, settled_are_within_lem, settled_name_objects_lem}
 use Rattle.region_shape.proofs.NamesLemmas.{names_wider}
-use Rattle.wave_scheduler.specs.Settled.{Outcome, Wave, Refused, Stopped, Settled, HasWave, region_in, if_below, below}
+use Rattle.wave_scheduler.specs.Settled.{Wave, Settled, HasWave, region_in, below}
 use Rattle.wave_scheduler.specs.Settled.{LeavesRegion, AreSettled}
 use Rattle.wave_scheduler.specs.Wholes.{SettledAreWhole, SettledAreSmall}
 use Rattle.wave_scheduler.proofs.SettledLemmas.{same_wave, from_below, below_there}
@@ -31,7 +29,8 @@ module _ (P : Tables) (forced : List Bool) (budget : ℕ) (S : Settled) (linked 
       by : (o : Option Region) → below S n c ≡ o → o ≡ None
       by None is = refl
       by (Some r) is =
-          absurd (let (m, here, less, has) = from_below S n c r is in let same = same_wave S c m n here at in omega arith)
+          absurd (let (m, here, less, has) = from_below S n c r is in
+          let same = same_wave S c m n here at in omega arith)
 
   -- what is at hand in a wave is at hand in a later one
   later : (m n d : ℕ) (r : Region) → m ≤ n → below S m d ≡ Some r → below S n d ≡ Some r
@@ -72,12 +71,16 @@ module _ (P : Tables) (forced : List Bool) (budget : ℕ) (S : Settled) (linked 
         (closed_below n n (omega arith) d r is);
   }
 
-  small : (c : ℕ) (r : Region) → region_in S c ≡ Some r → r.pool.count ≤ budget
+  small : (c : ℕ) (r : Region) → region_in S c ≡ Some r → IsWithin budget r
   small c r has =
       let (n, at) = are.only c r has in
       let (cost, settles, within) = leaves c n r at has in
-      let sizes = settled_are_within_lem P linked (below S n) (shape_below n n (omega arith)) c cost r (from c) settles in
-      omega (arith, sizes.count, within)
+      let sizes =
+      settled_are_within_lem P linked (below S n) (shape_below n n (omega arith)) c cost r (from c) settles in
+      record {
+        count = omega (arith, sizes.count, within);
+        arrays = λ k o at. omega (arith, sizes.arrays k o at, within);
+      }
 
 pub settled_are_small_lem : SettledAreSmall
 settled_are_small_lem P forced budget S linked from are = small P forced budget S linked from are

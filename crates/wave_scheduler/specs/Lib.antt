@@ -1,6 +1,5 @@
 pub mod Settled
 pub mod Laws
-pub mod Judged
 pub mod steps
 pub mod Outcomes
 pub mod Wholes

@@ -1,3 +1,4 @@
+pub mod Judged
 pub mod Waves
 pub mod Finding
 pub mod Tainting

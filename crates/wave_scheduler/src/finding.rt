@@ -92,7 +92,7 @@ fn put_region(regions: &mut Regions, class: u32, region: Option<Region>)
     ensures { regions.new ≡ slice_set regions.old class region }
 {
     match region {
-        Some(region) => regions.put(class, region),
+        Some(region) => regions.set(class, region),
         None => {}
     }
 }

@@ -1,14 +1,17 @@
 //! What holds of settled classes.
 
-ghost use Rattle.wave_scheduler.specs.Laws.{OneSettled, SettledAreExact, HasAnalysis, SettledShowTheSame};
+ghost use Rattle.wave_scheduler.specs.Laws.{OneSettled, HasSettled, SettledAreExact, HasAnalysis, SettledShowTheSame};
 ghost use Rattle.wave_scheduler.specs.Laws.{NeverBarred, MoreAtHand};
-ghost use Rattle.wave_scheduler.specs.Judged.{FollowersAreSettled, FewWaves, HasFollower};
 ghost use Rattle.wave_scheduler.specs.Wholes.{SettledAreWhole, SettledAreSmall};
-ghost use Rattle.wave_scheduler.specs.steps.Waves.{WavesStart, WavesGoOn, WavesEnd, TriesDecide};
 
 /// The program, the options and the budget determine what becomes of all classes.
 pub fn one_settled()
     ensures { OneSettled }
+{}
+
+/// Each linked program has such an answer, where there are verdicts on its classes.
+pub fn has_settled()
+    ensures { HasSettled }
 {}
 
 /// The image of the settled regions holds exactly the accepted classes, each with its region.
@@ -37,47 +40,12 @@ pub fn settled_are_whole()
     ensures { SettledAreWhole }
 {}
 
-/// The regions of settled classes have no more objects than the budget.
+/// The regions of settled classes have no more objects, and no array of more elements, than the budget.
 pub fn settled_are_small()
     ensures { SettledAreSmall }
-{}
-
-/// What follows the verdicts solves the equation.
-pub fn followers_are_settled()
-    ensures { FollowersAreSettled }
-{}
-
-/// There are no more waves than classes.
-pub fn few_waves()
-    ensures { FewWaves }
-{}
-
-/// Something follows the verdicts.
-pub fn has_follower()
-    ensures { HasFollower }
 {}
 
 /// With more regions at hand than those of lower waves a class does as it does in its wave.
 pub fn more_at_hand()
     ensures { MoreAtHand }
-{}
-
-/// Before the first wave nothing is tried.
-pub fn waves_start()
-    ensures { WavesStart }
-{}
-
-/// A wave that is tried leaves the lower ones as they are.
-pub fn waves_go_on()
-    ensures { WavesGoOn }
-{}
-
-/// After the last wave all follows the verdicts, once each class is told the first refused one that it uses.
-pub fn waves_end()
-    ensures { WavesEnd }
-{}
-
-/// What is found of a class of the next wave is what comes of it there.
-pub fn tries_decide()
-    ensures { TriesDecide }
 {}

@@ -4,7 +4,8 @@ use evaluator::regions::Regions;
 use initializer_analysis::verdict::Verdicts;
 use std::alloc::AllocError;
 
-/// The last verdicts on all given classes, after their initializers were run, and the regions of those that are accepted.
+/// The last verdicts on all given classes, after their initializers were run, and the regions of those that are
+/// accepted.
 #[derive(Drop)]
 pub struct Settled {
     pub verdicts: Verdicts,

@@ -4,7 +4,7 @@ ghost use Rattle.std.specs.Prelude.{◌≡◌, Bool, List, IfOk, OnOk};
 ghost use Rattle.graph.specs.Components.{AreComponents};
 ghost use Rattle.use_graph.specs.steps.Bodies.{IsUseGraph};
 ghost use Rattle.initializer_analysis.specs.Verdicts.{AreVerdicts};
-ghost use Rattle.wave_scheduler.specs.Judged.{FollowVerdicts};
+ghost use Rattle.wave_scheduler.specs.steps.Judged.{FollowVerdicts};
 ghost use Rattle.wave_scheduler.specs.Settled.{AreSettled};
 ghost use Rattle.wave_scheduler.specs.Outcomes.{settled_of, AreJudged};
 ghost use Rattle.wave_scheduler.specs.steps.Waves.{StartsFrom};
@@ -116,7 +116,6 @@ pub fn settle_all_here(
     requires { AreJudged program.now verdicts }
     ensures settled { IfOk result (λ settled. (forced : List Bool) → AreVerdicts program.now forced verdicts
         → AreSettled program.now forced budget (settled_of settled)) }
-    ensures follows { IfOk result (λ settled. FollowVerdicts program.now budget verdicts (settled_of settled)) }
 {
     match settle_judged(alloc, program, verdicts.as_slice(), budget) {
         Ok(settled) => Ok(settled),

@@ -4,7 +4,7 @@ use Rattle.std.specs.Prelude.{false, IsTrue, List, length, slice_index, slice_in
 use Rattle.use_graph.specs.declared.whole_program.UseGraph.{UseGraph}
 use Rattle.initializer_analysis.specs.declared.labels.Least.{Least}
 use Rattle.initializer_analysis.specs.Least.{AreLeast}
-use Rattle.initializer_analysis.specs.LeastReached.{no_labels, IsOwn}
+use Rattle.initializer_analysis.specs.steps.LeastReached.{no_labels, IsOwn}
 use Rattle.initializer_analysis.specs.steps.Dependence.{vertex_of}
 
 -- a class below a limit whose vertex has this number

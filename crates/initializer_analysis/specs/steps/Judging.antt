@@ -11,8 +11,8 @@ use Rattle.initializer_analysis.specs.declared.verdict.Reason.{Reason}
 use Rattle.initializer_analysis.specs.declared.verdict.Reason.TheVariants as reasons
 use Rattle.initializer_analysis.specs.declared.verdict.Verdict.{Verdict}
 use Rattle.initializer_analysis.specs.declared.verdict.Verdict.TheVariants.{Wave, Refused}
-use Rattle.initializer_analysis.specs.Heights.{AreHeights}
-use Rattle.initializer_analysis.specs.LeastReached.{no_labels, IsOwn}
+use Rattle.initializer_analysis.specs.steps.Heights.{AreHeights}
+use Rattle.initializer_analysis.specs.steps.LeastReached.{no_labels, IsOwn}
 use Rattle.initializer_analysis.specs.RefusedUses.{AreFirstRefused}
 use Rattle.initializer_analysis.specs.steps.Dependence.{vertex_of}
 

@@ -6,7 +6,7 @@ use Rattle.use_graph.specs.declared.whole_program.UseGraph.{UseGraph}
 use Rattle.use_graph.specs.steps.Deeds.{HoldsOfOne}
 use Rattle.initializer_analysis.specs.declared.labels.Least.{Least}
 use Rattle.initializer_analysis.specs.Least.{AreLeast}
-use Rattle.initializer_analysis.specs.LeastReached.{no_labels}
+use Rattle.initializer_analysis.specs.steps.LeastReached.{no_labels}
 
 -- this class, if it is below a limit and refused
 abbrev pub IsRefusedOf : List Bool → ℕ → ℕ → ℕ → Type 0

@@ -5,7 +5,7 @@ use Rattle.graph.specs.Rows.{Rows, successors_of}
 use Rattle.graph.specs.Components.{Parts}
 use Rattle.initializer_analysis.specs.declared.labels.Least.{Least}
 use Rattle.initializer_analysis.specs.Least.{AreLeast}
-use Rattle.initializer_analysis.specs.LeastReached.{no_labels, IsOwn, IsReachedLabel}
+use Rattle.initializer_analysis.specs.steps.LeastReached.{no_labels, IsOwn, IsReachedLabel}
 
 -- it stands in a row, and is in another component
 abbrev pub IsBeyond : List ℕ → ℕ → List ℕ → ℕ → Type 0

@@ -86,8 +86,8 @@ pub record AreTainted (P : Tables) (S : Settled) (t : Tainted) : Type 0 where
 abbrev pub IsTold : Tainted → ℕ → Option ℕ → Type 0
 IsTold t c told = MatchOption told (¬ IsSeen t (vertex_in t c)) (λ e. IsSeen t (vertex_in t c))
 
--- A class is tried where it depends on no class that is not accepted. If it is then not accepted itself, what depends on
--- it does.
+-- A class is tried where it depends on no class that is not accepted. If it is then not accepted itself, what depends
+-- on it is seen.
 pub record TriesClass (P : Tables) (env : Environment) (budget n c : ℕ) (t : Tainted) (old : Settled) (more : Tainted)
     (new : Settled) : Type 0 where
   pub told : Option ℕ

@@ -16,9 +16,10 @@ use Rattle.initializer_analysis.specs.declared.verdict.Verdict.{Verdict}
 use Rattle.initializer_analysis.specs.declared.verdict.Verdict.TheVariants as verdicts
 use Rattle.initializer_analysis.specs.Verdicts as before
 use Rattle.initializer_analysis.specs.RefusedUses.{AreFirstRefused}
-use Rattle.wave_scheduler.specs.Settled.{Outcome, Wave, Refused, Stopped, Settled, HasWave, IsAccepted, region_in, below}
+use Rattle.wave_scheduler.specs.Settled.{Outcome, Wave, Refused, Stopped, Settled, HasWave, IsAccepted, region_in}
+use Rattle.wave_scheduler.specs.Settled.{below}
 use Rattle.wave_scheduler.specs.Settled.{LeavesRegion}
-use Rattle.wave_scheduler.specs.Judged.{UsesAccepted, FollowVerdicts}
+use Rattle.wave_scheduler.specs.steps.Judged.{UsesAccepted, FollowVerdicts}
 use Rattle.wave_scheduler.specs.Outcomes.{outcome_of}
 
 -- ---- wave by wave

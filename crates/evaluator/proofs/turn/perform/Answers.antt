@@ -21,4 +21,5 @@ returns-clause-performs c =
     performs (within P env c.args.class c.args.most own 0) r
     (capped c.args.most (quiet_step P env c.args.class f own))
     (within_capped P env c.args.class c.args.most r (row_makes c.args.program.now f) own 0 (omega arith))
-    s.program s.environment s.class s.most s.own s.made c.execute.new.frame c.execute.result (c.execute.ensures.gives [])
+    s.program s.environment s.class s.most s.own s.made c.execute.new.frame c.execute.result
+    (c.execute.ensures.gives [])

@@ -10,8 +10,8 @@ returns-in_default c =
 pub returns-in-Ok : goal.returns-in-Ok
 returns-in-Ok c =
     λ P env k most f own new made e.
-    returns_on P env k most f c.in-Some.caller c.receive.new.frame c.args.segment.now.callers c.pop.new.self c.args.value
-    own new made e (search rules) c.pop.ensures.rest c.in-Ok.ensures.ok
+    returns_on P env k most f c.in-Some.caller c.receive.new.frame c.args.segment.now.callers c.pop.new.self
+    c.args.value own new made e (search rules) c.pop.ensures.rest c.in-Ok.ensures.ok
 
 pub returns-in-Err : goal.returns-in-Err
 returns-in-Err c =

@@ -1,6 +1,6 @@
 use Rattle.std.proofs.Common.{ℕ, ◌<◌, length, slice_index, slice_index_or, arith}
 use Rattle.std.proofs.lemmas.List.Elements.{All-get_or}
-use Rattle.initializer_analysis.specs.LeastReached.{no_labels}
+use Rattle.initializer_analysis.specs.steps.LeastReached.{no_labels}
 use Rattle.initializer_analysis.specs.steps.Dependence.{vertex_of}
 use Rattle.initializer_analysis.proofs.CyclesLemmas.{other_found}
 use Rattle.initializer_analysis.proofs.cycles.has_other.Goals as goal

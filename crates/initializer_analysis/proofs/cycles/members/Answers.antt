@@ -1,6 +1,6 @@
 use Rattle.std.proofs.Common.{◌≡◌, ℕ, ◌<◌, All, length, replicate, sym, ap, ◌∙◌, subst}
 use Rattle.std.proofs.lemmas.List.{length-replicate}
-use Rattle.initializer_analysis.specs.LeastReached.{no_labels}
+use Rattle.initializer_analysis.specs.steps.LeastReached.{no_labels}
 use Rattle.initializer_analysis.proofs.cycles.members.Goals as goal
 
 pub with_members-requires-clause-numbers : goal.with_members-requires-clause-numbers

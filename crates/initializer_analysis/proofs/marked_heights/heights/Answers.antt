@@ -1,6 +1,6 @@
 use Rattle.std.proofs.Common.{◌≡◌, ℕ, List, Vec, Global, map, slice_index, sym, subst}
 use Rattle.std.proofs.lemmas.Result.{IfOk-weaker}
-use Rattle.initializer_analysis.specs.Heights.{AreHeights}
+use Rattle.initializer_analysis.specs.steps.Heights.{AreHeights}
 use Rattle.initializer_analysis.proofs.RaisedLemmas.{heights_of}
 use Rattle.initializer_analysis.proofs.marked_heights.heights.Goals as goal
 

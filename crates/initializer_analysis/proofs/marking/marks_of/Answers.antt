@@ -1,6 +1,6 @@
 use Rattle.std.proofs.Common.{◌≡◌, Vec, Global, length}
 use Rattle.initializer_analysis.specs.declared.labels.Least.{Least}
-use Rattle.initializer_analysis.specs.LeastReached.{AreLeastReached}
+use Rattle.initializer_analysis.specs.steps.LeastReached.{AreLeastReached}
 use Rattle.initializer_analysis.specs.steps.Marking.{IsMarkedBy, AreMarks}
 use Rattle.initializer_analysis.proofs.LabelsLemmas.{least_of_own, IfOk-two}
 use Rattle.initializer_analysis.proofs.marking.marks_of.Goals as goal

@@ -1,5 +1,5 @@
 use Rattle.std.proofs.Common.{◌≡◌, map, take, slice_index_or}
-use Rattle.initializer_analysis.specs.LeastReached.{no_labels}
+use Rattle.initializer_analysis.specs.steps.LeastReached.{no_labels}
 use Rattle.initializer_analysis.proofs.reached_labels.by_vertex.Given as goal
 
 abbrev pub invariant-loop-vertex : goal.invariant-loop-vertex

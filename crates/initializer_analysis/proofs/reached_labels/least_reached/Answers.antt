@@ -2,7 +2,7 @@ use Rattle.std.proofs.Common.{◌≡◌, ℕ, List, Vec, Global, length, map, sl
 use Rattle.std.proofs.lemmas.Grind.{common_steps}
 use Rattle.std.proofs.lemmas.Result.{IfOk-weaker}
 use Rattle.initializer_analysis.specs.declared.labels.Least.{Least}
-use Rattle.initializer_analysis.specs.LeastReached.{no_labels, AreLeastReached}
+use Rattle.initializer_analysis.specs.steps.LeastReached.{no_labels, AreLeastReached}
 use Rattle.initializer_analysis.proofs.SettledLemmas.{reached_by_vertex}
 use Rattle.initializer_analysis.proofs.reached_labels.least_reached.Goals as goal
 

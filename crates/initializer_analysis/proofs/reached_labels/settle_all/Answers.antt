@@ -1,6 +1,6 @@
 use Rattle.std.proofs.Common.{◌≡◌, ℕ, ◌+◌, ◌-◌, length, subst, ap, arith}
 use Rattle.std.proofs.lemmas.List.{length-replicate}
-use Rattle.initializer_analysis.specs.LeastReached.{no_labels}
+use Rattle.initializer_analysis.specs.steps.LeastReached.{no_labels}
 use Rattle.initializer_analysis.specs.steps.Settled.{AreSettledFrom}
 use Rattle.initializer_analysis.proofs.SettledLemmas.{settle_next}
 use Rattle.initializer_analysis.proofs.reached_labels.settle_all.Goals as goal

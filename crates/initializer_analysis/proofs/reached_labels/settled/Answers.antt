@@ -1,7 +1,7 @@
 use Rattle.std.proofs.Common.{ℕ, ◌⊎◌, slice_index}
 use Rattle.graph.specs.Rows.{successors_of}
 use Rattle.initializer_analysis.specs.Least.{AreLeast}
-use Rattle.initializer_analysis.specs.LeastReached.{IsOwn}
+use Rattle.initializer_analysis.specs.steps.LeastReached.{IsOwn}
 use Rattle.initializer_analysis.specs.steps.Settled.{IsBeyondLabel}
 use Rattle.initializer_analysis.proofs.LeastLemmas.{AreLeast-of_joined}
 use Rattle.initializer_analysis.proofs.reached_labels.settled.Goals as goal

@@ -1,5 +1,5 @@
 use Rattle.std.proofs.Common.{◌≡◌, length, replicate, rules}
-use Rattle.initializer_analysis.specs.LeastReached.{no_labels}
+use Rattle.initializer_analysis.specs.steps.LeastReached.{no_labels}
 use Rattle.initializer_analysis.proofs.LabelsOfClassesLemmas.{own_labels_are}
 use Rattle.initializer_analysis.proofs.refused_classes.own_labels.Goals as goal
 

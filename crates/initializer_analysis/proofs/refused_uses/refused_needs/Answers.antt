@@ -1,6 +1,6 @@
 use Rattle.std.proofs.Common.{◌≡◌, Vec, Global, length}
 use Rattle.initializer_analysis.specs.declared.labels.Least.{Least}
-use Rattle.initializer_analysis.specs.LeastReached.{AreLeastReached}
+use Rattle.initializer_analysis.specs.steps.LeastReached.{AreLeastReached}
 use Rattle.initializer_analysis.specs.steps.RefusedUses.{NeedsRefused, AreRefusedNeeds}
 use Rattle.initializer_analysis.proofs.LabelsLemmas.{least_of_own, IfOk-two}
 use Rattle.initializer_analysis.proofs.refused_uses.refused_needs.Goals as goal

@@ -1,5 +1,4 @@
 use Rattle.std.proofs.lemmas.Result.{IfOk-weaker}
-use Rattle.wave_scheduler.specs.steps.Finding.{AreFirstIn}
 use Rattle.wave_scheduler.proofs.FindingLemmas.{marks_are}
 use Rattle.wave_scheduler.proofs.refused.first_in.Goals as goal
 

@@ -1,4 +1,4 @@
-use Rattle.std.proofs.Common.{◌≡◌, ℕ, ◌<◌, List, length, slice_index, take, subst, sym, ◌∙◌, add-one, option_map, arith}
+use Rattle.std.proofs.Common.{ℕ, ◌<◌, List, length, slice_index, take, subst, sym, ◌∙◌, add-one, option_map, arith}
 use Rattle.std.proofs.lemmas.List.{length-map, take_all}
 use Rattle.loading.specs.Families.{Family, IsFamily, AreParentsWithin}
 use Rattle.evaluator.specs.Regions.{environment_of, region_of, region_in}

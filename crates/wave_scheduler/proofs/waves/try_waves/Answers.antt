@@ -1,4 +1,4 @@
-use Rattle.std.proofs.Common.{◌≡◌, sym, ◌∙◌, arith}
+use Rattle.std.proofs.Common.{sym, ◌∙◌, arith}
 use Rattle.wave_scheduler.proofs.FewWavesLemmas.{few_waves_lem}
 use Rattle.wave_scheduler.proofs.waves.try_waves.Goals as goal
 

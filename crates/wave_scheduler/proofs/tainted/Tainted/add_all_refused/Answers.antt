@@ -1,4 +1,4 @@
-use Rattle.std.proofs.Common.{◌≡◌, sym, ap, subst, ◌∙◌, length, arith}
+use Rattle.std.proofs.Common.{arith}
 use Rattle.wave_scheduler.specs.Settled.{IsAccepted}
 use Rattle.wave_scheduler.specs.Outcomes.{settled_of}
 use Rattle.wave_scheduler.proofs.TaintedLemmas.{sees_none, sees_more, over_more, searched_over, low_over}

@@ -59,7 +59,7 @@ FewWaves =
     (P : Tables) (forced : List Bool) (judged : List Verdict) → before.AreVerdicts P forced judged → (c n : ℕ)
     → before.HasWave judged c n → n < length P.classes
 
--- Something follows the verdicts, of each linked program and within each budget. So the equation has one solution.
+-- Something follows the verdicts, of each linked program and within each budget.
 abbrev pub HasFollower : Type 0
 HasFollower =
     (P : Tables) (forced : List Bool) (budget : ℕ) (judged : List Verdict) → IsProgram P → IsFamily P.family

@@ -1,0 +1,48 @@
+-- When a class can be settled, and what holds then of the region that its initializer leaves.
+use Rattle.std.specs.Prelude.{◌≡◌, ℕ, ◌<◌, length, Some, None, IsSome}
+use Rattle.vm_state.specs.SharedState.{Region}
+use Rattle.semantics.specs.Quiet.{Environment}
+use Rattle.program.specs.Tables.{Tables}
+use Rattle.machine.specs.Linked.{program_of}
+use Rattle.region_shape.specs.Counts.{NamesObjects}
+use Rattle.region_shape.specs.Laws.{IsLinked}
+use Rattle.region_shape.specs.Shapes.{HasShape}
+use Rattle.region_shape.specs.Sizes.{IsWithin}
+use Rattle.region_shape.specs.Wholes.{AreWhole}
+use Rattle.use_graph.specs.declared.mark.Mark.{Mark}
+use Rattle.use_graph.specs.Uses.{IsUse, HasMark}
+use Rattle.evaluator.specs.declared.outcome.Outcome.{Outcome}
+use Rattle.evaluator.specs.declared.outcome.Outcome.TheVariants as outcomes
+use Rattle.evaluator.specs.Regions.{region_of}
+use Rattle.evaluator.specs.Outcomes.{IsUnbarred}
+
+-- A given class can be settled: its code bears no mark, and its initializer is lent some of the regions at hand, those
+-- of its uses among them and its own not, which have shape and name objects of one another alone.
+pub record IsSettleable (P : Tables) (env : Environment) (c : ℕ) : Type 0 where
+  pub given : c < length P.classes
+  pub unmarked : (mark : Mark) → ¬ HasMark P c mark
+  pub lent : Environment
+  pub at_hand : (d : ℕ) (region : Region) → lent d ≡ Some region → env d ≡ Some region
+  pub uses : (d : ℕ) → IsUse P c d → IsSome (lent d)
+  pub apart : lent c ≡ None
+  pub whole : AreWhole P lent
+
+-- The region has shape, names such objects alone as there are, and has no more objects, and no array of more elements,
+-- than the budget.
+pub record IsWhole (P : Tables) (env : Environment) (c budget : ℕ) (region : Region) : Type 0 where
+  pub shape : HasShape P c region
+  pub names : NamesObjects env c region
+  pub size : IsWithin budget region
+
+-- the region that is left, if there is one, is such
+abbrev pub LeavesWhole : Tables → Environment → ℕ → ℕ → Outcome → Type 0
+LeavesWhole P env c budget (outcomes.Settled region) = IsWhole P env c budget (region_of region)
+LeavesWhole P env c budget (outcomes.Refused why) = Unit {0}
+
+-- ---- laws
+
+-- A class that can be settled is not barred, whatever the budget.
+abbrev pub SettleableAreUnbarred : Type 0
+SettleableAreUnbarred =
+    (P : Tables) → IsLinked P → (env : Environment) (c budget : ℕ) → IsSettleable P env c
+    → IsUnbarred (program_of P) env c budget
