@@ -1,2 +1,3 @@
 pub mod RefusalLemmas
 pub mod BuildLemmas
+pub mod OneRefusalLemmas

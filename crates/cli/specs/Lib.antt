@@ -1,4 +1,6 @@
 pub mod Status
 pub mod Refusal
 pub mod Runs
+pub mod Builds
+pub mod Laws
 pub mod steps

@@ -10,6 +10,7 @@ mod build;
 mod class_files;
 mod fault;
 mod files;
+pub mod laws;
 mod lazy;
 mod outcome;
 mod reporting;
