@@ -6,6 +6,7 @@
 //! gives or takes is outside every contract: the tests show it.
 #![tactic(auto)]
 
+pub mod any_order;
 mod build;
 mod class_files;
 mod fault;
