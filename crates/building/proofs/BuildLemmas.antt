@@ -24,60 +24,62 @@ use Rattle.wave_scheduler.proofs.ReachesLemmas.{one_of}
 use Rattle.wave_scheduler.proofs.HeadlineLemmas.{settled_show_the_same_lem}
 use Rattle.wave_scheduler.proofs.WholesLemmas.{settled_are_whole_lem, settled_are_small_lem}
 use Rattle.object_graph.specs.Images.{ImageTables, AreSmall, start_image, region_or}
-use Rattle.building.specs.Builds.{IsSettledBy, IsBuilt, ShowsTheSame}
+use Rattle.building.specs.Builds.{IsSettledAs, IsBuilt, ShowsTheSame}
 
 -- ---- regions
 
 pub seen_regions : (s : Answer) → environment_of s.regions ≡ region_in (settled_of s)
 seen_regions s = fun_ext (λ c. region_seen s.regions c)
 
-has_regions : (S : Settled) (I : ImageTables) → ((c : ℕ) → environment_of I.regions c ≡ region_in S c) → HasRegions S (start_image I)
+has_regions : (S : Settled) (I : ImageTables) → ((c : ℕ) → environment_of I.regions c ≡ region_in S c)
+    → HasRegions S (start_image I)
 has_regions S I same = record {
   holds = λ c. ap is_some (same c);
   region = λ c r has. ap (region_or _) (same c ∙ has);
 }
 
-module _ (P : Tables) (patterns : List (List ℕ)) (budget : ℕ) (linked : IsLinked P) where
-  pub whole_by : (s : Answer) → ((c : ℕ) → IsFromFile P c) → IsSettledBy P patterns budget (settled_of s)
+module _ (P : Tables) (run build : Option (List ℕ)) (budget : ℕ) (linked : IsLinked P) where
+  pub whole_by : (s : Answer) → ((c : ℕ) → IsFromFile P c) → IsSettledAs P run build budget (settled_of s)
       → AreWhole P (environment_of s.regions)
-  whole_by s from (forced, are, settled) =
+  whole_by s from by =
       subst (AreWhole P) (sym (seen_regions s))
-      (settled_are_whole_lem P forced budget (settled_of s) linked from settled)
+      (settled_are_whole_lem P by.patterns.forced budget (settled_of s) linked from by.patterns.settled)
 
   pub small_by : (s : Answer) → budget < 2 ^ 32 → ((c : ℕ) → IsFromFile P c)
-      → IsSettledBy P patterns budget (settled_of s) → AreSmall (environment_of s.regions)
-  small_by s less from (forced, are, settled) c r here =
+      → IsSettledAs P run build budget (settled_of s) → AreSmall (environment_of s.regions)
+  small_by s less from by c r here =
       let has : region_in (settled_of s) c ≡ Some r = sym (region_seen s.regions c) ∙ here in
-      let few = (settled_are_small_lem P forced budget (settled_of s) linked from settled c r has).count in
+      let small =
+      settled_are_small_lem P by.patterns.forced budget (settled_of s) linked from by.patterns.settled c r has in
+      let few = small.count in
       omega arith
 
-  pub shows_by : (S : Settled) (I : ImageTables) → I.program ≡ P → IsSettledBy P patterns budget S
+  pub shows_by : (S : Settled) (I : ImageTables) → I.program ≡ P → IsSettledAs P run build budget S
       → ((c : ℕ) → environment_of I.regions c ≡ region_in S c) → ShowsTheSame I
   shows_by S I is by same entries s =
-      let (forced, are, settled) = subst (λ (Q : Tables). IsSettledBy Q patterns budget S) (sym is) by in
+      let as_here = subst (λ (Q : Tables). IsSettledAs Q run build budget S) (sym is) by in
       let here = subst (λ (Q : Tables). IsLinked Q) (sym is) linked in
-      settled_show_the_same_lem I.program forced budget S (start_image I) entries here.program here.family here.within
-      settled (has_regions S I same) s
+      settled_show_the_same_lem I.program as_here.patterns.forced budget S (start_image I) entries here.program
+      here.family here.within as_here.patterns.settled (has_regions S I same) s
 
-module _ (P : Tables) (patterns : List (List ℕ)) (budget : ℕ) (s : Answer) (I : ImageTables)
+module _ (P : Tables) (run build : Option (List ℕ)) (budget : ℕ) (s : Answer) (I : ImageTables)
     (verdicts : List Verdict) (program : I.program ≡ P) (regions : I.regions ≡ s.regions)
-    (same : verdicts ≡ s.verdicts) (by : IsSettledBy P patterns budget (settled_of s)) where
+    (same : verdicts ≡ s.verdicts) (by : IsSettledAs P run build budget (settled_of s)) where
   seen_in : (c : ℕ) → environment_of I.regions c ≡ region_in (settled_of s) c
   seen_in c = ap (λ (rs : List (Option Held)). environment_of rs c) regions ∙ region_seen s.regions c
 
-  pub built_by : IsBuilt patterns budget I (map outcome_of verdicts)
+  pub built_by : IsBuilt run build budget I (map outcome_of verdicts)
   built_by = record {
     settled = settled_of s;
-    by = subst (λ (Q : Tables). IsSettledBy Q patterns budget (settled_of s)) (sym program) by;
+    by = subst (λ (Q : Tables). IsSettledAs Q run build budget (settled_of s)) (sym program) by;
     regions = seen_in;
     told = ap (map outcome_of) (sym same);
   }
 
   pub count_built : length verdicts ≡ length I.program.classes
   count_built =
-      let (forced, are, settled) = by in
       sym (length-map verdicts outcome_of) ∙ ap (λ (vs : List Verdict). length (map outcome_of vs)) same
-      ∙ settled.count ∙ ap (λ (Q : Tables). length Q.classes) (sym program)
+      ∙ by.patterns.settled.count ∙ ap (λ (Q : Tables). length Q.classes) (sym program)
 
   outcomes_are : map outcome_of verdicts ≡ (settled_of s).outcomes
   outcomes_are = ap (map outcome_of) same
@@ -87,11 +89,10 @@ module _ (P : Tables) (patterns : List (List ℕ)) (budget : ℕ) (s : Answer) (
     where
       there : IsAccepted verdicts c → IsSome (environment_of I.regions c)
       there (n, at) =
-          let (forced, are, settled) = by in
           let here : HasWave (settled_of s) c n =
           ap (λ (os : List Outcome). slice_get os c) (sym outcomes_are)
           ∙ slice_get-map outcome_of verdicts c ∙ ap (option_map outcome_of) at in
-          let (none, wave, r, has, leaves) = settled.each c (Wave n) here in
+          let (none, wave, r, has, leaves) = by.patterns.settled.each c (Wave n) here in
           ap is_some (seen_in c ∙ has)
 
       one : (n : ℕ) (v : Verdict) → slice_get verdicts c ≡ Some v → outcome_of v ≡ Wave n → IsAccepted verdicts c
@@ -100,8 +101,7 @@ module _ (P : Tables) (patterns : List (List ℕ)) (budget : ℕ) (s : Answer) (
 
       held : (r : Region) → environment_of I.regions c ≡ Some r → IsAccepted verdicts c
       held r here =
-          let (forced, are, settled) = by in
-          let (n, at) = settled.only c r (sym (seen_in c) ∙ here) in
+          let (n, at) = by.patterns.settled.only c r (sym (seen_in c) ∙ here) in
           let low = slice_get_within (settled_of s).outcomes c (Wave n) at in
           let (v, there) = one_of verdicts c
           (omega (arith, ap (λ (os : List Outcome). length os) outcomes_are, length-map verdicts outcome_of)) in
@@ -114,4 +114,4 @@ module _ (P : Tables) (patterns : List (List ℕ)) (budget : ℕ) (s : Answer) (
       back some = let (r, here) = value_in (environment_of I.regions c) some in held r here
 
   pub shows_built : IsLinked P → ShowsTheSame I
-  shows_built linked = shows_by P patterns budget linked (settled_of s) I program by seen_in
+  shows_built linked = shows_by P run build budget linked (settled_of s) I program by seen_in

@@ -1,1 +1,4 @@
 pub mod BuildLemmas
+pub mod RefusalLemmas
+pub mod OneSettledLemmas
+pub mod OneFaultLemmas

@@ -1,29 +1,67 @@
 -- What an image is of.
-use Rattle.std.specs.Prelude.{◌≡◌, ◌↔◌, ℕ, Bool, List, [], Option, Some, None}
+use Rattle.std.specs.Prelude.{◌≡◌, ◌↔◌, ℕ, Bool, List, [], Option, Some, None, option_map}
+use Rattle.std.specs.Borrow.{Bor}
+use Rattle.std.specs.List.{All}
 use Rattle.semantics.specs.Images.{image_start}
 use Rattle.semantics.specs.Worlds.{Observation, Shows, lazy_start}
 use Rattle.program.specs.Tables.{Tables}
 use Rattle.machine.specs.Linked.{program_of}
 use Rattle.evaluator.specs.Regions.{environment_of}
 use Rattle.wave_scheduler.specs.Settled.{Outcome, Settled, region_in, AreSettled}
-use Rattle.options.specs.Lists.{items_of}
-use Rattle.options.specs.Classes.{AreClasses, IsForced}
+use Rattle.options.specs.Lists.{items_of, IsNonEmpty}
+use Rattle.options.specs.Classes.{AreClasses, IsDemanded, IsForced}
+use Rattle.options.specs.Demands.{AreMet}
+use Rattle.options.specs.Faults.{AreApart, IsKnown}
 use Rattle.object_graph.specs.Images.{ImageTables, start_image}
+
+-- ---- lists of patterns, as options give them
+
+-- the text of an option, if there is one
+abbrev pub text_of : Option (Bor (List ℕ)) → Option (List ℕ)
+text_of option = option_map (λ (s : Bor (List ℕ)). s.now) option
 
 -- the patterns of a list, and none where there is no list
 abbrev pub patterns_in : Option (List ℕ) → List (List ℕ)
 patterns_in None = []
 patterns_in (Some list) = items_of list
 
--- This becomes of all classes, where those are forced to run time that these patterns are about.
-abbrev pub IsSettledBy : Tables → List (List ℕ) → ℕ → Settled → Type 0
-IsSettledBy P patterns budget S = (forced : List Bool) × AreClasses forced (IsForced P.family patterns)
-    × AreSettled P forced budget S
+-- the list, if there is one, has no empty item
+abbrev pub IsRead : Option (List ℕ) → Type 0
+IsRead list = All IsNonEmpty (patterns_in list)
+
+-- ---- what becomes of classes by the options
+
+-- What these patterns demand at build time is met, where these classes are forced to run time.
+pub record AreDemandsMet (P : Tables) (patterns : List (List ℕ)) (forced : List Bool) (S : Settled) : Type 0 where
+  -- each pattern matches a class
+  pub known : All (IsKnown P.family) patterns
+  -- the classes that are demanded: none of them is forced, and each is accepted
+  pub demand : List Bool
+  pub are : AreClasses demand (IsDemanded P.family patterns)
+  pub apart : AreApart (IsDemanded P.family patterns) forced
+  pub met : AreMet P demand S
+
+-- This becomes of all classes by the patterns for run time and those for build time.
+pub record IsSettledBy (P : Tables) (run_time build_time : List (List ℕ)) (budget : ℕ) (S : Settled) : Type 0 where
+  -- each pattern for run time matches a class
+  pub known : All (IsKnown P.family) run_time
+  -- the classes that are forced to run time
+  pub forced : List Bool
+  pub are : AreClasses forced (IsForced P.family run_time)
+  pub settled : AreSettled P forced budget S
+  pub demands : AreDemandsMet P build_time forced S
+
+-- The same by the lists of the options.
+pub record IsSettledAs (P : Tables) (run_time build_time : Option (List ℕ)) (budget : ℕ) (S : Settled) : Type 0 where
+  pub run_list : IsRead run_time
+  pub build_list : IsRead build_time
+  pub patterns : IsSettledBy P (patterns_in run_time) (patterns_in build_time) budget S
 
 -- The image has the regions of the classes that are accepted then, and this became of all classes.
-pub record IsBuilt (patterns : List (List ℕ)) (budget : ℕ) (I : ImageTables) (outcomes : List Outcome) : Type 0 where
+pub record IsBuilt (run_time build_time : Option (List ℕ)) (budget : ℕ) (I : ImageTables) (outcomes : List Outcome)
+    : Type 0 where
   pub settled : Settled
-  pub by : IsSettledBy I.program patterns budget settled
+  pub by : IsSettledAs I.program run_time build_time budget settled
   pub regions : (c : ℕ) → environment_of I.regions c ≡ region_in settled c
   pub told : settled.outcomes ≡ outcomes
 

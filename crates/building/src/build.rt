@@ -1,6 +1,6 @@
 //! From a program to an image: the classes that may be are initialized.
 
-ghost use Rattle.std.specs.Prelude.{◌≡◌, ◌↔◌, ℕ, ◌<◌, ◌^◌, length, map, option_map, IfOk, IsSome};
+ghost use Rattle.std.specs.Prelude.{◌≡◌, ◌≢◌, ◌↔◌, ◌⊎◌, ℕ, ◌<◌, ◌^◌, length, map, IfErr, IfOk, IsSome, OnOk};
 ghost use Rattle.evaluator.specs.Regions.{environment_of};
 ghost use Rattle.initializer_analysis.specs.Verdicts.{AreVerdicts, IsAccepted};
 ghost use Rattle.region_shape.specs.Laws.{IsFromFile};
@@ -8,7 +8,12 @@ ghost use Rattle.region_shape.specs.Wholes.{AreWhole};
 ghost use Rattle.wave_scheduler.specs.Settled.{AreSettled};
 ghost use Rattle.wave_scheduler.specs.Outcomes.{outcome_of, settled_of};
 ghost use Rattle.object_graph.specs.Images.{AreSmall};
-ghost use Rattle.building.specs.Builds.{patterns_in, IsSettledBy, IsBuilt, ShowsTheSame};
+ghost use Rattle.options.specs.Demands.{AreMet, IsUnmet};
+ghost use Rattle.building.specs.Builds.{patterns_in, text_of, AreDemandsMet, IsBuilt, IsRead, IsSettledAs, IsSettledBy};
+ghost use Rattle.building.specs.Builds.{ShowsTheSame};
+ghost use Rattle.building.specs.Refusals.{DemandsFail, ForcingFails, IsLeftUnmet, IsListFault, IsOption, ListsFail};
+ghost use Rattle.building.specs.Refusals.{OptionsFail};
+ghost use Rattle.building.specs.declared.build.BuildFault.TheVariants.{Memory};
 
 use classfile::ClassFault;
 use initializer_analysis::forced::Forced;
@@ -39,7 +44,7 @@ pub struct Built {
     pub verdicts: Verdicts,
 }
 
-/// Why nothing was built.
+/// Why nothing was built. To be out of memory is `Memory`, and never inside another fault.
 #[derive(Drop)]
 pub enum BuildFault {
     Memory,
@@ -51,10 +56,16 @@ pub enum BuildFault {
     Option(OptionFault),
     /// The budget is 0, or over 1,000,000,000.
     Budget,
+    /// The waves can't be tried as it was asked.
+    Wave(WaveFault),
 }
 
 impl BuildFault {
-    fn of_option(fault: OptionFault) -> BuildFault {
+    /// The fault of the options. To be out of memory is no fault of theirs.
+    fn of_option(fault: OptionFault) -> BuildFault
+        ensures memory { fault ≡ OptionFault.Memory → result ≡ BuildFault.Memory }
+        ensures other { fault ≢ OptionFault.Memory → result ≡ BuildFault.Option fault }
+    {
         match fault {
             OptionFault::Memory => BuildFault::Memory,
             fault => BuildFault::Option(fault),
@@ -62,14 +73,41 @@ impl BuildFault {
     }
 }
 
+/// The patterns for run time, and those for build time.
+#[derive(Drop)]
+struct Lists {
+    run_time: Patterns,
+    build_time: Patterns,
+}
+
 /// The patterns of a list, or none.
 fn patterns_of(alloc: Global, list: Option<&str>) -> Result<Patterns, OptionFault>
-    ensures { IfOk result (λ patterns. patterns ≡ patterns_in (option_map (λ s. s.now) list.entry)) }
+    ensures patterns { IfOk result (λ patterns. patterns ≡ patterns_in (text_of list.entry)) }
+    ensures read { OnOk result (IsRead (text_of list.entry)) }
+    ensures fault { IfErr result
+        (λ fault. (fault ≡ OptionFault.Memory) ⊎ IsListFault (text_of list.entry) fault) }
 {
     match list {
         Some(list) => parse(alloc, list),
         None => Ok(Patterns::none()),
     }
+}
+
+/// The patterns of both lists.
+fn lists_of(alloc: Global, options: &BuildOptions<'_>) -> Result<Lists, OptionFault>
+    ensures run_time { IfOk result (λ lists. lists.run_time ≡ patterns_in (text_of options.now.run_time)) }
+    ensures build_time { IfOk result (λ lists. lists.build_time ≡ patterns_in (text_of options.now.build_time)) }
+    ensures run_list { OnOk result (IsRead (text_of options.now.run_time)) }
+    ensures build_list { OnOk result (IsRead (text_of options.now.build_time)) }
+    ensures fault { IfErr result (λ fault. (fault ≡ OptionFault.Memory)
+        ⊎ ListsFail (text_of options.now.run_time) (text_of options.now.build_time) fault) }
+{
+    let run_time = patterns_of(alloc, options.run_time)?;
+    let build_time = patterns_of(alloc, options.build_time)?;
+    Ok(Lists {
+        run_time,
+        build_time,
+    })
 }
 
 /// What becomes of all classes, if it is what is demanded.
@@ -81,6 +119,9 @@ fn checked(
 ) -> Result<Settled, BuildFault>
     requires { length settled.verdicts ≡ length program.now.classes }
     ensures same { IfOk result (λ last. last ≡ settled) }
+    ensures met { OnOk result (AreMet program.now demand.now (settled_of settled)) }
+    ensures fault { IfErr result
+        (λ fault. (fault ≡ Memory) ⊎ IsOption (IsUnmet program.now demand.now (settled_of settled)) fault) }
 {
     match check(alloc, program, &settled, demand) {
         Ok(()) => Ok(settled),
@@ -98,7 +139,10 @@ fn settle_judged(
     budget: u64,
 ) -> Result<Settled, BuildFault>
     requires { AreVerdicts program.now forced.now verdicts }
-    ensures { IfOk result (λ settled. AreSettled program.now forced.now budget (settled_of settled)) }
+    ensures settled { IfOk result (λ settled. AreSettled program.now forced.now budget (settled_of settled)) }
+    ensures met { IfOk result (λ settled. AreMet program.now demand.now (settled_of settled)) }
+    ensures fault { IfErr result (λ fault. (fault ≡ Memory)
+        ⊎ IsOption (IsLeftUnmet program.now demand.now forced.now budget) fault) }
 {
     match settle_all_here(alloc, program, verdicts, budget) {
         Ok(settled) => checked(alloc, program, settled, demand),
@@ -114,7 +158,10 @@ fn settle_demanded(
     demand: &Demand,
     budget: u64,
 ) -> Result<Settled, BuildFault>
-    ensures { IfOk result (λ settled. AreSettled program.now forced.now budget (settled_of settled)) }
+    ensures settled { IfOk result (λ settled. AreSettled program.now forced.now budget (settled_of settled)) }
+    ensures met { IfOk result (λ settled. AreMet program.now demand.now (settled_of settled)) }
+    ensures fault { IfErr result (λ fault. (fault ≡ Memory)
+        ⊎ IsOption (IsLeftUnmet program.now demand.now forced.now budget) fault) }
 {
     match judge(alloc, program, forced) {
         Ok(verdicts) => settle_judged(alloc, program, forced, verdicts, demand, budget),
@@ -130,7 +177,11 @@ fn settle_forced(
     build_time: &Patterns,
     budget: u64,
 ) -> Result<Settled, BuildFault>
-    ensures { IfOk result (λ settled. AreSettled program.now forced.now budget (settled_of settled)) }
+    ensures settled { IfOk result (λ settled. AreSettled program.now forced.now budget (settled_of settled)) }
+    ensures demands { IfOk result
+        (λ settled. AreDemandsMet program.now build_time.now forced.now (settled_of settled)) }
+    ensures fault { IfErr result (λ fault. (fault ≡ Memory)
+        ⊎ IsOption (DemandsFail program.now build_time.now forced.now budget) fault) }
 {
     match demand(alloc, program, build_time, forced) {
         Ok(demand) => settle_demanded(alloc, program, forced, &demand, budget),
@@ -138,34 +189,20 @@ fn settle_forced(
     }
 }
 
-/// The same, by two lists of patterns.
+/// The same, by the patterns of both lists.
 fn settle_by(
     alloc: Global,
     program: &Program,
-    run_time: &Patterns,
-    build_time: &Patterns,
+    lists: &Lists,
     budget: u64,
 ) -> Result<Settled, BuildFault>
-    ensures { IfOk result (λ settled. IsSettledBy program.now run_time.now budget (settled_of settled)) }
+    ensures settled { IfOk result (λ settled.
+        IsSettledBy program.now lists.now.run_time lists.now.build_time budget (settled_of settled)) }
+    ensures fault { IfErr result (λ fault. (fault ≡ Memory)
+        ⊎ IsOption (ForcingFails program.now lists.now.run_time lists.now.build_time budget) fault) }
 {
-    match force(alloc, program, run_time) {
-        Ok(forced) => settle_forced(alloc, program, &forced, build_time, budget),
-        Err(fault) => Err(BuildFault::of_option(fault)),
-    }
-}
-
-/// The same, by the patterns of the second list.
-fn settle_lists(
-    alloc: Global,
-    program: &Program,
-    run_time: &Patterns,
-    options: &BuildOptions<'_>,
-) -> Result<Settled, BuildFault>
-    ensures { IfOk result
-        (λ settled. IsSettledBy program.now run_time.now options.now.budget (settled_of settled)) }
-{
-    match patterns_of(alloc, options.build_time) {
-        Ok(build_time) => settle_by(alloc, program, run_time, &build_time, options.budget),
+    match force(alloc, program, &lists.run_time) {
+        Ok(forced) => settle_forced(alloc, program, &forced, &lists.build_time, budget),
         Err(fault) => Err(BuildFault::of_option(fault)),
     }
 }
@@ -176,11 +213,13 @@ fn settle_program(
     program: &Program,
     options: &BuildOptions<'_>,
 ) -> Result<Settled, BuildFault>
-    ensures { IfOk result (λ settled. IsSettledBy program.now
-        (patterns_in (option_map (λ s. s.now) options.now.run_time)) options.now.budget (settled_of settled)) }
+    ensures settled { IfOk result (λ settled. IsSettledAs program.now (text_of options.now.run_time)
+        (text_of options.now.build_time) options.now.budget (settled_of settled)) }
+    ensures fault { IfErr result (λ fault. (fault ≡ Memory) ⊎ IsOption (OptionsFail program.now
+        (text_of options.now.run_time) (text_of options.now.build_time) options.now.budget) fault) }
 {
-    match patterns_of(alloc, options.run_time) {
-        Ok(run_time) => settle_lists(alloc, program, &run_time, options),
+    match lists_of(alloc, options) {
+        Ok(lists) => settle_by(alloc, program, &lists, options.budget),
         Err(fault) => Err(BuildFault::of_option(fault)),
     }
 }
@@ -203,7 +242,9 @@ fn image_of(program: Program, settled: Settled) -> Built
 /// The image of a program, by the options: initializes each class that may be, within the budget.
 ///
 /// # Errors
-/// `Option` where a list of patterns is wrong, or `Memory`.
+/// `Option` of the first that is wrong: the text of the list for run time; that of the one for build time; a pattern
+/// for run time that matches no class; one for build time; a class that is demanded and forced; one that is demanded
+/// and not accepted in the end. Or `Memory`.
 pub fn build_program(
     alloc: Global,
     program: Program,
@@ -212,8 +253,11 @@ pub fn build_program(
     requires files { (class : ℕ) → IsFromFile program class }
     requires budget { options.now.budget < 2 ^ 32 }
     ensures program { IfOk result (λ built. built.image.program ≡ program) }
-    ensures built { IfOk result (λ built. IsBuilt (patterns_in (option_map (λ s. s.now) options.now.run_time))
+    ensures built { IfOk result (λ built. IsBuilt (text_of options.now.run_time) (text_of options.now.build_time)
         options.now.budget built.image (map outcome_of built.verdicts)) }
+    // Nothing is built but for want of memory, or for what is wrong with the options.
+    ensures fault { IfErr result (λ fault. (fault ≡ Memory) ⊎ IsOption (OptionsFail program
+        (text_of options.now.run_time) (text_of options.now.build_time) options.now.budget) fault) }
     ensures shows { IfOk result (λ built. ShowsTheSame built.image) }
     // The classes that have a wave are those that have a region.
     ensures count { IfOk result (λ built. length built.verdicts ≡ length built.image.program.classes) }

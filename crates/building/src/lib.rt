@@ -2,5 +2,6 @@
 #![tactic(auto)]
 
 mod build;
+pub mod laws;
 
 pub use build::{BuildFault, BuildOptions, Built, build_program};

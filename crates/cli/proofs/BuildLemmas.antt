@@ -1,6 +1,8 @@
--- The classes of a program of class files are from files; the classes of an image that have a wave have a region.
+-- The classes of a program of class files are from files; the classes of an image that have a wave have a region; what
+-- refuses a program or its options refuses a build.
 use Rattle.std.proofs.Common.{◌≡◌, ◌↔◌, ℕ, ◌<◌, List, map, Option, Some, None, option_map, slice_get}
 use Rattle.std.proofs.Common.{refl, sym, ap, subst, ◌∙◌, MatchOption, IsSomeAnd, length, IsSome, Result, Ok, Err, IfOk}
+use Rattle.std.proofs.Common.{IfErr, OnOk, ◌≢◌, ◌⊎◌, inl, inr, Bool, true, false, IsTrue}
 use Rattle.std.specs.List.{Contains}
 use Rattle.std.proofs.lemmas.Option.{slice_get-map, slice_get-get_or, slice_get_within, get_or_from_slice_get}
 use Rattle.std.proofs.lemmas.Slice.Zip.{AllZip-right}
@@ -15,7 +17,15 @@ use Rattle.initializer_analysis.specs.Verdicts.{IsAccepted}
 use Rattle.building.specs.declared.build.Built.{Built}
 use Rattle.building.specs.declared.build.BuildFault.{BuildFault}
 use Rattle.report.specs.Waves.{GiveWaves}
-use Rattle.cli.specs.Runs.{IsProgramOf}
+use Rattle.options.specs.declared.fault.OptionFault.{OptionFault}
+use Rattle.building.specs.declared.build.BuildFault.TheVariants as faults
+use Rattle.building.specs.Refusals.{IsOption, option, OptionsFail}
+use Rattle.cli.specs.declared.fault.Refusal.{Refusal}
+use Rattle.cli.specs.declared.fault.Refusal.TheVariants as refusals
+use Rattle.cli.specs.Builds.{BuildFails, IsBudget, class, link, options}
+use Rattle.cli.specs.Runs.{IsProgramOf, NotLinked}
+use Rattle.cli.specs.Runs as runs
+use Rattle.cli.specs.steps.Builds.{fault_of}
 
 pub is_from_file : (texts : List (List ℕ)) (P : Tables) → IsProgramOf texts P → (c : ℕ) → IsFromFile P c
 is_from_file texts P of c f at = by (slice_get P.family c) refl
@@ -24,8 +34,9 @@ is_from_file texts P of c f at = by (slice_get P.family c) refl
     in_files (k, low, is) =
         let here : slice_get of.files k ≡ Some f = slice_get-get_or of.files k f low ∙ ap Some is in
         let pair = AllZip-right IsClassText texts of.files of.are k in
-        let text = subst (λ (o : Option ClassFile). MatchOption o (Unit {0}) (λ y. IsSomeAnd (slice_get texts k) (λ x. IsClassText x y)))
-        here pair in
+        let text =
+        subst (λ (o : Option ClassFile).
+        MatchOption o (Unit {0}) (λ y. IsSomeAnd (slice_get texts k) (λ x. IsClassText x y))) here pair in
         by_text (slice_get texts k) text
       where
         by_text : (o : Option (List ℕ)) → IsSomeAnd o (λ x. IsClassText x f) → IsClassFile f
@@ -52,3 +63,55 @@ pub give_waves : (r : Result Built BuildFault)
     → IfOk r (λ built. GiveWaves built.image built.verdicts)
 give_waves (Ok built) count each = record { count = count; each = each }
 give_waves (Err fault) count each = tt
+
+-- ---- refusals
+
+module _ (texts : List (List ℕ)) (run build : Option (List ℕ)) (budget : ℕ) (range : IsBudget budget) where
+  unlinked_build : {r : Refusal} → NotLinked texts r → BuildFails texts run build budget (fault_of r)
+  unlinked_build (runs.class bad) = class range bad
+  unlinked_build (runs.link are fails) = link range are fails
+
+  pub not_linked_build : (r : Refusal) (fault : BuildFault) → (r ≡ refusals.Memory) ⊎ NotLinked texts r
+      → fault ≡ fault_of r → (fault ≡ faults.Memory) ⊎ BuildFails texts run build budget fault
+  not_linked_build r fault (inl memory) is = inl (is ∙ ap fault_of memory)
+  not_linked_build r fault (inr wrong) is =
+      inr (subst (λ (f : BuildFault). BuildFails texts run build budget f) (sym is) (unlinked_build wrong))
+
+  option_build : {P : Tables} {fault : BuildFault} → IsProgramOf texts P
+      → IsOption (OptionsFail P run build budget) fault → BuildFails texts run build budget fault
+  option_build of (option fails) = options range of fails
+
+  pub not_built : (P : Tables) (fault : BuildFault) → IsProgramOf texts P
+      → (fault ≡ faults.Memory) ⊎ IsOption (OptionsFail P run build budget) fault
+      → (fault ≡ faults.Memory) ⊎ BuildFails texts run build budget fault
+  not_built P fault of (inl memory) = inl memory
+  not_built P fault of (inr wrong) = inr (option_build of wrong)
+
+-- ---- the budget
+
+pub wrong_budget : (budget : ℕ) (test : Bool) → (IsTrue test ↔ IsBudget budget) → test ≡ false → ¬ IsBudget budget
+wrong_budget budget test says failed = λ good. (let clash : true ≡ false = sym (says.1 good) ∙ failed in cc)
+
+pub within_range : (r : Result Built BuildFault) (budget : ℕ) → IsBudget budget → OnOk r (IsBudget budget)
+within_range (Ok built) budget good = good
+within_range (Err fault) budget good = tt
+
+no_budget_fault : (F : OptionFault → Type 0) (fault : BuildFault) → IsOption F fault → fault ≢ faults.Budget
+no_budget_fault F fault (option fails) e = cc
+
+pub no_option_is_budget : (F : OptionFault → Type 0) (r : Result Built BuildFault)
+    → IfErr r (λ fault. (fault ≡ faults.Memory) ⊎ IsOption F fault) → r ≢ Err faults.Budget
+no_option_is_budget F (Ok built) wrong e = cc
+no_option_is_budget F (Err fault) (inl memory) e = cc
+no_option_is_budget F (Err fault) (inr wrong) e = no_budget_fault F fault wrong (cc)
+
+no_refusal_is_budget : (refusal : Refusal) → fault_of refusal ≢ faults.Budget
+no_refusal_is_budget (refusals.Class place fault) e = cc
+no_refusal_is_budget (refusals.Link fault) e = cc
+no_refusal_is_budget refusal e = cc
+
+pub refused_for_no_budget : (refusal : Refusal) (fault : BuildFault) (r : Result Built BuildFault)
+    → fault ≡ fault_of refusal → r ≡ Err fault → r ≢ Err faults.Budget
+refused_for_no_budget refusal fault r is was told =
+    let same : fault ≡ faults.Budget = cc in
+    no_refusal_is_budget refusal (sym is ∙ same)

@@ -1,2 +1,6 @@
 pub mod RefusalLemmas
 pub mod BuildLemmas
+pub mod OneRefusalLemmas
+pub mod PermutationLemmas
+pub mod AnyOrderLemmas
+pub mod OneBuildLemmas

@@ -1,7 +1,7 @@
 -- What the layers below refuse, as refusals.
 use Rattle.std.proofs.Common.{◌≡◌, ◌≢◌, ℕ, ◌+◌, ◌<◌, ◌⊎◌, inl, inr, List, [], ◌∷◌, ◌++◌, length, map, take, Some}
 use Rattle.std.proofs.Common.{get_or}
-use Rattle.std.proofs.Common.{slice_get, sym, ap, subst, refl, ◌∙◌, Vec, append-nil}
+use Rattle.std.proofs.Common.{slice_get, sym, ap, subst, refl, ◌∙◌, Vec, append-nil, Result, Ok, Err, IfOk, OnOk}
 use Rattle.std.specs.List.{AllZip, flat_map}
 use Rattle.std.proofs.lemmas.Grind.{flat_map-append}
 use Rattle.std.proofs.lemmas.List.{map_more, take-map, take_more}
@@ -13,7 +13,7 @@ use Rattle.classfile.specs.declared.fault.ClassFault.{ClassFault}
 use Rattle.classfile.specs.declared.fault.ClassFault.TheVariants as faults
 use Rattle.loading.proofs.ZipLemmas.{pairs_push}
 use Rattle.loading.specs.Families.{IsFamilyOf}
-use Rattle.loading.specs.Files.{LinkFails}
+use Rattle.loading.specs.Files.{LinkFails, Links}
 use Rattle.loading.specs.declared.fault.LinkFault.{LinkFault}
 use Rattle.loading.specs.declared.fault.LinkFault.TheVariants as link_faults
 use Rattle.program.specs.Programs.{IsProgram}
@@ -107,10 +107,12 @@ pub not_linked_files : (texts : List (List ℕ)) (files : List ClassFile) (r : R
 not_linked_files texts files r are (inl memory) = inl memory
 not_linked_files texts files r are (inr wrong) = inr (not_link are wrong)
 
-pub is_program : (texts : List (List ℕ)) (files : List ClassFile) (P : Tables) → AreClassFiles texts files
-    → IsFamilyOf files P.family × IsProgram P → IsProgramOf texts P
-is_program texts files P are (family, program) =
-    record { files = files; are = are; family = family; program = program }
+pub is_program : (texts : List (List ℕ)) (files : List ClassFile) (r : Result Tables Refusal)
+    → AreClassFiles texts files → OnOk r (Links files)
+    → IfOk r (λ P. IsFamilyOf files P.family × IsProgram P) → IfOk r (λ P. IsProgramOf texts P)
+is_program texts files (Ok P) are links (family, program) =
+    record { files = files; are = are; links = links; family = family; program = program }
+is_program texts files (Err refusal) are links program = tt
 
 pub refused_texts : (texts names : List (List ℕ)) (r : Refusal) → (r ≡ Memory) ⊎ NotLinked texts r
     → (r ≡ Memory) ⊎ IsRefused texts names r

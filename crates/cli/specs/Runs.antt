@@ -6,7 +6,7 @@ use Rattle.classfile.specs.Class.{IsClassText}
 use Rattle.classfile.specs.FirstFault.{FirstFault}
 use Rattle.classfile.specs.declared.fault.ClassFault.{ClassFault}
 use Rattle.loading.specs.Families.{IsFamilyOf}
-use Rattle.loading.specs.Files.{LinkFails}
+use Rattle.loading.specs.Files.{LinkFails, Links}
 use Rattle.loading.specs.declared.fault.LinkFault.{LinkFault}
 use Rattle.semantics.specs.Worlds.{World, Run, seen}
 use Rattle.program.specs.Tables.{Tables}
@@ -30,10 +30,11 @@ texts_of {A} files = map (λ (f : Vec ℕ A). f.items) files
 abbrev pub AreClassFiles : List (List ℕ) → List ClassFile → Type 0
 AreClassFiles texts files = AllZip IsClassText texts files
 
--- a linked program of the class files that these texts are
+-- a linked program of the class files that these texts are, of which nothing is wrong
 pub record IsProgramOf (texts : List (List ℕ)) (P : Tables) : Type 0 where
   pub files : List ClassFile
   pub are : AreClassFiles texts files
+  pub links : Links files
   pub family : IsFamilyOf files P.family
   pub program : IsProgram P
 

@@ -1,18 +1,30 @@
 //! From class files' bytes to an image.
 
-ghost use Rattle.std.specs.Prelude.{map, option_map, IfOk};
-ghost use Rattle.building.specs.Builds.{patterns_in, IsBuilt, ShowsTheSame};
+ghost use Rattle.std.specs.Prelude.{◌≡◌, ◌↔◌, ◌⊎◌, map, Err, IfErr, IfOk, IsTrue, OnOk};
+ghost use Rattle.building.specs.Builds.{text_of, IsBuilt, ShowsTheSame};
+ghost use Rattle.building.specs.declared.build.BuildFault.TheVariants.{Memory, Budget};
 ghost use Rattle.report.specs.Waves.{GiveWaves};
 ghost use Rattle.wave_scheduler.specs.Outcomes.{outcome_of};
+ghost use Rattle.cli.specs.Builds.{BuildFails, IsBudget};
 ghost use Rattle.cli.specs.Runs.{IsProgramOf, texts_of};
+ghost use Rattle.cli.specs.steps.Builds.{fault_of};
 
 use crate::Refusal;
 use crate::class_files::linked_program;
 use building::{BuildFault, BuildOptions, Built, build_program};
 use std::alloc::Global;
 
+/// Whether an initializer may be given so much.
+fn is_budget(budget: u64) -> bool
+    ensures { IsTrue result ↔ IsBudget budget }
+{
+    0 < budget && budget <= 1_000_000_000
+}
+
 /// Why there is no program to build.
-fn fault_of(refusal: Refusal) -> BuildFault {
+fn fault_of(refusal: Refusal) -> BuildFault
+    ensures { result ≡ fault_of refusal }
+{
     match refusal {
         Refusal::Class(place, fault) => BuildFault::Class(place, fault),
         Refusal::Link(fault) => BuildFault::Link(fault),
@@ -23,7 +35,8 @@ fn fault_of(refusal: Refusal) -> BuildFault {
 /// Builds an image on this thread, from class files' bytes: initializes each class that may be, within the budget.
 ///
 /// # Errors
-/// The first that holds of `Budget`, `Class` (a text is no class file), `Link` and `Option`; or `Memory`.
+/// The first that holds of `Budget`, `Class` (a text is no class file), `Link` and `Option`; or `Memory`, but never
+/// where the budget is wrong. `Wave` is for a build by threads.
 pub fn build_here(
     alloc: Global,
     files: &[Vec<u8>],
@@ -32,14 +45,21 @@ pub fn build_here(
     // The texts are class files that link to the image's program.
     ensures program { IfOk result (λ built. IsProgramOf (texts_of files.now) built.image.program) }
     // Its regions are those of the classes that are accepted, where those are forced that the options say.
-    ensures built { IfOk result (λ built. IsBuilt (patterns_in (option_map (λ s. s.now) options.now.run_time))
+    // Those that are demanded are among the accepted ones.
+    ensures built { IfOk result (λ built. IsBuilt (text_of options.now.run_time) (text_of options.now.build_time)
         options.now.budget built.image (map outcome_of built.verdicts)) }
+    ensures range { OnOk result (IsBudget options.now.budget) }
     // Runs from the image and the lazy procedure show the same.
     ensures shows { IfOk result (λ built. ShowsTheSame built.image) }
     // The classes that have a wave are those that have a region.
     ensures waves { IfOk result (λ built. GiveWaves built.image built.verdicts) }
+    // Nothing is built but for want of memory, or for the first that is wrong.
+    ensures fault { IfErr result (λ fault. (fault ≡ Memory) ⊎ BuildFails (texts_of files.now)
+        (text_of options.now.run_time) (text_of options.now.build_time) options.now.budget fault) }
+    // The budget is refused just where it is wrong, and nothing else is told then: it takes no memory to see.
+    ensures budget { (result ≡ Err Budget) ↔ (¬ IsBudget options.now.budget) }
 {
-    if options.budget == 0 || options.budget > 1_000_000_000 {
+    if !is_budget(options.budget) {
         return Err(BuildFault::Budget);
     }
     match linked_program(alloc, files) {

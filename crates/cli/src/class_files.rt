@@ -2,6 +2,7 @@
 ghost use Rattle.std.specs.Prelude.{◌≡◌, ◌⊎◌, ◌++◌, ◌∷◌, [], IfErr, IfOk, OnOk};
 ghost use Rattle.classfile.specs.Class.{IsClassText};
 ghost use Rattle.loading.specs.Families.{IsFamilyOf};
+ghost use Rattle.loading.specs.Files.{Links};
 ghost use Rattle.program.specs.Programs.{IsProgram};
 ghost use Rattle.cli.specs.Runs.{AreClassFiles, IsProgramOf, NotLinked, texts_of};
 ghost use Rattle.cli.specs.steps.Refusals.{IsBadAt, IsNoClassFile, IsUnlinkable};
@@ -29,6 +30,7 @@ pub fn linked_program(alloc: Global, files: &[Vec<u8>]) -> Result<Program, Refus
 
 /// The program of some class files.
 fn linked(alloc: Global, classes: Vec<ClassFile>) -> Result<Program, Refusal>
+    ensures links { OnOk result (Links classes.items) }
     ensures program { IfOk result (λ program. IsFamilyOf classes.items program.family × IsProgram program) }
     ensures refusal { IfErr result (λ refusal. (refusal ≡ Memory) ⊎ IsUnlinkable classes.items refusal) }
 {

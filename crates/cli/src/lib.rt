@@ -6,10 +6,12 @@
 //! gives or takes is outside every contract: the tests show it.
 #![tactic(auto)]
 
+pub mod any_order;
 mod build;
 mod class_files;
 mod fault;
 mod files;
+pub mod laws;
 mod lazy;
 mod outcome;
 mod reporting;

@@ -1,7 +1,12 @@
 use Rattle.std.proofs.lemmas.Result.{IfErr-weaker}
 use Rattle.cli.specs.Runs.{texts_of}
-use Rattle.cli.proofs.RefusalLemmas.{not_linked_class, not_linked_files}
+use Rattle.cli.proofs.RefusalLemmas.{is_program, not_linked_class, not_linked_files}
 use Rattle.cli.proofs.class_files.linked_program.Goals as goal
+
+pub returns-in-Ok-clause-program : goal.returns-in-Ok-clause-program
+returns-in-Ok-clause-program c =
+    is_program (texts_of c.args.files.now) c.in-Ok.classes.items c.linked.result c.in-Ok.ensures.files
+    c.linked.ensures.links c.linked.ensures.program
 
 pub returns-in-Ok-clause-refusal : goal.returns-in-Ok-clause-refusal
 returns-in-Ok-clause-refusal c =

@@ -1,0 +1,8 @@
+use Rattle.one_program.proofs.ProgramsLemmas.{one_program, one_program_of_files}
+use Rattle.one_program.proofs.laws.one_program.Goals as goal
+
+pub returns-clause-family : goal.returns-clause-family
+returns-clause-family c = one_program
+
+pub returns-clause-files : goal.returns-clause-files
+returns-clause-files c = one_program_of_files
