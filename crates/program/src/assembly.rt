@@ -1,6 +1,6 @@
 //! Puts a program together from class files (JVMS 5.4).
 
-ghost use Rattle.std.specs.Prelude.{◌≡◌, ◌⊎◌, [], ◌∷◌, ◌++◌, map, Some, Err, IfOk, IfErr, OnOk, IsOk};
+ghost use Rattle.std.specs.Prelude.{◌≡◌, ◌⊎◌, [], ◌∷◌, ◌++◌, length, map, Some, Err, IfOk, IfErr, OnOk, IsOk};
 ghost use Rattle.std.specs.List.{AllZip};
 ghost use Rattle.loading.specs.declared.fault.LinkFault.{LinkFault as Fault};
 ghost use Rattle.loading.specs.declared.fault.LinkFault.TheVariants.{Memory};
