@@ -71,6 +71,17 @@ impl BuildFault {
             fault => BuildFault::Option(fault),
         }
     }
+
+    /// The fault of the waves. To be out of memory is no fault of theirs.
+    fn of_wave(fault: WaveFault) -> BuildFault
+        ensures memory { fault ≡ WaveFault.Memory → result ≡ BuildFault.Memory }
+        ensures other { fault ≢ WaveFault.Memory → result ≡ BuildFault.Wave fault }
+    {
+        match fault {
+            WaveFault::Memory => BuildFault::Memory,
+            fault => BuildFault::Wave(fault),
+        }
+    }
 }
 
 /// The patterns for run time, and those for build time.
@@ -146,7 +157,7 @@ fn settle_judged(
 {
     match settle_all_here(alloc, program, verdicts, budget) {
         Ok(settled) => checked(alloc, program, settled, demand),
-        Err(WaveFault::Memory) => Err(BuildFault::Memory),
+        Err(fault) => Err(BuildFault::of_wave(fault)),
     }
 }
 

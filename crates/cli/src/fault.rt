@@ -9,6 +9,7 @@ use init_engine::EntryFault;
 use program::LinkFault;
 use std::alloc::{AllocError, Global};
 use thiserror::Error;
+use wave_scheduler::outcome::WaveFault;
 
 /// Why a command was refused. Its text follows `preinit: ` on standard error.
 #[derive(Debug, Drop, Error)]
@@ -31,6 +32,9 @@ pub enum Refusal {
     /// The budget is 0, or over 1,000,000,000.
     #[error("Budget")]
     Budget,
+    /// The waves can't be tried as it was asked.
+    #[error("Wave {0}")]
+    Wave(WaveFault),
     /// The file of this name, as given, was not read or written.
     #[error("File {0}")]
     File(String),

@@ -15,7 +15,6 @@ use initializer_analysis::verdict::Reason;
 use options::OptionFault;
 use report::{reason_text, render};
 use std::alloc::{AllocError, Global};
-use wave_scheduler::outcome::WaveFault;
 
 /// Reads the class files, builds an image, and makes its report, as the words say.
 ///
@@ -79,11 +78,12 @@ fn report_bytes(alloc: Global, built: &Built) -> Result<Vec<u8>, AllocError>
 /// The refusal of a build of the class files of these texts.
 fn refusal_of(alloc: Global, files: &[Vec<u8>], fault: BuildFault) -> Refusal {
     match fault {
-        BuildFault::Memory | BuildFault::Wave(WaveFault::Memory) => Refusal::Memory,
+        BuildFault::Memory => Refusal::Memory,
         BuildFault::Class(place, fault) => Refusal::Class(place, fault),
         BuildFault::Link(fault) => Refusal::Link(fault),
         BuildFault::Option(fault) => option_refusal(alloc, files, &fault),
         BuildFault::Budget => Refusal::Budget,
+        BuildFault::Wave(fault) => Refusal::Wave(fault),
     }
 }
 

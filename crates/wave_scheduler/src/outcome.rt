@@ -3,6 +3,7 @@
 use evaluator::regions::Regions;
 use initializer_analysis::verdict::Verdicts;
 use std::alloc::AllocError;
+use thiserror::Error;
 
 /// The last verdicts on all given classes, after their initializers were run, and the regions of those that are
 /// accepted.
@@ -13,9 +14,13 @@ pub struct Settled {
 }
 
 /// Why classes were not settled.
-#[derive(Debug, Drop)]
+#[derive(Debug, Drop, Error)]
 pub enum WaveFault {
+    #[error("Memory")]
     Memory,
+    /// No worker was asked for, or more than 64.
+    #[error("Workers")]
+    Workers,
 }
 
 impl From<AllocError> for WaveFault {

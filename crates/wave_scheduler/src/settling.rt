@@ -1,12 +1,13 @@
 //! What becomes of all classes, in the end.
 
-ghost use Rattle.std.specs.Prelude.{◌≡◌, Bool, List, IfOk, OnOk};
+ghost use Rattle.std.specs.Prelude.{◌≡◌, Bool, List, IfErr, IfOk, OnOk};
 ghost use Rattle.graph.specs.Components.{AreComponents};
 ghost use Rattle.use_graph.specs.steps.Bodies.{IsUseGraph};
 ghost use Rattle.initializer_analysis.specs.Verdicts.{AreVerdicts};
 ghost use Rattle.wave_scheduler.specs.steps.Judged.{FollowVerdicts};
 ghost use Rattle.wave_scheduler.specs.Settled.{AreSettled};
 ghost use Rattle.wave_scheduler.specs.Outcomes.{settled_of, AreJudged};
+ghost use Rattle.wave_scheduler.specs.declared.outcome.WaveFault.TheVariants.{Memory};
 ghost use Rattle.wave_scheduler.specs.steps.Waves.{StartsFrom};
 
 use crate::outcome::{Settled, WaveFault};
@@ -106,7 +107,7 @@ fn settle_judged(
 /// class that has a wave and uses no refused class, within a budget for each.
 ///
 /// # Errors
-/// `Memory` where memory is refused.
+/// `Memory` where memory is refused. There are no workers here, so never `Workers`.
 pub fn settle_all_here(
     alloc: Global,
     program: &Program,
@@ -116,6 +117,7 @@ pub fn settle_all_here(
     requires { AreJudged program.now verdicts }
     ensures settled { IfOk result (λ settled. (forced : List Bool) → AreVerdicts program.now forced verdicts
         → AreSettled program.now forced budget (settled_of settled)) }
+    ensures fault { IfErr result (λ fault. fault ≡ Memory) }
 {
     match settle_judged(alloc, program, verdicts.as_slice(), budget) {
         Ok(settled) => Ok(settled),

@@ -1,4 +1,4 @@
-use Rattle.std.proofs.Common.{sym, subst}
+use Rattle.std.proofs.Common.{inl, sym, subst}
 use Rattle.std.proofs.lemmas.Result.{IfErr-weaker, IfOk-weaker}
 use Rattle.options.specs.Demands.{AreMet, IsUnmet}
 use Rattle.wave_scheduler.specs.Settled.{AreSettled}
@@ -35,3 +35,6 @@ returns-in-Ok-clause-fault c =
     })
     wrong)
     c.checked.ensures.fault
+
+pub returns-in-Err-clause-fault : goal.returns-in-Err-clause-fault
+returns-in-Err-clause-fault c = inl (c.of_wave.ensures.memory c.in-Err.ensures.fault)
