@@ -1,5 +1,5 @@
 -- What an image is of.
-use Rattle.std.proofs.Common.{◌≡◌, ◌↔◌, ℕ, ◌<◌, ◌^◌, List, length, map, Option, Some, option_map, IsSome, is_some}
+use Rattle.std.proofs.Common.{◌≡◌, ◌↔◌, ℕ, ◌<◌, ◌≤◌, ◌^◌, List, length, map, Option, Some, option_map, IsSome, is_some}
 use Rattle.std.proofs.Common.{slice_get, sym, ap, subst, ◌∙◌, arith}
 use Rattle.std.proofs.Math.Path.{fun_ext}
 use Rattle.std.proofs.lemmas.List.{length-map}
@@ -7,12 +7,16 @@ use Rattle.std.proofs.lemmas.Option.{slice_get-map, slice_get_within}
 use Rattle.vm_state.specs.SharedState.{Region}
 use Rattle.semantics.proofs.BranchesLemmas.{value_in}
 use Rattle.semantics.proofs.TestsLemmas.{from_some}
+use Rattle.semantics.specs.Settling.{Settles}
 use Rattle.program.specs.Tables.{Tables}
+use Rattle.machine.specs.Linked.{program_of}
 use Rattle.evaluator.specs.declared.regions.Region.{Region as Held}
 use Rattle.evaluator.specs.Regions.{environment_of}
-use Rattle.region_shape.specs.Laws.{IsLinked, IsFromFile}
+use Rattle.region_shape.specs.Laws.{IsLinked, IsFromFile, HaveShape}
+use Rattle.region_shape.specs.Sizes.{IsWithin}
 use Rattle.region_shape.specs.Wholes.{AreWhole}
-use Rattle.wave_scheduler.specs.Settled.{Outcome, Wave, Settled, HasWave, region_in}
+use Rattle.region_shape.proofs.LawsLemmas.{settled_are_within_lem}
+use Rattle.wave_scheduler.specs.Settled.{Outcome, Wave, Settled, HasWave, region_in, below}
 use Rattle.wave_scheduler.specs.Laws.{HasRegions}
 use Rattle.wave_scheduler.specs.Outcomes.{outcome_of, settled_of}
 use Rattle.initializer_analysis.specs.declared.verdict.Verdict.{Verdict}
@@ -22,7 +26,8 @@ use Rattle.wave_scheduler.specs.declared.outcome.Settled.{Settled as Answer}
 use Rattle.wave_scheduler.proofs.FindingLemmas.{region_seen, no_wave}
 use Rattle.wave_scheduler.proofs.ReachesLemmas.{one_of}
 use Rattle.wave_scheduler.proofs.HeadlineLemmas.{settled_show_the_same_lem}
-use Rattle.wave_scheduler.proofs.WholesLemmas.{settled_are_whole_lem, settled_are_small_lem}
+use Rattle.wave_scheduler.proofs.SettledLemmas.{from_below}
+use Rattle.wave_scheduler.proofs.WholesLemmas.{settled_are_whole_lem}
 use Rattle.object_graph.specs.Images.{ImageTables, AreSmall, start_image, region_or}
 use Rattle.building.specs.Builds.{IsSettledBy, IsBuilt, ShowsTheSame}
 
@@ -31,7 +36,8 @@ use Rattle.building.specs.Builds.{IsSettledBy, IsBuilt, ShowsTheSame}
 pub seen_regions : (s : Answer) → environment_of s.regions ≡ region_in (settled_of s)
 seen_regions s = fun_ext (λ c. region_seen s.regions c)
 
-has_regions : (S : Settled) (I : ImageTables) → ((c : ℕ) → environment_of I.regions c ≡ region_in S c) → HasRegions S (start_image I)
+has_regions : (S : Settled) (I : ImageTables) → ((c : ℕ) → environment_of I.regions c ≡ region_in S c)
+    → HasRegions S (start_image I)
 has_regions S I same = record {
   holds = λ c. ap is_some (same c);
   region = λ c r has. ap (region_or _) (same c ∙ has);
@@ -44,12 +50,40 @@ module _ (P : Tables) (patterns : List (List ℕ)) (budget : ℕ) (linked : IsLi
       subst (AreWhole P) (sym (seen_regions s))
       (settled_are_whole_lem P forced budget (settled_of s) linked from settled)
 
-  pub small_by : (s : Answer) → budget < 2 ^ 32 → ((c : ℕ) → IsFromFile P c)
-      → IsSettledBy P patterns budget (settled_of s) → AreSmall (environment_of s.regions)
-  small_by s less from (forced, are, settled) c r here =
-      let has : region_in (settled_of s) c ≡ Some r = sym (region_seen s.regions c) ∙ here in
-      let few = settled_are_small_lem P forced budget (settled_of s) linked from settled c r has in
-      omega arith
+  -- a region is no larger than the budget
+  within_by : (s : Answer) → ((c : ℕ) → IsFromFile P c) → IsSettledBy P patterns budget (settled_of s) → (c : ℕ)
+      (r : Region) → region_in (settled_of s) c ≡ Some r → (cost : ℕ) × IsWithin cost r × (cost ≤ budget)
+  within_by s from (forced, are, settled) c r has =
+      let (n, at) = settled.only c r has in
+      let (none, wave, own, held, (cost, settles, within)) = settled.each c (Wave n) at in
+      let same : own ≡ r = from_some (sym held ∙ has) in
+      let whole = settled_are_whole_lem P forced budget (settled_of s) linked from settled in
+      let shaped : HaveShape P (below (settled_of s) n) =
+      λ d q is. let (m, wave_there, less, there) = from_below (settled_of s) n d q is in whole.shape d q there in (
+        cost,
+        settled_are_within_lem P linked (below (settled_of s) n) shaped c cost r (from c)
+            (subst (λ x. Settles (program_of P) (below (settled_of s) n) c cost x) same settles),
+        within,
+      )
+
+  pub small_by : (s : Answer) → budget < 2 ^ 31 → ((c : ℕ) → IsFromFile P c)
+      → IsSettledBy P patterns budget (settled_of s) → AreSmall P (environment_of s.regions)
+  small_by s less from by = record {
+    classes = λ c r here.
+        let (forced, are, settled) = by in
+        let (n, at) = settled.only c r (seen c r here) in
+        let low = slice_get_within (settled_of s).outcomes c (Wave n) at in
+        omega (arith, low, settled.count);
+    objects = λ c r here.
+        let (cost, sizes, within) = within_by s from by c r (seen c r here) in
+        omega (arith, sizes.count, within, less);
+    elements = λ c n r object here at.
+        let (cost, sizes, within) = within_by s from by c r (seen c r here) in
+        omega (arith, sizes.arrays n object at, within, less);
+  }
+    where
+      seen : (c : ℕ) (r : Region) → environment_of s.regions c ≡ Some r → region_in (settled_of s) c ≡ Some r
+      seen c r here = sym (region_seen s.regions c) ∙ here
 
   pub shows_by : (S : Settled) (I : ImageTables) → I.program ≡ P → IsSettledBy P patterns budget S
       → ((c : ℕ) → environment_of I.regions c ≡ region_in S c) → ShowsTheSame I
