@@ -11,6 +11,7 @@ use Rattle.program.specs.Tables.{Tables}
 use Rattle.evaluator.specs.declared.regions.Region.{Region as Held}
 use Rattle.evaluator.specs.Regions.{environment_of}
 use Rattle.region_shape.specs.Laws.{IsLinked, IsFromFile}
+use Rattle.region_shape.specs.Sizes.{IsWithin}
 use Rattle.region_shape.specs.Wholes.{AreWhole}
 use Rattle.wave_scheduler.specs.Settled.{Outcome, Wave, Settled, HasWave, region_in}
 use Rattle.wave_scheduler.specs.Laws.{HasRegions}
@@ -45,14 +46,24 @@ module _ (P : Tables) (run build : Option (List ℕ)) (budget : ℕ) (linked : I
       subst (AreWhole P) (sym (seen_regions s))
       (settled_are_whole_lem P by.patterns.forced budget (settled_of s) linked from by.patterns.settled)
 
-  pub small_by : (s : Answer) → budget < 2 ^ 32 → ((c : ℕ) → IsFromFile P c)
-      → IsSettledAs P run build budget (settled_of s) → AreSmall (environment_of s.regions)
-  small_by s less from by c r here =
-      let has : region_in (settled_of s) c ≡ Some r = sym (region_seen s.regions c) ∙ here in
-      let small =
-      settled_are_small_lem P by.patterns.forced budget (settled_of s) linked from by.patterns.settled c r has in
-      let few = small.count in
-      omega arith
+  pub small_by : (s : Answer) → budget < 2 ^ 31 → ((c : ℕ) → IsFromFile P c)
+      → IsSettledAs P run build budget (settled_of s) → AreSmall P (environment_of s.regions)
+  small_by s less from by = record {
+    classes = λ c r here.
+        let (n, at) = by.patterns.settled.only c r (seen c r here) in
+        let low = slice_get_within (settled_of s).outcomes c (Wave n) at in
+        omega (arith, low, by.patterns.settled.count);
+    objects = λ c r here. let few = (sizes c r here).count in omega arith;
+    elements = λ c n r object here at. let few = (sizes c r here).arrays n object at in omega arith;
+  }
+    where
+      seen : (c : ℕ) (r : Region) → environment_of s.regions c ≡ Some r → region_in (settled_of s) c ≡ Some r
+      seen c r here = sym (region_seen s.regions c) ∙ here
+
+      sizes : (c : ℕ) (r : Region) → environment_of s.regions c ≡ Some r → IsWithin budget r
+      sizes c r here =
+          settled_are_small_lem P by.patterns.forced budget (settled_of s) linked from by.patterns.settled c r
+          (seen c r here)
 
   pub shows_by : (S : Settled) (I : ImageTables) → I.program ≡ P → IsSettledAs P run build budget S
       → ((c : ℕ) → environment_of I.regions c ≡ region_in S c) → ShowsTheSame I

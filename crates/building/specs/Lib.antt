@@ -1,3 +1,4 @@
 pub mod Builds
 pub mod Refusals
 pub mod Laws
+pub mod steps

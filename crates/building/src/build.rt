@@ -1,6 +1,6 @@
 //! From a program to an image: the classes that may be are initialized.
 
-ghost use Rattle.std.specs.Prelude.{◌≡◌, ◌≢◌, ◌↔◌, ◌⊎◌, ℕ, ◌<◌, ◌^◌, length, map, IfErr, IfOk, IsSome, OnOk};
+ghost use Rattle.std.specs.Prelude.{◌≡◌, ◌≢◌, ◌↔◌, ◌⊎◌, ℕ, ◌<◌, ◌^◌, length, map, Ok, IfErr, IfOk, IsSome, OnOk};
 ghost use Rattle.evaluator.specs.Regions.{environment_of};
 ghost use Rattle.initializer_analysis.specs.Verdicts.{AreVerdicts, IsAccepted};
 ghost use Rattle.region_shape.specs.Laws.{IsFromFile};
@@ -14,6 +14,7 @@ ghost use Rattle.building.specs.Builds.{ShowsTheSame};
 ghost use Rattle.building.specs.Refusals.{DemandsFail, ForcingFails, IsLeftUnmet, IsListFault, IsOption, ListsFail};
 ghost use Rattle.building.specs.Refusals.{OptionsFail};
 ghost use Rattle.building.specs.declared.build.BuildFault.TheVariants.{Memory};
+ghost use Rattle.building.specs.steps.Gathered.{built_of};
 
 use classfile::ClassFault;
 use initializer_analysis::forced::Forced;
@@ -236,17 +237,15 @@ fn settle_program(
 }
 
 /// The image of what became of all classes.
-fn image_of(program: Program, settled: Settled) -> Built
+fn image_of(program: Program, settled: Settled) -> Result<Built, BuildFault>
     requires whole { AreWhole program (environment_of settled.regions) }
-    requires small { AreSmall (environment_of settled.regions) }
-    ensures program { result.image.program ≡ program }
-    ensures regions { result.image.regions ≡ settled.regions }
-    ensures verdicts { result.verdicts ≡ settled.verdicts }
+    requires small { AreSmall program (environment_of settled.regions) }
+    ensures { result ≡ Ok (built_of program settled) }
 {
     let Settled { verdicts, regions } = settled;
-    Built {
-        image: gather(program, regions),
-        verdicts,
+    match gather(program, regions) {
+        Ok(image) => Ok(Built { image, verdicts }),
+        Err(AllocError) => Err(BuildFault::Memory),
     }
 }
 
@@ -262,7 +261,7 @@ pub fn build_program(
     options: &BuildOptions<'_>,
 ) -> Result<Built, BuildFault>
     requires files { (class : ℕ) → IsFromFile program class }
-    requires budget { options.now.budget < 2 ^ 32 }
+    requires budget { options.now.budget < 2 ^ 31 }
     ensures program { IfOk result (λ built. built.image.program ≡ program) }
     ensures built { IfOk result (λ built. IsBuilt (text_of options.now.run_time) (text_of options.now.build_time)
         options.now.budget built.image (map outcome_of built.verdicts)) }
@@ -277,7 +276,7 @@ pub fn build_program(
 {
     region_shape::is_linked(&program);
     match settle_program(alloc, &program, options) {
-        Ok(settled) => Ok(image_of(program, settled)),
+        Ok(settled) => image_of(program, settled),
         Err(fault) => Err(fault),
     }
 }

@@ -1,5 +1,6 @@
 -- How many objects there are, from which are held.
-use Rattle.std.proofs.Common.{◌≡◌, ◌∙◌, inl, inr, ℕ, ◌+◌, ◌<◌, ◌≤◌, ◌^◌, true, false, Option, Some, None, is_some, sym, ap, subst, refl, arith}
+use Rattle.std.proofs.Common.{◌≡◌, ◌∙◌, inl, inr, ℕ, ◌+◌, ◌<◌, ◌≤◌, ◌^◌, true, false, Some, None, is_some, sym, ap}
+use Rattle.std.proofs.Common.{subst, arith}
 use Rattle.std.proofs.lemmas.Bool.{cases_lt}
 use Rattle.vm_state.specs.declared.object.Object.{Object}
 use Rattle.vm_state.specs.SharedState.{Pool, Region}
@@ -47,6 +48,6 @@ pub holds_all : (P : Tables) (env : Environment) (c : ℕ) (region : Region) →
 holds_all P env c region whole here = (let shape = whole.shape c region (sym here) in
     record { held = shape.held; no_more = shape.no_more })
 
-pub counts_few : (env : Environment) (c : ℕ) (region : Region) → AreSmall env → Some region ≡ env c
+pub counts_few : (P : Tables) (env : Environment) (c : ℕ) (region : Region) → AreSmall P env → Some region ≡ env c
     → region.pool.count < 2 ^ 32
-counts_few env c region small here = small c region (sym here)
+counts_few P env c region small here = small.objects c region (sym here)

@@ -1,1 +1,5 @@
+pub mod AddsLemmas
 pub mod CountsLemmas
+pub mod MarksLemmas
+pub mod SearchLemmas
+pub mod StaticsLemmas

@@ -1,7 +1,8 @@
 -- An image, and the start of a run from it.
-use Rattle.std.specs.Prelude.{◌≡◌, ℕ, ◌<◌, ◌≤◌, ◌^◌, true, List, Option, Some, None, is_some}
+use Rattle.std.specs.Prelude.{◌≡◌, ℕ, ◌<◌, ◌≤◌, ◌^◌, true, List, Option, Some, None, is_some, length}
+use Rattle.vm_state.specs.declared.object.Object.{Object}
 use Rattle.vm_state.specs.SharedState.{Pool, Region}
-use Rattle.semantics.specs.Quiet.{Environment}
+use Rattle.semantics.specs.Quiet.{Environment, elements_in}
 use Rattle.semantics.specs.Settling.{constant_region}
 use Rattle.semantics.specs.Images.{Image as Start}
 use Rattle.program.specs.Tables.{Tables}
@@ -15,9 +16,13 @@ pub record ImageTables : Type 0 where
 
 -- ---- objects
 
--- Each region has fewer than 2^32 objects.
-abbrev pub AreSmall : Environment → Type 0
-AreSmall env = (c : ℕ) (region : Region) → env c ≡ Some region → region.pool.count < 2 ^ 32
+-- The regions are those of classes of the program. Each has fewer than 2^32 objects, and none of these is an array of
+-- 2^31 elements or more.
+pub record AreSmall (P : Tables) (env : Environment) : Type 0 where
+  pub classes : (c : ℕ) (region : Region) → env c ≡ Some region → c < length P.classes
+  pub objects : (c : ℕ) (region : Region) → env c ≡ Some region → region.pool.count < 2 ^ 32
+  pub elements : (c n : ℕ) (region : Region) (object : Object) → env c ≡ Some region → region.pool.at n ≡ Some object
+      → elements_in object.class object.slots < 2 ^ 31
 
 -- how many objects a region has, if there is one
 abbrev pub object_count : Option Region → ℕ

@@ -1,1 +1,4 @@
 pub mod Images
+pub mod Names
+pub mod Reached
+pub mod steps

@@ -1,9 +1,14 @@
-//! How many objects a region has.
+//! How many objects a region has, and how many static fields a class.
 
-ghost use Rattle.std.specs.Prelude.{◌≡◌, ◌<◌, ◌^◌};
+ghost use Rattle.std.specs.Prelude.{◌≡◌, ◌<◌, ◌^◌, Some, length};
 ghost use Rattle.vm_state.specs.Pools.{pool_by};
+ghost use Rattle.loading.specs.Families.{file_in};
+ghost use Rattle.program.specs.Programs.{IsProgram};
+ghost use Rattle.program.specs.Tables.{statics_in};
 ghost use Rattle.object_graph.specs.Images.{HoldsAll};
 
+use classfile::ClassFile;
+use program::Program;
 use vm_state::heap::Row;
 
 /// How many objects there are, where all are held, and they are fewer than 2^32.
@@ -19,4 +24,25 @@ pub(crate) fn count_of(objects: &Row) -> u32
         }
     }
     u32::MAX
+}
+
+/// How many static fields with values a class has: at most 65,535, and none where there is no such class.
+pub(crate) fn static_count(program: &Program, class: u32) -> u32
+    ensures { result ≡ length (statics_in program.now class) }
+{
+    let _classes = program.classes();
+    match program.family().file(class) {
+        Some(file) => declared_count(program, class, file),
+        None => 0,
+    }
+}
+
+/// The same of a class, whose file is this.
+fn declared_count(program: &Program, class: u32, file: &ClassFile) -> u32
+    requires program { IsProgram program.now }
+    requires file { file_in program.now.family class ≡ Some file.now }
+    ensures { result ≡ length (statics_in program.now class) }
+{
+    let _fields = file.fields();
+    program.statics(class).len() as u32
 }

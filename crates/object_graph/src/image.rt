@@ -1,13 +1,15 @@
 //! An image.
 
-ghost use Rattle.std.specs.Prelude.{◌≡◌, option_map};
+ghost use Rattle.std.specs.Prelude.{◌≡◌, length, option_map, Ok};
 ghost use Rattle.evaluator.specs.Regions.{region_of, environment_of};
+ghost use Rattle.program.specs.Tables.{statics_in};
 ghost use Rattle.region_shape.specs.Wholes.{AreWhole};
 ghost use Rattle.object_graph.specs.Images.{object_count, AreSmall};
 
-use crate::counting::count_of;
+use crate::counting::{count_of, static_count};
 use evaluator::regions::{Region, Regions};
 use program::Program;
+use std::alloc::AllocError;
 use std::marker::Model;
 
 /// A program, and the regions of classes that are initialized before it runs.
@@ -26,7 +28,7 @@ impl Model for Image {
 
     ghost view = { λ i. record { program = i.program; regions = i.regions } };
 
-    ghost invariant = { λ i. HasWhole i.program (regions_of i.regions) × HasSmall (regions_of i.regions) };
+    ghost invariant = { λ i. HasWhole i.program (regions_of i.regions) × HasSmall i.program (regions_of i.regions) };
 }
 
 impl Image {
@@ -42,7 +44,7 @@ impl Image {
         ensures value { option_map (λ r. region_of r.now) result ≡ environment_of self.now.regions class }
         // What holds of every image.
         ensures whole { AreWhole self.now.program (environment_of self.now.regions) }
-        ensures small { AreSmall (environment_of self.now.regions) }
+        ensures small { AreSmall self.now.program (environment_of self.now.regions) }
     {
         self.regions.get(class)
     }
@@ -56,15 +58,24 @@ impl Image {
             None => 0,
         }
     }
+
+    /// How many static fields with values a class has: at most 65,535, and none where there is no such class.
+    pub fn static_count(&self, class: u32) -> u32
+        ensures { result ≡ length (statics_in self.now.program class) }
+    {
+        static_count(&self.program, class)
+    }
 }
 
 /// The image of a program and regions of some of its classes. Each region has shape, names such objects alone as these
-/// regions have, and has fewer than 2^32 objects.
-pub fn gather(program: Program, regions: Regions) -> Image
+/// regions have, and has fewer than 2^32 objects, and no array of 2^31 elements or more.
+///
+/// # Errors
+/// None today, as it takes no memory.
+pub fn gather(program: Program, regions: Regions) -> Result<Image, AllocError>
     requires whole { AreWhole program (environment_of regions) }
-    requires small { AreSmall (environment_of regions) }
-    ensures program { result.program ≡ program }
-    ensures regions { result.regions ≡ regions }
+    requires small { AreSmall program (environment_of regions) }
+    ensures { result ≡ Ok (record { program = program; regions = regions }) }
 {
-    Image { program, regions }
+    Ok(Image { program, regions })
 }

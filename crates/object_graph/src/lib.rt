@@ -3,5 +3,9 @@
 
 mod counting;
 mod image;
+mod name_set;
+mod reach;
 
 pub use image::{Image, gather};
+pub use name_set::{NameSet, ObjectName};
+pub use reach::reachable;

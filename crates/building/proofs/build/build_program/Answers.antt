@@ -1,4 +1,6 @@
+use Rattle.std.proofs.Common.{refl}
 use Rattle.building.specs.Builds.{text_of}
+use Rattle.building.specs.steps.Gathered.{built_of}
 use Rattle.building.proofs.BuildLemmas.{whole_by, small_by, built_by, count_built, waves_built, shows_built}
 use Rattle.building.proofs.build.build_program.Goals as goal
 
@@ -17,29 +19,29 @@ image_of-requires-clause-small c =
 
 pub returns-in-Ok-clause-built : goal.returns-in-Ok-clause-built
 returns-in-Ok-clause-built c =
-    built_by c.args.program (text_of c.args.options.now.run_time)
-    (text_of c.args.options.now.build_time)
-    c.args.options.now.budget c.in-Ok.settled c.image_of.result.image c.image_of.result.verdicts
-    c.image_of.ensures.program c.image_of.ensures.regions c.image_of.ensures.verdicts c.in-Ok.ensures.settled
+    rw c.image_of.ensures (built_by c.args.program (text_of c.args.options.now.run_time)
+    (text_of c.args.options.now.build_time) c.args.options.now.budget c.in-Ok.settled
+    (built_of c.args.program c.in-Ok.settled).image c.in-Ok.settled.verdicts refl refl refl
+    c.in-Ok.ensures.settled)
 
 pub returns-in-Ok-clause-count : goal.returns-in-Ok-clause-count
 returns-in-Ok-clause-count c =
-    count_built c.args.program (text_of c.args.options.now.run_time)
-    (text_of c.args.options.now.build_time)
-    c.args.options.now.budget c.in-Ok.settled c.image_of.result.image c.image_of.result.verdicts
-    c.image_of.ensures.program c.image_of.ensures.regions c.image_of.ensures.verdicts c.in-Ok.ensures.settled
+    rw c.image_of.ensures (count_built c.args.program (text_of c.args.options.now.run_time)
+    (text_of c.args.options.now.build_time) c.args.options.now.budget c.in-Ok.settled
+    (built_of c.args.program c.in-Ok.settled).image c.in-Ok.settled.verdicts refl refl refl
+    c.in-Ok.ensures.settled)
 
 pub returns-in-Ok-clause-waves : goal.returns-in-Ok-clause-waves
 returns-in-Ok-clause-waves c =
-    waves_built c.args.program (text_of c.args.options.now.run_time)
-    (text_of c.args.options.now.build_time)
-    c.args.options.now.budget c.in-Ok.settled c.image_of.result.image c.image_of.result.verdicts
-    c.image_of.ensures.program c.image_of.ensures.regions c.image_of.ensures.verdicts c.in-Ok.ensures.settled
+    rw c.image_of.ensures (waves_built c.args.program (text_of c.args.options.now.run_time)
+    (text_of c.args.options.now.build_time) c.args.options.now.budget c.in-Ok.settled
+    (built_of c.args.program c.in-Ok.settled).image c.in-Ok.settled.verdicts refl refl refl
+    c.in-Ok.ensures.settled)
 
 pub returns-in-Ok-clause-shows : goal.returns-in-Ok-clause-shows
 returns-in-Ok-clause-shows c =
-    shows_built c.args.program (text_of c.args.options.now.run_time)
-    (text_of c.args.options.now.build_time)
-    c.args.options.now.budget c.in-Ok.settled c.image_of.result.image c.image_of.result.verdicts
-    c.image_of.ensures.program c.image_of.ensures.regions c.image_of.ensures.verdicts c.in-Ok.ensures.settled
-    c.is_linked.ensures
+    rw c.image_of.ensures (shows_built c.args.program (text_of c.args.options.now.run_time)
+    (text_of c.args.options.now.build_time) c.args.options.now.budget c.in-Ok.settled
+    (built_of c.args.program c.in-Ok.settled).image c.in-Ok.settled.verdicts refl refl refl
+    c.in-Ok.ensures.settled
+    c.is_linked.ensures)

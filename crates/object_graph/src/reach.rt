@@ -1,0 +1,137 @@
+//! Which objects of an image some static field reaches.
+
+ghost use Rattle.std.specs.Prelude.{◌≡◌, ◌↔◌, ℕ, [], option_copied, IfOk, OnOk};
+ghost use Rattle.std.specs.List.{Contains};
+ghost use Rattle.vm_state.specs.Statics.{field_in};
+ghost use Rattle.evaluator.specs.Regions.{environment_of};
+ghost use Rattle.object_graph.specs.declared.name_set.ObjectName.{ObjectName as Name};
+ghost use Rattle.object_graph.specs.Names.{AreDistinct};
+ghost use Rattle.object_graph.specs.Reached.{reference_to, object_of, IsInFields, IsInStaticsOf, Holds, IsReached};
+ghost use Rattle.object_graph.specs.steps.Adds.{Adds};
+
+use crate::image::Image;
+use crate::name_set::{NameSet, ObjectName};
+use std::alloc::{AllocError, Global};
+use vm_state::classes::Fields;
+use vm_state::object::Object;
+use vm_state::value::Value;
+
+/// Adds the object that a value refers to.
+fn visit_value(alloc: Global, value: Value, found: &mut NameSet) -> Result<(), AllocError>
+    ensures { OnOk result (Adds found.old (λ x. value ≡ reference_to x) found.new) }
+{
+    match value {
+        Value::OfClass(class, number) => found.add(alloc, ObjectName { class, number }),
+        _ => Ok(()),
+    }
+}
+
+/// Adds the objects that slots hold.
+fn visit_values(alloc: Global, values: &[Value], found: &mut NameSet) -> Result<(), AllocError>
+    ensures { OnOk result (Adds found.old (λ x. Contains values.now (reference_to x)) found.new) }
+{
+    for value in values {
+        visit_value(alloc, *value, found)?;
+    }
+    Ok(())
+}
+
+/// Adds the objects that the first so many static fields of a class hold.
+fn visit_fields(
+    alloc: Global,
+    fields: &Fields,
+    count: u32,
+    found: &mut NameSet,
+) -> Result<(), AllocError>
+    ensures { OnOk result (Adds found.old (IsInFields (field_in fields.now) count) found.new) }
+{
+    for field in 0..count {
+        visit_value(alloc, fields.get(field), found)?;
+    }
+    Ok(())
+}
+
+/// Adds the objects that the static fields of a class hold, if it is initialized.
+fn visit_statics_of(
+    alloc: Global,
+    image: &Image,
+    class: u32,
+    found: &mut NameSet,
+) -> Result<(), AllocError>
+    ensures { OnOk result (Adds found.old
+        (IsInStaticsOf image.now.program (environment_of image.now.regions) class) found.new) }
+{
+    match image.region(class) {
+        Some(region) => visit_fields(alloc, &region.fields, image.static_count(class), found),
+        None => Ok(()),
+    }
+}
+
+/// Adds the objects that static fields hold.
+fn visit_statics(alloc: Global, image: &Image, found: &mut NameSet) -> Result<(), AllocError>
+    ensures { OnOk result (Adds found.old
+        (λ x. (c : ℕ) × IsInStaticsOf image.now.program (environment_of image.now.regions) c x) found.new) }
+{
+    for class in 0..image.program().given_count() {
+        visit_statics_of(alloc, image, class, found)?;
+    }
+    Ok(())
+}
+
+/// The object of a name.
+fn object_of(image: &Image, name: ObjectName) -> Option<&Object>
+    ensures { option_copied result ≡ object_of (environment_of image.now.regions) name }
+{
+    match image.region(name.class) {
+        Some(region) => region.objects.object(name.number),
+        None => None,
+    }
+}
+
+/// Adds the objects that an object holds.
+fn visit_object(
+    alloc: Global,
+    image: &Image,
+    name: ObjectName,
+    found: &mut NameSet,
+) -> Result<(), AllocError>
+    ensures { OnOk result (Adds found.old (Holds (environment_of image.now.regions) name) found.new) }
+{
+    match object_of(image, name) {
+        Some(object) => visit_values(alloc, object.slots.as_slice(), found),
+        None => Ok(()),
+    }
+}
+
+/// Adds all objects that some static field of an image reaches, where there are none yet.
+fn search(alloc: Global, image: &Image, found: &mut NameSet) -> Result<(), AllocError>
+    requires { found.old ≡ [] }
+    ensures reached { OnOk result ((x : Name)
+        → Contains found.new x ↔ IsReached image.now.program (environment_of image.now.regions) x) }
+    ensures distinct { OnOk result (AreDistinct found.new) }
+{
+    visit_statics(alloc, image, found)?;
+    let mut next = 0;
+    while next < found.len() {
+        let name = found.at(next);
+        visit_object(alloc, image, name, found)?;
+        next += 1;
+    }
+    Ok(())
+}
+
+/// The objects that some static field of an image reaches.
+///
+/// # Errors
+/// Where memory runs out.
+pub fn reachable(alloc: Global, image: &Image) -> Result<NameSet, AllocError>
+    ensures reached { IfOk result (λ found. (x : Name)
+        → Contains found x ↔ IsReached image.now.program (environment_of image.now.regions) x) }
+    ensures distinct { IfOk result AreDistinct }
+{
+    let mut found = NameSet::new(alloc);
+    match search(alloc, image, &mut found) {
+        Ok(()) => Ok(found),
+        Err(error) => Err(error),
+    }
+}
