@@ -44,15 +44,10 @@ pub record AreRegions (family : Family) (regions : List (Option ImageRegion)) : 
 abbrev pub AreShort : Family → Type 0
 AreShort family = All (λ (given : GivenClass). length (class_text given.file) < 2 ^ 32) family
 
--- a program, and by class its region
-pub record Image : Type 0 where
-  pub program : Tables
-  pub regions : List (Option ImageRegion)
-
--- The bytes are the text of an image.
-pub record ImageText (bytes : List ℕ) (image : Image) : Type 0 where
-  pub family : IsFamily image.program.family
-  pub program : IsProgram image.program
-  pub short : AreShort image.program.family
-  pub regions : AreRegions image.program.family image.regions
-  pub spelled : bytes ≡ image_text image.program.family image.regions
+-- The bytes are the text of an image: of a program, and by class its region.
+pub record ImageText (bytes : List ℕ) (P : Tables) (regions : List (Option ImageRegion)) : Type 0 where
+  pub family : IsFamily P.family
+  pub program : IsProgram P
+  pub short : AreShort P.family
+  pub fits : AreRegions P.family regions
+  pub spelled : bytes ≡ image_text P.family regions

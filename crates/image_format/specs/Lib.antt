@@ -3,3 +3,4 @@ pub mod Texts
 pub mod Names
 pub mod Shapes
 pub mod Images
+pub mod Told

@@ -1,8 +1,7 @@
-//! Images: a linked program, and what its classes that are initialized hold.
+//! The format of images: what a text says of a linked program, and of what its classes that are initialized hold.
 #![tactic(auto)]
 
 pub mod elements;
-pub mod image;
 pub mod names;
 pub mod object;
 pub mod region;

@@ -1,3 +1,4 @@
 pub mod AppendsLemmas
 pub mod TextLemmas
+pub mod FilesLemmas
 pub mod SizesLemmas

@@ -1,81 +1,138 @@
 -- The parts of an image have sizes that fit.
-use Rattle.std.proofs.Common.{◌≡◌, ℕ, ◌<◌, ◌^◌, List, [], ◌∷◌, length, get_or, Option, Some, None, slice_get, refl, sym, ap, subst, ◌∙◌, arith}
-use Rattle.std.specs.List.{All, AllZip}
-use Rattle.std.proofs.lemmas.List.Elements.{All-nil, All-cons}
-use Rattle.std.proofs.lemmas.Option.{slice_get-get_or}
+use Rattle.std.proofs.Common.{◌≡◌, ℕ, zero, suc, ◌+◌, ◌<◌, ◌^◌, ◌==◌, true, inl, inr}
+use Rattle.std.proofs.Common.{ltb, leb}
+use Rattle.std.proofs.Common.{List, [], ◌∷◌, ◌++◌, length, map, replicate, Option, Some, None, is_some, option_map}
+use Rattle.std.proofs.Common.{unwrap_or}
+use Rattle.std.proofs.Common.{refl, ap, subst, arith, length-append}
+use Rattle.std.specs.List.{flat_map, range_with_len}
+use Rattle.std.proofs.lemmas.Bool.{ltb-true, leb-true}
+use Rattle.std.proofs.lemmas.List.{length-replicate}
+use Rattle.std.proofs.lemmas.List.Concat.{flat_map-append}
+use Rattle.std.proofs.lemmas.List.Elements.{All-from_recursion, All-weaker}
+use Rattle.std.proofs.lemmas.List.FromFn.{map-range_with_len_more}
+use Rattle.classfile.specs.ClassFile.{ClassFile}
+use Rattle.built_in.specs.ClassNames.{name_of_built_in}
+use Rattle.built_in.specs.declared.class_id.BuiltIn.{BuiltIn}
+use Rattle.built_in.specs.declared.class_id.BuiltIn.TheVariants as builtins
 use Rattle.built_in.specs.declared.class_id.ClassId.{ClassId}
 use Rattle.built_in.specs.declared.class_id.ClassId.TheVariants as classes
-use Rattle.built_in.specs.declared.class_id.ArrayType.{ArrayType}
-use Rattle.loading.specs.Families.{Family}
-use Rattle.program.specs.declared.runtime_constant.FieldKind.{FieldKind}
-use Rattle.program.specs.declared.runtime_constant.FieldKind.TheVariants as kinds
-use Rattle.image_format.specs.declared.value.ImageValue.{ImageValue}
-use Rattle.image_format.specs.declared.value.ImageValue.TheVariants as values
-use Rattle.image_format.specs.declared.object.ImageObject.{ImageObject}
-use Rattle.image_format.specs.declared.region.ImageRegion.{ImageRegion}
-use Rattle.image_format.specs.Elements.{kind_of_elements}
-use Rattle.image_format.specs.Shapes.{Suits, AreSlots, ObjectHasShape, HasShape}
-use Rattle.image_format.specs.Images.{AreRegions}
-use Rattle.image_writer.specs.Sizes.{IsSizedValue, IsSizedObject, IsSizedRegion, IsSizedMark}
+use Rattle.vm_state.specs.declared.object.Object.{Object}
+use Rattle.vm_state.specs.declared.value.Value.{Value}
+use Rattle.vm_state.specs.declared.value.Value.TheVariants as values
+use Rattle.vm_state.specs.declared.value.Maker.TheVariants.{Class}
+use Rattle.vm_state.specs.SharedState.{Region}
+use Rattle.vm_state.proofs.ListLemmas.{tested}
+use Rattle.loading.specs.ClassIds.{element_text}
+use Rattle.loading.specs.Families.{file_in}
+use Rattle.loading.specs.Names.{name_of}
+use Rattle.semantics.specs.Lawful.{Knows, KnowsAll, KnowsSlots}
+use Rattle.semantics.specs.Quiet.{Environment, pool_seen}
+use Rattle.program.specs.Arrays.{is_name}
+use Rattle.program.specs.Tables.{Tables}
+use Rattle.machine.proofs.ListLemmas.{both_true}
+use Rattle.region_shape.specs.Counts.{count_of, is_there}
+use Rattle.region_shape.specs.Shapes.{HasObjects}
+use Rattle.region_shape.specs.Wholes.{AreWhole}
+use Rattle.object_graph.specs.Images.{AreSmall}
+use Rattle.image_format.specs.Names.{class_name}
+use Rattle.image_format.specs.Told.{told_if}
+use Rattle.image_writer.specs.steps.Sizes.{HasFiles, IsSizedValue, IsSizedObject, IsSizedRegion}
+use Rattle.image_writer.proofs.FilesLemmas.{name_fits}
 
-text_sized : (kind : FieldKind) (units : List ℕ) → Suits kind (values.Text units) → length units < 2 ^ 16
-text_sized kinds.Boolean units h = absurd h
-text_sized kinds.Byte units h = absurd h
-text_sized kinds.Char units h = absurd h
-text_sized kinds.Short units h = absurd h
-text_sized kinds.Int units h = absurd h
-text_sized kinds.Long units h = absurd h
-text_sized kinds.Float units h = absurd h
-text_sized kinds.Double units h = absurd h
-text_sized kinds.Reference units h = h.count
+-- ---- names of classes
 
-value_sized : (kind : FieldKind) (v : ImageValue) → Suits kind v → IsSizedValue v
-value_sized kind values.Null h = tt
-value_sized kind (values.Int n) h = tt
-value_sized kind (values.Long n) h = tt
-value_sized kind (values.Text units) h = text_sized kind units h
-value_sized kind (values.Object c n) h = tt
-value_sized kind values.Out h = tt
+short_built_in : (b : BuiltIn) → ltb (length (name_of_built_in b)) 65536 ≡ true
+short_built_in builtins.Object = refl
+short_built_in other = refl
 
-zip_sized : (ks : List FieldKind) (vs : List ImageValue) → AllZip Suits ks vs → All IsSizedValue vs
-zip_sized [] [] h = All-nil IsSizedValue
-zip_sized [] (v ∷ vs) h = absurd h
-zip_sized (k ∷ ks) [] h = absurd h
-zip_sized (k ∷ ks) (v ∷ vs) h = All-cons IsSizedValue v vs (value_sized k v h.0) (zip_sized ks vs h.1)
+module _ (P : Tables) (has : HasFiles P) where
+  short_given : (c : ℕ) → length (class_name P.family (classes.Given c)) < 2 ^ 16
+  short_given c = by (file_in P.family c) refl
+    where
+      by : (o : Option ClassFile) → file_in P.family c ≡ o → length (unwrap_or (option_map name_of o) []) < 2 ^ 16
+      by None at = omega arith
+      by (Some f) at = (name_fits f (has.files c f at)).0
 
-slots_sized : (family : Family) (class : ClassId) (vs : List ImageValue) → AreSlots family class vs → All IsSizedValue vs
-slots_sized family (classes.Given c) vs h = zip_sized _ vs h
-slots_sized family (classes.BuiltIn b) vs h =
-    let P : List ImageValue → Type 0 = λ z. All IsSizedValue z in subst P (sym h) (All-nil IsSizedValue)
-slots_sized family (classes.Array a) vs h = λ i d lt. value_sized (kind_of_elements a) (get_or vs i d) (h.1 i d lt)
+  pub short_name : (class : ClassId) → HasObjects P class → length (class_name P.family class) < 2 ^ 16
+  short_name (classes.Given c) objects = short_given c
+  short_name (classes.BuiltIn b) objects = ltb-true (length (name_of_built_in b)) 65536 (short_built_in b)
+  short_name (classes.Array a) objects =
+      by (element_text P.family a.element)
+      (both_true (leb a.dimensions 255) (is_name a.dimensions (element_text P.family a.element)) objects.1).1
+    where
+      by : (o : Option (List ℕ)) → is_name a.dimensions o ≡ true
+          → length (replicate a.dimensions 91 ++ unwrap_or o []) < 2 ^ 16
+      by None h = absurd cc
+      by (Some text) h =
+          omega (
+            arith,
+            leb-true (a.dimensions + length text) 65535 h,
+            length-append (replicate a.dimensions 91) text,
+            length-replicate {A = ℕ} a.dimensions 91,
+          )
 
-counted : (family : Family) (class : ClassId) (vs : List ImageValue) → AreSlots family class vs → (a : ArrayType)
-    → class ≡ classes.Array a → length vs < 2 ^ 32
-counted family class vs h a e =
-    let P : ClassId → Type 0 = λ z. AreSlots family z vs in
-    let k = subst P e h in omega (arith, k.0)
+-- ---- regions
 
-object_sized : (family : Family) (object : ImageObject) → ObjectHasShape family object → IsSizedObject family object
-object_sized family object h = record {
-  name = h.name;
-  count = counted family object.class object.slots h.slots;
-  slots = slots_sized family object.class object.slots h.slots;
-}
+module _ (P : Tables) (env : Environment) (has : HasFiles P) (whole : AreWhole P env) (small : AreSmall P env) (c : ℕ)
+    (region : Region) (here : env c ≡ Some region) where
+  few : (d : ℕ) → count_of (pool_seen env c region (Class d)) < 2 ^ 32
+  few d = elim (tested (d == c)) [
+    | inl e ↦ rw e (small.objects c region here)
+    | inr e ↦ rw e (by (env d) refl)
+  ]
+    where
+      by : (o : Option Region) → env d ≡ o → count_of (option_map (λ (r : Region). r.pool) o) < 2 ^ 32
+      by None at = omega arith
+      by (Some r) at = small.objects d r at
 
-region_sized : (family : Family) (c : ℕ) (region : ImageRegion) → HasShape family c region → IsSizedRegion family region
-region_sized family c region h = record {
-  count = h.count;
-  statics = zip_sized _ region.statics h.statics;
-  objects = λ i d lt. object_sized family (get_or region.objects i d) (h.objects i d lt);
-}
+  value_sized : (v : Value) → Knows (is_there env c region) v → IsSizedValue v
+  value_sized (values.OfClass d n) known =
+      let less = ltb-true n (count_of (pool_seen env c region (Class d))) known in omega (arith, less, few d)
+  value_sized other known = tt
 
-mark_sized : (family : Family) (c : ℕ) (mark : Option ImageRegion)
-    → ((region : ImageRegion) → mark ≡ Some region → HasShape family c region) → IsSizedMark family mark
-mark_sized family c None h = tt
-mark_sized family c (Some region) h = region_sized family c region (h region refl)
+  object_sized : (n : ℕ) (object : Object) → region.pool.at n ≡ Some object → IsSizedObject P object
+  object_sized n object at =
+      let names = whole.closed c region here in
+      let known : KnowsAll (is_there env c region) object.slots =
+      subst (λ o. KnowsSlots (is_there env c region) o)
+      (ap (λ (o : Option Object). option_map (λ (x : Object). x.slots) o) at) (names.slots n) in
+      let elements = small.elements c n region object here at in
+      record {
+        name = short_name P has object.class ((whole.shape c region here).objects n object at).class;
+        elements = omega (arith, elements);
+        slots =
+            All-weaker (Knows (is_there env c region)) IsSizedValue value_sized object.slots
+            (All-from_recursion (Knows (is_there env c region)) object.slots known);
+      }
 
-pub regions_are_sized : (family : Family) (regions : List (Option ImageRegion)) → AreRegions family regions
-    → All (IsSizedMark family) regions
-regions_are_sized family regions fits = λ i d lt.
-    mark_sized family i (get_or regions i d) (λ region e.
-    fits.shapes i region (slice_get-get_or regions i d lt ∙ ap (λ (o : Option ImageRegion). Some o) e))
+  pub region_sized : IsSizedRegion P region
+  region_sized = record {
+    statics = λ k. value_sized (region.fields k) ((whole.closed c region here).statics k);
+    objects = object_sized;
+    held = (whole.shape c region here).held;
+  }
+
+-- ---- how many objects are told
+
+one_held : (strings : List (List ℕ)) (o : Option Object) → is_some o ≡ true → length (told_if strings o) ≡ 1
+one_held strings None held = absurd cc
+one_held strings (Some object) held = refl
+
+pub told_count : (strings : List (List ℕ)) (at : ℕ → Option Object) (n : ℕ)
+    → ((k : ℕ) → k < n → is_some (at k) ≡ true)
+    → length (flat_map (told_if strings) (map at (range_with_len 0 n))) ≡ n
+told_count strings at zero held = refl
+told_count strings at (suc n) held =
+    let next : n + 1 ≡ suc n = omega arith in
+    let more : map at (range_with_len 0 (suc n)) ≡ map at (range_with_len 0 n) ++ at n ∷ [] =
+    subst (λ m. map at (range_with_len 0 m) ≡ map at (range_with_len 0 n) ++ at n ∷ []) next
+    (map-range_with_len_more at 0 n n (omega arith)) in
+    omega (
+      arith,
+      ap (λ (os : List (Option Object)). length (flat_map (told_if strings) os)) more,
+      ap length (flat_map-append (told_if strings) (map at (range_with_len 0 n)) (at n ∷ [])),
+      length-append (flat_map (told_if strings) (map at (range_with_len 0 n))) (told_if strings (at n) ++ []),
+      length-append (told_if strings (at n)) [],
+      one_held strings (at n) (held n (omega arith)),
+      told_count strings at n (λ k low. held k (omega (arith, low))),
+    )

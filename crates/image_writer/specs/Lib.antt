@@ -1,2 +1,3 @@
-pub mod Sizes
+pub mod ImageTexts
 pub mod Sendings
+pub mod steps

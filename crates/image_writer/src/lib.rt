@@ -1,6 +1,7 @@
 //! Writes images: their text goes out to a sink.
 #![tactic(auto)]
 
+mod files;
 mod numbers;
 mod objects;
 mod sending;

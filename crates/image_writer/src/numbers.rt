@@ -1,7 +1,7 @@
 //! Numbers, the highest byte first.
 
 ghost use Rattle.std.specs.Prelude.{◌≡◌, ◌++◌, ◌<◌, ◌^◌, length, OnOk};
-ghost use Rattle.std.specs.List.{flat_map};
+ghost use Rattle.std.specs.List.{flat_map, All};
 ghost use Rattle.classfile.specs.Spelling.{u1, u2, u4};
 ghost use Rattle.image_format.specs.Texts.{u8, units_text, named_text};
 
@@ -34,7 +34,9 @@ pub(crate) fn push_u64(out: &mut Vec<u8>, number: u64) -> Result<(), AllocError>
 /// The count of units, and the units.
 pub(crate) fn push_units(out: &mut Vec<u8>, units: &[u16]) -> Result<(), AllocError>
     requires { length units.now < 2 ^ 16 }
-    ensures { OnOk result (out.new.items ≡ out.old.items ++ units_text units.now) }
+    ensures text { OnOk result (out.new.items ≡ out.old.items ++ units_text units.now) }
+    // As the type has it.
+    ensures units { All (λ unit. unit < 2 ^ 16) units.now }
 {
     push_u16(out, units.len() as u16)?;
     for unit in units {

@@ -1,84 +1,131 @@
 //! Objects and regions.
 
-ghost use Rattle.std.specs.Prelude.{◌≡◌, ◌++◌, ◌<◌, ◌^◌, length, OnOk};
+ghost use Rattle.std.specs.Prelude.{◌≡◌, ℕ, ◌++◌, ◌<◌, ◌^◌, length, map, Some, option_map, OnOk};
 ghost use Rattle.std.specs.List.{flat_map, All};
 ghost use Rattle.classfile.specs.Spelling.{u1, u4};
+ghost use Rattle.vm_state.specs.declared.object.Object.{Object as Held};
+ghost use Rattle.vm_state.specs.Pools.{pool_by};
+ghost use Rattle.program.specs.Tables.{statics_in};
+ghost use Rattle.evaluator.specs.Regions.{region_of, environment_of};
 ghost use Rattle.image_format.specs.Texts.{named_text, object_text, value_text, element_text, region_text, mark_text};
 ghost use Rattle.image_format.specs.Elements.{kind_of_elements};
-ghost use Rattle.image_writer.specs.Sizes.{IsSizedValue, IsSizedObject, IsSizedRegion, IsSizedMark};
+ghost use Rattle.image_format.specs.Told.{told_value, told_object, told_if, told_objects, told_region, told_regions};
+ghost use Rattle.image_writer.specs.steps.Sizes.{HasFiles, IsSizedValue, IsSizedObject, IsSizedRegion};
 
+use crate::files::has_files;
 use crate::numbers::{push_named, push_u8, push_u32};
-use crate::values::{push_elements, push_values};
+use crate::values::{push_elements, push_fields, push_values};
 use built_in::class_id::{ArrayType, ClassId};
+use evaluator::regions::Region;
 use image_format::elements::kind_of_elements;
 use image_format::names::class_name;
-use image_format::object::ImageObject;
-use image_format::region::ImageRegion;
-use image_format::value::ImageValue;
-use loading::family::Family;
+use object_graph::Image;
+use program::Program;
 use std::alloc::{AllocError, Global};
+use vm_state::heap::Row;
+use vm_state::object::Object;
+use vm_state::value::Value;
 
 /// An instance: its form, its class's name, and its slots.
-fn push_instance(out: &mut Vec<u8>, name: &[u8], slots: &[ImageValue]) -> Result<(), AllocError>
+fn push_instance(
+    alloc: Global,
+    out: &mut Vec<u8>,
+    program: &Program,
+    name: &[u8],
+    slots: &[Value],
+) -> Result<(), AllocError>
+    requires files { HasFiles program.now }
     requires name { length name.now < 2 ^ 16 }
     requires slots { All IsSizedValue slots.now }
-    ensures { OnOk result (out.new.items
-        ≡ out.old.items ++ (u1 0 ++ (named_text name.now ++ flat_map value_text slots.now))) }
+    ensures { OnOk result (out.new.items ≡ out.old.items ++ (u1 0 ++ (named_text name.now
+        ++ flat_map value_text (map (told_value program.now.strings) slots.now)))) }
 {
     push_u8(out, 0)?;
     push_named(out, name)?;
-    push_values(out, slots)
+    push_values(alloc, out, program, slots)
 }
 
 /// An array: its form, its type's name, the count of its elements, and these.
 fn push_array(
+    alloc: Global,
     out: &mut Vec<u8>,
+    program: &Program,
     name: &[u8],
     array: ArrayType,
-    slots: &[ImageValue],
+    slots: &[Value],
 ) -> Result<(), AllocError>
+    requires files { HasFiles program.now }
     requires name { length name.now < 2 ^ 16 }
     requires count { length slots.now < 2 ^ 32 }
     requires slots { All IsSizedValue slots.now }
     ensures { OnOk result (out.new.items ≡ out.old.items ++ (u1 1 ++ (named_text name.now
-        ++ (u4 (length slots.now) ++ flat_map (element_text (kind_of_elements array)) slots.now)))) }
+        ++ (u4 (length (map (told_value program.now.strings) slots.now))
+        ++ flat_map (element_text (kind_of_elements array)) (map (told_value program.now.strings) slots.now))))) }
 {
     push_u8(out, 1)?;
     push_named(out, name)?;
     push_u32(out, slots.len() as u32)?;
-    push_elements(out, kind_of_elements(array), slots)
+    push_elements(alloc, out, program, kind_of_elements(array), slots)
 }
 
 /// An object.
 fn push_object(
     alloc: Global,
     out: &mut Vec<u8>,
-    family: &Family,
-    object: &ImageObject,
+    program: &Program,
+    object: &Object,
 ) -> Result<(), AllocError>
-    requires { IsSizedObject family.now object.now }
-    ensures { OnOk result (out.new.items ≡ out.old.items ++ object_text family.now object.now) }
+    requires files { HasFiles program.now }
+    requires sized { IsSizedObject program.now object.now }
+    ensures { OnOk result (out.new.items
+        ≡ out.old.items ++ object_text program.now.family (told_object program.now.strings object.now)) }
 {
-    let name = class_name(alloc, family, object.class)?;
+    let name = class_name(alloc, program.family(), object.class)?;
+    let slots = object.slots.as_slice();
     match object.class {
-        ClassId::Array(array) => push_array(out, &name, array, object.slots.as_slice()),
-        ClassId::Given(_) => push_instance(out, &name, object.slots.as_slice()),
-        ClassId::BuiltIn(_) => push_instance(out, &name, object.slots.as_slice()),
+        ClassId::Array(array) => push_array(alloc, out, program, &name, array, slots),
+        ClassId::Given(_) => push_instance(alloc, out, program, &name, slots),
+        ClassId::BuiltIn(_) => push_instance(alloc, out, program, &name, slots),
     }
 }
 
-/// Objects in order.
+/// The object of a number, if it is held.
+fn push_if_held(
+    alloc: Global,
+    out: &mut Vec<u8>,
+    program: &Program,
+    objects: &Row,
+    number: u32,
+) -> Result<(), AllocError>
+    requires files { HasFiles program.now }
+    requires sized { (object : Held) → (pool_by objects.now).at number ≡ Some object
+        → IsSizedObject program.now object }
+    ensures { OnOk result (out.new.items ≡ out.old.items ++ flat_map (object_text program.now.family)
+        (told_if program.now.strings ((pool_by objects.now).at number))) }
+{
+    match objects.object(u64::from(number)) {
+        Some(object) => push_object(alloc, out, program, object),
+        None => Ok(()),
+    }
+}
+
+/// The objects of a region, of which there are so many.
 fn push_objects(
     alloc: Global,
     out: &mut Vec<u8>,
-    family: &Family,
-    objects: &[ImageObject],
+    program: &Program,
+    objects: &Row,
+    count: u32,
 ) -> Result<(), AllocError>
-    requires { All (IsSizedObject family.now) objects.now }
-    ensures { OnOk result (out.new.items ≡ out.old.items ++ flat_map (object_text family.now) objects.now) }
+    requires files { HasFiles program.now }
+    requires sized { (n : ℕ) (object : Held) → (pool_by objects.now).at n ≡ Some object
+        → IsSizedObject program.now object }
+    requires count { count ≡ (pool_by objects.now).count }
+    ensures { OnOk result (out.new.items ≡ out.old.items ++ flat_map (object_text program.now.family)
+        (told_objects program.now.strings (pool_by objects.now))) }
 {
-    for object in objects {
-        push_object(alloc, out, family, object)?;
+    for number in 0..count {
+        push_if_held(alloc, out, program, objects, number)?;
     }
     Ok(())
 }
@@ -87,60 +134,83 @@ fn push_objects(
 fn push_region(
     alloc: Global,
     out: &mut Vec<u8>,
-    family: &Family,
-    region: &ImageRegion,
+    image: &Image,
+    class: u32,
+    region: &Region,
 ) -> Result<(), AllocError>
-    requires { IsSizedRegion family.now region.now }
-    ensures { OnOk result (out.new.items ≡ out.old.items ++ region_text family.now region.now) }
+    requires files { HasFiles image.now.program }
+    requires sized { IsSizedRegion image.now.program (region_of region.now) }
+    requires held { environment_of image.now.regions class ≡ Some (region_of region.now) }
+    ensures { OnOk result (out.new.items ≡ out.old.items ++ region_text image.now.program.family
+        (told_region image.now.program class (region_of region.now))) }
 {
-    let objects = region.objects.as_slice();
-    push_u32(out, objects.len() as u32)?;
-    push_values(out, region.statics.as_slice())?;
-    push_objects(alloc, out, family, objects)
-}
-
-/// Whether a class is initialized, and its region.
-fn push_mark(
-    alloc: Global,
-    out: &mut Vec<u8>,
-    family: &Family,
-    region: &Option<ImageRegion>,
-) -> Result<(), AllocError>
-    requires { IsSizedMark family.now region.now }
-    ensures { OnOk result (out.new.items ≡ out.old.items ++ mark_text family.now region.now) }
-{
-    match region {
-        None => push_u8(out, 0),
-        Some(region) => push_marked(alloc, out, family, region),
-    }
+    let program = image.program();
+    let count = image.object_count(class);
+    push_u32(out, count)?;
+    push_fields(
+        alloc,
+        out,
+        program,
+        &region.fields,
+        image.static_count(class),
+    )?;
+    push_objects(alloc, out, program, &region.objects, count)
 }
 
 /// The mark of a class that is initialized, and its region.
 fn push_marked(
     alloc: Global,
     out: &mut Vec<u8>,
-    family: &Family,
-    region: &ImageRegion,
+    image: &Image,
+    class: u32,
+    region: &Region,
 ) -> Result<(), AllocError>
-    requires { IsSizedRegion family.now region.now }
-    ensures { OnOk result (out.new.items ≡ out.old.items ++ (u1 1 ++ region_text family.now region.now)) }
+    requires files { HasFiles image.now.program }
+    requires sized { IsSizedRegion image.now.program (region_of region.now) }
+    requires held { environment_of image.now.regions class ≡ Some (region_of region.now) }
+    ensures { OnOk result (out.new.items ≡ out.old.items ++ (u1 1 ++ region_text image.now.program.family
+        (told_region image.now.program class (region_of region.now)))) }
 {
     push_u8(out, 1)?;
-    push_region(alloc, out, family, region)
+    push_region(alloc, out, image, class, region)
+}
+
+/// Whether a class is initialized, and its region.
+fn push_mark(alloc: Global, out: &mut Vec<u8>, image: &Image, class: u32) -> Result<(), AllocError>
+    requires { HasFiles image.now.program }
+    ensures { OnOk result (out.new.items ≡ out.old.items ++ mark_text image.now.program.family
+        (option_map (told_region image.now.program class) (environment_of image.now.regions class))) }
+{
+    match image.region(class) {
+        Some(region) => push_marked(alloc, out, image, class, region),
+        None => push_u8(out, 0),
+    }
+}
+
+/// The marks and regions of the classes below a number.
+fn push_marks_below(
+    alloc: Global,
+    out: &mut Vec<u8>,
+    image: &Image,
+    count: u32,
+) -> Result<(), AllocError>
+    requires files { HasFiles image.now.program }
+    requires count { count ≡ length image.now.program.family }
+    ensures { OnOk result (out.new.items ≡ out.old.items ++ flat_map (mark_text image.now.program.family)
+        (told_regions image.now.program (environment_of image.now.regions))) }
+{
+    for class in 0..count {
+        push_mark(alloc, out, image, class)?;
+    }
+    Ok(())
 }
 
 /// The marks and regions of all classes.
-pub(crate) fn push_marks(
-    alloc: Global,
-    out: &mut Vec<u8>,
-    family: &Family,
-    regions: &[Option<ImageRegion>],
-) -> Result<(), AllocError>
-    requires { All (IsSizedMark family.now) regions.now }
-    ensures { OnOk result (out.new.items ≡ out.old.items ++ flat_map (mark_text family.now) regions.now) }
+pub(crate) fn push_marks(alloc: Global, out: &mut Vec<u8>, image: &Image) -> Result<(), AllocError>
+    ensures { OnOk result (out.new.items ≡ out.old.items ++ flat_map (mark_text image.now.program.family)
+        (told_regions image.now.program (environment_of image.now.regions))) }
 {
-    for region in regions {
-        push_mark(alloc, out, family, region)?;
-    }
-    Ok(())
+    has_files(image.program());
+    let classes = image.program().family().classes();
+    push_marks_below(alloc, out, image, classes.len() as u32)
 }

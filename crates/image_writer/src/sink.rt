@@ -9,7 +9,8 @@ use std::io::Write;
 #[derive(Clone, Copy)]
 pub struct SinkFault;
 
-/// What takes bytes. Contracts see all that it got, where its type says so, and a number that changes with each failure.
+/// What takes bytes. Contracts see all that it got, where its type says so, and a number that changes with each
+/// failure.
 pub trait Sink {
     ghost use Rattle.std.specs.Prelude.{ℕ, List, Option};
 
@@ -17,7 +18,8 @@ pub trait Sink {
 
     ghost failures: { Self → ℕ };
 
-    /// Takes the first of these bytes, and answers how many. None are taken of a list that is not empty where it failed.
+    /// Takes the first of these bytes, and answers how many. None are taken of a list that is not empty where it
+    /// failed.
     ///
     /// # Errors
     /// `SinkFault` where it failed; nothing was taken then.

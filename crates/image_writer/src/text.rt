@@ -1,21 +1,21 @@
 //! The text of an image.
 
 ghost use Rattle.std.specs.Prelude.{◌≡◌, ◌++◌, ◌<◌, ◌^◌, length, IfOk, OnOk};
-ghost use Rattle.std.specs.List.{flat_map, All};
+ghost use Rattle.std.specs.List.{flat_map};
 ghost use Rattle.sha2.specs.Sha256.{sha256};
 ghost use Rattle.classfile.specs.Spelling.{u2, u4};
 ghost use Rattle.classfile.specs.Text.{class_text};
-ghost use Rattle.image_format.specs.Texts.{given_text, body_text, image_text, file_text};
+ghost use Rattle.evaluator.specs.Regions.{environment_of};
+ghost use Rattle.image_format.specs.Texts.{given_text, body_text, file_text};
 ghost use Rattle.image_format.specs.Images.{AreShort};
-ghost use Rattle.image_writer.specs.Sizes.{IsSizedMark};
+ghost use Rattle.image_format.specs.Told.{told_regions};
+ghost use Rattle.image_writer.specs.ImageTexts.{text_of};
 
 use crate::numbers::{push_u16, push_u32};
 use crate::objects::push_marks;
 use classfile::ClassFile;
-use image_format::image::Image;
-use image_format::region::ImageRegion;
-use loading::family::Family;
 use loading::given::GivenClass;
+use object_graph::Image;
 use sha2::{Digest, Sha256};
 use std::alloc::{AllocError, Global};
 
@@ -50,20 +50,15 @@ fn push_header(out: &mut Vec<u8>, count: u32) -> Result<(), AllocError>
 }
 
 /// All before the digest.
-fn push_body(
-    alloc: Global,
-    out: &mut Vec<u8>,
-    family: &Family,
-    regions: &[Option<ImageRegion>],
-) -> Result<(), AllocError>
-    requires short { AreShort family.now }
-    requires marks { All (IsSizedMark family.now) regions.now }
-    ensures { OnOk result (out.new.items ≡ out.old.items ++ body_text family.now regions.now) }
+fn push_body(alloc: Global, out: &mut Vec<u8>, image: &Image) -> Result<(), AllocError>
+    requires { AreShort image.now.program.family }
+    ensures { OnOk result (out.new.items ≡ out.old.items ++ body_text image.now.program.family
+        (told_regions image.now.program (environment_of image.now.regions))) }
 {
-    let classes = family.classes();
+    let classes = image.program().family().classes();
     push_header(out, classes.len() as u32)?;
     push_files(alloc, out, classes)?;
-    push_marks(alloc, out, family, regions)
+    push_marks(alloc, out, image)
 }
 
 /// The digest of what stands before.
@@ -82,12 +77,10 @@ fn push_digest(out: &mut Vec<u8>) -> Result<(), AllocError>
 /// Where memory runs out.
 pub fn image_text(alloc: Global, image: &Image) -> Result<Vec<u8>, AllocError>
     requires { AreShort image.now.program.family }
-    ensures { IfOk result (λ bytes. bytes.items ≡ image_text image.now.program.family image.now.regions) }
+    ensures { IfOk result (λ bytes. bytes.items ≡ text_of image.now) }
 {
-    let family = image.program().family();
-    let regions = image.regions();
     let mut out = Vec::new(alloc);
-    push_body(alloc, &mut out, family, regions)?;
+    push_body(alloc, &mut out, image)?;
     push_digest(&mut out)?;
     Ok(out)
 }

@@ -3,26 +3,24 @@
 ghost use Rattle.std.specs.Prelude.{◌≡◌, OnOk, IfErr};
 ghost use Rattle.std.specs.Io.KnownBytes.{Appends};
 ghost use Rattle.image_format.specs.Images.{AreShort};
-ghost use Rattle.image_format.specs.Texts.{image_text};
+ghost use Rattle.image_writer.specs.ImageTexts.{text_of};
 ghost use Rattle.image_writer.specs.Sendings.{IsBegun, HasFailed};
 
 use crate::sending::{WriteFault, send};
 use crate::sink::Sink;
 use crate::text::image_text;
-use image_format::image::Image;
+use object_graph::Image;
 use std::alloc::Global;
 
 /// Writes an image whose class files are shorter than 2^32 bytes: its text goes out to a sink.
 ///
 /// # Errors
-/// `Memory` where memory runs out, `Device` where the sink failed in this call. The first bytes of the text have gone out
-/// then, as many as the fault says, and nothing else.
+/// `Memory` where memory runs out, `Device` where the sink failed in this call. The first bytes of the text have gone
+/// out then, as many as the fault says, and nothing else.
 pub fn write<S: Sink>(alloc: Global, image: &Image, sink: &mut S) -> Result<(), WriteFault>
     requires { AreShort image.now.program.family }
-    ensures whole { OnOk result
-        (Appends (S.got sink.old) (S.got sink.new) (image_text image.now.program.family image.now.regions)) }
-    ensures begun { IfErr result
-        (IsBegun (image_text image.now.program.family image.now.regions) (S.got sink.old) (S.got sink.new)) }
+    ensures whole { OnOk result (Appends (S.got sink.old) (S.got sink.new) (text_of image.now)) }
+    ensures begun { IfErr result (IsBegun (text_of image.now) (S.got sink.old) (S.got sink.new)) }
     ensures failed { IfErr result (HasFailed (S.failures sink.old) (S.failures sink.new)) }
     ensures well { OnOk result (S.failures sink.new ≡ S.failures sink.old) }
 {

@@ -1,4 +1,4 @@
-use Rattle.std.proofs.Common.{◌≡◌, ◌∙◌, ◌≤◌, ◌-◌, refl, sym, ap, subst, arith, take, drop, ℕ, List, length, length-drop}
+use Rattle.std.proofs.Common.{◌∙◌, ◌≤◌, ◌-◌, refl, ap, subst, arith, take, ℕ, List, length, length-drop}
 use Rattle.std.specs.Io.KnownBytes.{Appends}
 use Rattle.image_writer.proofs.AppendsLemmas.{appends_none, appends_more}
 use Rattle.image_writer.proofs.sending.put_all.Goals as goal
@@ -18,7 +18,10 @@ loop-at-preserved g c =
     omega (arith, c.in-Ok.ensures.count, ap length rest, length-drop c.loop-at.at c.args.bytes.now) in
     record {
       within = omega (arith, count, i.within);
-      got = appends_more (g.S.Sink.got c.args.sink.now) (g.S.Sink.got c.loop-at.sink) (g.S.Sink.got c.put.new.self) c.args.bytes.now c.loop-at.at c.in-Ok.n i.got
-          (subst (λ (r : List ℕ). Appends (g.S.Sink.got c.loop-at.sink) (g.S.Sink.got c.put.new.self) (take c.in-Ok.n r)) rest c.in-Ok.ensures.got);
+      got =
+          appends_more (g.S.Sink.got c.args.sink.now) (g.S.Sink.got c.loop-at.sink) (g.S.Sink.got c.put.new.self)
+          c.args.bytes.now c.loop-at.at c.in-Ok.n i.got
+          (subst (λ (r : List ℕ). Appends (g.S.Sink.got c.loop-at.sink) (g.S.Sink.got c.put.new.self)
+          (take c.in-Ok.n r)) rest c.in-Ok.ensures.got);
       well = c.in-Ok.ensures.well (omega (arith, c.in-Ok.n-test)) ∙ i.well;
     }

@@ -1,0 +1,168 @@
+-- Texts of class files are short.
+use Rattle.std.proofs.Common.{◌≡◌, ◌∙◌, ℕ, zero, suc, ◌+◌, ◌<◌, ◌≤◌, ◌^◌, ◌/◌, ◌%◌, ◌&&◌, Bool, true, false, nat_lt}
+use Rattle.std.proofs.Common.{inl, inr}
+use Rattle.std.proofs.Common.{List, [], ◌∷◌, ◌++◌, length, get_or, Option, Some, None, slice_get, unwrap_or, refl}
+use Rattle.std.proofs.Common.{sym, ap}
+use Rattle.std.proofs.Common.{subst, arith, length-append, if◌then◌else◌}
+use Rattle.std.specs.List.{All, Contains, flat_map}
+use Rattle.std.proofs.lemmas.Bool.{cases_lt}
+use Rattle.std.proofs.lemmas.List.{get_or_past}
+use Rattle.std.proofs.lemmas.Option.{slice_get_past}
+use Rattle.std.proofs.lemmas.List.Concat.{flat_map-cons}
+use Rattle.std.proofs.lemmas.List.Elements.{All-nil, All-cons, All-same, All-append, All-contains, Contains-get_or}
+use Rattle.std.proofs.lemmas.List.Elements.{Contains-append_left, Contains-push, Contains-push_cases}
+use Rattle.classfile.specs.Class.{IsClassFile}
+use Rattle.classfile.specs.ClassFile.{ClassFile}
+use Rattle.classfile.specs.Constants.{is_wide}
+use Rattle.classfile.specs.Lookup.{utf8_in, utf8_of, class_name_in, class_name_of}
+use Rattle.classfile.specs.Printing.{units_of}
+use Rattle.classfile.specs.Spelling.{Fits, AreConstants}
+use Rattle.classfile.specs.Units.{unit_text, units_text, IsModifiedUtf8}
+use Rattle.classfile.specs.declared.constant.Constant.{Constant}
+use Rattle.classfile.specs.declared.constant.Constant.TheVariants as constants
+use Rattle.classfile.proofs.PrintingLemmas.{units_of-units_text}
+use Rattle.loading.specs.declared.given.GivenClass.{GivenClass}
+use Rattle.loading.specs.Families.{file_of}
+use Rattle.loading.specs.Names.{name_of, text_at}
+use Rattle.program.specs.Strings.{string_of, strings_of, all_strings, AreFirsts}
+use Rattle.program.specs.Tables.{Tables}
+use Rattle.region_shape.specs.Laws.{IsFromFile}
+use Rattle.image_writer.specs.steps.Sizes.{HasFiles}
+
+-- what a Utf8 may hold (JVMS 4.4.7)
+abbrev pub IsText : List ℕ → Type 0
+IsText text = (length text < 2 ^ 16) × IsModifiedUtf8 text
+
+empty : IsText []
+empty = (omega arith, record { units = []; each = All-nil (λ unit. unit < 2 ^ 16); spelled = refl })
+
+-- ---- texts of a constant pool
+
+fits_at : (after_wide : Bool) (cs : List Constant) → AreConstants after_wide cs → (i : ℕ) (text : List ℕ)
+    → slice_get cs i ≡ Some (constants.Utf8 text) → IsText text
+fits_at after_wide [] are i text at = absurd cc
+fits_at true (c ∷ cs) are zero text at =
+    absurd (let e : constants.Unusable ≡ constants.Utf8 text =
+    sym are.0 ∙ (let same : c ≡ constants.Utf8 text = cc in same) in cc)
+fits_at true (c ∷ cs) are (suc i) text at = fits_at false cs are.1 i text at
+fits_at false (c ∷ cs) are zero text at =
+    let same : c ≡ constants.Utf8 text = cc in subst (λ d. Fits d) same are.0
+fits_at false (c ∷ cs) are (suc i) text at = fits_at (is_wide c) cs are.1 i text at
+
+module _ (f : ClassFile) (is : IsClassFile f) where
+  utf8_fits : (index : ℕ) → IsText (unwrap_or (utf8_of f.constants index) [])
+  unfolding utf8_of
+  utf8_fits index = by (slice_get f.constants index) refl
+    where
+      by : (o : Option Constant) → slice_get f.constants index ≡ o → IsText (unwrap_or (utf8_in o) [])
+      by None at = empty
+      by (Some (constants.Utf8 text)) at = fits_at true f.constants is.constants.each index text at
+      by (Some other) at = empty
+
+  pub name_fits : IsText (name_of f)
+  unfolding class_name_of
+  name_fits = by (slice_get f.constants f.this_class)
+    where
+      by : (o : Option Constant) → IsText (unwrap_or (class_name_in f.constants o) [])
+      by None = empty
+      by (Some (constants.Class name)) = utf8_fits name
+      by (Some other) = empty
+
+  string_fits : (c : Constant) → All IsText (string_of f c)
+  string_fits (constants.String utf8) = All-cons IsText (text_at f utf8) [] (utf8_fits utf8) (All-nil IsText)
+  string_fits other = All-nil IsText
+
+  those_fit : (cs : List Constant) → All IsText (flat_map (string_of f) cs)
+  those_fit [] = All-nil IsText
+  those_fit (c ∷ cs) =
+      All-same IsText (flat_map (string_of f) (c ∷ cs)) (string_of f c ++ flat_map (string_of f) cs)
+      (flat_map-cons (string_of f) c cs)
+      (All-append IsText (string_of f c) (flat_map (string_of f) cs) (string_fits c) (those_fit cs))
+
+  strings_fit : All IsText (strings_of f)
+  strings_fit = those_fit f.constants
+
+-- ---- strings of a program
+
+abbrev strings_in : GivenClass → List (List ℕ)
+strings_in given = strings_of given.file
+
+given_fit : (givens : List GivenClass)
+    → ((c : ℕ) (given : GivenClass) → slice_get givens c ≡ Some given → IsClassFile given.file)
+    → All IsText (flat_map strings_in givens)
+given_fit [] files = All-nil IsText
+given_fit (g ∷ gs) files =
+    All-same IsText (flat_map strings_in (g ∷ gs)) (strings_in g ++ flat_map strings_in gs)
+    (flat_map-cons strings_in g gs)
+    (All-append IsText (strings_in g) (flat_map strings_in gs) (strings_fit g.file (files 0 g refl))
+    (given_fit gs (λ c given at. files (suc c) given at)))
+
+first_among : {all texts : List (List ℕ)} → AreFirsts all texts → (x : List ℕ) → Contains texts x → Contains all x
+first_among AreFirsts.none x has = has
+first_among (AreFirsts.again {all = all} {x = y} was among) x has =
+    Contains-append_left all (y ∷ []) x (first_among was x has)
+first_among (AreFirsts.first {all = all} {texts = texts} {x = y} was fresh) x has =
+    elim (Contains-push_cases texts y x has) [
+      | inl before ↦ Contains-append_left all (y ∷ []) x (first_among was x before)
+      | inr same ↦ subst (λ z. Contains (all ++ y ∷ []) z) same (Contains-push all y)
+    ]
+
+pub text_fits : (P : Tables) → HasFiles P → (s : ℕ) → IsText (get_or P.strings s [])
+text_fits P has s = elim (cases_lt s (length P.strings)) [
+  | inl low ↦ All-contains IsText (all_strings P.family) (get_or P.strings s []) all
+      (first_among has.program.strings (get_or P.strings s []) (Contains-get_or P.strings s [] low))
+  | inr high ↦ subst IsText (sym (get_or_past P.strings s [] high)) empty
+]
+  where
+    all : All IsText (all_strings P.family)
+    all = given_fit P.family (λ c given at. has.files c given.file (ap file_of at))
+
+-- ---- a text has no more units than bytes
+
+unit_long : (u : ℕ) → 1 ≤ length (unit_text u)
+unit_long u = by (nat_lt 0 u && nat_lt u 128) (nat_lt u 2048)
+  where
+    by : (ascii wide : Bool) → 1 ≤ length (if ascii then u ∷ [] else
+        (if wide then (192 + u / 64) ∷ (128 + u % 64) ∷ [] else
+        (224 + u / 4096) ∷ (128 + u / 64 % 64) ∷ (128 + u % 64) ∷ []))
+    by true wide = omega arith
+    by false true = omega arith
+    by false false = omega arith
+
+units_short : (units : List ℕ) → length units ≤ length (units_text units)
+units_short [] = omega arith
+units_short (u ∷ us) =
+    omega (
+      arith,
+      ap length (flat_map-cons unit_text u us),
+      length-append (unit_text u) (units_text us),
+      unit_long u,
+      units_short us,
+    )
+
+-- the units that a text spells are those that are read
+pub units_are : (text units : List ℕ) → All (λ unit. unit < 2 ^ 16) units → units_text units ≡ text
+    → units ≡ units_of text
+units_are text units each spelled =
+    sym (units_of-units_text units each) ∙ ap (λ (t : List ℕ). units_of t) spelled
+
+pub units_few : (text units : List ℕ) → IsText text → units_text units ≡ text → length units < 2 ^ 16
+units_few text units short spelled = omega (arith, units_short units, ap length spelled, short.0)
+
+-- ---- files of all classes
+
+module _ (P : Tables) where
+  pub from_files_more : (n : ℕ) → ((c : ℕ) → c < n → IsFromFile P c) → IsFromFile P n → (c : ℕ) → c < n + 1
+      → IsFromFile P c
+  from_files_more n before here c low = elim (cases_lt c n) [
+    | inl less ↦ before c less
+    | inr high ↦ (let same : c ≡ n = omega arith in subst (λ d. IsFromFile P d) (sym same) here)
+  ]
+
+  pub from_files_all : (n : ℕ) → length P.family ≤ n → ((c : ℕ) → c < n → IsFromFile P c) → (c : ℕ)
+      → IsFromFile P c
+  from_files_all n all before c f at = elim (cases_lt c n) [
+    | inl less ↦ before c less f at
+    | inr high ↦ absurd (let none : file_of None ≡ Some f =
+        ap file_of (sym (slice_get_past P.family c (omega (arith, all)))) ∙ at in cc)
+  ]

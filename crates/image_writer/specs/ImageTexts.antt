@@ -1,0 +1,10 @@
+-- The text of an image.
+use Rattle.std.specs.Prelude.{ℕ, List}
+use Rattle.evaluator.specs.Regions.{environment_of}
+use Rattle.object_graph.specs.Images.{ImageTables}
+use Rattle.image_format.specs.Texts.{image_text}
+use Rattle.image_format.specs.Told.{told_regions}
+
+-- the text of its class files and of what it tells of its regions
+abbrev pub text_of : ImageTables → List ℕ
+text_of I = image_text I.program.family (told_regions I.program (environment_of I.regions))
