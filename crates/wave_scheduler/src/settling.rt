@@ -1,6 +1,6 @@
 //! What becomes of all classes, in the end.
 
-ghost use Rattle.std.specs.Prelude.{◌≡◌, Bool, List, IfErr, IfOk, OnOk};
+ghost use Rattle.std.specs.Prelude.{◌≡◌, Bool, List, length, IfErr, IfOk, OnOk};
 ghost use Rattle.graph.specs.Components.{AreComponents};
 ghost use Rattle.use_graph.specs.steps.Bodies.{IsUseGraph};
 ghost use Rattle.initializer_analysis.specs.Verdicts.{AreVerdicts};
@@ -117,6 +117,8 @@ pub fn settle_all_here(
     requires { AreJudged program.now verdicts }
     ensures settled { IfOk result (λ settled. (forced : List Bool) → AreVerdicts program.now forced verdicts
         → AreSettled program.now forced budget (settled_of settled)) }
+    // There is a verdict on each class.
+    ensures count { IfOk result (λ settled. length settled.verdicts ≡ length program.now.classes) }
     ensures fault { IfErr result (λ fault. fault ≡ Memory) }
 {
     match settle_judged(alloc, program, verdicts.as_slice(), budget) {
