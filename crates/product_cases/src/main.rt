@@ -18,6 +18,7 @@ mod codes;
 mod command_runs;
 mod commands;
 mod graphs;
+mod images;
 mod members;
 mod patterns;
 mod programs;
@@ -52,6 +53,8 @@ enum About {
     Commands,
     /// Graphs and their arrangements.
     Graphs,
+    /// Classes, and which objects of their image are reached.
+    Images,
     /// Classes, which of them the patterns of options are about, and what becomes of them at build time.
     Options,
     /// Classes, what linking them answers, and what is seen of their runs.
@@ -66,6 +69,7 @@ impl Subject for About {
             About::ClassBytes => class_bytes::answer(alloc, given, asked),
             About::Commands => commands::answer(alloc, given, asked),
             About::Graphs => graphs::answer(alloc, given, asked),
+            About::Images => images::answer(alloc, given, asked),
             About::Options => patterns::answer(alloc, given, asked),
             About::Programs => programs::answer(alloc, given, asked),
         }
@@ -80,6 +84,7 @@ fn subject_of(name: &str) -> About {
         Some(("class_bytes", _)) => About::ClassBytes,
         Some(("commands", _)) => About::Commands,
         Some(("graphs", _)) => About::Graphs,
+        Some(("images", _)) => About::Images,
         Some(("options" | "verdicts", _)) => About::Options,
         _ => About::Programs,
     }

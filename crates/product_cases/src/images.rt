@@ -1,0 +1,81 @@
+//! Which objects of an image are reached, where the image is built of classes.
+
+use crate::members::or_nothing;
+use built_in::class_id::ClassId;
+use cases::add_class_files;
+use cli::{BuildOptions, build_here};
+use object_graph::{Image, NameSet, reachable};
+use std::alloc::{AllocError, Global};
+
+/// Given are classes. Asked is `reached BUDGET`, for the objects that some static field of their image reaches, each as
+/// its class and its number, and how many objects the image has. Each initializer may cost so much.
+pub fn answer(alloc: Global, given: &str, asked: &str) -> Result<String, AllocError> {
+    let mut files = Vec::new(alloc);
+    let misspelled = add_class_files(alloc, &mut files, given)?;
+    if !misspelled.is_empty() {
+        return format!(in alloc; "misspelled{misspelled}");
+    }
+    match asked.split_once(' ') {
+        Some(("reached", budget)) => reached(alloc, &files, budget.parse().unwrap_or(0)),
+        _ => String::from_str(alloc, "no question"),
+    }
+}
+
+fn reached(alloc: Global, files: &[Vec<u8>], budget: u64) -> Result<String, AllocError> {
+    let options = BuildOptions {
+        run_time: None,
+        build_time: None,
+        budget,
+    };
+    match build_here(alloc, files, &options) {
+        Ok(built) => reached_in(alloc, &built.image),
+        Err(_) => String::from_str(alloc, "no image"),
+    }
+}
+
+/// The objects by class and number, and how many there are of how many.
+fn reached_in(alloc: Global, image: &Image) -> Result<String, AllocError> {
+    let found = reachable(alloc, image)?;
+    let mut text = String::new(alloc);
+    let mut all = 0_u64;
+    for class in 0..image.program().given_count() {
+        let count = image.object_count(class);
+        add_class(alloc, &mut text, image, &found, class, count)?;
+        all = all.saturating_add(u64::from(count));
+    }
+    let text = or_nothing(text)?;
+    let count = found.len();
+    format!(in alloc; "{text}: {count} of {all}")
+}
+
+/// Adds the reached ones of the first so many objects of a class.
+fn add_class(
+    alloc: Global,
+    text: &mut String,
+    image: &Image,
+    found: &NameSet,
+    class: u32,
+    count: u32,
+) -> Result<(), AllocError> {
+    for number in 0..count {
+        if found.has(class, u64::from(number)) {
+            add_object(alloc, text, image, class, number)?;
+        }
+    }
+    Ok(())
+}
+
+fn add_object(
+    alloc: Global,
+    text: &mut String,
+    image: &Image,
+    class: u32,
+    number: u32,
+) -> Result<(), AllocError> {
+    if !text.is_empty() {
+        text.push_str(", ")?;
+    }
+    let name = image.program().class_text(alloc, ClassId::Given(class))?;
+    let object = format!(in alloc; "{name} {number}")?;
+    text.push_str(&object)
+}
