@@ -29,6 +29,15 @@ fn told(alloc: Global, status: u8, out: &[u8], errors: &[u8]) -> Result<String, 
     format!(in alloc; "{status} [{out}] [{errors}]")
 }
 
+/// What a command writes to standard output, or, where that is nothing, to standard error.
+pub fn output(alloc: Global, shelf: &mut Shelf, text: &str) -> Result<String, AllocError> {
+    let words = words_of(alloc, text)?;
+    let mut errors = Vec::new(alloc);
+    let (_status, out) = command(alloc, &words, shelf, Vec::new(alloc), &mut errors);
+    let shown = if out.is_empty() { &errors } else { &out };
+    String::from_str(alloc, from_utf8(shown).unwrap_or("no text"))
+}
+
 /// What a command answers whose standard output has so much room.
 pub fn with_output(
     alloc: Global,

@@ -6,7 +6,7 @@
 //!
 //! A word that ends with `.class` names a class file, which is read and written back. One that ends with `/` has the
 //! class files since the last such word linked, and one with an entry, `=` and a file has them run, and compares what
-//! they show with that file.
+//! they show with that file. `report=` and a file compares the report of a build of them with that file.
 //!
 //! It prints a line for each word, and one for each answer that is not as it is wanted. Its status is 0 where all
 //! are.
@@ -23,6 +23,7 @@ mod members;
 mod patterns;
 mod programs;
 mod questions;
+mod reports;
 mod rewriting;
 mod runs;
 mod schedules;
@@ -96,6 +97,10 @@ where
     R: rt::Files + AllocGlobal,
     W: Write,
 {
+    if let Some(("report", file)) = word.split_once('=') {
+        let wanted = fs::read_to_string(rt, file)?;
+        return do_report(rt.alloc(), out, file, classes, &wanted);
+    }
     if let Some((entry, file)) = word.split_once('=') {
         let since = mem::replace(classes, Vec::new(rt.alloc()));
         let wanted = fs::read_to_string(rt, file)?;
@@ -157,6 +162,24 @@ fn do_run<W: Write>(
         return Ok(true);
     }
     writeln!(out, "{name}: {shown}")?;
+    Ok(false)
+}
+
+/// Writes whether the report of a build of class files is what is wanted, and the report where it is not.
+fn do_report<W: Write>(
+    alloc: Global,
+    out: &mut W,
+    name: &str,
+    classes: &[ClassFile],
+    wanted: &str,
+) -> io::Result<bool> {
+    let count = classes.len();
+    let text = reports::reported(alloc, classes)?;
+    if text.as_str() == wanted {
+        writeln!(out, "{name}: {count} reported as wanted")?;
+        return Ok(true);
+    }
+    writeln!(out, "{name}: {text}")?;
     Ok(false)
 }
 

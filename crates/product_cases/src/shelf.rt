@@ -1,6 +1,7 @@
 //! Files in memory.
 
 use cases::add_class_files;
+use classfile::ClassFile;
 use cli::{FileFault, Files};
 use std::alloc::{AllocError, Global};
 
@@ -31,6 +32,18 @@ impl Shelf {
             misspelled.push_str(&wrong)?;
         }
         Ok(misspelled)
+    }
+
+    /// Adds a class file, and its name to a text, with a space before it. It is named by its place.
+    pub fn add_class(&mut self, names: &mut String, class: &ClassFile) -> Result<(), AllocError> {
+        let place = self.names.len();
+        let name = format!(in self.alloc; "{place}.class")?;
+        let bytes = classfile::write(self.alloc, class)?;
+        names.push_str(" ")?;
+        names.push_str(&name)?;
+        self.names.push(name)?;
+        self.contents.push(bytes)?;
+        Ok(())
     }
 
     /// The bytes of a file.

@@ -1,0 +1,16 @@
+//! Reports of builds of class files.
+
+use crate::command_runs::output;
+use crate::shelf::Shelf;
+use classfile::ClassFile;
+use std::alloc::{AllocError, Global};
+
+/// The report of a build of class files by no options, or why there is none.
+pub fn reported(alloc: Global, classes: &[ClassFile]) -> Result<String, AllocError> {
+    let mut shelf = Shelf::new(alloc);
+    let mut words = String::from_str(alloc, "report")?;
+    for class in classes {
+        shelf.add_class(&mut words, class)?;
+    }
+    output(alloc, &mut shelf, &words)
+}
