@@ -1,8 +1,7 @@
 -- Parts that are each lawful by what is wanted there are lawful one after the other.
-use Rattle.std.proofs.Common.{◌≡◌, ℕ, List, [], ◌∷◌, ◌++◌, Result, refl, sym, ap, subst, ◌∙◌, append_assoc}
+use Rattle.std.proofs.Common.{◌≡◌, ℕ, List, [], ◌∷◌, ◌++◌, Result, refl, sym, subst, ◌∙◌, append_assoc}
 use Rattle.std.specs.List.{flat_map, AllZip}
 use Rattle.std.proofs.lemmas.List.{append-nil}
-use Rattle.image_reader.specs.declared.fault.RegionFault.{RegionFault}
 use Rattle.image_reader.specs.FirstFailing.{EachFails}
 use Rattle.image_reader.specs.reading.Results.{each_at}
 use Rattle.image_reader.proofs.Lawful.{Lawful, Both, Is, pure_lawful, restated, then_lawful}

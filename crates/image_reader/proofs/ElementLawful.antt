@@ -1,6 +1,6 @@
 -- Readers of the elements of arrays are lawful.
-use Rattle.std.proofs.Common.{◌≡◌, ℕ, ℤ, pos, negsuc, suc, ◌+◌, ◌-◌, ◌<◌, ◌≤◌, ◌^◌, ◌%◌, ◌/◌, Bool, true, false, ◌&&◌, cond, ltb, List, [], ◌∷◌, ◌++◌, length}
-use Rattle.std.proofs.Common.{Result, Ok, Err, refl, sym, ap, subst, ◌∙◌, arith, inl, inr}
+use Rattle.std.proofs.Common.{◌≡◌, ℕ, ℤ, pos, negsuc, suc, ◌-◌, ◌<◌, ◌^◌, ◌%◌, ◌/◌, Bool, true, false, ◌&&◌, ltb, [], ◌∷◌}
+use Rattle.std.proofs.Common.{refl, sym, ap, subst, ◌∙◌, arith, inl, inr}
 use Rattle.std.specs.Prelude.{FitsSigned, int_le}
 use Rattle.std.specs.Int.{Width, w8, w16, w32, w64, to_be_bytes, cast_signed, cast_unsigned}
 use Rattle.std.proofs.lemmas.Bool.{cases_lt, lt-ltb, le-ltb, le-leb, leb-true}
@@ -10,14 +10,13 @@ use Rattle.program.specs.declared.runtime_constant.FieldKind.{FieldKind}
 use Rattle.program.specs.declared.runtime_constant.FieldKind.TheVariants as kinds
 use Rattle.image_format.specs.declared.value.ImageValue.{ImageValue}
 use Rattle.image_format.specs.declared.value.ImageValue.TheVariants as values
-use Rattle.image_format.specs.Shapes.{is_in_range, IsIntOf, IsLong, Suits}
-use Rattle.image_format.specs.Texts.{element_text, int_bits, long_bits, value_text}
-use Rattle.image_reader.specs.declared.fault.RegionFault.{RegionFault}
+use Rattle.image_format.specs.Shapes.{is_in_range, IsIntOf, Suits}
+use Rattle.image_format.specs.Texts.{element_text}
 use Rattle.image_reader.specs.FirstFailing.{Number, limit_of}
 use Rattle.image_reader.specs.RegionFaults.{CutNumber, ElementFails, IsElement}
 use Rattle.image_reader.specs.reading.Results.{number_at}
 use Rattle.image_reader.specs.reading.Values.{made_at, byte_of_bits, char_of_bits, short_of_bits, int_of_bits, long_of_bits, element_at}
-use Rattle.image_reader.proofs.Lawful.{Lawful, Mapped, IsWide, wide8, wide16, wide32, wide64, number_lawful, map_lawful, restated}
+use Rattle.image_reader.proofs.Lawful.{Lawful, IsWide, wide8, wide16, wide32, wide64, number_lawful, map_lawful, restated}
 use Rattle.image_reader.proofs.ValueLawful.{value_lawful}
 
 both_true : (a b : Bool) → a ≡ true → b ≡ true → (a && b) ≡ true

@@ -8,7 +8,6 @@ use Rattle.std.proofs.lemmas.List.{take_at, drop_at, take-append-drop, length-ap
 use Rattle.std.proofs.lemmas.List.{get_or-take, get_or_past}
 use Rattle.std.proofs.lemmas.Nat.{be_bytes_2, be_bytes_4, be_bytes_8, from_be_bytes-to_be_bytes_2}
 use Rattle.std.proofs.lemmas.Nat.{from_be_bytes-to_be_bytes_4, from_be_bytes-to_be_bytes_8}
-use Rattle.image_reader.specs.declared.fault.RegionFault.{RegionFault}
 use Rattle.image_reader.specs.declared.fault.RegionFault.TheVariants as faults
 use Rattle.image_reader.specs.reading.Results.{◌>>=◌, number_at, run_at}
 use Rattle.image_reader.specs.FirstFailing.{FailsAfter, Either, Number, Run, limit_of, IsBytes}

@@ -11,3 +11,6 @@ pub mod MarkLemmas
 pub mod MarkLawful
 pub mod NamesLemmas
 pub mod AllRegionsLemmas
+pub mod OneOfLemmas
+pub mod AllRegionsLaw
+pub mod FrameLaw

@@ -1,14 +1,12 @@
 -- Readers of marks are lawful.
-use Rattle.std.proofs.Common.{◌≡◌, ℕ, zero, suc, ◌<◌, ◌≤◌, ◌^◌, List, [], ◌∷◌, ◌++◌, length, Option, Some, None, Result, Ok, Err}
-use Rattle.std.proofs.Common.{refl, sym, ap, subst, ◌∙◌, arith, inl, inr}
+use Rattle.std.proofs.Common.{◌≡◌, ℕ, zero, suc, List, [], ◌++◌, length, Some, None, Result, Ok, Err}
+use Rattle.std.proofs.Common.{refl, sym, ap, subst, ◌∙◌, arith}
 use Rattle.std.specs.Prelude.{IfOk, IfErr}
 use Rattle.std.specs.Int.{w8}
 use Rattle.classfile.specs.Spelling.{u1}
 use Rattle.loading.specs.Families.{Family, IsFamily}
-use Rattle.image_format.specs.declared.region.ImageRegion.{ImageRegion}
 use Rattle.image_format.specs.Texts.{mark_text, region_text}
 use Rattle.image_reader.specs.declared.fault.RegionFault.{RegionFault}
-use Rattle.image_reader.specs.declared.fault.RegionFault.TheVariants as faults
 use Rattle.image_reader.specs.declared.fault.MarksFault.{MarksFault}
 use Rattle.image_reader.specs.declared.fault.MarksFault.TheVariants as marks
 use Rattle.image_reader.specs.FirstFailing.{Number, IsBytes}
@@ -17,11 +15,10 @@ use Rattle.image_reader.specs.Regions.{Begins}
 use Rattle.image_reader.specs.Inside.{inside}
 use Rattle.image_reader.specs.MarkFaults.{numbers, MarkFits, IsMark, MarkedFails, MarkFails, MarkFailsIn, MarksFail, AreMarks}
 use Rattle.image_reader.specs.MarkFaults.{IsMarksFault, FailsIn, GivesIn}
-use Rattle.image_reader.specs.reading.Results.{◌>>=◌, number_at}
+use Rattle.image_reader.specs.reading.Results.{number_at}
 use Rattle.image_reader.specs.reading.Objects.{region_at}
 use Rattle.image_reader.specs.reading.Marks.{Mark, marked, marked_at, mark_at, inside_at, mark_in, marks_at}
 use Rattle.image_reader.proofs.Lawful.{Lawful, Both, Is, Mapped, wide8, number_lawful, pure_lawful, map_lawful, then_lawful, restated}
-use Rattle.image_reader.proofs.RuleLawful.{append_equal}
 use Rattle.image_reader.proofs.EachLawful.{each_lawful}
 use Rattle.image_reader.proofs.ValueLawful.{shape_lawful}
 use Rattle.image_reader.proofs.ObjectLawful.{region_lawful}

@@ -1,35 +1,33 @@
 -- Readers of objects and regions are lawful.
-use Rattle.std.proofs.Common.{◌≡◌, ℕ, ◌<◌, ◌≤◌, ◌^◌, ◌⊎◌, Bool, true, false, ◌&&◌, cond, ltb, eqb, option_map, replicate, List, [], ◌∷◌, ◌++◌, length}
-use Rattle.std.proofs.Common.{Option, Some, None, is_some, Result, Ok, Err, refl, sym, ap, subst, ◌∙◌, append_assoc, arith, inl, inr}
+use Rattle.std.proofs.Common.{◌≡◌, ℕ, ◌<◌, ◌^◌, Bool, true, false, ◌&&◌, ltb, eqb, option_map, replicate, List, [], ◌++◌, length}
+use Rattle.std.proofs.Common.{Option, Some, None, is_some, Ok, Err, refl, sym, ap, subst, ◌∙◌, arith}
 use Rattle.std.specs.Bool.{Decides}
-use Rattle.std.specs.List.{flat_map, All, AllZip}
+use Rattle.std.specs.List.{flat_map}
 use Rattle.std.specs.Int.{w8, w16, w32}
 use Rattle.std.proofs.lemmas.Bool.{ltb-true, lt-ltb, eqb-true}
-use Rattle.std.proofs.lemmas.List.{append-nil}
 use Rattle.classfile.specs.Spelling.{u1, u2, u4}
-use Rattle.built_in.specs.declared.class_id.ArrayType.{ArrayType}
 use Rattle.built_in.specs.declared.class_id.ClassId.{ClassId}
 use Rattle.built_in.specs.declared.class_id.ClassId.TheVariants as classes
 use Rattle.classfile.specs.ClassFile.{ClassFile}
 use Rattle.loading.specs.Names.{name_of}
-use Rattle.loading.specs.Families.{Family, IsFamily, name_in, file_in, passes}
+use Rattle.loading.specs.Families.{Family, IsFamily, file_in, passes}
 use Rattle.loading.specs.ClassIds.IsNamed.{given, built_in, array}
 use Rattle.program.specs.InstanceFields.{has_instances}
 use Rattle.loading.specs.ClassIds.{IsNamed, StandsFor, element_text as descriptor_of}
 use Rattle.loading.proofs.UniquenessLemmas.{one_class}
 use Rattle.program.specs.declared.runtime_constant.FieldKind.{FieldKind}
-use Rattle.program.specs.InstanceFields.{slots_of, static_kinds, is_instantiable_in}
+use Rattle.program.specs.InstanceFields.{slots_of, static_kinds}
 use Rattle.image_format.specs.declared.value.ImageValue.{ImageValue}
 use Rattle.image_format.specs.declared.object.ImageObject.{ImageObject}
 use Rattle.image_format.specs.declared.region.ImageRegion.{ImageRegion}
 use Rattle.image_format.specs.Elements.{kind_of_elements}
 use Rattle.image_format.specs.Names.{class_name}
-use Rattle.image_format.specs.Shapes.{Suits, HasObjects, IsArrayType, AreSlots, ObjectHasShape, HasShape, has_values}
+use Rattle.image_format.specs.Shapes.{Suits, HasObjects, AreSlots, ObjectHasShape}
 use Rattle.image_format.specs.Texts.{value_text, element_text, object_text, region_text, named_text, parts_text}
 use Rattle.image_reader.specs.declared.fault.RegionFault.{RegionFault}
 use Rattle.image_reader.specs.declared.fault.RegionFault.TheVariants as faults
-use Rattle.image_reader.specs.FirstFailing.{Either, Number, Run, Ruled, RuleFails, EachFails, IsBytes, times}
-use Rattle.image_reader.specs.RegionFaults.{Cut, CutNumber, IsValue, ValueFails, IsElement, ElementFails, ElementsFail}
+use Rattle.image_reader.specs.FirstFailing.{Either, Number, Run, Ruled, RuleFails, EachFails, times}
+use Rattle.image_reader.specs.RegionFaults.{CutNumber, IsValue, ValueFails, ElementFails, ElementsFail}
 use Rattle.image_reader.specs.RegionFaults.{form_of, NameFails, IsName, NamesClass, IsClass, ClassFails, SlotsFail, ObjectFails}
 use Rattle.image_reader.specs.RegionFaults.{IsObject, ObjectsFail, AreStatics, RegionFails, IsRegion}
 use Rattle.image_reader.specs.reading.Results.{◌>>=◌, number_at, run_at, each_at}

@@ -1,5 +1,5 @@
 -- What a lawful reader answers, unless memory runs out.
-use Rattle.std.proofs.Common.{◌≡◌, ℕ, ◌⊎◌, List, [], ◌++◌, Result, Ok, Err, refl, sym, ap, subst, ◌∙◌, inl, inr}
+use Rattle.std.proofs.Common.{◌≡◌, ℕ, ◌⊎◌, List, ◌++◌, Result, Ok, Err, refl, ap, subst, ◌∙◌, inl, inr}
 use Rattle.std.specs.Prelude.{IfOk, IfErr}
 use Rattle.loading.specs.Families.{Family, IsFamily}
 use Rattle.image_format.specs.declared.region.ImageRegion.{ImageRegion}

@@ -1,12 +1,10 @@
 -- Lawful readers put together: one after another, under a rule, and to the end of the bytes.
 use Rattle.std.proofs.Common.{◌≡◌, ℕ, zero, suc, ◌<◌, ◌⊎◌, Bool, true, false, cond, List, [], ◌∷◌, ◌++◌, Result, Ok}
 use Rattle.std.proofs.Common.{Err, refl, sym, ap}
-use Rattle.std.proofs.Common.{subst, ◌∙◌, arith, inl, inr}
+use Rattle.std.proofs.Common.{◌∙◌, arith, inl, inr}
 use Rattle.std.specs.Bool.{Decides}
-use Rattle.std.proofs.lemmas.List.{append-nil}
-use Rattle.image_reader.specs.declared.fault.RegionFault.{RegionFault}
 use Rattle.image_reader.specs.reading.Results.{◌>>=◌}
-use Rattle.image_reader.specs.FirstFailing.{Either, IsBytes, Breaks, BreaksOr, Ruled, RuleFails}
+use Rattle.image_reader.specs.FirstFailing.{IsBytes, BreaksOr, Ruled, RuleFails}
 use Rattle.image_reader.proofs.Lawful.{Lawful, Mapped, bind_ok, bind_err, ok_is, fits_as}
 
 pub append_equal : (a b c d : List ℕ) → a ≡ b → c ≡ d → a ++ c ≡ b ++ d

@@ -1,8 +1,8 @@
 -- Readers of values are lawful.
-use Rattle.std.proofs.Common.{◌≡◌, ℕ, ℤ, zero, suc, ◌<◌, ◌^◌, Bool, true, false, not, cond, ltb, List, [], ◌∷◌, ◌++◌, length}
-use Rattle.std.proofs.Common.{Option, Some, None, Result, Ok, Err, refl, sym, ap, subst, ◌∙◌, append_assoc, arith, inl, inr}
+use Rattle.std.proofs.Common.{◌≡◌, ℕ, ℤ, zero, suc, ◌<◌, ◌^◌, Bool, true, false, not, List, [], ◌∷◌, ◌++◌, length}
+use Rattle.std.proofs.Common.{Option, Some, None, Ok, Err, refl, sym, ap, subst, ◌∙◌, arith}
 use Rattle.std.specs.Prelude.{FitsSigned}
-use Rattle.std.specs.Int.{w8, w16, w32, w64, to_be_bytes, cast_signed, cast_unsigned}
+use Rattle.std.specs.Int.{w8, w16, w32, w64, cast_signed, cast_unsigned}
 use Rattle.std.specs.List.{flat_map, All, AllZip}
 use Rattle.std.proofs.lemmas.Bool.{ne_eqb}
 use Rattle.std.proofs.lemmas.List.Elements.{All-nil, All-cons, All-tail}
@@ -13,22 +13,21 @@ use Rattle.program.specs.declared.runtime_constant.FieldKind.{FieldKind}
 use Rattle.program.specs.declared.runtime_constant.FieldKind.TheVariants as kinds
 use Rattle.image_format.specs.declared.value.ImageValue.{ImageValue}
 use Rattle.image_format.specs.declared.value.ImageValue.TheVariants as values
-use Rattle.image_format.specs.Shapes.{is_in_range, IsIntOf, IsLong, IsReference, AreUnits, Suits}
+use Rattle.image_format.specs.Shapes.{is_in_range, IsIntOf, IsLong, IsReference, Suits}
 use Rattle.image_format.specs.Texts.{u8, units_text, value_text}
-use Rattle.image_reader.specs.declared.fault.RegionFault.{RegionFault}
 use Rattle.image_reader.specs.declared.fault.RegionFault.TheVariants as faults
 use Rattle.image_reader.specs.declared.tag.Tag.{Tag}
 use Rattle.image_reader.specs.declared.tag.Tag.TheVariants as tags
-use Rattle.image_reader.specs.FirstFailing.{Either, Number, Ruled, RuleFails, BreaksOr, times}
+use Rattle.image_reader.specs.FirstFailing.{Either, Number, Ruled, times}
 use Rattle.image_reader.specs.Tags.{tag_of, may_have, is_int, is_long, is_reference}
-use Rattle.image_reader.specs.RegionFaults.{CutNumber, BodyFails, TaggedFails, ValueFails, IsValue, IsUnit, UnitsFail}
-use Rattle.image_reader.specs.reading.Results.{◌>>=◌, number_at, each_at}
-use Rattle.image_reader.specs.reading.Values.{unit_at, units_at, counted_units_at, int_of_bits, long_of_bits, int_at, long_at}
+use Rattle.image_reader.specs.RegionFaults.{CutNumber, BodyFails, TaggedFails, ValueFails, IsValue, UnitsFail}
+use Rattle.image_reader.specs.reading.Results.{◌>>=◌, number_at}
+use Rattle.image_reader.specs.reading.Values.{unit_at, units_at, counted_units_at, int_of_bits, long_of_bits, int_at}
 use Rattle.image_reader.specs.reading.Values.{text_at, reference_at, body_at, tagged_at, value_at}
 use Rattle.image_reader.proofs.Lawful.{Lawful, Both, Is, Mapped, wide8, wide16, wide32, wide64, number_lawful, pure_lawful}
 use Rattle.image_reader.proofs.Lawful.{restated, then_lawful, map_lawful}
 use Rattle.image_reader.proofs.RuleLawful.{Refuses, append_equal, kept_lawful, guarded_lawful}
-use Rattle.image_reader.proofs.EachLawful.{Spelled, AllSpelled, each_lawful}
+use Rattle.image_reader.proofs.EachLawful.{AllSpelled, each_lawful}
 
 pub refuses_not : (b : Bool) → Refuses (not b) (b ≡ true)
 refuses_not true = (λ e. refl, λ e. refl)

@@ -5,9 +5,10 @@ use Rattle.loading.specs.Families.{Family}
 use Rattle.image_format.specs.declared.region.ImageRegion.{ImageRegion}
 use Rattle.image_format.specs.Images.{AreRegions}
 use Rattle.image_format.specs.Texts.{mark_text}
-use Rattle.image_reader.specs.declared.fault.MarksFault.TheVariants as marks
+use Rattle.image_reader.specs.declared.fault.MarksFault.{MarksFault}
 use Rattle.image_reader.specs.declared.fault.RegionsFault.{RegionsFault}
 use Rattle.image_reader.specs.declared.fault.RegionsFault.TheVariants as faults
+use Rattle.image_reader.specs.Inside.{among_regions}
 use Rattle.image_reader.specs.MarkFaults.{AreMarks, MarksFail}
 use Rattle.image_reader.specs.Nameless.{IsNameless}
 
@@ -16,11 +17,9 @@ pub record RegionsText (family : Family) (bytes : List ℕ) (regions : List (Opt
   pub fits : AreRegions family regions
   pub spelled : bytes ≡ flat_map (mark_text family) regions
 
--- What is wrong first: a part, then what is left, then a name. Memory may run out.
+-- What is wrong first: a part, then what is left, then a name.
 pub data RegionsFail (family : Family) (bytes : List ℕ) : RegionsFault → Type 0 where
-  memory : RegionsFail family bytes faults.Memory
-  truncated : MarksFail family bytes marks.Truncated → RegionsFail family bytes faults.Truncated
-  shape : {c : ℕ} → MarksFail family bytes (marks.Shape c) → RegionsFail family bytes (faults.Shape c)
+  part : (e : MarksFault) → MarksFail family bytes e → RegionsFail family bytes (among_regions e)
   extra : (regions : List (Option ImageRegion)) (text rest : List ℕ) → AreMarks family regions text
       → bytes ≡ text ++ rest → rest ≢ [] → RegionsFail family bytes faults.Extra
   name : (regions : List (Option ImageRegion)) {c : ℕ} → AreMarks family regions bytes → IsNameless regions c

@@ -6,5 +6,6 @@ pub mod HeaderFaults
 pub mod Nameless
 pub mod Inside
 pub mod AllRegions
+pub mod TextOrFault
 pub mod MarkFaults
 pub mod reading

@@ -1,5 +1,5 @@
 -- How bytes fail to begin with a region of a class: the first of the checks, in the order of the format, that fails.
-use Rattle.std.specs.Prelude.{◌≡◌, ℕ, ◌<◌, ◌^◌, Bool, true, List, length, Option, Some, None}
+use Rattle.std.specs.Prelude.{◌≡◌, ℕ, ◌<◌, ◌^◌, true, List, length, Option, Some, None}
 use Rattle.std.specs.List.{AllZip, flat_map}
 use Rattle.std.specs.Int.{Width, w8, w16, w32, w64, byte_len, cast_signed}
 use Rattle.built_in.specs.declared.class_id.ClassId.{ClassId}
@@ -13,13 +13,13 @@ use Rattle.image_format.specs.declared.object.ImageObject.{ImageObject}
 use Rattle.image_format.specs.declared.region.ImageRegion.{ImageRegion}
 use Rattle.image_format.specs.Elements.{kind_of_elements}
 use Rattle.image_format.specs.Names.{class_name}
-use Rattle.image_format.specs.Shapes.{Suits, is_in_range, HasObjects, AreSlots, ObjectHasShape, HasShape}
+use Rattle.image_format.specs.Shapes.{Suits, is_in_range, HasObjects, ObjectHasShape, HasShape}
 use Rattle.image_format.specs.Texts.{value_text, element_text, object_text, region_text, named_text}
 use Rattle.image_reader.specs.declared.fault.RegionFault.{RegionFault}
 use Rattle.image_reader.specs.declared.fault.RegionFault.TheVariants as faults
 use Rattle.image_reader.specs.declared.tag.Tag.{Tag}
 use Rattle.image_reader.specs.declared.tag.Tag.TheVariants as tags
-use Rattle.image_reader.specs.FirstFailing.{Either, FailsAfter, Breaks, BreaksOr, Ruled, RuleFails, Number, Run, EachFails, times}
+use Rattle.image_reader.specs.FirstFailing.{Either, BreaksOr, Ruled, RuleFails, Number, EachFails, times}
 use Rattle.image_reader.specs.Tags.{tag_of, may_have}
 
 abbrev pub Cut : ℕ → List ℕ → RegionFault → Type 0

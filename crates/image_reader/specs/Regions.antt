@@ -1,5 +1,5 @@
 -- Bytes that begin with the text of a region of a class, or that fail to.
-use Rattle.std.specs.Prelude.{◌≡◌, ℕ, ◌⊎◌, List, ◌++◌, Result, Ok, Err}
+use Rattle.std.specs.Prelude.{◌≡◌, ℕ, ◌⊎◌, List, ◌++◌}
 use Rattle.loading.specs.Families.{Family}
 use Rattle.image_format.specs.declared.region.ImageRegion.{ImageRegion}
 use Rattle.image_reader.specs.declared.fault.RegionFault.{RegionFault}

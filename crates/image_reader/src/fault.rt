@@ -36,7 +36,7 @@ pub enum RegionsFault {
     /// Bytes follow the last region.
     Extra,
     /// The region of this class, and of no lower one, names an object that there is not.
-    Name { class: usize },
+    Name { class: u32 },
 }
 
 impl MarksFault {

@@ -1,9 +1,11 @@
 //! What stands round the parts of an image: its magic number, its version, its digest.
 
-ghost use Rattle.std.specs.Prelude.{◌≡◌, IfOk, IfErr};
+ghost use Rattle.std.specs.Prelude.{◌≡◌, ℕ, List, Err, IfOk, IfErr, IsOkAnd};
 ghost use Rattle.std.specs.Bool.{Decides};
 ghost use Rattle.sha2.specs.Sha256.{sha256};
+ghost use Rattle.image_reader.specs.declared.header.HeaderFault.{HeaderFault as Fault};
 ghost use Rattle.image_reader.specs.HeaderFaults.{HeaderFails, IsFramed};
+ghost use Rattle.image_reader.specs.TextOrFault.{TextOrFault};
 
 use sha2::{Digest, Sha256};
 
@@ -42,6 +44,25 @@ fn is_digest(front: &[u8], digest: &[u8]) -> bool
 /// # Errors
 /// The first of these that holds: fewer than 42 bytes, another magic number, another version, another digest.
 pub fn parts_of(bytes: &[u8]) -> Result<&[u8], HeaderFault>
+    // What is answered is framed by the rest of the bytes.
+    ensures parts { IfOk result (λ parts. IsFramed bytes.now parts.now) }
+    // Of bytes that frame anything that is answered.
+    ensures only_parts { (parts : List ℕ) → IsFramed bytes.now parts → IsOkAnd result (λ answer. answer.now ≡ parts) }
+    // What is refused is refused for what is wrong first.
+    ensures fault { IfErr result (HeaderFails bytes.now) }
+    // Everything else is refused for what is wrong first.
+    ensures only_fault { (x : Fault) → HeaderFails bytes.now x → result ≡ Err x }
+{
+    framed_in(bytes)
+}
+
+/// Bytes frame the parts of an image or have one fault, and never both.
+pub fn frame_or_fault()
+    ensures { (bytes : List ℕ) → TextOrFault (IsFramed bytes) (HeaderFails bytes) }
+{}
+
+/// What stands between the version and the digest.
+fn framed_in(bytes: &[u8]) -> Result<&[u8], HeaderFault>
     ensures parts { IfOk result (λ parts. IsFramed bytes.now parts.now) }
     ensures fault { IfErr result (HeaderFails bytes.now) }
 {

@@ -13,8 +13,8 @@ mod tag;
 mod values;
 
 pub use fault::{MarksFault, RegionFault, RegionsFault};
-pub use header::{HeaderFault, parts_of};
+pub use header::{HeaderFault, frame_or_fault, parts_of};
 pub use marks::read_marks;
 pub use names::nameless;
 pub use region::{read_region, region_or_fault};
-pub use regions::read_regions;
+pub use regions::{read_regions, regions_or_fault};

@@ -1,11 +1,9 @@
 -- Readers of objects and regions.
-use Rattle.std.specs.Prelude.{◌≡◌, ℕ, Bool, true, false, not, ◌&&◌, nat_lt, nat_eq, List, [], ◌∷◌, Option, Some, None, Result, Ok, Err}
-use Rattle.std.specs.Prelude.{cond, is_some}
+use Rattle.std.specs.Prelude.{ℕ, Bool, ◌&&◌, nat_lt, nat_eq, List, [], Option, Some, None, Result, Ok, Err}
+use Rattle.std.specs.Prelude.{cond}
 use Rattle.std.specs.Int.{w8, w16, w32}
-use Rattle.built_in.specs.declared.class_id.ArrayType.{ArrayType}
 use Rattle.built_in.specs.declared.class_id.ClassId.{ClassId}
 use Rattle.built_in.specs.declared.class_id.ClassId.TheVariants as classes
-use Rattle.loading.specs.ClassIds.{element_text as descriptor_of}
 use Rattle.loading.specs.Families.{Family}
 use Rattle.program.specs.declared.runtime_constant.FieldKind.{FieldKind}
 use Rattle.program.specs.InstanceFields.{is_instantiable_in, slots_of, static_kinds}

@@ -1,5 +1,5 @@
 -- Readers of values and elements.
-use Rattle.std.specs.Prelude.{ℕ, pos, List, [], Option, Some, None, Result, Ok, Err, cond, not, if◌then◌else◌}
+use Rattle.std.specs.Prelude.{ℕ, pos, List, [], Option, Some, None, Result, Ok, Err, cond, not}
 use Rattle.std.specs.Int.{w8, w16, w32, w64, cast_signed}
 use Rattle.program.specs.declared.runtime_constant.FieldKind.{FieldKind}
 use Rattle.program.specs.declared.runtime_constant.FieldKind.TheVariants as kinds

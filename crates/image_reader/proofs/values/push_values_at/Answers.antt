@@ -1,4 +1,3 @@
-use Rattle.std.proofs.Common.{get_or, ap}
 use Rattle.std.proofs.lemmas.Result.{err_from_is_err_and}
 use Rattle.image_reader.specs.reading.Values.{value_at}
 use Rattle.image_reader.proofs.EachLemmas.{next_of, fails_of, all_of}
