@@ -14,3 +14,5 @@ pub mod AllRegionsLemmas
 pub mod OneOfLemmas
 pub mod AllRegionsLaw
 pub mod FrameLaw
+pub mod FileLemmas
+pub mod FileLawful

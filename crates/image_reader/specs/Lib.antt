@@ -7,5 +7,6 @@ pub mod Nameless
 pub mod Inside
 pub mod AllRegions
 pub mod TextOrFault
+pub mod FileFaults
 pub mod MarkFaults
 pub mod reading

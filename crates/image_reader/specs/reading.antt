@@ -3,3 +3,4 @@ pub mod Values
 pub mod ClassNames
 pub mod Objects
 pub mod Marks
+pub mod Files

@@ -3,8 +3,12 @@
 ghost use Rattle.std.specs.Prelude.{◌≡◌};
 ghost use Rattle.image_reader.specs.declared.fault.RegionFault.TheVariants.{Memory};
 ghost use Rattle.image_reader.specs.declared.fault.MarksFault.TheVariants as marks;
+ghost use Rattle.image_reader.specs.declared.fault.FilesFault.TheVariants as files;
+ghost use Rattle.image_reader.specs.FileFaults.{of_class};
 ghost use Rattle.image_reader.specs.Inside.{inside, among_regions};
+ghost use Rattle.image_reader.specs.reading.Files.{of_run};
 
+use classfile::ClassFault;
 use std::alloc::{AllocError, AllocFailed};
 
 /// What is wrong with a region, or that memory ran out.
@@ -39,6 +43,38 @@ pub enum RegionsFault {
     Name { class: u32 },
 }
 
+/// What is wrong with the class files of an image, or that memory ran out.
+#[derive(Debug, Drop)]
+pub enum FilesFault {
+    Memory,
+    /// The bytes end too early.
+    Truncated,
+    /// The class file of this place is none.
+    Class { index: u32, fault: ClassFault },
+    /// The name of a class does not come after that of the class before.
+    Order,
+}
+
+impl FilesFault {
+    /// The fault of the class file of a place.
+    pub(crate) fn of_class(index: u32, fault: ClassFault) -> FilesFault
+        ensures { result ≡ of_class index fault }
+    {
+        match fault {
+            ClassFault::Memory => FilesFault::Memory,
+            fault => FilesFault::Class { index, fault },
+        }
+    }
+}
+
+impl<T: Drop> From<AllocFailed<T>> for FilesFault {
+    ghost from_gives = { λ _ e. e ≡ files.Memory };
+
+    fn from(_error: AllocFailed<T>) -> FilesFault {
+        FilesFault::Memory
+    }
+}
+
 impl MarksFault {
     /// The same of all that stands after the class files.
     pub(crate) fn among_regions(self) -> RegionsFault
@@ -53,6 +89,17 @@ impl MarksFault {
 }
 
 impl RegionFault {
+    /// The same of a run of bytes that is to be a class file.
+    pub(crate) fn of_run(self) -> FilesFault
+        ensures { result ≡ of_run self }
+    {
+        match self {
+            RegionFault::Memory => FilesFault::Memory,
+            RegionFault::Truncated => FilesFault::Truncated,
+            RegionFault::Shape => FilesFault::Truncated,
+        }
+    }
+
     /// The same of the mark and the region of a class.
     pub(crate) fn inside(self, class: u32) -> MarksFault
         ensures { result ≡ inside class self }

@@ -2,6 +2,7 @@
 #![tactic(auto)]
 
 mod fault;
+mod files;
 mod header;
 mod marks;
 mod names;
@@ -12,7 +13,8 @@ mod regions;
 mod tag;
 mod values;
 
-pub use fault::{MarksFault, RegionFault, RegionsFault};
+pub use fault::{FilesFault, MarksFault, RegionFault, RegionsFault};
+pub use files::read_files;
 pub use header::{HeaderFault, frame_or_fault, parts_of};
 pub use marks::read_marks;
 pub use names::nameless;
