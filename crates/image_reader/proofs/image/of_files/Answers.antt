@@ -1,0 +1,7 @@
+use Rattle.image_reader.proofs.ImageLemmas.{link_fails}
+use Rattle.image_reader.proofs.image.of_files.Goals as goal
+
+pub returns-in-Err-clause-fault : goal.returns-in-Err-clause-fault
+returns-in-Err-clause-fault c =
+    rw (c.of_link.ensures) (link_fails c.args.parts.now c.args.files.items c.args.rest.now c.in-Err.fault c.requires
+    c.in-Err.ensures.fault)

@@ -1,0 +1,14 @@
+use Rattle.std.proofs.Common.{inr}
+use Rattle.image_reader.specs.ImageFaults.ImageFails.{frame}
+use Rattle.image_reader.proofs.ImageLemmas.{long_enough, parts_refused}
+use Rattle.image_reader.proofs.image.read.Goals as goal
+
+pub of_parts-requires : goal.of_parts-requires
+of_parts-requires c = long_enough c.args.bytes.now c.in-Ok.parts.now c.in-Ok.ensures.parts
+
+pub returns-in-Ok-clause-fault : goal.returns-in-Ok-clause-fault
+returns-in-Ok-clause-fault c =
+    parts_refused c.args.bytes.now c.in-Ok.parts.now c.of_parts.result c.in-Ok.ensures.parts c.of_parts.ensures.fault
+
+pub returns-in-Err-clause-fault : goal.returns-in-Err-clause-fault
+returns-in-Err-clause-fault c = rw (c.of_header.ensures) (inr (frame c.in-Err.fault c.in-Err.ensures.fault))
