@@ -18,3 +18,4 @@ pub mod FileLemmas
 pub mod FileLawful
 pub mod FamilyOrderLemmas
 pub mod ImageLemmas
+pub mod EarlyLemmas

@@ -1,5 +1,5 @@
 -- What is wrong first with bytes that are no image.
-use Rattle.std.specs.Prelude.{◌≡◌, ℕ, ◌<◌, ◌^◌, List, ◌++◌, length, Option}
+use Rattle.std.specs.Prelude.{◌≡◌, ℕ, ◌<◌, ◌^◌, List, ◌++◌, length, Option, ◌⊎◌, Result, Err}
 use Rattle.std.specs.List.{flat_map}
 use Rattle.classfile.specs.ClassFile.{ClassFile}
 use Rattle.classfile.specs.Spelling.{u4}
@@ -89,3 +89,7 @@ pub data ImageFails (bytes : List ℕ) : ImageFault → Type 0 where
   frame : (e : HeaderFault) → HeaderFails bytes e → ImageFails bytes (of_header e)
   within : (parts : List ℕ) (fault : ImageFault) → IsFramed bytes parts → PartsFail parts fault
       → ImageFails bytes fault
+
+-- this fault is answered, unless memory ran out
+abbrev pub Answers : {X : Type 0} → Result X ImageFault → ImageFault → Type 0
+Answers result fault = (result ≡ Err fault) ⊎ (result ≡ Err faults.Memory)

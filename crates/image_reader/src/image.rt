@@ -1,11 +1,20 @@
 //! Whole images.
 
-ghost use Rattle.std.specs.Prelude.{◌≡◌, ◌≤◌, ◌⊎◌, length, take, drop, IfOk, IfErr};
+ghost use Rattle.std.specs.Prelude.{◌≡◌, ◌≤◌, ◌<◌, ◌^◌, ◌⊎◌, ◌++◌, ℕ, List, Err, length, take, drop, IfOk, IfErr};
 ghost use Rattle.std.specs.Int.{w32, from_be_bytes};
+ghost use Rattle.classfile.specs.ClassFile.{ClassFile as File};
+ghost use Rattle.classfile.specs.Spelling.{u4};
+ghost use Rattle.loading.specs.declared.fault.LinkFault.{LinkFault as Link};
+ghost use Rattle.loading.specs.Files.{LinkFails};
 ghost use Rattle.program.specs.Programs.{IsProgram};
 ghost use Rattle.image_format.specs.Images.{ImageText};
+ghost use Rattle.image_reader.specs.declared.fault.FilesFault.{FilesFault as Files};
+ghost use Rattle.image_reader.specs.declared.header.HeaderFault.{HeaderFault as Frame};
 ghost use Rattle.image_reader.specs.declared.image_fault.ImageFault.TheVariants.{Memory};
-ghost use Rattle.image_reader.specs.ImageFaults.{HasFiles, IsLinked, PartsText, PartsFail, ImageFails};
+ghost use Rattle.image_reader.specs.FileFaults.{FilesFail};
+ghost use Rattle.image_reader.specs.HeaderFaults.{HeaderFails, IsFramed};
+ghost use Rattle.image_reader.specs.ImageFaults.{of_header, of_files, of_link, HasFiles, IsLinked, PartsText};
+ghost use Rattle.image_reader.specs.ImageFaults.{PartsFail, ImageFails, Answers};
 
 use crate::files::read_files;
 use crate::header::parts_of;
@@ -32,6 +41,14 @@ pub fn read(alloc: Global, bytes: &[u8]) -> Result<Parsed, ImageFault>
     ensures text { IfOk result (λ parsed. ImageText bytes.now parsed.program parsed.regions) }
     // What is refused is refused for what is wrong first, or because memory runs out.
     ensures fault { IfErr result (λ x. (x ≡ Memory) ⊎ ImageFails bytes.now x) }
+    // What is wrong round the parts is told.
+    ensures only_frame { (x : Frame) → HeaderFails bytes.now x → result ≡ Err (of_header x) }
+    // So is what is wrong with a class file, unless memory runs out,
+    ensures only_files { (parts rest : List ℕ) (count : ℕ) (x : Files) → IsFramed bytes.now parts → count < 2 ^ 32
+        → parts ≡ u4 count ++ rest → FilesFail count rest x → Answers result (of_files x) }
+    // and why class files do not make one program.
+    ensures only_link { (parts : List ℕ) (files : List File) (rest : List ℕ) (x : Link) → IsFramed bytes.now parts
+        → HasFiles parts files rest → LinkFails files x → Answers result (of_link x) }
 {
     match parts_of(bytes) {
         Ok(parts) => of_parts(alloc, parts),
@@ -57,6 +74,10 @@ fn of_parts(alloc: Global, parts: &[u8]) -> Result<Parsed, ImageFault>
     requires { 4 ≤ length parts.now }
     ensures text { IfOk result (λ parsed. PartsText parts.now parsed.program parsed.regions) }
     ensures fault { IfErr result (λ x. (x ≡ Memory) ⊎ PartsFail parts.now x) }
+    ensures only_files { (count : ℕ) (rest : List ℕ) (x : Files) → count < 2 ^ 32 → parts.now ≡ u4 count ++ rest
+        → FilesFail count rest x → Answers result (of_files x) }
+    ensures only_link { (files : List File) (rest : List ℕ) (x : Link) → HasFiles parts.now files rest
+        → LinkFails files x → Answers result (of_link x) }
 {
     let (count, bytes) = count_at(parts);
     match read_files(alloc, count, bytes) {
@@ -75,6 +96,7 @@ fn of_files(
     requires { HasFiles parts.now files.items rest.now }
     ensures text { IfOk result (λ parsed. PartsText parts.now parsed.program parsed.regions) }
     ensures fault { IfErr result (λ x. (x ≡ Memory) ⊎ PartsFail parts.now x) }
+    ensures only_link { (x : Link) → LinkFails files.items x → Answers result (of_link x) }
 {
     match link(alloc, files) {
         Ok(program) => of_program(alloc, program, parts, rest),
