@@ -1,5 +1,6 @@
 -- Faults of class files and of linking are told.
-use Rattle.std.proofs.Common.{◌≡◌, ℕ, ◌<◌, ◌^◌, ◌⊎◌, List, ◌++◌, length, take, drop, Result, Ok, Err, refl, sym, ap, subst, ◌∙◌, inl, inr}
+use Rattle.std.proofs.Common.{◌≡◌, ℕ, ◌<◌, ◌^◌, ◌⊎◌, List, ◌++◌, length, take, drop, Result, Ok, Err, refl, sym, ap}
+use Rattle.std.proofs.Common.{subst, ◌∙◌, inl, inr}
 use Rattle.std.specs.Int.{w32, from_be_bytes}
 use Rattle.std.proofs.lemmas.List.{take_at, drop_at}
 use Rattle.std.proofs.lemmas.Nat.{from_be_bytes-to_be_bytes_4}
@@ -7,11 +8,9 @@ use Rattle.classfile.specs.ClassFile.{ClassFile}
 use Rattle.classfile.specs.Spelling.{u4}
 use Rattle.loading.specs.declared.fault.LinkFault.{LinkFault}
 use Rattle.loading.specs.declared.fault.LinkFault.TheVariants as link_faults
-use Rattle.loading.specs.Files.{LinkFails}
 use Rattle.image_reader.specs.declared.fault.FilesFault.{FilesFault}
 use Rattle.image_reader.specs.declared.fault.FilesFault.TheVariants as file_faults
 use Rattle.image_reader.specs.declared.image_fault.ImageFault.{ImageFault}
-use Rattle.image_reader.specs.declared.image_fault.ImageFault.TheVariants as faults
 use Rattle.image_reader.specs.FileFaults.{AreFiles, FilesFail, FailsFile}
 use Rattle.image_reader.specs.ImageFaults.{of_files, of_link, HasFiles, Answers}
 
@@ -19,7 +18,8 @@ use Rattle.image_reader.specs.ImageFaults.{of_files, of_link, HasFiles, Answers}
 
 pub one_count : (a b : ℕ) (s t : List ℕ) → a < 2 ^ 32 → b < 2 ^ 32 → u4 a ++ s ≡ u4 b ++ t → (a ≡ b) × (s ≡ t)
 one_count a b s t p q e =
-    let text : u4 a ≡ u4 b = sym (take_at (u4 a) s 4 refl) ∙ ap (λ (z : List ℕ). take 4 z) e ∙ take_at (u4 b) t 4 refl in
+    let text : u4 a ≡ u4 b = sym (take_at (u4 a) s 4 refl) ∙ ap (λ (z : List ℕ). take 4 z) e
+    ∙ take_at (u4 b) t 4 refl in
     let rest : s ≡ t = sym (drop_at (u4 a) s 4 refl) ∙ ap (λ (z : List ℕ). drop 4 z) e ∙ drop_at (u4 b) t 4 refl in (
       sym (from_be_bytes-to_be_bytes_4 a p) ∙ ap (λ (z : List ℕ). from_be_bytes w32 z) text
           ∙ from_be_bytes-to_be_bytes_4 b q,
@@ -34,7 +34,8 @@ refused e = Err e
 
 -- ---- faults of class files
 
-files_refused : {Z : Type 0} (e x : FilesFault) → FailsFile e (refused x) → Answers {X = Z} (Err (of_files e)) (of_files x)
+files_refused : {Z : Type 0} (e x : FilesFault) → FailsFile e (refused x)
+    → Answers {X = Z} (Err (of_files e)) (of_files x)
 files_refused file_faults.Memory x h = inr refl
 files_refused file_faults.Truncated x h = let e : x ≡ file_faults.Truncated = cc in inl (rw e refl)
 files_refused (file_faults.Class i f) x h = let e : x ≡ file_faults.Class i f = cc in inl (rw e refl)

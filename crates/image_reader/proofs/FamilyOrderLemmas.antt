@@ -1,5 +1,6 @@
 -- A family whose files came in the order of their names has them in that order.
-use Rattle.std.proofs.Common.{◌≡◌, ℕ, zero, suc, ◌<◌, ◌^◌, List, [], ◌∷◌, ◌++◌, length, map, get_or, Option, Some, None, slice_get}
+use Rattle.std.proofs.Common.{◌≡◌, ℕ, zero, suc, ◌<◌, ◌^◌, List, [], ◌∷◌, ◌++◌, length, map, get_or, Option, Some}
+use Rattle.std.proofs.Common.{None, slice_get}
 use Rattle.std.proofs.Common.{refl, sym, ap, subst, ◌∙◌, arith}
 use Rattle.std.specs.List.{All, Contains, flat_map}
 use Rattle.std.proofs.lemmas.List.Elements.{All-nil, All-cons, All-head, All-tail}
@@ -77,7 +78,8 @@ in_tail : (x y : ClassFile) (xs ys : List ClassFile) → Sorted (x ∷ xs) → x
     → (k : ℕ) → slice_get (y ∷ ys) k ≡ Some z → Member ys z
 in_tail x y xs ys s same h z i e zero f =
     let head : y ≡ z = cc in
-    absurd (precedes_not_same (name_of x) (name_of z) (s zero (suc i) x z (omega arith) refl e) (ap name_of (same ∙ head)))
+    absurd (precedes_not_same (name_of x) (name_of z) (s zero (suc i) x z (omega arith) refl e) (ap name_of (same
+    ∙ head)))
 in_tail x y xs ys s same h z i e (suc k) f = (k, f)
 
 one_order : (xs ys : List ClassFile) → Sorted xs → Sorted ys → ((z : ClassFile) → Member xs z → Member ys z)

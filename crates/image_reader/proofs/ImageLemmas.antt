@@ -1,5 +1,6 @@
 -- The parts of an image, put together.
-use Rattle.std.proofs.Common.{◌≡◌, ℕ, ◌+◌, ◌<◌, ◌≤◌, ◌^◌, ◌⊎◌, List, ◌++◌, length, take, drop, Option, refl, sym, ap, subst, ◌∙◌, arith, inl, inr}
+use Rattle.std.proofs.Common.{◌≡◌, ℕ, ◌+◌, ◌<◌, ◌≤◌, ◌^◌, ◌⊎◌, List, ◌++◌, length, take, drop, Option, refl, sym, ap}
+use Rattle.std.proofs.Common.{subst, ◌∙◌, arith, inl, inr}
 use Rattle.std.specs.Prelude.{IfErr, Result, Ok, Err}
 use Rattle.std.specs.Int.{w32, from_be_bytes}
 use Rattle.std.specs.List.{All, flat_map}
@@ -28,7 +29,8 @@ use Rattle.image_reader.specs.AllRegions.{RegionsText, RegionsFail}
 use Rattle.image_reader.specs.FileFaults.{AreFiles, FilesFail}
 use Rattle.image_reader.specs.FirstFailing.{IsBytes}
 use Rattle.image_reader.specs.HeaderFaults.{IsFramed}
-use Rattle.image_reader.specs.ImageFaults.{of_files, of_link, of_regions, HasFiles, IsLinked, PartsText, PartsFail, ImageFails}
+use Rattle.image_reader.specs.ImageFaults.{of_files, of_link, of_regions, HasFiles, IsLinked, PartsText, PartsFail}
+use Rattle.image_reader.specs.ImageFaults.{ImageFails}
 use Rattle.image_reader.specs.ImageFaults.PartsFail.{files, link, regions}
 use Rattle.image_reader.specs.ImageFaults.ImageFails.{within}
 use Rattle.image_reader.specs.Regions.{Begins}
@@ -41,8 +43,10 @@ use Rattle.image_reader.proofs.FamilyOrderLemmas.{same_files, family_text, IsSho
 pub long_enough : (bytes parts : List ℕ) → IsFramed bytes parts → 4 ≤ length parts
 long_enough bytes parts f =
     let body : List ℕ = u4 1246775629 ++ (u2 1 ++ parts) in
-    let all : length bytes ≡ length body + length (sha256 body) = ap length f.framed ∙ length-append body (sha256 body) in
-    let front : length body ≡ length (u4 1246775629) + length (u2 1 ++ parts) = length-append (u4 1246775629) (u2 1 ++ parts) in
+    let all : length bytes ≡ length body + length (sha256 body) = ap length f.framed
+    ∙ length-append body (sha256 body) in
+    let front : length body ≡ length (u4 1246775629) + length (u2 1 ++ parts) = length-append (u4 1246775629)
+    (u2 1 ++ parts) in
     let next : length (u2 1 ++ parts) ≡ length (u2 1) + length parts = length-append (u2 1) parts in
     let four : length (u4 1246775629) ≡ 4 = refl in
     let two : length (u2 1) ≡ 2 = refl in
@@ -90,7 +94,8 @@ link_fails parts read rest e has h =
     ]
 
 pub regions_fail : (parts : List ℕ) (family : Family) (rest : List ℕ) (e : RegionsFault) → IsLinked parts family rest
-    → (e ≡ region_faults.Memory) ⊎ RegionsFail family rest e → (of_regions e ≡ faults.Memory) ⊎ PartsFail parts (of_regions e)
+    → (e ≡ region_faults.Memory) ⊎ RegionsFail family rest e
+    → (of_regions e ≡ faults.Memory) ⊎ PartsFail parts (of_regions e)
 regions_fail parts family rest e linked h =
     elim h [
       | inl memory ↦ inl (ap of_regions memory)

@@ -19,7 +19,8 @@ returns-in-Ok-clause-only_frame c x h = let other = c.in-Ok.ensures.only_fault x
 
 pub returns-in-Err-clause-only_frame : goal.returns-in-Err-clause-only_frame
 returns-in-Err-clause-only_frame c x h =
-    let other = c.in-Err.ensures.only_fault x h in let is : c.in-Err.fault ≡ x = cc in rw (c.of_header.ensures, is) refl
+    let other = c.in-Err.ensures.only_fault x h in let is : c.in-Err.fault ≡ x = cc in
+    rw (c.of_header.ensures, is) refl
 
 pub returns-in-Ok-clause-only_files : goal.returns-in-Ok-clause-only_files
 returns-in-Ok-clause-only_files c parts rest count x framed few same fails =
