@@ -33,7 +33,8 @@ data Blame (family : Family) (bytes : List ℕ) (fault : RegionsFault) : Type 0 
   unnamed : (regions : List Mark) (c : ℕ) → marks_at family bytes ≡ Ok (regions, []) → IsNameless regions c
       → fault ≡ faults.Name c → Blame family bytes fault
 
-read_whole : (family : Family) → IsFamily family → (bytes : List ℕ) (regions : List Mark) → AreMarks family regions bytes
+read_whole : (family : Family) → IsFamily family → (bytes : List ℕ) (regions : List Mark)
+    → AreMarks family regions bytes
     → marks_at family bytes ≡ Ok (regions, [])
 read_whole family fam bytes regions m =
     ap (marks_at family) (sym (append-nil bytes)) ∙ (marks_lawful family fam).again regions bytes [] m
@@ -43,7 +44,8 @@ blame : (family : Family) → IsFamily family → (bytes : List ℕ) → IsBytes
 blame family fam bytes fits f (part_fails e h) = part e ((marks_lawful family fam).blamed bytes e fits h) refl
 blame family fam bytes fits f (extra regions text rest m parts some) =
     left regions rest (ap (marks_at family) parts ∙ (marks_lawful family fam).again regions text rest m) some refl
-blame family fam bytes fits f (name regions {c} m least) = unnamed regions c (read_whole family fam bytes regions m) least refl
+blame family fam bytes fits f (name regions {c} m least) = unnamed regions c
+    (read_whole family fam bytes regions m) least refl
 
 same_read : (r : Result (List Mark × List ℕ) MarksFault) (a b : List Mark) (s t : List ℕ) → r ≡ Ok (a, s)
     → r ≡ Ok (b, t) → (a ≡ b) × (s ≡ t)
@@ -88,14 +90,16 @@ no_fault family fam bytes regions f t (left other rest read some is) =
     some (same_read (marks_at family bytes) other regions rest [] read whole).1
 no_fault family fam bytes regions f t (unnamed other c read least is) =
     let whole = read_whole family fam bytes regions (are_marks family bytes regions t) in
-    let h = nameless_moved other regions c (same_read (marks_at family bytes) other regions [] [] read whole).0 least in
+    let h = nameless_moved other regions c (same_read
+    (marks_at family bytes) other regions [] [] read whole).0 least in
     let within = slice_get_within regions c h.mark h.is in
     let mark : get_or regions c h.mark ≡ h.mark =
     same_Some (get_or regions c h.mark) h.mark (sym (slice_get-get_or regions c h.mark within) ∙ h.is) in
     let P : Mark → Type 0 = λ z. MarkNames regions z in
     h.names (subst P mark (all_named family regions t.fits c h.mark within))
 
-one_blame : (family : Family) (bytes : List ℕ) (f g : RegionsFault) → Blame family bytes f → Blame family bytes g → f ≡ g
+one_blame : (family : Family) (bytes : List ℕ) (f g : RegionsFault) → Blame family bytes f → Blame family bytes g
+    → f ≡ g
 one_blame family bytes f g (part a read is) (part b read2 is2) =
     let done : Result (List Mark × List ℕ) MarksFault = Err a in
     let other : Result (List Mark × List ℕ) MarksFault = Err b in

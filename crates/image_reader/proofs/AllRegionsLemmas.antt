@@ -1,5 +1,6 @@
 -- Marks that name objects alone that there are make the regions of an image.
-use Rattle.std.proofs.Common.{◌≡◌, ℕ, zero, suc, ◌+◌, ◌<◌, ◌⊎◌, List, [], ◌∷◌, ◌++◌, length, get_or, Option, Some, None, slice_get}
+use Rattle.std.proofs.Common.{◌≡◌, ℕ, zero, suc, ◌+◌, ◌<◌, ◌⊎◌, List, [], ◌∷◌, ◌++◌, length, get_or, Option, Some}
+use Rattle.std.proofs.Common.{None, slice_get}
 use Rattle.std.proofs.Common.{refl, sym, ap, subst, ◌∙◌, arith, inl, inr}
 use Rattle.std.specs.List.{All, AllZip}
 use Rattle.std.proofs.lemmas.List.{append-nil}
@@ -111,14 +112,16 @@ marks_back family c (suc n) [] many h = absurd cc
 marks_back family c (suc n) (r ∷ rs) many h = (
   mark_back family c r (λ region e. let P : ℕ → Type 0 = λ k. HasShape family k region in
       subst P (let k : c + 0 ≡ c = omega arith in k) (h zero region (ap (λ (z : Option ImageRegion). Some z) e))),
-  marks_back family (c + 1) n rs (omega (arith, many)) (λ i region e. let P : ℕ → Type 0 = λ k. HasShape family k region in
+  marks_back family (c + 1) n rs (omega (arith, many))
+      (λ i region e. let P : ℕ → Type 0 = λ k. HasShape family k region in
       subst P (let k : c + suc i ≡ c + 1 + i = omega arith in k) (h (suc i) region e)),
 )
 
 pub are_marks : (family : Family) (bytes : List ℕ) (regions : List (Option ImageRegion))
     → RegionsText family bytes regions → AreMarks family regions bytes
 are_marks family bytes regions t = (
-  marks_back family 0 (length family) regions t.fits.count (λ i region e. let P : ℕ → Type 0 = λ k. HasShape family k region in
+  marks_back family 0 (length family) regions t.fits.count
+      (λ i region e. let P : ℕ → Type 0 = λ k. HasShape family k region in
       subst P (let k : i ≡ 0 + i = omega arith in k) (t.fits.shapes i region e)),
   t.spelled,
 )

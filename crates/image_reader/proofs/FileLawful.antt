@@ -1,5 +1,6 @@
 -- Readers of class files are lawful.
-use Rattle.std.proofs.Common.{◌≡◌, ℕ, zero, suc, ◌+◌, ◌<◌, ◌^◌, ◌⊎◌, Bool, true, false, cond, List, [], ◌∷◌, ◌++◌, length, Option, Some, None}
+use Rattle.std.proofs.Common.{◌≡◌, ℕ, zero, suc, ◌+◌, ◌<◌, ◌^◌, ◌⊎◌, Bool, true, false, cond, List, [], ◌∷◌, ◌++◌}
+use Rattle.std.proofs.Common.{length, Option, Some, None}
 use Rattle.std.proofs.Common.{Result, Ok, Err, refl, sym, ap, subst, ◌∙◌, arith, inl, inr}
 use Rattle.std.specs.Bool.{Decides}
 use Rattle.std.specs.Cmp.Lexicographic.{slice_cmp}
@@ -30,8 +31,10 @@ use Rattle.image_reader.specs.FirstFailing.{Either, Number, Run, IsBytes}
 use Rattle.image_reader.specs.RegionFaults.{Cut, CutNumber}
 use Rattle.image_reader.specs.Regions.{Begins}
 use Rattle.image_reader.specs.reading.Results.{◌>>=◌, number_at, run_at}
-use Rattle.image_reader.specs.reading.Files.{of_run, outside, counted_at, sized_at, is_after, in_class, in_order, class_in, file_at, files_at}
-use Rattle.image_reader.proofs.Lawful.{Lawful, Both, Is, Mapped, IsBytes-back, fits_as, bind_ok, bind_err, ok_is, wide32, number_lawful, run_lawful}
+use Rattle.image_reader.specs.reading.Files.{of_run, outside, counted_at, sized_at, is_after, in_class, in_order}
+use Rattle.image_reader.specs.reading.Files.{class_in, file_at, files_at}
+use Rattle.image_reader.proofs.Lawful.{Lawful, Both, Is, Mapped, IsBytes-back, fits_as, bind_ok, bind_err, ok_is}
+use Rattle.image_reader.proofs.Lawful.{wide32, number_lawful, run_lawful}
 use Rattle.image_reader.proofs.Lawful.{pure_lawful, map_lawful, then_lawful, restated}
 use Rattle.image_reader.proofs.RuleLawful.{append_equal, IsBytes-front, good_ok}
 
@@ -160,7 +163,8 @@ sized_back run text s = record {
 
 counted_lawful : Lawful counted_at IsSized Counted
 unfolding counted_at
-counted_lawful = restated (then_lawful (number_at w32) (λ bytes count. run_at count.0 count.1) (number_lawful w32 wide32)
+counted_lawful = restated (then_lawful (number_at w32) (λ bytes count. run_at count.0 count.1)
+    (number_lawful w32 wide32)
     (λ bytes count text s. run_lawful count)) sized_there sized_back
 
 cut_there : (bytes : List ℕ) (f : FilesFault) → Outside Counted bytes f → SizedFails bytes f
@@ -256,7 +260,8 @@ class_blames index before run text f fits s e =
           let g = good_err (is_after before (name_of file)) faults.Order f file there in
           let read = class_is_text run file (run_fits run text fits s) (class_ok index (class_of run) file is) in
           let P : FilesFault → Type 0 = λ z. RunFails index before run z in
-          subst P (sym g.1) (order file read (λ h. let on = (after_decides before (name_of file)).1 h in let off = g.0 in cc))
+          subst P (sym g.1) (order file read (λ h. let on = (after_decides before (name_of file)).1 h in
+          let off = g.0 in cc))
     ]
 
 not_after : (before : Option (List ℕ)) (name : List ℕ) (t : Bool) → is_after before name ≡ t → ¬ IsAfter before name
@@ -299,7 +304,8 @@ files_there n before files text s =
     let both : AreFilesAfter before (suc n) (join s.value others.value) text = record {
       many = ap suc rest.many;
       fits = All-cons IsClassFile s.value others.value one.fits rest.fits;
-      short = All-cons (λ (file : ClassFile). length (class_text file) < 2 ^ 32) s.value others.value one.short rest.short;
+      short = All-cons (λ (file : ClassFile). length
+          (class_text file) < 2 ^ 32) s.value others.value one.short rest.short;
       ascending = (one.after, rest.ascending);
       spelled = s.parts ∙ append_equal s.front (file_text s.value) s.back (flat_map file_text others.value) one.spelled
           rest.spelled;
@@ -355,7 +361,8 @@ unfolding files_at
 files_lawful_from zero index before = restated (pure_lawful []) (none_there before) (none_back before)
 files_lawful_from (suc n) index before =
     restated (then_lawful (file_at index before)
-    (λ bytes file. files_at n (index + 1) (Some (name_of file.0)) file.1 >>= λ files. Ok (join file.0 files.0, files.1))
+    (λ bytes file. files_at n (index + 1) (Some (name_of file.0)) file.1 >>= λ files. Ok
+    (join file.0 files.0, files.1))
     (file_lawful index before)
     (λ bytes file text s. map_lawful (join file) (files_at n (index + 1) (Some (name_of file)))
     (AreFilesAfter (Some (name_of file)) n) (FilesFailFrom n (index + 1) (Some (name_of file)))

@@ -1,5 +1,6 @@
 -- Reading class files in turn, as a loop does.
-use Rattle.std.proofs.Common.{◌≡◌, ℕ, suc, ◌-◌, ◌+◌, ◌≤◌, ◌<◌, List, [], ◌∷◌, ◌++◌, length, Option, Some, Result, Ok, Err}
+use Rattle.std.proofs.Common.{◌≡◌, ℕ, suc, ◌-◌, ◌+◌, ◌≤◌, ◌<◌, List, [], ◌∷◌, ◌++◌, length, Option, Some, Result, Ok}
+use Rattle.std.proofs.Common.{Err}
 use Rattle.std.proofs.Common.{refl, sym, ap, subst, ◌∙◌, append_assoc, arith, slice_get}
 use Rattle.std.specs.Prelude.{option_map}
 use Rattle.std.proofs.lemmas.List.{append-nil, length-append}
@@ -18,7 +19,8 @@ use Rattle.image_reader.specs.declared.fault.RegionFault.TheVariants as parts
 use Rattle.image_reader.specs.declared.fault.FilesFault.{FilesFault}
 use Rattle.image_reader.specs.declared.fault.FilesFault.TheVariants as faults
 use Rattle.image_reader.specs.FileFaults.{of_class, FailsFile, GivesFile}
-use Rattle.image_reader.specs.reading.Files.{of_run, outside, last_name, in_class, in_order, class_in, file_at, files_at, after_files}
+use Rattle.image_reader.specs.reading.Files.{of_run, outside, last_name, in_class, in_order, class_in, file_at}
+use Rattle.image_reader.specs.reading.Files.{files_at, after_files}
 use Rattle.image_reader.specs.reading.Results.{◌>>=◌, Fails}
 
 -- a fault of a run of bytes is that of the class file
@@ -43,7 +45,8 @@ pub read_is : (run : List ℕ) → IsBytes run → (result : Result ClassFile Cl
     → GivesClass {Y = ClassFile} (λ c. c) result (class_of run)
 read_is run fits result text fault = gives_class run fits result (class_of run) refl text fault
 
-class_fails : (index : ℕ) (before : Option (List ℕ)) (e : ClassFault) (r : Result ClassFile ClassFault) → FailsClass e r
+class_fails : (index : ℕ) (before : Option (List ℕ)) (e : ClassFault) (r : Result ClassFile ClassFault)
+    → FailsClass e r
     → FailsFile (of_class index e) (in_class index r >>= in_order before)
 class_fails index before class_faults.Memory r h = tt
 class_fails index before (class_faults.Truncated at) r h = rw h refl
@@ -56,12 +59,14 @@ class_fails index before (class_faults.Utf8 at) r h = rw h refl
 class_fails index before (class_faults.Descriptor at) r h = rw h refl
 class_fails index before (class_faults.Attribute at) r h = rw h refl
 
-pub refused_class : (index : ℕ) (before : Option (List ℕ)) (run : List ℕ) (e : ClassFault) → FailsClass e (class_of run)
+pub refused_class : (index : ℕ) (before : Option (List ℕ)) (run : List ℕ) (e : ClassFault)
+    → FailsClass e (class_of run)
     → FailsFile (of_class index e) (class_in index before run)
 refused_class index before run e h = class_fails index before e (class_of run) h
 
 pub read_class : (index : ℕ) (before : Option (List ℕ)) (run : List ℕ) (file : ClassFile)
-    (result : Result ClassFile FilesFault) → class_of run ≡ Ok file → GivesFile {Y = ClassFile} (λ x. x) result (in_order before file)
+    (result : Result ClassFile FilesFault) → class_of run ≡ Ok file
+    → GivesFile {Y = ClassFile} (λ x. x) result (in_order before file)
     → GivesFile {Y = ClassFile} (λ x. x) result (class_in index before run)
 read_class index before run file result e h =
     let same : in_order before file ≡ class_in index before run = rw e refl in
@@ -94,7 +99,8 @@ after_fault (faults.Class index fault) items r f goal h one =
 after_fault faults.Order items r f goal h one =
     sym one ∙ ap (λ (z : One). after_files items (z >>= f)) h
 
-pub file_fails : (e : FilesFault) {n i : ℕ} (items : List ClassFile) (before : Option (List ℕ)) (bytes : List ℕ) {goal : Many}
+pub file_fails : (e : FilesFault) {n i : ℕ} (items : List ClassFile) (before : Option (List ℕ))
+    (bytes : List ℕ) {goal : Many}
     → i < n → FailsFile e (file_at i before bytes) → after_files items (files_at (n - i) i before bytes) ≡ goal
     → FailsFile e goal
 unfolding files_at
@@ -131,7 +137,8 @@ next_file {n} {i} items bytes {file} {after} {goal} lt h so_far =
     let k : n - i ≡ suc (n - (i + 1)) = omega arith in
     let one : after_files items (files_at (n - i) i (last_name items) bytes)
     ≡ after_files items (add_one (n - (i + 1)) i (file, after)) = rw (k, h) refl in
-    let named : after_files (items ++ file ∷ []) (files_at (n - (i + 1)) (i + 1) (last_name (items ++ file ∷ [])) after)
+    let named : after_files (items ++ file ∷ []) (files_at (n - (i + 1)) (i + 1) (last_name
+    (items ++ file ∷ [])) after)
     ≡ after_files (items ++ file ∷ []) (files_at (n - (i + 1)) (i + 1) (Some (name_of file)) after) =
     ap (λ (z : Option (List ℕ)). after_files (items ++ file ∷ []) (files_at (n - (i + 1)) (i + 1) z after))
     (last_of items file) in

@@ -16,3 +16,6 @@ pub mod AllRegionsLaw
 pub mod FrameLaw
 pub mod FileLemmas
 pub mod FileLawful
+pub mod FamilyOrderLemmas
+pub mod ImageLemmas
+pub mod EarlyLemmas

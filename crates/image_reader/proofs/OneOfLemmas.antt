@@ -74,7 +74,8 @@ misses_all : {X : Type 0} (P : X → Type 0) (xs : List X) → First P xs → ¬
 misses_all {X} P xs first all =
     let lt = slice_get_within xs first.place first.item first.is in
     let same : get_or xs first.place first.item ≡ first.item =
-    same_Some (get_or xs first.place first.item) first.item (sym (slice_get-get_or xs first.place first.item lt) ∙ first.is) in
+    same_Some (get_or xs first.place first.item) first.item (sym (slice_get-get_or xs first.place first.item lt)
+    ∙ first.is) in
     first.misses (subst P same (all first.place first.item lt))
 
 pub all_or_not : {X : Type 0} (P : X → Type 0) → ((x : X) → P x ⊎ (P x → ⊥)) → (xs : List X)

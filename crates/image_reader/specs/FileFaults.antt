@@ -1,5 +1,6 @@
 -- The class files of an image in turn, each after its length, and how bytes fail to begin with so many.
-use Rattle.std.specs.Prelude.{◌≡◌, ℕ, zero, suc, ◌+◌, ◌<◌, ◌^◌, List, [], ◌∷◌, ◌++◌, length, Option, Some, None, Result, Ok, Err}
+use Rattle.std.specs.Prelude.{◌≡◌, ℕ, zero, suc, ◌+◌, ◌<◌, ◌^◌, List, [], ◌∷◌, ◌++◌, length, Option, Some, None}
+use Rattle.std.specs.Prelude.{Result, Ok, Err}
 use Rattle.std.specs.List.{All, flat_map}
 use Rattle.std.specs.Int.{w32}
 use Rattle.classfile.specs.declared.fault.ClassFault.{ClassFault}

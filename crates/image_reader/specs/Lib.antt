@@ -8,5 +8,6 @@ pub mod Inside
 pub mod AllRegions
 pub mod TextOrFault
 pub mod FileFaults
+pub mod ImageFaults
 pub mod MarkFaults
 pub mod reading

@@ -50,7 +50,8 @@ BodyFails kind tags.Out = λ bytes fault. ⊥
 -- a tag that there is not, or that values of the kind do not have
 abbrev pub TaggedFails : FieldKind → Option Tag → List ℕ → RegionFault → Type 0
 TaggedFails kind None bytes fault = fault ≡ faults.Shape
-TaggedFails kind (Some tag) bytes fault = BreaksOr (may_have kind tag ≡ true) faults.Shape (BodyFails kind tag bytes) fault
+TaggedFails kind (Some tag) bytes fault = BreaksOr (may_have kind tag ≡ true) faults.Shape
+    (BodyFails kind tag bytes) fault
 
 abbrev pub ValueFails : FieldKind → List ℕ → RegionFault → Type 0
 ValueFails kind = Either (Number w8) (CutNumber w8) (λ tag. TaggedFails kind (tag_of tag))

@@ -16,4 +16,5 @@ loop-index-preserved c =
 
 pub returns : goal.returns
 returns c =
-    all_files c.loop-index.files.items (last_name c.loop-index.files.items) _ c.loop-index-test.false c.loop-index.invariant
+    all_files c.loop-index.files.items
+    (last_name c.loop-index.files.items) _ c.loop-index-test.false c.loop-index.invariant

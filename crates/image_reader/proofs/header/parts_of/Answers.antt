@@ -6,9 +6,11 @@ use Rattle.image_reader.proofs.header.parts_of.Goals as goal
 pub returns-clause-only_parts : goal.returns-clause-only_parts
 returns-clause-only_parts c =
     let bytes = c.args.bytes.now in
-    told_text (IsFramed bytes) (HeaderFails bytes) (one_of bytes) _ _ c.framed_in.ensures.parts c.framed_in.ensures.fault
+    told_text (IsFramed bytes) (HeaderFails bytes)
+    (one_of bytes) _ _ c.framed_in.ensures.parts c.framed_in.ensures.fault
 
 pub returns-clause-only_fault : goal.returns-clause-only_fault
 returns-clause-only_fault c =
     let bytes = c.args.bytes.now in
-    told_fault (IsFramed bytes) (HeaderFails bytes) (one_of bytes) _ _ c.framed_in.ensures.parts c.framed_in.ensures.fault
+    told_fault (IsFramed bytes) (HeaderFails bytes)
+    (one_of bytes) _ _ c.framed_in.ensures.parts c.framed_in.ensures.fault

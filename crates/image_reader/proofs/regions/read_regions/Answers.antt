@@ -10,7 +10,8 @@ returns-clause-only_text c =
     let family = c.args.program.now.family in
     let bytes = c.args.bytes.now in
     only_text faults.Memory (RegionsText family bytes) (RegionsFail family bytes)
-    (one_of family bytes (rw (← c.family.ensures) c.classes-classes.ensures.fits) (λ i. omega (arith, c.type_inv.bytes i)))
+    (one_of family bytes (rw (← c.family.ensures) c.classes-classes.ensures.fits) (λ i. omega
+    (arith, c.type_inv.bytes i)))
     _ c.regions_of.ensures.text c.regions_of.ensures.fault
 
 pub returns-clause-only_fault : goal.returns-clause-only_fault
@@ -18,5 +19,6 @@ returns-clause-only_fault c =
     let family = c.args.program.now.family in
     let bytes = c.args.bytes.now in
     only_fault faults.Memory (RegionsText family bytes) (RegionsFail family bytes)
-    (one_of family bytes (rw (← c.family.ensures) c.classes-classes.ensures.fits) (λ i. omega (arith, c.type_inv.bytes i)))
+    (one_of family bytes (rw (← c.family.ensures) c.classes-classes.ensures.fits) (λ i. omega
+    (arith, c.type_inv.bytes i)))
     _ c.regions_of.ensures.text c.regions_of.ensures.fault

@@ -12,13 +12,15 @@ returns-then-not-is_done-clause-fault c =
 
 pub overflow_cast-result : goal.overflow_cast-result
 overflow_cast-result c =
-    let lt = is_within c.args.program.now.family c.args.bytes.now c.args.rest.now c.args.regions c.in-Some.class c.requires
+    let lt = is_within c.args.program.now.family c.args.bytes.now c.args.rest.now c.args.regions
+    c.in-Some.class c.requires
     (subst (λ (z : List (Option ImageRegion)). IsNameless z c.in-Some.class) c.as_slice.ensures c.in-Some.ensures) in
     omega (arith, lt, c.count_of-count.ensures.count, c.count_of-count.ensures.few)
 
 pub returns-in-Some-clause-fault : goal.returns-in-Some-clause-fault
 returns-in-Some-clause-fault c =
-    inr (is_nameless c.args.program.now.family c.args.bytes.now c.args.rest.now c.args.regions c.in-Some.class c.requires
+    inr (is_nameless c.args.program.now.family c.args.bytes.now c.args.rest.now c.args.regions
+    c.in-Some.class c.requires
     (c.is_done.ensures.0 (let on = c.if-not-is_done.false in cc))
     (subst (λ (z : List (Option ImageRegion)). IsNameless z c.in-Some.class) c.as_slice.ensures c.in-Some.ensures))
 
