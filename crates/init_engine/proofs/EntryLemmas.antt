@@ -7,12 +7,14 @@ use Rattle.std.proofs.lemmas.List.{take_more}
 use Rattle.std.specs.List.{AllZip}
 use Rattle.loading.proofs.ZipLemmas.{pairs_push}
 use Rattle.classfile.specs.Units.{units_text}
-use Rattle.loading.specs.Families.{name_in}
+use Rattle.loading.specs.Families.{Family, IsFamily, name_in}
+use Rattle.loading.proofs.NamesLemmas.{precedes_not_same}
+use Rattle.loading.proofs.LinkingPlaceLemmas.{one_of_three}
 use Rattle.program.specs.Tables.{Tables, main_in}
 use Rattle.init_engine.specs.declared.fault.EntryFault.{EntryFault}
 use Rattle.init_engine.specs.declared.fault.EntryFault.TheVariants.{Memory, Unknown, NoMain}
 use Rattle.init_engine.specs.Starts.{AreEntries, IsAtFault, IsFirstAtFault, EntriesFail, first, count, IsEntryCount}
-use Rattle.init_engine.specs.Starts.{IsCountFault}
+use Rattle.init_engine.specs.Starts.{IsCountFault, OneListOfEntries}
 use Rattle.init_engine.specs.Starts.{unknown, no_main}
 
 pub pairs_more : {A B : Type 0} (R : A → B → Type 0) (xs : List A) (i : ℕ) (d x : A) (y : B) (old new : List B)
@@ -65,3 +67,30 @@ pub no_main_at : (P : Tables) (name : List ℕ) (place : ℕ) (found main : Opti
     → found ≡ Some c → main ≡ main_in P c → is_some main ≡ false → IsAtFault P name place (NoMain place)
 no_main_at P name place found main c told is read none =
     no_main c (named_at P name found c told is) (sym read ∙ none_where main none)
+
+-- ---- one list of classes
+
+-- a name is that of one given class
+one_number : (family : Family) → IsFamily family → (name : List ℕ) (c d : ℕ) → name_in family c ≡ Some name
+    → name_in family d ≡ Some name → c ≡ d
+one_number family fits name c d at-c at-d = elim (one_of_three c d) [
+  | inl less ↦ absurd (precedes_not_same name name (fits.ascending c d name name less at-c at-d) refl)
+  | inr rest ↦ elim rest [
+    | inl same ↦ same
+    | inr more ↦ absurd (precedes_not_same name name (fits.ascending d c name name more at-d at-c) refl)
+  ]
+]
+
+one_entries : (P : Tables) → IsFamily P.family → (names : List (List ℕ)) (cs ds : List ℕ) → AreEntries P names cs
+    → AreEntries P names ds → cs ≡ ds
+one_entries P fits [] [] [] all others = refl
+one_entries P fits [] [] (d ∷ ds) all others = absurd others
+one_entries P fits [] (c ∷ cs) ds all others = absurd all
+one_entries P fits (n ∷ ns) [] ds all others = absurd all
+one_entries P fits (n ∷ ns) (c ∷ cs) [] all others = absurd others
+one_entries P fits (n ∷ ns) (c ∷ cs) (d ∷ ds) all others =
+    let first : c ≡ d = one_number P.family fits (units_text n) c d all.0.named others.0.named in
+    rw first (ap (λ (es : List ℕ). d ∷ es) (one_entries P fits ns cs ds all.1 others.1))
+
+pub one_list : OneListOfEntries
+one_list P fits names cs ds stand other = one_entries P fits names cs ds stand.entries other.entries

@@ -1,6 +1,6 @@
 -- The tables of the lazy start are its shared state.
 use Rattle.std.proofs.Common.{◌≡◌, ℕ, zero, suc, ◌+◌, true, false, List, [], ◌∷◌, ◌++◌, map, length, slice_get, refl}
-use Rattle.std.proofs.Common.{nat_lt, if◌then◌else◌, replicate, ap, ◌∙◌, arith, add-zero}
+use Rattle.std.proofs.Common.{sym, nat_lt, if◌then◌else◌, replicate, ap, ◌∙◌, arith, add-zero}
 use Rattle.std.proofs.Math.Path.{fun_ext}
 use Rattle.std.proofs.lemmas.List.{replicate-append-replicate}
 use Rattle.vm_state.specs.declared.classes.ClassArea.{ClassArea as Area}
@@ -22,6 +22,7 @@ use Rattle.semantics.specs.Worlds.{threads_from}
 use Rattle.program.specs.declared.class.Class.{Class}
 use Rattle.program.specs.Tables.{Tables, statics_if}
 use Rattle.machine.specs.Linked.{blank_areas, program_of, start_frame}
+use Rattle.init_engine.specs.Starts.{StandForEntries, IsLazyShared, IsStart, start_over}
 
 blank_state : (ks : List Class) (c : ℕ) → (area_at (blank_areas ks) c).state ≡ Uninitialized
 blank_state [] c = refl
@@ -105,22 +106,37 @@ start_shared P cs =
     ∙ ap (λ (ps : ℕ → Pool). shared_by (λ d. Uninitialized) (blank_region (program_of P)) ps)
     (fun_ext (pool_at (length cs))))
 
+-- tables that are equal to those of the lazy start
+pub lazy_shares : (P : Tables) (count : ℕ) (classes : List Area) (heap : Heap) (shared : SharedTables)
+    → classes ≡ blank_areas P.classes → heap ≡ record { classes = []; threads = replicate count (row_of argument) }
+    → shared ≡ tables_by classes heap → IsLazyShared P count shared
+lazy_shares P count classes heap shared are-classes is-heap is cs counted =
+    ap (λ (s : SharedTables). shared_of s []) is
+    ∙ (ap (λ (ks : List Area). shared_of (tables_by ks heap) []) are-classes
+    ∙ (ap (λ (h : Heap). shared_of (tables_by (blank_areas P.classes) h) [])
+    (is-heap ∙ ap (λ (n : ℕ). heap_by (replicate n (row_of argument))) (sym counted))
+    ∙ start_shared P cs))
+
 abbrev world_by : SharedState → List DefinedThread → World
 world_by shared threads = record { shared = shared; threads = threads }
 
-pub started : (P : Tables) (cs : List ℕ) (threads : List DefinedThread) (classes : List Area) (heap : Heap) (w : World)
-    → threads ≡ threads_from (program_of P) 0 cs → classes ≡ blank_areas P.classes →
-    heap ≡ record { classes = []; threads = replicate (length cs) (row_of argument) } →
-    w ≡ world_by (shared_of (tables_by classes heap) []) threads
-    → w ≡ lazy_start (program_of P) cs
-started P cs threads classes heap w are-threads are-classes is-heap is =
-    is
-    ∙ (ap (λ (ts : List DefinedThread). world_by (shared_of (tables_by classes heap) []) ts) are-threads
-    ∙ (ap (λ (ks : List Area). world_by (shared_of (tables_by ks heap) []) (threads_from (program_of P) 0 cs))
-    are-classes
-    ∙ (ap (λ (h : Heap). world_by (shared_of (tables_by (blank_areas P.classes) h) [])
-    (threads_from (program_of P) 0 cs)) is-heap
-    ∙ ap (λ (sh : SharedState). world_by sh (threads_from (program_of P) 0 cs)) (start_shared P cs))))
+-- the start over shared state, with the threads of the classes
+pub started_over : (P : Tables) (cs : List ℕ) (threads : List DefinedThread) (shared : SharedTables) (w : World)
+    → threads ≡ threads_from (program_of P) 0 cs → w ≡ world_by (shared_of shared []) threads
+    → w ≡ start_over (program_of P) (shared_of shared []) cs
+started_over P cs threads shared w are is =
+    is ∙ ap (λ (ts : List DefinedThread). world_by (shared_of shared []) ts) are
+
+-- the lazy start is the start over its own shared state
+pub started_lazily : (P : Tables) (names : List (List ℕ)) (cs : List ℕ) (count : ℕ) (shared : SharedTables) (w : World)
+    → StandForEntries P names cs → length cs ≡ count → IsLazyShared P count shared
+    → w ≡ start_over (program_of P) (shared_of shared []) cs → IsStart P names w
+started_lazily P names cs count shared w stand counted shares is =
+    record {
+      classes = cs;
+      entries = stand;
+      start = is ∙ ap (λ (sh : SharedState). start_over (program_of P) sh cs) (shares cs counted);
+    }
 
 -- ---- threads
 

@@ -1,9 +1,9 @@
-//! The start of the lazy procedure.
+//! The start of a run: what entries stand for, and threads that are about to need their classes.
 
 ghost use Rattle.std.specs.Prelude.{◌≡◌, ◌↔◌, ◌⊎◌, ◌<◌, ◌≤◌, ◌∷◌, [], length, map, replicate};
 ghost use Rattle.std.specs.Prelude.{Err, IfErr, IfOk, OnOk};
 ghost use Rattle.vm_state.specs.Objects.{row_of};
-ghost use Rattle.semantics.specs.Worlds.{argument, lazy_start, threads_from};
+ghost use Rattle.semantics.specs.Worlds.{argument, threads_from};
 ghost use Rattle.machine.specs.Linked.{program_of, start_frame};
 ghost use Rattle.init_engine.specs.Numbering.{AreNumbered};
 ghost use Rattle.init_engine.specs.Threads.{thread_of, HasNumber};
@@ -11,7 +11,9 @@ ghost use Rattle.program.specs.Tables.{Tables};
 ghost use Rattle.semantics.specs.Steps.{Going};
 ghost use Rattle.init_engine.specs.Turns.{world_of};
 ghost use Rattle.init_engine.specs.Starts.{IsEntryCount, IsCountFault, IsEntry, AreEntries, IsStart, IsAtFault};
-ghost use Rattle.init_engine.specs.Starts.{IsFirstAtFault, EntriesFail};
+ghost use Rattle.init_engine.specs.Starts.{IsFirstAtFault, EntriesFail, StandForEntries, OneListOfEntries};
+ghost use Rattle.init_engine.specs.Starts.{start_over, IsLazyShared};
+ghost use Rattle.vm_state.specs.Shares.{shared_of};
 ghost use Rattle.init_engine.specs.declared.fault.EntryFault.TheVariants.{Memory, Count};
 
 use crate::fault::EntryFault;
@@ -61,8 +63,8 @@ fn entry_class(
     Ok(class)
 }
 
-/// The classes of entries which may all be run.
-fn entry_classes(
+/// The classes of entries, which may all be run, however many there are.
+fn find_classes(
     alloc: Global,
     program: &Program,
     entries: &[ClassName],
@@ -76,6 +78,32 @@ fn entry_classes(
     }
     Ok(classes)
 }
+
+/// The classes that entries stand for: the given class of each name, which has a `main` of its own.
+///
+/// # Errors
+/// `Count` where there is no entry or more than 64, before memory is asked for. Else the first entry at fault:
+/// `Unknown` where no class of its name was given, `NoMain` where the class declares no such `main` itself; or
+/// `Memory`.
+pub fn entry_classes(
+    alloc: Global,
+    program: &Program,
+    entries: &[ClassName],
+) -> Result<Vec<u32>, EntryFault>
+    ensures classes { IfOk result (λ classes. StandForEntries program.now entries.now classes.items) }
+    ensures few { IfOk result (λ classes. length classes.items ≤ 64) }
+    ensures count { (result ≡ Err Count) ↔ ((length entries.now ≡ 0) ⊎ (64 < length entries.now)) }
+    ensures fault { IfErr result (λ fault. (fault ≡ Memory) ⊎ EntriesFail program.now entries.now fault) }
+{
+    check_count(entries.len())?;
+    let classes = find_classes(alloc, program, entries)?;
+    Ok(classes)
+}
+
+/// Names stand for one list of classes.
+pub fn one_list_of_entries()
+    ensures { OneListOfEntries }
+{}
 
 /// The array of no strings that `main` is called with.
 fn argument(alloc: Global) -> Object
@@ -126,18 +154,32 @@ fn starting(alloc: Global, class: u32, number: u32) -> Result<Thread, AllocError
     Ok(Thread::on(alloc, number, top))
 }
 
-/// The world in which a thread for each class is about to need it.
-fn start(alloc: Global, program: &Program, classes: &[u32]) -> Result<World, AllocError>
-    requires { length classes.now ≤ 64 }
-    ensures { IfOk result (λ w. world_of w ≡ lazy_start (program_of program.now) classes.now) }
+/// What so many threads share in the lazy start: no class is initialized, and each thread's argument is its first
+/// object.
+///
+/// # Errors
+/// `AllocError` where memory is refused.
+pub fn lazy_shared(alloc: Global, program: &Program, count: usize) -> Result<Shared, AllocError>
+    ensures { IfOk result (IsLazyShared program.now count) }
 {
-    let heap = arguments(alloc, classes.len())?;
-    let shared = Shared::new(blank_classes(alloc, program)?, heap);
-    let threads = threads_of(alloc, classes)?;
-    Ok(World::of_threads(alloc, threads, shared))
+    let heap = arguments(alloc, count)?;
+    Ok(Shared::new(blank_classes(alloc, program)?, heap))
 }
 
 impl World {
+    /// The start over some shared state: a thread for each class is about to need it.
+    ///
+    /// # Errors
+    /// `AllocError` where memory is refused.
+    pub fn start(alloc: Global, shared: Shared, classes: &[u32]) -> Result<World, AllocError>
+        requires { length classes.now ≤ 64 }
+        ensures { IfOk result (λ w. (P : Tables) → world_of w
+            ≡ start_over (program_of P) (shared_of shared []) classes.now) }
+    {
+        let threads = threads_of(alloc, classes)?;
+        Ok(World::of_threads(alloc, threads, shared))
+    }
+
     /// The lazy start: no class is initialized, and a thread for each entry is about to need its entry class
     /// (JVMS 5.2, 5.5). One class may be the entry of several threads.
     ///
@@ -159,8 +201,8 @@ impl World {
         // What is answered otherwise is what is wrong with the entries, or that memory ran out.
         ensures fault { IfErr result (λ fault. (fault ≡ Memory) ⊎ EntriesFail program.now entries.now fault) }
     {
-        check_count(entries.len())?;
         let classes = entry_classes(alloc, program, entries)?;
-        Ok(start(alloc, program, classes.as_slice())?)
+        let shared = lazy_shared(alloc, program, classes.len())?;
+        Ok(World::start(alloc, shared, classes.as_slice())?)
     }
 }

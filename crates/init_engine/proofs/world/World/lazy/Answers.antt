@@ -1,27 +1,10 @@
-use Rattle.std.proofs.Common.{arith}
-use Rattle.std.proofs.lemmas.Result.{err_from_is_err_and}
-use Rattle.loading.proofs.ZipLemmas.{pairs_length}
-use Rattle.init_engine.specs.Starts.{IsEntry}
-use Rattle.init_engine.proofs.EntryLemmas.{count_fails, entries_fail}
+use Rattle.std.proofs.Common.{◌≡◌, length, rules}
+use Rattle.init_engine.proofs.StartLemmas.{started_lazily}
 use Rattle.init_engine.proofs.world.World.lazy.Goals as goal
 
-pub start-requires : goal.start-requires
-start-requires c =
-    omega (
-      arith,
-      c.as_slice.ensures.len,
-      c.in_ok-check_count.ensures.ok,
-      pairs_length (IsEntry c.args.program.now) c.args.entries.now c.in_ok-classes.classes.items
-          c.in_ok-classes.ensures.entries,
-    )
-
-pub returns-in_err-check_count-clause-fault : goal.returns-in_err-check_count-clause-fault
-returns-in_err-check_count-clause-fault c =
-    let p = err_from_is_err_and c.from_residual.result c.from_residual.ensures.1 in
-    rw (p.1, p.2) (count_fails c.args.program.now c.args.entries.now _ c.in_err-check_count.ensures.fault)
-
-pub returns-in_err-classes-clause-fault : goal.returns-in_err-classes-clause-fault
-returns-in_err-classes-clause-fault c =
-    let p = err_from_is_err_and c.from_residual-in_err-classes.result c.from_residual-in_err-classes.ensures.1 in
-    rw (p.1, p.2) (entries_fail c.args.program.now c.args.entries.now _ c.in_ok-check_count.ensures.ok
-    c.in_err-classes.ensures.fault)
+pub returns-clause-start : goal.returns-clause-start
+returns-clause-start c =
+    let counted : length c.in_ok-classes.classes.items ≡ c.len.result = search rules in
+    started_lazily c.args.program.now c.args.entries.now c.in_ok-classes.classes.items c.len.result
+    c.in_ok-shared.shared _ c.in_ok-classes.ensures.classes counted c.in_ok-shared.ensures
+    (rw c.as_slice.ensures.value at c.in_ok-start.ensures c.args.program.now)
