@@ -109,6 +109,17 @@ impl Fields {
         Ok(Fields { values })
     }
 
+    /// The same fields once more.
+    ///
+    /// # Errors
+    /// `AllocError` where memory is refused.
+    pub fn copy(&self, alloc: Global) -> Result<Fields, AllocError>
+        ensures { IfOk result (λ f. f ≡ self.now) }
+    {
+        let values = Vec::from_slice(alloc, self.values.as_slice())?;
+        Ok(Fields { values })
+    }
+
     /// The value of a field.
     #[inline(always)]
     pub fn get(&self, field: u32) -> Value

@@ -53,6 +53,21 @@ fn place_of(objects: &[(u64, Object)], number: u64) -> usize
     objects.partition_point(|held| held.0 < number)
 }
 
+/// Copies of some objects with their numbers, put where there are none.
+fn copy_objects(
+    alloc: Global,
+    objects: &[(u64, Object)],
+    copies: &mut Vec<(u64, Object)>,
+) -> Result<(), AllocError>
+    requires { copies.old.items ≡ [] }
+    ensures { OnOk result (copies.new.items ≡ objects.now) }
+{
+    for held in objects {
+        copies.push((held.0, held.1.copy(alloc)?))?;
+    }
+    Ok(())
+}
+
 impl Row {
     /// The row of a maker that made nothing.
     pub fn new(alloc: Global) -> Row
@@ -61,6 +76,23 @@ impl Row {
         Row {
             count: 0,
             objects: Vec::new(alloc),
+        }
+    }
+
+    /// The same row once more.
+    ///
+    /// # Errors
+    /// `AllocError` where memory is refused.
+    pub fn copy(&self, alloc: Global) -> Result<Row, AllocError>
+        ensures { IfOk result (λ r. r ≡ self.now) }
+    {
+        let mut objects = Vec::with_capacity(alloc, self.objects.len())?;
+        match copy_objects(alloc, self.objects.as_slice(), &mut objects) {
+            Ok(()) => Ok(Row {
+                count: self.count,
+                objects,
+            }),
+            Err(error) => Err(error),
         }
     }
 

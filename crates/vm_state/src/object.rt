@@ -61,6 +61,16 @@ impl Slots {
         Slots { values }
     }
 
+    /// The same values once more.
+    ///
+    /// # Errors
+    /// `AllocError` where memory is refused.
+    pub fn copy(&self, alloc: Global) -> Result<Slots, AllocError>
+        ensures { IfOk result (λ s. s ≡ self.now) }
+    {
+        Slots::of(alloc, self.values.as_slice())
+    }
+
     /// Their values.
     #[inline(always)]
     pub fn as_slice(&self) -> &[Value]
@@ -94,4 +104,20 @@ pub struct Object {
     pub class: ClassId,
     pub slots: Slots,
     pub monitor: Monitor,
+}
+
+impl Object {
+    /// The same object once more.
+    ///
+    /// # Errors
+    /// `AllocError` where memory is refused.
+    pub fn copy(&self, alloc: Global) -> Result<Object, AllocError>
+        ensures { IfOk result (λ o. o ≡ self.now) }
+    {
+        Ok(Object {
+            class: self.class,
+            slots: self.slots.copy(alloc)?,
+            monitor: self.monitor,
+        })
+    }
 }
