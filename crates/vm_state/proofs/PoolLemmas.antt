@@ -42,7 +42,7 @@ pool_by-next r class slots =
 pub pool_in-more : (rows : List ObjectRow) → pool_in (rows ++ empty_row ∷ []) ≡ pool_in rows
 pool_in-more rows = fun_ext (λ m. ap pool_by (get_or-filled rows 1 m empty_row))
 
-equal_turned : (i j : ℕ) → (i == j) ≡ (j == i)
+pub equal_turned : (i j : ℕ) → (i == j) ≡ (j == i)
 equal_turned i j = elim (tested (j == i)) [
   | inl e ↦ let same : j ≡ i = eqb-true j i e in rw e (eq-eqb i j (sym same))
   | inr e ↦ rw e (grind arith)
@@ -52,7 +52,7 @@ pool_by-if : (b : Bool) (x y : ObjectRow) → pool_by (if b then x else y) ≡ (
 pool_by-if true x y = refl
 pool_by-if false x y = refl
 
-pool_in-set : (rows : List ObjectRow) (m : ℕ) (r : ObjectRow) → m < length rows →
+pub pool_in-set : (rows : List ObjectRow) (m : ℕ) (r : ObjectRow) → m < length rows →
     pool_in (slice_set rows m r) ≡ with_pool (pool_in rows) m (pool_by r)
 pool_in-set rows m r h = fun_ext (λ k.
     ap pool_by (get_or-slice_set rows m k r empty_row h)

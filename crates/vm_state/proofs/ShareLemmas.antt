@@ -7,16 +7,17 @@ use Rattle.vm_state.specs.declared.text.Line.{Line}
 use Rattle.vm_state.specs.SharedTables.{SharedTables}
 use Rattle.vm_state.specs.declared.classes.ClassArea.{ClassArea}
 use Rattle.vm_state.specs.declared.classes.ClassState.{ClassState}
-use Rattle.vm_state.specs.declared.classes.ClassState.TheVariants.{InProgress}
+use Rattle.vm_state.specs.declared.classes.ClassState.TheVariants.{InProgress, Initialized}
 use Rattle.vm_state.specs.declared.classes.StaticField.{StaticField}
 use Rattle.vm_state.specs.Statics.{states_of, fields_of, with_state, with_fields, with_value, with_constants}
 use Rattle.vm_state.specs.SharedState.{Pool, Region, SharedState, pool_of, set_pool, set_region, set_state}
 use Rattle.vm_state.specs.SharedState.{with_field}
-use Rattle.vm_state.specs.Shares.{shared_of, begun}
+use Rattle.vm_state.specs.Shares.{shared_of, begun, initialized}
 use Rattle.vm_state.specs.Pools.{pool_in, with_pool}
 use Rattle.vm_state.specs.Objects.{ObjectRow}
 use Rattle.vm_state.specs.declared.value.Maker.TheVariants.{Class, Thread}
 use Rattle.vm_state.proofs.ListLemmas.{tested}
+use Rattle.vm_state.proofs.PoolLemmas.{equal_turned}
 
 pub shared_of-kept : (s : SharedTables) (b : List ClassArea) → states_of b ≡ states_of s.classes →
     fields_of b ≡ fields_of s.classes →
@@ -120,6 +121,33 @@ made_none_by_class s b is p =
     let states = states_of s.classes in
     let threads = pool_in s.heap.threads in
     ap (λ (pools : ℕ → Pool). shared_by states (λ d. region (fields_of s.classes d) (pools d)) threads p) is
+
+-- ---- a class with its objects
+
+-- one class's fields and objects changed
+region_set : (fields : ℕ → ℕ → Value) (pools : ℕ → Pool) (c : ℕ) (fs : ℕ → Value) (p : Pool) (d : ℕ) →
+    region (with_fields fields c fs d) (with_pool pools c p d)
+    ≡ (if d == c then region fs p else region (fields d) (pools d))
+region_set fields pools c fs p d = elim (tested (d == c)) [
+  | inl e ↦ rw (e, equal_turned c d ∙ e) refl
+  | inr e ↦ rw (e, equal_turned c d ∙ e) refl
+]
+
+abbrev tables : List ClassArea → List ObjectRow → List ObjectRow → SharedTables
+tables classes rows threads = record { classes = classes; heap = record { classes = rows; threads = threads } }
+
+pub shared_of-initialized : (s : SharedTables) (b : List ClassArea) (rows : List ObjectRow) (c : ℕ) (fs : ℕ → Value)
+    (pool : Pool) → states_of b ≡ with_state (states_of s.classes) c Initialized →
+    fields_of b ≡ with_fields (fields_of s.classes) c fs → pool_in rows ≡ with_pool (pool_in s.heap.classes) c pool →
+    (p : List Line) → shared_of (tables b rows s.heap.threads) p ≡ initialized (shared_of s p) c (region fs pool)
+unfolding shared_of
+shared_of-initialized s b rows c fs pool states fields pools p =
+    let threads = pool_in s.heap.threads in
+    ap (λ g. shared_by g (λ d. region (fields_of b d) (pool_in rows d)) threads p) states
+    ∙ ap (λ (g : ℕ → Region). shared_by (with_state (states_of s.classes) c Initialized) g threads p) (fun_ext (λ d.
+    ap (λ (f : ℕ → ℕ → Value). region (f d) (pool_in rows d)) fields
+    ∙ (ap (λ (q : ℕ → Pool). region (with_fields (fields_of s.classes) c fs d) (q d)) pools
+    ∙ region_set (fields_of s.classes) (pool_in s.heap.classes) c fs pool d)))
 
 -- ---- after a refusal
 

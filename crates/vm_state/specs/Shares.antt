@@ -3,15 +3,16 @@ use Rattle.std.specs.Prelude.{◌≡◌, ℕ, List}
 use Rattle.vm_state.specs.declared.classes.StaticField.{StaticField}
 use Rattle.built_in.specs.declared.class_id.ClassId.{ClassId}
 use Rattle.vm_state.specs.declared.classes.ClassState.{ClassState}
-use Rattle.vm_state.specs.declared.classes.ClassState.TheVariants.{InProgress}
+use Rattle.vm_state.specs.declared.classes.ClassState.TheVariants.{InProgress, Initialized}
 use Rattle.vm_state.specs.SharedTables.{SharedTables}
 use Rattle.vm_state.specs.declared.text.Line.{Line}
 use Rattle.vm_state.specs.declared.value.Maker.{Maker}
 use Rattle.vm_state.specs.declared.value.Name.{Name}
 use Rattle.vm_state.specs.declared.value.Value.{Value}
-use Rattle.vm_state.specs.Statics.{states_of, fields_of, with_constants}
-use Rattle.vm_state.specs.SharedState.{SharedState, made, next_name, set_region, set_state, with_static}
-use Rattle.vm_state.specs.Pools.{pool_in}
+use Rattle.vm_state.specs.Statics.{states_of, fields_of, field_in, with_constants}
+use Rattle.vm_state.specs.SharedState.{Region, SharedState, made, next_name, set_region, set_state, with_static}
+use Rattle.vm_state.specs.Objects.{ObjectRow}
+use Rattle.vm_state.specs.Pools.{pool_by, pool_in}
 
 -- the tables and what was printed, as one state
 unfoldable pub shared_of : SharedTables → List Line → SharedState
@@ -27,6 +28,10 @@ abbrev pub begun : SharedState → ℕ → ℕ → List StaticField → SharedSt
 begun sh c t statics =
     set_state (set_region sh c (record (sh.regions c) { fields = with_constants statics (sh.regions c).fields })) c
     (InProgress t)
+
+-- a class is initialized, with this region
+abbrev pub initialized : SharedState → ℕ → Region → SharedState
+initialized sh c r = set_state (set_region sh c r) c Initialized
 
 -- ---- what a call changed, whatever was printed before
 
@@ -45,6 +50,12 @@ SetsState old new c s = (p : List Line) → shared_of new p ≡ set_state (share
 -- a class's initialization began
 abbrev pub Begins : SharedTables → SharedTables → ℕ → ℕ → List StaticField → Type 0
 Begins old new c t statics = (p : List Line) → shared_of new p ≡ begun (shared_of old p) c t statics
+
+-- a class is initialized, with these static fields and objects
+abbrev pub Initializes : SharedTables → SharedTables → ℕ → List Value → ObjectRow → Type 0
+Initializes old new c fields row =
+    (p : List Line) → shared_of new p
+    ≡ initialized (shared_of old p) c (record { fields = field_in fields; pool = pool_by row })
 
 -- a maker has one more object
 abbrev pub Makes : SharedTables → SharedTables → Maker → ClassId → List Value → Type 0

@@ -371,6 +371,18 @@ impl Classes {
         Ok(())
     }
 
+    /// Puts the static fields of a class in place of those that it had, and says that it is initialized. The class has
+    /// a place, so it takes no memory.
+    pub fn initialize(&mut self, class: u32, fields: Fields)
+        requires { class < length self.old }
+        ensures states { states_of self.new ≡ with_state (states_of self.old) class ClassState.Initialized }
+        ensures fields { fields_of self.new ≡ with_fields (fields_of self.old) class (field_in fields) }
+    {
+        let area = &mut self.areas[class as usize];
+        area.fields = fields;
+        area.state = ClassState::Initialized;
+    }
+
     /// Begins the initialization of a class by a thread: its state, and its constants (JVMS 5.5, step 6). The class and
     /// these fields have places, so it takes no memory.
     pub fn begin(&mut self, class: u32, thread: u32, statics: &[StaticField])

@@ -261,6 +261,19 @@ impl Rows {
         }
     }
 
+    /// Puts a whole row, of the objects of a maker and how many it made, in place of the one that it had.
+    ///
+    /// # Errors
+    /// `AllocError` where memory is refused; nothing has changed then.
+    pub fn put(&mut self, alloc: Global, maker: u32, row: Row) -> Result<(), AllocError>
+        ensures ok { OnOk result (pool_in self.new ≡ with_pool (pool_in self.old) maker (pool_by row)) }
+        ensures err { OnErr result (pool_in self.new ≡ pool_in self.old) }
+    {
+        self.reach(alloc, maker as usize)?;
+        self.rows[maker as usize] = row;
+        Ok(())
+    }
+
     /// One more object of a maker, and its number.
     ///
     /// # Errors

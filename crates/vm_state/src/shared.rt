@@ -6,9 +6,10 @@ ghost use Rattle.vm_state.specs.SharedState.{object_of, class_at, pool_of, set_p
 ghost use Rattle.vm_state.specs.SharedState.{monitor_of, with_monitor};
 ghost use Rattle.vm_state.specs.Statics.{IsPlaced};
 ghost use Rattle.vm_state.specs.Shares.{shared_of, SharesTheSame, SetsField, SetsState, Begins, Makes, IsNextName};
+ghost use Rattle.vm_state.specs.Shares.{Initializes};
 
-use crate::classes::{ClassState, Classes, NoPlace, StaticField};
-use crate::heap::Heap;
+use crate::classes::{ClassState, Classes, Fields, NoPlace, StaticField};
+use crate::heap::{Heap, Row};
 use crate::object::{Monitor, Object, Slots};
 use crate::value::{Maker, Name, Value};
 use built_in::class_id::ClassId;
@@ -134,6 +135,27 @@ impl Shared {
         ensures { Begins self.old self.new class thread statics.now }
     {
         self.classes.begin(class, thread, statics);
+    }
+
+    /// Puts the static fields and the objects of a class in place of those that it had, and says that the class is
+    /// initialized.
+    ///
+    /// # Errors
+    /// `AllocError` where memory is refused; nothing has changed then.
+    pub fn initialize(
+        &mut self,
+        alloc: Global,
+        class: u32,
+        fields: Fields,
+        objects: Row,
+    ) -> Result<(), AllocError>
+        ensures ok { OnOk result (Initializes self.old self.new class fields objects) }
+        ensures err { OnErr result (SharesTheSame self.old self.new) }
+    {
+        self.classes.keep(alloc, class, 0)?;
+        self.heap.classes.put(alloc, class, objects)?;
+        self.classes.initialize(class, fields);
+        Ok(())
     }
 
     /// The object of a name, if it is held.
