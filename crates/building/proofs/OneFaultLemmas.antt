@@ -18,7 +18,7 @@ use Rattle.wave_scheduler.specs.Outcomes.{outcome_of}
 use Rattle.options.proofs.ListLemmas.{into_among}
 use Rattle.options.specs.Lists.{items_of, IsNonEmpty, empty}
 use Rattle.options.specs.Classes.{AreClasses, IsDemanded, IsForced}
-use Rattle.options.specs.Demands.{AreMet, IsOff, IsUnmet}
+use Rattle.options.specs.Demands.{AreMet, IsUnaccepted, IsUnmet}
 use Rattle.options.specs.Demands as demands
 use Rattle.options.specs.Faults.{AreApart, IsBoth, IsKnown, IsOfBoth, PatternsFail, DemandFails}
 use Rattle.options.specs.Faults as wrong
@@ -126,18 +126,18 @@ no_demand_fault : (family : Family) (patterns : List (List ℕ)) (f g : List Boo
     → DemandFails family patterns g fault → ⊥
 no_demand_fault family patterns f g fault back known apart (wrong.unmatched bad) =
     no_unknown family patterns fault known bad
-no_demand_fault family patterns f g fault back known apart (wrong.torn also bad) =
+no_demand_fault family patterns f g fault back known apart (wrong.overlapping also bad) =
     no_both family (IsDemanded family patterns) f g fault back apart bad
 
 one_demand_fault : (family : Family) (patterns : List (List ℕ)) (f g : List Bool) (x y : OptionFault) → IsWithin f g
     → IsWithin g f → DemandFails family patterns f x → DemandFails family patterns g y → SaysTheSame x y
 one_demand_fault family patterns f g x y there back (wrong.unmatched bad) (wrong.unmatched other) =
     one_unknown family patterns x y bad other
-one_demand_fault family patterns f g x y there back (wrong.unmatched bad) (wrong.torn known other) =
+one_demand_fault family patterns f g x y there back (wrong.unmatched bad) (wrong.overlapping known other) =
     absurd (no_unknown family patterns x known bad)
-one_demand_fault family patterns f g x y there back (wrong.torn known bad) (wrong.unmatched other) =
+one_demand_fault family patterns f g x y there back (wrong.overlapping known bad) (wrong.unmatched other) =
     absurd (no_unknown family patterns y known other)
-one_demand_fault family patterns f g x y there back (wrong.torn known bad) (wrong.torn also other) =
+one_demand_fault family patterns f g x y there back (wrong.overlapping known bad) (wrong.overlapping also other) =
     one_both family (IsDemanded family patterns) f g x y there back bad other
 
 -- ---- classes that are not accepted, by two sets of the same demanded classes
@@ -171,7 +171,7 @@ one_unmet : (P : Tables) (a b : List Bool) (S : Settled) (x y : OptionFault) →
 one_unmet P a b S x y there back (demands.unmet {class = c} {name = m} {reason = r} one at named)
     (demands.unmet {class = d} {name = n} {reason = q} other there_at also) =
     let same : c ≡ d =
-    one_number (IsOff a S) (IsOff b S) c d one.here other.here (λ k held. (there k held.0, held.1))
+    one_number (IsUnaccepted a S) (IsUnaccepted b S) c d one.here other.here (λ k held. (there k held.0, held.1))
     (λ k held. (back k held.0, held.1)) one.before other.before in
     let names : m ≡ n = same_units m n (from_some (sym named ∙ ap (λ (k : ℕ). name_in P.family k) same ∙ also)) in
     let reasons_same : r ≡ q =
@@ -205,7 +205,7 @@ module _ (P : Tables) (run build : List (List ℕ)) (budget : ℕ) (f g : List B
       absurd (no_demand_fault P.family build g f x there known apart bad)
   one_demands_fault x y (fails.unmet demand known are apart left) (fails.wrong other) =
       absurd (no_demand_fault P.family build f g y back known apart other)
-  one_demands_fault x y (fails.unmet demand known are apart left) (fails.unmet made knew be torn gone) =
+  one_demands_fault x y (fails.unmet demand known are apart left) (fails.unmet made knew be overlapping gone) =
       let same : left.last ≡ gone.last =
       same_settled P run budget left.last gone.last f g is also left.settled gone.settled in
       one_unmet P demand made gone.last x y (same_classes (IsDemanded P.family build) demand made are be)

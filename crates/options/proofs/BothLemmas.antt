@@ -15,7 +15,7 @@ use Rattle.loading.specs.Families.{Family, name_in, file_of}
 use Rattle.initializer_analysis.specs.Forced.{has_class}
 use Rattle.options.specs.Classes.{AreClasses, IsDemanded}
 use Rattle.options.specs.Faults.{IsBoth, IsKnown, AreApart, IsLeastBoth, IsOfBoth, both}
-use Rattle.options.specs.Faults.{PatternsFail, DemandFails, unmatched, torn}
+use Rattle.options.specs.Faults.{PatternsFail, DemandFails, unmatched, overlapping}
 use Rattle.options.specs.steps.Marks.{IsMarked}
 use Rattle.options.specs.steps.Both.{NamesBoth, named}
 use Rattle.options.proofs.ChainLemmas.{marked_within}
@@ -78,13 +78,13 @@ pub unmatched_fails : (family : Family) (patterns : List (List ℕ)) (forced : L
 unmatched_fails family patterns forced fault (inl memory) = inl memory
 unmatched_fails family patterns forced fault (inr wrong) = inr (unmatched wrong)
 
-pub torn_fails : (family : Family) (patterns : List (List ℕ)) (marks forced : List Bool) (fault : OptionFault)
+pub overlapping_fails : (family : Family) (patterns : List (List ℕ)) (marks forced : List Bool) (fault : OptionFault)
     → All (IsKnown family) patterns → AreClasses marks (IsDemanded family patterns)
     → (fault ≡ Memory) ⊎ IsOfBoth family (IsMarked marks) forced fault
     → (fault ≡ Memory) ⊎ DemandFails family patterns forced fault
-torn_fails family patterns marks forced fault known are (inl memory) = inl memory
-torn_fails family patterns marks forced fault known are (inr wrong) =
-    inr (torn known (of_both_too marks forced (IsDemanded family patterns) are family fault wrong))
+overlapping_fails family patterns marks forced fault known are (inl memory) = inl memory
+overlapping_fails family patterns marks forced fault known are (inr wrong) =
+    inr (overlapping known (of_both_too marks forced (IsDemanded family patterns) are family fault wrong))
 
 pub demand_fails : (family : Family) (patterns : List (List ℕ)) (marks forced : List Bool)
     (r : Result (List Bool) OptionFault)
@@ -92,7 +92,7 @@ pub demand_fails : (family : Family) (patterns : List (List ℕ)) (marks forced 
     → IfErr r (λ fault. (fault ≡ Memory) ⊎ IsOfBoth family (IsMarked marks) forced fault)
     → IfErr r (λ fault. (fault ≡ Memory) ⊎ DemandFails family patterns forced fault)
 demand_fails family patterns marks forced r known are =
-    IfErr-weaker r _ _ (λ fault. torn_fails family patterns marks forced fault known are)
+    IfErr-weaker r _ _ (λ fault. overlapping_fails family patterns marks forced fault known are)
 
 pub on_ok : {T E : Type 0} (r : Result T E) (P : Type 0) → P → OnOk r P
 on_ok (Ok x) P holds = holds

@@ -19,8 +19,8 @@ use Rattle.wave_scheduler.specs.declared.outcome.Settled.{Settled as Answer}
 use Rattle.wave_scheduler.specs.Outcomes.{outcome_of, settled_of}
 use Rattle.wave_scheduler.specs.Settled.{Wave}
 use Rattle.wave_scheduler.proofs.FindingLemmas.{accepted_or, refused_or}
-use Rattle.options.specs.Demands.{AreMet, IsOff, IsFirstOff, IsUnmet, unmet}
-use Rattle.options.specs.steps.Unmet.{IsUnmetOf, NoneOffBelow, NamesUnmet, named}
+use Rattle.options.specs.Demands.{AreMet, IsUnaccepted, IsFirstUnaccepted, IsUnmet, unmet}
+use Rattle.options.specs.steps.Unmet.{IsUnmetOf, NoneUnacceptedBelow, NamesUnmet, named}
 use Rattle.options.specs.declared.fault.OptionFault.{OptionFault}
 use Rattle.options.specs.declared.fault.OptionFault.TheVariants.{Memory, Demanded}
 
@@ -38,8 +38,8 @@ module _ (P : Tables) (demand : List Bool) (s : Answer) where
       → slice_get (settled_of s).outcomes c ≡ Some (outcome_of v)
   seen_at c v at = slice_get-map outcome_of s.verdicts c ∙ ap (option_map outcome_of) at
 
-  pub none_off_more : (c : ℕ) (r : Option Reason) → r ≡ None → NoneOffBelow demand (settled_of s) c
-      → IsUnmetOf s.verdicts demand c r → NoneOffBelow demand (settled_of s) (c + 1)
+  pub none_off_more : (c : ℕ) (r : Option Reason) → r ≡ None → NoneUnacceptedBelow demand (settled_of s) c
+      → IsUnmetOf s.verdicts demand c r → NoneUnacceptedBelow demand (settled_of s) (c + 1)
   none_off_more c None none before fine d low (held, never) = elim (cases_lt d c) [
     | inl below ↦ before d below (held, never)
     | inr past ↦
@@ -53,7 +53,7 @@ module _ (P : Tables) (demand : List Bool) (s : Answer) where
   ]
   none_off_more c (Some o) none before fine d low both = absurd (let clash : Some o ≡ None = none in cc)
 
-  pub all_met : (limit : ℕ) → limit ≡ length P.classes → NoneOffBelow demand (settled_of s) limit
+  pub all_met : (limit : ℕ) → limit ≡ length P.classes → NoneUnacceptedBelow demand (settled_of s) limit
       → AreMet P demand (settled_of s)
   all_met limit end before c low held = elim (accepted_or (settled_of s) c) [
     | inl accepted ↦ accepted
@@ -61,7 +61,7 @@ module _ (P : Tables) (demand : List Bool) (s : Answer) where
   ]
 
   pub one_unmet : (c limit : ℕ) (o : Reason) (fault : OptionFault) → limit ≡ length P.classes → c < limit
-      → NoneOffBelow demand (settled_of s) c → IsUnmetOf s.verdicts demand c (Some o)
+      → NoneUnacceptedBelow demand (settled_of s) c → IsUnmetOf s.verdicts demand c (Some o)
       → (fault ≡ Memory) ⊎ NamesUnmet P.family c o fault
       → (fault ≡ Memory) ⊎ IsUnmet P demand (settled_of s) fault
   one_unmet c limit o fault end low before off (inl memory) = inl memory

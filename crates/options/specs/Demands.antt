@@ -16,17 +16,17 @@ abbrev pub AreMet : Tables → List Bool → Settled → Type 0
 AreMet P demand S = (c : ℕ) → c < length P.classes → IsTrue (has_class demand c) → IsAccepted S c
 
 -- a class is demanded, and not accepted
-abbrev pub IsOff : List Bool → Settled → ℕ → Type 0
-IsOff demand S c = IsTrue (has_class demand c) × (¬ IsAccepted S c)
+abbrev pub IsUnaccepted : List Bool → Settled → ℕ → Type 0
+IsUnaccepted demand S c = IsTrue (has_class demand c) × (¬ IsAccepted S c)
 
 -- the least such class
-pub record IsFirstOff (P : Tables) (demand : List Bool) (S : Settled) (c : ℕ) : Type 0 where
+pub record IsFirstUnaccepted (P : Tables) (demand : List Bool) (S : Settled) (c : ℕ) : Type 0 where
   pub low : c < length P.classes
-  pub here : IsOff demand S c
-  pub before : (d : ℕ) → d < c → ¬ IsOff demand S d
+  pub here : IsUnaccepted demand S c
+  pub before : (d : ℕ) → d < c → ¬ IsUnaccepted demand S d
 
 -- what is wrong with the demands, but for want of memory
 pub data IsUnmet (P : Tables) (demand : List Bool) (S : Settled) : OptionFault → Type 0 where
-  unmet : {class : ℕ} {name : List ℕ} {reason : Reason} → IsFirstOff P demand S class
+  unmet : {class : ℕ} {name : List ℕ} {reason : Reason} → IsFirstUnaccepted P demand S class
       → slice_get S.outcomes class ≡ Some (outcome_of (Refused reason))
       → name_in P.family class ≡ Some (units_text name) → IsUnmet P demand S (Demanded name reason)

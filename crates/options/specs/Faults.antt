@@ -48,5 +48,5 @@ pub data IsOfBoth (family : Family) (P : ℕ → Type 0) (forced : List Bool) : 
 -- why a list demands no classes: a pattern matches none, and else a class is forced
 pub data DemandFails (family : Family) (patterns : List (List ℕ)) (forced : List Bool) : OptionFault → Type 0 where
   unmatched : {fault : OptionFault} → PatternsFail family patterns fault → DemandFails family patterns forced fault
-  torn : {fault : OptionFault} → All (IsKnown family) patterns
+  overlapping : {fault : OptionFault} → All (IsKnown family) patterns
       → IsOfBoth family (IsDemanded family patterns) forced fault → DemandFails family patterns forced fault

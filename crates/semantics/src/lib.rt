@@ -8,8 +8,6 @@ ghost use Rattle.semantics.specs.Laws.{RunsJoin};
 ghost use Rattle.semantics.specs.Answers.{AnswersDecide};
 ghost use Rattle.semantics.specs.Alone.{StepsAgree, StopsAgree};
 ghost use Rattle.semantics.specs.Settling.{StopExcludes, OneStop, SettlesOrStops};
-ghost use Rattle.semantics.specs.MadeNames.{SettledAreMade};
-ghost use Rattle.semantics.specs.MadeRegions.{MadeStay};
 ghost use Rattle.semantics.specs.Acceptance.{OneRegion, WiderEnvironment};
 ghost use Rattle.semantics.specs.Erasure.{ErasedUnseen};
 ghost use Rattle.semantics.specs.Headline.{LazyToImage, ImageToLazy};
@@ -34,17 +32,6 @@ pub fn steps_agree()
 /// Big steps and small steps of an initializer are stopped by the same thing.
 pub fn stops_agree()
     ensures { StopsAgree }
-{}
-
-/// What an initializer leaves at build time refers to objects alone that it or a class at hand made.
-pub fn settled_are_made()
-    ensures { SettledAreMade }
-{}
-
-/// With regions at hand that refer to each other's objects alone the finals are as the next class wants them, and with
-/// its region they are such again.
-pub fn made_stay()
-    ensures { MadeStay }
 {}
 
 /// An initializer that settles within a budget is not refused or barred within it, and one that is refused or barred

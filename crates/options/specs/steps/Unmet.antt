@@ -7,7 +7,7 @@ use Rattle.initializer_analysis.specs.declared.verdict.Reason.{Reason}
 use Rattle.initializer_analysis.specs.declared.verdict.Verdict.{Verdict}
 use Rattle.initializer_analysis.specs.declared.verdict.Verdict.TheVariants.{Wave, Refused}
 use Rattle.wave_scheduler.specs.Settled.{Settled}
-use Rattle.options.specs.Demands.{IsOff}
+use Rattle.options.specs.Demands.{IsUnaccepted}
 use Rattle.options.specs.declared.fault.OptionFault.{OptionFault}
 use Rattle.options.specs.declared.fault.OptionFault.TheVariants.{Demanded}
 
@@ -16,8 +16,8 @@ IsUnmetOf verdicts demand c None = IsTrue (has_class demand c) → (n : ℕ) × 
 IsUnmetOf verdicts demand c (Some reason) =
     IsTrue (has_class demand c) × (slice_get verdicts c ≡ Some (Refused reason))
 
-abbrev pub NoneOffBelow : List Bool → Settled → ℕ → Type 0
-NoneOffBelow demand S limit = (c : ℕ) → c < limit → ¬ IsOff demand S c
+abbrev pub NoneUnacceptedBelow : List Bool → Settled → ℕ → Type 0
+NoneUnacceptedBelow demand S limit = (c : ℕ) → c < limit → ¬ IsUnaccepted demand S c
 
 pub data NamesUnmet (family : Family) (class : ℕ) (reason : Reason) : OptionFault → Type 0 where
   named : {name : List ℕ} → name_in family class ≡ Some (units_text name)
