@@ -1,26 +1,6 @@
-//! Reads images.
+//! The start of a run from an image.
 #![tactic(auto)]
 
-mod fault;
-mod files;
-mod header;
-mod image;
-mod image_fault;
-mod marks;
-mod names;
-mod numbers;
-mod objects;
-mod region;
-mod regions;
-mod tag;
-mod values;
+mod start;
 
-pub use fault::{FilesFault, MarksFault, RegionFault, RegionsFault};
-pub use files::read_files;
-pub use header::{HeaderFault, frame_or_fault, parts_of};
-pub use image::{Parsed, read};
-pub use image_fault::ImageFault;
-pub use marks::read_marks;
-pub use names::nameless;
-pub use region::{read_region, region_or_fault};
-pub use regions::{read_regions, regions_or_fault};
+pub use start::world;

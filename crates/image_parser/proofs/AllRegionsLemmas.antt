@@ -1,0 +1,138 @@
+-- Marks that name objects alone that there are make the regions of an image.
+use Rattle.std.proofs.Common.{◌≡◌, ℕ, zero, suc, ◌+◌, ◌<◌, ◌⊎◌, List, [], ◌∷◌, ◌++◌, length, get_or, Option, Some}
+use Rattle.std.proofs.Common.{None, slice_get}
+use Rattle.std.proofs.Common.{refl, sym, ap, subst, ◌∙◌, arith, inl, inr}
+use Rattle.std.specs.List.{All, AllZip}
+use Rattle.std.proofs.lemmas.List.{append-nil}
+use Rattle.std.proofs.lemmas.Option.{slice_get_within, slice_get-get_or, same_Some}
+use Rattle.loading.specs.Families.{Family}
+use Rattle.image_format.specs.declared.region.ImageRegion.{ImageRegion}
+use Rattle.image_format.specs.Shapes.{HasShape}
+use Rattle.image_format.specs.Images.{AreRegions, NamesObjects}
+use Rattle.image_parser.specs.declared.fault.MarksFault.{MarksFault}
+use Rattle.image_parser.specs.declared.fault.MarksFault.TheVariants as marks
+use Rattle.image_parser.specs.declared.fault.RegionsFault.TheVariants as faults
+use Rattle.image_parser.specs.Inside.{among_regions}
+use Rattle.image_parser.specs.Regions.{Begins}
+use Rattle.image_parser.specs.MarkFaults.{numbers, MarkFits, AreMarks, MarksFail, IsMarksFault}
+use Rattle.image_parser.specs.Nameless.{MarkNames, IsNameless}
+use Rattle.image_parser.specs.AllRegions.{RegionsText, RegionsFail}
+use Rattle.image_parser.specs.AllRegions.RegionsFail.{part, extra, name}
+
+as_many : (family : Family) (c n : ℕ) (regions : List (Option ImageRegion))
+    → AllZip (MarkFits family) (numbers c n) regions → length regions ≡ n
+as_many family c zero [] h = refl
+as_many family c zero (r ∷ rs) h = absurd h
+as_many family c (suc n) [] h = absurd h
+as_many family c (suc n) (r ∷ rs) h = let k = as_many family (c + 1) n rs h.1 in omega (arith, k)
+
+at_place : (family : Family) (c n : ℕ) (regions : List (Option ImageRegion))
+    → AllZip (MarkFits family) (numbers c n) regions → (i : ℕ) (region : ImageRegion)
+    → slice_get regions i ≡ Some (Some region) → HasShape family (c + i) region
+at_place family c zero [] h i region e = absurd cc
+at_place family c zero (r ∷ rs) h i region e = absurd h
+at_place family c (suc n) [] h i region e = absurd h
+at_place family c (suc n) (r ∷ rs) h zero region e =
+    let same : r ≡ Some region = cc in
+    let here : MarkFits family c (Some region) = subst (MarkFits family c) same h.0 in
+    let P : ℕ → Type 0 = λ k. HasShape family k region in
+    subst P (let k : c ≡ c + 0 = omega arith in k) here
+at_place family c (suc n) (r ∷ rs) h (suc i) region e =
+    let P : ℕ → Type 0 = λ k. HasShape family k region in
+    subst P (let k : c + 1 + i ≡ c + suc i = omega arith in k) (at_place family (c + 1) n rs h.1 i region e)
+
+named : (regions : List (Option ImageRegion)) → All (MarkNames regions) regions → (i : ℕ) (region : ImageRegion)
+    → slice_get regions i ≡ Some (Some region) → NamesObjects regions region
+named regions all i region e =
+    let lt = slice_get_within regions i (Some region) e in
+    let same : get_or regions i None ≡ Some region =
+    same_Some (get_or regions i None) (Some region) (sym (slice_get-get_or regions i None lt) ∙ e) in
+    let P : Option ImageRegion → Type 0 = λ z. MarkNames regions z in
+    subst P same (all i None lt)
+
+filled : (family : Family) (bytes rest : List ℕ) (regions : List (Option ImageRegion))
+    → Begins (AreMarks family) bytes regions rest → rest ≡ [] → AreMarks family regions bytes
+filled family bytes rest regions b none =
+    let whole : bytes ≡ b.text = b.parts ∙ ap (λ (z : List ℕ). b.text ++ z) none ∙ append-nil b.text in
+    (b.spelled.0, whole ∙ b.spelled.1)
+
+pub are_regions : (family : Family) (bytes rest : List ℕ) (regions : List (Option ImageRegion))
+    → Begins (AreMarks family) bytes regions rest → rest ≡ [] → All (MarkNames regions) regions
+    → RegionsText family bytes regions
+are_regions family bytes rest regions b none all =
+    let m = filled family bytes rest regions b none in
+    record {
+      fits = record {
+        count = as_many family 0 (length family) regions m.0;
+        shapes = λ c region e.
+            let P : ℕ → Type 0 = λ k. HasShape family k region in
+            subst P (let k : 0 + c ≡ c = omega arith in k) (at_place family 0 (length family) regions m.0 c region e);
+        names = λ c region e. named regions all c region e;
+      };
+      spelled = m.1;
+    }
+
+pub left_over : (family : Family) (bytes rest : List ℕ) (regions : List (Option ImageRegion))
+    → Begins (AreMarks family) bytes regions rest → (rest ≡ [] → ⊥)
+    → RegionsFail family bytes faults.Extra
+left_over family bytes rest regions b some = extra regions b.text rest b.spelled b.parts some
+
+pub is_nameless : (family : Family) (bytes rest : List ℕ) (regions : List (Option ImageRegion)) (c : ℕ)
+    → Begins (AreMarks family) bytes regions rest → rest ≡ [] → IsNameless regions c
+    → RegionsFail family bytes (faults.Name c)
+is_nameless family bytes rest regions c b none least = name regions (filled family bytes rest regions b none) least
+
+pub among : (family : Family) (bytes : List ℕ) (f : MarksFault) → IsMarksFault (MarksFail family bytes) f
+    → (among_regions f ≡ faults.Memory) ⊎ RegionsFail family bytes (among_regions f)
+among family bytes marks.Memory h = inl refl
+among family bytes marks.Truncated h = inr (part _ h)
+among family bytes (marks.Shape c) h = inr (part _ h)
+
+-- the class of a region that names what there is not is one of the program's
+pub is_within : (family : Family) (bytes rest : List ℕ) (regions : List (Option ImageRegion)) (c : ℕ)
+    → Begins (AreMarks family) bytes regions rest → IsNameless regions c → c < length family
+is_within family bytes rest regions c b least =
+    let many = as_many family 0 (length family) regions b.spelled.0 in
+    let lt = slice_get_within regions c least.mark least.is in
+    omega (arith, many, lt)
+
+-- ---- marks from regions of an image
+
+mark_back : (family : Family) (c : ℕ) (mark : Option ImageRegion)
+    → ((region : ImageRegion) → mark ≡ Some region → HasShape family c region) → MarkFits family c mark
+mark_back family c None h = tt
+mark_back family c (Some region) h = h region refl
+
+marks_back : (family : Family) (c n : ℕ) (regions : List (Option ImageRegion)) → length regions ≡ n
+    → ((i : ℕ) (region : ImageRegion) → slice_get regions i ≡ Some (Some region) → HasShape family (c + i) region)
+    → AllZip (MarkFits family) (numbers c n) regions
+marks_back family c zero [] many h = tt
+marks_back family c zero (r ∷ rs) many h = absurd cc
+marks_back family c (suc n) [] many h = absurd cc
+marks_back family c (suc n) (r ∷ rs) many h = (
+  mark_back family c r (λ region e. let P : ℕ → Type 0 = λ k. HasShape family k region in
+      subst P (let k : c + 0 ≡ c = omega arith in k) (h zero region (ap (λ (z : Option ImageRegion). Some z) e))),
+  marks_back family (c + 1) n rs (omega (arith, many))
+      (λ i region e. let P : ℕ → Type 0 = λ k. HasShape family k region in
+      subst P (let k : c + suc i ≡ c + 1 + i = omega arith in k) (h (suc i) region e)),
+)
+
+pub are_marks : (family : Family) (bytes : List ℕ) (regions : List (Option ImageRegion))
+    → RegionsText family bytes regions → AreMarks family regions bytes
+are_marks family bytes regions t = (
+  marks_back family 0 (length family) regions t.fits.count
+      (λ i region e. let P : ℕ → Type 0 = λ k. HasShape family k region in
+      subst P (let k : i ≡ 0 + i = omega arith in k) (t.fits.shapes i region e)),
+  t.spelled,
+)
+
+mark_named : (regions : List (Option ImageRegion))
+    → ((c : ℕ) (region : ImageRegion) → slice_get regions c ≡ Some (Some region) → NamesObjects regions region)
+    → (i : ℕ) (mark : Option ImageRegion) → slice_get regions i ≡ Some mark → MarkNames regions mark
+mark_named regions names i None e = tt
+mark_named regions names i (Some region) e = names i region e
+
+pub all_named : (family : Family) (regions : List (Option ImageRegion)) → AreRegions family regions
+    → All (MarkNames regions) regions
+all_named family regions fits i d lt =
+    mark_named regions fits.names i (get_or regions i d) (slice_get-get_or regions i d lt)

@@ -1,0 +1,149 @@
+-- The parts of an image, put together.
+use Rattle.std.proofs.Common.{◌≡◌, ℕ, ◌+◌, ◌<◌, ◌≤◌, ◌^◌, ◌⊎◌, List, ◌++◌, length, take, drop, Option, refl, sym, ap}
+use Rattle.std.proofs.Common.{subst, ◌∙◌, arith, inl, inr}
+use Rattle.std.specs.Prelude.{IfErr, Result, Ok, Err}
+use Rattle.std.specs.Int.{w32, from_be_bytes}
+use Rattle.std.specs.List.{All, flat_map}
+use Rattle.std.proofs.lemmas.List.{take-append-drop, length-take, length-append}
+use Rattle.std.proofs.lemmas.Nat.{be_bytes_4}
+use Rattle.sha2.specs.Sha256.{sha256}
+use Rattle.sha2.proofs.Facts256.{length-sha256}
+use Rattle.classfile.specs.ClassFile.{ClassFile}
+use Rattle.classfile.specs.Spelling.{u2, u4}
+use Rattle.loading.specs.declared.fault.LinkFault.{LinkFault}
+use Rattle.loading.specs.declared.fault.LinkFault.TheVariants as link_faults
+use Rattle.loading.specs.Families.{Family}
+use Rattle.loading.specs.Files.{LinkFails}
+use Rattle.program.specs.Programs.{IsProgram}
+use Rattle.program.specs.Tables.{Tables}
+use Rattle.image_format.specs.declared.region.ImageRegion.{ImageRegion}
+use Rattle.image_format.specs.Images.{ImageText}
+use Rattle.image_format.specs.Texts.{file_text, given_text, with_digest}
+use Rattle.image_parser.specs.declared.fault.FilesFault.{FilesFault}
+use Rattle.image_parser.specs.declared.fault.FilesFault.TheVariants as file_faults
+use Rattle.image_parser.specs.declared.fault.RegionsFault.{RegionsFault}
+use Rattle.image_parser.specs.declared.fault.RegionsFault.TheVariants as region_faults
+use Rattle.image_parser.specs.declared.image_fault.ImageFault.{ImageFault}
+use Rattle.image_parser.specs.declared.image_fault.ImageFault.TheVariants as faults
+use Rattle.image_parser.specs.AllRegions.{RegionsText, RegionsFail}
+use Rattle.image_parser.specs.FileFaults.{AreFiles, FilesFail}
+use Rattle.image_parser.specs.FirstFailing.{IsBytes}
+use Rattle.image_parser.specs.HeaderFaults.{IsFramed}
+use Rattle.image_parser.specs.ImageFaults.{of_files, of_link, of_regions, HasFiles, IsLinked, PartsText, PartsFail}
+use Rattle.image_parser.specs.ImageFaults.{ImageFails}
+use Rattle.image_parser.specs.ImageFaults.PartsFail.{files, link, regions}
+use Rattle.image_parser.specs.ImageFaults.ImageFails.{within}
+use Rattle.image_parser.specs.Regions.{Begins}
+use Rattle.image_parser.proofs.Lawful.{fits_as}
+use Rattle.image_parser.proofs.RuleLawful.{IsBytes-front}
+use Rattle.image_parser.proofs.FamilyOrderLemmas.{same_files, family_text, IsShort, family_short}
+
+-- ---- the count
+
+pub long_enough : (bytes parts : List ℕ) → IsFramed bytes parts → 4 ≤ length parts
+long_enough bytes parts f =
+    let body : List ℕ = u4 1246775629 ++ (u2 1 ++ parts) in
+    let all : length bytes ≡ length body + length (sha256 body) = ap length f.framed
+    ∙ length-append body (sha256 body) in
+    let front : length body ≡ length (u4 1246775629) + length (u2 1 ++ parts) = length-append (u4 1246775629)
+    (u2 1 ++ parts) in
+    let next : length (u2 1 ++ parts) ≡ length (u2 1) + length parts = length-append (u2 1) parts in
+    let four : length (u4 1246775629) ≡ 4 = refl in
+    let two : length (u2 1) ≡ 2 = refl in
+    omega (arith, f.size, all, front, next, four, two, length-sha256 body)
+
+pub counted : (parts : List ℕ) → IsBytes parts → 4 ≤ length parts → (n : ℕ) (rest : List ℕ)
+    → n ≡ from_be_bytes w32 (take 4 parts) → rest ≡ drop 4 parts → parts ≡ u4 n ++ rest
+counted parts fits long n rest is left =
+    let front : IsBytes (take 4 parts) = IsBytes-front (take 4 parts) (drop 4 parts)
+    (fits_as parts (take 4 parts ++ drop 4 parts) (sym (take-append-drop 4 parts)) fits) in
+    let four : length (take 4 parts) ≡ 4 = omega (arith, length-take 4 parts, long) in
+    let number : u4 n ≡ take 4 parts = be_bytes_4 (take 4 parts) n four front is in
+    sym (take-append-drop 4 parts) ∙ ap (λ (z : List ℕ). z ++ drop 4 parts) (sym number)
+    ∙ ap (λ (z : List ℕ). u4 n ++ z) (sym left)
+
+pub has_files : (parts : List ℕ) (n : ℕ) (bytes : List ℕ) (read : List ClassFile) (rest : List ℕ) → n < 2 ^ 32
+    → parts ≡ u4 n ++ bytes → Begins (AreFiles n) bytes read rest → HasFiles parts read rest
+has_files parts n bytes read rest lt is b =
+    let many = b.spelled.many in
+    let P : ℕ → Type 0 = λ k. AreFiles k read b.text in
+    record {
+      text = b.text;
+      few = (let Q : ℕ → Type 0 = λ k. k < 2 ^ 32 in subst Q (sym many) lt);
+      are = subst P (sym many) b.spelled;
+      spelled = is ∙ ap (λ (z : List ℕ). u4 n ++ z) b.parts
+          ∙ ap (λ (k : ℕ). u4 k ++ (b.text ++ rest)) (sym many);
+    }
+
+-- ---- faults of parts
+
+pub files_fail : (parts : List ℕ) (n : ℕ) (bytes : List ℕ) (e : FilesFault) → n < 2 ^ 32 → parts ≡ u4 n ++ bytes
+    → (e ≡ file_faults.Memory) ⊎ FilesFail n bytes e → (of_files e ≡ faults.Memory) ⊎ PartsFail parts (of_files e)
+files_fail parts n bytes e lt is h =
+    elim h [
+      | inl memory ↦ inl (ap of_files memory)
+      | inr fails ↦ inr (files n bytes e lt is fails)
+    ]
+
+pub link_fails : (parts : List ℕ) (read : List ClassFile) (rest : List ℕ) (e : LinkFault) → HasFiles parts read rest
+    → (e ≡ link_faults.Memory) ⊎ LinkFails read e → (of_link e ≡ faults.Memory) ⊎ PartsFail parts (of_link e)
+link_fails parts read rest e has h =
+    elim h [
+      | inl memory ↦ inl (ap of_link memory)
+      | inr fails ↦ inr (link read rest e has fails)
+    ]
+
+pub regions_fail : (parts : List ℕ) (family : Family) (rest : List ℕ) (e : RegionsFault) → IsLinked parts family rest
+    → (e ≡ region_faults.Memory) ⊎ RegionsFail family rest e
+    → (of_regions e ≡ faults.Memory) ⊎ PartsFail parts (of_regions e)
+regions_fail parts family rest e linked h =
+    elim h [
+      | inl memory ↦ inl (ap of_regions memory)
+      | inr fails ↦ inr (regions family rest e linked fails)
+    ]
+
+pub parts_fail : (bytes parts : List ℕ) (f : ImageFault) → IsFramed bytes parts
+    → (f ≡ faults.Memory) ⊎ PartsFail parts f → (f ≡ faults.Memory) ⊎ ImageFails bytes f
+parts_fail bytes parts f framed h =
+    elim h [
+      | inl memory ↦ inl memory
+      | inr fails ↦ inr (within parts f framed fails)
+    ]
+
+-- ---- what is accepted
+
+pub parts_text : (parts : List ℕ) (P : Tables) (rest : List ℕ) (held : List (Option ImageRegion))
+    → IsLinked parts P.family rest → IsProgram P → RegionsText P.family rest held → PartsText parts P held
+parts_text parts P rest held linked program told =
+    let has = linked.has in
+    let same = same_files linked.files P.family has.are.ascending linked.of in
+    let IsSmall : List ClassFile → Type 0 = λ z. All IsShort z in
+    let body : flat_map file_text linked.files ≡ flat_map given_text P.family =
+    ap (λ (z : List ClassFile). flat_map file_text z) same ∙ family_text P.family in
+    record {
+      family = linked.of.fits;
+      program = program;
+      short = family_short P.family (subst IsSmall same has.are.short);
+      fits = told.fits;
+      spelled = has.spelled ∙ ap (λ (k : ℕ). u4 k ++ (has.text ++ rest)) (sym linked.of.count)
+          ∙ ap (λ (z : List ℕ). u4 (length P.family) ++ (z ++ rest)) (has.are.spelled ∙ body)
+          ∙ ap (λ (z : List ℕ). u4 (length P.family) ++ (flat_map given_text P.family ++ z)) told.spelled;
+    }
+
+pub image_text : (bytes parts : List ℕ) (P : Tables) (held : List (Option ImageRegion)) → IsFramed bytes parts
+    → PartsText parts P held → ImageText bytes P held
+image_text bytes parts P held framed text = record {
+  family = text.family;
+  program = text.program;
+  short = text.short;
+  fits = text.fits;
+  spelled = framed.framed ∙ ap (λ (z : List ℕ). with_digest (u4 1246775629 ++ (u2 1 ++ z))) text.spelled;
+}
+
+-- ---- answers of functions
+
+pub parts_refused : {X : Type 0} (bytes parts : List ℕ) (result : Result X ImageFault) → IsFramed bytes parts
+    → IfErr result (λ f. (f ≡ faults.Memory) ⊎ PartsFail parts f)
+    → IfErr result (λ f. (f ≡ faults.Memory) ⊎ ImageFails bytes f)
+parts_refused bytes parts (Ok x) framed h = tt
+parts_refused bytes parts (Err f) framed h = parts_fail bytes parts f framed h

@@ -1,0 +1,145 @@
+-- Readers of marks are lawful.
+use Rattle.std.proofs.Common.{◌≡◌, ℕ, zero, suc, List, [], ◌++◌, length, Some, None, Result, Ok, Err}
+use Rattle.std.proofs.Common.{refl, sym, ap, subst, ◌∙◌, arith}
+use Rattle.std.specs.Prelude.{IfOk, IfErr}
+use Rattle.std.specs.Int.{w8}
+use Rattle.classfile.specs.Spelling.{u1}
+use Rattle.loading.specs.Families.{Family, IsFamily}
+use Rattle.image_format.specs.Texts.{mark_text, region_text}
+use Rattle.image_parser.specs.declared.fault.RegionFault.{RegionFault}
+use Rattle.image_parser.specs.declared.fault.MarksFault.{MarksFault}
+use Rattle.image_parser.specs.declared.fault.MarksFault.TheVariants as marks
+use Rattle.image_parser.specs.FirstFailing.{Number, IsBytes}
+use Rattle.image_parser.specs.RegionFaults.{IsRegion, RegionFails}
+use Rattle.image_parser.specs.Regions.{Begins}
+use Rattle.image_parser.specs.Inside.{inside}
+use Rattle.image_parser.specs.MarkFaults.{numbers, MarkFits, IsMark, MarkedFails, MarkFails, MarkFailsIn, MarksFail, AreMarks}
+use Rattle.image_parser.specs.MarkFaults.{IsMarksFault, FailsIn, GivesIn}
+use Rattle.image_parser.specs.reading.Results.{number_at}
+use Rattle.image_parser.specs.reading.Objects.{region_at}
+use Rattle.image_parser.specs.reading.Marks.{Mark, marked, marked_at, mark_at, inside_at, mark_in, marks_at}
+use Rattle.image_parser.proofs.Lawful.{Lawful, Both, Is, Mapped, wide8, number_lawful, pure_lawful, map_lawful, then_lawful, restated}
+use Rattle.image_parser.proofs.EachLawful.{each_lawful}
+use Rattle.image_parser.proofs.ValueLawful.{shape_lawful}
+use Rattle.image_parser.proofs.ObjectLawful.{region_lawful}
+
+-- ---- one mark
+
+abbrev Marked : Family → ℕ → ℕ → Mark → List ℕ → Type 0
+Marked family c zero = Is None
+Marked family c (suc zero) = Mapped marked (IsRegion family c)
+Marked family c (suc (suc n)) = λ mark text. ⊥
+
+marked_lawful : (family : Family) → IsFamily family → (c m : ℕ)
+    → Lawful (marked_at family c m) (Marked family c m) (MarkedFails family c m)
+marked_lawful family fits c zero = pure_lawful None
+marked_lawful family fits c (suc zero) =
+    map_lawful marked (region_at family c) (IsRegion family c) (RegionFails family c) (region_lawful family fits c)
+marked_lawful family fits c (suc (suc n)) = shape_lawful
+
+marked_there : (family : Family) (c m : ℕ) (mark : Mark) (back : List ℕ) → Marked family c m mark back
+    → MarkFits family c mark × (u1 m ++ back ≡ mark_text family mark)
+marked_there family c zero mark back s = rw (s.0, s.1) (tt, refl)
+marked_there family c (suc zero) mark back s =
+    rw s.is (s.spelled.0, ap (λ (z : List ℕ). u1 1 ++ z) s.spelled.1)
+marked_there family c (suc (suc n)) mark back s = absurd s
+
+mark_there : (family : Family) (c : ℕ) (mark : Mark) (text : List ℕ) → Both (Number w8) (Marked family c) mark text
+    → IsMark family c mark text
+mark_there family c mark text s =
+    let h = marked_there family c s.value mark s.back s.second in
+    (h.0, s.parts ∙ ap (λ (z : List ℕ). z ++ s.back) s.first.1 ∙ h.1)
+
+mark_back : (family : Family) (c : ℕ) (mark : Mark) (text : List ℕ) → IsMark family c mark text
+    → Both (Number w8) (Marked family c) mark text
+mark_back family c None text s = record {
+  value = 0;
+  front = u1 0;
+  back = [];
+  first = (omega arith, refl);
+  second = (refl, refl);
+  parts = s.1;
+}
+mark_back family c (Some region) text s = record {
+  value = 1;
+  front = u1 1;
+  back = region_text family region;
+  first = (omega arith, refl);
+  second = record { value = region; spelled = (s.0, refl); is = refl };
+  parts = s.1;
+}
+
+mark_lawful : (family : Family) → IsFamily family → (c : ℕ)
+    → Lawful (mark_at family c) (IsMark family c) (MarkFails family c)
+unfolding mark_at
+mark_lawful family fits c =
+    restated (then_lawful (number_at w8) (λ bytes mark. marked_at family c mark.0 mark.1) (number_lawful w8 wide8)
+    (λ bytes m text s. marked_lawful family fits c m)) (mark_there family c) (mark_back family c)
+
+-- ---- the same among all
+
+inside_ok : {X : Type 0} (c : ℕ) (r : Result X RegionFault) (x : X) → inside_at c r ≡ Ok x → r ≡ Ok x
+inside_ok c (Ok y) x e = cc
+inside_ok c (Err f) x e = absurd cc
+
+inside_err : {X : Type 0} (c : ℕ) (r : Result X RegionFault) (f : MarksFault) → inside_at c r ≡ Err f
+    → (e : RegionFault) × ((r ≡ Err e) × (f ≡ inside c e))
+inside_err c (Ok y) f e = absurd cc
+inside_err c (Err g) f e = (g, (refl, cc))
+
+inside_lawful : {X : Type 0} (c : ℕ) (r : List ℕ → Result (X × List ℕ) RegionFault) (S : X → List ℕ → Type 0)
+    (F : List ℕ → RegionFault → Type 0) → Lawful r S F
+    → Lawful (λ bytes. inside_at c (r bytes)) S (λ bytes f. (e : RegionFault) × (F bytes e × (f ≡ inside c e)))
+inside_lawful {X} c r S F one = record {
+  takes = λ bytes x rest fits e. one.takes bytes x rest fits (inside_ok c (r bytes) (x, rest) e);
+  again = λ x text rest s. ap (λ (z : Result (X × List ℕ) RegionFault). inside_at c z) (one.again x text rest s);
+  blames = λ bytes f fits e.
+      let g = inside_err c (r bytes) f e in (g.0, (one.blames bytes g.0 fits g.1.0, g.1.1));
+  blamed = λ bytes f fits h.
+      ap (λ (z : Result (X × List ℕ) RegionFault). inside_at c z) (one.blamed bytes h.0 fits h.1.0)
+      ∙ ap (λ (z : MarksFault). Err z) (sym h.1.1);
+}
+
+pub marks_lawful : (family : Family) → IsFamily family → Lawful (marks_at family) (AreMarks family) (MarksFail family)
+unfolding marks_at
+marks_lawful family fits =
+    each_lawful (mark_text family) (MarkFits family) (MarkFailsIn family) (mark_in family)
+    (λ c. inside_lawful c (mark_at family c) (IsMark family c) (MarkFails family c) (mark_lawful family fits c))
+    (numbers 0 (length family))
+
+-- ---- what the reader answers, unless memory runs out
+
+pub marks_text : {Y : Type 0} (family : Family) → IsFamily family → (view : Y → List Mark × List ℕ)
+    (result : Result Y MarksFault) (bytes : List ℕ) → IsBytes bytes → GivesIn view result (marks_at family bytes)
+    → IfOk result (λ y. Begins (AreMarks family) bytes (view y).0 (view y).1)
+marks_text family fam view (Ok y) bytes fits e =
+    let t = (marks_lawful family fam).takes bytes (view y).0 (view y).1 fits e in
+    record { text = t.text; spelled = t.spelled; parts = t.parts }
+marks_text family fam view (Err f) bytes fits e = tt
+
+pub marks_only_text : {Y : Type 0} (family : Family) → IsFamily family → (view : Y → List Mark × List ℕ)
+    (result : Result Y MarksFault) (bytes : List ℕ) → GivesIn view result (marks_at family bytes)
+    → (regions : List Mark) (text rest : List ℕ) → AreMarks family regions text → bytes ≡ text ++ rest
+    → GivesIn view result (Ok (regions, rest))
+marks_only_text {Y} family fam view result bytes g regions text rest s parts =
+    let P : Result (List Mark × List ℕ) MarksFault → Type 0 = λ z. GivesIn view result z in
+    subst P (ap (marks_at family) parts ∙ (marks_lawful family fam).again regions text rest s) g
+
+refused : (family : Family) → IsFamily family → (f : MarksFault) (bytes : List ℕ) → IsBytes bytes
+    → FailsIn f (marks_at family bytes) → IsMarksFault (MarksFail family bytes) f
+refused family fam marks.Memory bytes fits e = tt
+refused family fam marks.Truncated bytes fits e = (marks_lawful family fam).blames bytes marks.Truncated fits e
+refused family fam (marks.Shape c) bytes fits e = (marks_lawful family fam).blames bytes (marks.Shape c) fits e
+
+pub marks_fault : {Y : Type 0} (family : Family) → IsFamily family → (view : Y → List Mark × List ℕ)
+    (result : Result Y MarksFault) (bytes : List ℕ) → IsBytes bytes → GivesIn view result (marks_at family bytes)
+    → IfErr result (λ f. IsMarksFault (MarksFail family bytes) f)
+marks_fault family fam view (Ok y) bytes fits e = tt
+marks_fault family fam view (Err f) bytes fits e = refused family fam f bytes fits e
+
+pub marks_only_fault : {Y : Type 0} (family : Family) → IsFamily family → (view : Y → List Mark × List ℕ)
+    (result : Result Y MarksFault) (bytes : List ℕ) → IsBytes bytes → GivesIn view result (marks_at family bytes)
+    → (f : MarksFault) → MarksFail family bytes f → GivesIn view result (Err f)
+marks_only_fault {Y} family fam view result bytes fits g f h =
+    let P : Result (List Mark × List ℕ) MarksFault → Type 0 = λ z. GivesIn view result z in
+    subst P ((marks_lawful family fam).blamed bytes f fits h) g

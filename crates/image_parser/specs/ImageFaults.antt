@@ -1,0 +1,95 @@
+-- What is wrong first with bytes that are no image.
+use Rattle.std.specs.Prelude.{◌≡◌, ℕ, ◌<◌, ◌^◌, List, ◌++◌, length, Option, ◌⊎◌, Result, Err}
+use Rattle.std.specs.List.{flat_map}
+use Rattle.classfile.specs.ClassFile.{ClassFile}
+use Rattle.classfile.specs.Spelling.{u4}
+use Rattle.loading.specs.declared.fault.LinkFault.{LinkFault}
+use Rattle.loading.specs.declared.fault.LinkFault.TheVariants as link_faults
+use Rattle.loading.specs.Families.{Family, IsFamily, IsFamilyOf}
+use Rattle.loading.specs.Files.{LinkFails, Links}
+use Rattle.program.specs.Programs.{IsProgram}
+use Rattle.program.specs.Tables.{Tables}
+use Rattle.image_format.specs.declared.region.ImageRegion.{ImageRegion}
+use Rattle.image_format.specs.Images.{AreRegions, AreShort}
+use Rattle.image_format.specs.Texts.{given_text, mark_text}
+use Rattle.image_parser.specs.declared.fault.FilesFault.{FilesFault}
+use Rattle.image_parser.specs.declared.fault.FilesFault.TheVariants as file_faults
+use Rattle.image_parser.specs.declared.fault.RegionsFault.{RegionsFault}
+use Rattle.image_parser.specs.declared.fault.RegionsFault.TheVariants as region_faults
+use Rattle.image_parser.specs.declared.header.HeaderFault.{HeaderFault}
+use Rattle.image_parser.specs.declared.header.HeaderFault.TheVariants as header_faults
+use Rattle.image_parser.specs.declared.image_fault.ImageFault.{ImageFault}
+use Rattle.image_parser.specs.declared.image_fault.ImageFault.TheVariants as faults
+use Rattle.image_parser.specs.AllRegions.{RegionsFail}
+use Rattle.image_parser.specs.FileFaults.{AreFiles, FilesFail}
+use Rattle.image_parser.specs.HeaderFaults.{HeaderFails, IsFramed}
+
+-- ---- faults of parts among those of images
+
+abbrev pub of_header : HeaderFault → ImageFault
+of_header header_faults.Truncated = faults.Truncated
+of_header header_faults.Magic = faults.Magic
+of_header header_faults.Version = faults.Version
+of_header header_faults.Digest = faults.Digest
+
+abbrev pub of_files : FilesFault → ImageFault
+of_files file_faults.Memory = faults.Memory
+of_files file_faults.Truncated = faults.Truncated
+of_files (file_faults.Class index fault) = faults.Class index fault
+of_files file_faults.Order = faults.Order
+
+abbrev pub of_link : LinkFault → ImageFault
+of_link link_faults.Memory = faults.Memory
+of_link fault = faults.Link fault
+
+abbrev pub of_regions : RegionsFault → ImageFault
+of_regions region_faults.Memory = faults.Memory
+of_regions region_faults.Truncated = faults.Truncated
+of_regions (region_faults.Shape c) = faults.Shape c
+of_regions region_faults.Extra = faults.Extra
+of_regions (region_faults.Name c) = faults.Name c
+
+-- ---- what stands between the version and the digest
+
+-- the count of the class files, these, and the rest
+pub record HasFiles (parts : List ℕ) (files : List ClassFile) (rest : List ℕ) : Type 0 where
+  pub text : List ℕ
+  pub few : length files < 2 ^ 32
+  pub are : AreFiles (length files) files text
+  pub spelled : parts ≡ u4 (length files) ++ (text ++ rest)
+
+-- the same, of files that make a program of this family
+pub record IsLinked (parts : List ℕ) (family : Family) (rest : List ℕ) : Type 0 where
+  pub files : List ClassFile
+  pub has : HasFiles parts files rest
+  pub links : Links files
+  pub of : IsFamilyOf files family
+
+-- a program and its regions, all told
+pub record PartsText (parts : List ℕ) (P : Tables) (regions : List (Option ImageRegion)) : Type 0 where
+  pub family : IsFamily P.family
+  pub program : IsProgram P
+  pub short : AreShort P.family
+  pub fits : AreRegions P.family regions
+  pub spelled : parts ≡ u4 (length P.family) ++ (flat_map given_text P.family ++ flat_map (mark_text P.family) regions)
+
+-- the first of the class files that fails, then the program that they do not make, then what stands after them
+pub data PartsFail (parts : List ℕ) : ImageFault → Type 0 where
+  files : (count : ℕ) (rest : List ℕ) (e : FilesFault) → count < 2 ^ 32 → parts ≡ u4 count ++ rest
+      → FilesFail count rest e → PartsFail parts (of_files e)
+  link : (files : List ClassFile) (rest : List ℕ) (e : LinkFault) → HasFiles parts files rest → LinkFails files e
+      → PartsFail parts (of_link e)
+  regions : (family : Family) (rest : List ℕ) (e : RegionsFault) → IsLinked parts family rest
+      → RegionsFail family rest e → PartsFail parts (of_regions e)
+
+-- ---- images
+
+-- what is wrong round the parts, and then in them
+pub data ImageFails (bytes : List ℕ) : ImageFault → Type 0 where
+  frame : (e : HeaderFault) → HeaderFails bytes e → ImageFails bytes (of_header e)
+  within : (parts : List ℕ) (fault : ImageFault) → IsFramed bytes parts → PartsFail parts fault
+      → ImageFails bytes fault
+
+-- this fault is answered, unless memory ran out
+abbrev pub Answers : {X : Type 0} → Result X ImageFault → ImageFault → Type 0
+Answers result fault = (result ≡ Err fault) ⊎ (result ≡ Err faults.Memory)

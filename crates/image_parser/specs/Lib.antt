@@ -1,0 +1,13 @@
+pub mod FirstFailing
+pub mod Tags
+pub mod RegionFaults
+pub mod Regions
+pub mod HeaderFaults
+pub mod Nameless
+pub mod Inside
+pub mod AllRegions
+pub mod TextOrFault
+pub mod FileFaults
+pub mod ImageFaults
+pub mod MarkFaults
+pub mod reading

@@ -1,0 +1,64 @@
+-- How bytes fail to begin with the marks and regions of the classes of a program.
+use Rattle.std.specs.Prelude.{◌≡◌, ℕ, zero, suc, ◌+◌, List, [], ◌∷◌, length, Option, Some, None, Result, Ok, Err}
+use Rattle.std.specs.List.{AllZip, flat_map}
+use Rattle.std.specs.Int.{w8}
+use Rattle.loading.specs.Families.{Family}
+use Rattle.image_format.specs.declared.region.ImageRegion.{ImageRegion}
+use Rattle.image_format.specs.Shapes.{HasShape}
+use Rattle.image_format.specs.Texts.{mark_text}
+use Rattle.image_parser.specs.declared.fault.RegionFault.{RegionFault}
+use Rattle.image_parser.specs.declared.fault.RegionFault.TheVariants as faults
+use Rattle.image_parser.specs.declared.fault.MarksFault.{MarksFault}
+use Rattle.image_parser.specs.declared.fault.MarksFault.TheVariants as marks
+use Rattle.image_parser.specs.FirstFailing.{Either, Number, EachFails}
+use Rattle.image_parser.specs.RegionFaults.{CutNumber, RegionFails}
+use Rattle.image_parser.specs.Inside.{inside}
+
+-- so many numbers from one on
+abbrev pub numbers : ℕ → ℕ → List ℕ
+numbers c zero = []
+numbers c (suc n) = c ∷ numbers (c + 1) n
+
+-- a class that is not initialized, or one whose region has shape
+abbrev pub MarkFits : Family → ℕ → Option ImageRegion → Type 0
+MarkFits family c None = Unit {0}
+MarkFits family c (Some region) = HasShape family c region
+
+abbrev pub IsMark : Family → ℕ → Option ImageRegion → List ℕ → Type 0
+IsMark family c mark text = MarkFits family c mark × (text ≡ mark_text family mark)
+
+-- after a mark of 0 nothing, after 1 a region; there is no other mark
+abbrev pub MarkedFails : Family → ℕ → ℕ → List ℕ → RegionFault → Type 0
+MarkedFails family c zero = λ bytes fault. ⊥
+MarkedFails family c (suc zero) = RegionFails family c
+MarkedFails family c (suc (suc n)) = λ bytes fault. fault ≡ faults.Shape
+
+abbrev pub MarkFails : Family → ℕ → List ℕ → RegionFault → Type 0
+MarkFails family c = Either (Number w8) (CutNumber w8) (MarkedFails family c)
+
+-- the same among all classes
+abbrev pub MarkFailsIn : Family → ℕ → List ℕ → MarksFault → Type 0
+MarkFailsIn family c bytes fault = (e : RegionFault) × (MarkFails family c bytes e × (fault ≡ inside c e))
+
+-- the first of the classes that fails, in the order of their numbers
+abbrev pub MarksFail : Family → List ℕ → MarksFault → Type 0
+MarksFail family = EachFails (IsMark family) (MarkFailsIn family) (numbers 0 (length family))
+
+-- a mark for each class
+abbrev pub AreMarks : Family → List (Option ImageRegion) → List ℕ → Type 0
+AreMarks family regions text =
+    AllZip (MarkFits family) (numbers 0 (length family)) regions × (text ≡ flat_map (mark_text family) regions)
+
+-- memory ran out, or this is the fault
+abbrev pub IsMarksFault : (MarksFault → Type 0) → MarksFault → Type 0
+IsMarksFault Fails marks.Memory = Unit {0}
+IsMarksFault Fails fault = Fails fault
+
+-- What a function returned, seen by view, is what reading gives, unless memory ran out.
+abbrev pub FailsIn : {Y : Type 0} → MarksFault → Result Y MarksFault → Type 0
+FailsIn marks.Memory read = Unit {0}
+FailsIn e read = read ≡ Err e
+
+abbrev pub GivesIn : {X Y : Type 0} → (X → Y) → Result X MarksFault → Result Y MarksFault → Type 0
+GivesIn view (Ok x) read = read ≡ Ok (view x)
+GivesIn view (Err e) read = FailsIn e read

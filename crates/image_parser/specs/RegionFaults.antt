@@ -1,0 +1,145 @@
+-- How bytes fail to begin with a region of a class: the first of the checks, in the order of the format, that fails.
+use Rattle.std.specs.Prelude.{◌≡◌, ℕ, ◌<◌, ◌^◌, true, List, length, Option, Some, None}
+use Rattle.std.specs.List.{AllZip, flat_map}
+use Rattle.std.specs.Int.{Width, w8, w16, w32, w64, byte_len, cast_signed}
+use Rattle.built_in.specs.declared.class_id.ClassId.{ClassId}
+use Rattle.built_in.specs.declared.class_id.ClassId.TheVariants as classes
+use Rattle.loading.specs.Families.{Family}
+use Rattle.program.specs.declared.runtime_constant.FieldKind.{FieldKind}
+use Rattle.program.specs.declared.runtime_constant.FieldKind.TheVariants as kinds
+use Rattle.program.specs.InstanceFields.{slots_of, static_kinds}
+use Rattle.image_format.specs.declared.value.ImageValue.{ImageValue}
+use Rattle.image_format.specs.declared.object.ImageObject.{ImageObject}
+use Rattle.image_format.specs.declared.region.ImageRegion.{ImageRegion}
+use Rattle.image_format.specs.Elements.{kind_of_elements}
+use Rattle.image_format.specs.Names.{class_name}
+use Rattle.image_format.specs.Shapes.{Suits, is_in_range, HasObjects, ObjectHasShape, HasShape}
+use Rattle.image_format.specs.Texts.{value_text, element_text, object_text, region_text, named_text}
+use Rattle.image_parser.specs.declared.fault.RegionFault.{RegionFault}
+use Rattle.image_parser.specs.declared.fault.RegionFault.TheVariants as faults
+use Rattle.image_parser.specs.declared.tag.Tag.{Tag}
+use Rattle.image_parser.specs.declared.tag.Tag.TheVariants as tags
+use Rattle.image_parser.specs.FirstFailing.{Either, BreaksOr, Ruled, RuleFails, Number, EachFails, times}
+use Rattle.image_parser.specs.Tags.{tag_of, may_have}
+
+abbrev pub Cut : ℕ → List ℕ → RegionFault → Type 0
+Cut count bytes fault = (length bytes < count) × (fault ≡ faults.Truncated)
+
+abbrev pub CutNumber : Width → List ℕ → RegionFault → Type 0
+CutNumber w bytes fault = Cut (byte_len w) bytes fault
+
+-- ---- values
+
+-- units of 16 bits
+abbrev pub IsUnit : Unit {0} → ℕ → List ℕ → Type 0
+IsUnit one = Number w16
+
+abbrev pub UnitsFail : ℕ → List ℕ → RegionFault → Type 0
+UnitsFail count = EachFails IsUnit (λ (one : Unit {0}). CutNumber w16) (times count)
+
+-- what follows a tag
+abbrev pub BodyFails : FieldKind → Tag → List ℕ → RegionFault → Type 0
+BodyFails kind tags.Null = λ bytes fault. ⊥
+BodyFails kind tags.Int =
+    RuleFails (Number w32) (CutNumber w32) (λ bits. is_in_range kind (cast_signed w32 bits) ≡ true) faults.Shape
+BodyFails kind tags.Long = CutNumber w64
+BodyFails kind tags.Text = Either (Number w16) (CutNumber w16) UnitsFail
+BodyFails kind tags.Object = Either (Number w32) (CutNumber w32) (λ class. CutNumber w32)
+BodyFails kind tags.Out = λ bytes fault. ⊥
+
+-- a tag that there is not, or that values of the kind do not have
+abbrev pub TaggedFails : FieldKind → Option Tag → List ℕ → RegionFault → Type 0
+TaggedFails kind None bytes fault = fault ≡ faults.Shape
+TaggedFails kind (Some tag) bytes fault = BreaksOr (may_have kind tag ≡ true) faults.Shape
+    (BodyFails kind tag bytes) fault
+
+abbrev pub ValueFails : FieldKind → List ℕ → RegionFault → Type 0
+ValueFails kind = Either (Number w8) (CutNumber w8) (λ tag. TaggedFails kind (tag_of tag))
+
+-- a value of a kind, with its tag
+abbrev pub IsValue : FieldKind → ImageValue → List ℕ → Type 0
+IsValue kind v text = Suits kind v × (text ≡ value_text v)
+
+-- ---- elements of arrays
+
+abbrev pub ElementFails : FieldKind → List ℕ → RegionFault → Type 0
+ElementFails kinds.Byte = CutNumber w8
+ElementFails kinds.Char = CutNumber w16
+ElementFails kinds.Short = CutNumber w16
+ElementFails kinds.Int = CutNumber w32
+ElementFails kinds.Long = CutNumber w64
+ElementFails kind = ValueFails kind
+
+abbrev pub IsElement : FieldKind → ImageValue → List ℕ → Type 0
+IsElement kind v text = Suits kind v × (text ≡ element_text kind v)
+
+-- so many elements
+abbrev pub ElementsFail : FieldKind → ℕ → List ℕ → RegionFault → Type 0
+ElementsFail kind n =
+    EachFails (λ (one : Unit {0}). IsElement kind) (λ (one : Unit {0}). ElementFails kind) (times n)
+
+-- ---- objects
+
+-- the form of an object of a class: 1 of arrays, 0 of instances
+abbrev pub form_of : ClassId → ℕ
+form_of (classes.Array a) = 1
+form_of _ = 0
+
+abbrev pub NameFails : List ℕ → RegionFault → Type 0
+NameFails = Either (Number w16) (CutNumber w16) Cut
+
+-- a name, by its count of 16 bits
+abbrev pub IsName : List ℕ → List ℕ → Type 0
+IsName name text = (length name < 2 ^ 16) × (text ≡ named_text name)
+
+-- the name is that of a class of this form of which there can be an object
+abbrev pub NamesClass : Family → ℕ → List ℕ → Type 0
+NamesClass family form name =
+    (class : ClassId) × (HasObjects family class × ((form_of class ≡ form) × (name ≡ class_name family class)))
+
+-- such a class, by its name
+pub record IsClass (family : Family) (form : ℕ) (class : ClassId) (text : List ℕ) : Type 0 where
+  pub has : HasObjects family class
+  pub of_form : form_of class ≡ form
+  pub count : length (class_name family class) < 2 ^ 16
+  pub spelled : text ≡ named_text (class_name family class)
+
+abbrev pub ClassFails : Family → ℕ → List ℕ → RegionFault → Type 0
+ClassFails family form = RuleFails IsName NameFails (NamesClass family form) faults.Shape
+
+-- what follows the name of a class
+abbrev pub SlotsFail : Family → ClassId → List ℕ → RegionFault → Type 0
+SlotsFail family (classes.Given c) = EachFails IsValue ValueFails (slots_of family c)
+SlotsFail family (classes.BuiltIn b) = λ bytes fault. ⊥
+SlotsFail family (classes.Array a) = Either (Ruled (Number w32) (λ n. n < 2 ^ 31))
+    (RuleFails (Number w32) (CutNumber w32) (λ n. n < 2 ^ 31) faults.Shape)
+    (ElementsFail (kind_of_elements a))
+
+-- the form, which is 0 or 1, the class, and its slots
+abbrev pub ObjectFails : Family → List ℕ → RegionFault → Type 0
+ObjectFails family = Either (Ruled (Number w8) (λ form. form < 2))
+    (RuleFails (Number w8) (CutNumber w8) (λ form. form < 2) faults.Shape)
+    (λ form. Either (IsClass family form) (ClassFails family form) (SlotsFail family))
+
+abbrev pub IsObject : Family → ImageObject → List ℕ → Type 0
+IsObject family object text = ObjectHasShape family object × (text ≡ object_text family object)
+
+-- ---- regions
+
+-- so many objects
+abbrev pub ObjectsFail : Family → ℕ → List ℕ → RegionFault → Type 0
+ObjectsFail family count =
+    EachFails (λ (one : Unit {0}). IsObject family) (λ (one : Unit {0}). ObjectFails family) (times count)
+
+abbrev pub AreStatics : Family → ℕ → List ImageValue → List ℕ → Type 0
+AreStatics family c vs text = AllZip Suits (static_kinds family c) vs × (text ≡ flat_map value_text vs)
+
+-- the count of the objects, the statics, the objects
+abbrev pub RegionFails : Family → ℕ → List ℕ → RegionFault → Type 0
+RegionFails family c = Either (Number w32) (CutNumber w32) (λ count.
+    Either (AreStatics family c) (EachFails IsValue ValueFails (static_kinds family c)) (λ statics.
+    ObjectsFail family count))
+
+-- a region of a class
+abbrev pub IsRegion : Family → ℕ → ImageRegion → List ℕ → Type 0
+IsRegion family c region text = HasShape family c region × (text ≡ region_text family region)

@@ -1,0 +1,137 @@
+//! Why bytes are no region.
+
+ghost use Rattle.std.specs.Prelude.{◌≡◌};
+ghost use Rattle.image_parser.specs.declared.fault.RegionFault.TheVariants.{Memory};
+ghost use Rattle.image_parser.specs.declared.fault.MarksFault.TheVariants as marks;
+ghost use Rattle.image_parser.specs.declared.fault.FilesFault.TheVariants as files;
+ghost use Rattle.image_parser.specs.FileFaults.{of_class};
+ghost use Rattle.image_parser.specs.Inside.{inside, among_regions};
+ghost use Rattle.image_parser.specs.reading.Files.{of_run};
+
+use classfile::ClassFault;
+use std::alloc::{AllocError, AllocFailed};
+
+/// What is wrong with a region, or that memory ran out.
+#[derive(Clone, Copy, Debug)]
+pub enum RegionFault {
+    Memory,
+    /// The bytes end too early.
+    Truncated,
+    /// A part is none that a region of the class can have.
+    Shape,
+}
+
+/// What is wrong with the marks and regions of an image, or that memory ran out.
+#[derive(Clone, Copy, Debug)]
+pub enum MarksFault {
+    Memory,
+    /// The bytes end too early.
+    Truncated,
+    /// The mark of this class is none, or its region is none that it can have.
+    Shape { class: u32 },
+}
+
+/// What is wrong with all that stands after the class files of an image, or that memory ran out.
+#[derive(Clone, Copy, Debug)]
+pub enum RegionsFault {
+    Memory,
+    Truncated,
+    Shape { class: u32 },
+    /// Bytes follow the last region.
+    Extra,
+    /// The region of this class, and of no lower one, names an object that there is not.
+    Name { class: u32 },
+}
+
+/// What is wrong with the class files of an image, or that memory ran out.
+#[derive(Debug, Drop)]
+pub enum FilesFault {
+    Memory,
+    /// The bytes end too early.
+    Truncated,
+    /// The class file of this place is none.
+    Class { index: u32, fault: ClassFault },
+    /// The name of a class does not come after that of the class before.
+    Order,
+}
+
+impl FilesFault {
+    /// The fault of the class file of a place.
+    pub(crate) fn of_class(index: u32, fault: ClassFault) -> FilesFault
+        ensures { result ≡ of_class index fault }
+    {
+        match fault {
+            ClassFault::Memory => FilesFault::Memory,
+            fault => FilesFault::Class { index, fault },
+        }
+    }
+}
+
+impl<T: Drop> From<AllocFailed<T>> for FilesFault {
+    ghost from_gives = { λ _ e. e ≡ files.Memory };
+
+    fn from(_error: AllocFailed<T>) -> FilesFault {
+        FilesFault::Memory
+    }
+}
+
+impl MarksFault {
+    /// The same of all that stands after the class files.
+    pub(crate) fn among_regions(self) -> RegionsFault
+        ensures { result ≡ among_regions self }
+    {
+        match self {
+            MarksFault::Memory => RegionsFault::Memory,
+            MarksFault::Truncated => RegionsFault::Truncated,
+            MarksFault::Shape { class } => RegionsFault::Shape { class },
+        }
+    }
+}
+
+impl RegionFault {
+    /// The same of a run of bytes that is to be a class file.
+    pub(crate) fn of_run(self) -> FilesFault
+        ensures { result ≡ of_run self }
+    {
+        match self {
+            RegionFault::Memory => FilesFault::Memory,
+            RegionFault::Truncated => FilesFault::Truncated,
+            RegionFault::Shape => FilesFault::Truncated,
+        }
+    }
+
+    /// The same of the mark and the region of a class.
+    pub(crate) fn inside(self, class: u32) -> MarksFault
+        ensures { result ≡ inside class self }
+    {
+        match self {
+            RegionFault::Memory => MarksFault::Memory,
+            RegionFault::Truncated => MarksFault::Truncated,
+            RegionFault::Shape => MarksFault::Shape { class },
+        }
+    }
+}
+
+impl<T: Drop> From<AllocFailed<T>> for MarksFault {
+    ghost from_gives = { λ _ e. e ≡ marks.Memory };
+
+    fn from(_error: AllocFailed<T>) -> MarksFault {
+        MarksFault::Memory
+    }
+}
+
+impl From<AllocError> for RegionFault {
+    ghost from_gives = { λ _ e. e ≡ Memory };
+
+    fn from(_error: AllocError) -> RegionFault {
+        RegionFault::Memory
+    }
+}
+
+impl<T: Drop> From<AllocFailed<T>> for RegionFault {
+    ghost from_gives = { λ _ e. e ≡ Memory };
+
+    fn from(_error: AllocFailed<T>) -> RegionFault {
+        RegionFault::Memory
+    }
+}

@@ -1,0 +1,85 @@
+//! What stands round the parts of an image: its magic number, its version, its digest.
+
+ghost use Rattle.std.specs.Prelude.{◌≡◌, ℕ, List, Err, IfOk, IfErr, IsOkAnd};
+ghost use Rattle.std.specs.Bool.{Decides};
+ghost use Rattle.sha2.specs.Sha256.{sha256};
+ghost use Rattle.image_parser.specs.declared.header.HeaderFault.{HeaderFault as Fault};
+ghost use Rattle.image_parser.specs.HeaderFaults.{HeaderFails, IsFramed};
+ghost use Rattle.image_parser.specs.TextOrFault.{TextOrFault};
+
+use sha2::{Digest, Sha256};
+
+/// What is wrong with bytes as an image before its parts are looked into.
+#[derive(Clone, Copy, Debug)]
+pub enum HeaderFault {
+    /// There are fewer than 42 bytes.
+    Truncated,
+    /// They do not begin with `JPIM`.
+    Magic,
+    /// The version is not 1.
+    Version,
+    /// The last 32 bytes are not the digest of all before.
+    Digest,
+}
+
+/// Whether bytes are the same.
+fn is_same(a: &[u8], b: &[u8]) -> bool
+    ensures { Decides result (a.now ≡ b.now) }
+{
+    a == b
+}
+
+/// Whether these are the digest of some bytes.
+fn is_digest(front: &[u8], digest: &[u8]) -> bool
+    ensures { Decides result (digest.now ≡ sha256 front.now) }
+{
+    let mut hasher = Sha256::new();
+    hasher.update(front);
+    let wanted = hasher.finalize();
+    is_same(digest, &wanted)
+}
+
+/// What stands between the version and the digest.
+///
+/// # Errors
+/// The first of these that holds: fewer than 42 bytes, another magic number, another version, another digest.
+pub fn parts_of(bytes: &[u8]) -> Result<&[u8], HeaderFault>
+    // What is answered is framed by the rest of the bytes.
+    ensures parts { IfOk result (λ parts. IsFramed bytes.now parts.now) }
+    // Of bytes that frame anything that is answered.
+    ensures only_parts { (parts : List ℕ) → IsFramed bytes.now parts → IsOkAnd result (λ answer. answer.now ≡ parts) }
+    // What is refused is refused for what is wrong first.
+    ensures fault { IfErr result (HeaderFails bytes.now) }
+    // Everything else is refused for what is wrong first.
+    ensures only_fault { (x : Fault) → HeaderFails bytes.now x → result ≡ Err x }
+{
+    framed_in(bytes)
+}
+
+/// Bytes frame the parts of an image or have one fault, and never both.
+pub fn frame_or_fault()
+    ensures { (bytes : List ℕ) → TextOrFault (IsFramed bytes) (HeaderFails bytes) }
+{}
+
+/// What stands between the version and the digest.
+fn framed_in(bytes: &[u8]) -> Result<&[u8], HeaderFault>
+    ensures parts { IfOk result (λ parts. IsFramed bytes.now parts.now) }
+    ensures fault { IfErr result (HeaderFails bytes.now) }
+{
+    if bytes.len() < 42 {
+        return Err(HeaderFault::Truncated);
+    }
+    let (front, digest) = bytes.split_at(bytes.len() - 32);
+    let (magic, rest) = front.split_at(4);
+    if !is_same(magic, &[0x4A, 0x50, 0x49, 0x4D]) {
+        return Err(HeaderFault::Magic);
+    }
+    let (version, parts) = rest.split_at(2);
+    if !is_same(version, &[0, 1]) {
+        return Err(HeaderFault::Version);
+    }
+    if !is_digest(front, digest) {
+        return Err(HeaderFault::Digest);
+    }
+    Ok(parts)
+}

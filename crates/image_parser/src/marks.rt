@@ -1,0 +1,137 @@
+//! The marks and regions of all classes.
+
+ghost use Rattle.std.specs.Prelude.{◌≡◌, ◌++◌, ◌+◌, ◌<◌, ◌^◌, length, ℕ, List, Option, Ok, Err, IfOk, IfErr};
+ghost use Rattle.image_format.specs.declared.region.ImageRegion.{ImageRegion as Held};
+ghost use Rattle.image_parser.specs.declared.fault.MarksFault.{MarksFault as Fault};
+ghost use Rattle.image_parser.specs.Regions.{Begins};
+ghost use Rattle.image_parser.specs.MarkFaults.{numbers, AreMarks, MarksFail, IsMarksFault, GivesIn};
+ghost use Rattle.image_parser.specs.reading.Results.{Gives, each_at};
+ghost use Rattle.image_parser.specs.reading.Marks.{marked_at, mark_at, mark_in, marks_at};
+
+use crate::fault::{MarksFault, RegionFault};
+use crate::numbers::u8_at;
+use crate::objects::region_at;
+use image_format::region::{ImageRegion, ImageRegions};
+use program::Program;
+use std::alloc::Global;
+
+/// What follows the mark of a class.
+fn marked_at<'a>(
+    alloc: Global,
+    program: &Program,
+    class: u32,
+    mark: u8,
+    bytes: &'a [u8],
+) -> Result<(Option<ImageRegion>, &'a [u8]), RegionFault>
+    ensures { Gives (λ x. (x.0, x.1.now)) result (marked_at program.now.family class mark bytes.now) }
+{
+    match mark {
+        0 => Ok((None, bytes)),
+        1 => some_at(alloc, program, class, bytes),
+        _ => Err(RegionFault::Shape),
+    }
+}
+
+/// The region of a class that is initialized.
+fn some_at<'a>(
+    alloc: Global,
+    program: &Program,
+    class: u32,
+    bytes: &'a [u8],
+) -> Result<(Option<ImageRegion>, &'a [u8]), RegionFault>
+    ensures { Gives (λ x. (x.0, x.1.now)) result (marked_at program.now.family class 1 bytes.now) }
+{
+    let (region, rest) = region_at(alloc, program, class, bytes)?;
+    Ok((Some(region), rest))
+}
+
+/// The mark of a class, and its region.
+#[tactic(auto, unfolding(crate::specs::reading::Marks::mark_at))]
+fn mark_at<'a>(
+    alloc: Global,
+    program: &Program,
+    class: u32,
+    bytes: &'a [u8],
+) -> Result<(Option<ImageRegion>, &'a [u8]), RegionFault>
+    ensures { Gives (λ x. (x.0, x.1.now)) result (mark_at program.now.family class bytes.now) }
+{
+    let (mark, rest) = u8_at(bytes)?;
+    marked_at(alloc, program, class, mark, rest)
+}
+
+/// The same, with the fault of that class.
+#[tactic(auto, using(crate::proofs::MarkLemmas::inside_fails))]
+fn mark_in<'a>(
+    alloc: Global,
+    program: &Program,
+    class: u32,
+    bytes: &'a [u8],
+) -> Result<(Option<ImageRegion>, &'a [u8]), MarksFault>
+    ensures { GivesIn (λ x. (x.0, x.1.now)) result (mark_in program.now.family class bytes.now) }
+{
+    match mark_at(alloc, program, class, bytes) {
+        Ok(read) => Ok(read),
+        Err(fault) => Err(fault.inside(class)),
+    }
+}
+
+/// Reads the marks of so many classes after those that stand before.
+fn push_marks_at<'a>(
+    alloc: Global,
+    program: &Program,
+    count: u32,
+    regions: &mut Vec<Option<ImageRegion>>,
+    bytes: &'a [u8],
+) -> Result<&'a [u8], MarksFault>
+    ensures { GivesIn (λ rest. (regions.new.items, rest.now)) result
+        (each_at (mark_in program.now.family) (numbers 0 count) regions.old.items bytes.now) }
+{
+    let mut rest = bytes;
+    for class in 0..count {
+        let (region, after) = mark_in(alloc, program, class, rest)?;
+        regions.push(region)?;
+        rest = after;
+    }
+    Ok(rest)
+}
+
+/// The marks and regions of all classes.
+#[tactic(auto, unfolding(crate::specs::reading::Marks::marks_at))]
+fn marks_at<'a>(
+    alloc: Global,
+    program: &Program,
+    bytes: &'a [u8],
+) -> Result<(ImageRegions, &'a [u8]), MarksFault>
+    ensures { GivesIn (λ x. (x.0, x.1.now)) result (marks_at program.now.family bytes.now) }
+{
+    let count = program.family().classes().len() as u32;
+    let mut regions = Vec::new(alloc);
+    let rest = push_marks_at(alloc, program, count, &mut regions, bytes)?;
+    Ok((ImageRegions::of_vec(regions), rest))
+}
+
+/// Reads the marks and regions of all classes of a program at the front of some bytes, and answers what stands after
+/// them too.
+///
+/// # Errors
+/// The fault of the first part that fails, or `Memory` where memory runs out.
+pub fn read_marks<'a>(
+    alloc: Global,
+    program: &Program,
+    bytes: &'a [u8],
+) -> Result<(ImageRegions, &'a [u8]), MarksFault>
+    // What is accepted is the text of the regions that are answered.
+    ensures text { IfOk result (λ x. Begins (AreMarks program.now.family) bytes.now x.0 x.1.now) }
+    // Every text of regions of the classes is accepted as those regions, unless memory runs out.
+    ensures only_text { (regions : List (Option Held)) (text rest : List ℕ) → AreMarks program.now.family regions text
+        → bytes.now ≡ text ++ rest
+        → GivesIn {Y = List (Option Held) × List ℕ} (λ x. (x.0, x.1.now)) result (Ok (regions, rest)) }
+    // What is refused is refused for the first part that fails, or because memory runs out.
+    ensures fault { IfErr result (λ fault. IsMarksFault (MarksFail program.now.family bytes.now) fault) }
+    // Everything else is refused for the first part that fails, unless memory runs out.
+    ensures only_fault { (fault : Fault) → MarksFail program.now.family bytes.now fault
+        → GivesIn {Y = List (Option Held) × List ℕ} (λ x. (x.0, x.1.now)) result (Err fault) }
+{
+    let _classes = program.family().classes();
+    marks_at(alloc, program, bytes)
+}

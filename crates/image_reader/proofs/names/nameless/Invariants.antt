@@ -1,7 +1,0 @@
-use Rattle.std.proofs.Common.{take}
-use Rattle.std.specs.List.{All}
-use Rattle.image_reader.specs.Nameless.{MarkNames}
-use Rattle.image_reader.proofs.names.nameless.Given as goal
-
-abbrev pub invariant-loop-class : goal.invariant-loop-class
-invariant-loop-class l = All (MarkNames l.regions) (take l.class l.regions)

@@ -1,7 +1,0 @@
-use Rattle.std.proofs.Common.{take}
-use Rattle.std.specs.List.{All}
-use Rattle.image_reader.specs.Nameless.{SlotsAreThere}
-use Rattle.image_reader.proofs.names.slots_are_there.Given as goal
-
-abbrev pub invariant-loop-object : goal.invariant-loop-object
-invariant-loop-object l = All (SlotsAreThere l.regions) (take l.object-index l.objects)

@@ -1,9 +1,0 @@
-use Rattle.std.proofs.Common.{◌≡◌, ◌-◌}
-use Rattle.image_reader.specs.FirstFailing.{times}
-use Rattle.image_reader.specs.reading.Results.{each_at}
-use Rattle.image_reader.specs.reading.Objects.{object_at}
-use Rattle.image_reader.proofs.objects.push_objects_at.Given as goal
-
-abbrev pub invariant-loop-index : goal.invariant-loop-index
-invariant-loop-index l = each_at (λ (one : Unit {0}). object_at l.program.family) (times (l.count - l._index)) l.objects.items l.rest
-    ≡ each_at (λ (one : Unit {0}). object_at l.program.family) (times l.count) l.fn.objects.items l.bytes

@@ -1,9 +1,0 @@
-use Rattle.std.proofs.Common.{◌≡◌, ◌-◌}
-use Rattle.image_reader.specs.FirstFailing.{times}
-use Rattle.image_reader.specs.reading.Results.{each_at}
-use Rattle.image_reader.specs.reading.Values.{element_at}
-use Rattle.image_reader.proofs.values.push_elements_at.Given as goal
-
-abbrev pub invariant-loop-index : goal.invariant-loop-index
-invariant-loop-index l = each_at (λ (one : Unit {0}). element_at l.kind) (times (l.count - l._index)) l.values.items l.rest
-    ≡ each_at (λ (one : Unit {0}). element_at l.kind) (times l.count) l.fn.values.items l.bytes

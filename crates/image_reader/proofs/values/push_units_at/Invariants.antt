@@ -1,9 +1,0 @@
-use Rattle.std.proofs.Common.{◌≡◌, ◌-◌}
-use Rattle.image_reader.specs.FirstFailing.{times}
-use Rattle.image_reader.specs.reading.Results.{each_at}
-use Rattle.image_reader.specs.reading.Values.{unit_at}
-use Rattle.image_reader.proofs.values.push_units_at.Given as goal
-
-abbrev pub invariant-loop-index : goal.invariant-loop-index
-invariant-loop-index l = each_at unit_at (times (l.count - l._index)) l.units.items l.rest
-    ≡ each_at unit_at (times l.count) l.fn.units.items l.bytes
