@@ -35,6 +35,7 @@ IsUnderWay P first limit t =
 pub record CanGoOn (P : Tables) (t : Midway) : Type 0 where
   pub within : t.asked ≤ length t.world.threads
   pub bounded : t.done ≤ t.left
+  pub few : t.done ≤ t.asked
   pub room : length (schedule_of t.schedule) + to_go t < 2 ^ 64
   pub keeps : KeepsSteps P t.kept
 

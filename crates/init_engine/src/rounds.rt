@@ -1,6 +1,7 @@
 //! Rounds as far as a slice goes: in each round threads 0, 1, .. take one step each if they have one.
 
-ghost use Rattle.std.specs.Prelude.{◌≡◌, ◌+◌, ◌<◌, ◌≤◌, ◌^◌, ◌↔◌, length, replicate, slice_get, Some, IsTrue, IfOk, OnOk};
+ghost use Rattle.std.specs.Prelude.{◌≡◌, ◌+◌, ◌<◌, ◌≤◌, ◌≢◌, ◌^◌, length, replicate, slice_get, Some, IfOk, OnOk};
+ghost use Rattle.std.specs.Bool.{OnFalse, OnTrue};
 ghost use Rattle.vm_state.specs.declared.text.Line.{Line};
 ghost use Rattle.semantics.specs.Worlds.{Run};
 ghost use Rattle.machine.specs.Linked.{program_of};
@@ -55,7 +56,9 @@ impl Place {
 
     /// Whether this is a last round: the limit was reached, or all threads were asked and none had a step.
     fn is_last(&self, threads: u32) -> bool
-        ensures { IsTrue result ↔ IsLast threads self.now }
+        ensures last { OnTrue result (IsLast threads self.now) }
+        ensures further { OnFalse result ((self.now.done ≢ self.now.left)
+            × (self.now.asked ≡ threads → 0 < self.now.done)) }
     {
         self.done == self.left || (self.asked == threads && self.done == 0)
     }
@@ -71,7 +74,8 @@ pub(crate) struct Allowance {
 impl Allowance {
     /// Whether nothing may be done any more.
     fn is_spent(&self) -> bool
-        ensures { IsTrue result ↔ IsSpent self.now }
+        ensures spent { OnTrue result (IsSpent self.now) }
+        ensures unspent { OnFalse result ((0 < self.now.steps) × (0 < self.now.text)) }
     {
         self.steps == 0 || self.text == 0
     }
@@ -110,6 +114,17 @@ fn step(
     let turn = world.step(alloc, program, thread)?;
     *text = text.saturating_sub(text_at(world.printed(), lines));
     Ok(turn)
+}
+
+/// How many steps a turn was: one or none.
+fn steps_made(turn: Turn) -> u64
+    ensures { result ≡ steps_of turn }
+{
+    match turn {
+        Turn::Moved => 1,
+        Turn::Waiting => 0,
+        Turn::Ended => 0,
+    }
 }
 
 /// Asks a thread for a step, and records it where it had one.
@@ -167,11 +182,10 @@ fn round(
             break;
         }
         let turn = ask(alloc, program, world, schedule, &mut allowance.text, place.asked)?;
-        if let Turn::Moved = turn {
-            place.done += 1;
-            allowance.steps -= 1;
-        }
+        let made = steps_made(turn);
+        place.done += made;
         place.asked += 1;
+        allowance.steps -= made;
     }
     Ok(place)
 }

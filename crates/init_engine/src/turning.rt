@@ -165,5 +165,6 @@ pub fn turns(
             break;
         }
     }
-    turning.into_parts()
+    let (last, runs) = turning.into_parts()?;
+    Ok((last, runs))
 }

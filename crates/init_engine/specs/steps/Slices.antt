@@ -29,6 +29,7 @@ pub record PrintsBy (steps : ℕ) (before after : List Line) (had left : ℕ) : 
 pub record IsPlace (count : ℕ) (p : Place) : Type 0 where
   pub within : p.asked ≤ count
   pub bounded : p.done ≤ p.left
+  pub few : p.done ≤ p.asked
 
 abbrev pub to_go_from : Place → ℕ
 to_go_from p = p.left - p.done

@@ -1,26 +1,35 @@
-use Rattle.std.proofs.Common.{arith, refl, ◌∙◌}
-use Rattle.init_engine.proofs.RoundLemmas.{asked_nobody, asked_moved, asked_waiting, asked_ended, room_left}
-use Rattle.init_engine.proofs.turning.round.Goals as goal
-use Rattle.init_engine.proofs.turning.round.Goals.{in-Moved, in-Waiting, in-Ended}
+use Rattle.std.proofs.Common.{◌<◌, length, arith, ◌∙◌}
+use Rattle.machine.specs.Linked.{program_of}
+use Rattle.init_engine.specs.Turns.{world_of}
+use Rattle.init_engine.specs.Schedules.{schedule_of}
+use Rattle.init_engine.proofs.SliceLemmas.{asks_turn, place_of_turn, spends_turn}
+use Rattle.init_engine.proofs.rounds.round.Goals as goal
 
-pub loop-thread-init : goal.loop-thread-init
-loop-thread-init c = (asked_nobody _ _ _ _, omega arith, refl)
-
-pub loop-thread-preserved : goal.loop-thread-preserved
-loop-thread-preserved c =
-    let room = room_left c.loop-thread.done c.args.most c.loop-thread.invariant.1 c.if-done-most.false in
-    let threads = c.in_ok-ask.ensures.threads ∙ c.loop-thread.invariant.2 in
-    elim c.match-branch-2.branch [
-      | in-Moved w ↦
-          let moved = rw w.in-Moved.is at c.in_ok-ask.ensures.asking in
-          let so = asked_moved _ _ _ _ _ _ _ _ _ _ c.loop-thread.invariant.0 room moved in
-          (rw w.done-is so, omega (arith, room, w.done-is), threads)
-      | in-Waiting w ↦
-          let waiting = rw w.in-Waiting.is at c.in_ok-ask.ensures.asking in
-          let so = asked_waiting _ _ _ _ _ _ _ _ _ _ c.loop-thread.invariant.0 room waiting in
-          (rw w.done-is so, omega (arith, room, w.done-is), threads)
-      | in-Ended w ↦
-          let ended = rw w.in-Ended.is at c.in_ok-ask.ensures.asking in
-          let so = asked_ended _ _ _ _ _ _ _ _ _ _ c.loop-thread.invariant.0 room ended in
-          (rw w.done-is so, omega (arith, room, w.done-is), threads)
-    ]
+pub asking-preserved : goal.asking-preserved
+asking-preserved c =
+    let P = program_of c.args.program.now in
+    let turn = c.in_ok-turn.turn in
+    let made = c.steps_made-made.result in
+    let is = c.steps_made-made.ensures in
+    let from = c.args.from in
+    let p = c.asking.place in
+    let kept = c.asking.invariant in
+    let now = world_of c.asking.world in
+    let next = world_of c.ask.new.world in
+    let before = schedule_of c.args.schedule.now in
+    let recorded = schedule_of c.asking.schedule in
+    let after = schedule_of c.ask.new.schedule in
+    let asking = c.in_ok-turn.ensures.asking in
+    let room : p.done < p.left = omega (arith, kept.place.bounded, c.if-place.false) in
+    let more : p.asked < length c.args.world.now.threads =
+    omega (arith, c.asking-test.true, c.thread_count.ensures, kept.threads) in
+    record {
+      asks = asks_turn P turn made from p (world_of c.args.world.now) now next before recorded after kept.asks is room
+          asking;
+      place = place_of_turn turn made (length c.args.world.now.threads) p kept.place is more room;
+      left = kept.left;
+      spends = spends_turn P turn made from p now next before recorded after c.args.world.now.printed
+          c.asking.world.printed c.ask.new.world.printed c.args.allowance.now c.asking.allowance c.ask.new.text
+          kept.spends is room c.if-is_spent.ensures.unspent.0 asking c.in_ok-turn.ensures.prints;
+      threads = c.ask.ensures.threads ∙ kept.threads;
+    }
