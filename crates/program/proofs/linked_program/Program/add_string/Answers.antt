@@ -21,11 +21,10 @@ invariant_of-self c =
     c.bytes.ensures.is ∙ c.in_ok-text.ensures in
     let fits : IsText text =
     text_of_units c.args.units.now text c.requires (λ i. omega (arith, c.type_inv.units i)) spelled in
-    let added = c.add.ensures in
-    (
+    let added = c.add.ensures in (
       with_strings old new text fits added.keeps
-      (still_distinct c.add.result old.strings new added.distinct added.err c.self.invariant.0.distinct)
-      (same_or_more c.add.result old.strings new text added.same added.last added.err) c.self.invariant.0,
+          (still_distinct c.add.result old.strings new added.distinct added.err c.self.invariant.0.distinct)
+          (same_or_more c.add.result old.strings new text added.same added.last added.err) c.self.invariant.0,
       c.self.invariant.1,
     )
 
