@@ -16,6 +16,7 @@ mod lazy;
 mod outcome;
 mod reporting;
 mod run;
+mod running;
 mod status;
 mod threads;
 
@@ -28,5 +29,6 @@ pub use files::{FileFault, Files};
 pub use init_engine::Rest;
 pub use lazy::{LazyRun, Shown, entries_of, run_class_files};
 pub use run::command;
+pub use running::{Ran, RunFault, run_world};
 pub use status::{Status, status_of};
 pub use threads::thread_lines;

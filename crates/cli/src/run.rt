@@ -1,12 +1,16 @@
 //! One command, from its words to its exit status.
-ghost use Rattle.std.specs.Prelude.{◌≡◌, ◌≢◌, ◌≤◌};
+ghost use Rattle.std.specs.Prelude.{◌≡◌, ◌≢◌, ◌≤◌, ◌⊎◌};
 ghost use Rattle.cli.specs.Refusal.{refusal_status};
+ghost use Rattle.cli.specs.Running.{IsOfRun};
 ghost use Rattle.cli.specs.Status.{IsTold};
 
+use crate::lazy::Start;
 use crate::outcome::Outcome;
 use crate::{
-    Files, Lazy, Refusal, Report, Request, Status, WordsFault, lazy, reporting, request_of,
+    Files, Lazy, Ran, Refusal, Report, Request, RunFault, Status, WordsFault, lazy, reporting, request_of, run_world,
+    status_of, thread_lines,
 };
+use program::Program;
 use std::alloc::Global;
 use std::io;
 use std::io::Write;
@@ -21,9 +25,10 @@ use std::io::Write;
 /// - 4: stuck; 5: the limit was reached with a thread that still has a step; 6: all threads ended,
 ///   and not all returned.
 ///
-/// With 1 and 2 nothing went to standard output. After a run it gets what was printed, and then
-/// standard error a line for each thread, but none where standard output failed. After a build it gets
-/// the report. A failure of standard error is ignored.
+/// With 2 nothing went to standard output, and with 1 nothing but what a run printed before memory was
+/// refused. While a run goes on it gets what is printed, and after it standard error a line for each
+/// thread, but none where standard output failed, which ends the run. After a build it gets the report.
+/// A failure of standard error is ignored.
 pub fn command<F: Files, W: Write + Send, E: Write>(
     alloc: Global,
     words: &[&str],
@@ -32,7 +37,8 @@ pub fn command<F: Files, W: Write + Send, E: Write>(
     errors: &mut E,
 ) -> (u8, W)
     ensures range { result.0 ≤ 6 }
-    ensures refused { result.0 ≡ 1 → result.1 ≡ out }
+    // Text that a run sent before memory was refused cannot be taken back.
+    ensures refused { result.0 ≡ 1 → (result.1 ≡ out) ⊎ IsOfRun (W.contents out) (W.contents result.1) }
     ensures words { result.0 ≡ 2 → result.1 ≡ out }
 {
     let status = match request_of(alloc, words) {
@@ -51,12 +57,48 @@ fn run_lazily<F: Files, W: Write, E: Write>(
     out: &mut W,
     errors: &mut E,
 ) -> Status
-    ensures refused { result ≡ Status.Refused → out.new ≡ out.old }
+    ensures refused { result ≡ Status.Refused
+        → (out.new ≡ out.old) ⊎ IsOfRun (W.contents out.old) (W.contents out.new) }
     ensures words { result ≢ Status.Words }
 {
-    match lazy::run(alloc, words, files) {
-        Ok(outcome) => tell(&outcome, out, errors),
+    match lazy::start(alloc, words, files) {
+        Ok(start) => run_from(alloc, start, words.limit, out, errors),
         Err(refusal) => refuse(&refusal, errors),
+    }
+}
+
+/// Runs a start, and tells what it prints while it runs, and then how its threads ended.
+fn run_from<W: Write, E: Write>(
+    alloc: Global,
+    start: Start,
+    limit: u64,
+    out: &mut W,
+    errors: &mut E,
+) -> Status
+    ensures refused { result ≡ Status.Refused → IsOfRun (W.contents out.old) (W.contents out.new) }
+    ensures words { result ≢ Status.Words }
+{
+    let Start { program, world } = start;
+    match run_world(alloc, &program, world, limit, out) {
+        Ok(ran) => tell_threads(alloc, &program, &ran, errors),
+        Err(RunFault::Memory) => refuse(&Refusal::Memory, errors),
+        Err(RunFault::Device) => refuse(&Refusal::Device, errors),
+    }
+}
+
+/// Tells how the threads of a run ended.
+fn tell_threads<E: Write>(alloc: Global, program: &Program, ran: &Ran, errors: &mut E) -> Status
+    ensures { result ≢ Status.Words }
+{
+    let threads = ran.threads.as_slice();
+    match thread_lines(alloc, program, threads) {
+        Ok(lines) => {
+            // A failure of standard error is ignored.
+            let _ = errors.write_all(lines.as_bytes());
+            let _ = errors.flush();
+            status_of(threads, ran.rest)
+        }
+        Err(_) => refuse(&Refusal::Memory, errors),
     }
 }
 
@@ -77,7 +119,7 @@ fn report_build<F: Files, W: Write, E: Write>(
     }
 }
 
-/// Tells what a run printed and how its threads ended, or a report.
+/// Tells a report.
 fn tell<W: Write, E: Write>(outcome: &Outcome, out: &mut W, errors: &mut E) -> Status
     requires { IsTold outcome.now.status }
     ensures told { IsTold result }
