@@ -83,7 +83,7 @@ fn run_program(
 }
 
 /// Runs a world by turns, for at most so many steps.
-fn run_world(
+pub(crate) fn run_world(
     alloc: Global,
     program: &Program,
     world: World,
@@ -111,7 +111,7 @@ pub(crate) fn run<F: Files>(
 ) -> Result<Outcome, Refusal>
     ensures { IfOk result (λ outcome. IsTold outcome.status) }
 {
-    match contents(alloc, words.files.as_slice(), files) {
+    match contents(alloc, words.files.as_slice(), files, usize::MAX) {
         Ok(contents) => run_contents(alloc, words, contents.as_slice()),
         Err(refusal) => Err(refusal),
     }
@@ -135,7 +135,7 @@ fn run_entries(
     ensures { IfOk result (λ outcome. IsTold outcome.status) }
 {
     match run_class_files(alloc, files, entries, limit) {
-        Ok(run) => told(outcome_of(alloc, &run)),
+        Ok(run) => told(outcome_of(alloc, &run.program, &run.shown)),
         Err(refusal) => Err(refusal),
     }
 }
@@ -148,13 +148,16 @@ fn told(outcome: Result<Outcome, AllocError>) -> Result<Outcome, Refusal>
     Ok(outcome?)
 }
 
-/// What is to be told of a run.
-fn outcome_of(alloc: Global, run: &LazyRun) -> Result<Outcome, AllocError>
+/// What is to be told of a run of a program.
+pub(crate) fn outcome_of(
+    alloc: Global,
+    program: &Program,
+    shown: &Shown,
+) -> Result<Outcome, AllocError>
     ensures { IfOk result (λ outcome. IsTold outcome.status) }
 {
-    let shown = &run.shown;
     let printed = printed_bytes(alloc, shown.seen.printed.as_slice())?;
-    let threads = thread_lines(alloc, &run.program, shown.seen.threads.as_slice())?;
+    let threads = thread_lines(alloc, program, shown.seen.threads.as_slice())?;
     Ok(Outcome {
         printed,
         threads,

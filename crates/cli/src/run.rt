@@ -5,7 +5,8 @@ ghost use Rattle.cli.specs.Status.{IsTold};
 
 use crate::outcome::Outcome;
 use crate::{
-    Files, Lazy, Refusal, Report, Request, Status, WordsFault, lazy, reporting, request_of,
+    Files, Refusal, Request, Status, WordsFault, image_build, image_run, lazy, reporting,
+    request_of,
 };
 use std::alloc::Global;
 use std::io;
@@ -22,8 +23,8 @@ use std::io::Write;
 ///   and not all returned.
 ///
 /// With 1 and 2 nothing went to standard output. After a run it gets what was printed, and then
-/// standard error a line for each thread, but none where standard output failed. After a build it gets
-/// the report. A failure of standard error is ignored.
+/// standard error a line for each thread, but none where standard output failed. With `report` it gets
+/// the report, and with `build` nothing: the image goes to its file. A failure of standard error is ignored.
 pub fn command<F: Files, W: Write + Send, E: Write>(
     alloc: Global,
     words: &[&str],
@@ -36,17 +37,16 @@ pub fn command<F: Files, W: Write + Send, E: Write>(
     ensures words { result.0 ≡ 2 → result.1 ≡ out }
 {
     let status = match request_of(alloc, words) {
-        Ok(Request::Lazy(words)) => run_lazily(alloc, &words, files, &mut out, errors),
-        Ok(Request::Report(words)) => report_build(alloc, &words, files, &mut out, errors),
+        Ok(request) => do_request(alloc, &request, files, &mut out, errors),
         Err(fault) => tell_words(&fault, &mut out, errors),
     };
     (status.code(), out)
 }
 
-/// Does the command `lazy`.
-fn run_lazily<F: Files, W: Write, E: Write>(
+/// Does the command of a request.
+fn do_request<F: Files, W: Write, E: Write>(
     alloc: Global,
-    words: &Lazy<'_>,
+    request: &Request<'_>,
     files: &mut F,
     out: &mut W,
     errors: &mut E,
@@ -54,26 +54,25 @@ fn run_lazily<F: Files, W: Write, E: Write>(
     ensures refused { result ≡ Status.Refused → out.new ≡ out.old }
     ensures words { result ≢ Status.Words }
 {
-    match lazy::run(alloc, words, files) {
+    match outcome_of(alloc, request, files) {
         Ok(outcome) => tell(&outcome, out, errors),
         Err(refusal) => refuse(&refusal, errors),
     }
 }
 
-/// Does the command `report`.
-fn report_build<F: Files, W: Write, E: Write>(
+/// What the command of a request has to tell.
+fn outcome_of<F: Files>(
     alloc: Global,
-    words: &Report<'_>,
+    request: &Request<'_>,
     files: &mut F,
-    out: &mut W,
-    errors: &mut E,
-) -> Status
-    ensures refused { result ≡ Status.Refused → out.new ≡ out.old }
-    ensures words { result ≢ Status.Words }
+) -> Result<Outcome, Refusal>
+    ensures { IfOk result (λ outcome. IsTold outcome.status) }
 {
-    match reporting::run(alloc, words, files) {
-        Ok(outcome) => tell(&outcome, out, errors),
-        Err(refusal) => refuse(&refusal, errors),
+    match request {
+        Request::Build(words) => image_build::run(alloc, words, files),
+        Request::Lazy(words) => lazy::run(alloc, words, files),
+        Request::Report(words) => reporting::run(alloc, words, files),
+        Request::Run(words) => image_run::run(alloc, words, files),
     }
 }
 

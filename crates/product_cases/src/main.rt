@@ -18,6 +18,8 @@ mod codes;
 mod command_runs;
 mod commands;
 mod graphs;
+mod image_bytes;
+mod image_runs;
 mod images;
 mod members;
 mod patterns;
@@ -54,7 +56,7 @@ enum About {
     Commands,
     /// Graphs and their arrangements.
     Graphs,
-    /// Classes, and which objects of their image are reached.
+    /// Classes, and their image: which of its objects are reached, its bytes, and runs from it.
     Images,
     /// Classes, which of them the patterns of options are about, and what becomes of them at build time.
     Options,
