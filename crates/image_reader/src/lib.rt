@@ -1,6 +1,11 @@
-//! The start of a run from an image.
+//! Reads images, and starts runs from them.
 #![tactic(auto)]
 
+mod held_regions;
+mod held_values;
+mod reading;
 mod start;
 
+pub use image_parser::ImageFault;
+pub use reading::read;
 pub use start::world;

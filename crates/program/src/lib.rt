@@ -2,6 +2,7 @@
 //! (JVMS SE 8, chapter 5).
 #![tactic(auto)]
 
+mod added_strings;
 mod ahead;
 mod arrays;
 mod assembly;
