@@ -1,7 +1,6 @@
 //! The command `build`: an image of class files, in a file.
 
 use crate::files::contents;
-use crate::outcome::Outcome;
 use crate::requested::built;
 use crate::{Build, Building, Files, Refusal};
 use image_writer::sink::Out;
@@ -21,11 +20,11 @@ pub(crate) fn run<F: Files>(
     alloc: Global,
     words: &Build<'_>,
     files: &mut F,
-) -> Result<Outcome, Refusal> {
+) -> Result<(), Refusal> {
     let texts = contents(alloc, words.building.files.as_slice(), files, GREATEST_LENGTH)?;
     let bytes = built_bytes(alloc, &words.building, texts.as_slice())?;
     match files.put(words.image, bytes.as_slice()) {
-        Ok(()) => Ok(Outcome::done(alloc, Vec::new(alloc))),
+        Ok(()) => Ok(()),
         Err(fault) => Err(Refusal::of_file(alloc, words.image, fault)),
     }
 }

@@ -1,5 +1,6 @@
 //! From an image's bytes to what a run of it by turns shows, and the command `run` over it.
 
+use crate::image_faults::image_refusal;
 use crate::lazy::{Shown, entries_of, outcome_of, run_world};
 use crate::outcome::Outcome;
 use crate::{Files, Refusal, Run};
@@ -31,7 +32,7 @@ pub fn run_image(
             Ok(shown) => Ok(ImageRun { image, shown }),
             Err(refusal) => Err(refusal),
         },
-        Err(fault) => Err(Refusal::of_image(fault)),
+        Err(fault) => Err(image_refusal(alloc, bytes, fault)),
     }
 }
 

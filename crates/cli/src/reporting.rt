@@ -7,7 +7,7 @@ ghost use Rattle.cli.specs.Status.{IsTold};
 use crate::files::contents;
 use crate::outcome::Outcome;
 use crate::requested::built;
-use crate::{Building, Files, Refusal};
+use crate::{Building, Files, Refusal, Status};
 use building::Built;
 use image_writer::sink::Out;
 use report::render;
@@ -50,7 +50,11 @@ fn told(alloc: Global, built: &Built) -> Result<Outcome, Refusal>
     ensures { IfOk result (λ outcome. IsTold outcome.status) }
 {
     match report_bytes(alloc, built) {
-        Ok(printed) => Ok(Outcome::done(alloc, printed)),
+        Ok(printed) => Ok(Outcome {
+            printed,
+            threads: String::new(alloc),
+            status: Status::Done,
+        }),
         Err(AllocError) => Err(Refusal::Memory),
     }
 }

@@ -1,5 +1,5 @@
 //! One command, from its words to its exit status.
-ghost use Rattle.std.specs.Prelude.{◌≡◌, ◌≢◌, ◌≤◌};
+ghost use Rattle.std.specs.Prelude.{◌≡◌, ◌≢◌, ◌≤◌, IfOk};
 ghost use Rattle.cli.specs.Refusal.{refusal_status};
 ghost use Rattle.cli.specs.Status.{IsTold};
 
@@ -54,30 +54,42 @@ fn do_request<F: Files, W: Write, E: Write>(
     ensures refused { result ≡ Status.Refused → out.new ≡ out.old }
     ensures words { result ≢ Status.Words }
 {
-    match outcome_of(alloc, request, files) {
-        Ok(outcome) => tell(&outcome, out, errors),
+    match request {
+        Request::Build(words) => tell_done(image_build::run(alloc, words, files), errors),
+        Request::Lazy(words) => tell(lazy::run(alloc, words, files), out, errors),
+        Request::Report(words) => tell(reporting::run(alloc, words, files), out, errors),
+        Request::Run(words) => tell(image_run::run(alloc, words, files), out, errors),
+    }
+}
+
+/// Tells why a command that has nothing else to tell was refused, if it was.
+fn tell_done<E: Write>(done: Result<(), Refusal>, errors: &mut E) -> Status
+    ensures { result ≢ Status.Words }
+{
+    match done {
+        Ok(()) => Status::Done,
         Err(refusal) => refuse(&refusal, errors),
     }
 }
 
-/// What the command of a request has to tell.
-fn outcome_of<F: Files>(
-    alloc: Global,
-    request: &Request<'_>,
-    files: &mut F,
-) -> Result<Outcome, Refusal>
-    ensures { IfOk result (λ outcome. IsTold outcome.status) }
+/// Tells what a command has to tell, or why it was refused.
+fn tell<W: Write, E: Write>(
+    outcome: Result<Outcome, Refusal>,
+    out: &mut W,
+    errors: &mut E,
+) -> Status
+    requires { IfOk outcome (λ outcome. IsTold outcome.status) }
+    ensures refused { result ≡ Status.Refused → out.new ≡ out.old }
+    ensures words { result ≢ Status.Words }
 {
-    match request {
-        Request::Build(words) => image_build::run(alloc, words, files),
-        Request::Lazy(words) => lazy::run(alloc, words, files),
-        Request::Report(words) => reporting::run(alloc, words, files),
-        Request::Run(words) => image_run::run(alloc, words, files),
+    match outcome {
+        Ok(outcome) => tell_outcome(&outcome, out, errors),
+        Err(refusal) => refuse(&refusal, errors),
     }
 }
 
 /// Tells what a run printed and how its threads ended, or a report.
-fn tell<W: Write, E: Write>(outcome: &Outcome, out: &mut W, errors: &mut E) -> Status
+fn tell_outcome<W: Write, E: Write>(outcome: &Outcome, out: &mut W, errors: &mut E) -> Status
     requires { IsTold outcome.now.status }
     ensures told { IsTold result }
     ensures status { result ≢ Status.Failed → result ≡ outcome.now.status }

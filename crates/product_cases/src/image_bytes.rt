@@ -88,7 +88,7 @@ fn orders(alloc: Global, files: &[Vec<u8>], bytes: &[u8]) -> Result<String, Allo
 fn reading(alloc: Global, bytes: &[u8]) -> Result<String, AllocError> {
     match read(alloc, bytes) {
         Ok(_) => String::from_str(alloc, "read"),
-        Err(fault) => fault.to_string(alloc),
+        Err(fault) => format!(in alloc; "{fault:?}"),
     }
 }
 
