@@ -72,13 +72,13 @@ fn run_program(
         (λ refusal. (refusal ≡ Memory) ⊎ IsRefusedEntry program.now entries.now refusal) }
 {
     match World::lazy(alloc, program, entries) {
-        Ok(world) => Ok(run_world(alloc, program, world, limit)?),
+        Ok(world) => Ok(shown_by_turns(alloc, program, world, limit)?),
         Err(fault) => Err(Refusal::of_entry(fault)),
     }
 }
 
 /// Runs a world by turns, for at most so many steps.
-fn run_world(
+pub(crate) fn shown_by_turns(
     alloc: Global,
     program: &Program,
     world: World,
@@ -111,7 +111,7 @@ pub(crate) fn start<F: Files>(
     words: &Lazy<'_>,
     files: &mut F,
 ) -> Result<Start, Refusal> {
-    let contents = contents(alloc, words.files.as_slice(), files)?;
+    let contents = contents(alloc, words.files.as_slice(), files, usize::MAX)?;
     let program = linked_program(alloc, contents.as_slice())?;
     let entries = entries_of(alloc, words.entries)?;
     match World::lazy(alloc, &program, entries.as_slice()) {

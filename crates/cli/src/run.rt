@@ -1,15 +1,17 @@
 //! One command, from its words to its exit status.
-ghost use Rattle.std.specs.Prelude.{◌≡◌, ◌≢◌, ◌≤◌, ◌⊎◌};
+ghost use Rattle.std.specs.Prelude.{◌≡◌, ◌≢◌, ◌≤◌, ◌⊎◌, IfOk};
 ghost use Rattle.cli.specs.Refusal.{refusal_status};
 ghost use Rattle.cli.specs.Running.{IsOfRun};
 ghost use Rattle.cli.specs.Status.{IsTold};
 
+use crate::image_run::ImageStart;
 use crate::lazy::Start;
 use crate::outcome::Outcome;
 use crate::{
-    Files, Lazy, Ran, Refusal, Report, Request, RunFault, Status, WordsFault, lazy, reporting, request_of, run_world,
-    status_of, thread_lines,
+    Files, Lazy, Ran, Refusal, Request, Run, RunFault, Status, WordsFault, image_build, image_run,
+    lazy, reporting, request_of, run_world, status_of, thread_lines,
 };
+use init_engine::World;
 use program::Program;
 use std::alloc::Global;
 use std::io;
@@ -27,8 +29,8 @@ use std::io::Write;
 ///
 /// With 2 nothing went to standard output, and with 1 nothing but what a run printed before memory was
 /// refused. While a run goes on it gets what is printed, and after it standard error a line for each
-/// thread, but none where standard output failed, which ends the run. After a build it gets the report.
-/// A failure of standard error is ignored.
+/// thread, but none where standard output failed, which ends the run. With `report` it gets the report,
+/// and with `build` nothing: the image goes to its file. A failure of standard error is ignored.
 pub fn command<F: Files, W: Write + Send, E: Write>(
     alloc: Global,
     words: &[&str],
@@ -42,11 +44,30 @@ pub fn command<F: Files, W: Write + Send, E: Write>(
     ensures words { result.0 ≡ 2 → result.1 ≡ out }
 {
     let status = match request_of(alloc, words) {
-        Ok(Request::Lazy(words)) => run_lazily(alloc, &words, files, &mut out, errors),
-        Ok(Request::Report(words)) => report_build(alloc, &words, files, &mut out, errors),
+        Ok(request) => do_request(alloc, &request, files, &mut out, errors),
         Err(fault) => tell_words(&fault, &mut out, errors),
     };
     (status.code(), out)
+}
+
+/// Does the command of a request.
+fn do_request<F: Files, W: Write, E: Write>(
+    alloc: Global,
+    request: &Request<'_>,
+    files: &mut F,
+    out: &mut W,
+    errors: &mut E,
+) -> Status
+    ensures refused { result ≡ Status.Refused
+        → (out.new ≡ out.old) ⊎ IsOfRun (W.contents out.old) (W.contents out.new) }
+    ensures words { result ≢ Status.Words }
+{
+    match request {
+        Request::Build(words) => tell_done(image_build::run(alloc, words, files), errors),
+        Request::Lazy(words) => run_lazily(alloc, words, files, out, errors),
+        Request::Report(words) => tell(reporting::run(alloc, words, files), out, errors),
+        Request::Run(words) => run_image(alloc, words, files, out, errors),
+    }
 }
 
 /// Does the command `lazy`.
@@ -62,15 +83,36 @@ fn run_lazily<F: Files, W: Write, E: Write>(
     ensures words { result ≢ Status.Words }
 {
     match lazy::start(alloc, words, files) {
-        Ok(start) => run_from(alloc, start, words.limit, out, errors),
+        Ok(Start { program, world }) => run_from(alloc, &program, world, words.limit, out, errors),
         Err(refusal) => refuse(&refusal, errors),
     }
 }
 
-/// Runs a start, and tells what it prints while it runs, and then how its threads ended.
+/// Does the command `run --turns`.
+fn run_image<F: Files, W: Write, E: Write>(
+    alloc: Global,
+    words: &Run<'_>,
+    files: &mut F,
+    out: &mut W,
+    errors: &mut E,
+) -> Status
+    ensures refused { result ≡ Status.Refused
+        → (out.new ≡ out.old) ⊎ IsOfRun (W.contents out.old) (W.contents out.new) }
+    ensures words { result ≢ Status.Words }
+{
+    match image_run::start(alloc, words, files) {
+        Ok(ImageStart { image, world }) => {
+            run_from(alloc, image.program(), world, words.limit, out, errors)
+        }
+        Err(refusal) => refuse(&refusal, errors),
+    }
+}
+
+/// Runs a program from a world of it, and tells what it prints while it runs, and then how its threads ended.
 fn run_from<W: Write, E: Write>(
     alloc: Global,
-    start: Start,
+    program: &Program,
+    world: World,
     limit: u64,
     out: &mut W,
     errors: &mut E,
@@ -78,9 +120,8 @@ fn run_from<W: Write, E: Write>(
     ensures refused { result ≡ Status.Refused → IsOfRun (W.contents out.old) (W.contents out.new) }
     ensures words { result ≢ Status.Words }
 {
-    let Start { program, world } = start;
-    match run_world(alloc, &program, world, limit, out) {
-        Ok(ran) => tell_threads(alloc, &program, &ran, errors),
+    match run_world(alloc, program, world, limit, out) {
+        Ok(ran) => tell_threads(alloc, program, &ran, errors),
         Err(RunFault::Memory) => refuse(&Refusal::Memory, errors),
         Err(RunFault::Device) => refuse(&Refusal::Device, errors),
     }
@@ -102,25 +143,34 @@ fn tell_threads<E: Write>(alloc: Global, program: &Program, ran: &Ran, errors: &
     }
 }
 
-/// Does the command `report`.
-fn report_build<F: Files, W: Write, E: Write>(
-    alloc: Global,
-    words: &Report<'_>,
-    files: &mut F,
+/// Tells why a command that has nothing else to tell was refused, if it was.
+fn tell_done<E: Write>(done: Result<(), Refusal>, errors: &mut E) -> Status
+    ensures { result ≢ Status.Words }
+{
+    match done {
+        Ok(()) => Status::Done,
+        Err(refusal) => refuse(&refusal, errors),
+    }
+}
+
+/// Tells a report, or why there is none.
+fn tell<W: Write, E: Write>(
+    outcome: Result<Outcome, Refusal>,
     out: &mut W,
     errors: &mut E,
 ) -> Status
+    requires { IfOk outcome (λ outcome. IsTold outcome.status) }
     ensures refused { result ≡ Status.Refused → out.new ≡ out.old }
     ensures words { result ≢ Status.Words }
 {
-    match reporting::run(alloc, words, files) {
-        Ok(outcome) => tell(&outcome, out, errors),
+    match outcome {
+        Ok(outcome) => tell_outcome(&outcome, out, errors),
         Err(refusal) => refuse(&refusal, errors),
     }
 }
 
 /// Tells a report.
-fn tell<W: Write, E: Write>(outcome: &Outcome, out: &mut W, errors: &mut E) -> Status
+fn tell_outcome<W: Write, E: Write>(outcome: &Outcome, out: &mut W, errors: &mut E) -> Status
     requires { IsTold outcome.now.status }
     ensures told { IsTold result }
     ensures status { result ≢ Status.Failed → result ≡ outcome.now.status }
