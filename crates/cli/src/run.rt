@@ -5,7 +5,7 @@ ghost use Rattle.cli.specs.Running.{IsOfRun};
 ghost use Rattle.cli.specs.Status.{IsTold};
 
 use crate::image_run::ImageStart;
-use crate::lazy::Start;
+use crate::lazy::LazyStart;
 use crate::outcome::Outcome;
 use crate::{
     Files, Lazy, Ran, Refusal, Request, Run, RunFault, Status, WordsFault, image_build, image_run,
@@ -83,7 +83,14 @@ fn run_lazily<F: Files, W: Write, E: Write>(
     ensures words { result ≢ Status.Words }
 {
     match lazy::start(alloc, words, files) {
-        Ok(Start { program, world }) => run_from(alloc, &program, world, words.limit, out, errors),
+        Ok(LazyStart { program, world }) => run_from(
+            alloc,
+            &program,
+            world,
+            words.limit,
+            out,
+            errors,
+        ),
         Err(refusal) => refuse(&refusal, errors),
     }
 }
