@@ -1,9 +1,9 @@
 -- Bytes are the text of one image or have one fault, and never both.
-use Rattle.std.proofs.Common.{◌≡◌, ℕ, zero, suc, ◌+◌, ◌<◌, ◌≤◌, ◌^◌, ◌⊎◌, List, [], ◌∷◌, ◌++◌, length, take, drop}
-use Rattle.std.proofs.Common.{Option, Some, None, Result, Ok, Err, slice_get, refl, sym, ap, subst, ◌∙◌, arith, inl, inr}
+use Rattle.std.proofs.Common.{◌≡◌, ℕ, ◌+◌, ◌<◌, ◌≤◌, ◌^◌, ◌⊎◌, List, ◌++◌, length, take, drop}
+use Rattle.std.proofs.Common.{Option, None, Result, Ok, Err, refl, sym, ap, subst, ◌∙◌, arith, inl, inr}
 use Rattle.std.specs.Int.{w32, from_be_bytes}
 use Rattle.std.specs.Prelude.{IfOk, IfErr, MatchResult}
-use Rattle.std.specs.List.{All, flat_map}
+use Rattle.std.specs.List.{flat_map}
 use Rattle.std.proofs.lemmas.List.{take_at, drop_at, length-append, length-map}
 use Rattle.std.proofs.lemmas.List.Elements.{All-map, All-contains}
 use Rattle.std.proofs.lemmas.List.Sorted.{IsPermutation-refl}
@@ -13,24 +13,21 @@ use Rattle.sha2.proofs.Facts256.{length-sha256}
 use Rattle.classfile.specs.Class.{IsClassFile}
 use Rattle.classfile.specs.ClassFile.{ClassFile}
 use Rattle.classfile.specs.Spelling.{u2, u4}
-use Rattle.loading.specs.declared.fault.LinkFault.{LinkFault}
-use Rattle.loading.specs.Families.{Family, IsFamily, IsFamilyOf}
-use Rattle.loading.specs.Files.{Links, LinkFails}
+use Rattle.loading.specs.Families.{Family, IsFamilyOf}
+use Rattle.loading.specs.Files.{LinkFails}
 use Rattle.loading.proofs.FilesFaultLemmas.{not_both as link_not_both, one_fault as one_link_fault}
 use Rattle.one_program.proofs.FamiliesLemmas.{one_family}
 use Rattle.image_format.specs.declared.region.ImageRegion.{ImageRegion}
 use Rattle.image_format.specs.Images.{files_of as classes_of, ImageText}
-use Rattle.image_format.specs.Texts.{file_text, given_text, mark_text}
+use Rattle.image_format.specs.Texts.{given_text, mark_text}
 use Rattle.image_parser.specs.declared.fault.FilesFault.{FilesFault}
 use Rattle.image_parser.specs.declared.fault.RegionFault.{RegionFault}
-use Rattle.image_parser.specs.declared.fault.RegionsFault.{RegionsFault}
-use Rattle.image_parser.specs.declared.header.HeaderFault.{HeaderFault}
 use Rattle.image_parser.specs.declared.image_fault.ImageFault.{ImageFault}
 use Rattle.image_parser.specs.declared.image_fault.ImageFault.TheVariants as faults
 use Rattle.image_parser.specs.AllRegions.{RegionsText, RegionsFail}
-use Rattle.image_parser.specs.FileFaults.{AreFiles, FilesFail}
+use Rattle.image_parser.specs.FileFaults.{FilesFail}
 use Rattle.image_parser.specs.FirstFailing.{IsBytes}
-use Rattle.image_parser.specs.HeaderFaults.{IsFramed, HeaderFails}
+use Rattle.image_parser.specs.HeaderFaults.{IsFramed}
 use Rattle.image_parser.specs.ImageFaults.{of_header, of_files, of_link, of_regions, HasFiles, IsLinked, PartsText}
 use Rattle.image_parser.specs.ImageFaults.{PartsFail, ImageParts, IsImage, ImageFails}
 use Rattle.image_parser.specs.ImageFaults.PartsFail.{files, link, regions}

@@ -1,5 +1,5 @@
 -- Class files in the order of their names make one program or have a fault.
-use Rattle.std.proofs.Common.{◌≡◌, ℕ, zero, suc, ◌+◌, ◌<◌, ◌≤◌, ◌⊎◌, inl, inr, Bool, true, false, List, [], ◌∷◌, ◌++◌}
+use Rattle.std.proofs.Common.{◌≡◌, ℕ, zero, suc, ◌+◌, ◌<◌, ◌⊎◌, inl, inr, Bool, true, false, List, [], ◌∷◌}
 use Rattle.std.proofs.Common.{length, map, Option, Some, None, slice_get, refl, sym, ap, subst, ◌∙◌, arith}
 use Rattle.std.specs.List.{All, AllZip, Contains, zip}
 use Rattle.std.specs.Option.{option_map}
@@ -23,12 +23,12 @@ use Rattle.loading.specs.declared.fault.LinkFault.TheVariants as faults
 use Rattle.loading.specs.declared.given.Superclass.{Superclass}
 use Rattle.loading.specs.declared.given.Superclass.TheVariants as super
 use Rattle.loading.specs.declared.given.GivenClass.{GivenClass}
-use Rattle.loading.specs.Families.{Family, IsFamily, IsFamilyOf, name_in}
+use Rattle.loading.specs.Families.{Family, IsFamilyOf, name_in}
 use Rattle.loading.specs.Files.{IsGiven, IsBuiltIn, IsUnknown, IsGivenClass, IsTaken, HasLeastBadParent, WithinLimit}
 use Rattle.loading.specs.Files.{No, IsLeast, LinkFails, Links, limit, taken}
 use Rattle.loading.specs.Names.{name_of, superclass_of, interfaces_of, is_interface}
-use Rattle.loading.specs.steps.Linking.{Ascend, AreNamed, AreLinked, AreParents, AreInterfaces, IsSuperclass}
-use Rattle.loading.specs.steps.Linking.{HasBadSuperclass, HasBadInterface, IsLeastClassOnCycle, name_at, name_among}
+use Rattle.loading.specs.steps.Linking.{Ascend, AreNamed, AreParents, AreInterfaces, IsSuperclass}
+use Rattle.loading.specs.steps.Linking.{HasBadSuperclass, HasBadInterface, name_at, name_among}
 use Rattle.loading.specs.steps.Linking.{is_interface_at, may_be_extended, is_object, class_of_parts, file_of_class, parents_of_class}
 use Rattle.loading.specs.steps.Linking.{none_named}
 use Rattle.loading.specs.steps.Linking.{unknown_class, not_extended, not_below_object, one_unknown, one_no_interface}
@@ -46,7 +46,7 @@ use Rattle.image_format.proofs.NamesLemmas.{name_fits}
 use Rattle.image_parser.specs.reading.ClassNames.{all_built_in}
 use Rattle.image_parser.proofs.AncestorLemmas.{Known, first_on_cycle}
 use Rattle.image_parser.proofs.ClassNameLemmas.{Member, built_member}
-use Rattle.image_parser.proofs.OneOfLemmas.{First, all_or_first}
+use Rattle.image_parser.proofs.OneOfLemmas.{all_or_first}
 
 -- ---- names
 

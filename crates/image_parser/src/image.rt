@@ -18,6 +18,7 @@ use crate::image_fault::ImageFault;
 use crate::regions::read_regions;
 use classfile::ClassFile;
 use image_format::region::ImageRegions;
+use image_format::version::Version;
 use program::{Program, link};
 use std::alloc::Global;
 
@@ -61,7 +62,7 @@ fn of_bytes(alloc: Global, bytes: &[u8]) -> Result<Parsed, ImageFault>
     ensures fault { IfErr result (λ x. (x ≡ Memory) ⊎ ImageFails bytes.now x) }
 {
     match parts_of(bytes) {
-        Ok(parts) => of_parts(alloc, parts),
+        Ok((version, parts)) => of_parts(alloc, version, parts),
         Err(fault) => Err(ImageFault::of_header(fault)),
     }
 }
@@ -80,7 +81,7 @@ fn count_at(parts: &[u8]) -> (u32, &[u8])
 }
 
 /// What the parts of an image say.
-fn of_parts(alloc: Global, parts: &[u8]) -> Result<Parsed, ImageFault>
+fn of_parts(alloc: Global, version: Version, parts: &[u8]) -> Result<Parsed, ImageFault>
     requires { 4 ≤ length parts.now }
     ensures text { IfOk result (λ parsed. PartsText parts.now parsed.program.family parsed.regions) }
     ensures program { IfOk result (λ parsed. IsProgram parsed.program) }
@@ -88,7 +89,7 @@ fn of_parts(alloc: Global, parts: &[u8]) -> Result<Parsed, ImageFault>
 {
     let (count, bytes) = count_at(parts);
     match read_files(alloc, count, bytes) {
-        Ok((files, rest)) => of_files(alloc, files, parts, rest),
+        Ok((files, rest)) => of_files(alloc, version, files, parts, rest),
         Err(fault) => Err(ImageFault::of_files(fault)),
     }
 }
@@ -96,6 +97,7 @@ fn of_parts(alloc: Global, parts: &[u8]) -> Result<Parsed, ImageFault>
 /// The same of these class files.
 fn of_files(
     alloc: Global,
+    version: Version,
     files: Vec<ClassFile>,
     parts: &[u8],
     rest: &[u8],
@@ -106,7 +108,7 @@ fn of_files(
     ensures fault { IfErr result (λ x. (x ≡ Memory) ⊎ PartsFail parts.now x) }
 {
     match link(alloc, files) {
-        Ok(program) => of_program(alloc, program, parts, rest),
+        Ok(program) => of_program(alloc, version, program, parts, rest),
         Err(fault) => Err(ImageFault::of_link(fault)),
     }
 }
@@ -114,6 +116,7 @@ fn of_files(
 /// The same of this program.
 fn of_program(
     alloc: Global,
+    version: Version,
     program: Program,
     parts: &[u8],
     rest: &[u8],
@@ -124,7 +127,7 @@ fn of_program(
     ensures program { IfOk result (λ parsed. IsProgram parsed.program) }
     ensures fault { IfErr result (λ x. (x ≡ Memory) ⊎ PartsFail parts.now x) }
 {
-    match read_regions(alloc, &program, rest) {
+    match read_regions(alloc, version, &program, rest) {
         Ok(regions) => Ok(Parsed { program, regions }),
         Err(fault) => Err(ImageFault::of_regions(alloc, program.family(), fault)),
     }

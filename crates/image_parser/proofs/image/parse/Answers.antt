@@ -1,4 +1,4 @@
-use Rattle.std.proofs.Common.{List, ℕ, arith}
+use Rattle.std.proofs.Common.{arith}
 use Rattle.image_parser.specs.declared.image.Parsed.{Parsed}
 use Rattle.image_parser.specs.FirstFailing.{IsBytes}
 use Rattle.image_parser.proofs.ImageLaw.{only_image, only_image_fault}
