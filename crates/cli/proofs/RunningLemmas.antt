@@ -20,7 +20,7 @@ use Rattle.init_engine.proofs.RoundLemmas.{run_so_far}
 use Rattle.cli.specs.declared.running.Ran.{Ran}
 use Rattle.cli.specs.declared.running.RunFault.{RunFault}
 use Rattle.cli.specs.declared.running.RunFault.TheVariants.{Memory, Device}
-use Rattle.cli.specs.Running.{HasRun, IsCutShort, IsStanding, SendsTo, lines_text}
+use Rattle.cli.specs.Running.{HasRun, IsCutShort, IsOfRun, IsStanding, SendsTo, lines_text}
 
 pub appends_nothing : (old : Option (List ℕ)) → Appends old old []
 appends_nothing None = tt
@@ -161,4 +161,23 @@ run_ends P start limit t before after ran turned threads stands sent =
           (turned.turns refl);
       stands = stands;
       sent = sent;
+    }
+
+-- ---- what went out where a command was refused
+
+pub of_run : (P : Tables) (first : World) (limit : ℕ) (before after : Option (List ℕ)) (ran : Ran)
+    → HasRun P first limit before after ran → IsOfRun before after
+of_run P first limit before after ran run =
+    let lines = run.last.shared.printed in
+    record {
+      program = P;
+      first = first;
+      schedule = run.schedule;
+      last = run.last;
+      run = run.run;
+      sent = (
+        length lines,
+        omega arith,
+        subst (λ (ls : List Line). Appends before after (lines_text ls)) (sym (take-length lines)) run.sent,
+      );
     }

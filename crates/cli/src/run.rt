@@ -61,7 +61,7 @@ fn run_lazily<F: Files, W: Write, E: Write>(
         → (out.new ≡ out.old) ⊎ IsOfRun (W.contents out.old) (W.contents out.new) }
     ensures words { result ≢ Status.Words }
 {
-    match lazy::start(alloc, words, files) {
+    match lazy::begin(alloc, words, files) {
         Ok(start) => run_from(alloc, start, words.limit, out, errors),
         Err(refusal) => refuse(&refusal, errors),
     }
