@@ -4,3 +4,4 @@ pub mod OneRefusalLemmas
 pub mod PermutationLemmas
 pub mod AnyOrderLemmas
 pub mod OneBuildLemmas
+pub mod RunningLemmas
