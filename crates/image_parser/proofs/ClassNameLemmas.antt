@@ -117,6 +117,7 @@ element_member family (elements.BuiltIn b) text is =
     (member_right (elements.BuiltIn b) (map (λ (c : ℕ). elements.Given c) (below (length family)))
     (map (λ (b : BuiltIn). elements.BuiltIn b) all_built_in)
     (member_map (λ (b : BuiltIn). elements.BuiltIn b) b all_built_in (built_member b))))))))))
+element_member family (elements.Unknown n) text is = absurd cc
 
 array_member : (family : Family) (a : ArrayType) (text : List ℕ) → 1 ≤ a.dimensions → a.dimensions ≤ 255
     → descriptor_of family a.element ≡ Some text → Member (classes.Array a) (all_classes family)
