@@ -37,7 +37,7 @@ use Rattle.object_graph.specs.Images.{AreSmall}
 use Rattle.image_format.specs.Names.{class_name}
 use Rattle.image_format.specs.Told.{told_if}
 use Rattle.image_writer.specs.steps.Sizes.{HasFiles, IsSizedValue, IsSizedObject, IsSizedRegion}
-use Rattle.image_writer.proofs.FilesLemmas.{name_fits}
+use Rattle.image_format.proofs.NamesLemmas.{name_fits}
 
 -- ---- names of classes
 
