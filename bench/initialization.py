@@ -1,13 +1,15 @@
 #!/usr/bin/env python3
 """Makes random Java programs about class initialization, and compares what they show here and on a JVM.
 
-  bench/initialization.py --cmd 'path/to/preinit' [--count N] [--seed S] [--keep FOLDER]
+  bench/initialization.py --cmd 'path/to/preinit' [--mode lazy|image] [--count N] [--seed S] [--keep FOLDER]
 
 Each program is a few classes and interfaces: chains of superclasses, interfaces with and without default methods,
 cycles of static initializers, initializers that fail (and are caught, or not), classes that are needed again after
 they failed, constants, static methods, constructors, arrays and casts that need no class. `javac --release 8` compiles
 them all; one JVM runs each under a class loader of its own (Initialization.java); `preinit lazy` runs the same class
-files. Compared are the text and how the thread ended. It prints each program that differs, and ends in 1 if one does.
+files, or with `--mode image` `preinit build` makes an image of them, which `preinit run --turns` runs. Compared are the
+text and how the thread ended. It prints each program that differs, and ends in 1 if one does. With `--mode image` it
+counts how many classes are initialized in the images, too.
 """
 import argparse
 import pathlib
@@ -182,16 +184,37 @@ def on_jvm(folder, count):
     return shown
 
 
-def here(command, folder, number):
+def called(words):
+    """What preinit writes to standard output, and what to standard error."""
+    ran = subprocess.run(words, capture_output=True, text=True)
+    return ran.stdout, ran.stderr.strip()
+
+
+def here(command, folder, number, mode):
     """What preinit shows of a program."""
     files = sorted(str(it) for it in (folder / "classes" / f"p{number}").glob("*.class"))
-    ran = subprocess.run([*command, "lazy", "--entries", f"p{number}.Main", *files], capture_output=True, text=True)
-    return ran.stdout, ran.stderr.strip().removeprefix("thread 0 ")
+    entry = ["--entries", f"p{number}.Main"]
+    if mode == "lazy":
+        text, end = called([*command, "lazy", *entry, *files])
+    else:
+        image = str(folder / "image")
+        text, end = called([*command, "build", "--out", image, *files])
+        if (text, end) == ("", ""):
+            text, end = called([*command, "run", "--turns", *entry, image])
+    return text, end.removeprefix("thread 0 ")
+
+
+def initialized(command, folder, number):
+    """How many classes of a program are initialized at build time, and how many there are."""
+    files = sorted(str(it) for it in (folder / "classes" / f"p{number}").glob("*.class"))
+    text, _ = called([*command, "report", *files])
+    return sum(" build " in line for line in text.splitlines()), len(files)
 
 
 def main():
     reader = argparse.ArgumentParser(formatter_class=argparse.RawDescriptionHelpFormatter, description=__doc__)
     reader.add_argument("--cmd", required=True)
+    reader.add_argument("--mode", default="lazy", choices=["lazy", "image"])
     reader.add_argument("--count", type=int, default=500)
     reader.add_argument("--seed", type=int, default=1)
     reader.add_argument("--keep")
@@ -200,16 +223,22 @@ def main():
         folder = pathlib.Path(asked.keep or room)
         folder.mkdir(exist_ok=True)
         compiled(folder, asked.count, asked.seed)
-        agreed, ends = 0, {}
+        agreed, ends, held, classes = 0, {}, 0, 0
+        command = shlex.split(asked.cmd)
         for number, wanted in enumerate(on_jvm(folder, asked.count)):
             end = re.sub(r"p\d+/", "", wanted[1])
             ends[end] = ends.get(end, 0) + 1
-            found = here(shlex.split(asked.cmd), folder, number)
+            found = here(command, folder, number, asked.mode)
             if found == wanted:
                 agreed += 1
             else:
                 print(f"p{number}: here {found}, on a JVM {wanted}")
+            if asked.mode == "image":
+                built, given = initialized(command, folder, number)
+                held, classes = held + built, classes + given
     print(", ".join(f"{count} {end}" for end, count in sorted(ends.items(), key=lambda it: -it[1])))
+    if asked.mode == "image":
+        print(f"{held} of {classes} classes are initialized in the images")
     print(f"{agreed} of {asked.count} agree")
     sys.exit(agreed != asked.count)
 

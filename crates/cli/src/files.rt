@@ -28,23 +28,32 @@ pub trait Files {
     fn put(&mut self, name: &str, bytes: &[u8]) -> Result<(), FileFault>;
 }
 
-/// What the files of these names hold.
+/// What the files of these names hold, each at most so many bytes.
 ///
 /// # Errors
-/// `File` of the first that can't be read, or `Memory`.
+/// `File` of the first that can't be read or is longer, or `Memory`.
 pub(crate) fn contents<F: Files>(
     alloc: Global,
     names: &[&str],
     files: &mut F,
+    most: usize,
 ) -> Result<Vec<Vec<u8>>, Refusal> {
     let mut contents = Vec::new(alloc);
     for name in names {
-        match files.get(name) {
+        match content(name, files, most) {
             Ok(bytes) => add_bytes(&mut contents, bytes)?,
             Err(fault) => return Err(Refusal::of_file(alloc, name, fault)),
         }
     }
     Ok(contents)
+}
+
+/// What the file of this name holds, at most so many bytes.
+fn content<F: Files>(name: &str, files: &mut F, most: usize) -> Result<Vec<u8>, FileFault> {
+    match files.get(name) {
+        Ok(bytes) if most < bytes.len() => Err(FileFault::Device),
+        read => read,
+    }
 }
 
 fn add_bytes(contents: &mut Vec<Vec<u8>>, bytes: Vec<u8>) -> Result<(), AllocError> {

@@ -10,7 +10,7 @@ ghost use Rattle.image_parser.specs.ImageFaults.{Answers, ImageFails};
 ghost use Rattle.image_reader.specs.Readings.{told_of};
 
 use crate::held_regions::held_regions;
-use image_parser::{ImageFault, Parsed, read as parse};
+use image_parser::{ImageFault, Parsed, parse};
 use object_graph::{Image, gather};
 use std::alloc::{AllocError, Global};
 

@@ -116,6 +116,13 @@ impl Turning {
         self.world.printed()
     }
 
+    /// The world that the turns have come to.
+    pub fn world(&self) -> &World
+        ensures { result.now ≡ self.now.world }
+    {
+        &self.world
+    }
+
     /// The world, and the schedule by its runs.
     ///
     /// # Errors

@@ -209,6 +209,16 @@ impl World {
         Ok(Seen { printed, threads })
     }
 
+    /// How far each thread has come, by its number.
+    ///
+    /// # Errors
+    /// `AllocError` where memory is refused.
+    pub fn endings(&self, alloc: Global) -> Result<Vec<Ending>, AllocError>
+        ensures { IfOk result (λ v. v.items ≡ (seen (world_of self.now)).threads) }
+    {
+        endings(alloc, self.threads.as_slice())
+    }
+
     /// These threads, which have printed nothing.
     pub(crate) fn of_threads(alloc: Global, threads: Vec<Thread>, shared: Shared) -> World
         requires numbered { AreNumbered threads.items }

@@ -29,6 +29,14 @@ fn told(alloc: Global, status: u8, out: &[u8], errors: &[u8]) -> Result<String, 
     format!(in alloc; "{status} [{out}] [{errors}]")
 }
 
+/// Does a command, whatever it answers.
+pub fn done(alloc: Global, shelf: &mut Shelf, text: &str) -> Result<(), AllocError> {
+    let words = words_of(alloc, text)?;
+    let mut errors = Vec::new(alloc);
+    let (_status, _out) = command(alloc, &words, shelf, Vec::new(alloc), &mut errors);
+    Ok(())
+}
+
 /// What a command writes to standard output, or, where that is nothing, to standard error.
 pub fn output(alloc: Global, shelf: &mut Shelf, text: &str) -> Result<String, AllocError> {
     let words = words_of(alloc, text)?;

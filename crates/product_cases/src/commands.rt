@@ -4,8 +4,8 @@ use crate::class_bytes::number;
 use crate::command_runs::{self, words_of};
 use crate::shelf::Shelf;
 use cli::{
-    Lazy, Refusal, Report, Request, Rest, Status, entries_of, linked_program, request_of,
-    status_of, thread_lines,
+    Build, Building, Lazy, Refusal, Request, Rest, Run, Status, entries_of, linked_program,
+    request_of, status_of, thread_lines,
 };
 use init_engine::Ending;
 use program::Program;
@@ -13,10 +13,12 @@ use std::alloc::{AllocError, Global};
 use std::str::SplitWhitespace;
 use vm_state::ends::FaultKind;
 
-/// Given are files, each as its name, ` = ` and a class in its text form.
+/// Given are files, each as its name, ` = ` and a class in its text form, or `image` and the bytes of an image before its
+/// digest as words (`src/shelf.rt`).
 ///
 /// Asked are the words of a command, for the status, and between brackets what standard output and standard error
-/// got. After the words may stand ` | ` and `begins LENGTH`, for that many bytes of the answer; `has TEXT`, for the
+/// got. Before ` && ` may stand commands that are done first; where one of these has another status than 0 or writes to
+/// a stream, that is the answer. After the words may stand ` | ` and `begins LENGTH`, for that many bytes of the answer; `has TEXT`, for the
 /// status and which of the two has the text where the other has nothing; `output ROOM` or `errors ROOM`, for what is
 /// answered when that stream fails after so many bytes.
 ///
@@ -31,9 +33,20 @@ pub fn answer(alloc: Global, given: &str, asked: &str) -> Result<String, AllocEr
         return format!(in alloc; "misspelled{misspelled}");
     }
     match asked.strip_prefix("preinit") {
-        Some(words) => of_command(alloc, &mut shelf, words),
+        Some(words) => of_commands(alloc, &mut shelf, words),
         None => of_part(alloc, &shelf, asked),
     }
+}
+
+/// What the last of some commands answers, or the first that does not end well in silence.
+fn of_commands(alloc: Global, shelf: &mut Shelf, asked: &str) -> Result<String, AllocError> {
+    let mut before = String::from_str(alloc, "0 [] []")?;
+    for words in asked.split(" && preinit") {
+        if before.as_str() == "0 [] []" {
+            before = of_command(alloc, shelf, words)?;
+        }
+    }
+    Ok(before)
 }
 
 fn of_command(alloc: Global, shelf: &mut Shelf, asked: &str) -> Result<String, AllocError> {
@@ -81,8 +94,10 @@ fn of_part(alloc: Global, shelf: &Shelf, asked: &str) -> Result<String, AllocErr
 fn request(alloc: Global, text: &str) -> Result<String, AllocError> {
     let words = words_of(alloc, text)?;
     match request_of(alloc, &words) {
+        Ok(Request::Build(build)) => build_text(alloc, &build),
         Ok(Request::Lazy(lazy)) => lazy_text(alloc, &lazy),
-        Ok(Request::Report(report)) => report_request_text(alloc, &report),
+        Ok(Request::Report(building)) => building_text(alloc, "report", &building),
+        Ok(Request::Run(run)) => run_text(alloc, &run),
         Err(_) => String::from_str(alloc, "no command"),
     }
 }
@@ -97,12 +112,30 @@ fn lazy_text(alloc: Global, lazy: &Lazy<'_>) -> Result<String, AllocError> {
     Ok(text)
 }
 
-fn report_request_text(alloc: Global, report: &Report<'_>) -> Result<String, AllocError> {
-    let build_time = report.build_time.unwrap_or("none");
-    let run_time = report.run_time.unwrap_or("none");
-    let budget = report.budget;
-    let mut text = format!(in alloc; "report [{build_time}] [{run_time}] {budget}")?;
-    for file in &report.files {
+fn run_text(alloc: Global, run: &Run<'_>) -> Result<String, AllocError> {
+    let entries = run.entries;
+    let limit = run.limit;
+    let image = run.image;
+    format!(in alloc; "run [{entries}] {limit} [{image}]")
+}
+
+fn build_text(alloc: Global, build: &Build<'_>) -> Result<String, AllocError> {
+    let image = build.image;
+    let command = format!(in alloc; "build [{image}]")?;
+    building_text(alloc, &command, &build.building)
+}
+
+/// What the words of a build ask for, after the command.
+fn building_text(
+    alloc: Global,
+    command: &str,
+    building: &Building<'_>,
+) -> Result<String, AllocError> {
+    let build_time = building.build_time.unwrap_or("none");
+    let run_time = building.run_time.unwrap_or("none");
+    let budget = building.budget;
+    let mut text = format!(in alloc; "{command} [{build_time}] [{run_time}] {budget}")?;
+    for file in &building.files {
         write!(text, " [{file}]")?;
     }
     Ok(text)

@@ -1,6 +1,7 @@
-//! Which objects of an image are reached, where the image is built of classes.
+//! Images that are built of classes: which objects of them are reached, their bytes, and runs from them.
 
 use crate::members::or_nothing;
+use crate::{image_bytes, image_runs};
 use built_in::class_id::ClassId;
 use cases::add_class_files;
 use cli::{BuildOptions, build_here};
@@ -8,7 +9,8 @@ use object_graph::{Image, NameSet, reachable};
 use std::alloc::{AllocError, Global};
 
 /// Given are classes. Asked is `reached BUDGET`, for the objects that some static field of their image reaches, each as
-/// its class and its number, and how many objects the image has. Each initializer may cost so much.
+/// its class and its number, and how many objects the image has. Each initializer may cost so much. What is asked of
+/// the bytes of their image stands in `src/image_bytes.rt`, and of runs from it in `src/image_runs.rt`.
 pub fn answer(alloc: Global, given: &str, asked: &str) -> Result<String, AllocError> {
     let mut files = Vec::new(alloc);
     let misspelled = add_class_files(alloc, &mut files, given)?;
@@ -17,7 +19,8 @@ pub fn answer(alloc: Global, given: &str, asked: &str) -> Result<String, AllocEr
     }
     match asked.split_once(' ') {
         Some(("reached", budget)) => reached(alloc, &files, budget.parse().unwrap_or(0)),
-        _ => String::from_str(alloc, "no question"),
+        Some(("turns" | "schedule", _)) => image_runs::answer(alloc, &files, asked),
+        _ => image_bytes::answer(alloc, &files, asked),
     }
 }
 

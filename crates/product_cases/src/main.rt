@@ -5,8 +5,8 @@
 //! `preinit` promises of its words, streams and statuses.
 //!
 //! A word that ends with `.class` names a class file, which is read and written back. One that ends with `/` has the
-//! class files since the last such word linked, and one with an entry, `=` and a file has them run, and compares what
-//! they show with that file. `report=` and a file compares the report of a build of them with that file.
+//! class files since the last such word linked, and one with an entry, `=` and a file has them run, and then an image of
+//! them, and compares what both show with that file. `report=` and a file compares the report of a build of them with that file.
 //!
 //! It prints a line for each word, and one for each answer that is not as it is wanted. Its status is 0 where all
 //! are.
@@ -18,6 +18,8 @@ mod codes;
 mod command_runs;
 mod commands;
 mod graphs;
+mod image_bytes;
+mod image_runs;
 mod images;
 mod members;
 mod patterns;
@@ -35,6 +37,7 @@ mod verdicts;
 
 use cases::{Subject, run_cases};
 use classfile::ClassFile;
+use image_runs::ShownFromImage;
 use rewriting::{add_class, rewritten};
 use std::alloc::{AllocError, Global};
 use std::io::{self, Write};
@@ -54,7 +57,7 @@ enum About {
     Commands,
     /// Graphs and their arrangements.
     Graphs,
-    /// Classes, and which objects of their image are reached.
+    /// Classes, and their image: which of its objects are reached, its bytes, and runs from it.
     Images,
     /// Classes, which of them the patterns of options are about, and what becomes of them at build time.
     Options,
@@ -146,7 +149,7 @@ fn do_folder<W: Write>(
     Ok(text.as_str() == "linked")
 }
 
-/// Writes whether a run of class files shows what is wanted, and what it shows where it does not.
+/// Writes whether runs of class files and of their image show what is wanted, and what they show where they do not.
 fn do_run<W: Write>(
     alloc: Global,
     out: &mut W,
@@ -156,13 +159,22 @@ fn do_run<W: Write>(
     wanted: &str,
 ) -> io::Result<bool> {
     let count = classes.len();
+    let from_image = image_runs::shown(alloc, &classes, entry)?;
     let shown = programs::shown(alloc, classes, entry)?;
-    if shown.as_str() == wanted {
-        writeln!(out, "{name}: {count} linked, shown as wanted")?;
-        return Ok(true);
+    if shown.as_str() != wanted {
+        writeln!(out, "{name}: {shown}")?;
+        return Ok(false);
     }
-    writeln!(out, "{name}: {shown}")?;
-    Ok(false)
+    let ShownFromImage { text, initialized } = from_image;
+    if text.as_str() != wanted {
+        writeln!(out, "{name}: from an image: {text}")?;
+        return Ok(false);
+    }
+    writeln!(
+        out,
+        "{name}: {count} linked, shown as wanted, as from an image with {initialized} initialized"
+    )?;
+    Ok(true)
 }
 
 /// Writes whether the report of a build of class files is what is wanted, and the report where it is not.

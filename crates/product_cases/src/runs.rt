@@ -8,7 +8,7 @@ use std::alloc::{AllocError, Global};
 use std::str::from_utf8;
 
 /// The name that a text spells.
-fn name_of(alloc: Global, text: &str) -> Result<ClassName, AllocError> {
+pub fn name_of(alloc: Global, text: &str) -> Result<ClassName, AllocError> {
     ClassName::from_modified_utf8(alloc, &modified_utf8(alloc, text)?)
 }
 
@@ -132,7 +132,8 @@ pub fn shown(alloc: Global, program: &Program, entry: &str) -> Result<String, Al
     }
 }
 
-fn shown_after(alloc: Global, program: &Program, world: World) -> Result<String, AllocError> {
+/// The same, from a world.
+pub fn shown_after(alloc: Global, program: &Program, world: World) -> Result<String, AllocError> {
     match turns(alloc, program, world, 100_000_000) {
         Ok((world, _)) => shown_of(alloc, &world),
         Err(error) => Err(error),

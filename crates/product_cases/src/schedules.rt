@@ -15,7 +15,8 @@ pub fn turned(alloc: Global, program: &Program, list: &str) -> Result<String, Al
     }
 }
 
-fn turned_on(alloc: Global, program: &Program, world: World) -> Result<String, AllocError> {
+/// A run of a world by turns.
+pub fn turned_on(alloc: Global, program: &Program, world: World) -> Result<String, AllocError> {
     match turns(alloc, program, world, 1_000_000) {
         Ok((world, schedule)) => turned_text(alloc, program, &world, &schedule),
         Err(error) => Err(error),
@@ -63,7 +64,8 @@ pub fn scheduled(alloc: Global, program: &Program, about: &str) -> Result<String
     }
 }
 
-fn scheduled_on(
+/// The same, from a world.
+pub fn scheduled_on(
     alloc: Global,
     program: &Program,
     world: &mut World,

@@ -1,0 +1,68 @@
+//! From an image's bytes to what a run of it by turns shows, and the start of the command `run`.
+
+use crate::lazy::{Shown, entries_of, shown_by_turns};
+use crate::{Files, Refusal, Run};
+use classfile::ClassName;
+use image_reader::{read, world};
+use init_engine::World;
+use object_graph::Image;
+use std::alloc::Global;
+
+/// An image, and what a run of it has shown.
+#[derive(Drop)]
+pub struct ImageRun {
+    pub image: Image,
+    pub shown: Shown,
+}
+
+/// Runs an image by turns, from its bytes: each entry's `main` in a thread of its own, the image's classes initialized
+/// from the start and each other class when a thread first needs it, for at most so many steps.
+///
+/// # Errors
+/// The first that holds of `Image` (the bytes are no image) and `Entry`; or `Memory`.
+pub fn run_image(
+    alloc: Global,
+    bytes: &[u8],
+    entries: &[ClassName],
+    limit: u64,
+) -> Result<ImageRun, Refusal> {
+    let ImageStart { image, world } = image_start(alloc, bytes, entries)?;
+    let shown = shown_by_turns(alloc, image.program(), world, limit)?;
+    Ok(ImageRun { image, shown })
+}
+
+/// An image, and the world that starts from it.
+#[derive(Drop)]
+pub(crate) struct ImageStart {
+    pub image: Image,
+    pub world: World,
+}
+
+/// The start from an image of these bytes.
+fn image_start(alloc: Global, bytes: &[u8], entries: &[ClassName]) -> Result<ImageStart, Refusal> {
+    match read(alloc, bytes) {
+        Ok(image) => match world(alloc, &image, entries) {
+            Ok(world) => Ok(ImageStart { image, world }),
+            Err(fault) => Err(Refusal::of_entry(fault)),
+        },
+        Err(fault) => Err(Refusal::of_image(fault)),
+    }
+}
+
+/// Reads the image, and answers the start from it, as the words say.
+///
+/// # Errors
+/// The first refusal: the file, the image, an entry, or memory.
+pub(crate) fn start<F: Files>(
+    alloc: Global,
+    words: &Run<'_>,
+    files: &mut F,
+) -> Result<ImageStart, Refusal> {
+    match files.get(words.image) {
+        Ok(bytes) => {
+            let entries = entries_of(alloc, words.entries)?;
+            image_start(alloc, bytes.as_slice(), entries.as_slice())
+        }
+        Err(fault) => Err(Refusal::of_file(alloc, words.image, fault)),
+    }
+}

@@ -1,0 +1,177 @@
+//! The commands of the program and their arguments.
+
+use crate::texts::{
+    BUILD_ABOUT, BUILD_LONG_ABOUT, LAZY_ABOUT, LAZY_LONG_ABOUT, PROGRAM_ABOUT, REPORT_ABOUT,
+    REPORT_LONG_ABOUT, RUN_ABOUT, RUN_LONG_ABOUT, STATUSES,
+};
+use clap::{Arg, ArgAction, Command, value_parser};
+use std::alloc::{AllocError, Global};
+
+/// What the initializer of each class may cost, where the words name no budget.
+const DEFAULT_BUDGET: &str = "1000000";
+
+/// The steps after which a run ends, where the words name no limit.
+const DEFAULT_LIMIT: &str = "100000000";
+
+const GREATEST_LIMIT: i64 = 1_000_000_000_000_000;
+
+/// The program with its commands.
+pub(crate) fn program<'a>(alloc: Global) -> Result<Command<'a>, AllocError> {
+    let program = with_commands_of_builds(alloc, described_program(alloc))?;
+    with_commands_of_runs(alloc, program)?.bin_name("preinit")
+}
+
+fn with_commands_of_builds<'a>(
+    alloc: Global,
+    program: Command<'a>,
+) -> Result<Command<'a>, AllocError> {
+    let build = build_command(alloc)?;
+    let report = report_command(alloc)?;
+    program.subcommand(build)?.subcommand(report)
+}
+
+fn with_commands_of_runs<'a>(
+    alloc: Global,
+    program: Command<'a>,
+) -> Result<Command<'a>, AllocError> {
+    let lazy = lazy_command(alloc)?;
+    let run = run_command(alloc)?;
+    program.subcommand(lazy)?.subcommand(run)
+}
+
+/// The program without its commands.
+fn described_program<'a>(alloc: Global) -> Command<'a> {
+    Command::new(alloc, "preinit")
+        .no_binary_name(true)
+        .about(PROGRAM_ABOUT)
+        .after_help(STATUSES)
+        .subcommand_required(true)
+        .arg_required_else_help(true)
+}
+
+fn build_command<'a>(alloc: Global) -> Result<Command<'a>, AllocError> {
+    let build = described(alloc, "build", BUILD_ABOUT, BUILD_LONG_ABOUT).arg(out(alloc))?;
+    with_building(alloc, build)
+}
+
+fn report_command<'a>(alloc: Global) -> Result<Command<'a>, AllocError> {
+    let report = described(alloc, "report", REPORT_ABOUT, REPORT_LONG_ABOUT);
+    with_building(alloc, report)
+}
+
+fn lazy_command<'a>(alloc: Global) -> Result<Command<'a>, AllocError> {
+    let lazy = described(alloc, "lazy", LAZY_ABOUT, LAZY_LONG_ABOUT);
+    with_entries(alloc, lazy)?.arg(file(alloc, "The class files to run, in any order"))
+}
+
+fn run_command<'a>(alloc: Global) -> Result<Command<'a>, AllocError> {
+    let run = described(alloc, "run", RUN_ABOUT, RUN_LONG_ABOUT);
+    with_entries(alloc, run)?.arg(turns(alloc))?.arg(image(alloc))
+}
+
+/// A command without its arguments.
+fn described<'a>(
+    alloc: Global,
+    name: &'a str,
+    about: &'a str,
+    long_about: &'a str,
+) -> Command<'a> {
+    Command::new(alloc, name)
+        .about(about)
+        .long_about(long_about)
+        .after_help(STATUSES)
+}
+
+/// A command with the arguments of a build: its options and class files.
+fn with_building<'a>(alloc: Global, command: Command<'a>) -> Result<Command<'a>, AllocError> {
+    with_lists(alloc, command)?
+        .arg(budget(alloc))?
+        .arg(file(alloc, "The class files, in any order"))
+}
+
+/// A command with the two lists of a build.
+fn with_lists<'a>(alloc: Global, command: Command<'a>) -> Result<Command<'a>, AllocError> {
+    command.arg(build_time(alloc))?.arg(run_time(alloc))
+}
+
+/// A command with the entries and the limit of a run.
+fn with_entries<'a>(alloc: Global, command: Command<'a>) -> Result<Command<'a>, AllocError> {
+    command.arg(entries(alloc))?.arg(limit(alloc))
+}
+
+fn out<'a>(alloc: Global) -> Arg<'a> {
+    Arg::new(alloc, "out")
+        .long("out")
+        .value_name("IMG")
+        .required(true)
+        .help("The file that gets the image")
+}
+
+fn entries<'a>(alloc: Global) -> Arg<'a> {
+    Arg::new(alloc, "entries")
+        .long("entries")
+        .value_name("LIST")
+        .required(true)
+        .help(
+            "Classes whose main methods are run, with dots, separated by commas, as 'app.Main,app.Other'",
+        )
+}
+
+fn limit<'a>(alloc: Global) -> Arg<'a> {
+    Arg::new(alloc, "limit")
+        .long("limit")
+        .value_name("N")
+        .default_value(DEFAULT_LIMIT)
+        .value_parser(value_parser!(u64).range(1..=GREATEST_LIMIT))
+        .help("Ends the run after this many steps, from 1 to 10^15")
+}
+
+fn turns<'a>(alloc: Global) -> Arg<'a> {
+    Arg::new(alloc, "turns")
+        .long("turns")
+        .action(ArgAction::SetTrue)
+        .required(true)
+        .help("Runs by turns: in each round every thread takes one step")
+}
+
+fn image<'a>(alloc: Global) -> Arg<'a> {
+    Arg::new(alloc, "image")
+        .value_name("IMG")
+        .required(true)
+        .help("The image to run")
+}
+
+fn file<'a>(alloc: Global, help: &'a str) -> Arg<'a> {
+    Arg::new(alloc, "file")
+        .value_name("FILE")
+        .num_args(0..)
+        .help(help)
+}
+
+fn build_time<'a>(alloc: Global) -> Arg<'a> {
+    Arg::new(alloc, "build_time")
+        .long("initialize-at-build-time")
+        .value_name("LIST")
+        .help(
+            "Classes and packages, with dots, separated by commas, that have to be initialized at build time; with \
+             their superclasses",
+        )
+}
+
+fn run_time<'a>(alloc: Global) -> Arg<'a> {
+    Arg::new(alloc, "run_time")
+        .long("initialize-at-run-time")
+        .value_name("LIST")
+        .help("The same that are initialized at run time, whatever they do; with their subclasses")
+}
+
+fn budget<'a>(alloc: Global) -> Arg<'a> {
+    Arg::new(alloc, "budget")
+        .long("budget")
+        .value_name("N")
+        .default_value(DEFAULT_BUDGET)
+        .value_parser(value_parser!(u64))
+        .help(
+            "What each initializer may cost, in instructions and elements of new arrays, from 1 to 10^9",
+        )
+}

@@ -1,0 +1,84 @@
+//! What the help says of the program and its commands.
+
+pub(crate) const PROGRAM_ABOUT: &str = "\
+Makes images of Java class files of version 52 (Java 8), in which classes are initialized already, and runs such images
+and class files, by single steps of their threads.";
+
+pub(crate) const STATUSES: &str = "\
+Exit status:
+  0  done: the image is written, the report is told, or all threads returned
+  1  refused: a class file, the classes together, an image, an entry, an option of a build, or memory
+  2  the command line is wrong
+  3  a file or standard output failed
+  4  stuck: no thread has a step, and one has not ended
+  5  the limit was reached, and a thread still has a step
+  6  all threads ended, and not all of them returned
+
+A refusal is one line on standard error, 'preinit: ' and its name.";
+
+pub(crate) const BUILD_ABOUT: &str = "\
+Makes an image of class files, in which classes are initialized already";
+
+pub(crate) const BUILD_LONG_ABOUT: &str = "\
+Makes an image of class files: runs the initializer of each class that may be initialized before the program is run,
+alone and within a budget, and writes the classes and what these initializers left to a file. 'preinit report' tells
+which classes these are, and why the others are not. A run from the image shows what a run of the class files shows.
+
+Standard output gets nothing. The image is the same whatever the order of the class files. Where it can't be written,
+the file is named as it was given: 'preinit: File app.img'. So is a class file that is no shorter than 2^32 bytes.
+
+For example: preinit build --out app.img app/Main.class app/Table.class";
+
+pub(crate) const LAZY_ABOUT: &str = "\
+Runs class files by turns, each class initialized when it is first needed";
+
+pub(crate) const LAZY_LONG_ABOUT: &str = "\
+Runs the main method of each entry class in a thread of its own, by turns: in each round every thread takes one step,
+in the order of the list. A class is initialized when a thread first needs it.
+
+Standard output gets what the program prints. Then standard error gets a line for each thread:
+  thread 0 returned             its main method returned
+  thread 0 uncaught CLASS       it ended by an exception of this class
+  thread 0 faulted KIND         it met a fault: Fault, Unsupported (the instruction is left out here)
+                                or Missing (a class or member that is not there)
+  thread 0 going                it has not ended: the run is stuck, or came to its limit
+
+A class file at fault is named by its place among the files, from 0, and an entry at fault by its place in the list.
+
+For example: preinit lazy --entries app.Main app/Main.class app/Table.class";
+
+pub(crate) const REPORT_ABOUT: &str = "\
+Tells which classes can be initialized at build time, and why the others can't";
+
+pub(crate) const REPORT_LONG_ABOUT: &str = "\
+Builds in memory: runs the initializer of each class that may be initialized before the program is run, alone and
+within a budget. A class may, where its code does nothing that another class or a user could see, and where all classes
+that it uses are initialized before it.
+
+Standard output gets a line for each class, in the order of their names:
+  app/Table build 0 12              initialized at build time, in wave 0; its initializer made 12 objects
+  app/Main run Prints               initialized at run time, since its initializer may print
+The other reasons: Forced (by an option), Throws, Monitors, ForeignWrite, ForeignRead (a field of another class that is
+not final), Unsupported, Missing, Cycle, DependsOn CLASS (a class that it uses is initialized at run time), and of the
+run of its initializer Raised (an exception, also one that is caught), ForeignObject (it looks into an object of
+another class), Budget and Faulted.
+
+An option's fault is told by its text: Empty and the place of an item, Unknown and the item, Both and a class that is
+asked for at both times, Demanded and a class that can't be initialized at build time, with the reason.
+
+For example: preinit report --initialize-at-run-time app.log app/Main.class app/Table.class";
+
+pub(crate) const RUN_ABOUT: &str = "\
+Runs an image that 'preinit build' wrote, by turns";
+
+pub(crate) const RUN_LONG_ABOUT: &str = "\
+Runs the main method of each entry class in a thread of its own, from an image: the classes that are initialized in it
+are so from the start, with what their initializers left. Any other class is initialized when a thread first needs it.
+What standard output and standard error get is as for 'preinit lazy'.
+
+By turns means: in each round every thread takes one step, in the order of the list. There is no other way yet.
+
+What is wrong with an image is told by its text: Truncated, Magic, Version, Digest, Class and a class file with its
+fault, Link, Order, Shape and Name with a class, and Extra.
+
+For example: preinit run --turns --entries app.Main app.img";
