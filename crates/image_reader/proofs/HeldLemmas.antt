@@ -146,6 +146,24 @@ other_of [] x d (suc k) other = refl
 other_of (y ∷ ys) x d zero other = refl
 other_of (y ∷ ys) x d (suc k) other = other_of ys x d k (λ e. other (ap suc e))
 
+pub next_field : (vs : List Value) (i : ℕ) (d : Value) → i < length vs
+    → with_value (field_in (take i vs)) i (get_or vs i d) ≡ field_in (take (i + 1) vs)
+next_field vs i d within = fun_ext (λ k. by k (tested (k == i)))
+  where
+    count : length (take i vs) ≡ i
+    count = length-take-le i vs (omega (arith, within))
+
+    by : (k : ℕ) → ((k == i) ≡ true) ⊎ ((k == i) ≡ false)
+        → with_value (field_in (take i vs)) i (get_or vs i d) k ≡ field_in (take (i + 1) vs) k
+    by k (inl same) =
+        let at : k ≡ i = eqb-true k i same in
+        rw (same, take_more vs i d within)
+        (sym (ap (λ (n : ℕ). get_or (take i vs ++ get_or vs i d ∷ []) n machine.Null) (at ∙ sym count)
+        ∙ get_or-append_seam (take i vs) (get_or vs i d) [] machine.Null))
+    by k (inr apart) =
+        let other : k ≢ length (take i vs) = λ e. unequal k i apart (e ∙ count) in
+        rw (apart, take_more vs i d within) (sym (other_of (take i vs) (get_or vs i d) machine.Null k other))
+
 pub all_fields : (S : List (List ℕ)) (told : List ImageValue) (vs : List Value) → HoldsValues S told vs
     → HoldsFields S told (field_in vs)
 all_fields S [] [] holds k = refl

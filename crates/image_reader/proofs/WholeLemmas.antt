@@ -209,6 +209,7 @@ elements_are elements.Float vs has fit = absurd cc
 elements_are elements.Double vs has fit = absurd cc
 elements_are (elements.Given c) vs has fit = fit
 elements_are (elements.BuiltIn b) vs has fit = fit
+elements_are (elements.Unknown n) vs has fit = fit
 
 components_are : (a : ArrayType) (vs : List Value) → has_values (kind_of_elements a) ≡ true
     → AllByRecursion (λ v. suits (kind_of_elements a) v ≡ true) vs → AreElements (kind_of_component a) vs
@@ -239,7 +240,7 @@ module _ (P : Tables) where
           → HasInstances P class
       by (classes.Given c) has short = has
       by (classes.BuiltIn b) has short = built_in_has b has
-      by (classes.Array a) has short = (has.some, array_has P.family a has short)
+      by (classes.Array a) has short = inl (has.some, array_has P.family a has short)
 
   slots_are : (class : ClassId) (told : List ImageValue) (vs : List Value) → HasObjects P.family class
       → AreSlots P.family class told → HoldsValues P.strings told vs → HaveSlots P class vs

@@ -72,6 +72,21 @@ pub(crate) fn held_values(
     Ok(held)
 }
 
+/// Static fields with these values. No class has so many that 32 bits do not count them.
+fn fields_of(alloc: Global, values: &[Value]) -> Result<Fields, AllocError>
+    ensures { IfOk result (λ fields. field_in fields ≡ field_in values.now) }
+{
+    let Ok(count) = u32::try_from(values.len()) else {
+        return Err(AllocError);
+    };
+    let mut fields = Fields::new(alloc);
+    fields.keep(values.len())?;
+    for field in 0..count {
+        fields.set(field, values[field as usize])?;
+    }
+    Ok(fields)
+}
+
 /// The values of static fields, in order.
 pub(crate) fn held_fields(
     alloc: Global,
@@ -83,5 +98,5 @@ pub(crate) fn held_fields(
     ensures adds { OnOk result (AddsStrings program.old program.new) }
 {
     let held = held_values(alloc, program, values)?;
-    Ok(Fields::of_vec(held))
+    fields_of(alloc, &held)
 }

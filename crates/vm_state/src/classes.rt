@@ -95,13 +95,6 @@ impl Fields {
         }
     }
 
-    /// These values, which are not copied.
-    pub fn of_vec(values: Vec<Value>) -> Fields
-        ensures { result ≡ values.items }
-    {
-        Fields { values }
-    }
-
     /// The fields of a class before its initialization.
     ///
     /// # Errors
