@@ -1,14 +1,16 @@
 -- What the machine holds stays held as strings come in, and grows value by value.
-use Rattle.std.proofs.Common.{◌≡◌, ◌≢◌, ◌∙◌, ◌⊎◌, inl, inr, ℕ, zero, suc, ◌+◌, ◌<◌, ◌^◌, ◌==◌, true, false}
+use Rattle.std.proofs.Common.{◌≡◌, ◌≢◌, ◌∙◌, ◌⊎◌, inl, inr, ℕ, zero, suc, ◌+◌, ◌/◌, ◌%◌, ◌<◌, ◌≤◌, ◌==◌}
+use Rattle.std.proofs.Common.{Bool, true, false, ◌&&◌, nat_lt, if◌then◌else◌}
 use Rattle.std.proofs.Common.{List, [], ◌∷◌, ◌++◌, length, take, get_or, Option, Some, None, slice_get, option_map}
 use Rattle.std.proofs.Common.{refl, sym, ap, subst, arith, append_assoc, append-nil, length-append, eqb-true, eq-eqb}
 use Rattle.std.proofs.Math.Path.{fun_ext}
 use Rattle.std.proofs.Math.Seq.{get_or-append_seam}
 use Rattle.std.specs.List.{All, AllZip}
 use Rattle.std.proofs.lemmas.List.{take_more, length-take-le, get_or_past}
+use Rattle.std.proofs.lemmas.List.Concat.{flat_map-cons}
 use Rattle.std.proofs.lemmas.List.Elements.{All-nil, All-cons, All-weaker}
 use Rattle.std.proofs.lemmas.Slice.Zip.{all_zipped_more}
-use Rattle.classfile.specs.Units.{units_text}
+use Rattle.classfile.specs.Units.{unit_text, units_text}
 use Rattle.vm_state.specs.declared.object.Object.{Object}
 use Rattle.vm_state.specs.declared.object.Monitor.TheVariants.{Free}
 use Rattle.vm_state.specs.declared.value.Value.{Value}
@@ -29,14 +31,16 @@ use Rattle.program.specs.Tables.{Tables}
 use Rattle.evaluator.specs.declared.regions.Region.{Region as Held}
 use Rattle.evaluator.specs.Regions.{environment_of, region_of, with_region, region_in as region_held}
 use Rattle.image_format.specs.Elements.{kind_of_elements}
+use Rattle.image_format.specs.declared.object.ImageClass.{ImageClass}
+use Rattle.image_format.specs.declared.object.ImageClass.TheVariants as image
 use Rattle.image_format.specs.declared.object.ImageObject.{ImageObject}
 use Rattle.image_format.specs.declared.region.ImageRegion.{ImageRegion}
 use Rattle.image_format.specs.declared.value.ImageValue.{ImageValue}
 use Rattle.image_format.specs.declared.value.ImageValue.TheVariants as values
 use Rattle.image_format.specs.Images.{region_in}
-use Rattle.image_format.specs.Shapes.{AreSlots, AreUnits, Suits}
+use Rattle.image_format.specs.Shapes.{AreKnownSlots, AreSlots, AreUnits, Suits}
 use Rattle.image_reader.specs.steps.Held.{AddsStrings, HasUnits, HoldsValue, HoldsValues, HoldsField}
-use Rattle.image_reader.specs.steps.Held.{HoldsFields}
+use Rattle.image_reader.specs.steps.Held.{HoldsFields, HoldsType}
 use Rattle.image_reader.specs.steps.Held.{HoldsObject, HoldsNumber, HoldsObjects, HoldsRegion, HoldsClass}
 use Rattle.image_reader.specs.steps.Held.{HoldsRegions}
 
@@ -91,9 +95,23 @@ module _ (S T added : List (List ℕ)) (grown : T ≡ S ++ added) where
       → HoldsFields T told fields
   fields_kept told fields holds k = field_kept (slice_get told k) (fields k) (holds k)
 
+  pub type_kept : (told : ImageClass) (class : ClassId) → HoldsType S told class → HoldsType T told class
+  type_kept (image.Known told) class holds = holds
+  type_kept (image.UnknownArray dimensions name) class holds = record {
+    element = holds.element;
+    holds = record {
+      number = holds.holds.number;
+      named =
+          subst (λ (strings : List (List ℕ)). slice_get strings holds.holds.number ≡ Some name) (sym grown)
+          (at_front S added holds.holds.number name holds.holds.named);
+      is = holds.holds.is;
+    };
+    is = holds.is;
+  }
+
   object_kept : (told : ImageObject) (object : Object) → HoldsObject S told object → HoldsObject T told object
   object_kept told object holds = record {
-    class = holds.class;
+    class = type_kept told.class object.class holds.class;
     slots = values_kept told.slots object.slots holds.slots;
     monitor = holds.monitor;
   }
@@ -189,7 +207,7 @@ pub no_objects : (S : List (List ℕ)) → HoldsObjects S [] (pool_by empty_row)
 no_objects S = record { count = refl; each = λ n. refl }
 
 pub next_object : (S : List (List ℕ)) (told : List ImageObject) (t : ImageObject) (pool : Pool) (class : ClassId)
-    (slots : List Value) → HoldsObjects S told pool → class ≡ t.class → HoldsValues S t.slots slots
+    (slots : List Value) → HoldsObjects S told pool → HoldsType S t.class class → HoldsValues S t.slots slots
     → HoldsObjects S (told ++ t ∷ []) (with_new pool class slots)
 next_object S told t pool class slots objects named holds = record {
   count = omega (arith, objects.count, length-append told (t ∷ []));
@@ -280,9 +298,38 @@ values_units (kind ∷ kinds) [] suits = absurd suits
 values_units (kind ∷ kinds) (t ∷ told) suits =
     All-cons HasUnits t told (value_units kind t suits.0) (values_units kinds told suits.1)
 
-pub slots_units : (family : Family) (class : ClassId) (told : List ImageValue) → AreSlots family class told
+known_units : (family : Family) (class : ClassId) (told : List ImageValue) → AreKnownSlots family class told
     → All HasUnits told
-slots_units family (classes.Given c) told slots = values_units (slots_of family c) told slots
-slots_units family (classes.BuiltIn b) told slots = rw slots (All-nil HasUnits)
-slots_units family (classes.Array a) told slots =
+known_units family (classes.Given c) told slots = values_units (slots_of family c) told slots
+known_units family (classes.BuiltIn b) told slots = rw slots (All-nil HasUnits)
+known_units family (classes.Array a) told slots =
     All-weaker (Suits (kind_of_elements a)) HasUnits (value_units (kind_of_elements a)) told slots.1
+
+pub slots_units : (family : Family) (class : ImageClass) (told : List ImageValue) → AreSlots family class told
+    → All HasUnits told
+slots_units family (image.Known class) told slots = known_units family class told slots
+slots_units family (image.UnknownArray dimensions name) told slots =
+    All-weaker (Suits kinds.Reference) HasUnits (value_units kinds.Reference) told slots.1
+
+-- a text has no more units than bytes
+
+unit_long : (u : ℕ) → 1 ≤ length (unit_text u)
+unit_long u = by (nat_lt 0 u && nat_lt u 128) (nat_lt u 2048)
+  where
+    by : (ascii wide : Bool) → 1 ≤ length (if ascii then u ∷ [] else
+        (if wide then (192 + u / 64) ∷ (128 + u % 64) ∷ [] else
+        (224 + u / 4096) ∷ (128 + u / 64 % 64) ∷ (128 + u % 64) ∷ []))
+    by true wide = omega arith
+    by false true = omega arith
+    by false false = omega arith
+
+pub units_short : (units : List ℕ) → length units ≤ length (units_text units)
+units_short [] = omega arith
+units_short (u ∷ us) =
+    omega (
+      arith,
+      ap length (flat_map-cons unit_text u us),
+      length-append (unit_text u) (units_text us),
+      unit_long u,
+      units_short us,
+    )

@@ -1,6 +1,6 @@
 -- What the machine holds tells what the image's text says.
 use Rattle.std.proofs.Common.{◌≡◌, ◌∙◌, ℕ, suc, ◌+◌, ◌<◌, List, [], ◌∷◌, ◌++◌, length, map, get_or, Option, Some, None}
-use Rattle.std.proofs.Common.{slice_get, option_map, refl, sym, ap, ap₂, subst, arith, add-zero}
+use Rattle.std.proofs.Common.{true, is_some, slice_get, option_map, refl, sym, ap, ap₂, subst, arith, add-zero}
 use Rattle.std.specs.List.{All, AllZip, flat_map, range_with_len}
 use Rattle.std.specs.Option.{option_to_list}
 use Rattle.std.proofs.lemmas.List.FromFn.{fill_by_all}
@@ -9,7 +9,12 @@ use Rattle.std.proofs.lemmas.Option.{get_or_from_slice_get, slice_get-get_or}
 use Rattle.std.proofs.lemmas.Slice.Zip.{AllZip-long}
 use Rattle.classfile.specs.Printing.{units_of}
 use Rattle.classfile.proofs.PrintingLemmas.{units_of-units_text}
+use Rattle.built_in.specs.declared.class_id.ArrayType.{ArrayType}
 use Rattle.built_in.specs.declared.class_id.ClassId.{ClassId}
+use Rattle.built_in.specs.declared.class_id.ClassId.TheVariants as classes
+use Rattle.built_in.specs.declared.class_id.ElementType.{ElementType}
+use Rattle.built_in.specs.declared.class_id.ElementType.TheVariants as elements
+use Rattle.loading.specs.ClassIds.{element_text}
 use Rattle.loading.specs.Families.{Family}
 use Rattle.vm_state.specs.declared.object.Object.{Object}
 use Rattle.vm_state.specs.declared.value.Value.{Value}
@@ -17,15 +22,18 @@ use Rattle.vm_state.specs.SharedState.{Pool, Region}
 use Rattle.semantics.specs.Quiet.{Environment}
 use Rattle.program.specs.InstanceFields.{static_kinds}
 use Rattle.program.specs.Tables.{Tables, statics_in}
+use Rattle.image_format.specs.declared.object.ImageClass.{ImageClass}
+use Rattle.image_format.specs.declared.object.ImageClass.TheVariants as image
 use Rattle.image_format.specs.declared.object.ImageObject.{ImageObject}
 use Rattle.image_format.specs.declared.region.ImageRegion.{ImageRegion}
 use Rattle.image_format.specs.declared.value.ImageValue.{ImageValue}
 use Rattle.image_format.specs.declared.value.ImageValue.TheVariants as values
 use Rattle.image_format.specs.Images.{AreRegions, region_in}
-use Rattle.image_format.specs.Shapes.{HasShape, ObjectHasShape, Suits}
-use Rattle.image_format.specs.Told.{told_value, told_object, told_if, told_objects, told_fields, told_region, told_regions}
+use Rattle.image_format.specs.Shapes.{HasObjects, HasShape, KnownHasObjects, ObjectHasShape, Suits}
+use Rattle.image_format.specs.Told.{told_array, told_class, told_value, told_if}
+use Rattle.image_format.specs.Told.{ told_objects, told_fields, told_region, told_regions}
 use Rattle.image_reader.specs.steps.Held.{HasUnits, HoldsValue, HoldsValues, HoldsField, HoldsFields, HoldsObject}
-use Rattle.image_reader.specs.steps.Held.{HoldsNumber, HoldsObjects, HoldsRegion, HoldsClass, HoldsRegions}
+use Rattle.image_reader.specs.steps.Held.{HoldsNumber, HoldsObjects, HoldsRegion, HoldsClass, HoldsRegions, HoldsType}
 use Rattle.image_reader.proofs.HeldLemmas.{values_units, slots_units}
 use Rattle.image_reader.proofs.ClassesLemmas.{is_in}
 
@@ -65,8 +73,26 @@ module _ (S : List (List ℕ)) where
 
   -- ---- objects
 
-  abbrev object : ClassId → List ImageValue → ImageObject
+  abbrev object : ImageClass → List ImageValue → ImageObject
   object class slots = record { class = class; slots = slots }
+
+  array_told : (family : Family) (a : ArrayType) (element : ElementType) → is_some (element_text family element) ≡ true
+      → told_array S a element ≡ image.Known (classes.Array a)
+  array_told family a (elements.Unknown n) some = absurd cc
+  array_told family a element some = refl
+
+  known_told : (family : Family) (class : ClassId) → KnownHasObjects family class → told_class S class ≡ image.Known class
+  known_told family (classes.Array a) has = array_told family a a.element has.element
+  known_told family (classes.Given c) has = refl
+  known_told family (classes.BuiltIn b) has = refl
+
+  type_told : (family : Family) (told : ImageClass) (class : ClassId) → HasObjects family told → HoldsType S told class
+      → told_class S class ≡ told
+  type_told family (image.Known told) class has holds = ap (told_class S) holds ∙ known_told family told has
+  type_told family (image.UnknownArray dimensions name) class has holds =
+      ap (told_class S) holds.is
+      ∙ ap (told_array S (record { dimensions = dimensions; element = holds.element })) holds.holds.is
+      ∙ ap (image.UnknownArray dimensions) (get_or_from_slice_get S holds.holds.number name [] holds.holds.named)
 
   number_told : (family : Family) (t : Option ImageObject) (o : Option Object)
       → ((x : ImageObject) → t ≡ Some x → ObjectHasShape family x) → HoldsNumber S t o → told_if S o ≡ option_to_list t
@@ -74,7 +100,8 @@ module _ (S : List (List ℕ)) where
   number_told family (Some t) None shape holds = absurd holds
   number_told family (Some t) (Some o) shape holds =
       ap (λ (x : ImageObject). x ∷ [])
-      (ap₂ object holds.class (values_told t.slots o.slots (slots_units family t.class t.slots (shape t refl).slots) holds.slots))
+      (ap₂ object (type_told family t.class o.class (shape t refl).class holds.class)
+      (values_told t.slots o.slots (slots_units family t.class t.slots (shape t refl).slots) holds.slots))
 
   told_from : (at : ℕ → Option Object) (told : List ImageObject) (a : ℕ)
       → ((k : ℕ) → told_if S (at (a + k)) ≡ option_to_list (slice_get told k))

@@ -18,7 +18,7 @@ use Rattle.built_in.specs.declared.class_id.ClassId.{ClassId}
 use Rattle.built_in.specs.declared.class_id.ClassId.TheVariants as classes
 use Rattle.built_in.specs.declared.class_id.ElementType.{ElementType}
 use Rattle.built_in.specs.declared.class_id.ElementType.TheVariants as elements
-use Rattle.loading.specs.ClassIds.{element_text}
+use Rattle.loading.specs.ClassIds.{element_text, object_type}
 use Rattle.loading.specs.Families.{Family}
 use Rattle.vm_state.specs.declared.object.Object.{Object}
 use Rattle.vm_state.specs.declared.value.Value.{Value}
@@ -42,16 +42,19 @@ use Rattle.region_shape.specs.Shapes.{ObjectHasShape as IsShaped, HasShape as Re
 use Rattle.region_shape.specs.Counts.{count_of as seen_count, is_there, NamesObjects as Names, AreClosed}
 use Rattle.region_shape.specs.Wholes.{AreWhole}
 use Rattle.object_graph.specs.Images.{AreSmall}
+use Rattle.image_format.specs.declared.object.ImageClass.{ImageClass}
+use Rattle.image_format.specs.declared.object.ImageClass.TheVariants as image
 use Rattle.image_format.specs.declared.object.ImageObject.{ImageObject}
 use Rattle.image_format.specs.declared.region.ImageRegion.{ImageRegion}
 use Rattle.image_format.specs.declared.value.ImageValue.{ImageValue}
 use Rattle.image_format.specs.declared.value.ImageValue.TheVariants as values
 use Rattle.image_format.specs.Elements.{kind_of_type, kind_of_elements}
-use Rattle.image_format.specs.Names.{class_name}
+use Rattle.image_format.specs.Names.{class_name, name_of_class}
 use Rattle.image_format.specs.Images.{AreRegions, IsThere, NamesObjects, count_of, region_in}
-use Rattle.image_format.specs.Shapes.{Suits, IsArrayType, HasObjects, AreSlots, ObjectHasShape, HasShape, has_objects, has_values}
+use Rattle.image_format.specs.Shapes.{Suits, IsArrayType, IsArrayOfUnknown, HasObjects, KnownHasObjects, AreSlots}
+use Rattle.image_format.specs.Shapes.{AreKnownSlots, ObjectHasShape, HasShape, has_objects, has_values}
 use Rattle.image_reader.specs.steps.Held.{HoldsValue, HoldsValues, HoldsField, HoldsFields, HoldsObject, HoldsNumber}
-use Rattle.image_reader.specs.steps.Held.{HoldsObjects, HoldsRegion, HoldsClass, HoldsRegions}
+use Rattle.image_reader.specs.steps.Held.{HoldsArray, HoldsType, HoldsObjects, HoldsRegion, HoldsClass, HoldsRegions}
 use Rattle.image_reader.proofs.ClassesLemmas.{is_in, place_of}
 
 -- ---- values
@@ -233,30 +236,67 @@ array_has family a is short =
         (omega (arith, few, length-append (replicate a.dimensions 91) text, length-replicate {A = ℕ} a.dimensions 91))
 
 module _ (P : Tables) where
-  class_has : (t : ImageObject) → ObjectHasShape P.family t → HasInstances P t.class
-  class_has t shape = by t.class shape.class shape.name
-    where
-      by : (class : ClassId) → HasObjects P.family class → length (class_name P.family class) < 2 ^ 16
-          → HasInstances P class
-      by (classes.Given c) has short = has
-      by (classes.BuiltIn b) has short = built_in_has b has
-      by (classes.Array a) has short = inl (has.some, array_has P.family a has short)
+  -- an array of a class that is neither given nor built in
+  unknown_has : (dimensions : ℕ) (name : List ℕ) (class : ClassId) → IsArrayOfUnknown P.family dimensions name
+      → length (replicate dimensions 91 ++ object_type name) < 2 ^ 16 → HoldsArray P.strings dimensions name class
+      → HasInstances P class
+  unknown_has dimensions name class is short holds =
+      subst (HasInstances P) (sym holds.is) (inr (record {
+        number = holds.holds.number;
+        name = name;
+        element = holds.holds.is;
+        named = holds.holds.named;
+        unknown = is.unknown;
+        least = is.least;
+        most = is.most;
+        short =
+            le-leb (dimensions + length (object_type name)) 65535
+            (omega (arith, short, length-append (replicate dimensions 91) (object_type name),
+            length-replicate {A = ℕ} dimensions 91));
+      }))
 
-  slots_are : (class : ClassId) (told : List ImageValue) (vs : List Value) → HasObjects P.family class
-      → AreSlots P.family class told → HoldsValues P.strings told vs → HaveSlots P class vs
-  slots_are (classes.Given c) told vs has fits holds = values_suit P.strings (slots_of P.family c) told vs fits holds
-  slots_are (classes.BuiltIn b) [] [] has fits holds = refl
-  slots_are (classes.BuiltIn b) [] (v ∷ vs) has fits holds = absurd holds
-  slots_are (classes.BuiltIn b) (t ∷ told) vs has fits holds = absurd cc
-  slots_are (classes.Array a) told vs has fits holds =
+  known_has : (class : ClassId) → KnownHasObjects P.family class → length (class_name P.family class) < 2 ^ 16
+      → HasInstances P class
+  known_has (classes.Given c) has short = has
+  known_has (classes.BuiltIn b) has short = built_in_has b has
+  known_has (classes.Array a) has short = inl (has.some, array_has P.family a has short)
+
+  type_has : (told : ImageClass) (class : ClassId) → HasObjects P.family told
+      → length (name_of_class P.family told) < 2 ^ 16 → HoldsType P.strings told class → HasInstances P class
+  type_has (image.Known told) class has short holds = subst (HasInstances P) (sym holds) (known_has told has short)
+  type_has (image.UnknownArray dimensions name) class has short holds = unknown_has dimensions name class has short holds
+
+  known_slots : (class : ClassId) (told : List ImageValue) (vs : List Value) → KnownHasObjects P.family class
+      → AreKnownSlots P.family class told → HoldsValues P.strings told vs → HaveSlots P class vs
+  known_slots (classes.Given c) told vs has fits holds = values_suit P.strings (slots_of P.family c) told vs fits holds
+  known_slots (classes.BuiltIn b) [] [] has fits holds = refl
+  known_slots (classes.BuiltIn b) [] (v ∷ vs) has fits holds = absurd holds
+  known_slots (classes.BuiltIn b) (t ∷ told) vs has fits holds = absurd cc
+  known_slots (classes.Array a) told vs has fits holds =
       components_are a vs has.elements (elements_suit P.strings (kind_of_elements a) told vs fits.1 holds)
+
+  references_are : (a : ArrayType) (n : ℕ) (vs : List Value) → a.element ≡ elements.Unknown n
+      → AllByRecursion (λ v. suits kinds.Reference v ≡ true) vs → AreElements (kind_of_component a) vs
+  references_are a n vs unknown fit = by (tested (ltb 1 a.dimensions))
+    where
+      by : (ltb 1 a.dimensions ≡ true) ⊎ (ltb 1 a.dimensions ≡ false) → AreElements (kind_of_component a) vs
+      by (inl more) = rw more fit
+      by (inr one) = rw one (rw unknown fit)
+
+  slots_are : (told : ImageClass) (class : ClassId) (ts : List ImageValue) (vs : List Value) → HasObjects P.family told
+      → AreSlots P.family told ts → HoldsType P.strings told class → HoldsValues P.strings ts vs
+      → HaveSlots P class vs
+  slots_are (image.Known told) class ts vs has fits named holds =
+      subst (λ (x : ClassId). HaveSlots P x vs) (sym named) (known_slots told ts vs has fits holds)
+  slots_are (image.UnknownArray dimensions name) class ts vs has fits named holds =
+      subst (λ (x : ClassId). HaveSlots P x vs) (sym named.is)
+      (references_are (record { dimensions = dimensions; element = named.element }) named.holds.number vs named.holds.is
+      (elements_suit P.strings kinds.Reference ts vs fits.1 holds))
 
   object_shaped : (t : ImageObject) (o : Object) → ObjectHasShape P.family t → HoldsObject P.strings t o → IsShaped P o
   object_shaped t o shape holds = record {
-    class = subst (HasInstances P) (sym holds.class) (class_has t shape);
-    slots =
-        subst (λ (class : ClassId). HaveSlots P class o.slots) (sym holds.class)
-        (slots_are t.class t.slots o.slots shape.class shape.slots holds.slots);
+    class = type_has t.class o.class shape.class shape.name holds.class;
+    slots = slots_are t.class o.class t.slots o.slots shape.class shape.slots holds.class holds.slots;
     monitor = holds.monitor;
   }
 
@@ -394,14 +434,22 @@ module _ (P : Tables) (told : List (Option ImageRegion)) (env : Environment) (fi
 
   few_elements : (t : ImageObject) (o : Object) → ObjectHasShape P.family t → HoldsObject P.strings t o
       → elements_in o.class o.slots < 2 ^ 31
-  few_elements t o shape held =
-      subst (λ (class : ClassId). elements_in class o.slots < 2 ^ 31) (sym held.class) (by t.class shape.slots)
+  few_elements t o shape held = by t.class o.class shape.slots held.class
     where
-      by : (class : ClassId) → AreSlots P.family class t.slots → elements_in class o.slots < 2 ^ 31
-      by (classes.Given c) slots = omega arith
-      by (classes.BuiltIn b) slots = omega arith
-      by (classes.Array a) slots =
-          omega (arith, slots.0, AllZip-long (HoldsValue P.strings) t.slots o.slots held.slots)
+      long : length o.slots ≡ length t.slots
+      long = AllZip-long (HoldsValue P.strings) t.slots o.slots held.slots
+
+      known : (class : ClassId) → AreKnownSlots P.family class t.slots → elements_in class o.slots < 2 ^ 31
+      known (classes.Given c) slots = omega arith
+      known (classes.BuiltIn b) slots = omega arith
+      known (classes.Array a) slots = omega (arith, slots.0, long)
+
+      by : (told : ImageClass) (class : ClassId) → AreSlots P.family told t.slots → HoldsType P.strings told class
+          → elements_in class o.slots < 2 ^ 31
+      by (image.Known told) class slots named =
+          subst (λ (x : ClassId). elements_in x o.slots < 2 ^ 31) (sym named) (known told slots)
+      by (image.UnknownArray dimensions name) class slots named =
+          subst (λ (x : ClassId). elements_in x o.slots < 2 ^ 31) (sym named.is) (omega (arith, slots.0, long))
 
   pub regions_small : length P.classes ≡ length P.family → AreSmall P env
   regions_small count = record {

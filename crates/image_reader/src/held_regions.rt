@@ -1,24 +1,70 @@
 //! Regions that an image says, as the machine holds them.
 
-ghost use Rattle.std.specs.Prelude.{◌≡◌, ◌++◌, ◌∷◌, [], List, Option, length, IfOk, OnOk};
+ghost use Rattle.std.specs.Prelude.{◌≡◌, ◌<◌, ◌^◌, ◌++◌, ◌∷◌, [], List, Option, length, IfOk, OnOk};
 ghost use Rattle.std.specs.List.{All};
+ghost use Rattle.classfile.specs.Units.{IsModifiedUtf8};
 ghost use Rattle.vm_state.specs.Objects.{empty_row};
 ghost use Rattle.vm_state.specs.Pools.{pool_by};
 ghost use Rattle.evaluator.specs.Regions.{environment_of, region_of};
 ghost use Rattle.image_format.specs.declared.object.ImageObject.{ImageObject as ToldObject};
 ghost use Rattle.image_format.specs.declared.region.ImageRegion.{ImageRegion as ToldRegion};
-ghost use Rattle.image_format.specs.Shapes.{HasShape, ObjectHasShape};
+ghost use Rattle.image_format.specs.Names.{name_of_class};
+ghost use Rattle.image_format.specs.Shapes.{HasObjects, HasShape, ObjectHasShape};
 ghost use Rattle.image_reader.specs.steps.Held.{AddsStrings, HaveShape, HoldsObjects, HoldsRegion, HoldsRegions};
-ghost use Rattle.image_reader.specs.steps.Held.{MayHaveShape};
+ghost use Rattle.image_reader.specs.steps.Held.{HoldsElement, HoldsType, MayHaveShape};
 
 use crate::held_values::{held_fields, held_values};
+use built_in::class_id::{ArrayType, ClassId, ElementType};
+use classfile::ClassName;
 use evaluator::regions::{Region, Regions};
-use image_format::object::ImageObject;
+use image_format::object::{ImageClass, ImageObject, UnknownName};
 use image_format::region::ImageRegion;
 use program::Program;
 use std::alloc::{AllocError, Global};
 use vm_state::heap::Row;
 use vm_state::object::Slots;
+
+/// An element type that is neither given nor built in, by the number of its name among the program's strings.
+fn unknown_element(
+    alloc: Global,
+    program: &mut Program,
+    name: &UnknownName,
+) -> Result<ElementType, AllocError>
+    requires modified { IsModifiedUtf8 name.now }
+    requires few { length name.now < 2 ^ 16 }
+    ensures holds { IfOk result (HoldsElement program.new.strings name.now) }
+    ensures adds { OnOk result (AddsStrings program.old program.new) }
+{
+    let name = ClassName::from_modified_utf8(alloc, name.as_slice())?;
+    let number = program.add_string(alloc, name.units())?;
+    match u32::try_from(number) {
+        Ok(number) => Ok(ElementType::Unknown(number)),
+        Err(_) => Err(AllocError),
+    }
+}
+
+/// The class of an object.
+fn held_type(
+    alloc: Global,
+    program: &mut Program,
+    class: &ImageClass,
+) -> Result<ClassId, AllocError>
+    requires class { HasObjects program.old.family class.now }
+    requires name { length (name_of_class program.old.family class.now) < 2 ^ 16 }
+    ensures holds { IfOk result (HoldsType program.new.strings class.now) }
+    ensures adds { OnOk result (AddsStrings program.old program.new) }
+{
+    match class {
+        ImageClass::Known(class) => Ok(*class),
+        ImageClass::UnknownArray { dimensions, name } => {
+            let element = unknown_element(alloc, program, name)?;
+            Ok(ClassId::Array(ArrayType {
+                dimensions: *dimensions,
+                element,
+            }))
+        }
+    }
+}
 
 /// Adds an object after those that a row has.
 fn add_object(
@@ -32,8 +78,9 @@ fn add_object(
         → OnOk result (HoldsObjects program.new.strings (objects ++ object.now ∷ []) (pool_by row.new)) }
     ensures adds { OnOk result (AddsStrings program.old program.new) }
 {
+    let class = held_type(alloc, program, &object.class)?;
     let values = held_values(alloc, program, object.slots.as_slice())?;
-    row.make(object.class, Slots::of_vec(values))?;
+    row.make(class, Slots::of_vec(values))?;
     Ok(())
 }
 

@@ -2,6 +2,10 @@
 use Rattle.std.specs.Prelude.{◌≡◌, ℕ, List, ◌++◌, length, Option, Some, None, slice_get}
 use Rattle.std.specs.List.{AllZip}
 use Rattle.classfile.specs.Units.{units_text}
+use Rattle.built_in.specs.declared.class_id.ClassId.{ClassId}
+use Rattle.built_in.specs.declared.class_id.ClassId.TheVariants as classes
+use Rattle.built_in.specs.declared.class_id.ElementType.{ElementType}
+use Rattle.built_in.specs.declared.class_id.ElementType.TheVariants as elements
 use Rattle.vm_state.specs.declared.object.Object.{Object}
 use Rattle.vm_state.specs.declared.object.Monitor.TheVariants.{Free}
 use Rattle.vm_state.specs.declared.value.Value.{Value}
@@ -10,6 +14,8 @@ use Rattle.vm_state.specs.SharedState.{Pool, Region}
 use Rattle.semantics.specs.Quiet.{Environment}
 use Rattle.loading.specs.Families.{Family}
 use Rattle.program.specs.Tables.{Tables}
+use Rattle.image_format.specs.declared.object.ImageClass.{ImageClass}
+use Rattle.image_format.specs.declared.object.ImageClass.TheVariants as image
 use Rattle.image_format.specs.declared.object.ImageObject.{ImageObject}
 use Rattle.image_format.specs.declared.region.ImageRegion.{ImageRegion}
 use Rattle.image_format.specs.declared.value.ImageValue.{ImageValue}
@@ -61,8 +67,24 @@ HoldsFields strings told fields = (k : ℕ) → HoldsField strings (slice_get to
 
 -- ---- objects
 
+-- an element type by the number of its name, which is neither given nor built in
+pub record HoldsElement (strings : List (List ℕ)) (name : List ℕ) (element : ElementType) : Type 0 where
+  pub number : ℕ
+  pub named : slice_get strings number ≡ Some name
+  pub is : element ≡ elements.Unknown number
+
+pub record HoldsArray (strings : List (List ℕ)) (dimensions : ℕ) (name : List ℕ) (class : ClassId) : Type 0 where
+  pub element : ElementType
+  pub holds : HoldsElement strings name element
+  pub is : class ≡ classes.Array (record { dimensions = dimensions; element = element })
+
+-- the class of an object
+abbrev pub HoldsType : List (List ℕ) → ImageClass → ClassId → Type 0
+HoldsType strings (image.Known told) class = class ≡ told
+HoldsType strings (image.UnknownArray dimensions name) class = HoldsArray strings dimensions name class
+
 pub record HoldsObject (strings : List (List ℕ)) (told : ImageObject) (object : Object) : Type 0 where
-  pub class : object.class ≡ told.class
+  pub class : HoldsType strings told.class object.class
   pub slots : HoldsValues strings told.slots object.slots
   pub monitor : object.monitor ≡ Free
 

@@ -1,4 +1,4 @@
-use Rattle.std.proofs.Common.{◌≡◌, List}
+use Rattle.std.proofs.Common.{◌≡◌, ◌∙◌, ℕ, List, ap, subst, sym}
 use Rattle.std.proofs.lemmas.Result.{IfOk-weaker}
 use Rattle.vm_state.specs.declared.value.Value.{Value}
 use Rattle.vm_state.specs.Statics.{field_in}
@@ -11,6 +11,7 @@ returns-clause-holds c =
     let S = c.held_values.new.program.strings in
     IfOk-weaker c.fields_of.result (λ (fields : List Value). field_in fields ≡ field_in c.deref.result.now)
     (λ (fields : List Value). HoldsFields S c.args.values.now (field_in fields))
-    (λ fields same. rw (same, c.deref.ensures.value)
+    (λ fields same. subst (λ (held : ℕ → Value). HoldsFields S c.args.values.now held)
+    (sym (same ∙ ap field_in c.deref.ensures.value))
     (all_fields S c.args.values.now c.in_ok-held.held.items c.in_ok-held.ensures.holds))
     c.fields_of.ensures

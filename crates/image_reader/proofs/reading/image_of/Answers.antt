@@ -1,6 +1,13 @@
+use Rattle.std.proofs.Common.{◌∙◌, sym}
 use Rattle.evaluator.specs.Regions.{environment_of}
 use Rattle.image_reader.proofs.ImagesLemmas.{shaped, whole, small, told_again}
+use Rattle.image_reader.proofs.ProgramsLemmas.{class_count}
 use Rattle.image_reader.proofs.reading.image_of.Goals as goal
+
+pub held_regions-requires-clause-count : goal.held_regions-requires-clause-count
+held_regions-requires-clause-count c =
+    rw (c.reseed_strings.ensures, c.as_slice.ensures)
+    (c.requires.count ∙ sym (class_count c.args.parsed.program c.classes-linked.ensures.fits))
 
 pub held_regions-requires-clause-shape : goal.held_regions-requires-clause-shape
 held_regions-requires-clause-shape c =
