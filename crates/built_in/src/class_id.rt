@@ -113,6 +113,9 @@ pub enum ElementType {
     Double,
     Given(u32),
     BuiltIn(BuiltIn),
+    /// A class that is neither given nor built in, by the number of its name among the program's strings. No name of
+    /// a class file stands for one: only an image has arrays of it.
+    Unknown(u32),
 }
 
 impl BuiltIn {

@@ -50,7 +50,7 @@ is_class_below family (class.Array a) other = false
 
 -- ---- array classes
 
--- the class of an element type that is no primitive type
+-- the given or built-in class of an element type
 abbrev pub class_of_element : ElementType → Option ClassId
 class_of_element (element.Given c) = Some (class.Given c)
 class_of_element (element.BuiltIn b) = Some (class.BuiltIn b)
@@ -68,19 +68,28 @@ type_code element.Int = 10
 type_code element.Long = 11
 type_code _ = 0
 
--- of primitive types it is asked whether they are the same
+-- Of primitive types it is asked whether they are the same.
 abbrev pub are_elements_below : Family → Bool → Option ClassId → Option ClassId → Bool
 are_elements_below family same None None = same
 are_elements_below family same (Some a) (Some b) = is_class_below family a b
 are_elements_below family same None (Some b) = false
 are_elements_below family same (Some a) None = false
 
-abbrev pub is_element_below : Family → ElementType → ElementType → Bool
-is_element_below family e other =
-    are_elements_below family (type_code e == type_code other) (class_of_element e) (class_of_element other)
-
 abbrev pub is_object : BuiltIn → Bool
 is_object b = is_same_built_in b builtins.Object
+
+-- A class that is neither given nor built in is below itself and Object: there is no file to say what else.
+abbrev pub is_unknown_below : ℕ → ElementType → Bool
+is_unknown_below n (element.Unknown other) = n == other
+is_unknown_below n (element.BuiltIn b) = is_object b
+is_unknown_below n _ = false
+
+-- no other type is below such a class
+abbrev pub is_element_below : Family → ElementType → ElementType → Bool
+is_element_below family (element.Unknown n) other = is_unknown_below n other
+is_element_below family e (element.Unknown n) = false
+is_element_below family e other =
+    are_elements_below family (type_code e == type_code other) (class_of_element e) (class_of_element other)
 
 abbrev pub is_object_element : ElementType → Bool
 is_object_element (element.BuiltIn b) = is_object b

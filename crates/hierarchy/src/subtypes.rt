@@ -6,6 +6,7 @@ ghost use Rattle.hierarchy.specs.Initialization.{given_superclasses};
 ghost use Rattle.hierarchy.specs.Subclasses.{is_above};
 ghost use Rattle.hierarchy.specs.Subtypes.{is_below, is_class_below, is_given_below, is_built_in_class_below};
 ghost use Rattle.hierarchy.specs.Subtypes.{is_array_below, is_array_type_below, is_element_below, is_object_element};
+ghost use Rattle.hierarchy.specs.Subtypes.{is_unknown_below};
 ghost use Rattle.hierarchy.specs.Subtypes.{is_object, class_of_element, type_code, is_end_below, end_of_chain};
 
 use crate::hierarchy::Hierarchy;
@@ -113,6 +114,9 @@ impl Hierarchy {
     fn is_element_below(&self, element: ElementType, other: ElementType) -> bool
         ensures { result ≡ is_element_below self.now.family element other }
     {
+        if let ElementType::Unknown(name) = element {
+            return is_unknown_below(name, other);
+        }
         match (class_of(element), class_of(other)) {
             (Some(class), Some(other)) => self.is_class_below(class, other),
             (None, None) => type_code(element) == type_code(other),
@@ -128,6 +132,16 @@ fn is_built_in_class_below(class: BuiltIn, other: ClassId) -> bool
     match other {
         ClassId::BuiltIn(other) => class.is_below(other),
         ClassId::Given(_) | ClassId::Array(_) => false,
+    }
+}
+
+/// Whether a class that is neither given nor built in is an element type, or below it.
+fn is_unknown_below(name: u32, other: ElementType) -> bool
+    ensures { result ≡ is_unknown_below name other }
+{
+    match other {
+        ElementType::Unknown(other) => name == other,
+        other => is_object_element(other),
     }
 }
 
@@ -147,7 +161,7 @@ fn is_object(class: BuiltIn) -> bool
     class == BuiltIn::Object
 }
 
-/// The class of an element type that is no primitive type.
+/// The given or built-in class of an element type.
 fn class_of(element: ElementType) -> Option<ClassId>
     ensures { result ≡ class_of_element element }
 {
@@ -171,6 +185,6 @@ fn type_code(element: ElementType) -> u8
         ElementType::Short => 9,
         ElementType::Int => 10,
         ElementType::Long => 11,
-        ElementType::Given(_) | ElementType::BuiltIn(_) => 0,
+        ElementType::Given(_) | ElementType::BuiltIn(_) | ElementType::Unknown(_) => 0,
     }
 }

@@ -21,6 +21,7 @@ fn kind_of_type(element: ElementType) -> FieldKind
         ElementType::Double => FieldKind::Double,
         ElementType::Given(_) => FieldKind::Reference,
         ElementType::BuiltIn(_) => FieldKind::Reference,
+        ElementType::Unknown(_) => FieldKind::Reference,
     }
 }
 

@@ -6,3 +6,4 @@ pub mod names;
 pub mod object;
 pub mod region;
 pub mod value;
+pub mod version;

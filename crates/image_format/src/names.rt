@@ -60,6 +60,7 @@ fn push_element(
         ElementType::Double => name.extend_from_slice(&[b'D']),
         ElementType::Given(number) => push_given(name, family, number),
         ElementType::BuiltIn(class) => push_object_type(name, class.name().as_bytes()),
+        ElementType::Unknown(_) => Ok(()),
     }
 }
 

@@ -24,7 +24,7 @@ use Rattle.image_parser.specs.reading.ClassNames.{is_named, first_named, class_o
 
 -- ---- members of lists
 
-abbrev Member : {X : Type 0} → X → List X → Type 0
+abbrev pub Member : {X : Type 0} → X → List X → Type 0
 Member x [] = ⊥
 Member x (y ∷ ys) = (x ≡ y) ⊎ Member x ys
 
@@ -53,7 +53,7 @@ member_below : (n i : ℕ) → i < n → Member i (below n)
 member_below zero i lt = absurd (omega arith)
 member_below (suc n) i lt = elim (cases_lt i n) [ inl less ↦ inr (member_below n i less) | inr le ↦ inl (omega arith) ]
 
-built_member : (b : BuiltIn) → Member b all_built_in
+pub built_member : (b : BuiltIn) → Member b all_built_in
 built_member builtins.Object = inl refl
 built_member builtins.String = inr (inl refl)
 built_member builtins.System = inr (inr (inl refl))
@@ -117,6 +117,7 @@ element_member family (elements.BuiltIn b) text is =
     (member_right (elements.BuiltIn b) (map (λ (c : ℕ). elements.Given c) (below (length family)))
     (map (λ (b : BuiltIn). elements.BuiltIn b) all_built_in)
     (member_map (λ (b : BuiltIn). elements.BuiltIn b) b all_built_in (built_member b))))))))))
+element_member family (elements.Unknown n) text is = absurd cc
 
 array_member : (family : Family) (a : ArrayType) (text : List ℕ) → 1 ≤ a.dimensions → a.dimensions ≤ 255
     → descriptor_of family a.element ≡ Some text → Member (classes.Array a) (all_classes family)

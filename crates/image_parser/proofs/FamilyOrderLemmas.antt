@@ -10,8 +10,8 @@ use Rattle.classfile.specs.Text.{class_text}
 use Rattle.loading.specs.declared.given.GivenClass.{GivenClass}
 use Rattle.loading.specs.Families.{Family, IsFamily, IsFamilyOf, name_in}
 use Rattle.loading.specs.Names.{name_of, Precedes}
+use Rattle.loading.specs.steps.Linking.{Ascend}
 use Rattle.loading.proofs.NamesLemmas.{precedes_not_back, precedes_not_same, precedes_along}
-use Rattle.image_format.specs.Images.{AreShort}
 use Rattle.image_format.specs.Texts.{file_text, given_text}
 use Rattle.image_parser.specs.FileFaults.{Ascending}
 
@@ -43,6 +43,9 @@ sorted_after before (x ∷ xs) h zero (suc j) a b lt e f =
     subst P same (above (name_of x) xs h.1 j b f)
 sorted_after before (x ∷ xs) h (suc i) (suc j) a b lt e f =
     sorted_after (Some (name_of x)) xs h.1 i j a b (omega (arith, lt)) e f
+
+pub files_ascend : (xs : List ClassFile) → Ascending None xs → Ascend xs
+files_ascend xs h = record { order = sorted_after None xs h }
 
 abbrev files_in : Family → List ClassFile
 files_in family = map (λ (c : GivenClass). c.file) family
@@ -120,9 +123,23 @@ family_text (c ∷ family) = ap (λ (z : List ℕ). given_text c ++ z) (family_t
 abbrev pub IsShort : ClassFile → Type 0
 IsShort file = length (class_text file) < 2 ^ 32
 
-pub family_short : (family : Family) → All (λ (file : ClassFile). length (class_text file) < 2 ^ 32) (files_in family)
-    → AreShort family
-family_short [] h = All-nil (λ (c : GivenClass). length (class_text c.file) < 2 ^ 32)
-family_short (c ∷ family) h =
-    All-cons (λ (g : GivenClass). length (class_text g.file) < 2 ^ 32) c family
-    (All-head IsShort c.file (files_in family) h) (family_short family (All-tail IsShort c.file (files_in family) h))
+-- what holds of each file holds of each class's
+pub family_each : (P : ClassFile → Type 0) (family : Family) → All P (files_in family)
+    → All (λ (c : GivenClass). P c.file) family
+family_each P [] h = All-nil (λ (c : GivenClass). P c.file)
+family_each P (c ∷ family) h =
+    All-cons (λ (g : GivenClass). P g.file) c family (All-head P c.file (files_in family) h)
+    (family_each P family (All-tail P c.file (files_in family) h))
+
+-- ---- files of a family go up
+
+up_from : (x : ClassFile) (xs : List ClassFile) → Sorted (x ∷ xs) → Ascending (Some (name_of x)) xs
+up_from x [] h = tt
+up_from x (y ∷ ys) h = (h zero (suc zero) x y (omega arith) refl refl, up_from y ys (tail_sorted x (y ∷ ys) h))
+
+sorted_up : (xs : List ClassFile) → Sorted xs → Ascending None xs
+sorted_up [] h = tt
+sorted_up (x ∷ xs) h = (tt, up_from x xs h)
+
+pub family_ascending : (family : Family) → IsFamily family → Ascending None (files_in family)
+family_ascending family fits = sorted_up (files_in family) (family_sorted family fits)

@@ -1,21 +1,24 @@
 -- The parts of an image, put together.
 use Rattle.std.proofs.Common.{◌≡◌, ℕ, ◌+◌, ◌<◌, ◌≤◌, ◌^◌, ◌⊎◌, List, ◌++◌, length, take, drop, Option, refl, sym, ap}
 use Rattle.std.proofs.Common.{subst, ◌∙◌, arith, inl, inr}
-use Rattle.std.specs.Prelude.{IfErr, Result, Ok, Err}
+use Rattle.std.specs.Prelude.{IfOk, IfErr, Result, Ok, Err}
 use Rattle.std.specs.Int.{w32, from_be_bytes}
 use Rattle.std.specs.List.{All, flat_map}
 use Rattle.std.proofs.lemmas.List.{take-append-drop, length-take, length-append}
 use Rattle.std.proofs.lemmas.Nat.{be_bytes_4}
 use Rattle.sha2.specs.Sha256.{sha256}
 use Rattle.sha2.proofs.Facts256.{length-sha256}
+use Rattle.classfile.specs.Class.{IsClassFile}
 use Rattle.classfile.specs.ClassFile.{ClassFile}
+use Rattle.classfile.specs.Printing.{units_of}
 use Rattle.classfile.specs.Spelling.{u2, u4}
+use Rattle.classfile.specs.Units.{units_text, IsModifiedUtf8}
+use Rattle.classfile.proofs.PrintingLemmas.{units_text-units_of}
 use Rattle.loading.specs.declared.fault.LinkFault.{LinkFault}
 use Rattle.loading.specs.declared.fault.LinkFault.TheVariants as link_faults
 use Rattle.loading.specs.Families.{Family}
-use Rattle.loading.specs.Files.{LinkFails}
-use Rattle.program.specs.Programs.{IsProgram}
-use Rattle.program.specs.Tables.{Tables}
+use Rattle.loading.specs.Files.{LinkFails, Links}
+use Rattle.loading.proofs.UnitsLemmas.{same_units}
 use Rattle.image_format.specs.declared.region.ImageRegion.{ImageRegion}
 use Rattle.image_format.specs.Images.{ImageText}
 use Rattle.image_format.specs.Texts.{file_text, given_text, with_digest}
@@ -30,13 +33,13 @@ use Rattle.image_parser.specs.FileFaults.{AreFiles, FilesFail}
 use Rattle.image_parser.specs.FirstFailing.{IsBytes}
 use Rattle.image_parser.specs.HeaderFaults.{IsFramed}
 use Rattle.image_parser.specs.ImageFaults.{of_files, of_link, of_regions, HasFiles, IsLinked, PartsText, PartsFail}
-use Rattle.image_parser.specs.ImageFaults.{ImageFails}
+use Rattle.image_parser.specs.ImageFaults.{ImageParts, ImageFails}
 use Rattle.image_parser.specs.ImageFaults.PartsFail.{files, link, regions}
 use Rattle.image_parser.specs.ImageFaults.ImageFails.{within}
 use Rattle.image_parser.specs.Regions.{Begins}
 use Rattle.image_parser.proofs.Lawful.{fits_as}
 use Rattle.image_parser.proofs.RuleLawful.{IsBytes-front}
-use Rattle.image_parser.proofs.FamilyOrderLemmas.{same_files, family_text, IsShort, family_short}
+use Rattle.image_parser.proofs.FamilyOrderLemmas.{same_files, family_text, family_each, IsShort}
 
 -- ---- the count
 
@@ -93,14 +96,25 @@ link_fails parts read rest e has h =
       | inr fails ↦ inr (link read rest e has fails)
     ]
 
-pub regions_fail : (parts : List ℕ) (family : Family) (rest : List ℕ) (e : RegionsFault) → IsLinked parts family rest
-    → (e ≡ region_faults.Memory) ⊎ RegionsFail family rest e
-    → (of_regions e ≡ faults.Memory) ⊎ PartsFail parts (of_regions e)
-regions_fail parts family rest e linked h =
+pub regions_fail : (parts : List ℕ) (family : Family) (rest : List ℕ) (e : RegionsFault) (f : ImageFault)
+    → IsLinked parts family rest → (e ≡ region_faults.Memory) ⊎ RegionsFail family rest e
+    → (f ≡ faults.Memory) ⊎ (f ≡ of_regions family e) → (f ≡ faults.Memory) ⊎ PartsFail parts f
+regions_fail parts family rest e f linked h (inl memory) = inl memory
+regions_fail parts family rest e f linked h (inr is) =
     elim h [
-      | inl memory ↦ inl (ap of_regions memory)
-      | inr fails ↦ inr (regions family rest e linked fails)
+      | inl memory ↦ inl (is ∙ ap (of_regions family) memory)
+      | inr fails ↦
+          let P : ImageFault → Type 0 = λ z. PartsFail parts z in
+          inr (subst P (sym is) (regions family rest e linked fails))
     ]
+
+-- a name by its units
+pub if_named : {E : Type 0} (text : List ℕ) {units : List ℕ} (result : Result (List ℕ) E) → IsModifiedUtf8 text
+    → units_of text ≡ units → (IsModifiedUtf8 text → IfOk result (λ name. units_text name ≡ text))
+    → IfOk result (λ name. name ≡ units)
+if_named text (Ok name) modified same spelled =
+    same_units name (units_of text) (spelled modified ∙ sym (units_text-units_of text modified)) ∙ same
+if_named text (Err e) modified same spelled = tt
 
 pub parts_fail : (bytes parts : List ℕ) (f : ImageFault) → IsFramed bytes parts
     → (f ≡ faults.Memory) ⊎ PartsFail parts f → (f ≡ faults.Memory) ⊎ ImageFails bytes f
@@ -112,29 +126,33 @@ parts_fail bytes parts f framed h =
 
 -- ---- what is accepted
 
-pub parts_text : (parts : List ℕ) (P : Tables) (rest : List ℕ) (held : List (Option ImageRegion))
-    → IsLinked parts P.family rest → IsProgram P → RegionsText P.family rest held → PartsText parts P held
-parts_text parts P rest held linked program told =
+pub parts_text : (parts : List ℕ) (family : Family) (rest : List ℕ) (held : List (Option ImageRegion))
+    → IsLinked parts family rest → RegionsText family rest held → PartsText parts family held
+parts_text parts family rest held linked told =
     let has = linked.has in
-    let same = same_files linked.files P.family has.are.ascending linked.of in
-    let IsSmall : List ClassFile → Type 0 = λ z. All IsShort z in
-    let body : flat_map file_text linked.files ≡ flat_map given_text P.family =
-    ap (λ (z : List ClassFile). flat_map file_text z) same ∙ family_text P.family in
+    let same = same_files linked.files family has.are.ascending linked.of in
+    let AreGood : List ClassFile → Type 0 = λ z. All IsClassFile z in
+    let AreSmall : List ClassFile → Type 0 = λ z. All IsShort z in
+    let Link : List ClassFile → Type 0 = λ z. Links z in
+    let body : flat_map file_text linked.files ≡ flat_map given_text family =
+    ap (λ (z : List ClassFile). flat_map file_text z) same ∙ family_text family in
     record {
-      family = linked.of.fits;
-      program = program;
-      short = family_short P.family (subst IsSmall same has.are.short);
+      classes = linked.of.fits;
+      files = family_each IsClassFile family (subst AreGood same has.are.fits);
+      links = subst Link same linked.links;
+      short = family_each IsShort family (subst AreSmall same has.are.short);
       fits = told.fits;
       spelled = has.spelled ∙ ap (λ (k : ℕ). u4 k ++ (has.text ++ rest)) (sym linked.of.count)
-          ∙ ap (λ (z : List ℕ). u4 (length P.family) ++ (z ++ rest)) (has.are.spelled ∙ body)
-          ∙ ap (λ (z : List ℕ). u4 (length P.family) ++ (flat_map given_text P.family ++ z)) told.spelled;
+          ∙ ap (λ (z : List ℕ). u4 (length family) ++ (z ++ rest)) (has.are.spelled ∙ body)
+          ∙ ap (λ (z : List ℕ). u4 (length family) ++ (flat_map given_text family ++ z)) told.spelled;
     }
 
-pub image_text : (bytes parts : List ℕ) (P : Tables) (held : List (Option ImageRegion)) → IsFramed bytes parts
-    → PartsText parts P held → ImageText bytes P held
-image_text bytes parts P held framed text = record {
-  family = text.family;
-  program = text.program;
+pub image_text : (bytes parts : List ℕ) (family : Family) (held : List (Option ImageRegion)) → IsFramed bytes parts
+    → PartsText parts family held → ImageText bytes family held
+image_text bytes parts family held framed text = record {
+  classes = text.classes;
+  files = text.files;
+  links = text.links;
   short = text.short;
   fits = text.fits;
   spelled = framed.framed ∙ ap (λ (z : List ℕ). with_digest (u4 1246775629 ++ (u2 1 ++ z))) text.spelled;
@@ -147,3 +165,10 @@ pub parts_refused : {X : Type 0} (bytes parts : List ℕ) (result : Result X Ima
     → IfErr result (λ f. (f ≡ faults.Memory) ⊎ ImageFails bytes f)
 parts_refused bytes parts (Ok x) framed h = tt
 parts_refused bytes parts (Err f) framed h = parts_fail bytes parts f framed h
+
+module _ {Y : Type 0} (view : Y → ImageParts) where
+  pub parts_accepted : (bytes parts : List ℕ) (result : Result Y ImageFault) → IsFramed bytes parts
+      → IfOk result (λ y. PartsText parts (view y).0 (view y).1)
+      → IfOk result (λ y. ImageText bytes (view y).0 (view y).1)
+  parts_accepted bytes parts (Ok y) framed h = image_text bytes parts (view y).0 (view y).1 framed h
+  parts_accepted bytes parts (Err f) framed h = tt

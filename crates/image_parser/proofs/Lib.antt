@@ -18,4 +18,6 @@ pub mod FileLemmas
 pub mod FileLawful
 pub mod FamilyOrderLemmas
 pub mod ImageLemmas
-pub mod EarlyLemmas
+pub mod AncestorLemmas
+pub mod LinkingLemmas
+pub mod ImageLaw

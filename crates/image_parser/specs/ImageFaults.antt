@@ -1,16 +1,15 @@
 -- What is wrong first with bytes that are no image.
-use Rattle.std.specs.Prelude.{◌≡◌, ℕ, ◌<◌, ◌^◌, List, ◌++◌, length, Option, ◌⊎◌, Result, Err}
+use Rattle.std.specs.Prelude.{◌≡◌, ℕ, ◌<◌, ◌^◌, List, [], ◌++◌, length, Option, unwrap_or, ◌⊎◌, Result, Err}
 use Rattle.std.specs.List.{flat_map}
 use Rattle.classfile.specs.ClassFile.{ClassFile}
+use Rattle.classfile.specs.Printing.{units_of}
 use Rattle.classfile.specs.Spelling.{u4}
 use Rattle.loading.specs.declared.fault.LinkFault.{LinkFault}
 use Rattle.loading.specs.declared.fault.LinkFault.TheVariants as link_faults
-use Rattle.loading.specs.Families.{Family, IsFamily, IsFamilyOf}
+use Rattle.loading.specs.Families.{Family, IsFamily, IsFamilyOf, name_in}
 use Rattle.loading.specs.Files.{LinkFails, Links}
-use Rattle.program.specs.Programs.{IsProgram}
-use Rattle.program.specs.Tables.{Tables}
 use Rattle.image_format.specs.declared.region.ImageRegion.{ImageRegion}
-use Rattle.image_format.specs.Images.{AreRegions, AreShort}
+use Rattle.image_format.specs.Images.{files_of, AreRegions, AreClassFiles, AreShort, ImageText}
 use Rattle.image_format.specs.Texts.{given_text, mark_text}
 use Rattle.image_parser.specs.declared.fault.FilesFault.{FilesFault}
 use Rattle.image_parser.specs.declared.fault.FilesFault.TheVariants as file_faults
@@ -42,12 +41,17 @@ abbrev pub of_link : LinkFault → ImageFault
 of_link link_faults.Memory = faults.Memory
 of_link fault = faults.Link fault
 
-abbrev pub of_regions : RegionsFault → ImageFault
-of_regions region_faults.Memory = faults.Memory
-of_regions region_faults.Truncated = faults.Truncated
-of_regions (region_faults.Shape c) = faults.Shape c
-of_regions region_faults.Extra = faults.Extra
-of_regions (region_faults.Name c) = faults.Name c
+-- the name of a class, by its units
+abbrev pub name_units : Family → ℕ → List ℕ
+name_units family c = units_of (unwrap_or (name_in family c) [])
+
+-- classes by their names
+abbrev pub of_regions : Family → RegionsFault → ImageFault
+of_regions family region_faults.Memory = faults.Memory
+of_regions family region_faults.Truncated = faults.Truncated
+of_regions family (region_faults.Shape c) = faults.Shape (name_units family c)
+of_regions family region_faults.Extra = faults.Extra
+of_regions family (region_faults.Name c) = faults.Name (name_units family c)
 
 -- ---- what stands between the version and the digest
 
@@ -65,13 +69,14 @@ pub record IsLinked (parts : List ℕ) (family : Family) (rest : List ℕ) : Typ
   pub links : Links files
   pub of : IsFamilyOf files family
 
--- a program and its regions, all told
-pub record PartsText (parts : List ℕ) (P : Tables) (regions : List (Option ImageRegion)) : Type 0 where
-  pub family : IsFamily P.family
-  pub program : IsProgram P
-  pub short : AreShort P.family
-  pub fits : AreRegions P.family regions
-  pub spelled : parts ≡ u4 (length P.family) ++ (flat_map given_text P.family ++ flat_map (mark_text P.family) regions)
+-- class files that make one program, and the regions of its classes, all told
+pub record PartsText (parts : List ℕ) (family : Family) (regions : List (Option ImageRegion)) : Type 0 where
+  pub classes : IsFamily family
+  pub files : AreClassFiles family
+  pub links : Links (files_of family)
+  pub short : AreShort family
+  pub fits : AreRegions family regions
+  pub spelled : parts ≡ u4 (length family) ++ (flat_map given_text family ++ flat_map (mark_text family) regions)
 
 -- the first of the class files that fails, then the program that they do not make, then what stands after them
 pub data PartsFail (parts : List ℕ) : ImageFault → Type 0 where
@@ -80,9 +85,16 @@ pub data PartsFail (parts : List ℕ) : ImageFault → Type 0 where
   link : (files : List ClassFile) (rest : List ℕ) (e : LinkFault) → HasFiles parts files rest → LinkFails files e
       → PartsFail parts (of_link e)
   regions : (family : Family) (rest : List ℕ) (e : RegionsFault) → IsLinked parts family rest
-      → RegionsFail family rest e → PartsFail parts (of_regions e)
+      → RegionsFail family rest e → PartsFail parts (of_regions family e)
 
 -- ---- images
+
+-- class files in the order of their names, and the regions of their classes
+abbrev pub ImageParts : Type 0
+ImageParts = Family × List (Option ImageRegion)
+
+abbrev pub IsImage : List ℕ → ImageParts → Type 0
+IsImage bytes image = ImageText bytes image.0 image.1
 
 -- what is wrong round the parts, and then in them
 pub data ImageFails (bytes : List ℕ) : ImageFault → Type 0 where

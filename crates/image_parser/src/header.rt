@@ -7,6 +7,7 @@ ghost use Rattle.image_parser.specs.declared.header.HeaderFault.{HeaderFault as 
 ghost use Rattle.image_parser.specs.HeaderFaults.{HeaderFails, IsFramed};
 ghost use Rattle.image_parser.specs.TextOrFault.{TextOrFault};
 
+use image_format::version::Version;
 use sha2::{Digest, Sha256};
 
 /// What is wrong with bytes as an image before its parts are looked into.
@@ -39,15 +40,15 @@ fn is_digest(front: &[u8], digest: &[u8]) -> bool
     is_same(digest, &wanted)
 }
 
-/// What stands between the version and the digest.
+/// The version, and what stands between it and the digest.
 ///
 /// # Errors
 /// The first of these that holds: fewer than 42 bytes, another magic number, another version, another digest.
-pub fn parts_of(bytes: &[u8]) -> Result<&[u8], HeaderFault>
+pub fn parts_of(bytes: &[u8]) -> Result<(Version, &[u8]), HeaderFault>
     // What is answered is framed by the rest of the bytes.
-    ensures parts { IfOk result (λ parts. IsFramed bytes.now parts.now) }
+    ensures parts { IfOk result (λ x. IsFramed bytes.now x.1.now) }
     // Of bytes that frame anything that is answered.
-    ensures only_parts { (parts : List ℕ) → IsFramed bytes.now parts → IsOkAnd result (λ answer. answer.now ≡ parts) }
+    ensures only_parts { (parts : List ℕ) → IsFramed bytes.now parts → IsOkAnd result (λ x. x.1.now ≡ parts) }
     // What is refused is refused for what is wrong first.
     ensures fault { IfErr result (HeaderFails bytes.now) }
     // Everything else is refused for what is wrong first.
@@ -61,9 +62,9 @@ pub fn frame_or_fault()
     ensures { (bytes : List ℕ) → TextOrFault (IsFramed bytes) (HeaderFails bytes) }
 {}
 
-/// What stands between the version and the digest.
-fn framed_in(bytes: &[u8]) -> Result<&[u8], HeaderFault>
-    ensures parts { IfOk result (λ parts. IsFramed bytes.now parts.now) }
+/// The version, and what stands between it and the digest.
+fn framed_in(bytes: &[u8]) -> Result<(Version, &[u8]), HeaderFault>
+    ensures parts { IfOk result (λ x. IsFramed bytes.now x.1.now) }
     ensures fault { IfErr result (HeaderFails bytes.now) }
 {
     if bytes.len() < 42 {
@@ -81,5 +82,5 @@ fn framed_in(bytes: &[u8]) -> Result<&[u8], HeaderFault>
     if !is_digest(front, digest) {
         return Err(HeaderFault::Digest);
     }
-    Ok(parts)
+    Ok((Version::One, parts))
 }

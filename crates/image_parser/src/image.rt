@@ -1,20 +1,16 @@
 //! Whole images.
 
-ghost use Rattle.std.specs.Prelude.{◌≡◌, ◌≤◌, ◌<◌, ◌^◌, ◌⊎◌, ◌++◌, ℕ, List, Err, length, take, drop, IfOk, IfErr};
+ghost use Rattle.std.specs.Prelude.{◌≡◌, ◌≤◌, ◌⊎◌, List, Option, ℕ, length, take, drop, IfOk, IfErr, MatchResult};
 ghost use Rattle.std.specs.Int.{w32, from_be_bytes};
-ghost use Rattle.classfile.specs.ClassFile.{ClassFile as File};
-ghost use Rattle.classfile.specs.Spelling.{u4};
-ghost use Rattle.loading.specs.declared.fault.LinkFault.{LinkFault as Link};
-ghost use Rattle.loading.specs.Files.{LinkFails};
+ghost use Rattle.loading.specs.Families.{Family as Classes};
 ghost use Rattle.program.specs.Programs.{IsProgram};
+ghost use Rattle.image_format.specs.declared.region.ImageRegion.{ImageRegion as Held};
 ghost use Rattle.image_format.specs.Images.{ImageText};
-ghost use Rattle.image_parser.specs.declared.fault.FilesFault.{FilesFault as Files};
-ghost use Rattle.image_parser.specs.declared.header.HeaderFault.{HeaderFault as Frame};
+ghost use Rattle.image_parser.specs.declared.image_fault.ImageFault.{ImageFault as Fault};
 ghost use Rattle.image_parser.specs.declared.image_fault.ImageFault.TheVariants.{Memory};
-ghost use Rattle.image_parser.specs.FileFaults.{FilesFail};
-ghost use Rattle.image_parser.specs.HeaderFaults.{HeaderFails, IsFramed};
-ghost use Rattle.image_parser.specs.ImageFaults.{of_header, of_files, of_link, HasFiles, IsLinked, PartsText};
-ghost use Rattle.image_parser.specs.ImageFaults.{PartsFail, ImageFails, Answers};
+ghost use Rattle.image_parser.specs.FirstFailing.{IsBytes};
+ghost use Rattle.image_parser.specs.ImageFaults.{HasFiles, IsLinked, PartsText, PartsFail, IsImage, ImageFails, Answers};
+ghost use Rattle.image_parser.specs.TextOrFault.{TextOrFault};
 
 use crate::files::read_files;
 use crate::header::parts_of;
@@ -22,6 +18,7 @@ use crate::image_fault::ImageFault;
 use crate::regions::read_regions;
 use classfile::ClassFile;
 use image_format::region::ImageRegions;
+use image_format::version::Version;
 use program::{Program, link};
 use std::alloc::Global;
 
@@ -36,22 +33,36 @@ pub struct Parsed {
 ///
 /// # Errors
 /// What is wrong first, from the frame inward and then from front to back; `Memory` where memory runs out.
-pub fn read(alloc: Global, bytes: &[u8]) -> Result<Parsed, ImageFault>
-    // What is accepted is the text of the image that is answered.
-    ensures text { IfOk result (λ parsed. ImageText bytes.now parsed.program parsed.regions) }
+pub fn parse(alloc: Global, bytes: &[u8]) -> Result<Parsed, ImageFault>
+    // What is accepted is the text of the class files and of the regions that are answered.
+    ensures text { IfOk result (λ parsed. ImageText bytes.now parsed.program.family parsed.regions) }
+    // The program is that of these class files.
+    ensures program { IfOk result (λ parsed. IsProgram parsed.program) }
+    // Every text of an image is accepted as that image, unless memory runs out.
+    ensures only_text { (family : Classes) (regions : List (Option Held)) → ImageText bytes.now family regions
+        → MatchResult result (λ parsed. (parsed.program.family ≡ family) × (parsed.regions ≡ regions))
+        (λ x. x ≡ Memory) }
     // What is refused is refused for what is wrong first, or because memory runs out.
     ensures fault { IfErr result (λ x. (x ≡ Memory) ⊎ ImageFails bytes.now x) }
-    // What is wrong round the parts is told.
-    ensures only_frame { (x : Frame) → HeaderFails bytes.now x → result ≡ Err (of_header x) }
-    // So is what is wrong with a class file, unless memory runs out,
-    ensures only_files { (parts rest : List ℕ) (count : ℕ) (x : Files) → IsFramed bytes.now parts → count < 2 ^ 32
-        → parts ≡ u4 count ++ rest → FilesFail count rest x → Answers result (of_files x) }
-    // and why class files do not make one program.
-    ensures only_link { (parts : List ℕ) (files : List File) (rest : List ℕ) (x : Link) → IsFramed bytes.now parts
-        → HasFiles parts files rest → LinkFails files x → Answers result (of_link x) }
+    // Everything else is refused for what is wrong first, unless memory runs out.
+    ensures only_fault { (x : Fault) → ImageFails bytes.now x → Answers result x }
+{
+    of_bytes(alloc, bytes)
+}
+
+/// Bytes are the text of one image or have one fault, and never both.
+pub fn image_or_fault()
+    ensures { (bytes : List ℕ) → IsBytes bytes → TextOrFault (IsImage bytes) (ImageFails bytes) }
+{}
+
+/// What the bytes of an image say.
+fn of_bytes(alloc: Global, bytes: &[u8]) -> Result<Parsed, ImageFault>
+    ensures text { IfOk result (λ parsed. ImageText bytes.now parsed.program.family parsed.regions) }
+    ensures program { IfOk result (λ parsed. IsProgram parsed.program) }
+    ensures fault { IfErr result (λ x. (x ≡ Memory) ⊎ ImageFails bytes.now x) }
 {
     match parts_of(bytes) {
-        Ok(parts) => of_parts(alloc, parts),
+        Ok((version, parts)) => of_parts(alloc, version, parts),
         Err(fault) => Err(ImageFault::of_header(fault)),
     }
 }
@@ -70,18 +81,15 @@ fn count_at(parts: &[u8]) -> (u32, &[u8])
 }
 
 /// What the parts of an image say.
-fn of_parts(alloc: Global, parts: &[u8]) -> Result<Parsed, ImageFault>
+fn of_parts(alloc: Global, version: Version, parts: &[u8]) -> Result<Parsed, ImageFault>
     requires { 4 ≤ length parts.now }
-    ensures text { IfOk result (λ parsed. PartsText parts.now parsed.program parsed.regions) }
+    ensures text { IfOk result (λ parsed. PartsText parts.now parsed.program.family parsed.regions) }
+    ensures program { IfOk result (λ parsed. IsProgram parsed.program) }
     ensures fault { IfErr result (λ x. (x ≡ Memory) ⊎ PartsFail parts.now x) }
-    ensures only_files { (count : ℕ) (rest : List ℕ) (x : Files) → count < 2 ^ 32 → parts.now ≡ u4 count ++ rest
-        → FilesFail count rest x → Answers result (of_files x) }
-    ensures only_link { (files : List File) (rest : List ℕ) (x : Link) → HasFiles parts.now files rest
-        → LinkFails files x → Answers result (of_link x) }
 {
     let (count, bytes) = count_at(parts);
     match read_files(alloc, count, bytes) {
-        Ok((files, rest)) => of_files(alloc, files, parts, rest),
+        Ok((files, rest)) => of_files(alloc, version, files, parts, rest),
         Err(fault) => Err(ImageFault::of_files(fault)),
     }
 }
@@ -89,17 +97,18 @@ fn of_parts(alloc: Global, parts: &[u8]) -> Result<Parsed, ImageFault>
 /// The same of these class files.
 fn of_files(
     alloc: Global,
+    version: Version,
     files: Vec<ClassFile>,
     parts: &[u8],
     rest: &[u8],
 ) -> Result<Parsed, ImageFault>
     requires { HasFiles parts.now files.items rest.now }
-    ensures text { IfOk result (λ parsed. PartsText parts.now parsed.program parsed.regions) }
+    ensures text { IfOk result (λ parsed. PartsText parts.now parsed.program.family parsed.regions) }
+    ensures program { IfOk result (λ parsed. IsProgram parsed.program) }
     ensures fault { IfErr result (λ x. (x ≡ Memory) ⊎ PartsFail parts.now x) }
-    ensures only_link { (x : Link) → LinkFails files.items x → Answers result (of_link x) }
 {
     match link(alloc, files) {
-        Ok(program) => of_program(alloc, program, parts, rest),
+        Ok(program) => of_program(alloc, version, program, parts, rest),
         Err(fault) => Err(ImageFault::of_link(fault)),
     }
 }
@@ -107,17 +116,19 @@ fn of_files(
 /// The same of this program.
 fn of_program(
     alloc: Global,
+    version: Version,
     program: Program,
     parts: &[u8],
     rest: &[u8],
 ) -> Result<Parsed, ImageFault>
     requires linked { IsLinked parts.now program.family rest.now }
     requires program { IsProgram program }
-    ensures text { IfOk result (λ parsed. PartsText parts.now parsed.program parsed.regions) }
+    ensures text { IfOk result (λ parsed. PartsText parts.now parsed.program.family parsed.regions) }
+    ensures program { IfOk result (λ parsed. IsProgram parsed.program) }
     ensures fault { IfErr result (λ x. (x ≡ Memory) ⊎ PartsFail parts.now x) }
 {
-    match read_regions(alloc, &program, rest) {
+    match read_regions(alloc, version, &program, rest) {
         Ok(regions) => Ok(Parsed { program, regions }),
-        Err(fault) => Err(ImageFault::of_regions(fault)),
+        Err(fault) => Err(ImageFault::of_regions(alloc, program.family(), fault)),
     }
 }

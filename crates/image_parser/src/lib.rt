@@ -18,7 +18,7 @@ mod values;
 pub use fault::{FilesFault, MarksFault, RegionFault, RegionsFault};
 pub use files::read_files;
 pub use header::{HeaderFault, frame_or_fault, parts_of};
-pub use image::{Parsed, read};
+pub use image::{Parsed, image_or_fault, parse};
 pub use image_fault::ImageFault;
 pub use marks::read_marks;
 pub use names::nameless;

@@ -12,12 +12,14 @@ use crate::fault::{MarksFault, RegionFault};
 use crate::numbers::u8_at;
 use crate::objects::region_at;
 use image_format::region::{ImageRegion, ImageRegions};
+use image_format::version::Version;
 use program::Program;
 use std::alloc::Global;
 
 /// What follows the mark of a class.
 fn marked_at<'a>(
     alloc: Global,
+    version: Version,
     program: &Program,
     class: u32,
     mark: u8,
@@ -27,7 +29,7 @@ fn marked_at<'a>(
 {
     match mark {
         0 => Ok((None, bytes)),
-        1 => some_at(alloc, program, class, bytes),
+        1 => some_at(alloc, version, program, class, bytes),
         _ => Err(RegionFault::Shape),
     }
 }
@@ -35,13 +37,14 @@ fn marked_at<'a>(
 /// The region of a class that is initialized.
 fn some_at<'a>(
     alloc: Global,
+    version: Version,
     program: &Program,
     class: u32,
     bytes: &'a [u8],
 ) -> Result<(Option<ImageRegion>, &'a [u8]), RegionFault>
     ensures { Gives (λ x. (x.0, x.1.now)) result (marked_at program.now.family class 1 bytes.now) }
 {
-    let (region, rest) = region_at(alloc, program, class, bytes)?;
+    let (region, rest) = region_at(alloc, version, program, class, bytes)?;
     Ok((Some(region), rest))
 }
 
@@ -49,6 +52,7 @@ fn some_at<'a>(
 #[tactic(auto, unfolding(crate::specs::reading::Marks::mark_at))]
 fn mark_at<'a>(
     alloc: Global,
+    version: Version,
     program: &Program,
     class: u32,
     bytes: &'a [u8],
@@ -56,20 +60,21 @@ fn mark_at<'a>(
     ensures { Gives (λ x. (x.0, x.1.now)) result (mark_at program.now.family class bytes.now) }
 {
     let (mark, rest) = u8_at(bytes)?;
-    marked_at(alloc, program, class, mark, rest)
+    marked_at(alloc, version, program, class, mark, rest)
 }
 
 /// The same, with the fault of that class.
 #[tactic(auto, using(crate::proofs::MarkLemmas::inside_fails))]
 fn mark_in<'a>(
     alloc: Global,
+    version: Version,
     program: &Program,
     class: u32,
     bytes: &'a [u8],
 ) -> Result<(Option<ImageRegion>, &'a [u8]), MarksFault>
     ensures { GivesIn (λ x. (x.0, x.1.now)) result (mark_in program.now.family class bytes.now) }
 {
-    match mark_at(alloc, program, class, bytes) {
+    match mark_at(alloc, version, program, class, bytes) {
         Ok(read) => Ok(read),
         Err(fault) => Err(fault.inside(class)),
     }
@@ -78,6 +83,7 @@ fn mark_in<'a>(
 /// Reads the marks of so many classes after those that stand before.
 fn push_marks_at<'a>(
     alloc: Global,
+    version: Version,
     program: &Program,
     count: u32,
     regions: &mut Vec<Option<ImageRegion>>,
@@ -88,7 +94,7 @@ fn push_marks_at<'a>(
 {
     let mut rest = bytes;
     for class in 0..count {
-        let (region, after) = mark_in(alloc, program, class, rest)?;
+        let (region, after) = mark_in(alloc, version, program, class, rest)?;
         regions.push(region)?;
         rest = after;
     }
@@ -99,6 +105,7 @@ fn push_marks_at<'a>(
 #[tactic(auto, unfolding(crate::specs::reading::Marks::marks_at))]
 fn marks_at<'a>(
     alloc: Global,
+    version: Version,
     program: &Program,
     bytes: &'a [u8],
 ) -> Result<(ImageRegions, &'a [u8]), MarksFault>
@@ -106,7 +113,7 @@ fn marks_at<'a>(
 {
     let count = program.family().classes().len() as u32;
     let mut regions = Vec::new(alloc);
-    let rest = push_marks_at(alloc, program, count, &mut regions, bytes)?;
+    let rest = push_marks_at(alloc, version, program, count, &mut regions, bytes)?;
     Ok((ImageRegions::of_vec(regions), rest))
 }
 
@@ -117,6 +124,7 @@ fn marks_at<'a>(
 /// The fault of the first part that fails, or `Memory` where memory runs out.
 pub fn read_marks<'a>(
     alloc: Global,
+    version: Version,
     program: &Program,
     bytes: &'a [u8],
 ) -> Result<(ImageRegions, &'a [u8]), MarksFault>
@@ -133,5 +141,5 @@ pub fn read_marks<'a>(
         → GivesIn {Y = List (Option Held) × List ℕ} (λ x. (x.0, x.1.now)) result (Err fault) }
 {
     let _classes = program.family().classes();
-    marks_at(alloc, program, bytes)
+    marks_at(alloc, version, program, bytes)
 }

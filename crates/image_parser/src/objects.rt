@@ -20,6 +20,7 @@ use image_format::elements::kind_of_elements;
 use image_format::object::{ImageObject, ImageObjects};
 use image_format::region::ImageRegion;
 use image_format::value::{ImageValue, ImageValues};
+use image_format::version::Version;
 use loading::class_named;
 use loading::family::Family;
 use program::Program;
@@ -289,9 +290,8 @@ fn counted_region_at<'a>(
     Ok((ImageRegion { statics, objects }, rest))
 }
 
-/// The region of a class.
 #[tactic(auto, unfolding(crate::specs::reading::Objects::region_at))]
-pub(crate) fn region_at<'a>(
+fn whole_region_at<'a>(
     alloc: Global,
     program: &Program,
     class: u32,
@@ -301,4 +301,19 @@ pub(crate) fn region_at<'a>(
 {
     let (count, rest) = u32_at(bytes)?;
     counted_region_at(alloc, program, class, count, rest)
+}
+
+/// The region of a class, as this version lists it.
+pub(crate) fn region_at<'a>(
+    alloc: Global,
+    version: Version,
+    program: &Program,
+    class: u32,
+    bytes: &'a [u8],
+) -> Result<(ImageRegion, &'a [u8]), RegionFault>
+    ensures { Gives (λ x. (x.0, x.1.now)) result (region_at program.now.family class bytes.now) }
+{
+    match version {
+        Version::One => whole_region_at(alloc, program, class, bytes),
+    }
 }

@@ -12,6 +12,7 @@ ghost use Rattle.image_parser.specs.reading.Results.{Gives};
 use crate::fault::RegionFault;
 use crate::objects::region_at;
 use image_format::region::ImageRegion;
+use image_format::version::Version;
 use program::Program;
 use std::alloc::Global;
 
@@ -21,6 +22,7 @@ use std::alloc::Global;
 /// The fault of the first part that fails, or `Memory` where memory runs out.
 pub fn read_region<'a>(
     alloc: Global,
+    version: Version,
     program: &Program,
     class: u32,
     bytes: &'a [u8],
@@ -37,7 +39,7 @@ pub fn read_region<'a>(
         → Gives {Y = Held × List ℕ} (λ x. (x.0, x.1.now)) result (Err fault) }
 {
     let _classes = program.family().classes();
-    region_at(alloc, program, class, bytes)
+    region_at(alloc, version, program, class, bytes)
 }
 
 /// Bytes begin with the text of one region of a class or fail with one fault, and never both.

@@ -16,6 +16,7 @@ use crate::fault::RegionsFault;
 use crate::marks::read_marks;
 use crate::names::nameless;
 use image_format::region::ImageRegions;
+use image_format::version::Version;
 use program::Program;
 use std::alloc::Global;
 
@@ -26,6 +27,7 @@ use std::alloc::Global;
 /// `Memory` where memory runs out.
 pub fn read_regions(
     alloc: Global,
+    version: Version,
     program: &Program,
     bytes: &[u8],
 ) -> Result<ImageRegions, RegionsFault>
@@ -41,7 +43,7 @@ pub fn read_regions(
         → (result ≡ Err x) ⊎ (result ≡ Err Memory) }
 {
     let _classes = program.family().classes();
-    regions_of(alloc, program, bytes)
+    regions_of(alloc, version, program, bytes)
 }
 
 /// Bytes are the text of the marks and regions of a program's classes or have one fault, and never both.
@@ -52,11 +54,16 @@ pub fn regions_or_fault()
 
 /// The marks and regions of all classes, which fill the bytes.
 #[tactic(auto, using(crate::proofs::AllRegionsLemmas::among))]
-fn regions_of(alloc: Global, program: &Program, bytes: &[u8]) -> Result<ImageRegions, RegionsFault>
+fn regions_of(
+    alloc: Global,
+    version: Version,
+    program: &Program,
+    bytes: &[u8],
+) -> Result<ImageRegions, RegionsFault>
     ensures text { IfOk result (λ regions. RegionsText program.now.family bytes.now regions) }
     ensures fault { IfErr result (λ x. (x ≡ Memory) ⊎ RegionsFail program.now.family bytes.now x) }
 {
-    match read_marks(alloc, program, bytes) {
+    match read_marks(alloc, version, program, bytes) {
         Ok((regions, rest)) => whole(program, regions, bytes, rest),
         Err(fault) => Err(fault.among_regions()),
     }

@@ -13,63 +13,23 @@ use Rattle.std.proofs.lemmas.List.Elements.{All-nil, All-cons, All-same, All-app
 use Rattle.std.proofs.lemmas.List.Elements.{Contains-append_left, Contains-push, Contains-push_cases}
 use Rattle.classfile.specs.Class.{IsClassFile}
 use Rattle.classfile.specs.ClassFile.{ClassFile}
-use Rattle.classfile.specs.Constants.{is_wide}
-use Rattle.classfile.specs.Lookup.{utf8_in, utf8_of, class_name_in, class_name_of}
 use Rattle.classfile.specs.Printing.{units_of}
-use Rattle.classfile.specs.Spelling.{Fits, AreConstants}
-use Rattle.classfile.specs.Units.{unit_text, units_text, IsModifiedUtf8}
+use Rattle.classfile.specs.Units.{unit_text, units_text}
 use Rattle.classfile.specs.declared.constant.Constant.{Constant}
 use Rattle.classfile.specs.declared.constant.Constant.TheVariants as constants
 use Rattle.classfile.proofs.PrintingLemmas.{units_of-units_text}
 use Rattle.loading.specs.declared.given.GivenClass.{GivenClass}
 use Rattle.loading.specs.Families.{file_of}
-use Rattle.loading.specs.Names.{name_of, text_at}
+use Rattle.loading.specs.Names.{text_at}
 use Rattle.program.specs.Strings.{string_of, strings_of, all_strings, AreFirsts}
 use Rattle.program.specs.Tables.{Tables}
 use Rattle.region_shape.specs.Laws.{IsFromFile}
+use Rattle.image_format.proofs.NamesLemmas.{IsText, no_text, utf8_fits}
 use Rattle.image_writer.specs.steps.Sizes.{HasFiles}
 
--- what a Utf8 may hold (JVMS 4.4.7)
-abbrev pub IsText : List ℕ → Type 0
-IsText text = (length text < 2 ^ 16) × IsModifiedUtf8 text
-
-empty : IsText []
-empty = (omega arith, record { units = []; each = All-nil (λ unit. unit < 2 ^ 16); spelled = refl })
-
--- ---- texts of a constant pool
-
-fits_at : (after_wide : Bool) (cs : List Constant) → AreConstants after_wide cs → (i : ℕ) (text : List ℕ)
-    → slice_get cs i ≡ Some (constants.Utf8 text) → IsText text
-fits_at after_wide [] are i text at = absurd cc
-fits_at true (c ∷ cs) are zero text at =
-    absurd (let e : constants.Unusable ≡ constants.Utf8 text =
-    sym are.0 ∙ (let same : c ≡ constants.Utf8 text = cc in same) in cc)
-fits_at true (c ∷ cs) are (suc i) text at = fits_at false cs are.1 i text at
-fits_at false (c ∷ cs) are zero text at =
-    let same : c ≡ constants.Utf8 text = cc in subst (λ d. Fits d) same are.0
-fits_at false (c ∷ cs) are (suc i) text at = fits_at (is_wide c) cs are.1 i text at
-
 module _ (f : ClassFile) (is : IsClassFile f) where
-  utf8_fits : (index : ℕ) → IsText (unwrap_or (utf8_of f.constants index) [])
-  unfolding utf8_of
-  utf8_fits index = by (slice_get f.constants index) refl
-    where
-      by : (o : Option Constant) → slice_get f.constants index ≡ o → IsText (unwrap_or (utf8_in o) [])
-      by None at = empty
-      by (Some (constants.Utf8 text)) at = fits_at true f.constants is.constants.each index text at
-      by (Some other) at = empty
-
-  pub name_fits : IsText (name_of f)
-  unfolding class_name_of
-  name_fits = by (slice_get f.constants f.this_class)
-    where
-      by : (o : Option Constant) → IsText (unwrap_or (class_name_in f.constants o) [])
-      by None = empty
-      by (Some (constants.Class name)) = utf8_fits name
-      by (Some other) = empty
-
   string_fits : (c : Constant) → All IsText (string_of f c)
-  string_fits (constants.String utf8) = All-cons IsText (text_at f utf8) [] (utf8_fits utf8) (All-nil IsText)
+  string_fits (constants.String utf8) = All-cons IsText (text_at f utf8) [] (utf8_fits f is utf8) (All-nil IsText)
   string_fits other = All-nil IsText
 
   those_fit : (cs : List Constant) → All IsText (flat_map (string_of f) cs)
@@ -111,7 +71,7 @@ pub text_fits : (P : Tables) → HasFiles P → (s : ℕ) → IsText (get_or P.s
 text_fits P has s = elim (cases_lt s (length P.strings)) [
   | inl low ↦ All-contains IsText (all_strings P.family) (get_or P.strings s []) all
       (first_among has.program.strings (get_or P.strings s []) (Contains-get_or P.strings s [] low))
-  | inr high ↦ subst IsText (sym (get_or_past P.strings s [] high)) empty
+  | inr high ↦ subst IsText (sym (get_or_past P.strings s [] high)) no_text
 ]
   where
     all : All IsText (all_strings P.family)

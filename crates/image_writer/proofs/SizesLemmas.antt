@@ -37,7 +37,7 @@ use Rattle.object_graph.specs.Images.{AreSmall}
 use Rattle.image_format.specs.Names.{class_name}
 use Rattle.image_format.specs.Told.{told_if}
 use Rattle.image_writer.specs.steps.Sizes.{HasFiles, IsSizedValue, IsSizedObject, IsSizedRegion}
-use Rattle.image_writer.proofs.FilesLemmas.{name_fits}
+use Rattle.image_format.proofs.NamesLemmas.{name_fits}
 
 -- ---- names of classes
 
@@ -56,7 +56,16 @@ module _ (P : Tables) (has : HasFiles P) where
   pub short_name : (class : ClassId) → HasObjects P class → length (class_name P.family class) < 2 ^ 16
   short_name (classes.Given c) objects = short_given c
   short_name (classes.BuiltIn b) objects = ltb-true (length (name_of_built_in b)) 65536 (short_built_in b)
-  short_name (classes.Array a) objects =
+  short_name (classes.Array a) (inr unknown) =
+      let none : element_text P.family a.element ≡ None = ap (element_text P.family) unknown.element in
+      omega (
+        arith,
+        unknown.most,
+        ap (λ o. length (replicate a.dimensions 91 ++ unwrap_or o [])) none,
+        length-append (replicate a.dimensions 91) [],
+        length-replicate {A = ℕ} a.dimensions 91,
+      )
+  short_name (classes.Array a) (inl objects) =
       by (element_text P.family a.element)
       (both_true (leb a.dimensions 255) (is_name a.dimensions (element_text P.family a.element)) objects.1).1
     where

@@ -33,6 +33,7 @@ element_is_no_array family element.Double text h = other_letter 68 [] text (λ n
 element_is_no_array family (element.Given c) text h = given_is_no_array (name_in family c) text h
 element_is_no_array family (element.BuiltIn b) text h =
     other_letter 76 (name_of_built_in b ++ 59 ∷ []) text (λ n. omega arith) h
+element_is_no_array family (element.Unknown n) text h = absurd cc
 
 pub same_count : (m n : ℕ) (s t : List ℕ) → IsNoArray s → IsNoArray t → replicate m 91 ++ s ≡ replicate n 91 ++ t
     → (m ≡ n) × (s ≡ t)

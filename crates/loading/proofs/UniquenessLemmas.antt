@@ -71,6 +71,7 @@ kind_of family element.Double text at = of_letter family element.Double (codes "
 kind_of family (element.Given c) text at = of_given family c text (name_in family c) refl at
 kind_of family (element.BuiltIn b) text at =
     inr (name_of_built_in b, sym (same_Some (object_type (name_of_built_in b)) text at), IsObject.built_in refl)
+kind_of family (element.Unknown n) text at = absurd cc
 
 same_object_name : (a b : List ℕ) → object_type a ≡ object_type b → a ≡ b
 same_object_name a b e =

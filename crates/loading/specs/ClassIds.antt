@@ -13,7 +13,7 @@ use Rattle.loading.specs.Families.{Family, name_in}
 abbrev pub object_type : List ℕ → List ℕ
 object_type name = 76 ∷ (name ++ 59 ∷ [])
 
--- the descriptor of an element type (JVMS 4.3.2)
+-- The descriptor of an element type (JVMS 4.3.2). A family names none that is neither given nor built in.
 abbrev pub element_text : Family → ElementType → Option (List ℕ)
 element_text family element.Boolean = Some (codes "Z")
 element_text family element.Byte = Some (codes "B")
@@ -25,6 +25,7 @@ element_text family element.Float = Some (codes "F")
 element_text family element.Double = Some (codes "D")
 element_text family (element.Given c) = option_map object_type (name_in family c)
 element_text family (element.BuiltIn b) = Some (object_type (name_of_built_in b))
+element_text family (element.Unknown n) = None
 
 -- The class has this name: an array class the descriptor of its type.
 pub data IsNamed (family : Family) (name : List ℕ) : ClassId → Type 0 where

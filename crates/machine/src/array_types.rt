@@ -59,7 +59,9 @@ fn kind_of_element(element: ElementType) -> Option<ElementKind>
         ElementType::Int => Some(ElementKind::Int),
         ElementType::Long => Some(ElementKind::Long),
         ElementType::Float | ElementType::Double => None,
-        ElementType::Given(_) | ElementType::BuiltIn(_) => Some(ElementKind::Reference),
+        ElementType::Given(_) | ElementType::BuiltIn(_) | ElementType::Unknown(_) => {
+            Some(ElementKind::Reference)
+        }
     }
 }
 
@@ -75,7 +77,7 @@ fn kind_of_component(array: ArrayType) -> Option<ElementKind>
     }
 }
 
-/// The class of an element type, if it is no primitive type.
+/// The class of an element type, if it is given or built in.
 fn class_of_element(element: ElementType) -> Option<ClassId>
     ensures { result ≡ class_of_element element }
 {
@@ -86,7 +88,8 @@ fn class_of_element(element: ElementType) -> Option<ClassId>
     }
 }
 
-/// The class of an array's components, if they are references.
+/// The class of an array's components, if they are references. None where it is neither given nor built in: then no
+/// component is anything but null.
 fn component_class(array: ArrayType) -> Option<ClassId>
     ensures { result ≡ component_class array }
 {

@@ -63,13 +63,14 @@ fn one_more_dimension(array: ArrayType) -> Option<ArrayType>
     })
 }
 
-/// The length of the descriptor of an element type (JVMS 4.3.2), if there is such a class.
+/// The length of the descriptor of an element type (JVMS 4.3.2), if there is such a given or built-in class.
 fn element_length(family: &Family, element: ElementType) -> Option<usize>
     ensures { result ≡ option_map length (element_text family.now element) }
 {
     match element {
         ElementType::Given(number) => Some(name_of(family.file(number)?).len() + 2),
         ElementType::BuiltIn(class) => Some(class.name().len() + 2),
+        ElementType::Unknown(_) => None,
         ElementType::Boolean
         | ElementType::Byte
         | ElementType::Char

@@ -260,6 +260,7 @@ impl Program {
             ElementType::Double => text.push_str("D"),
             ElementType::Given(number) => self.push_given(alloc, number, text),
             ElementType::BuiltIn(class) => push_class(class.name(), text),
+            ElementType::Unknown(number) => self.push_unknown(alloc, number, text),
         }
     }
 
@@ -267,6 +268,19 @@ impl Program {
     fn push_given(&self, alloc: Global, number: u32, text: &mut String) -> Result<(), AllocError> {
         let name = self.given_text(alloc, number)?;
         push_class(&name, text)
+    }
+
+    /// Adds the descriptor of a class that is neither given nor built in, by the number of its name.
+    fn push_unknown(
+        &self,
+        alloc: Global,
+        number: u32,
+        text: &mut String,
+    ) -> Result<(), AllocError> {
+        match self.string(number as usize) {
+            Some(name) => push_class(&printed(alloc, name)?, text),
+            None => Ok(()),
+        }
     }
 }
 

@@ -1,6 +1,6 @@
 -- The instructions on arrays keep shape.
 use Rattle.std.proofs.Common.{◌≡◌, ℕ, ℤ, zero, suc, Bool, true, false, cond, Option, Some, None, Ok, Err}
-use Rattle.std.proofs.Common.{replicate, refl, ap, sym, ◌∙◌, subst, arith}
+use Rattle.std.proofs.Common.{replicate, inl, refl, ap, sym, ◌∙◌, subst, arith}
 use Rattle.std.specs.Prelude.{if◌then◌else◌}
 use Rattle.std.specs.List.{AllByRecursion}
 use Rattle.std.specs.declared.result.Result.{Result}
@@ -106,12 +106,12 @@ primitive_kind primitives.Int = (kinds.Int, refl, refl)
 primitive_kind primitives.Long = (kinds.Long, refl, refl)
 
 primitive_class : (P : Tables) (kind : PrimitiveKind) → HasObjects P (classes.Array (type_of_primitives kind))
-primitive_class P primitives.Boolean = (omega arith, refl)
-primitive_class P primitives.Char = (omega arith, refl)
-primitive_class P primitives.Byte = (omega arith, refl)
-primitive_class P primitives.Short = (omega arith, refl)
-primitive_class P primitives.Int = (omega arith, refl)
-primitive_class P primitives.Long = (omega arith, refl)
+primitive_class P primitives.Boolean = inl (omega arith, refl)
+primitive_class P primitives.Char = inl (omega arith, refl)
+primitive_class P primitives.Byte = inl (omega arith, refl)
+primitive_class P primitives.Short = inl (omega arith, refl)
+primitive_class P primitives.Int = inl (omega arith, refl)
+primitive_class P primitives.Long = inl (omega arith, refl)
 
 -- ---- rows
 

@@ -1,7 +1,7 @@
 -- What the instructions of a linked program name is typed: the field of a putstatic or putfield has the instruction's
 -- kind, and of a class that new or anewarray name there are objects.
 use Rattle.std.proofs.Common.{◌≡◌, ℕ, ◌+◌, ◌<◌, ◌≤◌, Bool, true, false, cond, List, length, get_or}
-use Rattle.std.proofs.Common.{Option, Some, None, Ok, Err, slice_get, refl, sym, ap, ◌∙◌, subst, arith, nat_lt}
+use Rattle.std.proofs.Common.{Option, Some, None, Ok, Err, slice_get, inl, refl, sym, ap, ◌∙◌, subst, arith, nat_lt}
 use Rattle.std.specs.declared.result.Result.{Result}
 use Rattle.std.proofs.lemmas.Bool.{lt-ltb}
 use Rattle.std.proofs.lemmas.Option.{same_Some, slice_get_within, slice_get-get_or}
@@ -230,7 +230,7 @@ module _ (P : Tables) (is : IsProgram P) where
 
       by : (b : Bool) → is_array_class P.family (type_of class) ≡ b
           → IsTyped P (new_of_references (cond b (Some (type_of class)) None))
-      by true whole = let of = component class named in ((of.0, whole), of.1)
+      by true whole = let of = component class named in (inl (of.0, whole), of.1)
       by false whole = tt
 
   anewarray_typed : (e : Option RuntimeConstant) → IsConstantTyped P e → IsTyped P (anewarray_of P e)

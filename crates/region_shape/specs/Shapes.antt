@@ -1,7 +1,8 @@
 -- The shape of a region: it has a value for each static field of its class, which suits the field, and for no other;
 -- each object is an instance of a class that has instances, with just the slots that such an instance has, or an array,
 -- each slot suiting its field or the elements' type.
-use Rattle.std.specs.Prelude.{◌≡◌, ℕ, ◌<◌, ◌≤◌, Bool, true, false, List, [], Option, Some, None, slice_get, is_some}
+use Rattle.std.specs.Prelude.{◌≡◌, ℕ, ◌<◌, ◌≤◌, ◌⊎◌, Bool, true, false, List, [], Option, Some, None, slice_get}
+use Rattle.std.specs.Prelude.{is_some}
 use Rattle.std.specs.List.{AllByRecursion, AllZip}
 use Rattle.bytecode.specs.declared.operand.ElementKind.{ElementKind}
 use Rattle.built_in.specs.declared.class_id.BuiltIn.{BuiltIn}
@@ -14,7 +15,7 @@ use Rattle.vm_state.specs.declared.object.Object.{Object}
 use Rattle.vm_state.specs.declared.object.Monitor.TheVariants.{Free}
 use Rattle.vm_state.specs.SharedState.{Region}
 use Rattle.program.specs.declared.runtime_constant.FieldKind.{FieldKind}
-use Rattle.program.specs.Arrays.{is_array_class}
+use Rattle.program.specs.Arrays.{is_array_class, IsUnknownArray}
 use Rattle.program.specs.InstanceFields.{is_instantiable_in, slots_of, static_kinds}
 use Rattle.program.specs.Tables.{Tables}
 use Rattle.machine.specs.Arrays.{kind_of_component, stored_as}
@@ -43,11 +44,13 @@ has_objects builtins.PrintStream = false
 has_objects b = true
 
 -- A class of which there can be an object: a given one that is neither abstract nor an interface, such a built-in one,
--- or that of an array type that a name can say, with one dimension at least.
+-- or that of an array type that a name can say, with one dimension at least. An image may hold an array whose elements
+-- are of a class that is neither given nor built in.
 abbrev pub HasObjects : Tables → ClassId → Type 0
 HasObjects P (classes.Given c) = is_instantiable_in P.family c ≡ true
 HasObjects P (classes.BuiltIn b) = has_objects b ≡ true
-HasObjects P (classes.Array a) = (1 ≤ a.dimensions) × (is_array_class P.family a ≡ true)
+HasObjects P (classes.Array a) =
+    ((1 ≤ a.dimensions) × (is_array_class P.family a ≡ true)) ⊎ IsUnknownArray P a
 
 -- elements that instructions of this kind load and store: there are none for float and double
 abbrev pub AreElements : Option ElementKind → List Value → Type 0

@@ -6,7 +6,8 @@ use Rattle.classfile.specs.Units.{units_text}
 use Rattle.image_format.specs.Texts.{units_text as spelled}
 use Rattle.image_format.specs.Told.{units_in}
 use Rattle.image_writer.proofs.TextLemmas.{two_parts}
-use Rattle.image_writer.proofs.FilesLemmas.{IsText, text_fits, units_are, units_few}
+use Rattle.image_format.proofs.NamesLemmas.{IsText}
+use Rattle.image_writer.proofs.FilesLemmas.{text_fits, units_are, units_few}
 use Rattle.image_writer.proofs.values.push_text.Goals as goal
 
 pub push_units-requires : goal.push_units-requires

@@ -1,0 +1,52 @@
+-- Texts of a class file's constants: each is short, and modified UTF-8.
+use Rattle.std.proofs.Common.{◌≡◌, ℕ, zero, suc, ◌<◌, ◌^◌, Bool, true, false, List, [], ◌∷◌, length, Option, Some, None}
+use Rattle.std.proofs.Common.{slice_get, unwrap_or, refl, sym, subst, ◌∙◌, arith}
+use Rattle.std.proofs.lemmas.List.Elements.{All-nil}
+use Rattle.classfile.specs.Class.{IsClassFile}
+use Rattle.classfile.specs.ClassFile.{ClassFile}
+use Rattle.classfile.specs.Constants.{is_wide}
+use Rattle.classfile.specs.Lookup.{utf8_in, utf8_of, class_name_in, class_name_of}
+use Rattle.classfile.specs.Spelling.{Fits, AreConstants}
+use Rattle.classfile.specs.Units.{IsModifiedUtf8}
+use Rattle.classfile.specs.declared.constant.Constant.{Constant}
+use Rattle.classfile.specs.declared.constant.Constant.TheVariants as constants
+use Rattle.loading.specs.Names.{name_of}
+
+-- what a Utf8 may hold (JVMS 4.4.7)
+abbrev pub IsText : List ℕ → Type 0
+IsText text = (length text < 2 ^ 16) × IsModifiedUtf8 text
+
+pub no_text : IsText []
+no_text = (omega arith, record { units = []; each = All-nil (λ unit. unit < 2 ^ 16); spelled = refl })
+
+-- ---- texts of a constant pool
+
+fits_at : (after_wide : Bool) (cs : List Constant) → AreConstants after_wide cs → (i : ℕ) (text : List ℕ)
+    → slice_get cs i ≡ Some (constants.Utf8 text) → IsText text
+fits_at after_wide [] are i text at = absurd cc
+fits_at true (c ∷ cs) are zero text at =
+    absurd (let e : constants.Unusable ≡ constants.Utf8 text =
+    sym are.0 ∙ (let same : c ≡ constants.Utf8 text = cc in same) in cc)
+fits_at true (c ∷ cs) are (suc i) text at = fits_at false cs are.1 i text at
+fits_at false (c ∷ cs) are zero text at =
+    let same : c ≡ constants.Utf8 text = cc in subst (λ d. Fits d) same are.0
+fits_at false (c ∷ cs) are (suc i) text at = fits_at (is_wide c) cs are.1 i text at
+
+module _ (f : ClassFile) (is : IsClassFile f) where
+  pub utf8_fits : (index : ℕ) → IsText (unwrap_or (utf8_of f.constants index) [])
+  unfolding utf8_of
+  utf8_fits index = by (slice_get f.constants index) refl
+    where
+      by : (o : Option Constant) → slice_get f.constants index ≡ o → IsText (unwrap_or (utf8_in o) [])
+      by None at = no_text
+      by (Some (constants.Utf8 text)) at = fits_at true f.constants is.constants.each index text at
+      by (Some other) at = no_text
+
+  pub name_fits : IsText (name_of f)
+  unfolding class_name_of
+  name_fits = by (slice_get f.constants f.this_class)
+    where
+      by : (o : Option Constant) → IsText (unwrap_or (class_name_in f.constants o) [])
+      by None = no_text
+      by (Some (constants.Class name)) = utf8_fits name
+      by (Some other) = no_text
