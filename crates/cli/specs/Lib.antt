@@ -1,6 +1,7 @@
 pub mod Status
 pub mod Refusal
 pub mod Runs
+pub mod Running
 pub mod Builds
 pub mod AnyOrder
 pub mod OneBuild

@@ -5,7 +5,7 @@ ghost use Rattle.cli.specs.declared.fault.Refusal.TheVariants.{Memory};
 
 use crate::{FileFault, Status};
 use classfile::ClassFault;
-use image_parser::ImageFault;
+use image_reader::ImageFault;
 use init_engine::EntryFault;
 use program::LinkFault;
 use std::alloc::{AllocError, Global};
@@ -24,9 +24,9 @@ pub enum Refusal {
     /// The classes do not make one program.
     #[error("Link {0}")]
     Link(LinkFault),
-    /// A file is no image, as this text says: a class of it is told by its name.
-    #[error("{1}")]
-    Image(ImageFault, String),
+    /// A file is no image.
+    #[error("{0}")]
+    Image(ImageFault),
     /// An entry can't be run.
     #[error("Entry {0}")]
     Entry(EntryFault),
@@ -78,6 +78,17 @@ impl Refusal {
         match fault {
             LinkFault::Memory => Refusal::Memory,
             fault => Refusal::Link(fault),
+        }
+    }
+
+    /// The refusal of an image. To be out of memory is no fault of it.
+    pub(crate) fn of_image(fault: ImageFault) -> Refusal
+        ensures memory { fault ≡ ImageFault.Memory → result ≡ Refusal.Memory }
+        ensures other { fault ≢ ImageFault.Memory → result ≡ Refusal.Image fault }
+    {
+        match fault {
+            ImageFault::Memory => Refusal::Memory,
+            fault => Refusal::Image(fault),
         }
     }
 

@@ -1,11 +1,10 @@
-//! From an image's bytes to what a run of it by turns shows, and the command `run` over it.
+//! From an image's bytes to what a run of it by turns shows, and the start of the command `run`.
 
-use crate::image_faults::image_refusal;
-use crate::lazy::{Shown, entries_of, outcome_of, run_world};
-use crate::outcome::Outcome;
+use crate::lazy::{Shown, entries_of, run_world};
 use crate::{Files, Refusal, Run};
 use classfile::ClassName;
 use image_reader::{read, world};
+use init_engine::World;
 use object_graph::Image;
 use std::alloc::Global;
 
@@ -27,46 +26,47 @@ pub fn run_image(
     entries: &[ClassName],
     limit: u64,
 ) -> Result<ImageRun, Refusal> {
+    match start_of(alloc, bytes, entries) {
+        Ok(ImageStart { image, world }) => {
+            let shown = run_world(alloc, image.program(), world, limit)?;
+            Ok(ImageRun { image, shown })
+        }
+        Err(refusal) => Err(refusal),
+    }
+}
+
+/// An image, and its world, which has not begun to run.
+#[derive(Drop)]
+pub(crate) struct ImageStart {
+    pub image: Image,
+    pub world: World,
+}
+
+/// The start of the image of these bytes.
+fn start_of(alloc: Global, bytes: &[u8], entries: &[ClassName]) -> Result<ImageStart, Refusal> {
     match read(alloc, bytes) {
-        Ok(image) => match run_from(alloc, &image, entries, limit) {
-            Ok(shown) => Ok(ImageRun { image, shown }),
-            Err(refusal) => Err(refusal),
+        Ok(image) => match world(alloc, &image, entries) {
+            Ok(world) => Ok(ImageStart { image, world }),
+            Err(fault) => Err(Refusal::of_entry(fault)),
         },
-        Err(fault) => Err(image_refusal(alloc, bytes, fault)),
+        Err(fault) => Err(Refusal::of_image(fault)),
     }
 }
 
-/// Runs an image by turns, for at most so many steps.
-fn run_from(
-    alloc: Global,
-    image: &Image,
-    entries: &[ClassName],
-    limit: u64,
-) -> Result<Shown, Refusal> {
-    match world(alloc, image, entries) {
-        Ok(world) => Ok(run_world(alloc, image.program(), world, limit)?),
-        Err(fault) => Err(Refusal::of_entry(fault)),
-    }
-}
-
-/// Reads the image and runs it, as the words say.
+/// Reads the image, and answers its start, as the words say.
 ///
 /// # Errors
 /// The first refusal: the file, the image, an entry, or memory.
-pub(crate) fn run<F: Files>(
+pub(crate) fn start<F: Files>(
     alloc: Global,
     words: &Run<'_>,
     files: &mut F,
-) -> Result<Outcome, Refusal> {
+) -> Result<ImageStart, Refusal> {
     match files.get(words.image) {
-        Ok(bytes) => run_bytes(alloc, words, bytes.as_slice()),
+        Ok(bytes) => {
+            let entries = entries_of(alloc, words.entries)?;
+            start_of(alloc, bytes.as_slice(), entries.as_slice())
+        }
         Err(fault) => Err(Refusal::of_file(alloc, words.image, fault)),
     }
-}
-
-/// Runs the image of these bytes, as the words say.
-fn run_bytes(alloc: Global, words: &Run<'_>, bytes: &[u8]) -> Result<Outcome, Refusal> {
-    let entries = entries_of(alloc, words.entries)?;
-    let run = run_image(alloc, bytes, entries.as_slice(), words.limit)?;
-    Ok(outcome_of(alloc, run.image.program(), &run.shown)?)
 }

@@ -1,20 +1,15 @@
 //! The lazy procedure from class files' bytes to what is seen, and the command `lazy` over it.
 ghost use Rattle.std.specs.Prelude.{◌≡◌, ◌⊎◌, IfErr, IfOk};
-ghost use Rattle.std.specs.List.{flat_map};
 ghost use Rattle.init_engine.specs.Turns.{world_of};
 ghost use Rattle.cli.specs.Runs.{IsProgramOf, IsRefused, IsShown, IsShownFrom, texts_of};
-ghost use Rattle.cli.specs.Status.{IsTold};
 ghost use Rattle.cli.specs.steps.Refusals.{IsRefusedEntry};
 ghost use Rattle.cli.specs.declared.fault.Refusal.TheVariants.{Memory};
 
 use crate::class_files::linked_program;
 use crate::files::contents;
-use crate::outcome::Outcome;
-use crate::status::status_of;
-use crate::threads::thread_lines;
 use crate::{Files, Lazy, Refusal};
 use classfile::ClassName;
-use init_engine::{Line, Rest, Seen, World};
+use init_engine::{Rest, Seen, World};
 use program::Program;
 use std::alloc::{AllocError, Global};
 
@@ -100,80 +95,29 @@ pub(crate) fn run_world(
     })
 }
 
-/// Reads the class files and runs them, as the words say.
+/// A program, and a world of it that has not begun to run.
+#[derive(Drop)]
+pub(crate) struct Start {
+    pub program: Program,
+    pub world: World,
+}
+
+/// Reads the class files, and answers their lazy start, as the words say.
 ///
 /// # Errors
 /// The first refusal: a file, a class file, linking, an entry, or memory.
-pub(crate) fn run<F: Files>(
+pub(crate) fn start<F: Files>(
     alloc: Global,
     words: &Lazy<'_>,
     files: &mut F,
-) -> Result<Outcome, Refusal>
-    ensures { IfOk result (λ outcome. IsTold outcome.status) }
-{
-    match contents(alloc, words.files.as_slice(), files, usize::MAX) {
-        Ok(contents) => run_contents(alloc, words, contents.as_slice()),
-        Err(refusal) => Err(refusal),
-    }
-}
-
-/// Runs the class files of these texts, as the words say.
-fn run_contents(alloc: Global, words: &Lazy<'_>, files: &[Vec<u8>]) -> Result<Outcome, Refusal>
-    ensures { IfOk result (λ outcome. IsTold outcome.status) }
-{
+) -> Result<Start, Refusal> {
+    let contents = contents(alloc, words.files.as_slice(), files, usize::MAX)?;
+    let program = linked_program(alloc, contents.as_slice())?;
     let entries = entries_of(alloc, words.entries)?;
-    run_entries(alloc, files, entries.as_slice(), words.limit)
-}
-
-/// Runs the class files of these texts from these entries.
-fn run_entries(
-    alloc: Global,
-    files: &[Vec<u8>],
-    entries: &[ClassName],
-    limit: u64,
-) -> Result<Outcome, Refusal>
-    ensures { IfOk result (λ outcome. IsTold outcome.status) }
-{
-    match run_class_files(alloc, files, entries, limit) {
-        Ok(run) => told(outcome_of(alloc, &run.program, &run.shown)),
-        Err(refusal) => Err(refusal),
+    match World::lazy(alloc, &program, entries.as_slice()) {
+        Ok(world) => Ok(Start { program, world }),
+        Err(fault) => Err(Refusal::of_entry(fault)),
     }
-}
-
-/// The same, where to be out of memory is a refusal.
-fn told(outcome: Result<Outcome, AllocError>) -> Result<Outcome, Refusal>
-    requires { IfOk outcome (λ outcome. IsTold outcome.status) }
-    ensures { IfOk result (λ outcome. IsTold outcome.status) }
-{
-    Ok(outcome?)
-}
-
-/// What is to be told of a run of a program.
-pub(crate) fn outcome_of(
-    alloc: Global,
-    program: &Program,
-    shown: &Shown,
-) -> Result<Outcome, AllocError>
-    ensures { IfOk result (λ outcome. IsTold outcome.status) }
-{
-    let printed = printed_bytes(alloc, shown.seen.printed.as_slice())?;
-    let threads = thread_lines(alloc, program, shown.seen.threads.as_slice())?;
-    Ok(Outcome {
-        printed,
-        threads,
-        status: status_of(shown.seen.threads.as_slice(), shown.rest),
-    })
-}
-
-/// What was printed, line after line.
-fn printed_bytes(alloc: Global, lines: &[Line]) -> Result<Vec<u8>, AllocError>
-    ensures { IfOk result (λ bytes. bytes.items ≡ flat_map (λ line. line.text) lines.now) }
-{
-    let mut bytes = Vec::new(alloc);
-    for line in lines {
-        bytes.extend_from_slice(line.text.as_bytes())?;
-    }
-    Ok(bytes)
 }
 
 /// The class names of a list: cut at commas, with slashes for dots.

@@ -1,15 +1,17 @@
 //! One command, from its words to its exit status.
-ghost use Rattle.std.specs.Prelude.{◌≡◌, ◌≢◌, ◌≤◌, IfOk};
+ghost use Rattle.std.specs.Prelude.{◌≡◌, ◌≢◌, ◌≤◌, ◌⊎◌};
 ghost use Rattle.cli.specs.Refusal.{refusal_status};
-ghost use Rattle.cli.specs.Status.{IsTold};
+ghost use Rattle.cli.specs.Running.{IsOfRun};
 
-use crate::outcome::Outcome;
+use crate::image_run::ImageStart;
+use crate::lazy::Start;
 use crate::{
-    Files, Refusal, Request, Status, WordsFault, image_build, image_run, lazy, reporting,
-    request_of,
+    Build, Building, Files, Lazy, Ran, Refusal, Request, Run, RunFault, Status, WordsFault,
+    image_build, image_run, lazy, reporting, request_of, run_world, status_of, thread_lines,
 };
+use init_engine::World;
+use program::Program;
 use std::alloc::Global;
-use std::io;
 use std::io::Write;
 
 /// Does one command for the words after the program's name, and answers the exit status and standard
@@ -22,9 +24,10 @@ use std::io::Write;
 /// - 4: stuck; 5: the limit was reached with a thread that still has a step; 6: all threads ended,
 ///   and not all returned.
 ///
-/// With 1 and 2 nothing went to standard output. After a run it gets what was printed, and then
-/// standard error a line for each thread, but none where standard output failed. With `report` it gets
-/// the report, and with `build` nothing: the image goes to its file. A failure of standard error is ignored.
+/// With 2 nothing went to standard output, and with 1 nothing but what a run printed before memory was
+/// refused. While a run goes on it gets what is printed, and after it standard error a line for each
+/// thread, but none where standard output failed, which ends the run. With `report` it gets the report,
+/// and with `build` nothing: the image goes to its file. A failure of standard error is ignored.
 pub fn command<F: Files, W: Write + Send, E: Write>(
     alloc: Global,
     words: &[&str],
@@ -33,20 +36,114 @@ pub fn command<F: Files, W: Write + Send, E: Write>(
     errors: &mut E,
 ) -> (u8, W)
     ensures range { result.0 ≤ 6 }
-    ensures refused { result.0 ≡ 1 → result.1 ≡ out }
+    // Text that a run sent before memory was refused cannot be taken back.
+    ensures refused { result.0 ≡ 1 → (result.1 ≡ out) ⊎ IsOfRun (W.contents out) (W.contents result.1) }
     ensures words { result.0 ≡ 2 → result.1 ≡ out }
 {
     let status = match request_of(alloc, words) {
-        Ok(request) => do_request(alloc, &request, files, &mut out, errors),
+        Ok(Request::Build(words)) => build_image(alloc, &words, files, errors),
+        Ok(Request::Lazy(words)) => run_lazily(alloc, &words, files, &mut out, errors),
+        Ok(Request::Report(words)) => report_build(alloc, &words, files, &mut out, errors),
+        Ok(Request::Run(words)) => run_image(alloc, &words, files, &mut out, errors),
         Err(fault) => tell_words(&fault, &mut out, errors),
     };
     (status.code(), out)
 }
 
-/// Does the command of a request.
-fn do_request<F: Files, W: Write, E: Write>(
+/// Does the command `build`, which has nothing to tell where it is not refused.
+fn build_image<F: Files, E: Write>(
     alloc: Global,
-    request: &Request<'_>,
+    words: &Build<'_>,
+    files: &mut F,
+    errors: &mut E,
+) -> Status
+    ensures { result ≢ Status.Words }
+{
+    match image_build::run(alloc, words, files) {
+        Ok(()) => Status::Done,
+        Err(refusal) => refuse(&refusal, errors),
+    }
+}
+
+/// Does the command `lazy`.
+fn run_lazily<F: Files, W: Write, E: Write>(
+    alloc: Global,
+    words: &Lazy<'_>,
+    files: &mut F,
+    out: &mut W,
+    errors: &mut E,
+) -> Status
+    ensures refused { result ≡ Status.Refused
+        → (out.new ≡ out.old) ⊎ IsOfRun (W.contents out.old) (W.contents out.new) }
+    ensures words { result ≢ Status.Words }
+{
+    match lazy::start(alloc, words, files) {
+        Ok(Start { program, world }) => {
+            run_from(alloc, &program, world, words.limit, out, errors)
+        }
+        Err(refusal) => refuse(&refusal, errors),
+    }
+}
+
+/// Does the command `run`.
+fn run_image<F: Files, W: Write, E: Write>(
+    alloc: Global,
+    words: &Run<'_>,
+    files: &mut F,
+    out: &mut W,
+    errors: &mut E,
+) -> Status
+    ensures refused { result ≡ Status.Refused
+        → (out.new ≡ out.old) ⊎ IsOfRun (W.contents out.old) (W.contents out.new) }
+    ensures words { result ≢ Status.Words }
+{
+    match image_run::start(alloc, words, files) {
+        Ok(ImageStart { image, world }) => {
+            run_from(alloc, image.program(), world, words.limit, out, errors)
+        }
+        Err(refusal) => refuse(&refusal, errors),
+    }
+}
+
+/// Runs a world by turns, and tells what it prints while it runs, and then how its threads ended.
+fn run_from<W: Write, E: Write>(
+    alloc: Global,
+    program: &Program,
+    world: World,
+    limit: u64,
+    out: &mut W,
+    errors: &mut E,
+) -> Status
+    ensures refused { result ≡ Status.Refused → IsOfRun (W.contents out.old) (W.contents out.new) }
+    ensures words { result ≢ Status.Words }
+{
+    match run_world(alloc, program, world, limit, out) {
+        Ok(ran) => tell_threads(alloc, program, &ran, errors),
+        Err(RunFault::Memory) => refuse(&Refusal::Memory, errors),
+        Err(RunFault::Device) => refuse(&Refusal::Device, errors),
+    }
+}
+
+/// Tells how the threads of a run ended.
+fn tell_threads<E: Write>(alloc: Global, program: &Program, ran: &Ran, errors: &mut E) -> Status
+    ensures { result ≢ Status.Words }
+{
+    let threads = ran.threads.as_slice();
+    match thread_lines(alloc, program, threads) {
+        Ok(lines) => {
+            // A failure of standard error is ignored.
+            let _ = errors.write_all(lines.as_bytes());
+            let _ = errors.flush();
+            status_of(threads, ran.rest)
+        }
+        Err(_) => refuse(&Refusal::Memory, errors),
+    }
+}
+
+/// Does the command `report`.
+fn report_build<F: Files, W: Write, E: Write>(
+    alloc: Global,
+    words: &Building<'_>,
     files: &mut F,
     out: &mut W,
     errors: &mut E,
@@ -54,58 +151,10 @@ fn do_request<F: Files, W: Write, E: Write>(
     ensures refused { result ≡ Status.Refused → out.new ≡ out.old }
     ensures words { result ≢ Status.Words }
 {
-    match request {
-        Request::Build(words) => tell_done(image_build::run(alloc, words, files), errors),
-        Request::Lazy(words) => tell(lazy::run(alloc, words, files), out, errors),
-        Request::Report(words) => tell(reporting::run(alloc, words, files), out, errors),
-        Request::Run(words) => tell(image_run::run(alloc, words, files), out, errors),
-    }
-}
-
-/// Tells why a command that has nothing else to tell was refused, if it was.
-fn tell_done<E: Write>(done: Result<(), Refusal>, errors: &mut E) -> Status
-    ensures { result ≢ Status.Words }
-{
-    match done {
-        Ok(()) => Status::Done,
+    match reporting::run(alloc, words, files) {
+        Ok(report) => tell_text(report.as_slice(), out, errors),
         Err(refusal) => refuse(&refusal, errors),
     }
-}
-
-/// Tells what a command has to tell, or why it was refused.
-fn tell<W: Write, E: Write>(
-    outcome: Result<Outcome, Refusal>,
-    out: &mut W,
-    errors: &mut E,
-) -> Status
-    requires { IfOk outcome (λ outcome. IsTold outcome.status) }
-    ensures refused { result ≡ Status.Refused → out.new ≡ out.old }
-    ensures words { result ≢ Status.Words }
-{
-    match outcome {
-        Ok(outcome) => tell_outcome(&outcome, out, errors),
-        Err(refusal) => refuse(&refusal, errors),
-    }
-}
-
-/// Tells what a run printed and how its threads ended, or a report.
-fn tell_outcome<W: Write, E: Write>(outcome: &Outcome, out: &mut W, errors: &mut E) -> Status
-    requires { IsTold outcome.now.status }
-    ensures told { IsTold result }
-    ensures status { result ≢ Status.Failed → result ≡ outcome.now.status }
-{
-    if print(outcome, out).is_err() {
-        return refuse(&Refusal::Device, errors);
-    }
-    // A failure of standard error is ignored.
-    let _ = errors.write_all(outcome.threads.as_bytes());
-    let _ = errors.flush();
-    outcome.status
-}
-
-fn print<W: Write>(outcome: &Outcome, out: &mut W) -> io::Result<()> {
-    out.write_all(outcome.printed.as_slice())?;
-    out.flush()
 }
 
 /// Tells a refusal on standard error.
@@ -126,17 +175,17 @@ fn tell_words<W: Write, E: Write>(fault: &WordsFault, out: &mut W, errors: &mut 
 {
     match fault {
         WordsFault::Memory => refuse(&Refusal::Memory, errors),
-        WordsFault::Help(text) => tell_help(text.as_str(), out, errors),
+        WordsFault::Help(text) => tell_text(text.as_bytes(), out, errors),
         WordsFault::Wrong(text) => tell_wrong(text.as_str(), errors),
     }
 }
 
-/// Tells help on standard output.
-fn tell_help<W: Write, E: Write>(text: &str, out: &mut W, errors: &mut E) -> Status
+/// Tells help or a report on standard output.
+fn tell_text<W: Write, E: Write>(text: &[u8], out: &mut W, errors: &mut E) -> Status
     ensures refused { result ≢ Status.Refused }
     ensures words { result ≢ Status.Words }
 {
-    if out.write_all(text.as_bytes()).is_err() || out.flush().is_err() {
+    if out.write_all(text).is_err() || out.flush().is_err() {
         return refuse(&Refusal::Device, errors);
     }
     Status::Done

@@ -1,7 +1,7 @@
 //! Reads images.
 
 use crate::held_regions::held_regions;
-use image_parser::{ImageFault, Parsed, read as parse};
+use image_parser::{ImageFault, Parsed, parse};
 use object_graph::{Image, gather};
 use std::alloc::{AllocError, Global};
 

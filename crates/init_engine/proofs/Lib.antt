@@ -10,3 +10,4 @@ pub mod EntryLemmas
 pub mod StartingLemmas
 pub mod RestLemmas
 pub mod ProcedureLemmas
+pub mod SliceLemmas

@@ -7,9 +7,10 @@ use Rattle.semantics.specs.Programs.{Program}
 use Rattle.semantics.specs.Worlds.{World, Run, step}
 use Rattle.semantics.proofs.RunsLemmas.{runs_join_lem, run_more}
 use Rattle.init_engine.specs.Rounds.{Asked, nobody, steps, passes, Turns, idle, limited, goes_on, HasStopped}
+use Rattle.init_engine.specs.Rounds.{Rounds, no_rounds, more_rounds, TurnsSoFar}
 use borrow.Author.Count.{below_more}
 use Rattle.init_engine.specs.declared.world.Turn.TheVariants.{Moved, Waiting, Ended}
-use Rattle.init_engine.specs.steps.Rounds.{IsAsking, IsAskedSo, IsRound, IsStretch}
+use Rattle.init_engine.specs.steps.Rounds.{IsAsking, IsAskedSo, IsStretch}
 
 -- ---- one round
 
@@ -51,59 +52,6 @@ pub asked_ended : (P : Program) (first w new : World) (most t done : ℕ) (befor
     IsAskedSo P first most t done w before now → done < most → IsAsking P w t Ended new now after →
     IsAskedSo P first most (t + 1) done new before after
 asked_ended = asked_passed
-
--- ---- rounds one after the other
-
--- what turns go on from here, with these steps before them, are turns from the beginning
-abbrev pub GoOn : Program → ℕ → ℕ → World → ℕ → World → List ℕ → Type 0
-GoOn P count limit first left now before =
-    (rest : List ℕ) (last : World) → Turns P count left now rest last → Turns P count limit first (before ++ rest) last
-
-pub go_on_from_start : (P : Program) (count limit : ℕ) (w : World) → GoOn P count limit w limit w []
-go_on_from_start P count limit w rest last turns = turns
-
--- a round without a step
-idle_as : (P : Program) (count left : ℕ) (w last : World) (round : List ℕ) → length round ≡ 0
-    → Asked P w left count round last → Turns P count left w round last
-idle_as P count left w last [] is asked = idle asked
-idle_as P count left w last (t ∷ ts) is asked = absurd (omega (arith, is))
-
--- a last round
-last_round_ends : (P : Program) (count left done : ℕ) (w last : World) (before after : List ℕ)
-    (r : IsRound P w left count done last before after) → (done ≡ 0) ⊎ (done ≡ left) →
-    Turns P count left w r.is.round last
-last_round_ends P count left done w last before after r (inr is) = limited r.is.are_asked r.within (r.is.counted ∙ is)
-last_round_ends P count left done w last before after r (inl is) = elim r.complete [
-  | inl full ↦ limited r.is.are_asked r.within (r.is.counted ∙ full)
-  | inr all ↦ idle_as P count left w last r.is.round (r.is.counted ∙ is)
-      (subst (λ k. Asked P w left k r.is.round last) all r.is.are_asked)
-]
-
-pub turns_end : (P : Program) (count limit left done : ℕ) (first w last : World) (before after : List ℕ)
-    → GoOn P count limit first left w before → IsRound P w left count done last before after →
-    (done ≡ 0) ⊎ (done ≡ left) → Turns P count limit first after last
-turns_end P count limit left done first w last before after on r stop =
-    subst (λ (s : List ℕ). Turns P count limit first s last) (sym r.is.recorded)
-    (on r.is.round last (last_round_ends P count left done w last before after r stop))
-
-all_asked : (asked count done left : ℕ) → (done ≡ left) ⊎ (asked ≡ count) → done ≢ left → asked ≡ count
-all_asked asked count done left (inl full) more = absurd (more full)
-all_asked asked count done left (inr all) more = all
-
--- a round before others
-pub turns_go_on : (P : Program) (count limit left done : ℕ) (first w next : World) (before after : List ℕ)
-    → GoOn P count limit first left w before → IsRound P w left count done next before after →
-    done ≢ 0 → done ≢ left → GoOn P count limit first (left - done) next after
-turns_go_on P count limit left done first w next before after on r some more rest last turns =
-    let round = r.is.round in
-    let asked = subst (λ k. Asked P w left k round next) (all_asked r.asked count done left r.complete more)
-    r.is.are_asked in
-    let steps_done : 0 < length round = omega (arith, r.is.counted, some) in
-    let later = subst (λ k. Turns P count (left - k) next rest last) (sym r.is.counted) turns in
-    let joined : before ++ (round ++ rest) ≡ after ++ rest = sym (append_assoc before round rest)
-    ∙ ap (λ s. s ++ rest) (sym r.is.recorded) in
-    subst (λ (s : List ℕ). Turns P count limit first s last) joined
-    (on (round ++ rest) last (goes_on asked steps_done later))
 
 -- ---- turns are runs
 
@@ -160,27 +108,103 @@ stop_of_turns {P} {count} (goes_on {most} {w} {next} {last} {round} {rest} asked
       | inr stand ↦ inr stand
     ]
 
--- ---- for the loops
+-- ---- turns as far as they went
 
-pub room_left : (done most : ℕ) → done ≤ most → done ≢ most → done < most
-room_left done most h apart = omega arith
+abbrev GoOn : Program → ℕ → ℕ → World → ℕ → World → List ℕ → Type 0
+GoOn P count limit first left now before =
+    (rest : List ℕ) (last : World) → Turns P count left now rest last → Turns P count limit first (before ++ rest) last
 
-pub round_counts : (P : Program) (w last : World) (left count done : ℕ) (before after : List ℕ)
-    → IsRound P w left count done last before after → length after ≡ length before + done
-round_counts P w last left count done before after r =
-    omega (arith, ap length r.is.recorded, length-append before r.is.round, r.is.counted)
+-- what turns go on from whole rounds are turns from the beginning
+rounds_go_on : {P : Program} {count limit : ℕ} {first : World} {left : ℕ} {now : World} {before : List ℕ}
+    → Rounds P count first limit before left now → GoOn P count limit first left now before
+rounds_go_on no_rounds rest last turns = turns
+rounds_go_on {P} {count} {limit} {first} (more_rounds {left = most} {w} {next} {before} {round} rounds asked some)
+    rest last turns =
+    subst (λ (s : List ℕ). Turns P count limit first s last) (sym (append_assoc before round rest))
+    (rounds_go_on rounds (round ++ rest) last (goes_on asked some turns))
 
-none_or_all : (done left : ℕ) → (done ≡ 0) ⊎ ((done ≢ 0) × (done ≡ left)) → (done ≡ 0) ⊎ (done ≡ left)
-none_or_all done left (inl none) = inl none
-none_or_all done left (inr (some, all)) = inr all
+rounds_run : {P : Program} {count limit : ℕ} {first : World} {left : ℕ} {now : World} {before : List ℕ}
+    → Rounds P count first limit before left now → Run P first before now
+rounds_run no_rounds = refl
+rounds_run {P} {first = first} (more_rounds {left = most} {w} {next} {before} {round} rounds asked some) =
+    runs_join_lem P first w next before round (rounds_run rounds) (run_of_asked asked)
 
-pub last_round : (P : Program) (count threads limit left done : ℕ) (first w last : World) (before after : List ℕ)
-    → threads ≡ count → GoOn P count limit first left w before →
-    IsRound P w left threads done last before after → (done ≡ 0) ⊎ ((done ≢ 0) × (done ≡ left))
-    → Turns P count limit first after last
-last_round P count threads limit left done first w last before after is on r stop =
-    turns_end P count limit left done first w last before after on
-    (subst (λ k. IsRound P w left k done last before after) is r) (none_or_all done left stop)
+-- a run leads to where the turns stand
+pub run_so_far : (P : Program) (count limit left asked done : ℕ) (first now : World) (schedule : List ℕ)
+    → TurnsSoFar P count first limit schedule left asked done now → Run P first schedule now
+run_so_far P count limit left asked done first now schedule t =
+    subst (λ (s : List ℕ). Run P first s now) (sym t.joined)
+    (runs_join_lem P first t.begin now t.before t.round (rounds_run t.rounds) (run_of_asked t.are_asked))
+
+pub turns_begin : (P : Program) (count limit : ℕ) (w : World) → TurnsSoFar P count w limit [] limit 0 0 w
+turns_begin P count limit w = record {
+  before = [];
+  round = [];
+  begin = w;
+  rounds = no_rounds;
+  are_asked = nobody;
+  within = omega arith;
+  counted = refl;
+  joined = refl;
+}
+
+-- a round without a step
+idle_as : (P : Program) (count left : ℕ) (w last : World) (round : List ℕ) → length round ≡ 0
+    → Asked P w left count round last → Turns P count left w round last
+idle_as P count left w last [] is asked = idle asked
+idle_as P count left w last (t ∷ ts) is asked = absurd (omega (arith, is))
+
+-- after a last round the turns are over
+pub turns_of_last : (P : Program) (count limit left asked done : ℕ) (first last : World) (schedule : List ℕ)
+    → TurnsSoFar P count first limit schedule left asked done last → (done ≡ left) ⊎ ((asked ≡ count) × (done ≡ 0)) →
+    Turns P count limit first schedule last
+turns_of_last P count limit left asked done first last schedule t (inl full) =
+    subst (λ (s : List ℕ). Turns P count limit first s last) (sym t.joined)
+    (rounds_go_on t.rounds t.round last (limited t.are_asked t.within (t.counted ∙ full)))
+turns_of_last P count limit left asked done first last schedule t (inr (all, none)) =
+    subst (λ (s : List ℕ). Turns P count limit first s last) (sym t.joined)
+    (rounds_go_on t.rounds t.round last (idle_as P count left t.begin last t.round (t.counted ∙ none)
+    (subst (λ k. Asked P t.begin left k t.round last) all t.are_asked)))
+
+-- a round was asked further
+pub asked_so_far : (P : Program) (count limit left asked done further more : ℕ) (first old new : World)
+    (before after : List ℕ) → TurnsSoFar P count first limit before left asked done old → further ≤ count →
+    ((begin : World) (rounds : List ℕ) → IsAskedSo P begin left asked done old rounds before
+    → IsAskedSo P begin left further more new rounds after) →
+    TurnsSoFar P count first limit after left further more new
+asked_so_far P count limit left asked done further more first old new before after t within asks =
+    let so = asks t.begin t.before
+    (record { round = t.round; are_asked = t.are_asked; counted = t.counted; recorded = t.joined }) in
+    record {
+      before = t.before;
+      round = so.round;
+      begin = t.begin;
+      rounds = t.rounds;
+      are_asked = so.are_asked;
+      within = within;
+      counted = so.counted;
+      joined = so.recorded;
+    }
+
+-- a whole round was asked, and another one begins
+pub next_so_far : (P : Program) (count limit left asked done : ℕ) (first now : World) (schedule : List ℕ)
+    → TurnsSoFar P count first limit schedule left asked done now → asked ≡ count → 0 < done →
+    TurnsSoFar P count first limit schedule (left - done) 0 0 now
+next_so_far P count limit left asked done first now schedule t all some =
+    let whole = subst (λ k. Asked P t.begin left k t.round now) all t.are_asked in
+    let stepped : 0 < length t.round = omega (arith, t.counted) in
+    let rounds = subst (λ k. Rounds P count first limit (t.before ++ t.round) (left - k) now) t.counted
+    (more_rounds t.rounds whole stepped) in
+    record {
+      before = t.before ++ t.round;
+      round = [];
+      begin = now;
+      rounds = rounds;
+      are_asked = nobody;
+      within = omega arith;
+      counted = refl;
+      joined = t.joined ∙ sym (append-nil (t.before ++ t.round));
+    }
 
 -- ---- stretches of the only thread
 
@@ -191,50 +215,87 @@ one_round : (P : Program) (left : ℕ) (w next : World) → 0 < left → step P 
     → Asked P w left 1 (0 ∷ []) next
 one_round P left w next room stepped = steps nobody room stepped
 
-stretch_turns : (P : Program) (n left : ℕ) (w now last : World) (rest : List ℕ) → Run P w (replicate n 0) now → n ≤ left
-    → Turns P 1 (left - n) now rest last →
-    Turns P 1 left w (replicate n 0 ++ rest) last
-stretch_turns P zero left w now last rest run fits turns = subst (λ (v : World). Turns P 1 left v rest last) (sym run)
-    (subst (λ k. Turns P 1 k now rest last) (none_less left) turns)
-stretch_turns P (suc n) left w now last rest run fits turns =
+-- each step is a round
+rounds_alone : (P : Program) (limit n left : ℕ) (first w now : World) (before : List ℕ)
+    → Rounds P 1 first limit before left w → Run P w (replicate n 0) now → n ≤ left →
+    Rounds P 1 first limit (before ++ replicate n 0) (left - n) now
+rounds_alone P limit zero left first w now before rounds run fits =
+    subst (λ (v : World). Rounds P 1 first limit (before ++ []) (left - 0) v) run
+    (subst (λ k. Rounds P 1 first limit (before ++ []) k w) (sym (none_less left))
+    (subst (λ (s : List ℕ). Rounds P 1 first limit s left w) (sym (append-nil before)) rounds))
+rounds_alone P limit (suc n) left first w now before rounds run fits =
     let next = run.0 in
     let room : 0 < left = omega (arith, fits) in
     let less : n ≤ left - 1 = omega (arith, fits) in
-    let further : left - suc n ≡ left - 1 - n = omega (arith, fits) in
-    let later =
-    stretch_turns P n (left - 1) next now last rest run.2 less
-    (subst (λ k. Turns P 1 k now rest last) further turns) in
     let some : 0 < 1 = omega arith in
-    goes_on (one_round P left w next room run.1) some later
+    let further : left - 1 - n ≡ left - suc n = omega (arith, fits) in
+    let one : Rounds P 1 first limit (before ++ 0 ∷ []) (left - 1) next =
+    more_rounds rounds (one_round P left w next room run.1) some in
+    let all = rounds_alone P limit n (left - 1) first next now (before ++ 0 ∷ []) one run.2 less in
+    subst (λ k. Rounds P 1 first limit (before ++ 0 ∷ replicate n 0) k now) further
+    (subst (λ (s : List ℕ). Rounds P 1 first limit s (left - 1 - n) now)
+    (append_assoc before (0 ∷ []) (replicate n 0)) all)
 
--- a stretch before rounds
-alone_goes_on : (P : Program) (count limit left n : ℕ) (first w now : World) (before after : List ℕ)
-    → GoOn P count limit first left w before → Run P w (replicate n 0) now → after ≡ before ++ replicate n 0 →
-    n ≤ left → (n ≡ 0) ⊎ (count ≡ 1) → GoOn P count limit first (left - n) now after
-alone_goes_on P count limit left zero first w now before after on run recorded fits alone rest last turns =
-    let whole : after ≡ before = recorded ∙ append-nil before in
-    rw whole
-    (on rest last
-    (subst (λ (v : World). Turns P count left v rest last) (sym run)
-    (subst (λ k. Turns P count k now rest last) (none_less left) turns)))
-alone_goes_on P count limit left (suc n) first w now before after on run recorded fits (inl none) rest last turns =
-    absurd (omega (arith, none))
-alone_goes_on P count limit left (suc n) first w now before after on run recorded fits (inr one) rest last turns =
-    let stretches =
-    stretch_turns P (suc n) left w now last rest run fits
-    (subst (λ k. Turns P k (left - suc n) now rest last) one turns) in
-    let joined : before ++ (replicate (suc n) 0 ++ rest) ≡ after ++ rest =
-    sym (append_assoc before (replicate (suc n) 0) rest) ∙ ap (λ s. s ++ rest) (sym recorded) in
-    subst (λ (s : List ℕ). Turns P count limit first s last) joined
-    (on (replicate (suc n) 0 ++ rest) last
-    (subst (λ k. Turns P k left w (replicate (suc n) 0 ++ rest) last) (sym one) stretches))
+-- nobody was asked: the round has not begun
+unasked : {P : Program} {first now : World} {most t : ℕ} {schedule : List ℕ} → Asked P first most t schedule now
+    → t ≡ 0 → (schedule ≡ []) × (first ≡ now)
+unasked nobody none = (refl, refl)
+unasked (steps {t} asked room stepped) none = absurd (omega (arith, none))
+unasked (passes {t} asked room stands) none = absurd (omega (arith, none))
 
-pub stretch_goes_on : (P : Program) (count threads limit left n : ℕ) (first w now : World) (before after : List ℕ)
-    → threads ≡ count → GoOn P count limit first left w before →
-    IsStretch P threads w left n now before after → GoOn P count limit first (left - n) now after
-stretch_goes_on P count threads limit left n first w now before after is on s =
-    alone_goes_on P count limit left n first w now before after on s.run s.recorded s.bounded
-    (subst (λ k. (n ≡ 0) ⊎ (k ≡ 1)) is s.alone)
+some_stretch : (P : Program) (count limit left asked done n : ℕ) (first w now : World) (before after : List ℕ)
+    → TurnsSoFar P count first limit before left asked done w → Run P w (replicate n 0) now →
+    after ≡ before ++ replicate n 0 → n ≤ left → count ≡ 1 → asked ≡ 0 →
+    TurnsSoFar P count first limit after (left - n) asked done now
+some_stretch P count limit left asked done n first w now before after t run recorded fits one none =
+    let fresh = unasked t.are_asked none in
+    let same : before ≡ t.before = t.joined ∙ (ap (λ s. t.before ++ s) fresh.0 ∙ append-nil t.before) in
+    let alone = subst (λ k. Rounds P k first limit t.before left w) one
+    (subst (λ (v : World). Rounds P count first limit t.before left v) fresh.1 t.rounds) in
+    let all = subst (λ k. Rounds P k first limit (t.before ++ replicate n 0) (left - n) now) (sym one)
+    (rounds_alone P limit n left first w now t.before alone run fits) in
+    let silent : 0 ≡ done = sym (ap length fresh.0) ∙ t.counted in
+    record {
+      before = t.before ++ replicate n 0;
+      round = [];
+      begin = now;
+      rounds = all;
+      are_asked = subst (λ k. Asked P now (left - n) k [] now) (sym none) nobody;
+      within = t.within;
+      counted = silent;
+      joined = recorded ∙ (ap (λ s. s ++ replicate n 0) same ∙ sym (append-nil (t.before ++ replicate n 0)));
+    }
+
+no_stretch_so_far : (P : Program) (count limit left asked done : ℕ) (first w now : World) (before after : List ℕ)
+    → TurnsSoFar P count first limit before left asked done w → w ≡ now → after ≡ before ++ [] →
+    TurnsSoFar P count first limit after (left - 0) asked done now
+no_stretch_so_far P count limit left asked done first w now before after t same recorded =
+    subst (λ k. TurnsSoFar P count first limit after k asked done now) (sym (none_less left))
+    (subst (λ (v : World). TurnsSoFar P count first limit after left asked done v) same
+    (subst (λ (s : List ℕ). TurnsSoFar P count first limit s left asked done w)
+    (sym (recorded ∙ append-nil before)) t))
+
+zero_or_more : (n : ℕ) → (n ≡ 0) ⊎ (0 < n)
+zero_or_more zero = inl refl
+zero_or_more (suc n) = inr (omega arith)
+
+-- turns go on by a stretch, which is none in the midst of a round
+pub stretch_so_far : (P : Program) (count limit left asked done most n : ℕ) (first w now : World)
+    (before after : List ℕ) → TurnsSoFar P count first limit before left asked done w →
+    IsStretch P count w most n now before after → n ≤ left → (0 < asked → n ≡ 0) →
+    TurnsSoFar P count first limit after (left - n) asked done now
+stretch_so_far P count limit left asked done most zero first w now before after t s fits midst =
+    no_stretch_so_far P count limit left asked done first w now before after t s.run s.recorded
+stretch_so_far P count limit left asked done most (suc n) first w now before after t s fits midst =
+    let none : asked ≡ 0 = elim (zero_or_more asked) [
+      | inl none ↦ none
+      | inr some ↦ absurd (omega (arith, midst some))
+    ] in
+    elim s.alone [
+      | inl nothing ↦ absurd (omega (arith, nothing))
+      | inr one ↦ some_stretch P count limit left asked done (suc n) first w now before after t s.run s.recorded fits
+          one none
+    ]
 
 pub stretch_counts : (P : Program) (count left n : ℕ) (first now : World) (before after : List ℕ)
     → IsStretch P count first left n now before after → length after ≡ length before + n

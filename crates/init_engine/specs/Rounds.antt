@@ -29,3 +29,26 @@ pub data Turns (P : Program) (count : ℕ) : ℕ → World → List ℕ → Worl
 abbrev pub HasStopped : Program → ℕ → ℕ → List ℕ → World → Type 0
 HasStopped P count most schedule last =
     (length schedule ≡ most) ⊎ ((t : ℕ) → t < count → step P last t ≡ None)
+
+-- ---- turns as far as they went
+
+-- Whole rounds of so many threads, each with a step, of at most so many steps from the first world on. This is their
+-- schedule, so many steps are left, and they lead to this world.
+pub data Rounds (P : Program) (count : ℕ) (first : World) (most : ℕ) : List ℕ → ℕ → World → Type 0 where
+  no_rounds : Rounds P count first most [] most first
+  more_rounds : {left : ℕ} {w next : World} {before round : List ℕ} → Rounds P count first most before left w
+      → Asked P w left count round next → 0 < length round →
+      Rounds P count first most (before ++ round) (left - length round) next
+
+-- Turns as far as they went: whole rounds, after which so many steps are left, and of the next one the threads below a
+-- number were asked, who had so many steps.
+pub record TurnsSoFar (P : Program) (count : ℕ) (first : World) (most : ℕ) (schedule : List ℕ) (left asked done : ℕ)
+    (now : World) : Type 0 where
+  pub before : List ℕ
+  pub round : List ℕ
+  pub begin : World
+  pub rounds : Rounds P count first most before left begin
+  pub are_asked : Asked P begin left asked round now
+  pub within : asked ≤ count
+  pub counted : length round ≡ done
+  pub joined : schedule ≡ before ++ round

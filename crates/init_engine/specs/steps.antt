@@ -3,3 +3,4 @@ pub mod Rounds
 pub mod Threads
 pub mod Rests
 pub mod Starts
+pub mod Slices

@@ -3,6 +3,7 @@
 
 pub mod fault;
 mod procedure;
+mod rounds;
 pub mod schedule;
 mod stacks;
 pub mod starting;
@@ -12,7 +13,7 @@ pub mod world;
 
 pub use fault::EntryFault;
 pub use stuck::Rest;
-pub use turning::turns;
+pub use turning::{Turning, turns};
 pub use vm_state::ends::Ending;
 pub use vm_state::text::{Line, Text};
 pub use world::{Seen, Turn, World};

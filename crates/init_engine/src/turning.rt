@@ -1,172 +1,146 @@
-//! Turns: in each round threads 0, 1, .. take one step each if they have one.
+//! Turns that go on by slices: in each round threads 0, 1, .. take one step each if they have one.
 
-ghost use Rattle.std.specs.Prelude.{◌≡◌, ◌+◌, ◌<◌, ◌≤◌, ◌^◌, [], length, replicate, IfOk, OnOk};
-ghost use Rattle.semantics.specs.Worlds.{Run};
+ghost use Rattle.std.specs.Prelude.{◌≡◌, ◌<◌, ◌+◌, [], length, IfOk, OnOk, ℕ};
+ghost use Rattle.semantics.specs.Worlds.{Run, World as DefinedWorld};
+ghost use Rattle.semantics.specs.Programs.{Program as DefinedProgram};
 ghost use Rattle.machine.specs.Linked.{program_of};
-ghost use Rattle.courses.specs.steps.StepTables.{KeepsSteps};
+ghost use Rattle.program.specs.Tables.{Tables};
 ghost use Rattle.init_engine.specs.Turns.{world_of};
+ghost use Rattle.init_engine.specs.Turnings.{CanGoOn, HasTurned, IsSlice, IsUnderWay};
 ghost use Rattle.init_engine.specs.Schedules.{schedule_of, AreRuns};
 ghost use Rattle.init_engine.specs.Rounds.{Turns, HasStopped};
-ghost use Rattle.init_engine.specs.steps.Rounds.{IsAsking, IsRound, IsStretch};
 
+use crate::rounds::{Allowance, Place, run_rounds};
 use crate::schedule::Schedule;
-use crate::world::{Turn, World};
+use crate::world::World;
 use courses::step_table::StepTable;
 use program::Program;
 use std::alloc::{AllocError, Global};
+use std::marker::Model;
+use vm_state::text::Line;
 
-/// Asks a thread for a step, and records it where it had one.
-#[inline(always)]
-fn ask(
-    alloc: Global,
-    program: &Program,
-    world: &mut World,
-    schedule: &mut Schedule,
-    thread: u32,
-) -> Result<Turn, AllocError>
-    requires thread { thread < length world.old.threads }
-    requires room { length (schedule_of schedule.old) + 1 < 2 ^ 64 }
-    ensures asking { IfOk result (λ turn. IsAsking (program_of program.now) (world_of world.old) thread turn
-        (world_of world.new) (schedule_of schedule.old) (schedule_of schedule.new)) }
-    ensures threads { length world.new.threads ≡ length world.old.threads }
-{
-    match world.step(alloc, program, thread)? {
-        Turn::Moved => {
-            schedule.add(thread, 1)?;
-            Ok(Turn::Moved)
-        }
-        Turn::Waiting => Ok(Turn::Waiting),
-        Turn::Ended => Ok(Turn::Ended),
+/// Turns of a world that go on by slices, so that what was printed can be sent in between. A contract sees where they
+/// stand.
+pub struct Turning {
+    world: World,
+    table: StepTable,
+    schedule: Schedule,
+    place: Place,
+}
+
+impl Model for Turning {
+    ghost use Rattle.init_engine.specs.Turnings.{Midway};
+
+    ghost Value = { Midway };
+
+    ghost view = { λ t. record {
+      world = t.world;
+      schedule = t.schedule;
+      kept = t.table;
+      left = t.place.left;
+      asked = t.place.asked;
+      done = t.place.done;
+    } };
+}
+
+// By hand, since a derived one is proved anew wherever one is let go.
+impl Drop for Turning {
+    fn drop(self) {
+        let Turning {
+            world: _,
+            table: _,
+            schedule: _,
+            place: _,
+        } = self;
     }
 }
 
-/// One round of at most so many steps, and how many it had.
-fn round(
-    alloc: Global,
-    program: &Program,
-    world: &mut World,
-    schedule: &mut Schedule,
-    most: u64,
-) -> Result<u64, AllocError>
-    requires { length (schedule_of schedule.old) + most < 2 ^ 64 }
-    ensures round { IfOk result (λ done. IsRound (program_of program.now) (world_of world.old) most
-        (length world.old.threads) done (world_of world.new) (schedule_of schedule.old) (schedule_of schedule.new)) }
-    ensures threads { length world.new.threads ≡ length world.old.threads }
-{
-    let mut done = 0;
-    for thread in 0..world.thread_count() {
-        if done == most {
-            break;
-        }
-        match ask(alloc, program, world, schedule, thread)? {
-            Turn::Moved => done += 1,
-            Turn::Waiting => {}
-            Turn::Ended => {}
+impl Turning {
+    /// The turns of a world, of at most so many steps, before the first of them.
+    pub fn new(alloc: Global, world: World, limit: u64) -> Turning
+        ensures world { result.world ≡ world }
+        ensures schedule { result.schedule ≡ [] }
+        ensures begun { (P : DefinedProgram) → IsUnderWay P (world_of world) limit result }
+        ensures ready { (P : Tables) → CanGoOn P result }
+    {
+        Turning {
+            world,
+            table: StepTable::new(alloc),
+            schedule: Schedule::new(alloc),
+            place: Place::begin(limit),
         }
     }
-    Ok(done)
-}
 
-/// Runs the only thread ahead: instructions after each of which one of its frames goes on, and then one step, as
-/// long as it has one and there were fewer than so many. It answers how many there were.
-fn run_alone(
-    alloc: Global,
-    program: &Program,
-    world: &mut World,
-    table: &mut StepTable,
-    most: u64,
-) -> Result<u64, AllocError>
-    requires alone { length world.old.threads ≡ 1 }
-    requires steps { KeepsSteps program.now table.old }
-    ensures steps { OnOk result (KeepsSteps program.now table.new) }
-    ensures run { IfOk result (λ done. Run (program_of program.now) (world_of world.old) (replicate done 0)
-        (world_of world.new)) }
-    ensures most { IfOk result (λ done. done ≤ most) }
-    ensures threads { length world.new.threads ≡ length world.old.threads }
-{
-    let mut left = most;
-    'ahead: loop {
-        let count = world.run_stretch(alloc, program, table, 0, left)?;
-        left -= count;
-        if left == 0 {
-            break;
-        }
-        match world.step(alloc, program, 0)? {
-            Turn::Moved => left -= 1,
-            Turn::Waiting => break,
-            Turn::Ended => break,
-        }
+    /// Goes on for a slice: for at most so many steps, and until at least so many bytes were printed in it. It answers
+    /// whether the turns are over: the limit was reached, or no thread has a step. A slice may end in the midst of a
+    /// round, and the next one goes on from there, so the schedule is the same whatever the slices are.
+    ///
+    /// # Errors
+    /// `AllocError` where memory is refused. What was printed before the slice was printed by a run; of where the turns
+    /// stand nothing is promised then, and they do not go on.
+    pub fn go_on(
+        &mut self,
+        alloc: Global,
+        program: &Program,
+        steps: u64,
+        bytes: u64,
+    ) -> Result<bool, AllocError>
+        requires ready { CanGoOn program.now self.old }
+        requires steps { 0 < steps }
+        requires bytes { 0 < bytes }
+        ensures ready { OnOk result (CanGoOn program.now self.new) }
+        ensures turns { (first : DefinedWorld) (limit : ℕ)
+            → IsUnderWay (program_of program.now) first limit self.old
+            → IfOk result (λ over. HasTurned (program_of program.now) first limit over self.new) }
+        ensures slice { IfOk result (λ over. IsSlice steps bytes over self.old self.new) }
+        ensures threads { length self.new.world.threads ≡ length self.old.world.threads }
+    {
+        let mut allowance = Allowance { steps, text: bytes };
+        let (place, over) = run_rounds(
+            alloc,
+            program,
+            &mut self.world,
+            &mut self.table,
+            &mut self.schedule,
+            self.place,
+            &mut allowance,
+        )?;
+        self.place = place;
+        Ok(over)
     }
-    Ok(most - left)
-}
 
-/// Where there is one thread: its steps, each a round. It answers how many there were.
-fn stretch(
-    alloc: Global,
-    program: &Program,
-    world: &mut World,
-    table: &mut StepTable,
-    schedule: &mut Schedule,
-    most: u64,
-) -> Result<u64, AllocError>
-    requires room { length (schedule_of schedule.old) + most < 2 ^ 64 }
-    requires steps { KeepsSteps program.now table.old }
-    ensures steps { OnOk result (KeepsSteps program.now table.new) }
-    ensures stretch { IfOk result (λ done. IsStretch (program_of program.now) (length world.old.threads)
-        (world_of world.old) most done (world_of world.new) (schedule_of schedule.old) (schedule_of schedule.new)) }
-    ensures threads { length world.new.threads ≡ length world.old.threads }
-{
-    if world.thread_count() != 1 {
-        return Ok(0);
+    /// What was printed so far, in order.
+    pub fn printed(&self) -> &[Line]
+        ensures { result.now ≡ self.now.world.printed }
+    {
+        self.world.printed()
     }
-    let done = run_alone(alloc, program, world, table, most)?;
-    if done > 0 {
-        schedule.add(0, done)?;
-    }
-    Ok(done)
-}
 
-/// Rounds from an empty schedule on, up to one without a step or to so many steps.
-fn run_rounds(
-    alloc: Global,
-    program: &Program,
-    world: &mut World,
-    schedule: &mut Schedule,
-    limit: u64,
-) -> Result<(), AllocError>
-    requires { schedule_of schedule.old ≡ [] }
-    ensures turns { OnOk result (Turns (program_of program.now) (length world.old.threads) limit (world_of world.old)
-        (schedule_of schedule.new) (world_of world.new)) }
-    ensures threads { OnOk result (length world.new.threads ≡ length world.old.threads) }
-{
-    let mut table = StepTable::new(alloc);
-    let mut left = limit;
-    'rounds: loop {
-        let ahead = stretch(alloc, program, world, &mut table, schedule, left)?;
-        left -= ahead;
-        let done = round(alloc, program, world, schedule, left)?;
-        if done == 0 || done == left {
-            return Ok(());
-        }
-        left -= done;
+    /// The world that the turns have come to.
+    pub fn world(&self) -> &World
+        ensures { result.now ≡ self.now.world }
+    {
+        &self.world
     }
-}
 
-/// Runs a world by turns, and answers the schedule by its runs.
-fn runs_of(
-    alloc: Global,
-    program: &Program,
-    world: &mut World,
-    limit: u64,
-) -> Result<Vec<(u32, u64)>, AllocError>
-    ensures turns { IfOk result (λ r. Turns (program_of program.now) (length world.old.threads) limit
-        (world_of world.old) (schedule_of r.items) (world_of world.new)) }
-    ensures runs { IfOk result (λ r. AreRuns r.items) }
-    ensures threads { OnOk result (length world.new.threads ≡ length world.old.threads) }
-{
-    let mut schedule = Schedule::new(alloc);
-    run_rounds(alloc, program, world, &mut schedule, limit)?;
-    Ok(schedule.into_runs()?)
+    /// The world, and the schedule by its runs.
+    ///
+    /// # Errors
+    /// `AllocError` where memory is refused.
+    pub fn into_parts(self) -> Result<(World, Vec<(u32, u64)>), AllocError>
+        ensures world { IfOk result (λ r. r.0 ≡ self.world) }
+        ensures schedule { IfOk result (λ r. r.1.items ≡ self.schedule) }
+        ensures runs { IfOk result (λ r. AreRuns r.1.items) }
+    {
+        let Turning {
+            world,
+            table: _,
+            schedule,
+            place: _,
+        } = self;
+        let runs = schedule.into_runs()?;
+        Ok((world, runs))
+    }
 }
 
 /// Runs a world by turns, up to a round without a step or to so many steps. It answers the last world, and the
@@ -175,7 +149,6 @@ fn runs_of(
 ///
 /// # Errors
 /// `AllocError` where memory is refused.
-#[tactic(auto, using(crate::proofs::RoundLemmas::run_of_turns, crate::proofs::RoundLemmas::stop_of_turns))]
 pub fn turns(
     alloc: Global,
     program: &Program,
@@ -193,9 +166,12 @@ pub fn turns(
     ensures runs { IfOk result (λ r. AreRuns r.1.items) }
     ensures threads { IfOk result (λ r. length r.0.threads ≡ length world.threads) }
 {
-    let mut world = world;
-    match runs_of(alloc, program, &mut world, limit) {
-        Ok(runs) => Ok((world, runs)),
-        Err(error) => Err(error),
+    let mut turning = Turning::new(alloc, world, limit);
+    'slices: loop {
+        if turning.go_on(alloc, program, u64::MAX, u64::MAX)? {
+            break;
+        }
     }
+    let (last, runs) = turning.into_parts()?;
+    Ok((last, runs))
 }

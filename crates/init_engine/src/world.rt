@@ -12,7 +12,7 @@ ghost use Rattle.init_engine.specs.steps.Threads.{RunsHere, TopRuns, IsTurnOf, v
 ghost use Rattle.machine.specs.Linked.{program_of};
 ghost use Rattle.courses.specs.steps.StepTables.{KeepsSteps};
 ghost use Rattle.init_engine.specs.Threads.{thread_of, seen_of, HasNumber};
-ghost use Rattle.init_engine.specs.Turns.{IsTurn, world_of};
+ghost use Rattle.init_engine.specs.Turns.{IsTurn, Prints, world_of};
 ghost use Rattle.init_engine.specs.Stacks.{with_thread};
 ghost use Rattle.machine.specs.Effects.{going};
 ghost use Rattle.vm_state.specs.declared.frame.Frame.{Frame as Held};
@@ -97,6 +97,7 @@ fn take_turn(
     ensures thread { OnErr result (thread_of thread.new ≡ thread_of thread.old) }
     ensures shared { OnErr result (SharesTheSame shared.old shared.new) }
     ensures printed { OnErr result (printed.new.items ≡ printed.old.items) }
+    ensures prints { IfOk result (λ turn. Prints turn printed.old.items printed.new.items) }
 {
     let Thread::Going(frames) = thread else {
         return Ok(Turn::Ended);
@@ -208,6 +209,16 @@ impl World {
         Ok(Seen { printed, threads })
     }
 
+    /// How far each thread has come, by its number.
+    ///
+    /// # Errors
+    /// `AllocError` where memory is refused.
+    pub fn endings(&self, alloc: Global) -> Result<Vec<Ending>, AllocError>
+        ensures { IfOk result (λ v. v.items ≡ (seen (world_of self.now)).threads) }
+    {
+        endings(alloc, self.threads.as_slice())
+    }
+
     /// These threads, which have printed nothing.
     pub(crate) fn of_threads(alloc: Global, threads: Vec<Thread>, shared: Shared) -> World
         requires numbered { AreNumbered threads.items }
@@ -277,6 +288,7 @@ impl World {
         ensures ok { IfOk result (λ turn. IsTurn (program_of program.now) (world_of self.old) thread turn
             (world_of self.new)) }
         ensures threads { length self.new.threads ≡ length self.old.threads }
+        ensures prints { IfOk result (λ turn. Prints turn self.old.printed self.new.printed) }
         ensures err { OnErr result (world_of self.new ≡ world_of self.old) }
     {
         let stepping = &mut self.threads[thread as usize];
@@ -311,6 +323,7 @@ impl World {
         ensures run { IfOk result (λ count. Run (program_of program.now) (world_of self.old) (replicate count thread)
             (world_of self.new)) }
         ensures most { IfOk result (λ count. count ≤ most) }
+        ensures printed { self.new.printed ≡ self.old.printed }
         ensures threads { length self.new.threads ≡ length self.old.threads }
     {
         let running = &mut self.threads[thread as usize];

@@ -20,15 +20,6 @@ pub record IsAskedSo (P : Program) (first : World) (most asked done : ℕ) (now 
   pub counted : length round ≡ done
   pub recorded : after ≡ before ++ round
 
--- a round: all threads were asked, or the limit was reached
-pub record IsRound (P : Program) (first : World) (most count done : ℕ) (now : World) (before after : List ℕ) : Type
-    0 where
-  pub asked : ℕ
-  pub is : IsAskedSo P first most asked done now before after
-  pub within : asked ≤ count
-  pub bounded : done ≤ most
-  pub complete : (done ≡ most) ⊎ (asked ≡ count)
-
 -- rounds of one step of the only thread, if there were any
 pub record IsStretch (P : Program) (count : ℕ) (first : World) (most done : ℕ) (now : World)
     (before after : List ℕ) : Type 0 where

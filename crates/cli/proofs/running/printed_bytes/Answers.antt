@@ -1,7 +1,7 @@
 use Rattle.std.proofs.Common.{ap, ◌∙◌, List, ℕ, ◌++◌}
 use Rattle.vm_state.specs.declared.text.Line.{Line}
 use Rattle.cli.proofs.RefusalLemmas.{flat_more}
-use Rattle.cli.proofs.lazy.printed_bytes.Goals as goal
+use Rattle.cli.proofs.running.printed_bytes.Goals as goal
 
 pub loop-line-preserved : goal.loop-line-preserved
 loop-line-preserved c =

@@ -1,0 +1,61 @@
+-- What goes out while a world runs.
+use Rattle.std.specs.Prelude.{◌≡◌, ℕ, ◌≤◌, List, Option, Result, Ok, Err, length, take}
+use Rattle.std.specs.Io.KnownBytes.{Appends}
+use Rattle.std.specs.List.{flat_map}
+use Rattle.vm_state.specs.declared.text.Line.{Line}
+use Rattle.semantics.specs.Worlds.{World, Run, seen}
+use Rattle.program.specs.Tables.{Tables}
+use Rattle.machine.specs.Linked.{program_of}
+use Rattle.init_engine.specs.Rests.{IsRest}
+use Rattle.init_engine.specs.Rounds.{Turns}
+use Rattle.cli.specs.declared.running.Ran.{Ran}
+use Rattle.cli.specs.declared.running.RunFault.{RunFault}
+use Rattle.cli.specs.declared.running.RunFault.TheVariants.{Memory, Device}
+
+-- the text of lines, one after the other
+abbrev pub lines_text : List Line → List ℕ
+lines_text lines = flat_map (λ (line : Line). line.text) lines
+
+-- how far the threads of a world have come, and whether it goes on
+pub record IsStanding (P : Tables) (w : World) (ran : Ran) : Type 0 where
+  pub threads : ran.threads.items ≡ (seen w).threads
+  pub rest : IsRest (program_of P) w ran.rest
+
+-- The turns of the threads of a world, of at most so many steps, came to a world whose text has gone out whole.
+pub record HasRun (P : Tables) (first : World) (limit : ℕ) (before after : Option (List ℕ)) (ran : Ran) : Type 0 where
+  pub schedule : List ℕ
+  pub last : World
+  pub run : Run (program_of P) first schedule last
+  pub turns : Turns (program_of P) (length first.threads) limit first schedule last
+  pub stands : IsStanding P last ran
+  pub sent : Appends before after (lines_text last.shared.printed)
+
+-- What has gone out of lines where a run was cut short: the first of them, whole, where memory was refused, and the
+-- first bytes of their text where the sink failed.
+abbrev pub HaveGoneOut : List Line → Option (List ℕ) → Option (List ℕ) → RunFault → Type 0
+HaveGoneOut lines before after Memory =
+    (count : ℕ) × (count ≤ length lines) × Appends before after (lines_text (take count lines))
+HaveGoneOut lines before after Device =
+    (count : ℕ) × (count ≤ length (lines_text lines)) × Appends before after (take count (lines_text lines))
+
+-- A run from a world was cut short at a world of whose lines so much has gone out.
+pub record IsCutShort (P : Tables) (first : World) (before after : Option (List ℕ)) (fault : RunFault) : Type 0 where
+  pub schedule : List ℕ
+  pub last : World
+  pub run : Run (program_of P) first schedule last
+  pub sent : HaveGoneOut last.shared.printed before after fault
+
+-- what a call sent of a text: all of it, nothing for want of memory, or its first bytes where the sink failed
+abbrev pub SendsTo : {A : Type 0} → Option (List ℕ) → Option (List ℕ) → List ℕ → Result A RunFault → Type 0
+SendsTo before after text (Ok _) = Appends before after text
+SendsTo before after text (Err Memory) = after ≡ before
+SendsTo before after text (Err Device) = (count : ℕ) × (count ≤ length text) × Appends before after (take count text)
+
+-- lines that some run of a program printed have gone out
+pub record IsOfRun (before after : Option (List ℕ)) : Type 0 where
+  pub program : Tables
+  pub first : World
+  pub schedule : List ℕ
+  pub last : World
+  pub run : Run (program_of program) first schedule last
+  pub sent : HaveGoneOut last.shared.printed before after Memory

@@ -1,0 +1,131 @@
+//! Runs of worlds whose text goes out while they run.
+
+ghost use Rattle.std.specs.Prelude.{◌≡◌, ◌≤◌, length, drop, take, true, IfOk, IfErr};
+ghost use Rattle.std.specs.Io.KnownBytes.{Appends};
+ghost use Rattle.init_engine.specs.Turns.{world_of};
+ghost use Rattle.cli.specs.Running.{HasRun, IsCutShort, IsStanding, SendsTo, lines_text};
+
+use init_engine::{Ending, Line, Rest, Turning, World};
+use program::Program;
+use std::alloc::{AllocError, Global};
+use std::io::Write;
+
+/// How many steps a world makes at most before what it printed goes out.
+const STEPS: u64 = 1_000_000;
+
+/// After how many bytes of text these go out.
+const BYTES: u64 = 65_536;
+
+/// What is left to tell of a run whose text went out.
+#[derive(Drop)]
+pub struct Ran {
+    /// How far each thread has come, by its number.
+    pub threads: Vec<Ending>,
+    /// Whether all threads have ended, or none has a step, or one still has.
+    pub rest: Rest,
+}
+
+/// Why a run was cut short.
+#[derive(Clone, Copy, Debug)]
+pub enum RunFault {
+    /// Memory ran out. What was printed by the slices before has gone out.
+    Memory,
+    /// The sink failed. The first bytes of what was printed have gone out.
+    Device,
+}
+
+impl From<AllocError> for RunFault {
+    ghost from_gives = { λ _ e. e ≡ RunFault.Memory };
+
+    fn from(_error: AllocError) -> RunFault {
+        RunFault::Memory
+    }
+}
+
+/// Runs a world by turns, for at most so many steps, and sends what it prints while it runs: after 64 KiB of text or a
+/// million steps at the latest.
+///
+/// # Errors
+/// `Device` where the sink failed, and `Memory` where memory was refused. What went out then is what a run from this
+/// world printed, or its first bytes.
+pub fn run_world<W: Write>(
+    alloc: Global,
+    program: &Program,
+    world: World,
+    limit: u64,
+    out: &mut W,
+) -> Result<Ran, RunFault>
+    ensures ran { IfOk result (HasRun program.now (world_of world) limit (W.contents out.old) (W.contents out.new)) }
+    ensures cut { IfErr result (IsCutShort program.now (world_of world) (W.contents out.old) (W.contents out.new)) }
+{
+    let mut turning = Turning::new(alloc, world, limit);
+    let mut sent = 0;
+    'slices: loop {
+        let over = turning.go_on(alloc, program, STEPS, BYTES)?;
+        sent = send_further(alloc, turning.printed(), sent, out)?;
+        if over {
+            return Ok(ran(alloc, program, turning.world())?);
+        }
+    }
+}
+
+/// What is left to tell of a run that came to this world.
+fn ran(alloc: Global, program: &Program, world: &World) -> Result<Ran, AllocError>
+    ensures { IfOk result (IsStanding program.now (world_of world.now)) }
+{
+    let threads = world.endings(alloc)?;
+    let rest = world.rest(program);
+    Ok(Ran { threads, rest })
+}
+
+/// Sends the lines that are new after so many, and answers how many there are.
+fn send_further<W: Write>(
+    alloc: Global,
+    lines: &[Line],
+    sent: usize,
+    out: &mut W,
+) -> Result<usize, RunFault>
+    requires { sent ≤ length lines.now }
+    ensures all { IfOk result (λ count. count ≡ length lines.now) }
+    ensures sends { SendsTo (W.contents out.old) (W.contents out.new) (lines_text (drop sent lines.now)) result }
+{
+    let (_, fresh) = lines.split_at(sent);
+    if fresh.is_empty() {
+        return Ok(sent);
+    }
+    let bytes = printed_bytes(alloc, fresh)?;
+    let (_, whole) = send_all(bytes.as_slice(), out);
+    if !whole || out.flush().is_err() {
+        return Err(RunFault::Device);
+    }
+    Ok(lines.len())
+}
+
+/// What was printed, line after line.
+fn printed_bytes(alloc: Global, lines: &[Line]) -> Result<Vec<u8>, AllocError>
+    ensures { IfOk result (λ bytes. bytes.items ≡ lines_text lines.now) }
+{
+    let mut bytes = Vec::new(alloc);
+    for line in lines {
+        bytes.extend_from_slice(line.text.as_bytes())?;
+    }
+    Ok(bytes)
+}
+
+/// Sends bytes, and answers how many went out, and whether all did.
+fn send_all<W: Write>(bytes: &[u8], out: &mut W) -> (usize, bool)
+    ensures within { result.0 ≤ length bytes.now }
+    ensures got { Appends (W.contents out.old) (W.contents out.new) (take result.0 bytes.now) }
+    ensures whole { result.1 ≡ true → result.0 ≡ length bytes.now }
+{
+    let mut at = 0;
+    while at < bytes.len() {
+        let (_, rest) = bytes.split_at(at);
+        match out.write(rest) {
+            Err(_) => return (at, false),
+            Ok(0) => return (at, false),
+            Ok(n) => at += n,
+        }
+    }
+    (at, true)
+}

@@ -1,0 +1,5 @@
+use Rattle.init_engine.proofs.RoundLemmas.{turns_begin}
+use Rattle.init_engine.proofs.turning.Turning.new.Goals as goal
+
+pub returns-clause-begun : goal.returns-clause-begun
+returns-clause-begun c = λ P. rw (c.new-2.ensures, c.begin.ensures) (turns_begin P _ _ _)
