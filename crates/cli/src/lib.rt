@@ -29,6 +29,7 @@ pub use command_line::{Build, Building, Lazy, Request, Run, WordsFault, request_
 pub use fault::Refusal;
 pub use files::{FileFault, Files};
 pub use image_reader::ImageFault;
+pub use image_build::{GREATEST_LENGTH, build_image};
 pub use image_run::{ImageRun, run_image};
 pub use init_engine::Rest;
 pub use lazy::{LazyRun, Shown, entries_of, run_class_files};

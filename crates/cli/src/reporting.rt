@@ -3,8 +3,9 @@ ghost use Rattle.std.specs.Prelude.{◌≡◌, IfOk};
 ghost use Rattle.report.specs.Texts.{report_text};
 ghost use Rattle.report.specs.Waves.{GiveWaves};
 
+use crate::build::build_here;
 use crate::files::contents;
-use crate::requested::built;
+use crate::requested::{options_of, refusal_of};
 use crate::{Building, Files, Refusal};
 use building::Built;
 use image_writer::sink::Out;
@@ -20,15 +21,10 @@ pub(crate) fn run<F: Files>(
     words: &Building<'_>,
     files: &mut F,
 ) -> Result<Vec<u8>, Refusal> {
-    let contents = contents(alloc, words.files.as_slice(), files, usize::MAX)?;
-    report_of(alloc, words, contents.as_slice())
-}
-
-/// The report of the class files of these texts, as the words say.
-fn report_of(alloc: Global, words: &Building<'_>, files: &[Vec<u8>]) -> Result<Vec<u8>, Refusal> {
-    match built(alloc, words, files) {
+    let texts = contents(alloc, words.files.as_slice(), files, usize::MAX)?;
+    match build_here(alloc, texts.as_slice(), &options_of(words)) {
         Ok(built) => Ok(report_bytes(alloc, &built)?),
-        Err(refusal) => Err(refusal),
+        Err(fault) => Err(refusal_of(alloc, texts.as_slice(), fault)),
     }
 }
 
