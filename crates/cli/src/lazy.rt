@@ -97,7 +97,7 @@ pub(crate) fn run_world(
 
 /// A program, and a world of it that has not begun to run.
 #[derive(Drop)]
-pub(crate) struct Start {
+pub(crate) struct LazyStart {
     pub program: Program,
     pub world: World,
 }
@@ -110,12 +110,12 @@ pub(crate) fn start<F: Files>(
     alloc: Global,
     words: &Lazy<'_>,
     files: &mut F,
-) -> Result<Start, Refusal> {
+) -> Result<LazyStart, Refusal> {
     let contents = contents(alloc, words.files.as_slice(), files, usize::MAX)?;
     let program = linked_program(alloc, contents.as_slice())?;
     let entries = entries_of(alloc, words.entries)?;
     match World::lazy(alloc, &program, entries.as_slice()) {
-        Ok(world) => Ok(Start { program, world }),
+        Ok(world) => Ok(LazyStart { program, world }),
         Err(fault) => Err(Refusal::of_entry(fault)),
     }
 }

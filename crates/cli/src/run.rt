@@ -4,7 +4,7 @@ ghost use Rattle.cli.specs.Refusal.{refusal_status};
 ghost use Rattle.cli.specs.Running.{IsOfRun};
 
 use crate::image_run::ImageStart;
-use crate::lazy::Start;
+use crate::lazy::LazyStart;
 use crate::{
     Build, Building, Files, Lazy, Ran, Refusal, Request, Run, RunFault, Status, WordsFault,
     image_build, image_run, lazy, reporting, request_of, run_world, status_of, thread_lines,
@@ -78,7 +78,7 @@ fn run_lazily<F: Files, W: Write, E: Write>(
     ensures words { result ≢ Status.Words }
 {
     match lazy::start(alloc, words, files) {
-        Ok(Start { program, world }) => {
+        Ok(LazyStart { program, world }) => {
             run_from(alloc, &program, world, words.limit, out, errors)
         }
         Err(refusal) => refuse(&refusal, errors),

@@ -168,7 +168,10 @@ fn swapped(
         } else {
             place
         };
-        add_file(&mut other, files.get(taken).map_or(&[], |file| file.as_slice()))?;
+        add_file(
+            &mut other,
+            files.get(taken).map_or(&[], |file| file.as_slice()),
+        )?;
     }
     other.extend_from_slice(after_files(files, bytes))?;
     add_digest(&mut other)?;
