@@ -24,6 +24,7 @@ still_program texts moved P same of =
       links = still_link of.files others moves of.links;
       family = still_family of.files others P.family moves of.family;
       program = of.program;
+      own_strings = of.own_strings;
     }
 
 pub one_program : OneProgram
@@ -31,7 +32,7 @@ one_program texts moved P Q same of other =
     let (files, are, moves) = class_files_moved texts moved of.files same of.are in
     let these : files ≡ other.files = same_files moved files other.files are other.are in
     one_program_of_files of.files other.files P Q of.links (subst (IsPermutation of.files) these moves) of.family
-    of.program other.family other.program
+    of.program of.own_strings other.family other.program other.own_strings
 
 pub still_not_linked : StillNotLinked
 still_not_linked texts moved fault same (link {files} are fails) =

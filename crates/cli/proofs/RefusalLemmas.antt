@@ -16,7 +16,7 @@ use Rattle.loading.specs.Families.{IsFamilyOf}
 use Rattle.loading.specs.Files.{LinkFails, Links}
 use Rattle.loading.specs.declared.fault.LinkFault.{LinkFault}
 use Rattle.loading.specs.declared.fault.LinkFault.TheVariants as link_faults
-use Rattle.program.specs.Programs.{IsProgram}
+use Rattle.program.specs.Programs.{HasOwnStrings, IsProgram}
 use Rattle.program.specs.Tables.{Tables}
 use Rattle.init_engine.specs.Starts.{EntriesFail}
 use Rattle.init_engine.specs.declared.fault.EntryFault.{EntryFault}
@@ -109,10 +109,17 @@ not_linked_files texts files r are (inr wrong) = inr (not_link are wrong)
 
 pub is_program : (texts : List (List ℕ)) (files : List ClassFile) (r : Result Tables Refusal)
     → AreClassFiles texts files → OnOk r (Links files)
-    → IfOk r (λ P. IsFamilyOf files P.family × IsProgram P) → IfOk r (λ P. IsProgramOf texts P)
-is_program texts files (Ok P) are links (family, program) =
-    record { files = files; are = are; links = links; family = family; program = program }
-is_program texts files (Err refusal) are links program = tt
+    → IfOk r (λ P. IsFamilyOf files P.family × IsProgram P) → IfOk r HasOwnStrings
+    → IfOk r (λ P. IsProgramOf texts P)
+is_program texts files (Ok P) are links (family, program) own = record {
+  files = files;
+  are = are;
+  links = links;
+  family = family;
+  program = program;
+  own_strings = own;
+}
+is_program texts files (Err refusal) are links program own = tt
 
 pub refused_texts : (texts names : List (List ℕ)) (r : Refusal) → (r ≡ Memory) ⊎ NotLinked texts r
     → (r ≡ Memory) ⊎ IsRefused texts names r

@@ -10,7 +10,7 @@ use Rattle.loading.specs.Files.{LinkFails, Links}
 use Rattle.loading.specs.declared.fault.LinkFault.{LinkFault}
 use Rattle.semantics.specs.Worlds.{World, Run, seen}
 use Rattle.program.specs.Tables.{Tables}
-use Rattle.program.specs.Programs.{IsProgram}
+use Rattle.program.specs.Programs.{HasOwnStrings, IsProgram}
 use Rattle.machine.specs.Linked.{program_of}
 use Rattle.init_engine.specs.Observations.{IsObservation}
 use Rattle.init_engine.specs.Rests.{IsRest}
@@ -30,13 +30,14 @@ texts_of {A} files = map (λ (f : Vec ℕ A). f.items) files
 abbrev pub AreClassFiles : List (List ℕ) → List ClassFile → Type 0
 AreClassFiles texts files = AllZip IsClassText texts files
 
--- a linked program of the class files that these texts are, of which nothing is wrong
+-- a linked program of the class files that these texts are, of which nothing is wrong, with no strings but theirs
 pub record IsProgramOf (texts : List (List ℕ)) (P : Tables) : Type 0 where
   pub files : List ClassFile
   pub are : AreClassFiles texts files
   pub links : Links files
   pub family : IsFamilyOf files P.family
   pub program : IsProgram P
+  pub own_strings : HasOwnStrings P
 
 -- what is seen after the turns of the threads of a world, of at most so many steps
 pub record IsShownFrom (P : Tables) (first : World) (limit : ℕ) (shown : Shown) : Type 0 where

@@ -3,7 +3,7 @@ ghost use Rattle.std.specs.Prelude.{◌≡◌, ◌⊎◌, ◌++◌, ◌∷◌, [
 ghost use Rattle.classfile.specs.Class.{IsClassText};
 ghost use Rattle.loading.specs.Families.{IsFamilyOf};
 ghost use Rattle.loading.specs.Files.{Links};
-ghost use Rattle.program.specs.Programs.{IsProgram};
+ghost use Rattle.program.specs.Programs.{HasOwnStrings, IsProgram};
 ghost use Rattle.cli.specs.Runs.{AreClassFiles, IsProgramOf, NotLinked, texts_of};
 ghost use Rattle.cli.specs.steps.Refusals.{IsBadAt, IsNoClassFile, IsUnlinkable};
 ghost use Rattle.cli.specs.declared.fault.Refusal.TheVariants.{Memory};
@@ -32,6 +32,7 @@ pub fn linked_program(alloc: Global, files: &[Vec<u8>]) -> Result<Program, Refus
 fn linked(alloc: Global, classes: Vec<ClassFile>) -> Result<Program, Refusal>
     ensures links { OnOk result (Links classes.items) }
     ensures program { IfOk result (λ program. IsFamilyOf classes.items program.family × IsProgram program) }
+    ensures own_strings { IfOk result HasOwnStrings }
     ensures refusal { IfErr result (λ refusal. (refusal ≡ Memory) ⊎ IsUnlinkable classes.items refusal) }
 {
     match program::link(alloc, classes) {

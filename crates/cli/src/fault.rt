@@ -5,7 +5,7 @@ ghost use Rattle.cli.specs.declared.fault.Refusal.TheVariants.{Memory};
 
 use crate::{FileFault, Status};
 use classfile::ClassFault;
-use image_reader::ImageFault;
+use image_parser::ImageFault;
 use init_engine::EntryFault;
 use program::LinkFault;
 use std::alloc::{AllocError, Global};
@@ -81,7 +81,7 @@ impl Refusal {
         }
     }
 
-    /// The refusal of an image. To be out of memory is no fault of it.
+    /// The refusal of the bytes of an image. To be out of memory is no fault of theirs.
     pub(crate) fn of_image(fault: ImageFault) -> Refusal
         ensures memory { fault ≡ ImageFault.Memory → result ≡ Refusal.Memory }
         ensures other { fault ≢ ImageFault.Memory → result ≡ Refusal.Image fault }

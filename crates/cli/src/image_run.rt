@@ -5,7 +5,7 @@ ghost use Rattle.image_reader.specs.Starts.{IsImageStart};
 ghost use Rattle.cli.specs.ImageRuns.{IsNoRun, IsShownFromImage, IsTextOf};
 ghost use Rattle.cli.specs.declared.fault.Refusal.TheVariants.{Memory};
 
-use crate::lazy::{Shown, entries_of, run_world};
+use crate::lazy::{Shown, entries_of, shown_by_turns};
 use crate::{Files, Refusal, Run};
 use classfile::ClassName;
 use image_reader::{read, world};
@@ -39,24 +39,24 @@ pub fn run_image(
     // What is answered otherwise is the first that is wrong, or that memory ran out.
     ensures refusal { IfErr result (λ refusal. (refusal ≡ Memory) ⊎ IsNoRun bytes.now entries.now refusal) }
 {
-    match start_of(alloc, bytes, entries) {
+    match image_start(alloc, bytes, entries) {
         Ok(ImageStart { image, world }) => {
-            let shown = run_world(alloc, image.program(), world, limit)?;
+            let shown = shown_by_turns(alloc, image.program(), world, limit)?;
             Ok(ImageRun { image, shown })
         }
         Err(refusal) => Err(refusal),
     }
 }
 
-/// An image, and its world, which has not begun to run.
+/// An image, and the world that starts from it.
 #[derive(Drop)]
 pub(crate) struct ImageStart {
     pub image: Image,
     pub world: World,
 }
 
-/// The start of the image of these bytes.
-fn start_of(alloc: Global, bytes: &[u8], entries: &[ClassName]) -> Result<ImageStart, Refusal>
+/// The start from an image of these bytes.
+fn image_start(alloc: Global, bytes: &[u8], entries: &[ClassName]) -> Result<ImageStart, Refusal>
     ensures image { IfOk result (λ start. IsTextOf bytes.now start.image) }
     ensures start { IfOk result (λ start. IsImageStart start.image entries.now (world_of start.world)) }
     ensures refusal { IfErr result (λ refusal. (refusal ≡ Memory) ⊎ IsNoRun bytes.now entries.now refusal) }
@@ -70,7 +70,7 @@ fn start_of(alloc: Global, bytes: &[u8], entries: &[ClassName]) -> Result<ImageS
     }
 }
 
-/// Reads the image, and answers its start, as the words say.
+/// Reads the image, and answers the start from it, as the words say.
 ///
 /// # Errors
 /// The first refusal: the file, the image, an entry, or memory.
@@ -82,7 +82,7 @@ pub(crate) fn start<F: Files>(
     match files.get(words.image) {
         Ok(bytes) => {
             let entries = entries_of(alloc, words.entries)?;
-            start_of(alloc, bytes.as_slice(), entries.as_slice())
+            image_start(alloc, bytes.as_slice(), entries.as_slice())
         }
         Err(fault) => Err(Refusal::of_file(alloc, words.image, fault)),
     }

@@ -72,13 +72,13 @@ fn run_program(
         (λ refusal. (refusal ≡ Memory) ⊎ IsRefusedEntry program.now entries.now refusal) }
 {
     match World::lazy(alloc, program, entries) {
-        Ok(world) => Ok(run_world(alloc, program, world, limit)?),
+        Ok(world) => Ok(shown_by_turns(alloc, program, world, limit)?),
         Err(fault) => Err(Refusal::of_entry(fault)),
     }
 }
 
 /// Runs a world by turns, for at most so many steps.
-pub(crate) fn run_world(
+pub(crate) fn shown_by_turns(
     alloc: Global,
     program: &Program,
     world: World,

@@ -6,8 +6,8 @@ ghost use Rattle.cli.specs.Running.{IsOfRun};
 use crate::image_run::ImageStart;
 use crate::lazy::LazyStart;
 use crate::{
-    Build, Building, Files, Lazy, Ran, Refusal, Request, Run, RunFault, Status, WordsFault,
-    image_build, image_run, lazy, reporting, request_of, run_world, status_of, thread_lines,
+    Files, Lazy, Ran, Refusal, Request, Run, RunFault, Status, WordsFault, image_build, image_run,
+    lazy, reporting, request_of, run_world, status_of, thread_lines,
 };
 use init_engine::World;
 use program::Program;
@@ -41,27 +41,29 @@ pub fn command<F: Files, W: Write + Send, E: Write>(
     ensures words { result.0 ≡ 2 → result.1 ≡ out }
 {
     let status = match request_of(alloc, words) {
-        Ok(Request::Build(words)) => build_image(alloc, &words, files, errors),
-        Ok(Request::Lazy(words)) => run_lazily(alloc, &words, files, &mut out, errors),
-        Ok(Request::Report(words)) => report_build(alloc, &words, files, &mut out, errors),
-        Ok(Request::Run(words)) => run_image(alloc, &words, files, &mut out, errors),
+        Ok(request) => do_request(alloc, &request, files, &mut out, errors),
         Err(fault) => tell_words(&fault, &mut out, errors),
     };
     (status.code(), out)
 }
 
-/// Does the command `build`, which has nothing to tell where it is not refused.
-fn build_image<F: Files, E: Write>(
+/// Does the command of a request.
+fn do_request<F: Files, W: Write, E: Write>(
     alloc: Global,
-    words: &Build<'_>,
+    request: &Request<'_>,
     files: &mut F,
+    out: &mut W,
     errors: &mut E,
 ) -> Status
-    ensures { result ≢ Status.Words }
+    ensures refused { result ≡ Status.Refused
+        → (out.new ≡ out.old) ⊎ IsOfRun (W.contents out.old) (W.contents out.new) }
+    ensures words { result ≢ Status.Words }
 {
-    match image_build::run(alloc, words, files) {
-        Ok(()) => Status::Done,
-        Err(refusal) => refuse(&refusal, errors),
+    match request {
+        Request::Build(words) => tell_done(image_build::run(alloc, words, files), errors),
+        Request::Lazy(words) => run_lazily(alloc, words, files, out, errors),
+        Request::Report(words) => tell_report(reporting::run(alloc, words, files), out, errors),
+        Request::Run(words) => run_image(alloc, words, files, out, errors),
     }
 }
 
@@ -78,14 +80,19 @@ fn run_lazily<F: Files, W: Write, E: Write>(
     ensures words { result ≢ Status.Words }
 {
     match lazy::start(alloc, words, files) {
-        Ok(LazyStart { program, world }) => {
-            run_from(alloc, &program, world, words.limit, out, errors)
-        }
+        Ok(LazyStart { program, world }) => run_from(
+            alloc,
+            &program,
+            world,
+            words.limit,
+            out,
+            errors,
+        ),
         Err(refusal) => refuse(&refusal, errors),
     }
 }
 
-/// Does the command `run`.
+/// Does the command `run --turns`.
 fn run_image<F: Files, W: Write, E: Write>(
     alloc: Global,
     words: &Run<'_>,
@@ -105,7 +112,7 @@ fn run_image<F: Files, W: Write, E: Write>(
     }
 }
 
-/// Runs a world by turns, and tells what it prints while it runs, and then how its threads ended.
+/// Runs a program from a world of it, and tells what it prints while it runs, and then how its threads ended.
 fn run_from<W: Write, E: Write>(
     alloc: Global,
     program: &Program,
@@ -140,18 +147,26 @@ fn tell_threads<E: Write>(alloc: Global, program: &Program, ran: &Ran, errors: &
     }
 }
 
-/// Does the command `report`.
-fn report_build<F: Files, W: Write, E: Write>(
-    alloc: Global,
-    words: &Building<'_>,
-    files: &mut F,
+/// Tells why a command that has nothing else to tell was refused, if it was.
+fn tell_done<E: Write>(done: Result<(), Refusal>, errors: &mut E) -> Status
+    ensures { result ≢ Status.Words }
+{
+    match done {
+        Ok(()) => Status::Done,
+        Err(refusal) => refuse(&refusal, errors),
+    }
+}
+
+/// Tells a report, or why there is none.
+fn tell_report<W: Write, E: Write>(
+    report: Result<Vec<u8>, Refusal>,
     out: &mut W,
     errors: &mut E,
 ) -> Status
     ensures refused { result ≡ Status.Refused → out.new ≡ out.old }
     ensures words { result ≢ Status.Words }
 {
-    match reporting::run(alloc, words, files) {
+    match report {
         Ok(report) => tell_text(report.as_slice(), out, errors),
         Err(refusal) => refuse(&refusal, errors),
     }

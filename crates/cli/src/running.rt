@@ -64,13 +64,13 @@ pub fn run_world<W: Write>(
         let over = turning.go_on(alloc, program, STEPS, BYTES)?;
         sent = send_further(alloc, turning.printed(), sent, out)?;
         if over {
-            return Ok(ran_to(alloc, program, turning.world())?);
+            return Ok(what_is_left(alloc, program, turning.world())?);
         }
     }
 }
 
 /// What is left to tell of a run that came to this world.
-fn ran_to(alloc: Global, program: &Program, world: &World) -> Result<Ran, AllocError>
+fn what_is_left(alloc: Global, program: &Program, world: &World) -> Result<Ran, AllocError>
     ensures { IfOk result (IsStanding program.now (world_of world.now)) }
 {
     let threads = world.endings(alloc)?;

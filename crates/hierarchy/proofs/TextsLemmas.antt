@@ -1,12 +1,15 @@
 -- Texts by number: what a look-up in a set of texts says, and what one more text changes.
-use Rattle.std.proofs.Common.{◌≡◌, ℕ, Bool, true, false, List, [], ◌∷◌, ◌++◌, map, get_or, Option, Some, None, is_some}
-use Rattle.std.proofs.Common.{slice_get, position, MatchOption, refl, sym, ap, ◌∙◌, inl, inr, subst}
+use Rattle.std.proofs.Common.{◌≡◌, ℕ, zero, suc, ◌+◌, ◌<◌, Bool, true, false, List, [], ◌∷◌, ◌++◌, length, map, take}
+use Rattle.std.proofs.Common.{get_or, Option, Some, None, is_some, slice_get, position, MatchOption, refl, sym, ap, ◌∙◌}
+use Rattle.std.proofs.Common.{inl, inr, subst, arith}
 use Rattle.std.specs.List.{Contains, list_any}
 use Rattle.std.specs.Str.{bytes_eq}
 use Rattle.std.proofs.lemmas.Slice.Eq.{bytes_eq-Decides}
 use Rattle.std.proofs.lemmas.List.Quantifiers.{position-Some}
 use Rattle.std.proofs.lemmas.List.Elements.{Contains-append_right}
-use Rattle.std.proofs.lemmas.Option.{slice_get-get_or}
+use Rattle.std.proofs.lemmas.Bool.{cases_lt}
+use Rattle.std.proofs.lemmas.List.{take_all, take_more}
+use Rattle.std.proofs.lemmas.Option.{get_or_from_slice_get, slice_get-get_or, slice_get_within}
 use Rattle.std.proofs.lemmas.Map.Keys.{any_passes_from_place}
 use Rattle.indexmap.specs.IndexSet.{insert_key}
 use Rattle.hierarchy.specs.Texts.{AreDistinct}
@@ -79,3 +82,36 @@ texts_after {V = V} items old new key text is apart after =
     has_none items (items key) old (λ has. apart (subst (Contains (map items old)) is has)) in
     let one : new ≡ old ++ key ∷ [] = rw none at after in
     ap (map items) one ∙ map_push items old key ∙ ap (λ t. map items old ++ t ∷ []) is
+
+-- ---- distinct texts, one after the other
+
+taken_at : (texts : List (List ℕ)) (n i : ℕ) (text : List ℕ) → slice_get (take n texts) i ≡ Some text
+    → (i < n) × (slice_get texts i ≡ Some text)
+taken_at texts zero i text at = absurd (let clash : None ≡ Some text = at in cc)
+taken_at [] (suc n) i text at = absurd (let clash : None ≡ Some text = at in cc)
+taken_at (t ∷ ts) (suc n) zero text at = (omega arith, at)
+taken_at (t ∷ ts) (suc n) (suc i) text at =
+    let there = taken_at ts n i text at in (omega (arith, there.0), there.1)
+
+-- the next is not among those before it
+pub next_apart : (texts : List (List ℕ)) (n : ℕ) (text : List ℕ) → AreDistinct texts → slice_get texts n ≡ Some text
+    → ¬ Contains (take n texts) text
+next_apart texts n text apart at has =
+    let (i, here) = place_in (take n texts) text has in
+    let there = taken_at texts n i text here in
+    let same : i ≡ n = apart i n text there.1 at in
+    absurd (omega (arith, there.0, same))
+
+pub next_taken : (texts old new : List (List ℕ)) (n : ℕ) (text : List ℕ) → slice_get texts n ≡ Some text
+    → old ≡ take n texts → new ≡ old ++ text ∷ [] → new ≡ take (n + 1) texts
+next_taken texts old new n text at before after =
+    after ∙ ap (λ ts. ts ++ text ∷ []) before
+    ∙ ap (λ t. take n texts ++ t ∷ []) (sym (get_or_from_slice_get texts n text text at))
+    ∙ sym (take_more texts n text (slice_get_within texts n text at))
+
+pub none_taken : (texts old : List (List ℕ)) (n : ℕ) → None ≡ slice_get texts n → old ≡ take n texts
+    → old ≡ take (n + 1) texts
+none_taken texts old n none before = elim (cases_lt n (length texts)) [
+  | inl within ↦ absurd (let at = slice_get-get_or texts n [] within in cc)
+  | inr past ↦ before ∙ take_all n texts past ∙ sym (take_all (n + 1) texts (omega (arith, past)))
+]

@@ -14,3 +14,7 @@ files_text family = flat_map (λ given. class_text given.file) family
 -- a hasher that has read the digest of these (FIPS 180-4)
 abbrev pub start_of : Family → DefaultHasher
 start_of family = write initial (sha512 (files_text family))
+
+-- a hasher that then reads the digest of a text
+abbrev pub start_with : DefaultHasher → List ℕ → DefaultHasher
+start_with start text = write start (sha512 text)

@@ -2,7 +2,7 @@
 
 ghost use Rattle.std.specs.Prelude.{◌≡◌, ◌++◌, List, ℕ, IfOk, OnOk};
 ghost use Rattle.sha2.specs.Hashers.{Holds512};
-ghost use Rattle.hierarchy.specs.Seeds.{files_text, start_of};
+ghost use Rattle.hierarchy.specs.Seeds.{files_text, start_of, start_with};
 
 use classfile::write;
 use loading::given::GivenClass;
@@ -38,6 +38,17 @@ impl Seed {
         let mut start = DefaultHasher::new();
         start.write(&hasher.finalize());
         Ok(Seed { start })
+    }
+
+    /// The same where a text is read too, for keys that come with it: who writes it cannot choose them either.
+    pub fn with_text(&self, text: &[u8]) -> Seed
+        ensures { result.start ≡ start_with self.now.start text.now }
+    {
+        let mut hasher = Sha512::new();
+        hasher.update(text);
+        let mut start = self.start;
+        start.write(&hasher.finalize());
+        Seed { start }
     }
 }
 

@@ -1,6 +1,7 @@
 //! Texts by number.
 
-ghost use Rattle.std.specs.Prelude.{◌++◌, ◌∷◌, ◌≡◌, [], Some, IfOk, OnOk, MatchOption, option_map, slice_get};
+ghost use Rattle.std.specs.Prelude.{◌+◌, ◌++◌, ◌∷◌, ◌≡◌, [], Some, IfOk, OnErr, OnOk, MatchOption, option_map};
+ghost use Rattle.std.specs.Prelude.{slice_get, take};
 ghost use Rattle.std.specs.List.{Contains};
 ghost use Rattle.hierarchy.specs.Texts.{AreDistinct};
 ghost use Rattle.hierarchy.specs.steps.GrowingTexts.{KeepsNumbers};
@@ -50,6 +51,20 @@ impl Texts {
         Ok(texts)
     }
 
+    /// The same texts, to be found by another seed.
+    ///
+    /// # Errors
+    /// Where memory runs out.
+    pub fn reseeded(&self, alloc: Global, seed: Seed) -> Result<Self, AllocError>
+        ensures { IfOk result (λ texts. texts ≡ self.now) }
+    {
+        let mut texts = Texts::new(alloc, seed);
+        for number in 0..self.texts.len() {
+            texts.push_next(alloc, self, number)?;
+        }
+        Ok(texts)
+    }
+
     /// What they are found by.
     pub(crate) fn seed(&self) -> Seed {
         *self.texts.hasher()
@@ -74,7 +89,7 @@ impl Texts {
     /// The number of a text, which gets one if it had none.
     ///
     /// # Errors
-    /// Where memory runs out; each text that had a number keeps it.
+    /// Where memory runs out; the texts stay as they were.
     pub fn add(&mut self, alloc: Global, text: &[u8]) -> Result<usize, AllocError>
         ensures number { IfOk result (λ n. slice_get self.new n ≡ Some text.now) }
         ensures keeps { KeepsNumbers self.old self.new }
@@ -82,6 +97,7 @@ impl Texts {
         // A new text comes last.
         ensures same { Contains self.old text.now → OnOk result (self.new ≡ self.old) }
         ensures last { ¬ Contains self.old text.now → OnOk result (self.new ≡ self.old ++ text.now ∷ []) }
+        ensures err { OnErr result (self.new ≡ self.old) }
     {
         match self.number(text) {
             Some(number) => Ok(number),
@@ -96,9 +112,22 @@ impl Texts {
         ensures keeps { KeepsNumbers self.old self.new }
         ensures distinct { OnOk result (AreDistinct self.new) }
         ensures last { OnOk result (self.new ≡ self.old ++ text.now ∷ []) }
+        ensures err { OnErr result (self.new ≡ self.old) }
     {
         let copy = Vec::from_slice(alloc, text)?;
         let (number, _) = self.texts.insert_full(copy)?;
         Ok(number)
+    }
+
+    /// Adds the text of a number among others, where those before it are there.
+    fn push_next(&mut self, alloc: Global, all: &Texts, number: usize) -> Result<(), AllocError>
+        requires before { self.old ≡ take number all.now }
+        requires distinct { AreDistinct all.now }
+        ensures { OnOk result (self.new ≡ take (number + 1) all.now) }
+    {
+        if let Some(text) = all.text(number) {
+            self.push(alloc, text)?;
+        }
+        Ok(())
     }
 }

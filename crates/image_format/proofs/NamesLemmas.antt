@@ -13,16 +13,16 @@ use Rattle.classfile.specs.declared.constant.Constant.TheVariants as constants
 use Rattle.loading.specs.Names.{name_of}
 
 -- what a Utf8 may hold (JVMS 4.4.7)
-abbrev pub IsText : List ℕ → Type 0
-IsText text = (length text < 2 ^ 16) × IsModifiedUtf8 text
+abbrev pub FitsUtf8 : List ℕ → Type 0
+FitsUtf8 text = (length text < 2 ^ 16) × IsModifiedUtf8 text
 
-pub no_text : IsText []
-no_text = (omega arith, record { units = []; each = All-nil (λ unit. unit < 2 ^ 16); spelled = refl })
+pub empty_fits : FitsUtf8 []
+empty_fits = (omega arith, record { units = []; each = All-nil (λ unit. unit < 2 ^ 16); spelled = refl })
 
 -- ---- texts of a constant pool
 
 fits_at : (after_wide : Bool) (cs : List Constant) → AreConstants after_wide cs → (i : ℕ) (text : List ℕ)
-    → slice_get cs i ≡ Some (constants.Utf8 text) → IsText text
+    → slice_get cs i ≡ Some (constants.Utf8 text) → FitsUtf8 text
 fits_at after_wide [] are i text at = absurd cc
 fits_at true (c ∷ cs) are zero text at =
     absurd (let e : constants.Unusable ≡ constants.Utf8 text =
@@ -33,20 +33,20 @@ fits_at false (c ∷ cs) are zero text at =
 fits_at false (c ∷ cs) are (suc i) text at = fits_at (is_wide c) cs are.1 i text at
 
 module _ (f : ClassFile) (is : IsClassFile f) where
-  pub utf8_fits : (index : ℕ) → IsText (unwrap_or (utf8_of f.constants index) [])
+  pub utf8_fits : (index : ℕ) → FitsUtf8 (unwrap_or (utf8_of f.constants index) [])
   unfolding utf8_of
   utf8_fits index = by (slice_get f.constants index) refl
     where
-      by : (o : Option Constant) → slice_get f.constants index ≡ o → IsText (unwrap_or (utf8_in o) [])
-      by None at = no_text
+      by : (o : Option Constant) → slice_get f.constants index ≡ o → FitsUtf8 (unwrap_or (utf8_in o) [])
+      by None at = empty_fits
       by (Some (constants.Utf8 text)) at = fits_at true f.constants is.constants.each index text at
-      by (Some other) at = no_text
+      by (Some other) at = empty_fits
 
-  pub name_fits : IsText (name_of f)
+  pub name_fits : FitsUtf8 (name_of f)
   unfolding class_name_of
   name_fits = by (slice_get f.constants f.this_class)
     where
-      by : (o : Option Constant) → IsText (unwrap_or (class_name_in f.constants o) [])
-      by None = no_text
+      by : (o : Option Constant) → FitsUtf8 (unwrap_or (class_name_in f.constants o) [])
+      by None = empty_fits
       by (Some (constants.Class name)) = utf8_fits name
-      by (Some other) = no_text
+      by (Some other) = empty_fits

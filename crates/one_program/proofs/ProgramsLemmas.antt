@@ -9,9 +9,10 @@ use Rattle.program.specs.declared.class.Class.{Class}
 use Rattle.program.specs.declared.runtime_constant.RuntimeConstant.{RuntimeConstant}
 use Rattle.program.specs.Fields.{statics_of}
 use Rattle.program.specs.Programs.{AreClasses, IsClass, IsImplementation, IsProgram, static_field}
-use Rattle.program.specs.Strings.{all_strings}
+use Rattle.program.specs.Strings.{all_strings, AreFirsts}
 use Rattle.program.specs.Tables.{Tables}
-use Rattle.one_program.specs.Laws.{OneClass, OneProgram, OneProgramOfFiles, StillFail, StillFamily, StillLink}
+use Rattle.one_program.specs.Laws.{OneClass, OneProgram, OneProgramOfFiles, OneProgramOfStrings}
+use Rattle.one_program.specs.Laws.{StillFail, StillFamily, StillLink}
 use Rattle.one_program.proofs.FamiliesLemmas.{one_family}
 use Rattle.one_program.proofs.ListsLemmas.{same_partners}
 use Rattle.one_program.proofs.MethodsLemmas.{one_implementation}
@@ -39,14 +40,12 @@ one_class family strings f a b fits apart h g =
       runtime_pool = pool i;
     }
 
--- the tables of one family
+-- the tables of one family and of the same strings
 same_tables : (P : Tables) (orders : List (List ℕ)) (classes : List Class) (strings : List (List ℕ))
     → IsFamily P.family → length P.orders ≡ length P.family → length orders ≡ length P.family → IsProgram P
     → IsProgram (record { family = P.family; orders = orders; classes = classes; strings = strings })
-    → P ≡ record { family = P.family; orders = orders; classes = classes; strings = strings }
-same_tables P orders classes strings fits count also p q =
-    let texts : P.strings ≡ strings =
-    one_list_of_strings (all_strings P.family) P.strings strings p.strings q.strings in
+    → P.strings ≡ strings → P ≡ record { family = P.family; orders = orders; classes = classes; strings = strings }
+same_tables P orders classes strings fits count also p q texts =
     let rows : P.orders ≡ orders = ext_get_or [] P.orders orders (count ∙ sym also) (λ c within.
     let inside : c < length P.family = omega arith in same_order (p.orders c inside) (q.orders c inside)) in
     let made : AreClasses P.family P.strings classes =
@@ -57,16 +56,23 @@ same_tables P orders classes strings fits count also p q =
     made in
     λ i. record { family = P.family; orders = rows i; classes = all i; strings = texts i }
 
-pub one_program : OneProgram
-one_program P Q fits p q family =
+pub one_program_of_strings : OneProgramOfStrings
+one_program_of_strings P Q fits p q family texts =
     let T : Family → Tables =
     λ F. record { family = F; orders = Q.orders; classes = Q.classes; strings = Q.strings } in
     let other : IsProgram (T P.family) = subst (λ (F : Family). IsProgram (T F)) (sym family) q in
-    same_tables P Q.orders Q.classes Q.strings fits p.order_count other.order_count p other ∙ ap T family
+    same_tables P Q.orders Q.classes Q.strings fits p.order_count other.order_count p other texts ∙ ap T family
+
+pub one_program : OneProgram
+one_program P Q fits p own q also family =
+    let moved : AreFirsts (all_strings P.family) Q.strings =
+    subst (λ (F : Family). AreFirsts (all_strings F) Q.strings) (sym family) also in
+    one_program_of_strings P Q fits p q family
+    (one_list_of_strings (all_strings P.family) P.strings Q.strings own moved)
 
 pub one_program_of_files : OneProgramOfFiles
-one_program_of_files files moved P Q links same f p g q =
-    one_program P Q f.fits p q (one_family files moved P.family Q.family links same f g)
+one_program_of_files files moved P Q links same f p own g q also =
+    one_program P Q f.fits p own q also (one_family files moved P.family Q.family links same f g)
 
 pub still_link : StillLink
 still_link files moved same links = links_moved files moved (are_moved files moved same) links

@@ -15,7 +15,7 @@ use Rattle.program.specs.declared.runtime_constant.RuntimeConstant.{RuntimeConst
 use Rattle.program.specs.declared.signature.ReturnKind.{ReturnKind}
 use Rattle.program.specs.declared.signature.Signature.{Signature}
 use Rattle.program.specs.Handlers.{IsHandler}
-use Rattle.program.specs.Programs.{IsClass, IsImplementation, IsProgram}
+use Rattle.program.specs.Programs.{HasOwnStrings, IsClass, IsImplementation, IsProgram}
 use Rattle.program.specs.RuntimePool.{IsRuntimePool}
 use Rattle.program.specs.Signatures.{AreSignatures, IsReturnKindOf}
 use Rattle.program.specs.Strings.{AreFirsts}
@@ -73,11 +73,18 @@ abbrev pub OneClass : Type 0
 OneClass = (family : Family) (strings : List (List ℕ)) (f : ClassFile) (a b : Class) → IsFamily family
     → AreDistinct strings → IsClass family strings f a → IsClass family strings f b → a ≡ b
 
--- a family has one program
+-- a family and strings have one program
+abbrev pub OneProgramOfStrings : Type 0
+OneProgramOfStrings = (P Q : Tables) → IsFamily P.family → IsProgram P → IsProgram Q → P.family ≡ Q.family
+    → P.strings ≡ Q.strings → P ≡ Q
+
+-- a family has one program that has no strings besides its own
 abbrev pub OneProgram : Type 0
-OneProgram = (P Q : Tables) → IsFamily P.family → IsProgram P → IsProgram Q → P.family ≡ Q.family → P ≡ Q
+OneProgram = (P Q : Tables) → IsFamily P.family → IsProgram P → HasOwnStrings P → IsProgram Q → HasOwnStrings Q
+    → P.family ≡ Q.family → P ≡ Q
 
 -- and so have files that link, in any order
 abbrev pub OneProgramOfFiles : Type 0
 OneProgramOfFiles = (files moved : List ClassFile) (P Q : Tables) → Links files → IsPermutation files moved
-    → IsFamilyOf files P.family → IsProgram P → IsFamilyOf moved Q.family → IsProgram Q → P ≡ Q
+    → IsFamilyOf files P.family → IsProgram P → HasOwnStrings P → IsFamilyOf moved Q.family → IsProgram Q
+    → HasOwnStrings Q → P ≡ Q

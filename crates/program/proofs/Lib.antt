@@ -14,3 +14,4 @@ pub mod FieldKindsLemmas
 pub mod KeptLemmas
 pub mod SlotLawsLemmas
 pub mod CountsLemmas
+pub mod AddedStringsLemmas

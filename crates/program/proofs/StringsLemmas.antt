@@ -19,10 +19,10 @@ use Rattle.program.specs.RuntimePool.{IsRuntimeConstant}
 use Rattle.program.specs.Strings.{AreFirsts, string_of}
 use Rattle.program.specs.steps.GrowingStrings.{Adds}
 
-has : List ℕ → List (List ℕ) → Bool
+pub has : List ℕ → List (List ℕ) → Bool
 has x = list_any (λ y. bytes_eq y x)
 
-has_tells : (x : List ℕ) (xs : List (List ℕ)) → Decides (has x xs) (Contains xs x)
+pub has_tells : (x : List ℕ) (xs : List (List ℕ)) → Decides (has x xs) (Contains xs x)
 unfolding has
 has_tells x xs = Decides-contains xs x (has x xs)
     (Decides-by_or (λ y. bytes_eq y x) (λ y. y ≡ x) (has x) (λ y. bytes_eq-Decides y x) refl (λ _ _. refl) xs)

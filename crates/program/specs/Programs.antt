@@ -29,7 +29,7 @@ use Rattle.program.specs.Fields.{statics_of, field_kind, narrowed}
 use Rattle.program.specs.Handlers.{IsHandler}
 use Rattle.program.specs.Signatures.{IsReturnKindOf, AreSignatures}
 use Rattle.hierarchy.specs.Texts.{AreDistinct}
-use Rattle.program.specs.Strings.{all_strings, AreFirsts}
+use Rattle.program.specs.Strings.{all_strings, AreFirsts, AreStrings}
 use Rattle.program.specs.Tables.{Tables, order_in}
 
 -- ---- the methods that the machine calls by itself
@@ -126,10 +126,15 @@ abbrev pub AreClasses : Family → List (List ℕ) → List Class → Type 0
 AreClasses family strings classes =
     AllZip (λ (given : GivenClass) (class : Class). IsClass family strings given.file class) family classes
 
--- The tables are those of their family: an order and a class for each given one, and the strings of all, each once.
+-- The tables are those of their family: an order and a class for each given one, and the strings of all, each once, with
+-- those that came in besides behind them.
 pub record IsProgram (P : Tables) : Type 0 where
   pub order_count : length P.orders ≡ length P.family
   pub orders : (c : ℕ) → c < length P.family → IsInitializationOrder P.family c (order_in P c)
   pub classes : AreClasses P.family P.strings P.classes
   pub distinct : AreDistinct P.strings
-  pub strings : AreFirsts (all_strings P.family) P.strings
+  pub strings : AreStrings P.family P.strings
+
+-- the strings are those of the class files alone, as they are once these are linked
+abbrev pub HasOwnStrings : Tables → Type 0
+HasOwnStrings P = AreFirsts (all_strings P.family) P.strings

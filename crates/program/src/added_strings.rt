@@ -1,5 +1,9 @@
 //! Strings that come in besides those of the class files, as an image brings them.
 
+ghost use Rattle.std.specs.Prelude.{◌≡◌, ◌<◌, ◌^◌, ◌⊎◌, ◌++◌, ◌∷◌, [], length, Some, IfOk, OnErr, OnOk, slice_get};
+ghost use Rattle.classfile.specs.Units.{units_text};
+ghost use Rattle.program.specs.Programs.{IsProgram};
+
 use crate::linked_program::Program;
 use classfile::ModifiedUtf8;
 use std::alloc::{AllocError, Global};
@@ -9,8 +13,32 @@ impl Program {
     ///
     /// # Errors
     /// Where memory runs out; the program stays as it was.
-    pub fn add_string(&mut self, alloc: Global, units: &[u16]) -> Result<usize, AllocError> {
+    pub fn add_string(&mut self, alloc: Global, units: &[u16]) -> Result<usize, AllocError>
+        requires { length units.now < 2 ^ 16 }
+        ensures number { IfOk result (λ n. slice_get self.new.strings n ≡ Some (units_text units.now)) }
+        // A new string comes last.
+        ensures strings { (self.new.strings ≡ self.old.strings)
+            ⊎ (self.new.strings ≡ self.old.strings ++ units_text units.now ∷ []) }
+        ensures family { self.new.family ≡ self.old.family }
+        ensures orders { self.new.orders ≡ self.old.orders }
+        ensures classes { self.new.classes ≡ self.old.classes }
+        ensures program { OnOk result (IsProgram self.new) }
+        ensures err { OnErr result (self.new ≡ self.old) }
+    {
         let text = ModifiedUtf8::from_units(alloc, units)?;
         self.strings.add(alloc, text.bytes())
+    }
+
+    /// Has strings found by a seed that has read a text besides the class files. Who writes the text, and strings in
+    /// it, cannot choose strings that are slow to find. A digest of the text serves as well.
+    ///
+    /// # Errors
+    /// Where memory runs out.
+    pub fn reseed_strings(&mut self, alloc: Global, text: &[u8]) -> Result<(), AllocError>
+        ensures { self.new ≡ self.old }
+    {
+        let seed = self.hierarchy.seed().with_text(text);
+        self.strings = self.strings.reseeded(alloc, seed)?;
+        Ok(())
     }
 }

@@ -13,7 +13,7 @@ ghost use Rattle.program.specs.steps.ResolvedConstants.{HoldsClasses};
 ghost use Rattle.program.specs.steps.Slots.{AreSlots};
 ghost use Rattle.program.specs.steps.StaticNumbers.{AreStaticNumbersOf};
 ghost use Rattle.hierarchy.specs.Initialization.{AreOrders};
-ghost use Rattle.program.specs.Programs.{AreClasses, IsClass, IsProgram, IsImplementation, static_field};
+ghost use Rattle.program.specs.Programs.{AreClasses, HasOwnStrings, IsClass, IsProgram, IsImplementation, static_field};
 ghost use Rattle.hierarchy.specs.Texts.{AreDistinct};
 ghost use Rattle.hierarchy.specs.steps.GrowingTexts.{Grows};
 ghost use Rattle.program.specs.RuntimePool.{IsRuntimePool};
@@ -56,6 +56,8 @@ pub fn link(alloc: Global, files: Vec<ClassFile>) -> Result<Program, LinkFault>
     ensures program { IfOk result IsProgram }
     // Before each class is initialized what the procedure says.
     ensures orders { IfOk result (λ program. AreOrders program.family program.orders) }
+    // It has no strings but theirs.
+    ensures own_strings { IfOk result HasOwnStrings }
     // A program is answered exactly where nothing is wrong with the files, unless memory runs out.
     ensures links { OnOk result (Links files.items) }
     ensures only_links { Links files.items → IsOk result ⊎ (result ≡ Err Memory) }
@@ -74,6 +76,7 @@ fn linked(alloc: Global, family: Family) -> Result<Program, LinkFault>
     ensures family { IfOk result (λ program. program.family ≡ family) }
     ensures program { IfOk result IsProgram }
     ensures orders { IfOk result (λ program. AreOrders program.family program.orders) }
+    ensures own_strings { IfOk result HasOwnStrings }
     ensures fault { IfErr result (λ x. x ≡ Memory) }
 {
     match program_of(alloc, family) {
@@ -87,6 +90,7 @@ fn program_of(alloc: Global, family: Family) -> Result<Program, AllocError>
     ensures family { IfOk result (λ program. program.family ≡ family) }
     ensures program { IfOk result IsProgram }
     ensures orders { IfOk result (λ program. AreOrders program.family program.orders) }
+    ensures own_strings { IfOk result HasOwnStrings }
 {
     match Hierarchy::new(alloc, family) {
         Ok(hierarchy) => with_slots(alloc, hierarchy),
@@ -99,6 +103,7 @@ fn with_slots(alloc: Global, hierarchy: Hierarchy) -> Result<Program, AllocError
     ensures family { IfOk result (λ program. program.family ≡ hierarchy.family) }
     ensures program { IfOk result IsProgram }
     ensures orders { IfOk result (λ program. AreOrders program.family program.orders) }
+    ensures own_strings { IfOk result HasOwnStrings }
 {
     match Slots::of_family(alloc, hierarchy.family()) {
         Ok(slots) => with_tables(alloc, hierarchy, slots),
@@ -115,6 +120,7 @@ fn with_tables(alloc: Global, hierarchy: Hierarchy, slots: Slots) -> Result<Prog
     ensures family { IfOk result (λ program. program.family ≡ hierarchy.family) }
     ensures program { IfOk result IsProgram }
     ensures orders { IfOk result (λ program. AreOrders program.family program.orders) }
+    ensures own_strings { IfOk result HasOwnStrings }
 {
     match tables_of(alloc, &hierarchy, &slots) {
         Ok(tables) => Ok(joined(hierarchy, slots, tables)),
@@ -189,6 +195,7 @@ fn class_tables(
 }
 
 /// A program of its parts.
+#[tactic(auto, using(crate::proofs::AddedStringsLemmas::own_alone))]
 fn joined(hierarchy: Hierarchy, slots: Slots, tables: Tables) -> Program
     requires slots { AreSlots hierarchy.family slots }
     requires order_count { length tables.orders ≡ length hierarchy.family }
@@ -199,6 +206,7 @@ fn joined(hierarchy: Hierarchy, slots: Slots, tables: Tables) -> Program
     ensures family { result.family ≡ hierarchy.family }
     ensures orders { result.orders ≡ tables.orders }
     ensures program { IsProgram result }
+    ensures own_strings { HasOwnStrings result }
 {
     Program {
         hierarchy,

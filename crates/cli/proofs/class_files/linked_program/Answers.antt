@@ -6,7 +6,7 @@ use Rattle.cli.proofs.class_files.linked_program.Goals as goal
 pub returns-in-Ok-clause-program : goal.returns-in-Ok-clause-program
 returns-in-Ok-clause-program c =
     is_program (texts_of c.args.files.now) c.in-Ok.classes.items c.linked.result c.in-Ok.ensures.files
-    c.linked.ensures.links c.linked.ensures.program
+    c.linked.ensures.links c.linked.ensures.program c.linked.ensures.own_strings
 
 pub returns-in-Ok-clause-refusal : goal.returns-in-Ok-clause-refusal
 returns-in-Ok-clause-refusal c =

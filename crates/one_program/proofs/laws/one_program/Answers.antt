@@ -1,4 +1,4 @@
-use Rattle.one_program.proofs.ProgramsLemmas.{one_program, one_program_of_files}
+use Rattle.one_program.proofs.ProgramsLemmas.{one_program, one_program_of_files, one_program_of_strings}
 use Rattle.one_program.proofs.laws.one_program.Goals as goal
 
 pub returns-clause-family : goal.returns-clause-family
@@ -6,3 +6,6 @@ returns-clause-family c = one_program
 
 pub returns-clause-files : goal.returns-clause-files
 returns-clause-files c = one_program_of_files
+
+pub returns-clause-strings : goal.returns-clause-strings
+returns-clause-strings c = one_program_of_strings

@@ -5,7 +5,7 @@ use Rattle.init_engine.specs.Rounds.{Turns}
 use Rattle.init_engine.specs.Schedules.{schedule_of}
 use Rattle.init_engine.specs.Threads.{thread_of}
 use Rattle.init_engine.specs.Turns.{world_of}
-use Rattle.cli.proofs.lazy.run_world.Goals as goal
+use Rattle.cli.proofs.lazy.shown_by_turns.Goals as goal
 
 pub returns : goal.returns
 returns c = record {
