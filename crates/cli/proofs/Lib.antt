@@ -4,3 +4,5 @@ pub mod OneRefusalLemmas
 pub mod PermutationLemmas
 pub mod AnyOrderLemmas
 pub mod OneBuildLemmas
+pub mod ImageBuildLemmas
+pub mod ImageRunLemmas

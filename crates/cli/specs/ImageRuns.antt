@@ -27,5 +27,5 @@ pub record IsShownFromImage (I : ImageTables) (names : List (List ℕ)) (limit :
 -- why there is no run, but for want of memory: the bytes are no image, or else the entries can't be run in it
 pub data IsNoRun (bytes : List ℕ) (names : List (List ℕ)) : Refusal → Type 0 where
   image : {fault : ImageFault} → ImageFails bytes fault → IsNoRun bytes names (Image fault)
-  entry : {I : ImageTables} {fault : EntryFault} → IsTextOf bytes I → EntriesFail I.program names fault
+  entry : (I : ImageTables) {fault : EntryFault} → IsTextOf bytes I → EntriesFail I.program names fault
       → IsNoRun bytes names (Entry fault)
