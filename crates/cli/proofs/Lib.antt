@@ -5,3 +5,5 @@ pub mod PermutationLemmas
 pub mod AnyOrderLemmas
 pub mod OneBuildLemmas
 pub mod RunningLemmas
+pub mod ImageBuildLemmas
+pub mod ImageRunLemmas

@@ -7,3 +7,5 @@ pub mod AnyOrder
 pub mod OneBuild
 pub mod Laws
 pub mod steps
+pub mod ImageBuilds
+pub mod ImageRuns

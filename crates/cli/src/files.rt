@@ -1,4 +1,7 @@
 //! The files that a command reads and writes.
+ghost use Rattle.std.specs.Prelude.{◌≡◌, ◌≤◌, ◌++◌, ◌∷◌, [], IfOk, OnOk, vec_len};
+ghost use Rattle.cli.specs.ImageBuilds.{AreAtMost};
+ghost use Rattle.cli.specs.Runs.{texts_of};
 
 use crate::Refusal;
 use std::alloc::{AllocError, Global};
@@ -37,7 +40,9 @@ pub(crate) fn contents<F: Files>(
     names: &[&str],
     files: &mut F,
     most: usize,
-) -> Result<Vec<Vec<u8>>, Refusal> {
+) -> Result<Vec<Vec<u8>>, Refusal>
+    ensures { IfOk result (λ contents. AreAtMost most (texts_of contents.items)) }
+{
     let mut contents = Vec::new(alloc);
     for name in names {
         match content(name, files, most) {
@@ -49,13 +54,27 @@ pub(crate) fn contents<F: Files>(
 }
 
 /// What the file of this name holds, at most so many bytes.
-fn content<F: Files>(name: &str, files: &mut F, most: usize) -> Result<Vec<u8>, FileFault> {
+fn content<F: Files>(name: &str, files: &mut F, most: usize) -> Result<Vec<u8>, FileFault>
+    ensures { IfOk result (λ bytes. vec_len bytes ≤ most) }
+{
     match files.get(name) {
-        Ok(bytes) if most < bytes.len() => Err(FileFault::Device),
-        read => read,
+        Ok(bytes) => at_most(bytes, most),
+        Err(fault) => Err(fault),
     }
 }
 
-fn add_bytes(contents: &mut Vec<Vec<u8>>, bytes: Vec<u8>) -> Result<(), AllocError> {
+/// These bytes, where they are at most so many.
+fn at_most(bytes: Vec<u8>, most: usize) -> Result<Vec<u8>, FileFault>
+    ensures { IfOk result (λ bytes. vec_len bytes ≤ most) }
+{
+    if most < bytes.len() {
+        return Err(FileFault::Device);
+    }
+    Ok(bytes)
+}
+
+fn add_bytes(contents: &mut Vec<Vec<u8>>, bytes: Vec<u8>) -> Result<(), AllocError>
+    ensures { OnOk result (contents.new.items ≡ contents.old.items ++ bytes ∷ []) }
+{
     Ok(contents.push(bytes)?)
 }

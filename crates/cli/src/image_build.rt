@@ -1,15 +1,64 @@
-//! The command `build`: an image of class files, in a file.
+//! From class files' bytes to an image's bytes, and the command `build` over it.
+ghost use Rattle.std.specs.Prelude.{◌≡◌, ◌⊎◌, IfErr, IfOk};
+ghost use Rattle.building.specs.Builds.{text_of as list_of};
+ghost use Rattle.building.specs.declared.build.BuildFault.TheVariants.{Memory};
+ghost use Rattle.image_format.specs.Images.{AreShort};
+ghost use Rattle.image_writer.specs.ImageTexts.{text_of};
+ghost use Rattle.cli.specs.Builds.{BuildFails};
+ghost use Rattle.cli.specs.ImageBuilds.{AreAtMost, IsBuiltText};
+ghost use Rattle.cli.specs.Runs.{texts_of};
 
+use crate::build::build_here;
 use crate::files::contents;
-use crate::requested::built;
-use crate::{Build, Building, Files, Refusal};
+use crate::requested::{options_of, refusal_of};
+use crate::{Build, Files, Refusal};
+use building::{BuildFault, BuildOptions};
 use image_writer::sink::Out;
 use image_writer::write;
 use object_graph::Image;
 use std::alloc::{AllocError, Global};
 
-/// The greatest length of a class file that an image can hold.
-const GREATEST_LENGTH: usize = u32::MAX as usize;
+/// The greatest length of a class file of an image, which counts its bytes in 32 bits.
+pub const GREATEST_LENGTH: usize = 0xFFFF_FFFF;
+
+/// Builds an image on this thread, from class files' bytes, and answers its text.
+///
+/// # Errors
+/// The first that holds of `Budget`, `Class` (a text is no class file), `Link` and `Option`; or `Memory`. `Wave` is for
+/// a build by threads.
+pub fn build_image(
+    alloc: Global,
+    files: &[Vec<u8>],
+    options: &BuildOptions<'_>,
+) -> Result<Vec<u8>, BuildFault>
+    requires { AreAtMost GREATEST_LENGTH (texts_of files.now) }
+    // The bytes are the text of an image that is built of the class files by the options.
+    ensures image { IfOk result (λ bytes. IsBuiltText (texts_of files.now) (list_of options.now.run_time)
+        (list_of options.now.build_time) options.now.budget bytes.items) }
+    // Nothing is built but for want of memory, or for the first that is wrong.
+    ensures fault { IfErr result (λ fault. (fault ≡ Memory) ⊎ BuildFails (texts_of files.now)
+        (list_of options.now.run_time) (list_of options.now.build_time) options.now.budget fault) }
+{
+    match build_here(alloc, files, options) {
+        Ok(built) => match image_bytes(alloc, &built.image) {
+            Ok(bytes) => Ok(bytes),
+            Err(_) => Err(BuildFault::Memory),
+        },
+        Err(fault) => Err(fault),
+    }
+}
+
+/// The text of an image.
+fn image_bytes(alloc: Global, image: &Image) -> Result<Vec<u8>, AllocError>
+    requires { AreShort image.now.program.family }
+    ensures { IfOk result (λ bytes. bytes.items ≡ text_of image.now) }
+{
+    let mut bytes = Out::new(Vec::new(alloc));
+    match write(alloc, image, &mut bytes) {
+        Ok(()) => Ok(bytes.into_inner()),
+        Err(_) => Err(AllocError),
+    }
+}
 
 /// Reads the class files, builds an image, and writes it to its file, as the words say.
 ///
@@ -21,30 +70,18 @@ pub(crate) fn run<F: Files>(
     words: &Build<'_>,
     files: &mut F,
 ) -> Result<(), Refusal> {
-    let texts = contents(
-        alloc,
-        words.building.files.as_slice(),
-        files,
-        GREATEST_LENGTH,
-    )?;
-    let bytes = built_bytes(alloc, &words.building, texts.as_slice())?;
-    match files.put(words.image, bytes.as_slice()) {
-        Ok(()) => Ok(()),
-        Err(fault) => Err(Refusal::of_file(alloc, words.image, fault)),
+    let building = &words.building;
+    let texts = contents(alloc, building.files.as_slice(), files, GREATEST_LENGTH)?;
+    match build_image(alloc, texts.as_slice(), &options_of(building)) {
+        Ok(bytes) => put(alloc, words.image, bytes.as_slice(), files),
+        Err(fault) => Err(refusal_of(alloc, texts.as_slice(), fault)),
     }
 }
 
-/// The text of the image that is built of the class files of these texts, as the words say.
-fn built_bytes(alloc: Global, words: &Building<'_>, files: &[Vec<u8>]) -> Result<Vec<u8>, Refusal> {
-    let built = built(alloc, words, files)?;
-    Ok(image_bytes(alloc, &built.image)?)
-}
-
-/// The text of an image.
-fn image_bytes(alloc: Global, image: &Image) -> Result<Vec<u8>, AllocError> {
-    let mut bytes = Out::new(Vec::new(alloc));
-    match write(alloc, image, &mut bytes) {
-        Ok(()) => Ok(bytes.into_inner()),
-        Err(_) => Err(AllocError),
+/// Makes a file of these bytes.
+fn put<F: Files>(alloc: Global, name: &str, bytes: &[u8], files: &mut F) -> Result<(), Refusal> {
+    match files.put(name, bytes) {
+        Ok(()) => Ok(()),
+        Err(fault) => Err(Refusal::of_file(alloc, name, fault)),
     }
 }

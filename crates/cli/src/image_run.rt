@@ -1,4 +1,9 @@
 //! From an image's bytes to what a run of it by turns shows, and the start of the command `run`.
+ghost use Rattle.std.specs.Prelude.{◌≡◌, ◌⊎◌, IfErr, IfOk};
+ghost use Rattle.init_engine.specs.Turns.{world_of};
+ghost use Rattle.image_reader.specs.Starts.{IsImageStart};
+ghost use Rattle.cli.specs.ImageRuns.{IsNoRun, IsShownFromImage, IsTextOf};
+ghost use Rattle.cli.specs.declared.fault.Refusal.TheVariants.{Memory};
 
 use crate::lazy::{Shown, entries_of, shown_by_turns};
 use crate::{Files, Refusal, Run};
@@ -25,10 +30,22 @@ pub fn run_image(
     bytes: &[u8],
     entries: &[ClassName],
     limit: u64,
-) -> Result<ImageRun, Refusal> {
-    let ImageStart { image, world } = image_start(alloc, bytes, entries)?;
-    let shown = shown_by_turns(alloc, image.program(), world, limit)?;
-    Ok(ImageRun { image, shown })
+) -> Result<ImageRun, Refusal>
+    // The bytes are the text of the image, the entries are its classes, and what is shown is what is seen after the
+    // turns of its start.
+    ensures image { IfOk result (λ run. IsTextOf bytes.now run.image) }
+    ensures shown { IfOk result (λ run. IsShownFromImage run.image entries.now limit run.shown) }
+
+    // What is answered otherwise is the first that is wrong, or that memory ran out.
+    ensures refusal { IfErr result (λ refusal. (refusal ≡ Memory) ⊎ IsNoRun bytes.now entries.now refusal) }
+{
+    match image_start(alloc, bytes, entries) {
+        Ok(ImageStart { image, world }) => {
+            let shown = shown_by_turns(alloc, image.program(), world, limit)?;
+            Ok(ImageRun { image, shown })
+        }
+        Err(refusal) => Err(refusal),
+    }
 }
 
 /// An image, and the world that starts from it.
@@ -39,7 +56,11 @@ pub(crate) struct ImageStart {
 }
 
 /// The start from an image of these bytes.
-fn image_start(alloc: Global, bytes: &[u8], entries: &[ClassName]) -> Result<ImageStart, Refusal> {
+fn image_start(alloc: Global, bytes: &[u8], entries: &[ClassName]) -> Result<ImageStart, Refusal>
+    ensures image { IfOk result (λ start. IsTextOf bytes.now start.image) }
+    ensures start { IfOk result (λ start. IsImageStart start.image entries.now (world_of start.world)) }
+    ensures refusal { IfErr result (λ refusal. (refusal ≡ Memory) ⊎ IsNoRun bytes.now entries.now refusal) }
+{
     match read(alloc, bytes) {
         Ok(image) => match world(alloc, &image, entries) {
             Ok(world) => Ok(ImageStart { image, world }),

@@ -1,40 +1,29 @@
-//! The build that words ask for, of class files' texts.
-ghost use Rattle.std.specs.Prelude.{IfOk};
-ghost use Rattle.report.specs.Waves.{GiveWaves};
+//! The build that words ask for, and why it is refused.
+ghost use Rattle.std.specs.Prelude.{◌≡◌};
 
-use crate::build::build_here;
 use crate::class_files::linked_program;
 use crate::{Building, Refusal};
-use building::{BuildFault, BuildOptions, Built};
+use building::{BuildFault, BuildOptions};
 use initializer_analysis::verdict::Reason;
 use options::OptionFault;
 use report::reason_text;
 use std::alloc::{AllocError, Global};
 
-/// Builds an image of the class files of these texts, as the words say.
-///
-/// # Errors
-/// The first refusal: the budget, a class file, linking, a list of patterns, or memory.
-pub(crate) fn built(
-    alloc: Global,
-    words: &Building<'_>,
-    files: &[Vec<u8>],
-) -> Result<Built, Refusal>
-    ensures { IfOk result (λ built. GiveWaves built.image built.verdicts) }
+/// The options of a build, as the words say.
+pub(crate) fn options_of<'a>(words: &Building<'a>) -> BuildOptions<'a>
+    ensures run_time { result.run_time ≡ words.now.run_time }
+    ensures build_time { result.build_time ≡ words.now.build_time }
+    ensures budget { result.budget ≡ words.now.budget }
 {
-    let options = BuildOptions {
+    BuildOptions {
         run_time: words.run_time,
         build_time: words.build_time,
         budget: words.budget,
-    };
-    match build_here(alloc, files, &options) {
-        Ok(built) => Ok(built),
-        Err(fault) => Err(refusal_of(alloc, files, fault)),
     }
 }
 
 /// The refusal of a build of the class files of these texts.
-fn refusal_of(alloc: Global, files: &[Vec<u8>], fault: BuildFault) -> Refusal {
+pub(crate) fn refusal_of(alloc: Global, files: &[Vec<u8>], fault: BuildFault) -> Refusal {
     match fault {
         BuildFault::Memory => Refusal::Memory,
         BuildFault::Class(place, fault) => Refusal::Class(place, fault),

@@ -1,12 +1,10 @@
 //! One command, from its words to its exit status.
-ghost use Rattle.std.specs.Prelude.{◌≡◌, ◌≢◌, ◌≤◌, ◌⊎◌, IfOk};
+ghost use Rattle.std.specs.Prelude.{◌≡◌, ◌≢◌, ◌≤◌, ◌⊎◌};
 ghost use Rattle.cli.specs.Refusal.{refusal_status};
 ghost use Rattle.cli.specs.Running.{IsOfRun};
-ghost use Rattle.cli.specs.Status.{IsTold};
 
 use crate::image_run::ImageStart;
 use crate::lazy::LazyStart;
-use crate::outcome::Outcome;
 use crate::{
     Files, Lazy, Ran, Refusal, Request, Run, RunFault, Status, WordsFault, image_build, image_run,
     lazy, reporting, request_of, run_world, status_of, thread_lines,
@@ -14,7 +12,6 @@ use crate::{
 use init_engine::World;
 use program::Program;
 use std::alloc::Global;
-use std::io;
 use std::io::Write;
 
 /// Does one command for the words after the program's name, and answers the exit status and standard
@@ -65,7 +62,7 @@ fn do_request<F: Files, W: Write, E: Write>(
     match request {
         Request::Build(words) => tell_done(image_build::run(alloc, words, files), errors),
         Request::Lazy(words) => run_lazily(alloc, words, files, out, errors),
-        Request::Report(words) => tell(reporting::run(alloc, words, files), out, errors),
+        Request::Report(words) => tell_report(reporting::run(alloc, words, files), out, errors),
         Request::Run(words) => run_image(alloc, words, files, out, errors),
     }
 }
@@ -161,39 +158,18 @@ fn tell_done<E: Write>(done: Result<(), Refusal>, errors: &mut E) -> Status
 }
 
 /// Tells a report, or why there is none.
-fn tell<W: Write, E: Write>(
-    outcome: Result<Outcome, Refusal>,
+fn tell_report<W: Write, E: Write>(
+    report: Result<Vec<u8>, Refusal>,
     out: &mut W,
     errors: &mut E,
 ) -> Status
-    requires { IfOk outcome (λ outcome. IsTold outcome.status) }
     ensures refused { result ≡ Status.Refused → out.new ≡ out.old }
     ensures words { result ≢ Status.Words }
 {
-    match outcome {
-        Ok(outcome) => tell_outcome(&outcome, out, errors),
+    match report {
+        Ok(report) => tell_text(report.as_slice(), out, errors),
         Err(refusal) => refuse(&refusal, errors),
     }
-}
-
-/// Tells a report.
-fn tell_outcome<W: Write, E: Write>(outcome: &Outcome, out: &mut W, errors: &mut E) -> Status
-    requires { IsTold outcome.now.status }
-    ensures told { IsTold result }
-    ensures status { result ≢ Status.Failed → result ≡ outcome.now.status }
-{
-    if print(outcome, out).is_err() {
-        return refuse(&Refusal::Device, errors);
-    }
-    // A failure of standard error is ignored.
-    let _ = errors.write_all(outcome.threads.as_bytes());
-    let _ = errors.flush();
-    outcome.status
-}
-
-fn print<W: Write>(outcome: &Outcome, out: &mut W) -> io::Result<()> {
-    out.write_all(outcome.printed.as_slice())?;
-    out.flush()
 }
 
 /// Tells a refusal on standard error.
@@ -214,17 +190,17 @@ fn tell_words<W: Write, E: Write>(fault: &WordsFault, out: &mut W, errors: &mut 
 {
     match fault {
         WordsFault::Memory => refuse(&Refusal::Memory, errors),
-        WordsFault::Help(text) => tell_help(text.as_str(), out, errors),
+        WordsFault::Help(text) => tell_text(text.as_bytes(), out, errors),
         WordsFault::Wrong(text) => tell_wrong(text.as_str(), errors),
     }
 }
 
-/// Tells help on standard output.
-fn tell_help<W: Write, E: Write>(text: &str, out: &mut W, errors: &mut E) -> Status
+/// Tells help or a report on standard output.
+fn tell_text<W: Write, E: Write>(text: &[u8], out: &mut W, errors: &mut E) -> Status
     ensures refused { result ≢ Status.Refused }
     ensures words { result ≢ Status.Words }
 {
-    if out.write_all(text.as_bytes()).is_err() || out.flush().is_err() {
+    if out.write_all(text).is_err() || out.flush().is_err() {
         return refuse(&Refusal::Device, errors);
     }
     Status::Done

@@ -66,16 +66,13 @@ fn lazy_command<'a>(alloc: Global) -> Result<Command<'a>, AllocError> {
 
 fn run_command<'a>(alloc: Global) -> Result<Command<'a>, AllocError> {
     let run = described(alloc, "run", RUN_ABOUT, RUN_LONG_ABOUT);
-    with_entries(alloc, run)?.arg(turns(alloc))?.arg(image(alloc))
+    with_entries(alloc, run)?
+        .arg(turns(alloc))?
+        .arg(image(alloc))
 }
 
 /// A command without its arguments.
-fn described<'a>(
-    alloc: Global,
-    name: &'a str,
-    about: &'a str,
-    long_about: &'a str,
-) -> Command<'a> {
+fn described<'a>(alloc: Global, name: &'a str, about: &'a str, long_about: &'a str) -> Command<'a> {
     Command::new(alloc, name)
         .about(about)
         .long_about(long_about)

@@ -47,7 +47,10 @@ fn command_of<'a>(
     }
 }
 
-fn build_of<'a>(alloc: Global, matches: &ArgMatches<'a>) -> Result<Option<Request<'a>>, AllocError> {
+fn build_of<'a>(
+    alloc: Global,
+    matches: &ArgMatches<'a>,
+) -> Result<Option<Request<'a>>, AllocError> {
     match (matches.get_str("out"), building_of(alloc, matches)?) {
         (Some(image), Some(building)) => Ok(Some(Request::Build(Build { image, building }))),
         _ => Ok(None),

@@ -1,0 +1,71 @@
+-- Class files that are short enough make a program whose class files are.
+use Rattle.std.proofs.Common.{◌≡◌, ℕ, ◌<◌, ◌≤◌, ◌^◌, List, [], ◌∷◌, ◌++◌, map, Option, Some, None, length, slice_get}
+use Rattle.std.proofs.Common.{refl, sym, ap, subst, ◌∙◌, MatchOption, IsSomeAnd, arith, Vec}
+use Rattle.std.specs.List.{All, Contains}
+use Rattle.std.proofs.lemmas.List.Elements.{All-get_or, All-nil, All-cons, All-head, All-tail, All-push}
+use Rattle.std.proofs.lemmas.List.Elements.{All-contains_itself}
+use Rattle.std.proofs.lemmas.List.{map-append}
+use Rattle.std.proofs.lemmas.Option.{slice_get-get_or, slice_get_within, get_or_from_slice_get}
+use Rattle.std.proofs.lemmas.Slice.Zip.{AllZip-right}
+use Rattle.classfile.specs.ClassFile.{ClassFile}
+use Rattle.classfile.specs.Class.{IsClassText}
+use Rattle.classfile.specs.Text.{class_text}
+use Rattle.loading.specs.declared.given.GivenClass.{GivenClass}
+use Rattle.loading.specs.Families.{Family}
+use Rattle.image_format.specs.Images.{AreShort}
+use Rattle.program.specs.Tables.{Tables}
+use Rattle.cli.specs.ImageBuilds.{AreAtMost}
+use Rattle.cli.specs.Runs.{IsProgramOf, texts_of}
+
+abbrev file : GivenClass → ClassFile
+file c = c.file
+
+abbrev IsShort : GivenClass → Type 0
+IsShort c = length (class_text c.file) < 2 ^ 32
+
+-- each of the class files that these texts are is short
+short_file : (texts : List (List ℕ)) (most : ℕ) (P : Tables) → AreAtMost most texts → (of : IsProgramOf texts P)
+    → (f : ClassFile) → Contains of.files f → length (class_text f) ≤ most
+short_file texts most P short of f (k, low, is) = by_text (slice_get texts k) refl text
+  where
+    here : slice_get of.files k ≡ Some f
+    here = slice_get-get_or of.files k f low ∙ ap Some is
+
+    text : IsSomeAnd (slice_get texts k) (λ x. IsClassText x f)
+    text =
+        subst (λ (o : Option ClassFile).
+        MatchOption o (Unit {0}) (λ y. IsSomeAnd (slice_get texts k) (λ x. IsClassText x y))) here
+        (AllZip-right IsClassText texts of.files of.are k)
+
+    by_text : (o : Option (List ℕ)) → slice_get texts k ≡ o → IsSomeAnd o (λ x. IsClassText x f)
+        → length (class_text f) ≤ most
+    by_text None at never = absurd never
+    by_text (Some x) at text =
+        let bound : length x ≤ most =
+        subst (λ (y : List ℕ). length y ≤ most) (get_or_from_slice_get texts k x x at)
+        (All-get_or (λ (y : List ℕ). length y ≤ most) texts k x (slice_get_within texts k x at) short) in
+        subst (λ (y : List ℕ). length y ≤ most) text.spelled bound
+
+all_short : (family all : Family) (most : ℕ) → most < 2 ^ 32
+    → ((f : ClassFile) → Contains (map file all) f → length (class_text f) ≤ most)
+    → All (Contains (map file all)) (map file family) → AreShort family
+all_short [] all most fits each within = All-nil IsShort
+all_short (c ∷ cs) all most fits each within =
+    All-cons IsShort c cs
+    (let bound = each c.file (All-head (Contains (map file all)) c.file (map file cs) within) in omega (arith, bound, fits))
+    (all_short cs all most fits each (All-tail (Contains (map file all)) c.file (map file cs) within))
+
+pub are_short : (texts : List (List ℕ)) (most : ℕ) (P : Tables) → most < 2 ^ 32 → AreAtMost most texts
+    → IsProgramOf texts P → AreShort P.family
+are_short texts most P fits short of =
+    all_short P.family P.family most fits
+    (λ f there. short_file texts most P short of f ((of.family.members f).1 there))
+    (All-contains_itself (map file P.family))
+
+-- one more text that is short enough
+pub at_most_more : {A : Type 0} (most : ℕ) (files : List (Vec ℕ A)) (file : Vec ℕ A) → AreAtMost most (texts_of files)
+    → length file.items ≤ most → AreAtMost most (texts_of (files ++ file ∷ []))
+at_most_more {A} most files file all one =
+    let text : Vec ℕ A → List ℕ = λ f. f.items in
+    subst (AreAtMost most) (sym (map-append text files (file ∷ [])))
+    (All-push (λ (t : List ℕ). length t ≤ most) (texts_of files) file.items all one)

@@ -1,0 +1,29 @@
+-- What is wrong with an image, or with its entries, as refusals.
+use Rattle.std.proofs.Common.{◌≡◌, ◌≢◌, ◌⊎◌, inl, inr, ℕ, List, sym, subst, refl}
+use Rattle.object_graph.specs.Images.{ImageTables}
+use Rattle.image_parser.specs.ImageFaults.{ImageFails}
+use Rattle.image_parser.specs.declared.image_fault.ImageFault.{ImageFault}
+use Rattle.image_parser.specs.declared.image_fault.ImageFault.TheVariants as image_faults
+use Rattle.init_engine.specs.Starts.{EntriesFail}
+use Rattle.init_engine.specs.declared.fault.EntryFault.{EntryFault}
+use Rattle.init_engine.specs.declared.fault.EntryFault.TheVariants as entry_faults
+use Rattle.cli.specs.declared.fault.Refusal.{Refusal}
+use Rattle.cli.specs.declared.fault.Refusal.TheVariants.{Image, Entry, Memory}
+use Rattle.cli.specs.ImageRuns.{IsNoRun, IsTextOf, image, entry}
+
+pub refused_image : (bytes : List ℕ) (names : List (List ℕ)) (fault : ImageFault) (r : Refusal)
+    → (fault ≡ image_faults.Memory) ⊎ ImageFails bytes fault → (fault ≡ image_faults.Memory → r ≡ Memory)
+    → (fault ≢ image_faults.Memory → r ≡ Image fault) → (r ≡ Memory) ⊎ IsNoRun bytes names r
+refused_image bytes names fault r (inl e) memory other = inl (memory e)
+refused_image bytes names image_faults.Memory r (inr fails) memory other = inl (memory refl)
+refused_image bytes names fault r (inr fails) memory other =
+    inr (subst (λ (x : Refusal). IsNoRun bytes names x) (sym (other (λ e. cc))) (image fails))
+
+pub refused_entry_of : (bytes : List ℕ) (names : List (List ℕ)) (I : ImageTables) (fault : EntryFault) (r : Refusal)
+    → IsTextOf bytes I → (fault ≡ entry_faults.Memory) ⊎ EntriesFail I.program names fault
+    → (fault ≡ entry_faults.Memory → r ≡ Memory) → (fault ≢ entry_faults.Memory → r ≡ Entry fault)
+    → (r ≡ Memory) ⊎ IsNoRun bytes names r
+refused_entry_of bytes names I fault r of (inl e) memory other = inl (memory e)
+refused_entry_of bytes names I entry_faults.Memory r of (inr fails) memory other = inl (memory refl)
+refused_entry_of bytes names I fault r of (inr fails) memory other =
+    inr (subst (λ (x : Refusal). IsNoRun bytes names x) (sym (other (λ e. cc))) (entry I of fails))

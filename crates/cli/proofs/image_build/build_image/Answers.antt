@@ -1,0 +1,9 @@
+use Rattle.std.proofs.Common.{List, ℕ, arith, lit<}
+use Rattle.cli.specs.Runs.{texts_of}
+use Rattle.cli.proofs.ImageBuildLemmas.{are_short}
+use Rattle.cli.proofs.image_build.build_image.Goals as goal
+
+pub image_bytes-requires : goal.image_bytes-requires
+image_bytes-requires c =
+    are_short (texts_of c.args.files.now) 4294967295 c.in-Ok.built.image.program (lit< tt) c.requires
+    c.in-Ok.ensures.program

@@ -1,0 +1,12 @@
+use Rattle.cli.proofs.ImageRunLemmas.{refused_image, refused_entry_of}
+use Rattle.cli.proofs.image_run.image_start.Goals as goal
+
+pub returns-in-Err-world-clause-refusal : goal.returns-in-Err-world-clause-refusal
+returns-in-Err-world-clause-refusal c =
+    refused_entry_of c.args.bytes.now c.args.entries.now c.in-Ok.image c.in-Err-world.fault c.of_entry.result
+    c.in-Ok.ensures.text c.in-Err-world.ensures.fault c.of_entry.ensures.memory c.of_entry.ensures.other
+
+pub returns-in-Err-clause-refusal : goal.returns-in-Err-clause-refusal
+returns-in-Err-clause-refusal c =
+    refused_image c.args.bytes.now c.args.entries.now c.in-Err.fault c.of_image.result c.in-Err.ensures.fault
+    c.of_image.ensures.memory c.of_image.ensures.other

@@ -1,0 +1,28 @@
+-- From class files' bytes to the bytes of an image.
+use Rattle.std.specs.Prelude.{◌≡◌, ◌≤◌, ℕ, List, Option, length}
+use Rattle.std.specs.List.{All}
+use Rattle.wave_scheduler.specs.Settled.{Outcome}
+use Rattle.object_graph.specs.Images.{ImageTables}
+use Rattle.building.specs.Builds.{IsBuilt, ShowsTheSame}
+use Rattle.image_writer.specs.ImageTexts.{text_of}
+use Rattle.cli.specs.Runs.{IsProgramOf}
+
+-- no text is longer than so many bytes
+abbrev pub AreAtMost : ℕ → List (List ℕ) → Type 0
+AreAtMost most texts = All (λ (text : List ℕ). length text ≤ most) texts
+
+-- An image of the program of class files that these texts are, built by these options and within this budget. Runs from
+-- it and the lazy procedure show the same.
+pub record IsImageOf (texts : List (List ℕ)) (run_time build_time : Option (List ℕ)) (budget : ℕ) (I : ImageTables)
+    : Type 0 where
+  pub program : IsProgramOf texts I.program
+  pub outcomes : List Outcome
+  pub built : IsBuilt run_time build_time budget I outcomes
+  pub shows : ShowsTheSame I
+
+-- The bytes are the text of such an image.
+pub record IsBuiltText (texts : List (List ℕ)) (run_time build_time : Option (List ℕ)) (budget : ℕ) (bytes : List ℕ)
+    : Type 0 where
+  pub image : ImageTables
+  pub of : IsImageOf texts run_time build_time budget image
+  pub spelled : bytes ≡ text_of image

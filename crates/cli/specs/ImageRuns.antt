@@ -1,0 +1,31 @@
+-- From an image's bytes to what a run by turns shows, or to why there is none.
+use Rattle.std.specs.Prelude.{ℕ, List}
+use Rattle.semantics.specs.Worlds.{World}
+use Rattle.object_graph.specs.Images.{ImageTables}
+use Rattle.image_format.specs.Images.{ImageText}
+use Rattle.image_parser.specs.ImageFaults.{ImageFails}
+use Rattle.image_parser.specs.declared.image_fault.ImageFault.{ImageFault}
+use Rattle.image_reader.specs.Readings.{told_of}
+use Rattle.image_reader.specs.Starts.{IsImageStart}
+use Rattle.init_engine.specs.Starts.{EntriesFail}
+use Rattle.init_engine.specs.declared.fault.EntryFault.{EntryFault}
+use Rattle.cli.specs.declared.fault.Refusal.{Refusal}
+use Rattle.cli.specs.declared.fault.Refusal.TheVariants.{Image, Entry}
+use Rattle.cli.specs.declared.lazy.Shown.{Shown}
+use Rattle.cli.specs.Runs.{IsShownFrom}
+
+-- the bytes are the text of the image
+abbrev pub IsTextOf : List ℕ → ImageTables → Type 0
+IsTextOf bytes I = ImageText bytes I.program.family (told_of I)
+
+-- what is seen after the turns of a thread for each entry, of at most so many steps, from the start of the image
+pub record IsShownFromImage (I : ImageTables) (names : List (List ℕ)) (limit : ℕ) (shown : Shown) : Type 0 where
+  pub first : World
+  pub start : IsImageStart I names first
+  pub turns : IsShownFrom I.program first limit shown
+
+-- why there is no run, but for want of memory: the bytes are no image, or else the entries can't be run in it
+pub data IsNoRun (bytes : List ℕ) (names : List (List ℕ)) : Refusal → Type 0 where
+  image : {fault : ImageFault} → ImageFails bytes fault → IsNoRun bytes names (Image fault)
+  entry : (I : ImageTables) {fault : EntryFault} → IsTextOf bytes I → EntriesFail I.program names fault
+      → IsNoRun bytes names (Entry fault)
