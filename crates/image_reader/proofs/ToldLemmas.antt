@@ -31,7 +31,7 @@ use Rattle.image_format.specs.declared.value.ImageValue.TheVariants as values
 use Rattle.image_format.specs.Images.{AreRegions, region_in}
 use Rattle.image_format.specs.Shapes.{HasObjects, HasShape, KnownHasObjects, ObjectHasShape, Suits}
 use Rattle.image_format.specs.Told.{told_array, told_class, told_value, told_if}
-use Rattle.image_format.specs.Told.{ told_objects, told_fields, told_region, told_regions}
+use Rattle.image_format.specs.Told.{told_objects, told_fields, told_region, told_regions}
 use Rattle.image_reader.specs.steps.Held.{HasUnits, HoldsValue, HoldsValues, HoldsField, HoldsFields, HoldsObject}
 use Rattle.image_reader.specs.steps.Held.{HoldsNumber, HoldsObjects, HoldsRegion, HoldsClass, HoldsRegions, HoldsType}
 use Rattle.image_reader.proofs.HeldLemmas.{values_units, slots_units}

@@ -251,8 +251,12 @@ module _ (P : Tables) where
         most = is.most;
         short =
             le-leb (dimensions + length (object_type name)) 65535
-            (omega (arith, short, length-append (replicate dimensions 91) (object_type name),
-            length-replicate {A = ℕ} dimensions 91));
+            (omega (
+              arith,
+              short,
+              length-append (replicate dimensions 91) (object_type name),
+              length-replicate {A = ℕ} dimensions 91,
+            ));
       }))
 
   known_has : (class : ClassId) → KnownHasObjects P.family class → length (class_name P.family class) < 2 ^ 16
