@@ -61,7 +61,7 @@ module _ (P : Tables) (has : HasFiles P) where
       omega (
         arith,
         unknown.most,
-        ap (λ o. length (replicate a.dimensions 91 ++ unwrap_or o [])) none,
+        ap (λ (o : Option (List ℕ)). length (replicate a.dimensions 91 ++ unwrap_or o [])) none,
         length-append (replicate a.dimensions 91) [],
         length-replicate {A = ℕ} a.dimensions 91,
       )
