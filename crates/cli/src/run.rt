@@ -7,8 +7,8 @@ ghost use Rattle.cli.specs.Status.{IsTold};
 use crate::lazy::Start;
 use crate::outcome::Outcome;
 use crate::{
-    Files, Lazy, Ran, Refusal, Report, Request, RunFault, Status, WordsFault, lazy, reporting, request_of, run_world,
-    status_of, thread_lines,
+    Files, Lazy, Ran, Refusal, Report, Request, RunFault, Status, WordsFault, lazy, reporting,
+    request_of, run_world, status_of, thread_lines,
 };
 use program::Program;
 use std::alloc::Global;

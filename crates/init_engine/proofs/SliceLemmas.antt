@@ -350,10 +350,10 @@ has_turned P first limit over old new a under on same halted =
     let so_far = subst (λ k. TurnsSoFar P k first limit (schedule_of new.schedule) new.left new.asked new.done
     (world_of new.world)) (sym same) (on first limit under) in
     let turns : over ≡ true → Turns P count limit first (schedule_of new.schedule) (world_of new.world) = λ is.
-        let last = subst (λ k. IsLast k (place_of new)) (sym same)
-        (last_of (length old.world.threads) over (place_of new) a halted is) in
-        turns_of_last P count limit new.left new.asked new.done first (world_of new.world) (schedule_of new.schedule)
-        so_far last in
+    let last = subst (λ k. IsLast k (place_of new)) (sym same)
+    (last_of (length old.world.threads) over (place_of new) a halted is) in
+    turns_of_last P count limit new.left new.asked new.done first (world_of new.world) (schedule_of new.schedule)
+    so_far last in
     record {
       under_way = so_far;
       run = run_so_far P count limit new.left new.asked new.done first (world_of new.world) (schedule_of new.schedule)

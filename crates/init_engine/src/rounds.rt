@@ -181,7 +181,14 @@ fn round(
         if place.done == place.left || allowance.is_spent() {
             break;
         }
-        let turn = ask(alloc, program, world, schedule, &mut allowance.text, place.asked)?;
+        let turn = ask(
+            alloc,
+            program,
+            world,
+            schedule,
+            &mut allowance.text,
+            place.asked,
+        )?;
         let made = steps_made(turn);
         place.done += made;
         place.asked += 1;
@@ -281,7 +288,15 @@ pub(crate) fn run_rounds(
     let mut place = from;
     'rounds: loop {
         let most = place.rounds_of_one(allowance.steps);
-        let ahead = stretch(alloc, program, world, table, schedule, &mut allowance.text, most)?;
+        let ahead = stretch(
+            alloc,
+            program,
+            world,
+            table,
+            schedule,
+            &mut allowance.text,
+            most,
+        )?;
         place.left -= ahead;
         allowance.steps -= ahead;
         place = round(alloc, program, world, schedule, place, allowance)?;

@@ -17,7 +17,7 @@ returns-then-is_last-clause-turns c =
     let fits : n ≤ c.rounds.place.left =
     omega (arith, c.in_ok-ahead.ensures.stretch.bounded, c.rounds_of_one-most.ensures.left) in
     let midst : 0 < c.rounds.place.asked → n ≡ 0 = λ some.
-        omega (arith, c.in_ok-ahead.ensures.stretch.bounded, c.rounds_of_one-most.ensures.midst some) in
+    omega (arith, c.in_ok-ahead.ensures.stretch.bounded, c.rounds_of_one-most.ensures.midst some) in
     goes_round P count (length c.rounds.world.threads) c.rounds_of_one-most.result n c.args.from c.rounds.place to
     (world_of c.args.world.now) (world_of c.rounds.world) (world_of c.stretch.new.world) (world_of c.round.new.world)
     (schedule_of c.args.schedule.now) (schedule_of c.rounds.schedule) (schedule_of c.stretch.new.schedule)
@@ -35,7 +35,7 @@ returns-then-is_last-clause-spends c =
     let room : n ≤ c.rounds.allowance.steps =
     omega (arith, c.in_ok-ahead.ensures.stretch.bounded, c.rounds_of_one-most.ensures.steps) in
     let midst : 0 < c.rounds.place.asked → n ≡ 0 = λ some.
-        omega (arith, c.in_ok-ahead.ensures.stretch.bounded, c.rounds_of_one-most.ensures.midst some) in
+    omega (arith, c.in_ok-ahead.ensures.stretch.bounded, c.rounds_of_one-most.ensures.midst some) in
     spends_round P count (length c.rounds.world.threads) c.rounds_of_one-most.result n c.args.from c.rounds.place
     c.in_ok-place.place (world_of c.rounds.world) (world_of c.stretch.new.world) (schedule_of c.args.schedule.now)
     (schedule_of c.rounds.schedule) (schedule_of c.stretch.new.schedule) (schedule_of c.round.new.schedule)
@@ -55,7 +55,7 @@ returns-then-place-count-clause-turns c =
     let fits : n ≤ c.rounds.place.left =
     omega (arith, c.in_ok-ahead.ensures.stretch.bounded, c.rounds_of_one-most.ensures.left) in
     let midst : 0 < c.rounds.place.asked → n ≡ 0 = λ some.
-        omega (arith, c.in_ok-ahead.ensures.stretch.bounded, c.rounds_of_one-most.ensures.midst some) in
+    omega (arith, c.in_ok-ahead.ensures.stretch.bounded, c.rounds_of_one-most.ensures.midst some) in
     goes_round P count (length c.rounds.world.threads) c.rounds_of_one-most.result n c.args.from c.rounds.place to
     (world_of c.args.world.now) (world_of c.rounds.world) (world_of c.stretch.new.world) (world_of c.round.new.world)
     (schedule_of c.args.schedule.now) (schedule_of c.rounds.schedule) (schedule_of c.stretch.new.schedule)
@@ -73,7 +73,7 @@ returns-then-place-count-clause-spends c =
     let room : n ≤ c.rounds.allowance.steps =
     omega (arith, c.in_ok-ahead.ensures.stretch.bounded, c.rounds_of_one-most.ensures.steps) in
     let midst : 0 < c.rounds.place.asked → n ≡ 0 = λ some.
-        omega (arith, c.in_ok-ahead.ensures.stretch.bounded, c.rounds_of_one-most.ensures.midst some) in
+    omega (arith, c.in_ok-ahead.ensures.stretch.bounded, c.rounds_of_one-most.ensures.midst some) in
     spends_round P count (length c.rounds.world.threads) c.rounds_of_one-most.result n c.args.from c.rounds.place
     c.in_ok-place.place (world_of c.rounds.world) (world_of c.stretch.new.world) (schedule_of c.args.schedule.now)
     (schedule_of c.rounds.schedule) (schedule_of c.stretch.new.schedule) (schedule_of c.round.new.schedule)
@@ -93,7 +93,7 @@ rounds-preserved c =
     let fits : n ≤ c.rounds.place.left =
     omega (arith, c.in_ok-ahead.ensures.stretch.bounded, c.rounds_of_one-most.ensures.left) in
     let midst : 0 < c.rounds.place.asked → n ≡ 0 = λ some.
-        omega (arith, c.in_ok-ahead.ensures.stretch.bounded, c.rounds_of_one-most.ensures.midst some) in
+    omega (arith, c.in_ok-ahead.ensures.stretch.bounded, c.rounds_of_one-most.ensures.midst some) in
     let room : n ≤ c.rounds.allowance.steps =
     omega (arith, c.in_ok-ahead.ensures.stretch.bounded, c.rounds_of_one-most.ensures.steps) in
     let turns = goes_round P count (length c.rounds.world.threads) c.rounds_of_one-most.result n c.args.from c.rounds.place to

@@ -6,14 +6,14 @@ use Rattle.init_engine.proofs.turning.Turning.go_on.Goals as goal
 pub returns-clause-turns : goal.returns-clause-turns
 returns-clause-turns c =
     rw (← c.self.view_is) (λ first limit under.
-      has_turned (program_of c.args.program.now) first limit c.in_ok-place.over (the_view c.self.inside)
-      (the_view (record {
-        world = c.run_rounds.new.world;
-        table = c.run_rounds.new.table;
-        schedule = c.run_rounds.new.schedule;
-        place = c.in_ok-place.place;
-      })) c.run_rounds.new.allowance under c.in_ok-place.ensures.turns c.run_rounds.ensures.threads
-      c.in_ok-place.ensures.halted)
+    has_turned (program_of c.args.program.now) first limit c.in_ok-place.over (the_view c.self.inside)
+    (the_view (record {
+      world = c.run_rounds.new.world;
+      table = c.run_rounds.new.table;
+      schedule = c.run_rounds.new.schedule;
+      place = c.in_ok-place.place;
+    })) c.run_rounds.new.allowance under c.in_ok-place.ensures.turns c.run_rounds.ensures.threads
+    c.in_ok-place.ensures.halted)
 
 pub returns-clause-slice : goal.returns-clause-slice
 returns-clause-slice c =
