@@ -5,10 +5,9 @@ class Routes {
     static final Verb[] VERBS = new Verb[1000];
 
     static {
-        Verb[] verbs = Verb.values();
         for (int i = 0; i < HASHES.length; i++) {
             HASHES[i] = i * 31 ^ i >>> 3;
-            VERBS[i] = verbs[i % verbs.length];
+            VERBS[i] = i % 3 == 0 ? Verb.PUT : Verb.GET;
         }
     }
 }
@@ -33,6 +32,6 @@ public class Service {
             sum += hash;
         }
         Log.line(sum);
-        Log.line(Routes.VERBS[7].ordinal());
+        Log.line(Routes.VERBS[6].ordinal());
     }
 }

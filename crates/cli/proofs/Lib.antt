@@ -4,5 +4,6 @@ pub mod OneRefusalLemmas
 pub mod PermutationLemmas
 pub mod AnyOrderLemmas
 pub mod OneBuildLemmas
+pub mod RunningLemmas
 pub mod ImageBuildLemmas
 pub mod ImageRunLemmas

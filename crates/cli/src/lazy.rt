@@ -106,7 +106,7 @@ pub(crate) struct LazyStart {
 ///
 /// # Errors
 /// The first refusal: a file, a class file, linking, an entry, or memory.
-pub(crate) fn start<F: Files>(
+pub(crate) fn begin<F: Files>(
     alloc: Global,
     words: &Lazy<'_>,
     files: &mut F,

@@ -79,7 +79,7 @@ fn run_lazily<F: Files, W: Write, E: Write>(
         → (out.new ≡ out.old) ⊎ IsOfRun (W.contents out.old) (W.contents out.new) }
     ensures words { result ≢ Status.Words }
 {
-    match lazy::start(alloc, words, files) {
+    match lazy::begin(alloc, words, files) {
         Ok(LazyStart { program, world }) => run_from(
             alloc,
             &program,

@@ -3,6 +3,7 @@
 ghost use Rattle.std.specs.Prelude.{◌≡◌, ◌≤◌, length, drop, take, true, IfOk, IfErr};
 ghost use Rattle.std.specs.Io.KnownBytes.{Appends};
 ghost use Rattle.init_engine.specs.Turns.{world_of};
+ghost use Rattle.cli.specs.declared.running.RunFault.TheVariants.{Memory};
 ghost use Rattle.cli.specs.Running.{HasRun, IsCutShort, IsStanding, SendsTo, lines_text};
 
 use init_engine::{Ending, Line, Rest, Turning, World};
@@ -35,7 +36,7 @@ pub enum RunFault {
 }
 
 impl From<AllocError> for RunFault {
-    ghost from_gives = { λ _ e. e ≡ RunFault.Memory };
+    ghost from_gives = { λ _ e. e ≡ Memory };
 
     fn from(_error: AllocError) -> RunFault {
         RunFault::Memory
@@ -61,10 +62,19 @@ pub fn run_world<W: Write>(
     let mut turning = Turning::new(alloc, world, limit);
     let mut sent = 0;
     'slices: loop {
-        let over = turning.go_on(alloc, program, STEPS, BYTES)?;
-        sent = send_further(alloc, turning.printed(), sent, out)?;
+        let over = match turning.go_on(alloc, program, STEPS, BYTES) {
+            Ok(over) => over,
+            Err(_) => return Err(RunFault::Memory),
+        };
+        match send_further(alloc, turning.printed(), sent, out) {
+            Ok(count) => sent = count,
+            Err(fault) => return Err(fault),
+        }
         if over {
-            return Ok(what_is_left(alloc, program, turning.world())?);
+            return match what_is_left(alloc, program, turning.world()) {
+                Ok(ran) => Ok(ran),
+                Err(_) => Err(RunFault::Memory),
+            };
         }
     }
 }

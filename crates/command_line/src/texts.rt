@@ -36,7 +36,7 @@ pub(crate) const LAZY_LONG_ABOUT: &str = "\
 Runs the main method of each entry class in a thread of its own, by turns: in each round every thread takes one step,
 in the order of the list. A class is initialized when a thread first needs it.
 
-Standard output gets what the program prints. Then standard error gets a line for each thread:
+Standard output gets what the program prints, while it runs. Then standard error gets a line for each thread:
   thread 0 returned             its main method returned
   thread 0 uncaught CLASS       it ended by an exception of this class
   thread 0 faulted KIND         it met a fault: Fault, Unsupported (the instruction is left out here)

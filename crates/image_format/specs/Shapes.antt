@@ -1,27 +1,29 @@
 -- The shape of a region in an image: each static suits its field, and each object is an instance of a class that has
 -- instances, with just the slots that such an instance has, or an array, each slot suiting its field or the elements'
 -- type. What is counted fits the number that counts it.
-use Rattle.std.specs.Prelude.{◌≡◌, ℕ, ℤ, pos, negsuc, ◌<◌, ◌≤◌, ◌^◌, Bool, true, false, ◌&&◌, List, [], length, nat_lt}
-use Rattle.std.specs.Prelude.{if◌then◌else◌, is_some, FitsSigned, int_le}
+use Rattle.std.specs.Prelude.{◌≡◌, ℕ, ℤ, pos, negsuc, ◌<◌, ◌≤◌, ◌^◌, Bool, true, false, ◌&&◌, List, [], length}
+use Rattle.std.specs.Prelude.{is_some, FitsSigned, int_le}
 use Rattle.std.specs.List.{All, AllZip}
 use Rattle.std.specs.Int.{w32, w64}
+use Rattle.classfile.specs.Units.{IsModifiedUtf8}
 use Rattle.built_in.specs.declared.class_id.ArrayType.{ArrayType}
 use Rattle.built_in.specs.declared.class_id.BuiltIn.{BuiltIn}
 use Rattle.built_in.specs.declared.class_id.BuiltIn.TheVariants as builtins
-use Rattle.built_in.specs.declared.class_id.ElementType.{ElementType}
-use Rattle.built_in.specs.declared.class_id.ElementType.TheVariants as elements
 use Rattle.built_in.specs.declared.class_id.ClassId.{ClassId}
 use Rattle.built_in.specs.declared.class_id.ClassId.TheVariants as classes
 use Rattle.loading.specs.ClassIds.{element_text as descriptor_of}
 use Rattle.loading.specs.Families.{Family}
+use Rattle.program.specs.Arrays.{IsUnknownName}
 use Rattle.program.specs.declared.runtime_constant.FieldKind.{FieldKind}
 use Rattle.program.specs.declared.runtime_constant.FieldKind.TheVariants as kinds
 use Rattle.program.specs.InstanceFields.{is_instantiable_in, slots_of, static_kinds}
 use Rattle.image_format.specs.declared.value.ImageValue.{ImageValue}
 use Rattle.image_format.specs.declared.value.ImageValue.TheVariants as values
+use Rattle.image_format.specs.declared.object.ImageClass.{ImageClass}
+use Rattle.image_format.specs.declared.object.ImageClass.TheVariants as image
 use Rattle.image_format.specs.declared.object.ImageObject.{ImageObject}
 use Rattle.image_format.specs.declared.region.ImageRegion.{ImageRegion}
-use Rattle.image_format.specs.Names.{class_name}
+use Rattle.image_format.specs.Names.{name_of_class}
 use Rattle.image_format.specs.Elements.{kind_of_elements}
 
 -- ---- values
@@ -101,24 +103,43 @@ pub record IsArrayType (family : Family) (a : ArrayType) : Type 0 where
   pub element : is_some (descriptor_of family a.element) ≡ true
   pub elements : has_values (kind_of_elements a) ≡ true
 
+-- so many dimensions of a class that is neither given nor built in, of this name
+pub record IsArrayOfUnknown (family : Family) (dimensions : ℕ) (name : List ℕ) : Type 0 where
+  pub least : 1 ≤ dimensions
+  pub most : dimensions ≤ 255
+  pub unknown : IsUnknownName family name
+  pub text : IsModifiedUtf8 name
+
+abbrev pub KnownHasObjects : Family → ClassId → Type 0
+KnownHasObjects family (classes.Given c) = is_instantiable_in family c ≡ true
+KnownHasObjects family (classes.BuiltIn b) = has_objects b ≡ true
+KnownHasObjects family (classes.Array a) = IsArrayType family a
+
 -- a class of which there can be an object
-abbrev pub HasObjects : Family → ClassId → Type 0
-HasObjects family (classes.Given c) = is_instantiable_in family c ≡ true
-HasObjects family (classes.BuiltIn b) = has_objects b ≡ true
-HasObjects family (classes.Array a) = IsArrayType family a
+abbrev pub HasObjects : Family → ImageClass → Type 0
+HasObjects family (image.Known class) = KnownHasObjects family class
+HasObjects family (image.UnknownArray dimensions name) = IsArrayOfUnknown family dimensions name
 
 -- ---- objects
 
+-- at most 2147483647 elements
+abbrev pub AreElements : FieldKind → List ImageValue → Type 0
+AreElements kind vs = (length vs < 2 ^ 31) × All (Suits kind) vs
+
+abbrev pub AreKnownSlots : Family → ClassId → List ImageValue → Type 0
+AreKnownSlots family (classes.Array a) vs = AreElements (kind_of_elements a) vs
+AreKnownSlots family (classes.Given c) vs = AllZip Suits (slots_of family c) vs
+AreKnownSlots family (classes.BuiltIn b) vs = vs ≡ []
+
 -- What an object of a class holds: a value for each instance field of the class and its superclasses, those of the
--- uppermost first; at most 2147483647 elements of an array. Objects of built-in classes hold nothing.
-abbrev pub AreSlots : Family → ClassId → List ImageValue → Type 0
-AreSlots family (classes.Array a) vs = (length vs < 2 ^ 31) × All (Suits (kind_of_elements a)) vs
-AreSlots family (classes.Given c) vs = AllZip Suits (slots_of family c) vs
-AreSlots family (classes.BuiltIn b) vs = vs ≡ []
+-- uppermost first; the elements of an array. Objects of built-in classes hold nothing.
+abbrev pub AreSlots : Family → ImageClass → List ImageValue → Type 0
+AreSlots family (image.Known class) vs = AreKnownSlots family class vs
+AreSlots family (image.UnknownArray dimensions name) vs = AreElements kinds.Reference vs
 
 pub record ObjectHasShape (family : Family) (object : ImageObject) : Type 0 where
   pub class : HasObjects family object.class
-  pub name : length (class_name family object.class) < 2 ^ 16
+  pub name : length (name_of_class family object.class) < 2 ^ 16
   pub slots : AreSlots family object.class object.slots
 
 -- ---- regions

@@ -1,23 +1,22 @@
 -- The one text of each part of an image: a function of what it holds. Numbers are big-endian.
-use Rattle.std.specs.Prelude.{ℕ, ℤ, pos, List, [], ◌∷◌, ◌++◌, length, Option, Some, None, map, nat_lt, if◌then◌else◌}
+use Rattle.std.specs.Prelude.{ℕ, List, ◌++◌, length, Option, Some, None}
 use Rattle.std.specs.List.{flat_map}
 use Rattle.std.specs.Int.{w8, w16, w32, w64, to_be_bytes, cast_unsigned}
 use Rattle.sha2.specs.Sha256.{sha256}
 use Rattle.classfile.specs.ClassFile.{ClassFile}
 use Rattle.classfile.specs.Spelling.{u1, u2, u4}
 use Rattle.classfile.specs.Text.{class_text}
-use Rattle.built_in.specs.declared.class_id.ArrayType.{ArrayType}
-use Rattle.built_in.specs.declared.class_id.ElementType.{ElementType}
-use Rattle.built_in.specs.declared.class_id.ElementType.TheVariants as elements
 use Rattle.built_in.specs.declared.class_id.ClassId.{ClassId}
 use Rattle.built_in.specs.declared.class_id.ClassId.TheVariants as classes
 use Rattle.loading.specs.declared.given.GivenClass.{GivenClass}
 use Rattle.loading.specs.Families.{Family}
 use Rattle.image_format.specs.declared.value.ImageValue.{ImageValue}
 use Rattle.image_format.specs.declared.value.ImageValue.TheVariants as values
+use Rattle.image_format.specs.declared.object.ImageClass.{ImageClass}
+use Rattle.image_format.specs.declared.object.ImageClass.TheVariants as image
 use Rattle.image_format.specs.declared.object.ImageObject.{ImageObject}
 use Rattle.image_format.specs.declared.region.ImageRegion.{ImageRegion}
-use Rattle.image_format.specs.Names.{class_name}
+use Rattle.image_format.specs.Names.{name_of_class}
 use Rattle.image_format.specs.Elements.{kind_of_elements}
 use Rattle.program.specs.declared.runtime_constant.FieldKind.{FieldKind}
 use Rattle.program.specs.declared.runtime_constant.FieldKind.TheVariants as kinds
@@ -67,15 +66,26 @@ element_text _ v = value_text v
 
 -- ---- objects
 
--- the form, the name of the class, and the slots; of an array the number of its elements and these
-abbrev pub parts_text : List ℕ → ClassId → List ImageValue → List ℕ
-parts_text name (classes.Array a) slots = u1 1 ++ (named_text name
-    ++ (u4 (length slots) ++ flat_map (element_text (kind_of_elements a)) slots))
-parts_text name (classes.Given c) slots = u1 0 ++ (named_text name ++ flat_map value_text slots)
-parts_text name (classes.BuiltIn b) slots = u1 0 ++ (named_text name ++ flat_map value_text slots)
+-- the form, the name of the class, and the slots
+abbrev pub instance_text : List ℕ → List ImageValue → List ℕ
+instance_text name slots = u1 0 ++ (named_text name ++ flat_map value_text slots)
+
+-- of an array whose elements are held as a kind the number of its elements and these
+abbrev pub array_text : List ℕ → FieldKind → List ImageValue → List ℕ
+array_text name kind slots =
+    u1 1 ++ (named_text name ++ (u4 (length slots) ++ flat_map (element_text kind) slots))
+
+abbrev pub known_text : List ℕ → ClassId → List ImageValue → List ℕ
+known_text name (classes.Array a) slots = array_text name (kind_of_elements a) slots
+known_text name (classes.Given c) slots = instance_text name slots
+known_text name (classes.BuiltIn b) slots = instance_text name slots
+
+abbrev pub parts_text : List ℕ → ImageClass → List ImageValue → List ℕ
+parts_text name (image.Known class) slots = known_text name class slots
+parts_text name (image.UnknownArray dimensions class) slots = array_text name kinds.Reference slots
 
 abbrev pub object_text : Family → ImageObject → List ℕ
-object_text family object = parts_text (class_name family object.class) object.class object.slots
+object_text family object = parts_text (name_of_class family object.class) object.class object.slots
 
 -- ---- regions
 

@@ -3,6 +3,11 @@
 use Rattle.std.specs.Prelude.{ℕ, List, [], ◌∷◌, length, map, Option, Some, None, option_map, slice_index_or}
 use Rattle.std.specs.List.{flat_map, range_with_len}
 use Rattle.classfile.specs.Printing.{units_of}
+use Rattle.built_in.specs.declared.class_id.ArrayType.{ArrayType}
+use Rattle.built_in.specs.declared.class_id.ClassId.{ClassId}
+use Rattle.built_in.specs.declared.class_id.ClassId.TheVariants as classes
+use Rattle.built_in.specs.declared.class_id.ElementType.{ElementType}
+use Rattle.built_in.specs.declared.class_id.ElementType.TheVariants as elements
 use Rattle.vm_state.specs.declared.value.Value.{Value}
 use Rattle.vm_state.specs.declared.value.Value.TheVariants as machine
 use Rattle.vm_state.specs.declared.object.Object.{Object}
@@ -10,6 +15,8 @@ use Rattle.vm_state.specs.SharedState.{Pool, Region}
 use Rattle.program.specs.Tables.{Tables, statics_in}
 use Rattle.image_format.specs.declared.value.ImageValue.{ImageValue}
 use Rattle.image_format.specs.declared.value.ImageValue.TheVariants as values
+use Rattle.image_format.specs.declared.object.ImageClass.{ImageClass}
+use Rattle.image_format.specs.declared.object.ImageClass.TheVariants as image
 use Rattle.image_format.specs.declared.object.ImageObject.{ImageObject}
 use Rattle.image_format.specs.declared.region.ImageRegion.{ImageRegion}
 
@@ -27,8 +34,18 @@ told_value strings (machine.OfClass c n) = values.Object c n
 told_value strings (machine.OfThread t n) = values.Null
 told_value strings machine.Out = values.Out
 
+-- an array type, by its elements
+abbrev pub told_array : List (List ℕ) → ArrayType → ElementType → ImageClass
+told_array strings a (elements.Unknown n) = image.UnknownArray a.dimensions (slice_index_or strings n [])
+told_array strings a element = image.Known (classes.Array a)
+
+-- A class: one that is neither given nor built in by its name.
+abbrev pub told_class : List (List ℕ) → ClassId → ImageClass
+told_class strings (classes.Array a) = told_array strings a a.element
+told_class strings class = image.Known class
+
 abbrev pub told_object : List (List ℕ) → Object → ImageObject
-told_object strings object = record { class = object.class; slots = map (told_value strings) object.slots }
+told_object strings object = record { class = told_class strings object.class; slots = map (told_value strings) object.slots }
 
 abbrev pub told_if : List (List ℕ) → Option Object → List ImageObject
 told_if strings None = []

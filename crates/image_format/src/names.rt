@@ -75,7 +75,10 @@ fn push_given(name: &mut Vec<u8>, family: &Family, number: u32) -> Result<(), Al
 }
 
 /// Adds a class in a descriptor.
-fn push_object_type(name: &mut Vec<u8>, class: &[u8]) -> Result<(), AllocError>
+///
+/// # Errors
+/// Where memory runs out.
+pub fn push_object_type(name: &mut Vec<u8>, class: &[u8]) -> Result<(), AllocError>
     ensures { OnOk result (name.new.items ≡ name.old.items ++ object_type class.now) }
 {
     name.push(b'L')?;

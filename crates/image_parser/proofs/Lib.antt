@@ -5,6 +5,7 @@ pub mod EachLawful
 pub mod ValueLawful
 pub mod ClassNameLemmas
 pub mod ElementLawful
+pub mod UnknownLemmas
 pub mod ObjectLawful
 pub mod RegionLemmas
 pub mod MarkLemmas

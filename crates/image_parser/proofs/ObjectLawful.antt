@@ -1,5 +1,5 @@
 -- Readers of objects and regions are lawful.
-use Rattle.std.proofs.Common.{◌≡◌, ℕ, ◌<◌, ◌^◌, Bool, true, false, ◌&&◌, ltb, eqb, option_map, replicate, List, [], ◌++◌, length}
+use Rattle.std.proofs.Common.{◌≡◌, ℕ, ◌<◌, ◌^◌, Bool, true, false, ◌&&◌, ltb, eqb, option_map, replicate, cond, List, [], ◌++◌, length}
 use Rattle.std.proofs.Common.{Option, Some, None, is_some, Ok, Err, refl, sym, ap, subst, ◌∙◌, arith}
 use Rattle.std.specs.Bool.{Decides}
 use Rattle.std.specs.List.{flat_map}
@@ -13,27 +13,34 @@ use Rattle.loading.specs.Names.{name_of}
 use Rattle.loading.specs.Families.{Family, IsFamily, file_in, passes}
 use Rattle.loading.specs.ClassIds.IsNamed.{given, built_in, array}
 use Rattle.program.specs.InstanceFields.{has_instances}
-use Rattle.loading.specs.ClassIds.{IsNamed, StandsFor, element_text as descriptor_of}
+use Rattle.loading.specs.ClassIds.{IsNamed, StandsFor, object_type, element_text as descriptor_of}
 use Rattle.loading.proofs.UniquenessLemmas.{one_class}
 use Rattle.program.specs.declared.runtime_constant.FieldKind.{FieldKind}
+use Rattle.program.specs.declared.runtime_constant.FieldKind.TheVariants as kinds
 use Rattle.program.specs.InstanceFields.{slots_of, static_kinds}
 use Rattle.image_format.specs.declared.value.ImageValue.{ImageValue}
+use Rattle.image_format.specs.declared.object.ImageClass.{ImageClass}
+use Rattle.image_format.specs.declared.object.ImageClass.TheVariants as image
 use Rattle.image_format.specs.declared.object.ImageObject.{ImageObject}
 use Rattle.image_format.specs.declared.region.ImageRegion.{ImageRegion}
 use Rattle.image_format.specs.Elements.{kind_of_elements}
-use Rattle.image_format.specs.Names.{class_name}
-use Rattle.image_format.specs.Shapes.{Suits, HasObjects, AreSlots, ObjectHasShape}
+use Rattle.image_format.specs.Names.{class_name, name_of_class}
+use Rattle.image_format.specs.Shapes.{Suits, KnownHasObjects, HasObjects, AreElements, AreSlots, ObjectHasShape}
 use Rattle.image_format.specs.Texts.{value_text, element_text, object_text, region_text, named_text, parts_text}
+use Rattle.image_format.specs.Texts.{array_text}
 use Rattle.image_parser.specs.declared.fault.RegionFault.{RegionFault}
 use Rattle.image_parser.specs.declared.fault.RegionFault.TheVariants as faults
 use Rattle.image_parser.specs.FirstFailing.{Either, Number, Run, Ruled, RuleFails, EachFails, times}
 use Rattle.image_parser.specs.RegionFaults.{CutNumber, IsValue, ValueFails, ElementFails, ElementsFail}
-use Rattle.image_parser.specs.RegionFaults.{form_of, NameFails, IsName, NamesClass, IsClass, ClassFails, SlotsFail, ObjectFails}
+use Rattle.image_parser.specs.RegionFaults.{known_form, form_of, NameFails, IsName, NamesClass, IsClass, ClassFails}
+use Rattle.image_parser.specs.RegionFaults.{ArrayFails, SlotsFail, ObjectFails}
 use Rattle.image_parser.specs.RegionFaults.{IsObject, ObjectsFail, AreStatics, RegionFails, IsRegion}
 use Rattle.image_parser.specs.reading.Results.{◌>>=◌, number_at, run_at, each_at}
 use Rattle.image_parser.specs.reading.Values.{value_at, element_at}
 use Rattle.image_parser.specs.reading.ClassNames.{class_of}
-use Rattle.image_parser.specs.reading.Objects.{is_form, may_be, good_class, class_if, class_for, name_at, class_at}
+use Rattle.image_parser.specs.reading.Unknown.{unknown_of}
+use Rattle.image_parser.specs.reading.Objects.{is_form, may_be, good_class, unknown_if, class_if, class_for, name_at}
+use Rattle.image_parser.specs.reading.Objects.{class_at}
 use Rattle.image_parser.specs.reading.Objects.{elements_at, count_at, array_at, slots_at, formed_at, form_at, object_at}
 use Rattle.image_parser.specs.reading.Objects.{object_of, region_of, objects_at, counted_region_at, region_at}
 use Rattle.image_parser.proofs.Lawful.{Lawful, Both, Is, Mapped, wide8, wide16, wide32, number_lawful, run_lawful, pure_lawful}
@@ -43,6 +50,7 @@ use Rattle.image_parser.proofs.EachLawful.{AllSpelled, each_lawful}
 use Rattle.image_parser.proofs.ValueLawful.{value_lawful, times_all, all_times}
 use Rattle.image_parser.proofs.ElementLawful.{element_lawful}
 use Rattle.image_parser.proofs.ClassNameLemmas.{stands, name_is, or_nothing}
+use Rattle.image_parser.proofs.UnknownLemmas.{unknown_is, unknown_back}
 
 -- ---- tests
 
@@ -98,12 +106,12 @@ one_form form e = sym (eqb-true form 1 e)
 no_form : (form : ℕ) → eqb form 0 ≡ true → 0 ≡ form
 no_form form e = sym (eqb-true form 0 e)
 
-form_is : (form : ℕ) (class : ClassId) → is_form form class ≡ true → form_of class ≡ form
+form_is : (form : ℕ) (class : ClassId) → is_form form class ≡ true → known_form class ≡ form
 form_is form (classes.Array a) e = one_form form e
 form_is form (classes.Given c) e = no_form form e
 form_is form (classes.BuiltIn b) e = no_form form e
 
-is_form_of : (class : ClassId) → is_form (form_of class) class ≡ true
+is_form_of : (class : ClassId) → is_form (known_form class) class ≡ true
 is_form_of (classes.Array a) = refl
 is_form_of (classes.Given c) = refl
 is_form_of (classes.BuiltIn b) = refl
@@ -112,7 +120,7 @@ some_is : (o : Option (List ℕ)) (text : List ℕ) → o ≡ Some text → is_s
 some_is o text e = rw e refl
 
 has_of : (family : Family) (name : List ℕ) (class : ClassId) → IsNamed family name class → may_be family class ≡ true
-    → HasObjects family class
+    → KnownHasObjects family class
 has_of family name (classes.Given c) h may = may
 has_of family name (classes.BuiltIn b) h may = may
 has_of family name (classes.Array a) (array some few element is) may = record {
@@ -122,7 +130,7 @@ has_of family name (classes.Array a) (array some few element is) may = record {
   elements = may;
 }
 
-may_of : (family : Family) (class : ClassId) → HasObjects family class → may_be family class ≡ true
+may_of : (family : Family) (class : ClassId) → KnownHasObjects family class → may_be family class ≡ true
 may_of family (classes.Given c) h = h
 may_of family (classes.BuiltIn b) h = h
 may_of family (classes.Array a) h = h.elements
@@ -135,7 +143,7 @@ text_if : (o : Option (List ℕ)) → is_some o ≡ true → (text : List ℕ) �
 text_if None e = absurd cc
 text_if (Some text) e = (text, refl)
 
-named_has : (family : Family) (class : ClassId) → HasObjects family class → IsNamed family (class_name family class) class
+named_has : (family : Family) (class : ClassId) → KnownHasObjects family class → IsNamed family (class_name family class) class
 named_has family (classes.Given c) h =
     let n = named_if (file_in family c) h in
     let same : class_name family (classes.Given c) ≡ n.0 = rw n.1 refl in
@@ -146,29 +154,31 @@ named_has family (classes.Array a) h =
     array h.some h.few t.1
     (ap (λ (z : List ℕ). replicate a.dimensions 91 ++ z) (or_nothing (descriptor_of family a.element) t.0 t.1))
 
-good_of : (family : Family) (class : ClassId) → HasObjects family class → good_class family (form_of class) class ≡ true
+good_of : (family : Family) (class : ClassId) → KnownHasObjects family class
+    → good_class family (known_form class) class ≡ true
 good_of family class h = rw (is_form_of class, may_of family class h) refl
 
--- what is known of a class that is answered
-record Answered (family : Family) (form : ℕ) (o : Option ClassId) (y : ClassId) : Type 0 where
-  is : o ≡ Some y
-  good : good_class family form y ≡ true
-
-answered : (family : Family) (form : ℕ) (o : Option ClassId) (y : ClassId) → class_if family form o ≡ Ok y
-    → Answered family form o y
-answered family form None y e = absurd cc
-answered family form (Some x) y e =
-    let g = good_ok (good_class family form x) faults.Shape x y e in
-    record { is = ap (λ (z : ClassId). Some z) g.1; good = ap (good_class family form) (sym g.1) ∙ g.0 }
-
-refused : (family : Family) (form : ℕ) (o : Option ClassId) (f : RegionFault) → class_if family form o ≡ Err f
+cond_err : {A : Type 0} (b : Bool) (x : A) (f : RegionFault) → cond b (Ok x) (Err faults.Shape) ≡ Err f
     → f ≡ faults.Shape
-refused family form None f e = cc
-refused family form (Some x) f e = by (good_class family form x) refl
-  where
-    by : (b : Bool) → good_class family form x ≡ b → f ≡ faults.Shape
-    by true is = let q : class_if family form (Some x) ≡ Ok x = rw is refl in absurd cc
-    by false is = let q : class_if family form (Some x) ≡ Err faults.Shape = rw is refl in cc
+cond_err true x f e = absurd cc
+cond_err false x f e = cc
+
+refused_unknown : (form : ℕ) (o : Option (ℕ × List ℕ)) (f : RegionFault) → unknown_if form o ≡ Err f
+    → f ≡ faults.Shape
+refused_unknown form None f e = cc
+refused_unknown form (Some p) f e = cond_err (eqb form 1) (image.UnknownArray p.0 p.1) f e
+
+refused : (family : Family) (form : ℕ) (name : List ℕ) (o : Option ClassId) (f : RegionFault)
+    → class_if family form name o ≡ Err f → f ≡ faults.Shape
+refused family form name None f e = refused_unknown form (unknown_of name) f e
+refused family form name (Some x) f e = cond_err (good_class family form x) (image.Known x) f e
+
+-- what is known of an array class that is answered
+unknown_answered : (form : ℕ) (o : Option (ℕ × List ℕ)) (y : ImageClass) → unknown_if form o ≡ Ok y
+    → (p : ℕ × List ℕ) × ((o ≡ Some p) × ((eqb form 1 ≡ true) × (image.UnknownArray p.0 p.1 ≡ y)))
+unknown_answered form None y e = absurd cc
+unknown_answered form (Some p) y e =
+    (p, (refl, good_ok (eqb form 1) faults.Shape (image.UnknownArray p.0 p.1) y e))
 
 same_name : (a b text : List ℕ) → IsName a text → IsName b text → a ≡ b
 same_name a b text s t =
@@ -176,39 +186,58 @@ same_name a b text s t =
     ok_is (a, []) (b, []) (sym (name_lawful.again a text [] s) ∙ name_lawful.again b text [] t) in
     ap (λ (q : List ℕ × List ℕ). q.0) p
 
+-- a class that has this name
+named_class : (family : Family) (form : ℕ) (class : ImageClass) (name text : List ℕ) → HasObjects family class
+    → form_of class ≡ form → name_of_class family class ≡ name → IsName name text → IsClass family form class text
+named_class family form class name text has of_form is s = record {
+  has = has;
+  of_form = of_form;
+  count = rw is s.0;
+  spelled = s.1 ∙ ap (λ (z : List ℕ). named_text z) (sym is);
+}
+
 module _ (family : Family) (fits : IsFamily family) where
+  made_by : (form : ℕ) (name text : List ℕ) (y : ImageClass) → IsName name text → (o : Option ClassId)
+      → class_of family name ≡ o → class_if family form name o ≡ Ok y → IsClass family form y text
+  made_by form name text y s (Some class) is e =
+      let a = good_ok (good_class family form class) faults.Shape (image.Known class) y e in
+      let named : IsNamed family name class = subst (StandsFor family name) is (stands family name) in
+      let g = and_parts (is_form form class) (may_be family class) a.0 in
+      let P : ImageClass → Type 0 = λ z. IsClass family form z text in
+      subst P a.1 (named_class family form (image.Known class) name text (has_of family name class named g.1)
+      (form_is form class g.0) (name_is family name class named) s)
+  made_by form name text y s None is e =
+      let a = unknown_answered form (unknown_of name) y e in
+      let u = unknown_is family name a.0 is a.1.0 in
+      let P : ImageClass → Type 0 = λ z. IsClass family form z text in
+      subst P a.1.1.1 (named_class family form (image.UnknownArray a.0.0 a.0.1) name text u.0
+      (one_form form a.1.1.0) (sym u.1) s)
+
+  again_by : (form : ℕ) (y : ImageClass) → HasObjects family y → form_of y ≡ form
+      → class_for family form (name_of_class family y) ≡ Ok y
+  again_by form (image.Known class) has of_form =
+      let name = class_name family class in
+      let found : class_of family name ≡ Some class =
+      one_class family fits name (class_of family name) (Some class) (stands family name) (named_has family class has) in
+      let good : good_class family form class ≡ true =
+      subst (λ (n : ℕ). good_class family n class ≡ true) of_form (good_of family class has) in
+      rw (found, good) refl
+  again_by form (image.UnknownArray d class) has of_form =
+      let name : List ℕ = replicate d 91 ++ object_type class in
+      let u = unknown_back family fits d class has in
+      let good : eqb form 1 ≡ true = ap (λ (n : ℕ). eqb n 1) (sym of_form) in
+      ap (class_if family form name) u.0 ∙ ap (unknown_if form) u.1
+      ∙ ap (λ (b : Bool). cond b (Ok (image.UnknownArray d class)) (Err faults.Shape)) good
+
   class_makes : (form : ℕ) → Makes IsName (IsClass family form) (NamesClass family form) (class_for family form) faults.Shape
   class_makes form = record {
-    made = λ x text y bytes s e.
-        let a = answered family form (class_of family x) y e in
-        let named : IsNamed family x y = subst (StandsFor family x) a.is (stands family x) in
-        let name : class_name family y ≡ x = name_is family x y named in
-        let g = and_parts (is_form form y) (may_be family y) a.good in
-        record {
-          has = has_of family x y named g.1;
-          of_form = form_is form y g.0;
-          count = rw name s.0;
-          spelled = s.1 ∙ ap (λ (z : List ℕ). named_text z) (sym name);
-        };
+    made = λ x text y bytes s e. made_by form x text y s (class_of family x) refl e;
     again = λ y text t.
-        let name = class_name family y in
-        let found : class_of family name ≡ Some y =
-        one_class family fits name (class_of family name) (Some y) (stands family name) (named_has family y t.has) in
-        let good : good_class family form y ≡ true =
-        subst (λ (n : ℕ). good_class family n y ≡ true) t.of_form (good_of family y t.has) in
-        (name, ((t.count, t.spelled), rw (found, good) refl));
-    fault = λ x f e. refused family form (class_of family x) f e;
+        (name_of_class family y, ((t.count, t.spelled), again_by form y t.has t.of_form));
+    fault = λ x f e. refused family form x (class_of family x) f e;
     rule = λ x text y s t.
-        (y, (t.has, (t.of_form, same_name x (class_name family y) text s (t.count, t.spelled))));
-    by_rule = λ x text s r. (
-      r.0,
-      record {
-        has = r.1.0;
-        of_form = r.1.1.0;
-        count = rw (← r.1.1.1) s.0;
-        spelled = s.1 ∙ ap (λ (z : List ℕ). named_text z) r.1.1.1;
-      },
-    );
+        (y, (t.has, (t.of_form, same_name x (name_of_class family y) text s (t.count, t.spelled))));
+    by_rule = λ x text s r. (r.0, named_class family form r.0 x text r.1.0 r.1.1.0 (sym r.1.1.1) s);
   }
 
   class_lawful : (form : ℕ) → Lawful (class_at family form) (IsClass family form) (ClassFails family form)
@@ -218,11 +247,19 @@ module _ (family : Family) (fits : IsFamily family) where
 
 -- ---- slots
 
-abbrev Slots : Family → ClassId → List ImageValue → List ℕ → Type 0
-Slots family (classes.Given c) = AllSpelled value_text Suits (slots_of family c)
-Slots family (classes.BuiltIn b) = Is []
-Slots family (classes.Array a) = Both (Ruled (Number w32) (λ n. n < 2 ^ 31))
-    (λ n. AllSpelled (element_text (kind_of_elements a)) (λ (one : Unit {0}). Suits (kind_of_elements a)) (times n))
+-- a count, and so many elements
+abbrev ArraySlots : FieldKind → List ImageValue → List ℕ → Type 0
+ArraySlots kind = Both (Ruled (Number w32) (λ n. n < 2 ^ 31))
+    (λ n. AllSpelled (element_text kind) (λ (one : Unit {0}). Suits kind) (times n))
+
+abbrev KnownSlots : Family → ClassId → List ImageValue → List ℕ → Type 0
+KnownSlots family (classes.Given c) = AllSpelled value_text Suits (slots_of family c)
+KnownSlots family (classes.BuiltIn b) = Is []
+KnownSlots family (classes.Array a) = ArraySlots (kind_of_elements a)
+
+abbrev Slots : Family → ImageClass → List ImageValue → List ℕ → Type 0
+Slots family (image.Known class) = KnownSlots family class
+Slots family (image.UnknownArray d name) = ArraySlots kinds.Reference
 
 elements_lawful : (kind : FieldKind) (n : ℕ) → Lawful (elements_at kind n)
     (AllSpelled (element_text kind) (λ (one : Unit {0}). Suits kind) (times n)) (ElementsFail kind n)
@@ -230,53 +267,70 @@ unfolding elements_at
 elements_lawful kind n = each_lawful (element_text kind) (λ (one : Unit {0}). Suits kind)
     (λ (one : Unit {0}). ElementFails kind) (λ (one : Unit {0}). element_at kind) (λ one. element_lawful kind) (times n)
 
-slots_lawful : (family : Family) (class : ClassId)
-    → Lawful (slots_at family class) (Slots family class) (SlotsFail family class)
+array_lawful : (kind : FieldKind) → Lawful (array_at kind) (ArraySlots kind) (ArrayFails kind)
 unfolding array_at
-slots_lawful family (classes.Given c) = each_lawful value_text Suits ValueFails value_at value_lawful (slots_of family c)
-slots_lawful family (classes.BuiltIn b) = pure_lawful []
-slots_lawful family (classes.Array a) =
-    then_lawful count_at (λ bytes count. elements_at (kind_of_elements a) count.0 count.1) count_lawful
-    (λ bytes n text s. elements_lawful (kind_of_elements a) n)
+array_lawful kind =
+    then_lawful count_at (λ bytes count. elements_at kind count.0 count.1) count_lawful
+    (λ bytes n text s. elements_lawful kind n)
 
-slots_there : (family : Family) (class : ClassId) (name : List ℕ) (vs : List ImageValue) (back : List ℕ)
-    → Slots family class vs back
-    → AreSlots family class vs × (u1 (form_of class) ++ (named_text name ++ back) ≡ parts_text name class vs)
-slots_there family (classes.Given c) name vs back s =
-    (s.0, ap (λ (z : List ℕ). u1 0 ++ (named_text name ++ z)) s.1)
-slots_there family (classes.BuiltIn b) name vs back s = rw (s.0, s.1) (refl, refl)
-slots_there family (classes.Array a) name vs back s =
-    let kind = kind_of_elements a in
+slots_lawful : (family : Family) (class : ImageClass)
+    → Lawful (slots_at family class) (Slots family class) (SlotsFail family class)
+slots_lawful family (image.Known (classes.Given c)) =
+    each_lawful value_text Suits ValueFails value_at value_lawful (slots_of family c)
+slots_lawful family (image.Known (classes.BuiltIn b)) = pure_lawful []
+slots_lawful family (image.Known (classes.Array a)) = array_lawful (kind_of_elements a)
+slots_lawful family (image.UnknownArray d name) = array_lawful kinds.Reference
+
+array_there : (kind : FieldKind) (name : List ℕ) (vs : List ImageValue) (back : List ℕ) → ArraySlots kind vs back
+    → AreElements kind vs × (u1 1 ++ (named_text name ++ back) ≡ array_text name kind vs)
+array_there kind name vs back s =
     let all = times_all (Suits kind) s.value vs s.second.0 in
     let same : u4 s.value ≡ u4 (length vs) = ap (λ (n : ℕ). u4 n) (sym all.0) in
     let text : back ≡ u4 (length vs) ++ flat_map (element_text kind) vs =
     s.parts ∙ append_equal s.front (u4 (length vs)) s.back (flat_map (element_text kind) vs) (s.first.0.1 ∙ same) s.second.1 in
     ((rw (all.0) s.first.1, all.1), ap (λ (z : List ℕ). u1 1 ++ (named_text name ++ z)) text)
 
+slots_there : (family : Family) (class : ImageClass) (name : List ℕ) (vs : List ImageValue) (back : List ℕ)
+    → Slots family class vs back
+    → AreSlots family class vs × (u1 (form_of class) ++ (named_text name ++ back) ≡ parts_text name class vs)
+slots_there family (image.Known (classes.Given c)) name vs back s =
+    (s.0, ap (λ (z : List ℕ). u1 0 ++ (named_text name ++ z)) s.1)
+slots_there family (image.Known (classes.BuiltIn b)) name vs back s = rw (s.0, s.1) (refl, refl)
+slots_there family (image.Known (classes.Array a)) name vs back s = array_there (kind_of_elements a) name vs back s
+slots_there family (image.UnknownArray d class) name vs back s = array_there kinds.Reference name vs back s
+
+array_slots : (kind : FieldKind) (vs : List ImageValue) → AreElements kind vs
+    → ArraySlots kind vs (u4 (length vs) ++ flat_map (element_text kind) vs)
+array_slots kind vs h = record {
+  value = length vs;
+  front = u4 (length vs);
+  back = flat_map (element_text kind) vs;
+  first = ((omega (arith, h.0), refl), h.0);
+  second = (all_times (Suits kind) (length vs) vs refl h.1, refl);
+  parts = refl;
+}
+
 -- what stands after the name
-record After (family : Family) (class : ClassId) (name : List ℕ) (vs : List ImageValue) : Type 0 where
+record After (family : Family) (class : ImageClass) (name : List ℕ) (vs : List ImageValue) : Type 0 where
   back : List ℕ
   slots : Slots family class vs back
   is : parts_text name class vs ≡ u1 (form_of class) ++ (named_text name ++ back)
 
-slots_back : (family : Family) (class : ClassId) (name : List ℕ) (vs : List ImageValue) → AreSlots family class vs
+slots_back : (family : Family) (class : ImageClass) (name : List ℕ) (vs : List ImageValue) → AreSlots family class vs
     → After family class name vs
-slots_back family (classes.Given c) name vs h = record { back = flat_map value_text vs; slots = (h, refl); is = refl }
-slots_back family (classes.BuiltIn b) name vs h = record { back = []; slots = (h, refl); is = rw h refl }
-slots_back family (classes.Array a) name vs h =
-    let kind = kind_of_elements a in
-    record {
-      back = u4 (length vs) ++ flat_map (element_text kind) vs;
-      slots = record {
-        value = length vs;
-        front = u4 (length vs);
-        back = flat_map (element_text kind) vs;
-        first = ((omega (arith, h.0), refl), h.0);
-        second = (all_times (Suits kind) (length vs) vs refl h.1, refl);
-        parts = refl;
-      };
-      is = refl;
-    }
+slots_back family (image.Known (classes.Given c)) name vs h =
+    record { back = flat_map value_text vs; slots = (h, refl); is = refl }
+slots_back family (image.Known (classes.BuiltIn b)) name vs h = record { back = []; slots = (h, refl); is = rw h refl }
+slots_back family (image.Known (classes.Array a)) name vs h = record {
+  back = u4 (length vs) ++ flat_map (element_text (kind_of_elements a)) vs;
+  slots = array_slots (kind_of_elements a) vs h;
+  is = refl;
+}
+slots_back family (image.UnknownArray d class) name vs h = record {
+  back = u4 (length vs) ++ flat_map (element_text kinds.Reference) vs;
+  slots = array_slots kinds.Reference vs h;
+  is = refl;
+}
 
 -- ---- objects
 
@@ -300,8 +354,8 @@ object_there : (family : Family) (object : ImageObject) (text : List ℕ) → Ob
 object_there family object text s =
     let t = s.second in
     let m = t.second in
-    let class : ClassId = t.value in
-    let name = class_name family class in
+    let class : ImageClass = t.value in
+    let name = name_of_class family class in
     let h = slots_there family class name m.value t.back m.spelled in
     let front : s.front ≡ u1 (form_of class) = s.first.0.1 ∙ ap (λ (n : ℕ). u1 n) (sym t.first.of_form) in
     let back : s.back ≡ named_text name ++ t.back =
@@ -311,16 +365,17 @@ object_there family object text s =
     let P : ImageObject → Type 0 = λ z. IsObject family z text in
     subst P (sym m.is) (record { class = t.first.has; name = t.first.count; slots = h.0 }, whole)
 
-form_small : (class : ClassId) → form_of class < 2
-form_small (classes.Array a) = omega arith
-form_small (classes.Given c) = omega arith
-form_small (classes.BuiltIn b) = omega arith
+form_small : (class : ImageClass) → form_of class < 2
+form_small (image.Known (classes.Array a)) = omega arith
+form_small (image.Known (classes.Given c)) = omega arith
+form_small (image.Known (classes.BuiltIn b)) = omega arith
+form_small (image.UnknownArray d name) = omega arith
 
 object_back : (family : Family) (object : ImageObject) (text : List ℕ) → IsObject family object text
     → Object family object text
 object_back family object text s =
-    let class : ClassId = object.class in
-    let name = class_name family class in
+    let class : ImageClass = object.class in
+    let name = name_of_class family class in
     let a = slots_back family class name object.slots s.0.slots in
     let small = form_small class in
     record {

@@ -9,10 +9,12 @@ use Rattle.program.specs.declared.runtime_constant.FieldKind.{FieldKind}
 use Rattle.program.specs.declared.runtime_constant.FieldKind.TheVariants as kinds
 use Rattle.program.specs.InstanceFields.{slots_of, static_kinds}
 use Rattle.image_format.specs.declared.value.ImageValue.{ImageValue}
+use Rattle.image_format.specs.declared.object.ImageClass.{ImageClass}
+use Rattle.image_format.specs.declared.object.ImageClass.TheVariants as image
 use Rattle.image_format.specs.declared.object.ImageObject.{ImageObject}
 use Rattle.image_format.specs.declared.region.ImageRegion.{ImageRegion}
 use Rattle.image_format.specs.Elements.{kind_of_elements}
-use Rattle.image_format.specs.Names.{class_name}
+use Rattle.image_format.specs.Names.{name_of_class}
 use Rattle.image_format.specs.Shapes.{Suits, is_in_range, HasObjects, ObjectHasShape, HasShape}
 use Rattle.image_format.specs.Texts.{value_text, element_text, object_text, region_text, named_text}
 use Rattle.image_parser.specs.declared.fault.RegionFault.{RegionFault}
@@ -81,9 +83,13 @@ ElementsFail kind n =
 -- ---- objects
 
 -- the form of an object of a class: 1 of arrays, 0 of instances
-abbrev pub form_of : ClassId → ℕ
-form_of (classes.Array a) = 1
-form_of _ = 0
+abbrev pub known_form : ClassId → ℕ
+known_form (classes.Array a) = 1
+known_form _ = 0
+
+abbrev pub form_of : ImageClass → ℕ
+form_of (image.Known class) = known_form class
+form_of (image.UnknownArray dimensions name) = 1
 
 abbrev pub NameFails : List ℕ → RegionFault → Type 0
 NameFails = Either (Number w16) (CutNumber w16) Cut
@@ -95,25 +101,33 @@ IsName name text = (length name < 2 ^ 16) × (text ≡ named_text name)
 -- the name is that of a class of this form of which there can be an object
 abbrev pub NamesClass : Family → ℕ → List ℕ → Type 0
 NamesClass family form name =
-    (class : ClassId) × (HasObjects family class × ((form_of class ≡ form) × (name ≡ class_name family class)))
+    (class : ImageClass) × (HasObjects family class × ((form_of class ≡ form) × (name ≡ name_of_class family class)))
 
 -- such a class, by its name
-pub record IsClass (family : Family) (form : ℕ) (class : ClassId) (text : List ℕ) : Type 0 where
+pub record IsClass (family : Family) (form : ℕ) (class : ImageClass) (text : List ℕ) : Type 0 where
   pub has : HasObjects family class
   pub of_form : form_of class ≡ form
-  pub count : length (class_name family class) < 2 ^ 16
-  pub spelled : text ≡ named_text (class_name family class)
+  pub count : length (name_of_class family class) < 2 ^ 16
+  pub spelled : text ≡ named_text (name_of_class family class)
 
 abbrev pub ClassFails : Family → ℕ → List ℕ → RegionFault → Type 0
 ClassFails family form = RuleFails IsName NameFails (NamesClass family form) faults.Shape
 
--- what follows the name of a class
-abbrev pub SlotsFail : Family → ClassId → List ℕ → RegionFault → Type 0
-SlotsFail family (classes.Given c) = EachFails IsValue ValueFails (slots_of family c)
-SlotsFail family (classes.BuiltIn b) = λ bytes fault. ⊥
-SlotsFail family (classes.Array a) = Either (Ruled (Number w32) (λ n. n < 2 ^ 31))
+-- the count of the elements of an array, and these
+abbrev pub ArrayFails : FieldKind → List ℕ → RegionFault → Type 0
+ArrayFails kind = Either (Ruled (Number w32) (λ n. n < 2 ^ 31))
     (RuleFails (Number w32) (CutNumber w32) (λ n. n < 2 ^ 31) faults.Shape)
-    (ElementsFail (kind_of_elements a))
+    (ElementsFail kind)
+
+abbrev pub KnownSlotsFail : Family → ClassId → List ℕ → RegionFault → Type 0
+KnownSlotsFail family (classes.Given c) = EachFails IsValue ValueFails (slots_of family c)
+KnownSlotsFail family (classes.BuiltIn b) = λ bytes fault. ⊥
+KnownSlotsFail family (classes.Array a) = ArrayFails (kind_of_elements a)
+
+-- what follows the name of a class
+abbrev pub SlotsFail : Family → ImageClass → List ℕ → RegionFault → Type 0
+SlotsFail family (image.Known class) = KnownSlotsFail family class
+SlotsFail family (image.UnknownArray dimensions name) = ArrayFails kinds.Reference
 
 -- the form, which is 0 or 1, the class, and its slots
 abbrev pub ObjectFails : Family → List ℕ → RegionFault → Type 0

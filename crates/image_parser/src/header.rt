@@ -24,7 +24,7 @@ pub enum HeaderFault {
 }
 
 /// Whether bytes are the same.
-fn is_same(a: &[u8], b: &[u8]) -> bool
+pub(crate) fn is_same(a: &[u8], b: &[u8]) -> bool
     ensures { Decides result (a.now ≡ b.now) }
 {
     a == b

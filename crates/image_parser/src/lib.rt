@@ -13,6 +13,7 @@ mod objects;
 mod region;
 mod regions;
 mod tag;
+mod unknown;
 mod values;
 
 pub use fault::{FilesFault, MarksFault, RegionFault, RegionsFault};

@@ -8,16 +8,19 @@ ghost use Rattle.image_parser.specs.reading.Results.{Gives, number_at, each_at};
 ghost use Rattle.program.specs.InstanceFields.{slots_of, static_kinds};
 ghost use Rattle.image_parser.specs.reading.Values.{value_at};
 ghost use Rattle.image_parser.specs.reading.ClassNames.{class_of};
-ghost use Rattle.image_parser.specs.reading.Objects.{is_form, may_be, good_class, class_if, class_for, name_at, class_at};
+ghost use Rattle.image_parser.specs.reading.Unknown.{unknown_of};
+ghost use Rattle.image_parser.specs.reading.Objects.{is_form, may_be, good_class, known_if, unknown_if};
+ghost use Rattle.image_parser.specs.reading.Objects.{class_if, class_for, name_at, class_at, known_slots_at};
 ghost use Rattle.image_parser.specs.reading.Objects.{elements_at, count_at, array_at, slots_at, formed_at, form_at};
 ghost use Rattle.image_parser.specs.reading.Objects.{object_at, objects_at, counted_region_at, region_at};
 
 use crate::fault::RegionFault;
 use crate::numbers::{run_at, u8_at, u16_at, u32_at};
+use crate::unknown::unknown_of;
 use crate::values::{push_elements_at, push_values_at};
 use built_in::class_id::{BuiltIn, ClassId};
 use image_format::elements::kind_of_elements;
-use image_format::object::{ImageObject, ImageObjects};
+use image_format::object::{ImageClass, ImageObject, ImageObjects, UnknownName};
 use image_format::region::ImageRegion;
 use image_format::value::{ImageValue, ImageValues};
 use image_format::version::Version;
@@ -74,12 +77,41 @@ fn may_be(program: &Program, class: ClassId) -> bool
     }
 }
 
-fn class_for(program: &Program, form: u8, name: &[u8]) -> Result<ClassId, RegionFault>
+/// A given or built-in class or an array class, if there can be objects of this form.
+fn known_if(program: &Program, form: u8, class: ClassId) -> Result<ImageClass, RegionFault>
+    ensures { Gives (λ x. x) result (known_if program.now.family form class) }
+{
+    if is_form(form, class) && may_be(program, class) {
+        Ok(ImageClass::Known(class))
+    } else {
+        Err(RegionFault::Shape)
+    }
+}
+
+/// An array class whose elements are of a class that is neither given nor built in.
+fn unknown_if(alloc: Global, form: u8, name: &[u8]) -> Result<ImageClass, RegionFault>
+    ensures { Gives (λ x. x) result (unknown_if form (unknown_of name.now)) }
+{
+    match unknown_of(alloc, name)? {
+        Some((dimensions, class)) if form == 1 => {
+            let name = UnknownName::of_vec(Vec::from_slice(alloc, class)?);
+            Ok(ImageClass::UnknownArray { dimensions, name })
+        }
+        _ => Err(RegionFault::Shape),
+    }
+}
+
+fn class_for(
+    alloc: Global,
+    program: &Program,
+    form: u8,
+    name: &[u8],
+) -> Result<ImageClass, RegionFault>
     ensures { Gives (λ x. x) result (class_for program.now.family form name.now) }
 {
     match class_of(program.family(), name) {
-        Some(class) if is_form(form, class) && may_be(program, class) => Ok(class),
-        _ => Err(RegionFault::Shape),
+        Some(class) => known_if(program, form, class),
+        None => unknown_if(alloc, form, name),
     }
 }
 
@@ -95,14 +127,15 @@ fn name_at(bytes: &[u8]) -> Result<(&[u8], &[u8]), RegionFault>
 /// The name of a class of which there can be objects of this form.
 #[tactic(auto, unfolding(crate::specs::reading::Objects::class_at))]
 fn class_at<'a>(
+    alloc: Global,
     program: &Program,
     form: u8,
     bytes: &'a [u8],
-) -> Result<(ClassId, &'a [u8]), RegionFault>
+) -> Result<(ImageClass, &'a [u8]), RegionFault>
     ensures { Gives (λ x. (x.0, x.1.now)) result (class_at program.now.family form bytes.now) }
 {
     let (name, rest) = name_at(bytes)?;
-    let class = class_for(program, form, name)?;
+    let class = class_for(alloc, program, form, name)?;
     Ok((class, rest))
 }
 
@@ -176,10 +209,24 @@ fn instance_at<'a>(
 fn slots_at<'a>(
     alloc: Global,
     program: &Program,
+    class: &ImageClass,
+    bytes: &'a [u8],
+) -> Result<(ImageValues, &'a [u8]), RegionFault>
+    ensures { Gives (λ x. (x.0, x.1.now)) result (slots_at program.now.family class.now bytes.now) }
+{
+    match class {
+        ImageClass::Known(class) => known_slots_at(alloc, program, *class, bytes),
+        ImageClass::UnknownArray { .. } => array_at(alloc, FieldKind::Reference, bytes),
+    }
+}
+
+fn known_slots_at<'a>(
+    alloc: Global,
+    program: &Program,
     class: ClassId,
     bytes: &'a [u8],
 ) -> Result<(ImageValues, &'a [u8]), RegionFault>
-    ensures { Gives (λ x. (x.0, x.1.now)) result (slots_at program.now.family class bytes.now) }
+    ensures { Gives (λ x. (x.0, x.1.now)) result (known_slots_at program.now.family class bytes.now) }
 {
     match class {
         ClassId::Given(number) => instance_at(alloc, program, number, bytes),
@@ -198,8 +245,8 @@ fn formed_at<'a>(
 ) -> Result<(ImageObject, &'a [u8]), RegionFault>
     ensures { Gives (λ x. (x.0, x.1.now)) result (formed_at program.now.family form bytes.now) }
 {
-    let (class, rest) = class_at(program, form, bytes)?;
-    let (slots, rest) = slots_at(alloc, program, class, rest)?;
+    let (class, rest) = class_at(alloc, program, form, bytes)?;
+    let (slots, rest) = slots_at(alloc, program, &class, rest)?;
     Ok((ImageObject { class, slots }, rest))
 }
 

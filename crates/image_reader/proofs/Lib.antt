@@ -1,1 +1,7 @@
 pub mod PlacingLemmas
+pub mod HeldLemmas
+pub mod ClassesLemmas
+pub mod ToldLemmas
+pub mod WholeLemmas
+pub mod ProgramsLemmas
+pub mod ImagesLemmas

@@ -1,2 +1,3 @@
 pub mod Starts
+pub mod Readings
 pub mod steps

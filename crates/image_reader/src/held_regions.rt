@@ -1,13 +1,70 @@
-//! Regions of an image, as the machine holds them.
+//! Regions that an image says, as the machine holds them.
+
+ghost use Rattle.std.specs.Prelude.{◌≡◌, ◌<◌, ◌^◌, ◌++◌, ◌∷◌, [], List, Option, length, IfOk, OnOk};
+ghost use Rattle.std.specs.List.{All};
+ghost use Rattle.classfile.specs.Units.{IsModifiedUtf8};
+ghost use Rattle.vm_state.specs.Objects.{empty_row};
+ghost use Rattle.vm_state.specs.Pools.{pool_by};
+ghost use Rattle.evaluator.specs.Regions.{environment_of, region_of};
+ghost use Rattle.image_format.specs.declared.object.ImageObject.{ImageObject as ToldObject};
+ghost use Rattle.image_format.specs.declared.region.ImageRegion.{ImageRegion as ToldRegion};
+ghost use Rattle.image_format.specs.Names.{name_of_class};
+ghost use Rattle.image_format.specs.Shapes.{HasObjects, HasShape, ObjectHasShape};
+ghost use Rattle.image_reader.specs.steps.Held.{AddsStrings, HaveShape, HoldsObjects, HoldsRegion, HoldsRegions};
+ghost use Rattle.image_reader.specs.steps.Held.{HoldsElement, HoldsType, MayHaveShape};
 
 use crate::held_values::{held_fields, held_values};
+use built_in::class_id::{ArrayType, ClassId, ElementType};
+use classfile::ClassName;
 use evaluator::regions::{Region, Regions};
-use image_format::object::ImageObject;
+use image_format::object::{ImageClass, ImageObject, UnknownName};
 use image_format::region::ImageRegion;
 use program::Program;
 use std::alloc::{AllocError, Global};
 use vm_state::heap::Row;
 use vm_state::object::Slots;
+
+/// An element type that is neither given nor built in, by the number of its name among the program's strings.
+fn unknown_element(
+    alloc: Global,
+    program: &mut Program,
+    name: &UnknownName,
+) -> Result<ElementType, AllocError>
+    requires modified { IsModifiedUtf8 name.now }
+    requires few { length name.now < 2 ^ 16 }
+    ensures holds { IfOk result (HoldsElement program.new.strings name.now) }
+    ensures adds { OnOk result (AddsStrings program.old program.new) }
+{
+    let name = ClassName::from_modified_utf8(alloc, name.as_slice())?;
+    let number = program.add_string(alloc, name.units())?;
+    match u32::try_from(number) {
+        Ok(number) => Ok(ElementType::Unknown(number)),
+        Err(_) => Err(AllocError),
+    }
+}
+
+/// The class of an object.
+fn held_type(
+    alloc: Global,
+    program: &mut Program,
+    class: &ImageClass,
+) -> Result<ClassId, AllocError>
+    requires class { HasObjects program.old.family class.now }
+    requires name { length (name_of_class program.old.family class.now) < 2 ^ 16 }
+    ensures holds { IfOk result (HoldsType program.new.strings class.now) }
+    ensures adds { OnOk result (AddsStrings program.old program.new) }
+{
+    match class {
+        ImageClass::Known(class) => Ok(*class),
+        ImageClass::UnknownArray { dimensions, name } => {
+            let element = unknown_element(alloc, program, name)?;
+            Ok(ClassId::Array(ArrayType {
+                dimensions: *dimensions,
+                element,
+            }))
+        }
+    }
+}
 
 /// Adds an object after those that a row has.
 fn add_object(
@@ -15,9 +72,33 @@ fn add_object(
     program: &mut Program,
     object: &ImageObject,
     row: &mut Row,
-) -> Result<(), AllocError> {
+) -> Result<(), AllocError>
+    requires { ObjectHasShape program.old.family object.now }
+    ensures holds { (objects : List ToldObject) → HoldsObjects program.old.strings objects (pool_by row.old)
+        → OnOk result (HoldsObjects program.new.strings (objects ++ object.now ∷ []) (pool_by row.new)) }
+    ensures adds { OnOk result (AddsStrings program.old program.new) }
+{
+    let class = held_type(alloc, program, &object.class)?;
     let values = held_values(alloc, program, object.slots.as_slice())?;
-    row.make(object.class, Slots::of_vec(values))?;
+    row.make(class, Slots::of_vec(values))?;
+    Ok(())
+}
+
+/// Objects, whose numbers are their places, put where there are none.
+fn add_objects(
+    alloc: Global,
+    program: &mut Program,
+    objects: &[ImageObject],
+    row: &mut Row,
+) -> Result<(), AllocError>
+    requires none { row.old ≡ empty_row }
+    requires shape { All (ObjectHasShape program.old.family) objects.now }
+    ensures holds { OnOk result (HoldsObjects program.new.strings objects.now (pool_by row.new)) }
+    ensures adds { OnOk result (AddsStrings program.old program.new) }
+{
+    for object in objects {
+        add_object(alloc, program, object, row)?;
+    }
     Ok(())
 }
 
@@ -26,23 +107,72 @@ fn held_objects(
     alloc: Global,
     program: &mut Program,
     objects: &[ImageObject],
-) -> Result<Row, AllocError> {
+) -> Result<Row, AllocError>
+    requires { All (ObjectHasShape program.old.family) objects.now }
+    ensures holds { IfOk result (λ row. HoldsObjects program.new.strings objects.now (pool_by row)) }
+    ensures adds { OnOk result (AddsStrings program.old program.new) }
+{
     let mut row = Row::new(alloc);
-    for object in objects {
-        add_object(alloc, program, object, &mut row)?;
+    match add_objects(alloc, program, objects, &mut row) {
+        Ok(()) => Ok(row),
+        Err(error) => Err(error),
     }
-    Ok(row)
 }
 
-/// The region of one class.
+/// The region of a class.
 fn held_region(
     alloc: Global,
     program: &mut Program,
+    class: u32,
     region: &ImageRegion,
-) -> Result<Region, AllocError> {
+) -> Result<Region, AllocError>
+    requires { HasShape program.old.family class region.now }
+    ensures holds { IfOk result (λ held. HoldsRegion program.new.strings region.now (region_of held)) }
+    ensures adds { OnOk result (AddsStrings program.old program.new) }
+{
+    let _classes = program.classes();
     let fields = held_fields(alloc, program, region.statics.as_slice())?;
     let objects = held_objects(alloc, program, region.objects.as_slice())?;
     Ok(Region { fields, objects })
+}
+
+/// Adds the region of a class, if it is initialized, to those of all lower classes.
+fn add_region(
+    alloc: Global,
+    program: &mut Program,
+    class: u32,
+    region: &Option<ImageRegion>,
+    held: &mut Regions,
+) -> Result<(), AllocError>
+    requires { MayHaveShape program.old.family class region.now }
+    ensures holds { (lower : List (Option ToldRegion)) → length lower ≡ class
+        → HoldsRegions program.old.strings lower (environment_of held.old)
+        → OnOk result (HoldsRegions program.new.strings (lower ++ region.now ∷ []) (environment_of held.new)) }
+    ensures adds { OnOk result (AddsStrings program.old program.new) }
+{
+    match region {
+        Some(region) => held.put(class, held_region(alloc, program, class, region)?),
+        None => Ok(()),
+    }
+}
+
+/// Adds the regions of all classes that are initialized, where there are none.
+fn add_regions(
+    alloc: Global,
+    program: &mut Program,
+    regions: &[Option<ImageRegion>],
+    held: &mut Regions,
+) -> Result<(), AllocError>
+    requires none { held.old ≡ [] }
+    requires count { length regions.now ≡ length program.old.classes }
+    requires shape { HaveShape program.old.family regions.now }
+    ensures holds { OnOk result (HoldsRegions program.new.strings regions.now (environment_of held.new)) }
+    ensures adds { OnOk result (AddsStrings program.old program.new) }
+{
+    for class in 0..program.given_count() {
+        add_region(alloc, program, class, &regions[class as usize], held)?;
+    }
+    Ok(())
 }
 
 /// The regions of all classes that are initialized, by their numbers.
@@ -50,12 +180,15 @@ pub(crate) fn held_regions(
     alloc: Global,
     program: &mut Program,
     regions: &[Option<ImageRegion>],
-) -> Result<Regions, AllocError> {
+) -> Result<Regions, AllocError>
+    requires count { length regions.now ≡ length program.old.classes }
+    requires shape { HaveShape program.old.family regions.now }
+    ensures holds { IfOk result (λ held. HoldsRegions program.new.strings regions.now (environment_of held)) }
+    ensures adds { OnOk result (AddsStrings program.old program.new) }
+{
     let mut held = Regions::none(alloc);
-    for (class, region) in regions.iter().enumerate() {
-        if let Some(region) = region {
-            held.put(class as u32, held_region(alloc, program, region)?)?;
-        }
+    match add_regions(alloc, program, regions, &mut held) {
+        Ok(()) => Ok(held),
+        Err(error) => Err(error),
     }
-    Ok(held)
 }

@@ -1,4 +1,11 @@
-//! Values of an image, as the machine holds them.
+//! Values that an image says, as the machine holds them.
+
+ghost use Rattle.std.specs.Prelude.{◌≡◌, [], IfOk, OnOk};
+ghost use Rattle.std.specs.List.{All};
+ghost use Rattle.vm_state.specs.Statics.{field_in};
+ghost use Rattle.image_format.specs.declared.value.ImageValue.TheVariants.{Text};
+ghost use Rattle.image_format.specs.Shapes.{AreUnits};
+ghost use Rattle.image_reader.specs.steps.Held.{AddsStrings, HasUnits, HoldsValue, HoldsValues, HoldsFields};
 
 use image_format::value::{ImageValue, Units};
 use program::Program;
@@ -7,17 +14,21 @@ use vm_state::classes::Fields;
 use vm_state::value::Value;
 
 /// A string, by its number among those of the program, of which it becomes the last where it is new.
-fn held_text(alloc: Global, program: &mut Program, units: &Units) -> Result<Value, AllocError> {
+fn held_text(alloc: Global, program: &mut Program, units: &Units) -> Result<Value, AllocError>
+    requires { AreUnits units.now }
+    ensures holds { IfOk result (HoldsValue program.new.strings (Text units.now)) }
+    ensures adds { OnOk result (AddsStrings program.old program.new) }
+{
     let number = program.add_string(alloc, units.as_slice())?;
     Ok(Value::Text(number))
 }
 
 /// A value.
-fn held_value(
-    alloc: Global,
-    program: &mut Program,
-    value: &ImageValue,
-) -> Result<Value, AllocError> {
+fn held_value(alloc: Global, program: &mut Program, value: &ImageValue) -> Result<Value, AllocError>
+    requires { HasUnits value.now }
+    ensures holds { IfOk result (HoldsValue program.new.strings value.now) }
+    ensures adds { OnOk result (AddsStrings program.old program.new) }
+{
     match value {
         ImageValue::Null => Ok(Value::Null),
         ImageValue::Int(number) => Ok(Value::Int(*number)),
@@ -28,17 +39,52 @@ fn held_value(
     }
 }
 
+/// Values in order, put where there are none.
+fn push_held(
+    alloc: Global,
+    program: &mut Program,
+    values: &[ImageValue],
+    held: &mut Vec<Value>,
+) -> Result<(), AllocError>
+    requires none { held.old.items ≡ [] }
+    requires units { All HasUnits values.now }
+    ensures holds { OnOk result (HoldsValues program.new.strings values.now held.new.items) }
+    ensures adds { OnOk result (AddsStrings program.old program.new) }
+{
+    for value in values {
+        held.push(held_value(alloc, program, value)?)?;
+    }
+    Ok(())
+}
+
 /// Values in order.
 pub(crate) fn held_values(
     alloc: Global,
     program: &mut Program,
     values: &[ImageValue],
-) -> Result<Vec<Value>, AllocError> {
+) -> Result<Vec<Value>, AllocError>
+    requires { All HasUnits values.now }
+    ensures holds { IfOk result (λ held. HoldsValues program.new.strings values.now held.items) }
+    ensures adds { OnOk result (AddsStrings program.old program.new) }
+{
     let mut held = Vec::with_capacity(alloc, values.len())?;
-    for value in values {
-        held.push(held_value(alloc, program, value)?)?;
-    }
+    push_held(alloc, program, values, &mut held)?;
     Ok(held)
+}
+
+/// Static fields with these values. No class has so many that 32 bits do not count them.
+fn fields_of(alloc: Global, values: &[Value]) -> Result<Fields, AllocError>
+    ensures { IfOk result (λ fields. field_in fields ≡ field_in values.now) }
+{
+    let Ok(count) = u32::try_from(values.len()) else {
+        return Err(AllocError);
+    };
+    let mut fields = Fields::new(alloc);
+    fields.keep(values.len())?;
+    for field in 0..count {
+        fields.set(field, values[field as usize])?;
+    }
+    Ok(fields)
 }
 
 /// The values of static fields, in order.
@@ -46,11 +92,11 @@ pub(crate) fn held_fields(
     alloc: Global,
     program: &mut Program,
     values: &[ImageValue],
-) -> Result<Fields, AllocError> {
-    let mut fields = Fields::new(alloc);
-    fields.keep(values.len())?;
-    for (field, value) in values.iter().enumerate() {
-        fields.set(field as u32, held_value(alloc, program, value)?)?;
-    }
-    Ok(fields)
+) -> Result<Fields, AllocError>
+    requires { All HasUnits values.now }
+    ensures holds { IfOk result (λ fields. HoldsFields program.new.strings values.now (field_in fields)) }
+    ensures adds { OnOk result (AddsStrings program.old program.new) }
+{
+    let held = held_values(alloc, program, values)?;
+    fields_of(alloc, &held)
 }

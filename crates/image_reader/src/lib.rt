@@ -3,6 +3,7 @@
 
 mod held_regions;
 mod held_values;
+pub mod laws;
 mod reading;
 mod start;
 

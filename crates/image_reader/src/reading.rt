@@ -1,29 +1,63 @@
 //! Reads images.
 
+ghost use Rattle.std.specs.Prelude.{◌≡◌, ◌⊎◌, List, Option, IfErr, IfOk, MatchResult};
+ghost use Rattle.loading.specs.Families.{Family as Classes};
+ghost use Rattle.image_format.specs.declared.region.ImageRegion.{ImageRegion as Told};
+ghost use Rattle.image_format.specs.Images.{AreRegions, ImageText};
+ghost use Rattle.image_parser.specs.declared.image_fault.ImageFault.{ImageFault as Fault};
+ghost use Rattle.image_parser.specs.declared.image_fault.ImageFault.TheVariants.{Memory};
+ghost use Rattle.image_parser.specs.ImageFaults.{Answers, ImageFails};
+ghost use Rattle.image_reader.specs.Readings.{told_of};
+
 use crate::held_regions::held_regions;
 use image_parser::{ImageFault, Parsed, parse};
 use object_graph::{Image, gather};
 use std::alloc::{AllocError, Global};
 
-/// Reads an image of version 1: the program of its class files, with its strings beside those of the class files, and
-/// what its classes that are initialized hold.
+/// Reads an image of version 1: the program of its class files, with the strings that its classes hold, and what its
+/// classes that are initialized hold.
 ///
 /// # Errors
 /// What is wrong first, from the frame inward and then from front to back; `Memory` where memory runs out.
-pub fn read(alloc: Global, bytes: &[u8]) -> Result<Image, ImageFault> {
-    let parsed = parse(alloc, bytes)?;
-    match image_of(alloc, parsed) {
-        Ok(image) => Ok(image),
-        Err(_) => Err(ImageFault::Memory),
+pub fn read(alloc: Global, bytes: &[u8]) -> Result<Image, ImageFault>
+    // What is accepted is the text of the image that is answered.
+    ensures text { IfOk result (λ image. ImageText bytes.now image.program.family (told_of image)) }
+    // Every text of an image is accepted as that image, unless memory runs out.
+    ensures only_text { (family : Classes) (regions : List (Option Told)) → ImageText bytes.now family regions
+        → MatchResult result (λ image. (image.program.family ≡ family) × (told_of image ≡ regions))
+        (λ x. x ≡ Memory) }
+    // What is refused is refused for what is wrong first, or because memory runs out.
+    ensures fault { IfErr result (λ x. (x ≡ Memory) ⊎ ImageFails bytes.now x) }
+    // Everything else is refused for what is wrong first, unless memory runs out.
+    ensures only_fault { (x : Fault) → ImageFails bytes.now x → Answers result x }
+{
+    match parse(alloc, bytes) {
+        Ok(parsed) => match image_of(alloc, parsed, digest_of(bytes)) {
+            Ok(image) => Ok(image),
+            Err(_) => Err(ImageFault::Memory),
+        },
+        Err(fault) => Err(fault),
     }
 }
 
-/// The image that a text says.
-fn image_of(alloc: Global, parsed: Parsed) -> Result<Image, AllocError> {
+/// The last 32 bytes, which are the digest where there are so many.
+fn digest_of(bytes: &[u8]) -> &[u8] {
+    &bytes[bytes.len().saturating_sub(32)..]
+}
+
+/// The image that a text with this digest says.
+fn image_of(alloc: Global, parsed: Parsed, digest: &[u8]) -> Result<Image, AllocError>
+    requires { AreRegions parsed.program.family parsed.regions }
+    ensures family { IfOk result (λ image. image.program.family ≡ parsed.program.family) }
+    ensures told { IfOk result (λ image. told_of image ≡ parsed.regions) }
+{
     let Parsed {
         mut program,
         regions,
     } = parsed;
+    let _linked = program.classes();
+    program.reseed_strings(alloc, digest)?;
     let held = held_regions(alloc, &mut program, regions.as_slice())?;
+    let _classes = program.classes();
     gather(program, held)
 }

@@ -2,27 +2,31 @@
 use Rattle.std.proofs.Common.{◌≡◌, ℕ, zero, suc, ◌+◌, ◌<◌, ◌^◌, ◌==◌, true, inl, inr}
 use Rattle.std.proofs.Common.{ltb, leb}
 use Rattle.std.proofs.Common.{List, [], ◌∷◌, ◌++◌, length, map, replicate, Option, Some, None, is_some, option_map}
-use Rattle.std.proofs.Common.{unwrap_or}
-use Rattle.std.proofs.Common.{refl, ap, subst, arith, length-append}
+use Rattle.std.proofs.Common.{get_or, slice_get, unwrap_or}
+use Rattle.std.proofs.Common.{refl, sym, ap, subst, arith, length-append}
 use Rattle.std.specs.List.{flat_map, range_with_len}
 use Rattle.std.proofs.lemmas.Bool.{ltb-true, leb-true}
 use Rattle.std.proofs.lemmas.List.{length-replicate}
+use Rattle.std.proofs.lemmas.Option.{get_or_from_slice_get}
 use Rattle.std.proofs.lemmas.List.Concat.{flat_map-append}
 use Rattle.std.proofs.lemmas.List.Elements.{All-from_recursion, All-weaker}
 use Rattle.std.proofs.lemmas.List.FromFn.{map-range_with_len_more}
 use Rattle.classfile.specs.ClassFile.{ClassFile}
 use Rattle.built_in.specs.ClassNames.{name_of_built_in}
+use Rattle.built_in.specs.declared.class_id.ArrayType.{ArrayType}
 use Rattle.built_in.specs.declared.class_id.BuiltIn.{BuiltIn}
 use Rattle.built_in.specs.declared.class_id.BuiltIn.TheVariants as builtins
 use Rattle.built_in.specs.declared.class_id.ClassId.{ClassId}
 use Rattle.built_in.specs.declared.class_id.ClassId.TheVariants as classes
+use Rattle.built_in.specs.declared.class_id.ElementType.{ElementType}
+use Rattle.built_in.specs.declared.class_id.ElementType.TheVariants as elements
 use Rattle.vm_state.specs.declared.object.Object.{Object}
 use Rattle.vm_state.specs.declared.value.Value.{Value}
 use Rattle.vm_state.specs.declared.value.Value.TheVariants as values
 use Rattle.vm_state.specs.declared.value.Maker.TheVariants.{Class}
 use Rattle.vm_state.specs.SharedState.{Region}
 use Rattle.vm_state.proofs.ListLemmas.{tested}
-use Rattle.loading.specs.ClassIds.{element_text}
+use Rattle.loading.specs.ClassIds.{element_text, object_type}
 use Rattle.loading.specs.Families.{file_in}
 use Rattle.loading.specs.Names.{name_of}
 use Rattle.semantics.specs.Lawful.{Knows, KnowsAll, KnowsSlots}
@@ -34,8 +38,8 @@ use Rattle.region_shape.specs.Counts.{count_of, is_there}
 use Rattle.region_shape.specs.Shapes.{HasObjects}
 use Rattle.region_shape.specs.Wholes.{AreWhole}
 use Rattle.object_graph.specs.Images.{AreSmall}
-use Rattle.image_format.specs.Names.{class_name}
-use Rattle.image_format.specs.Told.{told_if}
+use Rattle.image_format.specs.Names.{class_name, name_of_class}
+use Rattle.image_format.specs.Told.{told_array, told_class, told_if}
 use Rattle.image_writer.specs.steps.Sizes.{HasFiles, IsSizedValue, IsSizedObject, IsSizedRegion}
 use Rattle.image_format.proofs.NamesLemmas.{name_fits}
 
@@ -53,32 +57,45 @@ module _ (P : Tables) (has : HasFiles P) where
       by None at = omega arith
       by (Some f) at = (name_fits f (has.files c f at)).0
 
-  pub short_name : (class : ClassId) → HasObjects P class → length (class_name P.family class) < 2 ^ 16
+  -- so many `[`, and a text
+  abbrev IsShort : ℕ → Option (List ℕ) → Type 0
+  IsShort d o = length (replicate d 91 ++ unwrap_or o []) < 2 ^ 16
+
+  short_array : (d : ℕ) (o : Option (List ℕ)) → is_name d o ≡ true → IsShort d o
+  short_array d None h = absurd cc
+  short_array d (Some text) h =
+      omega (
+        arith,
+        leb-true (d + length text) 65535 h,
+        length-append (replicate d 91) text,
+        length-replicate {A = ℕ} d 91,
+      )
+
+  -- the type's name is that of what is told of it, if it has one
+  short_known : (a : ArrayType) (e : ElementType) → a.element ≡ e → is_name a.dimensions (element_text P.family e) ≡ true
+      → IsShort a.dimensions (element_text P.family a.element)
+      → length (name_of_class P.family (told_array P.strings a e)) < 2 ^ 16
+  short_known a (elements.Unknown n) is named short = absurd cc
+  short_known a e is named short = short
+
+  short_unknown : (a : ArrayType) (n : ℕ) (name : List ℕ) → slice_get P.strings n ≡ Some name
+      → is_name a.dimensions (Some (object_type name)) ≡ true
+      → length (name_of_class P.family (told_array P.strings a (elements.Unknown n))) < 2 ^ 16
+  short_unknown a n name at named =
+      let text : get_or P.strings n [] ≡ name = get_or_from_slice_get P.strings n name [] at in
+      let Q : List ℕ → Type 0 = λ z. length (replicate a.dimensions 91 ++ object_type z) < 2 ^ 16 in
+      subst Q (sym text) (short_array a.dimensions (Some (object_type name)) named)
+
+  pub short_name : (class : ClassId) → HasObjects P class
+      → length (name_of_class P.family (told_class P.strings class)) < 2 ^ 16
   short_name (classes.Given c) objects = short_given c
   short_name (classes.BuiltIn b) objects = ltb-true (length (name_of_built_in b)) 65536 (short_built_in b)
   short_name (classes.Array a) (inr unknown) =
-      let none : element_text P.family a.element ≡ None = ap (element_text P.family) unknown.element in
-      omega (
-        arith,
-        unknown.most,
-        ap (λ o. length (replicate a.dimensions 91 ++ unwrap_or o [])) none,
-        length-append (replicate a.dimensions 91) [],
-        length-replicate {A = ℕ} a.dimensions 91,
-      )
+      let Q : ElementType → Type 0 = λ e. length (name_of_class P.family (told_array P.strings a e)) < 2 ^ 16 in
+      subst Q (sym unknown.element) (short_unknown a unknown.number unknown.name unknown.named unknown.short)
   short_name (classes.Array a) (inl objects) =
-      by (element_text P.family a.element)
-      (both_true (leb a.dimensions 255) (is_name a.dimensions (element_text P.family a.element)) objects.1).1
-    where
-      by : (o : Option (List ℕ)) → is_name a.dimensions o ≡ true
-          → length (replicate a.dimensions 91 ++ unwrap_or o []) < 2 ^ 16
-      by None h = absurd cc
-      by (Some text) h =
-          omega (
-            arith,
-            leb-true (a.dimensions + length text) 65535 h,
-            length-append (replicate a.dimensions 91) text,
-            length-replicate {A = ℕ} a.dimensions 91,
-          )
+      let named = (both_true (leb a.dimensions 255) (is_name a.dimensions (element_text P.family a.element)) objects.1).1 in
+      short_known a a.element refl named (short_array a.dimensions (element_text P.family a.element) named)
 
 -- ---- regions
 

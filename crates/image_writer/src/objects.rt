@@ -1,26 +1,29 @@
 //! Objects and regions.
 
-ghost use Rattle.std.specs.Prelude.{◌≡◌, ℕ, ◌++◌, ◌<◌, ◌^◌, length, map, Some, option_map, OnOk};
+ghost use Rattle.std.specs.Prelude.{◌≡◌, ℕ, ◌++◌, ◌<◌, ◌^◌, length, map, replicate, Some, option_map, IfOk, OnOk};
 ghost use Rattle.std.specs.List.{flat_map, All};
 ghost use Rattle.classfile.specs.Spelling.{u1, u4};
 ghost use Rattle.vm_state.specs.declared.object.Object.{Object as Held};
 ghost use Rattle.vm_state.specs.Pools.{pool_by};
 ghost use Rattle.program.specs.Tables.{statics_in};
 ghost use Rattle.evaluator.specs.Regions.{region_of, environment_of};
-ghost use Rattle.image_format.specs.Texts.{named_text, object_text, value_text, element_text, region_text, mark_text};
-ghost use Rattle.image_format.specs.Elements.{kind_of_elements};
-ghost use Rattle.image_format.specs.Told.{told_value, told_object, told_if, told_objects, told_region, told_regions};
+ghost use Rattle.loading.specs.ClassIds.{object_type};
+ghost use Rattle.image_format.specs.Names.{name_of_class};
+ghost use Rattle.image_format.specs.Texts.{instance_text, array_text, object_text, value_text, region_text, mark_text};
+ghost use Rattle.image_format.specs.Told.{told_value, told_array, told_class, told_object, told_if, told_objects};
+ghost use Rattle.image_format.specs.Told.{told_region, told_regions};
 ghost use Rattle.image_writer.specs.steps.Sizes.{HasFiles, IsSizedValue, IsSizedObject, IsSizedRegion};
 
 use crate::files::has_files;
 use crate::numbers::{push_named, push_u8, push_u32};
-use crate::values::{push_elements, push_fields, push_values};
-use built_in::class_id::{ArrayType, ClassId};
+use crate::values::{push_elements, push_fields, push_values, string_of};
+use built_in::class_id::{ArrayType, ClassId, ElementType};
 use evaluator::regions::Region;
 use image_format::elements::kind_of_elements;
-use image_format::names::class_name;
+use image_format::names::{class_name, push_object_type};
 use object_graph::Image;
 use program::Program;
+use program::runtime_constant::FieldKind;
 use std::alloc::{AllocError, Global};
 use vm_state::heap::Row;
 use vm_state::object::Object;
@@ -37,8 +40,8 @@ fn push_instance(
     requires files { HasFiles program.now }
     requires name { length name.now < 2 ^ 16 }
     requires slots { All IsSizedValue slots.now }
-    ensures { OnOk result (out.new.items ≡ out.old.items ++ (u1 0 ++ (named_text name.now
-        ++ flat_map value_text (map (told_value program.now.strings) slots.now)))) }
+    ensures { OnOk result (out.new.items
+        ≡ out.old.items ++ instance_text name.now (map (told_value program.now.strings) slots.now)) }
 {
     push_u8(out, 0)?;
     push_named(out, name)?;
@@ -51,21 +54,54 @@ fn push_array(
     out: &mut Vec<u8>,
     program: &Program,
     name: &[u8],
-    array: ArrayType,
+    kind: FieldKind,
     slots: &[Value],
 ) -> Result<(), AllocError>
     requires files { HasFiles program.now }
     requires name { length name.now < 2 ^ 16 }
     requires count { length slots.now < 2 ^ 32 }
     requires slots { All IsSizedValue slots.now }
-    ensures { OnOk result (out.new.items ≡ out.old.items ++ (u1 1 ++ (named_text name.now
-        ++ (u4 (length (map (told_value program.now.strings) slots.now))
-        ++ flat_map (element_text (kind_of_elements array)) (map (told_value program.now.strings) slots.now))))) }
+    ensures { OnOk result (out.new.items
+        ≡ out.old.items ++ array_text name.now kind (map (told_value program.now.strings) slots.now)) }
 {
     push_u8(out, 1)?;
     push_named(out, name)?;
     push_u32(out, slots.len() as u32)?;
-    push_elements(alloc, out, program, kind_of_elements(array), slots)
+    push_elements(alloc, out, program, kind, slots)
+}
+
+/// The name of a class; of an array class whose elements are of a class that is neither given nor built in, the
+/// descriptor over that one's name.
+fn name_of_class(alloc: Global, program: &Program, class: ClassId) -> Result<Vec<u8>, AllocError>
+    ensures { IfOk result (λ name. name.items
+        ≡ name_of_class program.now.family (told_class program.now.strings class)) }
+{
+    match class {
+        ClassId::Array(array) => name_of_array(alloc, program, array),
+        ClassId::Given(_) => class_name(alloc, program.family(), class),
+        ClassId::BuiltIn(_) => class_name(alloc, program.family(), class),
+    }
+}
+
+fn name_of_array(alloc: Global, program: &Program, array: ArrayType) -> Result<Vec<u8>, AllocError>
+    ensures { IfOk result (λ name. name.items
+        ≡ name_of_class program.now.family (told_array program.now.strings array array.element)) }
+{
+    match array.element {
+        ElementType::Unknown(number) => {
+            name_of_unknown(alloc, array.dimensions, string_of(program, number as usize))
+        }
+        _ => class_name(alloc, program.family(), ClassId::Array(array)),
+    }
+}
+
+/// So many dimensions of a class of this name.
+fn name_of_unknown(alloc: Global, dimensions: u8, class: &[u8]) -> Result<Vec<u8>, AllocError>
+    ensures { IfOk result (λ name. name.items ≡ replicate dimensions 91 ++ object_type class.now) }
+{
+    let mut name = vec![in alloc; b'['; usize::from(dimensions)]?;
+    push_object_type(&mut name, class)?;
+    Ok(name)
 }
 
 /// An object.
@@ -80,10 +116,12 @@ fn push_object(
     ensures { OnOk result (out.new.items
         ≡ out.old.items ++ object_text program.now.family (told_object program.now.strings object.now)) }
 {
-    let name = class_name(alloc, program.family(), object.class)?;
+    let name = name_of_class(alloc, program, object.class)?;
     let slots = object.slots.as_slice();
     match object.class {
-        ClassId::Array(array) => push_array(alloc, out, program, &name, array, slots),
+        ClassId::Array(array) => {
+            push_array(alloc, out, program, &name, kind_of_elements(array), slots)
+        }
         ClassId::Given(_) => push_instance(alloc, out, program, &name, slots),
         ClassId::BuiltIn(_) => push_instance(alloc, out, program, &name, slots),
     }

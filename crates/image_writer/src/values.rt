@@ -34,7 +34,7 @@ fn push_long(out: &mut Vec<u8>, number: i64) -> Result<(), AllocError>
 }
 
 /// The bytes of a string of the program; none where there is no such string.
-fn string_of(program: &Program, number: usize) -> &[u8]
+pub(crate) fn string_of(program: &Program, number: usize) -> &[u8]
     ensures { result.now ≡ slice_index_or program.now.strings number [] }
 {
     match program.string(number) {

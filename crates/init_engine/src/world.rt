@@ -216,7 +216,8 @@ impl World {
     pub fn endings(&self, alloc: Global) -> Result<Vec<Ending>, AllocError>
         ensures { IfOk result (λ v. v.items ≡ (seen (world_of self.now)).threads) }
     {
-        endings(alloc, self.threads.as_slice())
+        let threads = endings(alloc, self.threads.as_slice())?;
+        Ok(threads)
     }
 
     /// These threads, which have printed nothing.

@@ -6,8 +6,11 @@ use Rattle.built_in.specs.declared.class_id.ClassId.{ClassId}
 use Rattle.built_in.specs.declared.class_id.ClassId.TheVariants as classes
 use Rattle.loading.specs.Families.{Family}
 use Rattle.program.specs.declared.runtime_constant.FieldKind.{FieldKind}
+use Rattle.program.specs.declared.runtime_constant.FieldKind.TheVariants as kinds
 use Rattle.program.specs.InstanceFields.{is_instantiable_in, slots_of, static_kinds}
 use Rattle.image_format.specs.declared.value.ImageValue.{ImageValue}
+use Rattle.image_format.specs.declared.object.ImageClass.{ImageClass}
+use Rattle.image_format.specs.declared.object.ImageClass.TheVariants as image
 use Rattle.image_format.specs.declared.object.ImageObject.{ImageObject}
 use Rattle.image_format.specs.declared.region.ImageRegion.{ImageRegion}
 use Rattle.image_format.specs.Elements.{kind_of_elements}
@@ -18,6 +21,7 @@ use Rattle.image_parser.specs.FirstFailing.{times}
 use Rattle.image_parser.specs.reading.Results.{◌>>=◌, number_at, run_at, each_at}
 use Rattle.image_parser.specs.reading.Values.{value_at, element_at}
 use Rattle.image_parser.specs.reading.ClassNames.{class_of}
+use Rattle.image_parser.specs.reading.Unknown.{unknown_of}
 
 -- ---- classes
 
@@ -35,18 +39,25 @@ may_be family (classes.Array a) = has_values (kind_of_elements a)
 abbrev pub good_class : Family → ℕ → ClassId → Bool
 good_class family form class = is_form form class && may_be family class
 
-abbrev pub class_if : Family → ℕ → Option ClassId → Result ClassId RegionFault
-class_if family form None = Err faults.Shape
-class_if family form (Some class) = cond (good_class family form class) (Ok class) (Err faults.Shape)
+abbrev pub known_if : Family → ℕ → ClassId → Result ImageClass RegionFault
+known_if family form class = cond (good_class family form class) (Ok (image.Known class)) (Err faults.Shape)
+
+abbrev pub unknown_if : ℕ → Option (ℕ × List ℕ) → Result ImageClass RegionFault
+unknown_if form None = Err faults.Shape
+unknown_if form (Some p) = cond (nat_eq form 1) (Ok (image.UnknownArray p.0 p.1)) (Err faults.Shape)
+
+abbrev pub class_if : Family → ℕ → List ℕ → Option ClassId → Result ImageClass RegionFault
+class_if family form name None = unknown_if form (unknown_of name)
+class_if family form name (Some class) = known_if family form class
 
 -- the class of a name, if there can be objects of this form
-abbrev pub class_for : Family → ℕ → List ℕ → Result ClassId RegionFault
-class_for family form name = class_if family form (class_of family name)
+abbrev pub class_for : Family → ℕ → List ℕ → Result ImageClass RegionFault
+class_for family form name = class_if family form name (class_of family name)
 
 unfoldable pub name_at : List ℕ → Result (List ℕ × List ℕ) RegionFault
 name_at bytes = number_at w16 bytes >>= λ count. run_at count.0 count.1
 
-unfoldable pub class_at : Family → ℕ → List ℕ → Result (ClassId × List ℕ) RegionFault
+unfoldable pub class_at : Family → ℕ → List ℕ → Result (ImageClass × List ℕ) RegionFault
 class_at family form bytes =
     name_at bytes >>= λ name. class_for family form name.0 >>= λ class. Ok (class, name.1)
 
@@ -65,14 +76,18 @@ count_at bytes = number_at w32 bytes >>= λ count. cond (nat_lt count.0 21474836
 unfoldable pub array_at : FieldKind → Many
 array_at kind bytes = count_at bytes >>= λ count. elements_at kind count.0 count.1
 
-abbrev pub slots_at : Family → ClassId → Many
-slots_at family (classes.Given c) bytes = each_at value_at (slots_of family c) [] bytes
-slots_at family (classes.BuiltIn b) bytes = Ok ([], bytes)
-slots_at family (classes.Array a) bytes = array_at (kind_of_elements a) bytes
+abbrev pub known_slots_at : Family → ClassId → Many
+known_slots_at family (classes.Given c) bytes = each_at value_at (slots_of family c) [] bytes
+known_slots_at family (classes.BuiltIn b) bytes = Ok ([], bytes)
+known_slots_at family (classes.Array a) bytes = array_at (kind_of_elements a) bytes
+
+abbrev pub slots_at : Family → ImageClass → Many
+slots_at family (image.Known class) bytes = known_slots_at family class bytes
+slots_at family (image.UnknownArray dimensions name) bytes = array_at kinds.Reference bytes
 
 -- ---- objects
 
-abbrev pub object_of : ClassId → List ImageValue → ImageObject
+abbrev pub object_of : ImageClass → List ImageValue → ImageObject
 object_of class slots = record { class = class; slots = slots }
 
 unfoldable pub formed_at : Family → ℕ → List ℕ → Result (ImageObject × List ℕ) RegionFault

@@ -9,7 +9,8 @@ use Rattle.semantics.specs.Quiet.{elements_in}
 use Rattle.program.specs.Programs.{IsProgram}
 use Rattle.program.specs.Tables.{Tables}
 use Rattle.region_shape.specs.Laws.{IsFromFile}
-use Rattle.image_format.specs.Names.{class_name}
+use Rattle.image_format.specs.Names.{name_of_class}
+use Rattle.image_format.specs.Told.{told_class}
 
 -- a program of class files
 pub record HasFiles (P : Tables) : Type 0 where
@@ -22,7 +23,7 @@ IsSizedValue (values.OfClass c n) = n < 2 ^ 32
 IsSizedValue _ = Unit {0}
 
 pub record IsSizedObject (P : Tables) (object : Object) : Type 0 where
-  pub name : length (class_name P.family object.class) < 2 ^ 16
+  pub name : length (name_of_class P.family (told_class P.strings object.class)) < 2 ^ 16
   pub elements : elements_in object.class object.slots < 2 ^ 32
   pub slots : All IsSizedValue object.slots
 

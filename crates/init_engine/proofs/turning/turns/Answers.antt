@@ -12,6 +12,14 @@ slices-init c = record {
   threads = rw c.new-turning.ensures.world;
 }
 
+pub slices-preserved : goal.slices-preserved
+slices-preserved c = record {
+  turns =
+      (c.in_ok-go_on.ensures.turns (world_of c.args.world) c.args.limit c.slices.invariant.turns).under_way;
+  ready = c.in_ok-go_on.ensures.ready;
+  threads = c.go_on.ensures.threads ∙ c.slices.invariant.threads;
+}
+
 pub returns-clause-run : goal.returns-clause-run
 returns-clause-run c =
     let turned = c.in_ok-go_on.ensures.turns (world_of c.args.world) c.args.limit c.slices.invariant.turns in

@@ -1,0 +1,335 @@
+-- What the machine holds stays held as strings come in, and grows value by value.
+use Rattle.std.proofs.Common.{◌≡◌, ◌≢◌, ◌∙◌, ◌⊎◌, inl, inr, ℕ, zero, suc, ◌+◌, ◌/◌, ◌%◌, ◌<◌, ◌≤◌, ◌==◌}
+use Rattle.std.proofs.Common.{Bool, true, false, ◌&&◌, nat_lt, if◌then◌else◌}
+use Rattle.std.proofs.Common.{List, [], ◌∷◌, ◌++◌, length, take, get_or, Option, Some, None, slice_get, option_map}
+use Rattle.std.proofs.Common.{refl, sym, ap, subst, arith, append_assoc, append-nil, length-append, eqb-true, eq-eqb}
+use Rattle.std.proofs.Math.Path.{fun_ext}
+use Rattle.std.proofs.Math.Seq.{get_or-append_seam}
+use Rattle.std.specs.List.{All, AllZip}
+use Rattle.std.proofs.lemmas.List.{take_more, length-take-le, get_or_past}
+use Rattle.std.proofs.lemmas.List.Concat.{flat_map-cons}
+use Rattle.std.proofs.lemmas.List.Elements.{All-nil, All-cons, All-weaker}
+use Rattle.std.proofs.lemmas.Slice.Zip.{all_zipped_more}
+use Rattle.classfile.specs.Units.{unit_text, units_text}
+use Rattle.vm_state.specs.declared.object.Object.{Object}
+use Rattle.vm_state.specs.declared.object.Monitor.TheVariants.{Free}
+use Rattle.vm_state.specs.declared.value.Value.{Value}
+use Rattle.vm_state.specs.declared.value.Value.TheVariants as machine
+use Rattle.built_in.specs.declared.class_id.ClassId.{ClassId}
+use Rattle.built_in.specs.declared.class_id.ClassId.TheVariants as classes
+use Rattle.loading.specs.Families.{Family}
+use Rattle.vm_state.specs.Objects.{empty_row}
+use Rattle.vm_state.specs.Pools.{pool_by}
+use Rattle.vm_state.specs.SharedState.{Pool, Region, with_new}
+use Rattle.vm_state.specs.Statics.{field_in, with_value}
+use Rattle.vm_state.proofs.ListLemmas.{tested, unequal}
+use Rattle.semantics.specs.Quiet.{Environment}
+use Rattle.program.specs.declared.runtime_constant.FieldKind.{FieldKind}
+use Rattle.program.specs.declared.runtime_constant.FieldKind.TheVariants as kinds
+use Rattle.program.specs.InstanceFields.{slots_of}
+use Rattle.program.specs.Tables.{Tables}
+use Rattle.evaluator.specs.declared.regions.Region.{Region as Held}
+use Rattle.evaluator.specs.Regions.{environment_of, region_of, with_region, region_in as region_held}
+use Rattle.image_format.specs.Elements.{kind_of_elements}
+use Rattle.image_format.specs.declared.object.ImageClass.{ImageClass}
+use Rattle.image_format.specs.declared.object.ImageClass.TheVariants as image
+use Rattle.image_format.specs.declared.object.ImageObject.{ImageObject}
+use Rattle.image_format.specs.declared.region.ImageRegion.{ImageRegion}
+use Rattle.image_format.specs.declared.value.ImageValue.{ImageValue}
+use Rattle.image_format.specs.declared.value.ImageValue.TheVariants as values
+use Rattle.image_format.specs.Images.{region_in}
+use Rattle.image_format.specs.Shapes.{AreKnownSlots, AreSlots, AreUnits, Suits}
+use Rattle.image_reader.specs.steps.Held.{AddsStrings, HasUnits, HoldsValue, HoldsValues, HoldsField}
+use Rattle.image_reader.specs.steps.Held.{HoldsFields, HoldsType}
+use Rattle.image_reader.specs.steps.Held.{HoldsObject, HoldsNumber, HoldsObjects, HoldsRegion, HoldsClass}
+use Rattle.image_reader.specs.steps.Held.{HoldsRegions}
+
+-- ---- the program
+
+pub adds_none : (P : Tables) → AddsStrings P P
+adds_none P = record { family = refl; classes = refl; added = []; strings = sym (append-nil P.strings) }
+
+pub adds_more : (P Q R : Tables) → AddsStrings P Q → AddsStrings Q R → AddsStrings P R
+adds_more P Q R first second = record {
+  family = second.family ∙ first.family;
+  classes = second.classes ∙ first.classes;
+  added = first.added ++ second.added;
+  strings =
+      second.strings ∙ ap (λ (strings : List (List ℕ)). strings ++ second.added) first.strings
+      ∙ append_assoc P.strings first.added second.added;
+}
+
+-- ---- what is held stays held
+
+at_front : {X : Type 0} (xs more : List X) (i : ℕ) (x : X) → slice_get xs i ≡ Some x → slice_get (xs ++ more) i ≡ Some x
+at_front [] more i x at = absurd cc
+at_front (y ∷ ys) more zero x at = at
+at_front (y ∷ ys) more (suc i) x at = at_front ys more i x at
+
+module _ (S T added : List (List ℕ)) (grown : T ≡ S ++ added) where
+  pub value_kept : (told : ImageValue) (v : Value) → HoldsValue S told v → HoldsValue T told v
+  value_kept values.Null v holds = holds
+  value_kept (values.Int n) v holds = holds
+  value_kept (values.Long n) v holds = holds
+  value_kept (values.Text units) v holds = record {
+    number = holds.number;
+    spelled =
+        subst (λ (strings : List (List ℕ)). slice_get strings holds.number ≡ Some (units_text units)) (sym grown)
+        (at_front S added holds.number (units_text units) holds.spelled);
+    is = holds.is;
+  }
+  value_kept (values.Object c n) v holds = holds
+  value_kept values.Out v holds = holds
+
+  pub values_kept : (told : List ImageValue) (vs : List Value) → HoldsValues S told vs → HoldsValues T told vs
+  values_kept [] [] holds = holds
+  values_kept [] (v ∷ vs) holds = absurd holds
+  values_kept (t ∷ told) [] holds = absurd holds
+  values_kept (t ∷ told) (v ∷ vs) holds = (value_kept t v holds.0, values_kept told vs holds.1)
+
+  field_kept : (told : Option ImageValue) (v : Value) → HoldsField S told v → HoldsField T told v
+  field_kept None v holds = holds
+  field_kept (Some told) v holds = value_kept told v holds
+
+  pub fields_kept : (told : List ImageValue) (fields : ℕ → Value) → HoldsFields S told fields
+      → HoldsFields T told fields
+  fields_kept told fields holds k = field_kept (slice_get told k) (fields k) (holds k)
+
+  pub type_kept : (told : ImageClass) (class : ClassId) → HoldsType S told class → HoldsType T told class
+  type_kept (image.Known told) class holds = holds
+  type_kept (image.UnknownArray dimensions name) class holds = record {
+    element = holds.element;
+    holds = record {
+      number = holds.holds.number;
+      named =
+          subst (λ (strings : List (List ℕ)). slice_get strings holds.holds.number ≡ Some name) (sym grown)
+          (at_front S added holds.holds.number name holds.holds.named);
+      is = holds.holds.is;
+    };
+    is = holds.is;
+  }
+
+  object_kept : (told : ImageObject) (object : Object) → HoldsObject S told object → HoldsObject T told object
+  object_kept told object holds = record {
+    class = type_kept told.class object.class holds.class;
+    slots = values_kept told.slots object.slots holds.slots;
+    monitor = holds.monitor;
+  }
+
+  number_kept : (told : Option ImageObject) (object : Option Object) → HoldsNumber S told object
+      → HoldsNumber T told object
+  number_kept None object holds = holds
+  number_kept (Some told) None holds = holds
+  number_kept (Some told) (Some object) holds = object_kept told object holds
+
+  pub objects_kept : (told : List ImageObject) (pool : Pool) → HoldsObjects S told pool → HoldsObjects T told pool
+  objects_kept told pool holds = record {
+    count = holds.count;
+    each = λ n. number_kept (slice_get told n) (pool.at n) (holds.each n);
+  }
+
+  class_kept : (told : Option ImageRegion) (region : Option Region) → HoldsClass S told region
+      → HoldsClass T told region
+  class_kept None region holds = holds
+  class_kept (Some told) None holds = holds
+  class_kept (Some told) (Some region) holds = record {
+    fields = fields_kept told.statics region.fields holds.fields;
+    objects = objects_kept told.objects region.pool holds.objects;
+  }
+
+  pub regions_kept : (told : List (Option ImageRegion)) (env : Environment) → HoldsRegions S told env
+      → HoldsRegions T told env
+  regions_kept told env holds c = class_kept (region_in told c) (env c) (holds c)
+
+-- ---- values in order
+
+-- the step of a loop over values
+pub next_held : (P Q R : Tables) (told : List ImageValue) (i : ℕ) (t : ImageValue) (vs more : List Value) (v : Value)
+    → i < length told → t ≡ get_or told i t → HoldsValues Q.strings (take i told) vs × AddsStrings P Q
+    → AddsStrings Q R → HoldsValue R.strings t v → more ≡ vs ++ v ∷ []
+    → HoldsValues R.strings (take (i + 1) told) more × AddsStrings P R
+next_held P Q R told i t vs more v within item held adds holds grown =
+    let kept = values_kept Q.strings R.strings adds.added adds.strings (take i told) vs held.0 in
+    let pushed = all_zipped_more (HoldsValue R.strings) (take i told) vs t v kept holds in
+    let all : take (i + 1) told ≡ take i told ++ t ∷ [] =
+    take_more told i t within ∙ ap (λ (x : ImageValue). take i told ++ x ∷ []) (sym item) in
+    (rw (grown, all) pushed, adds_more P Q R held.1 adds)
+
+-- ---- static fields
+
+-- the last of a list, and the others
+other_of : {X : Type 0} (xs : List X) (x d : X) (k : ℕ) → k ≢ length xs → get_or (xs ++ x ∷ []) k d ≡ get_or xs k d
+other_of [] x d zero other = absurd (other refl)
+other_of [] x d (suc k) other = refl
+other_of (y ∷ ys) x d zero other = refl
+other_of (y ∷ ys) x d (suc k) other = other_of ys x d k (λ e. other (ap suc e))
+
+pub next_field : (vs : List Value) (i : ℕ) (d : Value) → i < length vs
+    → with_value (field_in (take i vs)) i (get_or vs i d) ≡ field_in (take (i + 1) vs)
+next_field vs i d within = fun_ext (λ k. by k (tested (k == i)))
+  where
+    count : length (take i vs) ≡ i
+    count = length-take-le i vs (omega (arith, within))
+
+    by : (k : ℕ) → ((k == i) ≡ true) ⊎ ((k == i) ≡ false)
+        → with_value (field_in (take i vs)) i (get_or vs i d) k ≡ field_in (take (i + 1) vs) k
+    by k (inl same) =
+        let at : k ≡ i = eqb-true k i same in
+        rw (same, take_more vs i d within)
+        (sym (ap (λ (n : ℕ). get_or (take i vs ++ get_or vs i d ∷ []) n machine.Null) (at ∙ sym count)
+        ∙ get_or-append_seam (take i vs) (get_or vs i d) [] machine.Null))
+    by k (inr apart) =
+        let other : k ≢ length (take i vs) = λ e. unequal k i apart (e ∙ count) in
+        rw (apart, take_more vs i d within) (sym (other_of (take i vs) (get_or vs i d) machine.Null k other))
+
+pub all_fields : (S : List (List ℕ)) (told : List ImageValue) (vs : List Value) → HoldsValues S told vs
+    → HoldsFields S told (field_in vs)
+all_fields S [] [] holds k = refl
+all_fields S [] (v ∷ vs) holds k = absurd holds
+all_fields S (t ∷ told) [] holds k = absurd holds
+all_fields S (t ∷ told) (v ∷ vs) holds zero = holds.0
+all_fields S (t ∷ told) (v ∷ vs) holds (suc k) = all_fields S told vs holds.1 k
+
+-- ---- objects
+
+last_at : {X : Type 0} (xs : List X) (x : X) → slice_get (xs ++ x ∷ []) (length xs) ≡ Some x
+last_at [] x = refl
+last_at (y ∷ ys) x = last_at ys x
+
+other_at : {X : Type 0} (xs : List X) (x : X) (k : ℕ) → k ≢ length xs
+    → slice_get (xs ++ x ∷ []) k ≡ slice_get xs k
+other_at [] x zero other = absurd (other refl)
+other_at [] x (suc k) other = refl
+other_at (y ∷ ys) x zero other = refl
+other_at (y ∷ ys) x (suc k) other = other_at ys x k (λ e. other (ap suc e))
+
+pub no_objects : (S : List (List ℕ)) → HoldsObjects S [] (pool_by empty_row)
+no_objects S = record { count = refl; each = λ n. refl }
+
+pub next_object : (S : List (List ℕ)) (told : List ImageObject) (t : ImageObject) (pool : Pool) (class : ClassId)
+    (slots : List Value) → HoldsObjects S told pool → HoldsType S t.class class → HoldsValues S t.slots slots
+    → HoldsObjects S (told ++ t ∷ []) (with_new pool class slots)
+next_object S told t pool class slots objects named holds = record {
+  count = omega (arith, objects.count, length-append told (t ∷ []));
+  each = λ n. by n (tested (n == pool.count));
+}
+  where
+    by : (n : ℕ) → ((n == pool.count) ≡ true) ⊎ ((n == pool.count) ≡ false)
+        → HoldsNumber S (slice_get (told ++ t ∷ []) n) ((with_new pool class slots).at n)
+    by n (inl same) =
+        let at : n ≡ length told = eqb-true n pool.count same ∙ objects.count in
+        rw (same, at, last_at told t) (record { class = named; slots = holds; monitor = refl })
+    by n (inr apart) =
+        let other : n ≢ length told = λ e. unequal n pool.count apart (e ∙ sym objects.count) in
+        rw (apart, other_at told t n other) (objects.each n)
+
+-- ---- regions
+
+pub no_regions : (S : List (List ℕ)) → HoldsRegions S [] (environment_of [])
+no_regions S c = refl
+
+pub next_region : (S : List (List ℕ)) (told : List (Option ImageRegion)) (t : Option ImageRegion) (old new : Environment)
+    (n : ℕ) → length told ≡ n → HoldsRegions S told old → HoldsClass S t (new n)
+    → ((c : ℕ) → c ≢ n → new c ≡ old c) → HoldsRegions S (told ++ t ∷ []) new
+next_region S told t old new n count holds here others c = by (tested (c == n))
+  where
+    by : ((c == n) ≡ true) ⊎ ((c == n) ≡ false) → HoldsClass S (region_in (told ++ t ∷ []) c) (new c)
+    by (inl same) =
+        let at : c ≡ n = eqb-true c n same in
+        let last : region_in (told ++ t ∷ []) c ≡ t =
+        ap (region_in (told ++ t ∷ [])) (at ∙ sym count) ∙ get_or-append_seam told t [] None in
+        rw (last, at) here
+    by (inr apart) =
+        let other : c ≢ n = unequal c n apart in
+        let same : region_in (told ++ t ∷ []) c ≡ region_in told c =
+        other_of told t None c (λ e. other (e ∙ count)) in
+        rw (same, others c other) (holds c)
+
+-- a class that is not initialized
+pub no_region : (S : List (List ℕ)) (told : List (Option ImageRegion)) (env : Environment) (n : ℕ) → length told ≡ n
+    → HoldsRegions S told env → HoldsRegions S (told ++ None ∷ []) env
+no_region S told env n count holds =
+    let past : region_in told n ≡ None = get_or_past told n None (omega (arith, count)) in
+    let none : HoldsClass S None (env n) = rw past at (holds n) in
+    next_region S told None env env n count holds none (λ c other. refl)
+
+pub put_region : (S : List (List ℕ)) (lower : List (Option ImageRegion)) (t : Option ImageRegion) (told : ImageRegion)
+    (old new : List (Option Held)) (n : ℕ) (r : Held) → length lower ≡ n → HoldsRegions S lower (environment_of old)
+    → t ≡ Some told → HoldsRegion S told (region_of r) → region_held new ≡ with_region (region_held old) n r
+    → HoldsRegions S (lower ++ t ∷ []) (environment_of new)
+put_region S lower t told old new n r count holds is here put =
+    rw is (next_region S lower (Some told) (environment_of old) (environment_of new) n count holds
+    (subst (λ (o : Option Held). HoldsClass S (Some told) (option_map region_of o)) (sym at) here)
+    (λ c other. ap (option_map region_of) (others c other)))
+  where
+    at : region_held new n ≡ Some r
+    at = ap (λ (held : ℕ → Option Held). held n) put ∙ rw (eq-eqb n n refl) refl
+
+    others : (c : ℕ) → c ≢ n → region_held new c ≡ region_held old c
+    others c other =
+        ap (λ (held : ℕ → Option Held). held c) put
+        ∙ elim (tested (c == n)) [ inl same ↦ absurd (other (eqb-true c n same)) | inr apart ↦ rw apart refl ]
+
+-- ---- units of strings
+
+text_units : (kind : FieldKind) (units : List ℕ) → Suits kind (values.Text units) → AreUnits units
+text_units kinds.Boolean units suits = absurd suits
+text_units kinds.Byte units suits = absurd suits
+text_units kinds.Char units suits = absurd suits
+text_units kinds.Short units suits = absurd suits
+text_units kinds.Int units suits = absurd suits
+text_units kinds.Long units suits = absurd suits
+text_units kinds.Float units suits = absurd suits
+text_units kinds.Double units suits = absurd suits
+text_units kinds.Reference units suits = suits
+
+value_units : (kind : FieldKind) (told : ImageValue) → Suits kind told → HasUnits told
+value_units kind (values.Text units) suits = text_units kind units suits
+value_units kind values.Null suits = tt
+value_units kind (values.Int n) suits = tt
+value_units kind (values.Long n) suits = tt
+value_units kind (values.Object c n) suits = tt
+value_units kind values.Out suits = tt
+
+pub values_units : (kinds : List FieldKind) (told : List ImageValue) → AllZip Suits kinds told → All HasUnits told
+values_units [] [] suits = All-nil HasUnits
+values_units [] (t ∷ told) suits = absurd suits
+values_units (kind ∷ kinds) [] suits = absurd suits
+values_units (kind ∷ kinds) (t ∷ told) suits =
+    All-cons HasUnits t told (value_units kind t suits.0) (values_units kinds told suits.1)
+
+known_units : (family : Family) (class : ClassId) (told : List ImageValue) → AreKnownSlots family class told
+    → All HasUnits told
+known_units family (classes.Given c) told slots = values_units (slots_of family c) told slots
+known_units family (classes.BuiltIn b) told slots = rw slots (All-nil HasUnits)
+known_units family (classes.Array a) told slots =
+    All-weaker (Suits (kind_of_elements a)) HasUnits (value_units (kind_of_elements a)) told slots.1
+
+pub slots_units : (family : Family) (class : ImageClass) (told : List ImageValue) → AreSlots family class told
+    → All HasUnits told
+slots_units family (image.Known class) told slots = known_units family class told slots
+slots_units family (image.UnknownArray dimensions name) told slots =
+    All-weaker (Suits kinds.Reference) HasUnits (value_units kinds.Reference) told slots.1
+
+-- a text has no more units than bytes
+
+unit_long : (u : ℕ) → 1 ≤ length (unit_text u)
+unit_long u = by (nat_lt 0 u && nat_lt u 128) (nat_lt u 2048)
+  where
+    by : (ascii wide : Bool) → 1 ≤ length (if ascii then u ∷ [] else
+        (if wide then (192 + u / 64) ∷ (128 + u % 64) ∷ [] else
+        (224 + u / 4096) ∷ (128 + u / 64 % 64) ∷ (128 + u % 64) ∷ []))
+    by true wide = omega arith
+    by false true = omega arith
+    by false false = omega arith
+
+pub units_short : (units : List ℕ) → length units ≤ length (units_text units)
+units_short [] = omega arith
+units_short (u ∷ us) =
+    omega (
+      arith,
+      ap length (flat_map-cons unit_text u us),
+      length-append (unit_text u) (units_text us),
+      unit_long u,
+      units_short us,
+    )

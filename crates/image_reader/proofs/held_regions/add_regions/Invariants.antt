@@ -1,0 +1,8 @@
+use Rattle.std.proofs.Common.{take}
+use Rattle.evaluator.specs.Regions.{environment_of}
+use Rattle.image_reader.specs.steps.Held.{AddsStrings, HoldsRegions}
+use Rattle.image_reader.proofs.held_regions.add_regions.Given as goal
+
+abbrev pub invariant-loop-class : goal.invariant-loop-class
+invariant-loop-class l =
+    HoldsRegions l.program.strings (take l.class l.regions) (environment_of l.held) × AddsStrings l.fn.program l.program

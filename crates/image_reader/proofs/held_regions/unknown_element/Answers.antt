@@ -1,0 +1,17 @@
+use Rattle.std.proofs.Common.{◌≡◌, length, ap, arith}
+use Rattle.classfile.specs.Units.{units_text}
+use Rattle.image_reader.proofs.HeldLemmas.{units_short}
+use Rattle.image_reader.proofs.held_regions.unknown_element.Goals as goal
+
+pub add_string-requires : goal.add_string-requires
+add_string-requires c =
+    let spelled : units_text c.in_ok-name.name ≡ c.as_slice.result.now =
+    c.in_ok-name.ensures (rw c.as_slice.ensures c.requires.modified) in
+    omega (
+      arith,
+      ap length c.units.ensures,
+      units_short c.in_ok-name.name,
+      ap length spelled,
+      ap length c.as_slice.ensures,
+      c.requires.few,
+    )
