@@ -1,0 +1,74 @@
+-- What the matches of a command line hold, by the names of its arguments.
+use Rattle.std.specs.Prelude.{◌≡◌, ℕ, List, [], Option, Some, None, Ok, map, option_map, unwrap_or, codes}
+use Rattle.std.specs.Borrow.{Bor}
+use Rattle.std.specs.Str.Parse.{ParsesUnsigned}
+use Rattle.std.specs.declared.num.ParseIntError.{ParseIntError}
+use Rattle.clap.specs.Matches.{first_value, found_of, matched_of, one_text, raw_values, subcommand_name_of}
+use Rattle.clap.specs.Simple.{HasMatchesOf, app_of, subcommand_rows_of}
+use Rattle.clap.specs.Walk.{Text, rows_of}
+use Rattle.clap.specs.declared.builder.command.Command.{Command}
+use Rattle.clap.specs.declared.parser.matches.ArgMatches.{ArgMatches}
+use Rattle.clap.specs.declared.parser.matches.Found.{Found}
+use Rattle.command_line.specs.declared.request.Build.{Build}
+use Rattle.command_line.specs.declared.request.Building.{Building}
+use Rattle.command_line.specs.declared.request.Lazy.{Lazy}
+use Rattle.command_line.specs.declared.request.Request.{Request}
+use Rattle.command_line.specs.declared.request.Request.TheVariants as requests
+use Rattle.command_line.specs.declared.request.Run.{Run}
+
+-- the texts that some references point to
+abbrev pub texts : List (Bor (List ℕ)) → List (List ℕ)
+texts words = map (λ (word : Bor (List ℕ)). word.now) words
+
+-- all values of an argument, and none where it was not used
+abbrev pub values_of : Found → List ℕ → List (List ℕ)
+values_of found id = unwrap_or (option_map raw_values (matched_of found id)) []
+
+-- the value of an argument is a number of 64 bits, in decimal digits
+abbrev pub HoldsNumber : Found → List ℕ → ℕ → Type 0
+HoldsNumber found id n =
+    (text : List ℕ) × (one_text found id ≡ Some text) × ParsesUnsigned {E = ParseIntError} 64 10 text (Ok n)
+
+-- what a build is asked for
+pub record HoldsBuilding (found : Found) (building : Building) : Type 0 where
+  pub run_time : option_map (λ (s : Bor (List ℕ)). s.now) building.run_time ≡ first_value found (codes "run_time")
+  pub build_time : option_map (λ (s : Bor (List ℕ)). s.now) building.build_time ≡ first_value found (codes "build_time")
+  pub budget : HoldsNumber found (codes "budget") building.budget
+  pub files : texts building.files.items ≡ values_of found (codes "file")
+
+pub record HoldsBuild (found : Found) (build : Build) : Type 0 where
+  pub image : first_value found (codes "out") ≡ Some build.image.now
+  pub building : HoldsBuilding found build.building
+
+-- what a run is asked for
+pub record HoldsLazy (found : Found) (lazy : Lazy) : Type 0 where
+  pub entries : first_value found (codes "entries") ≡ Some lazy.entries.now
+  pub limit : HoldsNumber found (codes "limit") lazy.limit
+  pub files : texts lazy.files.items ≡ values_of found (codes "file")
+
+pub record HoldsRun (found : Found) (run : Run) : Type 0 where
+  pub entries : first_value found (codes "entries") ≡ Some run.entries.now
+  pub limit : HoldsNumber found (codes "limit") run.limit
+  pub image : first_value found (codes "image") ≡ Some run.image.now
+
+-- The command of this name asks for this, by what was found of its arguments.
+abbrev pub Holds : List ℕ → Found → Request → Type 0
+Holds name found (requests.Build build) = (name ≡ codes "build") × HoldsBuild found build
+Holds name found (requests.Lazy lazy) = (name ≡ codes "lazy") × HoldsLazy found lazy
+Holds name found (requests.Report building) = (name ≡ codes "report") × HoldsBuilding found building
+Holds name found (requests.Run run) = (name ≡ codes "run") × HoldsRun found run
+
+-- The matches are of this command, with what was found of its arguments.
+pub record AsksFor (matches : ArgMatches) (request : Request) : Type 0 where
+  pub name : Text
+  pub arguments : ArgMatches
+  pub named : subcommand_name_of matches ≡ Some name
+  pub rows : Some (rows_of (found_of arguments)) ≡ option_map (λ p. p.1) (subcommand_rows_of matches)
+  pub holds : Holds name (found_of arguments) request
+
+-- A parse of these words by a command of clap answered matches that ask for this.
+pub record IsLine (words : List Text) (request : Request) : Type 0 where
+  pub program : Command
+  pub matches : ArgMatches
+  pub parsed : HasMatchesOf (app_of program) words matches
+  pub asks : AsksFor matches request

@@ -1,0 +1,155 @@
+//! What words ask for, by the matches of `clap`.
+ghost use Rattle.std.specs.Prelude.{◌≡◌, IfOk, IfSome, codes};
+ghost use Rattle.clap.specs.Matches.{found_of};
+ghost use Rattle.command_line.specs.Requests.{AsksFor, Holds, HoldsBuild, HoldsBuilding, HoldsLazy};
+ghost use Rattle.command_line.specs.Requests.{HoldsNumber, HoldsRun, IsLine, texts, values_of};
+
+use crate::commands::program;
+use crate::parsed::fault_of;
+use crate::{Build, Building, Lazy, Request, Run, WordsFault};
+use clap::error::ErrorKind;
+use clap::{ArgMatches, Command};
+use std::alloc::{AllocError, Global};
+
+/// Reads the words after the program's name.
+///
+/// # Errors
+/// `Help` where help was asked for, `Wrong` where the words are no command, and `Memory`.
+pub fn line<'a>(alloc: Global, words: &'a [&'a str]) -> Result<Request<'a>, WordsFault>
+    // What is asked for is the command, with the values, that the matches of a parse of these words hold.
+    ensures { IfOk result (IsLine (texts words.now)) }
+{
+    match program(alloc) {
+        Ok(mut program) => request_in(alloc, &mut program, words),
+        Err(_) => Err(WordsFault::Memory),
+    }
+}
+
+fn request_in<'a>(
+    alloc: Global,
+    program: &mut Command<'a>,
+    words: &'a [&'a str],
+) -> Result<Request<'a>, WordsFault>
+    ensures { IfOk result (IsLine (texts words.now)) }
+{
+    match program.try_get_matches_from_mut(words) {
+        Ok(matches) => match command_of(alloc, &matches) {
+            Ok(Some(request)) => Ok(request),
+            Ok(None) => Err(missing(alloc, program)),
+            Err(_) => Err(WordsFault::Memory),
+        },
+        Err(error) => Err(fault_of(alloc, &error)),
+    }
+}
+
+/// The command that was matched.
+fn command_of<'a>(
+    alloc: Global,
+    matches: &ArgMatches<'a>,
+) -> Result<Option<Request<'a>>, AllocError>
+    ensures { IfOk result (λ found. IfSome found (AsksFor matches.now)) }
+{
+    match matches.subcommand() {
+        Some((name, arguments)) => asked_of(alloc, name, arguments),
+        None => Ok(None),
+    }
+}
+
+/// What a command asks for by its arguments.
+fn asked_of<'a>(
+    alloc: Global,
+    name: &str,
+    arguments: &ArgMatches<'a>,
+) -> Result<Option<Request<'a>>, AllocError>
+    ensures { IfOk result (λ found. IfSome found (Holds name.now (found_of arguments.now))) }
+{
+    match name {
+        "build" => Ok(build_of(alloc, arguments)?.map(Request::Build)),
+        "lazy" => Ok(lazy_of(alloc, arguments)?.map(Request::Lazy)),
+        "report" => Ok(building_of(alloc, arguments)?.map(Request::Report)),
+        "run" => Ok(run_of(arguments).map(Request::Run)),
+        _ => Ok(None),
+    }
+}
+
+fn build_of<'a>(alloc: Global, matches: &ArgMatches<'a>) -> Result<Option<Build<'a>>, AllocError>
+    ensures { IfOk result (λ found. IfSome found (HoldsBuild (found_of matches.now))) }
+{
+    match matches.get_str("out") {
+        Some(image) => {
+            Ok(building_of(alloc, matches)?.map(|building| Build { image, building }))
+        }
+        None => Ok(None),
+    }
+}
+
+/// What the words of a build ask for.
+fn building_of<'a>(
+    alloc: Global,
+    matches: &ArgMatches<'a>,
+) -> Result<Option<Building<'a>>, AllocError>
+    ensures { IfOk result (λ found. IfSome found (HoldsBuilding (found_of matches.now))) }
+{
+    let files = files_of(alloc, matches)?;
+    match number_of(matches, "budget") {
+        Some(budget) => Ok(Some(Building {
+            run_time: matches.get_str("run_time"),
+            build_time: matches.get_str("build_time"),
+            budget,
+            files,
+        })),
+        None => Ok(None),
+    }
+}
+
+fn lazy_of<'a>(alloc: Global, matches: &ArgMatches<'a>) -> Result<Option<Lazy<'a>>, AllocError>
+    ensures { IfOk result (λ found. IfSome found (HoldsLazy (found_of matches.now))) }
+{
+    let files = files_of(alloc, matches)?;
+    match (matches.get_str("entries"), number_of(matches, "limit")) {
+        (Some(entries), Some(limit)) => Ok(Some(Lazy {
+            entries,
+            limit,
+            files,
+        })),
+        _ => Ok(None),
+    }
+}
+
+fn run_of<'a>(matches: &ArgMatches<'a>) -> Option<Run<'a>>
+    ensures { IfSome result (HoldsRun (found_of matches.now)) }
+{
+    let entries = matches.get_str("entries")?;
+    let limit = number_of(matches, "limit")?;
+    let image = matches.get_str("image")?;
+    Some(Run {
+        entries,
+        limit,
+        image,
+    })
+}
+
+/// The number that is the value of an argument.
+fn number_of(matches: &ArgMatches<'_>, id: &str) -> Option<u64>
+    ensures { IfSome result (HoldsNumber (found_of matches.now) id.now) }
+{
+    matches.get_one::<u64>(id)
+}
+
+/// The names of the files, in the order given.
+fn files_of<'a>(alloc: Global, matches: &ArgMatches<'a>) -> Result<Vec<&'a str>, AllocError>
+    ensures { IfOk result (λ files. texts files.items ≡ values_of (found_of matches.now) (codes "file")) }
+{
+    match matches.get_strs("file") {
+        Some(names) => Vec::from_slice(alloc, names),
+        None => Ok(Vec::new(alloc)),
+    }
+}
+
+/// The fault of words without a command.
+fn missing(alloc: Global, program: &mut Command<'_>) -> WordsFault {
+    match program.error(ErrorKind::MissingSubcommand, "a command is missing") {
+        Ok(error) => fault_of(alloc, &error),
+        Err(_) => WordsFault::Memory,
+    }
+}
