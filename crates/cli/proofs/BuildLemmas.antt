@@ -1,6 +1,6 @@
 -- The classes of a program of class files are from files; the classes of an image that have a wave have a region; what
 -- refuses a program or its options refuses a build.
-use Rattle.std.proofs.Common.{◌≡◌, ◌↔◌, ℕ, ◌<◌, List, map, Option, Some, None, option_map, slice_get}
+use Rattle.std.proofs.Common.{◌≡◌, ◌↔◌, ℕ, List, map, Option, Some, None, option_map, slice_get}
 use Rattle.std.proofs.Common.{refl, sym, ap, subst, ◌∙◌, MatchOption, IsSomeAnd, length, IsSome, Result, Ok, Err, IfOk}
 use Rattle.std.proofs.Common.{IfErr, OnOk, ◌≢◌, ◌⊎◌, inl, inr, Bool, true, false, IsTrue}
 use Rattle.std.specs.List.{Contains}

@@ -17,7 +17,7 @@ use Rattle.semantics.proofs.TestsLemmas.{from_some}
 use Rattle.program.specs.Tables.{Tables}
 use Rattle.building.proofs.OneFaultLemmas.{at_all}
 use Rattle.cli.specs.declared.fault.Refusal.{Refusal}
-use Rattle.cli.specs.declared.fault.Refusal.TheVariants.{Class, Link}
+use Rattle.cli.specs.declared.fault.Refusal.TheVariants.{Link}
 use Rattle.cli.specs.Runs.{AreClassFiles, IsFirstBad, IsProgramOf, NotLinked}
 use Rattle.cli.specs.Runs as runs
 use Rattle.cli.specs.Laws.{LinkedAreNotRefused, OneRefusal}

@@ -1,14 +1,14 @@
 -- What the layers below refuse, as refusals.
-use Rattle.std.proofs.Common.{◌≡◌, ◌≢◌, ℕ, ◌+◌, ◌<◌, ◌⊎◌, inl, inr, List, [], ◌∷◌, ◌++◌, length, map, take, Some}
+use Rattle.std.proofs.Common.{◌≡◌, ◌≢◌, ℕ, ◌+◌, ◌<◌, ◌⊎◌, inl, inr, List, [], ◌∷◌, ◌++◌, length, take, Some}
 use Rattle.std.proofs.Common.{get_or}
 use Rattle.std.proofs.Common.{slice_get, sym, ap, subst, refl, ◌∙◌, Vec, append-nil, Result, Ok, Err, IfOk, OnOk}
-use Rattle.std.specs.List.{AllZip, flat_map}
+use Rattle.std.specs.List.{flat_map}
 use Rattle.std.proofs.lemmas.Grind.{flat_map-append}
 use Rattle.std.proofs.lemmas.List.{map_more, take-map, take_more}
 use Rattle.std.proofs.lemmas.Option.{slice_get-map}
 use Rattle.classfile.specs.ClassFile.{ClassFile}
 use Rattle.classfile.specs.Class.{IsClassText}
-use Rattle.classfile.specs.FirstFault.{FirstFault, IsFirstFault}
+use Rattle.classfile.specs.FirstFault.{IsFirstFault}
 use Rattle.classfile.specs.declared.fault.ClassFault.{ClassFault}
 use Rattle.classfile.specs.declared.fault.ClassFault.TheVariants as faults
 use Rattle.loading.proofs.ZipLemmas.{pairs_push}
@@ -23,7 +23,7 @@ use Rattle.init_engine.specs.declared.fault.EntryFault.{EntryFault}
 use Rattle.init_engine.specs.declared.fault.EntryFault.TheVariants as entry_faults
 use Rattle.cli.specs.declared.fault.Refusal.{Refusal}
 use Rattle.cli.specs.declared.fault.Refusal.TheVariants.{Class, Link, Entry, Memory}
-use Rattle.cli.specs.Runs.{texts_of, AreClassFiles, IsFirstBad, IsProgramOf, NotLinked, class, link, IsRefused}
+use Rattle.cli.specs.Runs.{texts_of, AreClassFiles, IsProgramOf, NotLinked, class, link, IsRefused}
 use Rattle.cli.specs.Runs.{unlinked, entry}
 use Rattle.cli.specs.steps.Refusals.{IsBadAt, bad, IsNoClassFile, first, IsUnlinkable, unlinkable, IsRefusedEntry}
 use Rattle.cli.specs.steps.Refusals.{refused}

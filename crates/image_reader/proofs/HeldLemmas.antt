@@ -12,7 +12,6 @@ use Rattle.std.proofs.lemmas.List.Elements.{All-nil, All-cons, All-weaker}
 use Rattle.std.proofs.lemmas.Slice.Zip.{all_zipped_more}
 use Rattle.classfile.specs.Units.{unit_text, units_text}
 use Rattle.vm_state.specs.declared.object.Object.{Object}
-use Rattle.vm_state.specs.declared.object.Monitor.TheVariants.{Free}
 use Rattle.vm_state.specs.declared.value.Value.{Value}
 use Rattle.vm_state.specs.declared.value.Value.TheVariants as machine
 use Rattle.built_in.specs.declared.class_id.ClassId.{ClassId}

@@ -1,5 +1,5 @@
 -- The image of what a text says.
-use Rattle.std.proofs.Common.{◌≡◌, ◌∙◌, ℕ, List, Option, Some, None, length, refl, sym, subst}
+use Rattle.std.proofs.Common.{◌≡◌, List, Option, Some, None, refl, sym, subst}
 use Rattle.loading.specs.Families.{Family}
 use Rattle.semantics.specs.Quiet.{Environment}
 use Rattle.program.specs.Programs.{IsProgram}

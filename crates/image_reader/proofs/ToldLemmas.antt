@@ -1,7 +1,7 @@
 -- What the machine holds tells what the image's text says.
-use Rattle.std.proofs.Common.{◌≡◌, ◌∙◌, ℕ, suc, ◌+◌, ◌<◌, List, [], ◌∷◌, ◌++◌, length, map, get_or, Option, Some, None}
+use Rattle.std.proofs.Common.{◌≡◌, ◌∙◌, ℕ, suc, ◌+◌, ◌<◌, List, [], ◌∷◌, length, map, get_or, Option, Some, None}
 use Rattle.std.proofs.Common.{true, is_some, slice_get, option_map, refl, sym, ap, ap₂, subst, arith, add-zero}
-use Rattle.std.specs.List.{All, AllZip, flat_map, range_with_len}
+use Rattle.std.specs.List.{All, flat_map, range_with_len}
 use Rattle.std.specs.Option.{option_to_list}
 use Rattle.std.proofs.lemmas.List.FromFn.{fill_by_all}
 use Rattle.std.proofs.lemmas.List.Elements.{All-get_or, All-head, All-tail}
@@ -32,7 +32,7 @@ use Rattle.image_format.specs.Images.{AreRegions, region_in}
 use Rattle.image_format.specs.Shapes.{HasObjects, HasShape, KnownHasObjects, ObjectHasShape, Suits}
 use Rattle.image_format.specs.Told.{told_array, told_class, told_value, told_if}
 use Rattle.image_format.specs.Told.{told_objects, told_fields, told_region, told_regions}
-use Rattle.image_reader.specs.steps.Held.{HasUnits, HoldsValue, HoldsValues, HoldsField, HoldsFields, HoldsObject}
+use Rattle.image_reader.specs.steps.Held.{HasUnits, HoldsValue, HoldsValues, HoldsField, HoldsFields}
 use Rattle.image_reader.specs.steps.Held.{HoldsNumber, HoldsObjects, HoldsRegion, HoldsClass, HoldsRegions, HoldsType}
 use Rattle.image_reader.proofs.HeldLemmas.{values_units, slots_units}
 use Rattle.image_reader.proofs.ClassesLemmas.{is_in}

@@ -1,16 +1,15 @@
 -- What the machine holds where an image's text says it has shape and names objects that there are, as the text says.
-use Rattle.std.proofs.Common.{◌≡◌, ◌≢◌, ◌∙◌, ◌⊎◌, inl, inr, ℕ, ℤ, pos, negsuc, zero, suc, ◌+◌, ◌<◌, ◌≤◌, ◌^◌, ◌==◌}
-use Rattle.std.proofs.Common.{Bool, true, false, ◌&&◌, List, [], ◌∷◌, ◌++◌, length, replicate, get_or, Option, Some, None}
-use Rattle.std.proofs.Common.{is_some, slice_get, option_map, unwrap_or, refl, sym, ap, ap₂, subst, arith, ltb, leb}
-use Rattle.std.proofs.Common.{length-append, eqb-true, eq-eqb}
+use Rattle.std.proofs.Common.{◌≡◌, ◌∙◌, ◌⊎◌, inl, inr, ℕ, ℤ, pos, negsuc, zero, suc, ◌+◌, ◌<◌, ◌≤◌, ◌^◌, ◌==◌}
+use Rattle.std.proofs.Common.{true, false, List, [], ◌∷◌, ◌++◌, length, replicate, Option, Some, None}
+use Rattle.std.proofs.Common.{is_some, slice_get, option_map, unwrap_or, refl, sym, ap, subst, arith, ltb, leb}
+use Rattle.std.proofs.Common.{length-append, eqb-true}
 use Rattle.std.specs.Prelude.{int_le}
 use Rattle.std.specs.List.{All, AllByRecursion, AllZip}
-use Rattle.std.proofs.lemmas.Bool.{ltb-true, lt-ltb, leb-true, le-leb}
+use Rattle.std.proofs.lemmas.Bool.{lt-ltb, leb-true, le-leb}
 use Rattle.std.proofs.lemmas.List.{length-replicate}
-use Rattle.std.proofs.lemmas.List.Elements.{recursion_from_All, All-head, All-tail}
-use Rattle.std.proofs.lemmas.Option.{get_or_from_slice_get, slice_get-get_or, slice_get_past, slice_get_within}
+use Rattle.std.proofs.lemmas.List.Elements.{All-head, All-tail}
+use Rattle.std.proofs.lemmas.Option.{slice_get_past, slice_get_within}
 use Rattle.std.proofs.lemmas.Slice.Zip.{AllZip-long}
-use Rattle.bytecode.specs.declared.operand.ElementKind.{ElementKind}
 use Rattle.built_in.specs.declared.class_id.ArrayType.{ArrayType}
 use Rattle.built_in.specs.declared.class_id.BuiltIn.{BuiltIn}
 use Rattle.built_in.specs.declared.class_id.BuiltIn.TheVariants as builtins
@@ -24,7 +23,7 @@ use Rattle.vm_state.specs.declared.object.Object.{Object}
 use Rattle.vm_state.specs.declared.value.Value.{Value}
 use Rattle.vm_state.specs.declared.value.Value.TheVariants as machine
 use Rattle.vm_state.specs.declared.value.Maker.TheVariants.{Class}
-use Rattle.vm_state.specs.SharedState.{Pool, Region, slots_at}
+use Rattle.vm_state.specs.SharedState.{Region}
 use Rattle.vm_state.proofs.ListLemmas.{tested}
 use Rattle.semantics.specs.Lawful.{Knows, KnowsAll, KnowsSlots}
 use Rattle.semantics.specs.Quiet.{Environment, pool_seen, elements_in}
@@ -39,7 +38,7 @@ use Rattle.region_shape.specs.Suits.{suits}
 use Rattle.region_shape.specs.Shapes.{SuitsField, AreElements}
 use Rattle.region_shape.specs.Shapes.{has_objects as has_instances, HasObjects as HasInstances, AreSlots as HaveSlots}
 use Rattle.region_shape.specs.Shapes.{ObjectHasShape as IsShaped, HasShape as RegionIsShaped}
-use Rattle.region_shape.specs.Counts.{count_of as seen_count, is_there, NamesObjects as Names, AreClosed}
+use Rattle.region_shape.specs.Counts.{count_of as seen_count, is_there, NamesObjects as Names}
 use Rattle.region_shape.specs.Wholes.{AreWhole}
 use Rattle.object_graph.specs.Images.{AreSmall}
 use Rattle.image_format.specs.declared.object.ImageClass.{ImageClass}
@@ -50,11 +49,11 @@ use Rattle.image_format.specs.declared.value.ImageValue.{ImageValue}
 use Rattle.image_format.specs.declared.value.ImageValue.TheVariants as values
 use Rattle.image_format.specs.Elements.{kind_of_type, kind_of_elements}
 use Rattle.image_format.specs.Names.{class_name, name_of_class}
-use Rattle.image_format.specs.Images.{AreRegions, IsThere, NamesObjects, count_of, region_in}
+use Rattle.image_format.specs.Images.{AreRegions, IsThere, count_of, region_in}
 use Rattle.image_format.specs.Shapes.{Suits, IsArrayType, IsArrayOfUnknown, HasObjects, KnownHasObjects, AreSlots}
 use Rattle.image_format.specs.Shapes.{AreKnownSlots, ObjectHasShape, HasShape, has_objects, has_values}
 use Rattle.image_reader.specs.steps.Held.{HoldsValue, HoldsValues, HoldsField, HoldsFields, HoldsObject, HoldsNumber}
-use Rattle.image_reader.specs.steps.Held.{HoldsArray, HoldsType, HoldsObjects, HoldsRegion, HoldsClass, HoldsRegions}
+use Rattle.image_reader.specs.steps.Held.{HoldsArray, HoldsType, HoldsRegion, HoldsClass, HoldsRegions}
 use Rattle.image_reader.proofs.ClassesLemmas.{is_in, place_of}
 
 -- ---- values

@@ -1,4 +1,4 @@
-use Rattle.std.proofs.Common.{List, ℕ, sym, subst, arith, refl, inr, Err}
+use Rattle.std.proofs.Common.{sym, subst, arith, refl, inr, Err}
 use Rattle.std.proofs.lemmas.Result.{IfErr-weaker, IfOk-weaker}
 use Rattle.program.specs.Tables.{Tables}
 use Rattle.building.specs.Builds.{text_of}

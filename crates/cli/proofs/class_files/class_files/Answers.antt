@@ -1,7 +1,5 @@
-use Rattle.std.proofs.Common.{ap, subst, length, refl, ℕ, List}
+use Rattle.std.proofs.Common.{length, refl}
 use Rattle.std.proofs.lemmas.Option.{slice_get_read}
-use Rattle.classfile.specs.Class.{IsClassText}
-use Rattle.cli.specs.steps.Refusals.{IsBadAt}
 use Rattle.cli.proofs.RefusalLemmas.{files_more, first_bad}
 use Rattle.cli.proofs.class_files.class_files.Goals as goal
 

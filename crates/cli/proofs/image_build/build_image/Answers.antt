@@ -1,4 +1,4 @@
-use Rattle.std.proofs.Common.{List, ℕ, arith, lit<}
+use Rattle.std.proofs.Common.{lit<}
 use Rattle.cli.specs.Runs.{texts_of}
 use Rattle.cli.proofs.ImageBuildLemmas.{are_short}
 use Rattle.cli.proofs.image_build.build_image.Goals as goal

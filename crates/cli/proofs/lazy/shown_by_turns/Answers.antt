@@ -1,4 +1,4 @@
-use Rattle.std.proofs.Common.{ℕ, sym, subst}
+use Rattle.std.proofs.Common.{sym, subst}
 use Rattle.std.proofs.lemmas.List.{length-map}
 use Rattle.machine.specs.Linked.{program_of}
 use Rattle.init_engine.specs.Rounds.{Turns}

@@ -1,5 +1,5 @@
 use Rattle.vm_state.specs.Pools.{pool_by}
-use Rattle.image_reader.specs.steps.Held.{HoldsType, HoldsValues}
+use Rattle.image_reader.specs.steps.Held.{HoldsValues}
 use Rattle.image_reader.proofs.HeldLemmas.{adds_more, objects_kept, next_object, slots_units, type_kept}
 use Rattle.image_reader.proofs.held_regions.add_object.Goals as goal
 

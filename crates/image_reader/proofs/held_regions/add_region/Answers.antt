@@ -1,6 +1,6 @@
 use Rattle.std.proofs.lemmas.Result.{on_ok_weaker}
 use Rattle.evaluator.specs.Regions.{environment_of}
-use Rattle.image_reader.proofs.HeldLemmas.{put_region, no_region, regions_kept}
+use Rattle.image_reader.proofs.HeldLemmas.{put_region, regions_kept}
 use Rattle.image_reader.proofs.held_regions.add_region.Goals as goal
 
 pub returns-in_ok-held_region-in-Some-clause-holds : goal.returns-in_ok-held_region-in-Some-clause-holds

@@ -1,7 +1,5 @@
-use Rattle.image_format.specs.Shapes.{HasShape}
 use Rattle.program.specs.InstanceFields.{static_kinds}
 use Rattle.vm_state.specs.Statics.{field_in}
-use Rattle.image_reader.specs.steps.Held.{HoldsFields}
 use Rattle.image_reader.proofs.HeldLemmas.{fields_kept, values_units}
 use Rattle.image_reader.proofs.held_regions.held_region.Goals as goal
 

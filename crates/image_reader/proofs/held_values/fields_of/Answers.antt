@@ -1,4 +1,4 @@
-use Rattle.std.proofs.Common.{◌≡◌, ◌<◌, ◌∙◌, ℕ, length, pos, ap, get_or, rules}
+use Rattle.std.proofs.Common.{◌<◌, ◌∙◌, ℕ, length, pos, ap, get_or, rules}
 use Rattle.vm_state.specs.declared.value.Value.TheVariants.{Int}
 use Rattle.vm_state.specs.declared.value.Value.{Value}
 use Rattle.vm_state.specs.Statics.{with_value}
