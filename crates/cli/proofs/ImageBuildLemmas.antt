@@ -52,7 +52,8 @@ all_short : (family all : Family) (most : ℕ) → most < 2 ^ 32
 all_short [] all most fits each within = All-nil IsShort
 all_short (c ∷ cs) all most fits each within =
     All-cons IsShort c cs
-    (let bound = each c.file (All-head (Contains (map file all)) c.file (map file cs) within) in omega (arith, bound, fits))
+    (let bound = each c.file (All-head (Contains (map file all)) c.file (map file cs) within) in
+    omega (arith, bound, fits))
     (all_short cs all most fits each (All-tail (Contains (map file all)) c.file (map file cs) within))
 
 pub are_short : (texts : List (List ℕ)) (most : ℕ) (P : Tables) → most < 2 ^ 32 → AreAtMost most texts

@@ -13,14 +13,14 @@ use std::alloc::{AllocError, Global};
 use std::str::SplitWhitespace;
 use vm_state::ends::FaultKind;
 
-/// Given are files, each as its name, ` = ` and a class in its text form, or `image` and the bytes of an image before its
-/// digest as words (`src/shelf.rt`).
+/// Given are files, each as its name, ` = ` and a class in its text form, or `image` and the bytes of an image before
+/// its digest as words (`src/shelf.rt`).
 ///
-/// Asked are the words of a command, for the status, and between brackets what standard output and standard error
-/// got. Before ` && ` may stand commands that are done first; where one of these has another status than 0 or writes to
-/// a stream, that is the answer. After the words may stand ` | ` and `begins LENGTH`, for that many bytes of the answer; `has TEXT`, for the
-/// status and which of the two has the text where the other has nothing; `output ROOM` or `errors ROOM`, for what is
-/// answered when that stream fails after so many bytes.
+/// Asked are the words of a command, for the status, and between brackets what standard output and standard error got.
+/// Before ` && ` may stand commands that are done first; where one of these has another status than 0 or writes to a
+/// stream, that is the answer. After the words may stand ` | ` and `begins LENGTH`, for that many bytes of the answer;
+/// `has TEXT`, for the status and which of the two has the text where the other has nothing; `output ROOM` or `errors
+/// ROOM`, for what is answered when that stream fails after so many bytes.
 ///
 /// `line WORDS` asks what the words ask for, and `entries LIST` for the names of a list. `program FILE ..` asks why
 /// files make no program, `lines ENDING ..` for the lines of threads, and `ended ENDING ..`, `stuck ENDING ..` and

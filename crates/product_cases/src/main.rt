@@ -5,8 +5,9 @@
 //! `preinit` promises of its words, streams and statuses.
 //!
 //! A word that ends with `.class` names a class file, which is read and written back. One that ends with `/` has the
-//! class files since the last such word linked, and one with an entry, `=` and a file has them run, and then an image of
-//! them, and compares what both show with that file. `report=` and a file compares the report of a build of them with that file.
+//! class files since the last such word linked, and one with an entry, `=` and a file has them run, and then an image
+//! of them, and compares what both show with that file. `report=` and a file compares the report of a build of them
+//! with that file.
 //!
 //! It prints a line for each word, and one for each answer that is not as it is wanted. Its status is 0 where all
 //! are.

@@ -25,8 +25,9 @@ impl Shelf {
         }
     }
 
-    /// Adds the files of lines: a name, ` = ` and the file. That is a class in its text form; or `image`, and words that
-    /// spell an image before its digest, where `file:NAME` are the bytes of an earlier file. Answers what is misspelled.
+    /// Adds the files of lines: a name, ` = ` and the file. That is a class in its text form; or `image`, and words
+    /// that spell an image before its digest, where `file:NAME` are the bytes of an earlier file. Answers what is
+    /// misspelled.
     pub fn add_lines(&mut self, lines: &str) -> Result<String, AllocError> {
         let mut misspelled = String::new(self.alloc);
         for line in lines.lines() {
