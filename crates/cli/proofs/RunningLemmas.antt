@@ -165,6 +165,17 @@ run_ends P start limit t before after ran turned threads stands sent =
 
 -- ---- what went out where a command was refused
 
+pub of_cut : (P : Tables) (first : World) (before after : Option (List ℕ)) → IsCutShort P first before after Memory
+    → IsOfRun before after
+of_cut P first before after cut = record {
+  program = P;
+  first = first;
+  schedule = cut.schedule;
+  last = cut.last;
+  run = cut.run;
+  sent = cut.sent;
+}
+
 pub of_run : (P : Tables) (first : World) (limit : ℕ) (before after : Option (List ℕ)) (ran : Ran)
     → HasRun P first limit before after ran → IsOfRun before after
 of_run P first limit before after ran run =

@@ -10,6 +10,7 @@ use crate::{
     Files, Lazy, Ran, Refusal, Report, Request, RunFault, Status, WordsFault, lazy, reporting,
     request_of, run_world, status_of, thread_lines,
 };
+use init_engine::World;
 use program::Program;
 use std::alloc::Global;
 use std::io;
@@ -62,15 +63,18 @@ fn run_lazily<F: Files, W: Write, E: Write>(
     ensures words { result ≢ Status.Words }
 {
     match lazy::begin(alloc, words, files) {
-        Ok(start) => run_from(alloc, start, words.limit, out, errors),
+        Ok(Start { program, world }) => {
+            run_from(alloc, &program, world, words.limit, out, errors)
+        }
         Err(refusal) => refuse(&refusal, errors),
     }
 }
 
-/// Runs a start, and tells what it prints while it runs, and then how its threads ended.
+/// Runs a program from a world of it, and tells what it prints while it runs, and then how its threads ended.
 fn run_from<W: Write, E: Write>(
     alloc: Global,
-    start: Start,
+    program: &Program,
+    world: World,
     limit: u64,
     out: &mut W,
     errors: &mut E,
@@ -78,9 +82,8 @@ fn run_from<W: Write, E: Write>(
     ensures refused { result ≡ Status.Refused → IsOfRun (W.contents out.old) (W.contents out.new) }
     ensures words { result ≢ Status.Words }
 {
-    let Start { program, world } = start;
-    match run_world(alloc, &program, world, limit, out) {
-        Ok(ran) => tell_threads(alloc, &program, &ran, errors),
+    match run_world(alloc, program, world, limit, out) {
+        Ok(ran) => tell_threads(alloc, program, &ran, errors),
         Err(RunFault::Memory) => refuse(&Refusal::Memory, errors),
         Err(RunFault::Device) => refuse(&Refusal::Device, errors),
     }
