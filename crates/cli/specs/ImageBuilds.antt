@@ -1,10 +1,10 @@
 -- From class files' bytes to the bytes of an image.
-use Rattle.std.specs.Prelude.{◌≡◌, ◌≤◌, ℕ, List, Option, length}
+use Rattle.std.specs.Prelude.{◌≤◌, ℕ, List, Option, length}
 use Rattle.std.specs.List.{All}
 use Rattle.wave_scheduler.specs.Settled.{Outcome}
 use Rattle.object_graph.specs.Images.{ImageTables}
 use Rattle.building.specs.Builds.{IsBuilt, ShowsTheSame}
-use Rattle.image_writer.specs.ImageTexts.{text_of}
+use Rattle.cli.specs.ImageRuns.{IsTextOf}
 use Rattle.cli.specs.Runs.{IsProgramOf}
 
 -- no text is longer than so many bytes
@@ -20,9 +20,9 @@ pub record IsImageOf (texts : List (List ℕ)) (run_time build_time : Option (Li
   pub built : IsBuilt run_time build_time budget I outcomes
   pub shows : ShowsTheSame I
 
--- The bytes are the text of such an image.
+-- The bytes are the text of such an image, as which they are read back.
 pub record IsBuiltText (texts : List (List ℕ)) (run_time build_time : Option (List ℕ)) (budget : ℕ) (bytes : List ℕ)
     : Type 0 where
   pub image : ImageTables
   pub of : IsImageOf texts run_time build_time budget image
-  pub spelled : bytes ≡ text_of image
+  pub text : IsTextOf bytes image

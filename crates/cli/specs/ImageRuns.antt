@@ -5,7 +5,7 @@ use Rattle.object_graph.specs.Images.{ImageTables}
 use Rattle.image_format.specs.Images.{ImageText}
 use Rattle.image_parser.specs.ImageFaults.{ImageFails}
 use Rattle.image_parser.specs.declared.image_fault.ImageFault.{ImageFault}
-use Rattle.image_reader.specs.Readings.{told_of}
+use Rattle.image_writer.specs.ImageTexts.{told_of}
 use Rattle.image_reader.specs.Starts.{IsImageStart}
 use Rattle.init_engine.specs.Starts.{EntriesFail}
 use Rattle.init_engine.specs.declared.fault.EntryFault.{EntryFault}

@@ -2,8 +2,9 @@
 ghost use Rattle.std.specs.Prelude.{◌≡◌, ◌⊎◌, IfErr, IfOk};
 ghost use Rattle.building.specs.Builds.{text_of as list_of};
 ghost use Rattle.building.specs.declared.build.BuildFault.TheVariants.{Memory};
-ghost use Rattle.image_format.specs.Images.{AreShort};
-ghost use Rattle.image_writer.specs.ImageTexts.{text_of};
+ghost use Rattle.loading.specs.Files.{Links};
+ghost use Rattle.image_format.specs.Images.{AreShort, ImageText, files_of};
+ghost use Rattle.image_writer.specs.ImageTexts.{text_of, told_of};
 ghost use Rattle.cli.specs.Builds.{BuildFails};
 ghost use Rattle.cli.specs.ImageBuilds.{AreAtMost, IsBuiltText};
 ghost use Rattle.cli.specs.Runs.{texts_of};
@@ -51,7 +52,9 @@ pub fn build_image(
 /// The text of an image.
 fn image_bytes(alloc: Global, image: &Image) -> Result<Vec<u8>, AllocError>
     requires { AreShort image.now.program.family }
-    ensures { IfOk result (λ bytes. bytes.items ≡ text_of image.now) }
+    ensures text { IfOk result (λ bytes. bytes.items ≡ text_of image.now) }
+    ensures image { Links (files_of image.now.program.family)
+        → ImageText (text_of image.now) image.now.program.family (told_of image.now) }
 {
     let mut bytes = Out::new(Vec::new(alloc));
     match write(alloc, image, &mut bytes) {

@@ -18,6 +18,7 @@ use Rattle.region_shape.specs.Counts.{count_of, is_there}
 use Rattle.region_shape.specs.Laws.{IsLinked, IsFromFile}
 use Rattle.region_shape.proofs.LawsLemmas.{settled_have_shape_lem, settled_are_within_lem, settled_name_objects_lem}
 use Rattle.region_shape.proofs.NamesLemmas.{names_wider}
+use Rattle.region_shape.proofs.TextsLemmas.{settled_have_texts_lem}
 use Rattle.use_graph.specs.Uses.{IsUse}
 use Rattle.use_graph.proofs.LawsLemmas.{stops_by_code_lem}
 use Rattle.evaluator.specs.Settleable.{IsSettleable, IsWhole, SettleableAreUnbarred}
@@ -101,6 +102,7 @@ module _ (P : Tables) (linked : IsLinked P) (env : Environment) (c : ℕ) (can :
         shape = settled_have_shape_lem P linked can.lent can.whole.shape c n region from there;
         names = names_wider can.lent env c region can.at_hand
             (settled_name_objects_lem P linked.program can.lent can.whole.closed c n region can.apart there);
+        texts = settled_have_texts_lem P linked.program can.lent can.whole.texts c n region there;
         size = record {
           count = omega (arith, size.count, within);
           arrays = λ k o at. omega (arith, size.arrays k o at, within);

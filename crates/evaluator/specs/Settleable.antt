@@ -8,6 +8,7 @@ use Rattle.region_shape.specs.Counts.{NamesObjects}
 use Rattle.region_shape.specs.Laws.{IsLinked}
 use Rattle.region_shape.specs.Shapes.{HasShape}
 use Rattle.region_shape.specs.Sizes.{IsWithin}
+use Rattle.region_shape.specs.Texts.{HasTexts}
 use Rattle.region_shape.specs.Wholes.{AreWhole}
 use Rattle.use_graph.specs.declared.mark.Mark.{Mark}
 use Rattle.use_graph.specs.Uses.{IsUse, HasMark}
@@ -17,7 +18,8 @@ use Rattle.evaluator.specs.Regions.{region_of}
 use Rattle.evaluator.specs.Outcomes.{IsUnbarred}
 
 -- A given class can be settled: its code bears no mark, and its initializer is lent some of the regions at hand, those
--- of its uses among them and its own not, which have shape and name objects of one another alone.
+-- of its uses among them and its own not, which have shape, and name objects of one another and strings of the program
+-- alone.
 pub record IsSettleable (P : Tables) (env : Environment) (c : ℕ) : Type 0 where
   pub given : c < length P.classes
   pub unmarked : (mark : Mark) → ¬ HasMark P c mark
@@ -27,11 +29,12 @@ pub record IsSettleable (P : Tables) (env : Environment) (c : ℕ) : Type 0 wher
   pub apart : lent c ≡ None
   pub whole : AreWhole P lent
 
--- The region has shape, names such objects alone as there are, and has no more objects, and no array of more elements,
--- than the budget.
+-- The region has shape, names such objects alone as there are and strings of the program alone, and has no more
+-- objects, and no array of more elements, than the budget.
 pub record IsWhole (P : Tables) (env : Environment) (c budget : ℕ) (region : Region) : Type 0 where
   pub shape : HasShape P c region
   pub names : NamesObjects env c region
+  pub texts : HasTexts P region
   pub size : IsWithin budget region
 
 -- the region that is left, if there is one, is such

@@ -1,4 +1,4 @@
--- What the primitives of operand stacks and local variables keep of names.
+-- What holds of all values of a frame holds of what the primitives of operand stacks and local variables give.
 use Rattle.std.proofs.Common.{ℕ, zero, suc, Bool, true, false, List, [], ◌∷◌, ◌+◌, ◌-◌, Option, Some, None}
 use Rattle.std.proofs.Common.{length, slice_get, slice_set}
 use Rattle.std.specs.Prelude.{nat_le, if◌then◌else◌}
@@ -8,88 +8,88 @@ use Rattle.vm_state.specs.declared.value.Value.{Value}
 use Rattle.vm_state.specs.Values.{places}
 use Rattle.vm_state.specs.Operands.{OperandStack, pushed, top, top_of, rest, rest_of}
 use Rattle.vm_state.specs.Locals.{held, whole, whole_of, is_empty, value_at, second_cleared, stored}
-use Rattle.semantics.specs.Lawful.{Names, Knows, KnowsAll, KnowsSome}
+use Rattle.semantics.specs.Lawful.{HoldsOfSome}
 use Rattle.frame_instructions.specs.declared.operand_kind.OperandKind.{OperandKind}
 use Rattle.frame_instructions.specs.OperandKinds.{kind_of, is_kind, of_kind, as_kind}
 
-module _ (known : Names) where
-  abbrev pub KnowsLocals : List (Option Value) → Type 0
-  KnowsLocals locals = AllByRecursion (KnowsSome known) locals
+module _ (Q : Value → Type 0) where
+  abbrev pub HoldsOfLocals : List (Option Value) → Type 0
+  HoldsOfLocals locals = AllByRecursion (HoldsOfSome Q) locals
 
-  pub top_known : (s : OperandStack) → KnowsAll known s.values → IfSome (top s) (Knows known)
+  pub top_has : (s : OperandStack) → AllByRecursion Q s.values → IfSome (top s) Q
   unfolding top
-  top_known s h = first s.values h where
-    first : (vs : List Value) → KnowsAll known vs → IfSome (top_of vs) (Knows known)
+  top_has s h = first s.values h where
+    first : (vs : List Value) → AllByRecursion Q vs → IfSome (top_of vs) Q
     first [] h = tt
     first (v ∷ vs) h = h.0
 
-  pub rest_known : (s : OperandStack) → KnowsAll known s.values → KnowsAll known (rest s).values
+  pub rest_has : (s : OperandStack) → AllByRecursion Q s.values → AllByRecursion Q (rest s).values
   unfolding rest
-  rest_known s h = others s.values h where
-    others : (vs : List Value) → KnowsAll known vs → KnowsAll known (rest_of vs s.free).values
+  rest_has s h = others s.values h where
+    others : (vs : List Value) → AllByRecursion Q vs → AllByRecursion Q (rest_of vs s.free).values
     others [] h = tt
     others (v ∷ vs) h = h.1
 
-  pub pushed_known : (v : Value) (s : OperandStack) →
-      Knows known v → KnowsAll known s.values → IfSome (pushed v s) (λ t. KnowsAll known t.values)
+  pub pushed_has : (v : Value) (s : OperandStack) →
+      Q v → AllByRecursion Q s.values → IfSome (pushed v s) (λ t. AllByRecursion Q t.values)
   unfolding pushed
-  pushed_known v s hv hs = room (nat_le (places v) s.free) where
+  pushed_has v s hv hs = room (nat_le (places v) s.free) where
     more : OperandStack
     more = record { free = s.free - places v; values = v ∷ s.values }
 
-    room : (b : Bool) → IfSome (if b then Some more else None) (λ t. KnowsAll known t.values)
+    room : (b : Bool) → IfSome (if b then Some more else None) (λ t. AllByRecursion Q t.values)
     room true = (hv, hs)
     room false = tt
 
-  pub as_kind_known : (k : OperandKind) (o : Option Value) → IfSome o (Knows known) → IfSome (as_kind k o) (Knows known)
+  pub as_kind_has : (k : OperandKind) (o : Option Value) → IfSome o Q → IfSome (as_kind k o) Q
   unfolding of_kind
-  as_kind_known k None h = tt
-  as_kind_known k (Some v) h = kept (is_kind k (kind_of v)) where
-    kept : (b : Bool) → IfSome (if b then Some v else None) (Knows known)
+  as_kind_has k None h = tt
+  as_kind_has k (Some v) h = kept (is_kind k (kind_of v)) where
+    kept : (b : Bool) → IfSome (if b then Some v else None) Q
     kept true = h
     kept false = tt
 
   -- ---- local variables
 
-  got : (locals : List (Option Value)) (at : ℕ) → KnowsLocals locals → KnowsSome known (held (slice_get locals at))
+  got : (locals : List (Option Value)) (at : ℕ) → HoldsOfLocals locals → HoldsOfSome Q (held (slice_get locals at))
   got [] at h = tt
   got (l ∷ ls) zero h = h.0
   got (l ∷ ls) (suc at) h = got ls at h.1
 
-  whole_known : (n : ℕ) (b : Bool) (v : Value) → Knows known v → IfSome (whole n b v) (Knows known)
-  whole_known zero b v h = h
-  whole_known (suc zero) b v h = h
-  whole_known (suc (suc n)) true v h = h
-  whole_known (suc (suc n)) false v h = tt
+  whole_has : (n : ℕ) (b : Bool) (v : Value) → Q v → IfSome (whole n b v) Q
+  whole_has zero b v h = h
+  whole_has (suc zero) b v h = h
+  whole_has (suc (suc n)) true v h = h
+  whole_has (suc (suc n)) false v h = tt
 
-  pub value_known : (locals : List (Option Value)) (at : ℕ) →
-      KnowsLocals locals → IfSome (value_at locals at) (Knows known)
+  pub value_has : (locals : List (Option Value)) (at : ℕ) →
+      HoldsOfLocals locals → IfSome (value_at locals at) Q
   unfolding value_at
-  value_known locals at h =
+  value_has locals at h =
       of (held (slice_get locals at)) (is_empty (slice_get locals (at + 1))) (got locals at h) where
-        of : (o : Option Value) (b : Bool) → KnowsSome known o → IfSome (whole_of o b) (Knows known)
+        of : (o : Option Value) (b : Bool) → HoldsOfSome Q o → IfSome (whole_of o b) Q
         of None b h = tt
-        of (Some v) b h = whole_known (places v) b v h
+        of (Some v) b h = whole_has (places v) b v h
 
-  set_known : (locals : List (Option Value)) (at : ℕ) (o : Option Value) →
-      KnowsLocals locals → KnowsSome known o → KnowsLocals (slice_set locals at o)
-  set_known [] at o h ho = tt
-  set_known (l ∷ ls) zero o h ho = (ho, h.1)
-  set_known (l ∷ ls) (suc at) o h ho = (h.0, set_known ls at o h.1 ho)
+  set_has : (locals : List (Option Value)) (at : ℕ) (o : Option Value) →
+      HoldsOfLocals locals → HoldsOfSome Q o → HoldsOfLocals (slice_set locals at o)
+  set_has [] at o h ho = tt
+  set_has (l ∷ ls) zero o h ho = (ho, h.1)
+  set_has (l ∷ ls) (suc at) o h ho = (h.0, set_has ls at o h.1 ho)
 
-  cleared_known : (n : ℕ) (locals : List (Option Value)) (at : ℕ) →
-      KnowsLocals locals → KnowsLocals (second_cleared n locals at)
-  cleared_known zero locals at h = h
-  cleared_known (suc zero) locals at h = h
-  cleared_known (suc (suc n)) locals at h = set_known locals (at + 1) None h tt
+  cleared_has : (n : ℕ) (locals : List (Option Value)) (at : ℕ) →
+      HoldsOfLocals locals → HoldsOfLocals (second_cleared n locals at)
+  cleared_has zero locals at h = h
+  cleared_has (suc zero) locals at h = h
+  cleared_has (suc (suc n)) locals at h = set_has locals (at + 1) None h tt
 
-  pub stored_known : (locals : List (Option Value)) (at : ℕ) (v : Value) →
-      KnowsLocals locals → Knows known v → IfSome (stored locals at v) KnowsLocals
+  pub stored_has : (locals : List (Option Value)) (at : ℕ) (v : Value) →
+      HoldsOfLocals locals → Q v → IfSome (stored locals at v) HoldsOfLocals
   unfolding stored
-  stored_known locals at v h hv = within (nat_le (at + places v) (length locals)) where
+  stored_has locals at v h hv = within (nat_le (at + places v) (length locals)) where
     after : List (Option Value)
     after = second_cleared (places v) (slice_set locals at (Some v)) at
 
-    within : (b : Bool) → IfSome (if b then Some after else None) KnowsLocals
-    within true = cleared_known (places v) (slice_set locals at (Some v)) at (set_known locals at (Some v) h hv)
+    within : (b : Bool) → IfSome (if b then Some after else None) HoldsOfLocals
+    within true = cleared_has (places v) (slice_set locals at (Some v)) at (set_has locals at (Some v) h hv)
     within false = tt

@@ -7,7 +7,6 @@ use Rattle.vm_state.specs.declared.value.Value.{Value}
 use Rattle.std.specs.List.{AllByRecursion}
 use Rattle.vm_state.specs.Values.{places}
 use Rattle.vm_state.specs.Operands.{OperandStack, pushed, top, top_of, rest, rest_of, dropped, all_pushed}
-use Rattle.semantics.specs.Lawful.{Names, Knows, KnowsAll}
 use Rattle.bytecode.specs.declared.operand.StackOperation.{StackOperation}
 use Rattle.bytecode.specs.declared.operand.StackOperation.TheVariants.{Pop, Pop2, Dup, DupX1, DupX2, Dup2}
 use Rattle.bytecode.specs.declared.operand.StackOperation.TheVariants.{Dup2X1, Dup2X2, Swap}
@@ -152,7 +151,3 @@ module _ (Q : Value → Type 0) where
     rearranged_has Dup2X1 = under_known Two One
     rearranged_has Dup2X2 = under_known Two Two
     rearranged_has Swap = two_known One One put_back put_back_known
-
-pub rearranged_known : (known : Names) (s : OperandStack) → KnowsAll known s.values → (op : StackOperation)
-    → IfSome (rearranged op s) (λ t. KnowsAll known t.values)
-rearranged_known known s hs op = rearranged_has (Knows known) s hs op

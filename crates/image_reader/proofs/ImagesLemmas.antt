@@ -11,7 +11,7 @@ use Rattle.image_format.specs.Images.{AreRegions, region_in}
 use Rattle.image_format.specs.Told.{told_regions}
 use Rattle.image_reader.specs.steps.Held.{AddsStrings, HaveShape, MayHaveShape, HoldsRegions}
 use Rattle.image_reader.proofs.ClassesLemmas.{place_of}
-use Rattle.image_reader.proofs.ProgramsLemmas.{class_count, static_count}
+use Rattle.image_writer.proofs.ProgramsLemmas.{class_count, static_count}
 use Rattle.image_reader.proofs.ToldLemmas.{regions_told}
 use Rattle.image_reader.proofs.WholeLemmas.{regions_whole, regions_small}
 

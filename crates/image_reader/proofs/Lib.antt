@@ -3,5 +3,4 @@ pub mod HeldLemmas
 pub mod ClassesLemmas
 pub mod ToldLemmas
 pub mod WholeLemmas
-pub mod ProgramsLemmas
 pub mod ImagesLemmas

@@ -10,6 +10,7 @@ use Rattle.std.proofs.lemmas.List.{length-replicate}
 use Rattle.std.proofs.lemmas.List.Elements.{All-head, All-tail}
 use Rattle.std.proofs.lemmas.Option.{slice_get_past, slice_get_within}
 use Rattle.std.proofs.lemmas.Slice.Zip.{AllZip-long}
+use Rattle.classfile.specs.Units.{units_text}
 use Rattle.built_in.specs.declared.class_id.ArrayType.{ArrayType}
 use Rattle.built_in.specs.declared.class_id.BuiltIn.{BuiltIn}
 use Rattle.built_in.specs.declared.class_id.BuiltIn.TheVariants as builtins
@@ -25,7 +26,7 @@ use Rattle.vm_state.specs.declared.value.Value.TheVariants as machine
 use Rattle.vm_state.specs.declared.value.Maker.TheVariants.{Class}
 use Rattle.vm_state.specs.SharedState.{Region}
 use Rattle.vm_state.proofs.ListLemmas.{tested}
-use Rattle.semantics.specs.Lawful.{Knows, KnowsAll, KnowsSlots}
+use Rattle.semantics.specs.Lawful.{HoldsOfSlots, Knows, KnowsAll, KnowsSlots}
 use Rattle.semantics.specs.Quiet.{Environment, pool_seen, elements_in}
 use Rattle.program.specs.declared.runtime_constant.FieldKind.{FieldKind}
 use Rattle.program.specs.declared.runtime_constant.FieldKind.TheVariants as kinds
@@ -39,6 +40,7 @@ use Rattle.region_shape.specs.Shapes.{SuitsField, AreElements}
 use Rattle.region_shape.specs.Shapes.{has_objects as has_instances, HasObjects as HasInstances, AreSlots as HaveSlots}
 use Rattle.region_shape.specs.Shapes.{ObjectHasShape as IsShaped, HasShape as RegionIsShaped}
 use Rattle.region_shape.specs.Counts.{count_of as seen_count, is_there, NamesObjects as Names}
+use Rattle.region_shape.specs.Texts.{HasText, HasTexts}
 use Rattle.region_shape.specs.Wholes.{AreWhole}
 use Rattle.object_graph.specs.Images.{AreSmall}
 use Rattle.image_format.specs.declared.object.ImageClass.{ImageClass}
@@ -340,6 +342,42 @@ module _ (P : Tables) where
           by (x ∷ xs) zero low number = held_at x (r.pool.at n) number
           by (x ∷ xs) (suc k) low number = by xs k (omega (arith, low)) number
 
+-- ---- strings
+
+module _ (P : Tables) where
+  -- each string is one of the program's, since its number has units there
+  value_has_text : (t : ImageValue) (v : Value) → HoldsValue P.strings t v → HasText P v
+  value_has_text values.Null v held = rw held tt
+  value_has_text (values.Int n) v held = rw held tt
+  value_has_text (values.Long n) v held = rw held tt
+  value_has_text (values.Text us) v held =
+      rw held.is (slice_get_within P.strings held.number (units_text us) held.spelled)
+  value_has_text (values.Object c n) v held = rw held tt
+  value_has_text values.Out v held = rw held tt
+
+  values_have_texts : (ts : List ImageValue) (vs : List Value) → HoldsValues P.strings ts vs
+      → AllByRecursion (HasText P) vs
+  values_have_texts [] [] held = tt
+  values_have_texts [] (v ∷ vs) held = absurd held
+  values_have_texts (t ∷ ts) [] held = absurd held
+  values_have_texts (t ∷ ts) (v ∷ vs) held = (value_has_text t v held.0, values_have_texts ts vs held.1)
+
+  field_has_text : (t : Option ImageValue) (v : Value) → HoldsField P.strings t v → HasText P v
+  field_has_text None v held = rw held tt
+  field_has_text (Some t) v held = value_has_text t v held
+
+  slots_have_texts : (t : Option ImageObject) (o : Option Object) → HoldsNumber P.strings t o
+      → HoldsOfSlots (HasText P) (option_map (λ (x : Object). x.slots) o)
+  slots_have_texts None o held = rw held tt
+  slots_have_texts (Some t) None held = absurd held
+  slots_have_texts (Some t) (Some o) held = values_have_texts t.slots o.slots held.slots
+
+  region_has_texts : (t : ImageRegion) (r : Region) → HoldsRegion P.strings t r → HasTexts P r
+  region_has_texts t r held = record {
+    statics = λ k. field_has_text (slice_get t.statics k) (r.fields k) (held.fields k);
+    slots = λ n. slots_have_texts (slice_get t.objects n) (r.pool.at n) (held.objects.each n);
+  }
+
 -- ---- all regions
 
 module _ (P : Tables) (told : List (Option ImageRegion)) (env : Environment) (fits : AreRegions P.family told)
@@ -431,6 +469,7 @@ module _ (P : Tables) (told : List (Option ImageRegion)) (env : Environment) (fi
     shape = λ c r here.
         let t = told_of c r here in region_shaped P c t.region r (fits.shapes c t.region t.at) t.held;
     closed = names_known;
+    texts = λ c r here. let t = told_of c r here in region_has_texts P t.region r t.held;
   }
 
   -- ---- sizes

@@ -7,7 +7,8 @@ ghost use Rattle.image_format.specs.Images.{AreRegions, ImageText};
 ghost use Rattle.image_parser.specs.declared.image_fault.ImageFault.{ImageFault as Fault};
 ghost use Rattle.image_parser.specs.declared.image_fault.ImageFault.TheVariants.{Memory};
 ghost use Rattle.image_parser.specs.ImageFaults.{Answers, ImageFails};
-ghost use Rattle.image_reader.specs.Readings.{told_of};
+ghost use Rattle.object_graph.specs.Images.{ImageTables};
+ghost use Rattle.image_writer.specs.ImageTexts.{text_of, told_of};
 
 use crate::held_regions::held_regions;
 use image_parser::{ImageFault, Parsed, parse};
@@ -25,6 +26,10 @@ pub fn read(alloc: Global, bytes: &[u8]) -> Result<Image, ImageFault>
     // Every text of an image is accepted as that image, unless memory runs out.
     ensures only_text { (family : Classes) (regions : List (Option Told)) → ImageText bytes.now family regions
         → MatchResult result (λ image. (image.program.family ≡ family) × (told_of image ≡ regions))
+        (λ x. x ≡ Memory) }
+    // What is written of an image is read back as that image, unless memory runs out.
+    ensures written { (I : ImageTables) → ImageText (text_of I) I.program.family (told_of I) → bytes.now ≡ text_of I
+        → MatchResult result (λ image. (image.program.family ≡ I.program.family) × (told_of image ≡ told_of I))
         (λ x. x ≡ Memory) }
     // What is refused is refused for what is wrong first, or because memory runs out.
     ensures fault { IfErr result (λ x. (x ≡ Memory) ⊎ ImageFails bytes.now x) }

@@ -2,3 +2,7 @@ pub mod AppendsLemmas
 pub mod TextLemmas
 pub mod FilesLemmas
 pub mod SizesLemmas
+pub mod ProgramsLemmas
+pub mod LinksLemmas
+pub mod SuitsLemmas
+pub mod RegionsLemmas

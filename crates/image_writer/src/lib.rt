@@ -2,6 +2,7 @@
 #![tactic(auto)]
 
 mod files;
+mod fitting;
 mod numbers;
 mod objects;
 mod sending;

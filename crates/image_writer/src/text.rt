@@ -7,10 +7,13 @@ ghost use Rattle.classfile.specs.Spelling.{u2, u4};
 ghost use Rattle.classfile.specs.Text.{class_text};
 ghost use Rattle.evaluator.specs.Regions.{environment_of};
 ghost use Rattle.image_format.specs.Texts.{given_text, body_text, file_text};
-ghost use Rattle.image_format.specs.Images.{AreShort};
+ghost use Rattle.loading.specs.Files.{Links};
+ghost use Rattle.image_format.specs.Images.{AreShort, ImageText, files_of};
 ghost use Rattle.image_format.specs.Told.{told_regions};
-ghost use Rattle.image_writer.specs.ImageTexts.{text_of};
+ghost use Rattle.image_writer.specs.ImageTexts.{text_of, told_of};
 
+use crate::files::has_files;
+use crate::fitting::classes_fit;
 use crate::numbers::{push_u16, push_u32};
 use crate::objects::push_marks;
 use classfile::ClassFile;
@@ -71,14 +74,30 @@ fn push_digest(out: &mut Vec<u8>) -> Result<(), AllocError>
     out.extend_from_slice(&digest)
 }
 
+/// The text of an image is one of it.
+fn is_text_of(image: &Image)
+    requires { AreShort image.now.program.family }
+    ensures { Links (files_of image.now.program.family)
+        → ImageText (text_of image.now) image.now.program.family (told_of image.now) }
+{
+    has_files(image.program());
+    classes_fit(image);
+    let _classes = image.program().family().classes();
+    let _region = image.region(0);
+}
+
 /// The text of an image whose class files are shorter than 2^32 bytes.
 ///
 /// # Errors
 /// Where memory runs out.
 pub fn image_text(alloc: Global, image: &Image) -> Result<Vec<u8>, AllocError>
     requires { AreShort image.now.program.family }
-    ensures { IfOk result (λ bytes. bytes.items ≡ text_of image.now) }
+    ensures text { IfOk result (λ bytes. bytes.items ≡ text_of image.now) }
+    // It is the text of an image: that of these class files, which make one program, and of these regions.
+    ensures image { Links (files_of image.now.program.family)
+        → ImageText (text_of image.now) image.now.program.family (told_of image.now) }
 {
+    is_text_of(image);
     let mut out = Vec::new(alloc);
     push_body(alloc, &mut out, image)?;
     push_digest(&mut out)?;

@@ -1,7 +1,8 @@
--- No instruction on arrays makes up a name.
-use Rattle.std.proofs.Common.{◌≡◌, ℕ, ℤ, zero, suc, Bool, true, false, Ok, Err}
+-- What holds of the values that they were given holds of all that the instructions on arrays write and leave.
+use Rattle.std.proofs.Common.{ℕ, ℤ, pos, zero, suc, Bool, true, false, Ok, Err}
 use Rattle.std.proofs.Common.{replicate}
 use Rattle.std.specs.Prelude.{if◌then◌else◌}
+use Rattle.std.specs.List.{AllByRecursion}
 use Rattle.std.specs.Option.{IfSome}
 use Rattle.std.specs.declared.result.Result.{Result}
 use Rattle.bytecode.specs.declared.operand.ElementKind.{ElementKind}
@@ -19,14 +20,15 @@ use Rattle.vm_state.specs.declared.frame.Frame.{Frame}
 use Rattle.vm_state.specs.Operands.{OperandStack, top, top_int, rest}
 use Rattle.vm_state.specs.Values.{int_of, value_of}
 use Rattle.semantics.specs.Rows.{Row, Change}
-use Rattle.semantics.specs.Lawful.{Names, Knows, KnowsAll, KnowsFrame, Fits}
+use Rattle.semantics.specs.Lawful.{HoldsOfFrame, FitsBy}
 use Rattle.semantics.specs.Moves.{advanced, with_operands}
+use Rattle.semantics.proofs.KeptLemmas.{IsKept}
 use Rattle.program.specs.Tables.{Tables}
 use Rattle.frame_instructions.specs.declared.operand_kind.OperandKind.TheVariants.{Reference}
 use Rattle.frame_instructions.specs.declared.trap.Trap.{Trap}
 use Rattle.frame_instructions.specs.declared.trap.Trap.TheVariants as traps
 use Rattle.frame_instructions.specs.OperandKinds.{top_as}
-use Rattle.frame_instructions.proofs.LawsFrameLemmas.{top_known, rest_known, as_kind_known}
+use Rattle.frame_instructions.proofs.LawsFrameLemmas.{top_has, rest_has, as_kind_has}
 use Rattle.machine.specs.declared.array_operation.ArrayOperation.{ArrayOperation}
 use Rattle.machine.specs.declared.array_operation.ArrayOperation.TheVariants as operations
 use Rattle.machine.specs.Arrays.{type_of_primitives, zero_of, stored_as, unless_trapped, array_type}
@@ -35,28 +37,22 @@ use Rattle.machine.specs.Arrays.{load_element, is_checked, if_held, check_store,
 use Rattle.machine.specs.ObjectParts.{slot_in, ask_class_of}
 use Rattle.machine.specs.RowParts.{halts, needing, goes_on, push, raises}
 use Rattle.machine.specs.StoredKinds.{top_stored}
-use Rattle.machine.proofs.StoredKindsLemmas.{stored_knows}
+use Rattle.machine.proofs.StoredKindsLemmas.{stored_kept}
 use Rattle.machine.specs.Linked.{program_of}
-use Rattle.semantics.proofs.FrameMovesLemmas.{name_known}
-use Rattle.machine.proofs.ObjectLawLemmas.{slot_known, on_object_suits, ask_class_suits, push_on_suits}
+use Rattle.machine.proofs.ObjectLawLemmas.{slot_has, on_object_suits, ask_class_suits, push_on_suits}
 use Rattle.machine.proofs.TableLemmas.{needing_any, needing_such}
 
-module _ (known : Names) where
-  filled_known : (n : ℕ) (v : Value) → Knows known v → KnowsAll known (replicate n v)
-  filled_known zero v h = tt
-  filled_known (suc n) v h = (h, filled_known n v h)
+filled_has : (Q : Value → Type 0) (n : ℕ) (v : Value) → Q v → AllByRecursion Q (replicate n v)
+filled_has Q zero v h = tt
+filled_has Q (suc n) v h = (h, filled_has Q n v h)
 
-  zero_known : (kind : PrimitiveKind) → Knows known (zero_of kind)
-  zero_known primitives.Boolean = tt
-  zero_known primitives.Char = tt
-  zero_known primitives.Byte = tt
-  zero_known primitives.Short = tt
-  zero_known primitives.Int = tt
-  zero_known primitives.Long = tt
+zero_has : {N : Name → Type 0} {Q : Value → Type 0} (kept : IsKept N Q) (kind : PrimitiveKind) → Q (zero_of kind)
+zero_has kept primitives.Long = kept.long (pos 0)
+zero_has kept kind = kept.int (pos 0)
 
-module _ (P : Tables) (known : Names) (own : ℕ → Bool) where
+module _ (P : Tables) {N : Name → Type 0} {Q : Value → Type 0} (kept : IsKept N Q) (own : ℕ → Bool) where
   abbrev Suits : Row → Type 0
-  Suits r = Fits (program_of P) known own r
+  Suits r = FitsBy (program_of P) N Q own r
 
   halted : (kind : FaultKind) → Suits (halts kind)
   halted kind = (tt, tt)
@@ -72,11 +68,11 @@ module _ (P : Tables) (known : Names) (own : ℕ → Bool) where
 
   -- ---- elements
 
-  element_suits : (kind : ElementKind) (v : Value) (index : ℤ) (go : Name → ArrayType → ℕ → Row) → Knows known v
-      → ((x : Name) (a : ArrayType) (slot : ℕ) → known x ≡ true → Suits (go x a slot))
+  element_suits : (kind : ElementKind) (v : Value) (index : ℤ) (go : Name → ArrayType → ℕ → Row) → Q v
+      → ((x : Name) (a : ArrayType) (slot : ℕ) → N x → Suits (go x a slot))
       → Suits (at_element kind v index go)
   element_suits kind v index go hv on =
-      on_object_suits P known own v _ hv (λ x hx. (
+      on_object_suits P kept own v _ hv (λ x hx. (
         hx,
         λ class. trapped_suits (served_type kind class) _ (λ a. (
           hx,
@@ -88,85 +84,85 @@ module _ (P : Tables) (known : Names) (own : ℕ → Bool) where
   held_suits true row on = on
   held_suits false row on = raised ArrayStoreException
 
-  check_suits : (a : ArrayType) (v : Value) (row : Row) → Knows known v → Suits row → Suits (check_store P a v row)
+  check_suits : (a : ArrayType) (v : Value) (row : Row) → Q v → Suits row → Suits (check_store P a v row)
   check_suits a v row hv on = by (is_checked v) where
     asked : Row
     asked = ask_class_of v (λ o. needing o (λ class. if_held (can_hold P a class) row))
 
     by : (b : Bool) → Suits (if b then asked else row)
     by true =
-        ask_class_suits P known own v (λ o. needing o (λ class. if_held (can_hold P a class) row)) hv (λ o.
+        ask_class_suits P kept own v (λ o. needing o (λ class. if_held (can_hold P a class) row)) hv (λ o.
         needing_any Suits halted o (λ class. if_held (can_hold P a class) row)
         (λ class is. held_suits (can_hold P a class) row on))
     by false = on
 
   -- ---- a frame's instruction
 
-  module _ (f : Frame) (h : KnowsFrame known f) where
-    on_suits : (s : OperandStack) → KnowsAll known s.values → Suits (goes_on (advanced (with_operands f s)))
+  module _ (f : Frame) (h : HoldsOfFrame Q f) where
+    on_suits : (s : OperandStack) → AllByRecursion Q s.values → Suits (goes_on (advanced (with_operands f s)))
     on_suits s hs = ((hs, h.1), tt)
 
-    push_suits : (s : OperandStack) (v : Value) → KnowsAll known s.values → Knows known v
+    push_suits : (s : OperandStack) (v : Value) → AllByRecursion Q s.values → Q v
         → Suits (push v (with_operands f s))
-    push_suits s v hs hv = push_on_suits P known own f h s hs v hv
+    push_suits s v hs hv = push_on_suits P kept own f h s hs v hv
 
-    one_less : KnowsAll known (rest f.operands).values
-    one_less = rest_known known f.operands h.0
+    one_less : AllByRecursion Q (rest f.operands).values
+    one_less = rest_has Q f.operands h.0
 
-    two_less : KnowsAll known (rest (rest f.operands)).values
-    two_less = rest_known known (rest f.operands) one_less
+    two_less : AllByRecursion Q (rest (rest f.operands)).values
+    two_less = rest_has Q (rest f.operands) one_less
 
-    three_less : KnowsAll known (rest (rest (rest f.operands))).values
-    three_less = rest_known known (rest (rest f.operands)) two_less
+    three_less : AllByRecursion Q (rest (rest (rest f.operands))).values
+    three_less = rest_has Q (rest (rest f.operands)) two_less
 
-    reference_known : (s : OperandStack) → KnowsAll known s.values → IfSome (top_as Reference s) (Knows known)
-    reference_known s hs = as_kind_known known Reference (top s) (top_known known s hs)
+    reference_has : (s : OperandStack) → AllByRecursion Q s.values → IfSome (top_as Reference s) Q
+    reference_has s hs = as_kind_has Q Reference (top s) (top_has Q s hs)
 
-    make_suits : (a : ArrayType) (v : Value) → Knows known v → Suits (make_array a v f)
+    make_suits : (a : ArrayType) (v : Value) → Q v → Suits (make_array a v f)
     make_suits a v hv =
         needing_any Suits halted (top_int f.operands) _ (λ count is.
         trapped_suits (size_of count) _ (λ size. (
-          filled_known known size v hv,
-          λ x hx. push_suits (rest f.operands) (value_of x) one_less (name_known known x hx),
+          filled_has Q size v hv,
+          λ x hx. push_suits (rest f.operands) (value_of x) one_less (kept.reference x hx),
         )))
 
     length_suits : Suits (array_length f)
     length_suits =
-        needing_such Suits halted (Knows known) (top_as Reference f.operands) _ (reference_known f.operands h.0)
-        (λ v hv. on_object_suits P known own v _ hv (λ x hx. (
+        needing_such Suits halted Q (top_as Reference f.operands) _ (reference_has f.operands h.0)
+        (λ v hv. on_object_suits P kept own v _ hv (λ x hx. (
           hx,
           λ class. trapped_suits (array_type class) _ (λ a. (
             hx,
             λ part hp. needing_any Suits halted (int_of (slot_in part 0)) _ (λ n is.
-                push_suits (rest f.operands) (values.Int n) one_less tt),
+                push_suits (rest f.operands) (values.Int n) one_less (kept.int n)),
           )),
         )))
 
     load_suits : (kind : ElementKind) → Suits (load_element kind f)
     load_suits kind =
         needing_any Suits halted (top_int f.operands) _ (λ index is.
-        needing_such Suits halted (Knows known) (top_as Reference (rest f.operands)) _
-        (reference_known (rest f.operands) one_less)
+        needing_such Suits halted Q (top_as Reference (rest f.operands)) _
+        (reference_has (rest f.operands) one_less)
         (λ v hv. element_suits kind v index _ hv (λ x a slot hx. (
           hx,
-          λ part hp. needing_such Suits halted (Knows known) (slot_in part slot) _ (slot_known known part slot hp)
+          λ part hp. needing_such Suits halted Q (slot_in part slot) _ (slot_has Q part slot hp)
               (λ w hw. push_suits (rest (rest f.operands)) w two_less hw),
         ))))
 
     store_suits : (kind : ElementKind) → Suits (store_element P kind f)
     store_suits kind =
-        needing_such Suits halted (Knows known) (top_stored (stored_as kind) f.operands) _
-        (stored_knows known (stored_as kind) f.operands h.0) (λ v hv.
+        needing_such Suits halted Q (top_stored (stored_as kind) f.operands) _
+        (stored_kept kept (stored_as kind) f.operands h.0) (λ v hv.
         needing_any Suits halted (top_int (rest f.operands)) _ (λ index is.
-        needing_such Suits halted (Knows known) (top_as Reference (rest (rest f.operands))) _
-        (reference_known (rest (rest f.operands)) two_less) (λ r hr.
+        needing_such Suits halted Q (top_as Reference (rest (rest f.operands))) _
+        (reference_has (rest (rest f.operands)) two_less) (λ r hr.
         element_suits kind r index _ hr (λ x a slot hx.
         check_suits a v (Change x slot v (goes_on (advanced (with_operands f (rest (rest (rest f.operands))))))) hv
         (hx, hv, on_suits (rest (rest (rest f.operands))) three_less)))))
 
     pub array_suits : (o : ArrayOperation) → Suits (array_row P o f)
-    array_suits (operations.New kind) = make_suits (type_of_primitives kind) (zero_of kind) (zero_known known kind)
-    array_suits (operations.NewOfReferences a) = make_suits a values.Null tt
+    array_suits (operations.New kind) = make_suits (type_of_primitives kind) (zero_of kind) (zero_has kept kind)
+    array_suits (operations.NewOfReferences a) = make_suits a values.Null kept.null
     array_suits operations.Length = length_suits
     array_suits (operations.Load kind) = load_suits kind
     array_suits (operations.Store kind) = store_suits kind

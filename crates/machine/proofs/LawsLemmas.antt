@@ -5,7 +5,8 @@ use Rattle.built_in.specs.declared.class_id.ClassId.{ClassId}
 use Rattle.built_in.specs.declared.class_id.ClassId.TheVariants.{BuiltIn}
 use Rattle.vm_state.specs.declared.frame.Frame.{Frame}
 use Rattle.vm_state.specs.declared.value.Name.{Name}
-use Rattle.semantics.specs.Lawful.{Names, KnowsFrame, Fits, IsPlain, IsLawful}
+use Rattle.semantics.specs.Lawful.{Names, Knows, KnowsFrame, Fits, IsPlain, IsLawful}
+use Rattle.semantics.proofs.KeptLemmas.{names_kept}
 use Rattle.semantics.specs.Rows.{Ends, Raise}
 use Rattle.hierarchy.specs.Subtypes.{is_below}
 use Rattle.program.specs.Tables.{Tables}
@@ -16,7 +17,7 @@ use Rattle.machine.specs.Laws.{AreSound, LinkedTablesAreSound, TableIsLawful}
 use Rattle.machine.proofs.LawsStaticLemmas.{plain_statics, mains_apart}
 use Rattle.machine.proofs.LawsFinalLemmas.{finals_written}
 use Rattle.machine.proofs.LinkedLemmas.{found_class_has, initializer_frame_is}
-use Rattle.machine.proofs.CallLawLemmas.{blank_known}
+use Rattle.machine.proofs.CallLawLemmas.{blank_has}
 use Rattle.machine.proofs.TableLawLemmas.{row_suits}
 
 -- the frame of a class initialization method holds nothing,
@@ -24,7 +25,7 @@ initializer_known : (P : Tables) (known : Names) (c : ℕ) (f : Frame) → initi
     → KnowsFrame known f
 initializer_known P known c f h =
     let frame = initializer_frame_is P c f h in
-    subst (KnowsFrame known) (sym frame.is) (tt, blank_known known frame.code.max_locals)
+    subst (KnowsFrame known) (sym frame.is) (tt, blank_has (Knows known) frame.code.max_locals)
 
 -- and is of its class alone
 initializer_owned : (P : Tables) (c d : ℕ) (f : Frame) →
@@ -53,7 +54,7 @@ failing_plain P x (Some class) = by (is_below P.family class (BuiltIn Error)) wh
 
 lawful_over : (P : Tables) → AreSound P → IsLawful (program_of P)
 lawful_over P sound = record {
-  row = row_suits sound;
+  row = λ known. row_suits sound (names_kept known) (λ d m place s is. tt);
   failing = λ known own c x h. (h, failing_suits P known own x h);
   orphaned = λ known own c. (tt, λ x h. (h, tt));
   plain_failing = λ c x. failing_plain P x;

@@ -1,39 +1,33 @@
--- A value that a field or a caller gets refers to no other object than the operand did.
-use Rattle.std.proofs.Common.{◌≡◌, Option, Some, None, refl, subst, sym}
+-- What holds of operands holds of the value that a field or a caller gets.
+use Rattle.std.proofs.Common.{Option, Some, None}
+use Rattle.std.specs.List.{AllByRecursion}
 use Rattle.std.specs.Option.{IfSome}
 use Rattle.std.specs.Prelude.{option_map}
 use Rattle.vm_state.specs.declared.value.Value.{Value}
 use Rattle.vm_state.specs.declared.value.Value.TheVariants as values
-use Rattle.vm_state.specs.Values.{name_of}
+use Rattle.vm_state.specs.declared.value.Name.{Name}
 use Rattle.vm_state.specs.Operands.{OperandStack, top}
-use Rattle.semantics.specs.Lawful.{Names, Knows, KnowsName, KnowsAll}
+use Rattle.semantics.proofs.KeptLemmas.{IsKept}
 use Rattle.program.specs.declared.runtime_constant.FieldKind.{FieldKind}
-use Rattle.program.specs.Fields.{narrowed_value}
+use Rattle.program.specs.Fields.{narrowed, narrowed_value}
 use Rattle.frame_instructions.specs.declared.operand_kind.OperandKind.{OperandKind}
-use Rattle.frame_instructions.proofs.LawsFrameLemmas.{top_known, as_kind_known}
+use Rattle.frame_instructions.proofs.LawsFrameLemmas.{top_has, as_kind_has}
 use Rattle.machine.specs.StoredKinds.{operand_kind, top_of_kind, top_stored}
 
-narrowed_name : (kind : FieldKind) (v : Value) → name_of (narrowed_value kind v) ≡ name_of v
-narrowed_name kind (values.Int n) = refl
-narrowed_name kind (values.Long n) = refl
-narrowed_name kind values.Null = refl
-narrowed_name kind (values.Text s) = refl
-narrowed_name kind (values.OfClass c n) = refl
-narrowed_name kind (values.OfThread t n) = refl
-narrowed_name kind values.Out = refl
+module _ {N : Name → Type 0} {Q : Value → Type 0} (kept : IsKept N Q) where
+  narrowed_has : (kind : FieldKind) (o : Option Value) → IfSome o Q → IfSome (option_map (narrowed_value kind) o) Q
+  narrowed_has kind None h = tt
+  narrowed_has kind (Some (values.Int n)) h = kept.int (narrowed kind n)
+  narrowed_has kind (Some (values.Long n)) h = h
+  narrowed_has kind (Some values.Null) h = h
+  narrowed_has kind (Some (values.Text s)) h = h
+  narrowed_has kind (Some (values.OfClass c n)) h = h
+  narrowed_has kind (Some (values.OfThread t n)) h = h
+  narrowed_has kind (Some values.Out) h = h
 
-module _ (known : Names) where
-  narrowed_knows : (kind : FieldKind) (o : Option Value) → IfSome o (Knows known)
-      → IfSome (option_map (narrowed_value kind) o) (Knows known)
-  narrowed_knows kind None h = tt
-  narrowed_knows kind (Some v) h = subst (KnowsName known) (sym (narrowed_name kind v)) h
+  of_kind_has : (o : Option OperandKind) (s : OperandStack) → AllByRecursion Q s.values → IfSome (top_of_kind o s) Q
+  of_kind_has None s h = tt
+  of_kind_has (Some kind) s h = as_kind_has Q kind (top s) (top_has Q s h)
 
-  of_kind_knows : (o : Option OperandKind) (s : OperandStack) → KnowsAll known s.values
-      → IfSome (top_of_kind o s) (Knows known)
-  of_kind_knows None s h = tt
-  of_kind_knows (Some kind) s h = as_kind_known known kind (top s) (top_known known s h)
-
-  pub stored_knows : (kind : FieldKind) (s : OperandStack) → KnowsAll known s.values
-      → IfSome (top_stored kind s) (Knows known)
-  stored_knows kind s h =
-      narrowed_knows kind (top_of_kind (operand_kind kind) s) (of_kind_knows (operand_kind kind) s h)
+  pub stored_kept : (kind : FieldKind) (s : OperandStack) → AllByRecursion Q s.values → IfSome (top_stored kind s) Q
+  stored_kept kind s h = narrowed_has kind (top_of_kind (operand_kind kind) s) (of_kind_has (operand_kind kind) s h)

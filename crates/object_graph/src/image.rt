@@ -68,7 +68,8 @@ impl Image {
 }
 
 /// The image of a program and regions of some of its classes. Each region has shape, names such objects alone as these
-/// regions have, and has fewer than 2^32 objects, and no array of 2^31 elements or more.
+/// regions have, and strings of the program alone, and has fewer than 2^32 objects, and no array of 2^31 elements or
+/// more.
 ///
 /// # Errors
 /// None today, as it takes no memory.

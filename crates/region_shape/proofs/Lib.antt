@@ -10,7 +10,10 @@ pub mod OperationLemmas
 pub mod TableRowsLemmas
 pub mod BranchesLemmas
 pub mod QuietShapeLemmas
+pub mod QuietValuesLemmas
 pub mod NamesLemmas
+pub mod ConstantTextsLemmas
+pub mod TextsLemmas
 pub mod SizesLemmas
 pub mod StaticsLemmas
 pub mod SamplesLemmas

@@ -1,150 +1,24 @@
 -- What quiet instructions leave names such objects alone as there are.
-use Rattle.std.proofs.Common.{◌≡◌, ℕ, ◌+◌, ◌<◌, ◌≤◌, ◌==◌, nat_lt, Bool, true, false, cond, inl, inr, List, ◌∷◌}
+use Rattle.std.proofs.Common.{◌≡◌, ℕ, ◌≤◌, ◌==◌, nat_lt, Bool, true, false, cond, List, ◌∷◌}
 use Rattle.std.proofs.Common.{Option, Some, None, refl, sym, ap, ◌∙◌, subst, arith, eqb-true, eq-eqb, option_map}
 use Rattle.std.proofs.lemmas.Bool.{lt-ltb, ltb-true}
-use Rattle.vm_state.specs.declared.value.Value.{Value}
-use Rattle.vm_state.specs.declared.value.Name.{Name}
 use Rattle.vm_state.specs.declared.value.Maker.{Maker}
 use Rattle.vm_state.specs.declared.value.Maker.TheVariants.{Class, Thread}
 use Rattle.vm_state.specs.declared.frame.Frame.{Frame}
-use Rattle.vm_state.specs.SharedState.{Pool, Region, same_maker, with_field, with_slot, with_new, class_at, slots_at}
-use Rattle.vm_state.proofs.ListLemmas.{tested}
-use Rattle.semantics.specs.Rows.{Next, Raise, Halt, Row, Ends, UseClass, ReadStatic}
-use Rattle.semantics.specs.Rows.{WriteStatic, AskClass, LookInto, Change, Make, UseMonitor, Print, part_at}
+use Rattle.vm_state.specs.SharedState.{Pool, Region, slots_at}
 use Rattle.semantics.specs.Programs.{Program}
 use Rattle.semantics.specs.Moves.{moved}
-use Rattle.semantics.specs.Quiet.{Environment, is_final, pool_seen, QuietMove, Leaves, Stops, Refused, Barred}
-use Rattle.semantics.specs.Quiet.{ForeignObject, is_open, elements_in, quiet, quiet_step}
+use Rattle.semantics.specs.Quiet.{Environment, pool_seen, QuietMove, Leaves, quiet_step}
 use Rattle.semantics.specs.Settling.{constant_region, Settles}
 use Rattle.semantics.specs.Alone.{RunsAlone, Over, Step, body}
-use Rattle.semantics.specs.Lawful.{Names, Knows, KnowsMove, Fits, IsLawful}
+use Rattle.semantics.specs.Lawful.{Names, Knows, IsLawful}
 use Rattle.semantics.specs.helpers.Lawful.{KnowsFrames}
 use Rattle.semantics.proofs.ConstantsLemmas.{constants_known, zeros_known}
 use Rattle.semantics.proofs.FrameMovesLemmas.{moved_known}
 use Rattle.semantics.proofs.KnownNamesLemmas.{Fewer, Knows-mono, KnowsSlots-mono, KnowsFrames-mono}
-use Rattle.semantics.proofs.PoolsLemmas.{Holds, with_slot-holds, with_new-holds, part_at-holds}
 use Rattle.semantics.proofs.BigStepsLemmas.{steps_agree_lem}
 use Rattle.region_shape.specs.Counts.{count_of, is_there, NamesObjects, AreClosed}
-use Rattle.region_shape.proofs.BranchesLemmas.{branch, at_hand_some, closed}
-
-module _ (P : Program) (env : Environment) (c : ℕ) where
-  -- c's objects are never fewer
-  grows : (row : Row) (own : Region) (n : ℕ) (m : QuietMove) → quiet P env c own n row ≡ Leaves m
-      → own.pool.count ≤ m.region.pool.count
-  grows (Ends (Next move)) own n m q =
-      let e : record { move = move; region = own; elements = n } ≡ m = cc in
-      subst (λ (x : QuietMove). own.pool.count ≤ x.region.pool.count) e (omega arith)
-  grows (Ends (Raise x class)) own n m q = absurd cc
-  grows (Ends (Halt kind)) own n m q = absurd cc
-  grows (UseClass d next) own n m q = elim (branch (d == c) q) [
-    | inl on ↦ grows (next true) own n m on.1
-    | inr other ↦ grows (next true) own n m (at_hand_some (env d) other.1).2
-  ]
-  grows (ReadStatic d f next) own n m q = elim (branch (d == c) q) [
-    | inl on ↦ grows (next (own.fields f)) own n m on.1
-    | inr other ↦
-        let at = at_hand_some (env d) other.1 in
-        elim (branch (is_final P d f) at.2) [
-          | inl final ↦ grows (next (at.0.fields f)) own n m final.1
-          | inr shut ↦ absurd (let clash : Stops Barred ≡ Leaves m = shut.1 in cc)
-        ]
-  ]
-  grows (WriteStatic d f v next) own n m q = elim (branch (d == c) q) [
-    | inl on ↦ grows next (with_field own f v) n m on.1
-    | inr other ↦ absurd (let clash : Stops Barred ≡ Leaves m = other.1 in cc)
-  ]
-  grows (AskClass x next) own n m q =
-      let at = at_hand_some (pool_seen env c own x.maker) q in grows (next (class_at at.0 x.number)) own n m at.2
-  grows (LookInto x part next) own n m q = elim (branch (same_maker (Class c) x.maker) q) [
-    | inl on ↦ grows (next (part_at part own.pool x.number)) own n m on.1
-    | inr other ↦ elim (branch (is_open part) other.1) [
-      | inl open_part ↦ absurd (let clash : true ≡ false = sym open_part.0 ∙ closed part in cc)
-      | inr shut ↦ absurd (let clash : Stops (Refused ForeignObject) ≡ Leaves m = shut.1 in cc)
-    ]
-  ]
-  grows (Change x i v next) own n m q = elim (branch (same_maker (Class c) x.maker) q) [
-    | inl on ↦ grows next (record own { pool = with_slot own.pool x.number i v }) n m on.1
-    | inr other ↦ absurd (let clash : Stops (Refused ForeignObject) ≡ Leaves m = other.1 in cc)
-  ]
-  grows (Make class slots next) own n m q =
-      let more : own.pool.count + 1 ≤ m.region.pool.count =
-      grows (next (record { maker = Class c; number = own.pool.count }))
-      (record own { pool = with_new own.pool class slots }) (n + elements_in class slots) m q in
-      omega (arith, more)
-  grows (UseMonitor x enter next) own n m q = absurd cc
-  grows (Print text next) own n m q = absurd cc
-
-  -- what is left holds known names alone
-  record IsNamed (known : Names) (m : QuietMove) : Type 0 where
-    statics : (k : ℕ) → Knows known (m.region.fields k)
-    slots : Holds known m.region.pool
-    move : KnowsMove known m.move
-
-  -- where the finals at hand are known, and c's own names below a count
-  module _ (known : Names) (last : ℕ)
-      (finals : (d : ℕ) (r : Region) → env d ≡ Some r → (f : ℕ) → Knows known (r.fields f))
-      (fresh : (k : ℕ) → k < last → known (record { maker = Class c; number = k }) ≡ true) where
-    written : (own : Region) (f : ℕ) (v : Value) → ((k : ℕ) → Knows known (own.fields k)) → Knows known v
-        → (k : ℕ) → Knows known ((with_field own f v).fields k)
-    written own f v h hv k = elim (tested (k == f)) [ inl e ↦ rw e hv | inr e ↦ rw e (h k) ]
-
-    keeps_names : (row : Row) (own : Region) (n : ℕ) (m : QuietMove) → Fits P known (λ d. true) row
-        → ((k : ℕ) → Knows known (own.fields k)) → Holds known own.pool → m.region.pool.count ≤ last
-        → quiet P env c own n row ≡ Leaves m → IsNamed known m
-    keeps_names (Ends (Next move)) own n m fits statics slots few q =
-        let e : record { move = move; region = own; elements = n } ≡ m = cc in
-        subst (IsNamed known) e (record { statics = statics; slots = slots; move = fits.0 })
-    keeps_names (Ends (Raise x class)) own n m fits statics slots few q = absurd cc
-    keeps_names (Ends (Halt kind)) own n m fits statics slots few q = absurd cc
-    keeps_names (UseClass d next) own n m fits statics slots few q = elim (branch (d == c) q) [
-      | inl on ↦ keeps_names (next true) own n m (fits true) statics slots few on.1
-      | inr other ↦ keeps_names (next true) own n m (fits true) statics slots few (at_hand_some (env d) other.1).2
-    ]
-    keeps_names (ReadStatic d f next) own n m fits statics slots few q = elim (branch (d == c) q) [
-      | inl on ↦ keeps_names (next (own.fields f)) own n m (fits (own.fields f) (statics f)) statics slots few on.1
-      | inr other ↦
-          let at = at_hand_some (env d) other.1 in
-          elim (branch (is_final P d f) at.2) [
-            | inl final ↦
-                keeps_names (next (at.0.fields f)) own n m (fits (at.0.fields f) (finals d at.0 at.1 f)) statics slots
-                few final.1
-            | inr shut ↦ absurd (let clash : Stops Barred ≡ Leaves m = shut.1 in cc)
-          ]
-    ]
-    keeps_names (WriteStatic d f v next) own n m fits statics slots few q = elim (branch (d == c) q) [
-      | inl on ↦
-          keeps_names next (with_field own f v) n m fits.2 (written own f v statics fits.0) slots few on.1
-      | inr other ↦ absurd (let clash : Stops Barred ≡ Leaves m = other.1 in cc)
-    ]
-    keeps_names (AskClass x next) own n m fits statics slots few q =
-        let at = at_hand_some (pool_seen env c own x.maker) q in
-        keeps_names (next (class_at at.0 x.number)) own n m (fits.1 (class_at at.0 x.number)) statics slots few at.2
-    keeps_names (LookInto x part next) own n m fits statics slots few q =
-        elim (branch (same_maker (Class c) x.maker) q) [
-          | inl on ↦
-              keeps_names (next (part_at part own.pool x.number)) own n m
-              (fits.1 (part_at part own.pool x.number) (part_at-holds known part own.pool x.number slots)) statics slots
-              few on.1
-          | inr other ↦ elim (branch (is_open part) other.1) [
-            | inl open_part ↦ absurd (let clash : true ≡ false = sym open_part.0 ∙ closed part in cc)
-            | inr shut ↦ absurd (let clash : Stops (Refused ForeignObject) ≡ Leaves m = shut.1 in cc)
-          ]
-        ]
-    keeps_names (Change x i v next) own n m fits statics slots few q = elim (branch (same_maker (Class c) x.maker) q) [
-      | inl on ↦
-          keeps_names next (record own { pool = with_slot own.pool x.number i v }) n m fits.2 statics
-          (with_slot-holds known own.pool x.number i v slots fits.1) few on.1
-      | inr other ↦ absurd (let clash : Stops (Refused ForeignObject) ≡ Leaves m = other.1 in cc)
-    ]
-    keeps_names (Make class slots next) own n m fits statics held few q =
-        let x : Name = record { maker = Class c; number = own.pool.count } in
-        let new : Region = record own { pool = with_new own.pool class slots } in
-        let more : own.pool.count + 1 ≤ m.region.pool.count = grows (next x) new (n + elements_in class slots) m q in
-        keeps_names (next x) new (n + elements_in class slots) m
-        (fits.1 x (fresh own.pool.count (omega (arith, more, few)))) statics
-        (with_new-holds known own.pool class slots held fits.0) few q
-    keeps_names (UseMonitor x enter next) own n m fits statics slots few q = absurd cc
-    keeps_names (Print text next) own n m fits statics slots few q = absurd cc
+use Rattle.region_shape.proofs.QuietValuesLemmas.{grows, keeps_values}
 
 -- ---- which objects there are
 
@@ -214,7 +88,7 @@ module _ (P : Program) (lawful : IsLawful P) (env : Environment) (all : AreClose
         fewer_by env c own m.region (grows P env c (P.row f) own 0 m q) in
         let left = KnowsFrames-mono (is_there env c own) known fewer (f ∷ fs) frames in
         let named =
-        keeps_names P env c known m.region.pool.count
+        keeps_values P env c (λ x. known x ≡ true) (Knows known) (λ n. tt) m.region.pool.count
         (λ d r at k. Knows-mono (is_there env d r) known (named_there env d c r m.region at none) (r.fields k)
         ((all d r at).statics k))
         (λ k small. rw (eq-eqb c c refl) (lt-ltb k m.region.pool.count small))

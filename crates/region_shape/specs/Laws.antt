@@ -11,6 +11,7 @@ use Rattle.program.specs.Tables.{Tables}
 use Rattle.machine.specs.Linked.{program_of}
 use Rattle.region_shape.specs.Shapes.{HasShape}
 use Rattle.region_shape.specs.Sizes.{IsWithin}
+use Rattle.region_shape.specs.Texts.{HasTexts, HaveTexts}
 use Rattle.region_shape.specs.Counts.{NamesObjects, AreClosed}
 
 -- A linked program.
@@ -49,3 +50,11 @@ abbrev pub SettledNameObjects : Type 0
 SettledNameObjects =
     (P : Tables) → IsProgram P → (env : Environment) → AreClosed env → (c n : ℕ) (region : Region) → env c ≡ None
     → Settles (program_of P) env c n region → NamesObjects env c region
+
+-- ---- strings
+
+-- What an initializer leaves has strings of the program alone, where the regions at hand have.
+abbrev pub SettledHaveTexts : Type 0
+SettledHaveTexts =
+    (P : Tables) → IsProgram P → (env : Environment) → HaveTexts P env → (c n : ℕ) (region : Region)
+    → Settles (program_of P) env c n region → HasTexts P region

@@ -1,8 +1,10 @@
 //! The regions that class initialization methods leave have the shape that an image wants, and name objects alone that
-//! there are. Each function here is a law: its contract is what is proved, and calling it does nothing.
+//! there are and strings alone that are the program's. Each function here is a law: its contract is what is proved, and
+//! calling it does nothing.
 #![tactic(auto)]
 
 ghost use Rattle.region_shape.specs.Laws.{SettledHaveShape, SettledAreWithin, SettledNameObjects, IsLinked, IsFromFile};
+ghost use Rattle.region_shape.specs.Laws.{SettledHaveTexts};
 
 use program::Program;
 
@@ -32,4 +34,9 @@ pub fn regions_have_shape()
 /// Each object that such a region names is one of a region at hand or of itself.
 pub fn regions_name_objects()
     ensures { SettledNameObjects }
+{}
+
+/// Each string that such a region names is one of the program's.
+pub fn regions_have_texts()
+    ensures { SettledHaveTexts }
 {}

@@ -18,7 +18,7 @@ use Rattle.semantics.specs.Settling.{onward}
 use Rattle.semantics.specs.Programs.{Program}
 use Rattle.semantics.specs.Lawful.{Names, Knows, KnowsAll, KnowsSome, KnowsFrame, KnowsMove, KnowsOutcome}
 use Rattle.semantics.specs.helpers.Lawful.{KnowsFrames}
-use Rattle.semantics.specs.Lawful.{OwnsFrame, OwnsOutcome}
+use Rattle.semantics.specs.Lawful.{OwnsFrame, OwnsOutcome, HoldsOfSome, HoldsOfFrame, HoldsOfMove}
 use Rattle.semantics.specs.helpers.Lawful.{Owns}
 use Rattle.vm_state.proofs.ListLemmas.{tested}
 use Rattle.semantics.proofs.TestsLemmas.{from_some}
@@ -58,17 +58,44 @@ returned_all Q v keeps (g ∷ fs) gs h e = by_caller (received v g) refl e
     by_caller None is e = cc
     by_caller (Some back) is e = subst (AllByRecursion Q) (from_some e) (keeps g back h.0 is, h.1)
 
+-- ---- values
+
+module _ (Q : Value → Type 0) where
+  pub pushed_has : (v : Value) (s more : OperandStack) → Q v → AllByRecursion Q s.values → pushed v s ≡ Some more
+      → AllByRecursion Q more.values
+  unfolding pushed
+  pushed_has v s more kv k e = elim (tested (nat_le (places v) s.free)) [
+    | inl room ↦ subst (λ (r : OperandStack). AllByRecursion Q r.values) (from_some (rw room at e)) (kv, k)
+    | inr full ↦ (let clash : None ≡ Some more = rw full at e in cc)
+  ]
+
+  pub received_has : (v : Option Value) → HoldsOfSome Q v → (g back : Frame) → HoldsOfFrame Q g
+      → received v g ≡ Some back → HoldsOfFrame Q back
+  received_has None kv g back k e = subst (HoldsOfFrame Q) (from_some e) k
+  received_has (Some v) kv g back k e = by_room (pushed v g.operands) refl e
+    where
+      by_room : (o : Option OperandStack) → pushed v g.operands ≡ o →
+          option_map (λ s. advanced (with_operands g s)) o ≡ Some back → HoldsOfFrame Q back
+      by_room None is e = cc
+      by_room (Some s) is e = subst (HoldsOfFrame Q) (from_some e) (pushed_has v g.operands s kv k.0 is, k.1)
+
+  abbrev HoldsOfAll : List Frame → Type 0
+  HoldsOfAll fs = AllByRecursion (HoldsOfFrame Q) fs
+
+  pub moved_has : (move : Move) (f : Frame) (fs gs : List Frame) → HoldsOfMove Q move
+      → AllByRecursion (HoldsOfFrame Q) (f ∷ fs) → moved move f fs ≡ Some gs → AllByRecursion (HoldsOfFrame Q) gs
+  moved_has (Stays place locals operands) f fs gs km k e = subst HoldsOfAll (from_some e) (km, k.1)
+  moved_has (Becomes g) f fs gs km k e = subst HoldsOfAll (from_some e) (km, k.1)
+  moved_has (Calls operands g) f fs gs km k e = subst HoldsOfAll (from_some e) (km.1, ((km.0, k.0.1), k.1))
+  moved_has (Returns v) f fs gs km k e = returned_all (HoldsOfFrame Q) v (received_has v km) fs gs k.1 e
+
 -- ---- names
 
 module _ (known : Names) where
   pub pushed_known : (v : Value) (s more : OperandStack) → Knows known v → KnowsAll known s.values
       → pushed v s ≡ Some more →
       KnowsAll known more.values
-  unfolding pushed
-  pushed_known v s more kv k e = elim (tested (nat_le (places v) s.free)) [
-    | inl room ↦ subst (λ (r : OperandStack). KnowsAll known r.values) (from_some (rw room at e)) (kv, k)
-    | inr full ↦ (let clash : None ≡ Some more = rw full at e in cc)
-  ]
+  pushed_known v s more kv k e = pushed_has (Knows known) v s more kv k e
 
   -- the value that refers to an object
   pub name_known : (x : Name) → known x ≡ true → Knows known (value_of x)
@@ -81,20 +108,11 @@ module _ (known : Names) where
   pub received_known : (v : Option Value) → KnowsSome known v → (g back : Frame) → KnowsFrame known g
       → received v g ≡ Some back →
       KnowsFrame known back
-  received_known None kv g back k e = subst (KnowsFrame known) (from_some e) k
-  received_known (Some v) kv g back k e = by_room (pushed v g.operands) refl e
-    where
-      by_room : (o : Option OperandStack) → pushed v g.operands ≡ o →
-          option_map (λ s. advanced (with_operands g s)) o ≡ Some back → KnowsFrame known back
-      by_room None is e = cc
-      by_room (Some s) is e = subst (KnowsFrame known) (from_some e) (pushed_known v g.operands s kv k.0 is, k.1)
+  received_known v kv g back k e = received_has (Knows known) v kv g back k e
 
   pub moved_known : (move : Move) (f : Frame) (fs gs : List Frame) → KnowsMove known move → KnowsFrames known (f ∷ fs) →
       moved move f fs ≡ Some gs → KnowsFrames known gs
-  moved_known (Stays place locals operands) f fs gs km k e = subst (KnowsFrames known) (from_some e) (km, k.1)
-  moved_known (Becomes g) f fs gs km k e = subst (KnowsFrames known) (from_some e) (km, k.1)
-  moved_known (Calls operands g) f fs gs km k e = subst (KnowsFrames known) (from_some e) (km.1, ((km.0, k.0.1), k.1))
-  moved_known (Returns v) f fs gs km k e = returned_all (KnowsFrame known) v (received_known v km) fs gs k.1 e
+  moved_known move f fs gs km k e = moved_has (Knows known) move f fs gs km k e
 
   abbrev pub KnowsLeft : Left → Type 0
   KnowsLeft (Stand frames) = KnowsFrames known frames

@@ -1,8 +1,9 @@
 -- What a change of some objects keeps: whose names they hold, and their classes.
-use Rattle.std.proofs.Common.{◌≡◌, ℕ, zero, suc, inl, inr, List, [], ◌∷◌, Option, Some, None, ◌==◌, refl, eqb-true}
+use Rattle.std.proofs.Common.{◌≡◌, ℕ, ℤ, zero, suc, inl, inr, List, [], ◌∷◌, Option, Some, None, ◌==◌, refl, eqb-true}
 use Rattle.std.proofs.Common.{option_map, option_and_then, slice_set}
 use Rattle.std.proofs.Common.{true, ap, length}
 use Rattle.std.proofs.lemmas.List.{length-set}
+use Rattle.std.specs.List.{AllByRecursion}
 use Rattle.vm_state.specs.declared.value.Value.{Value}
 use Rattle.vm_state.specs.declared.value.Value.TheVariants.{Null, Int}
 use Rattle.built_in.specs.declared.class_id.ClassId.{ClassId}
@@ -12,14 +13,13 @@ use Rattle.vm_state.specs.SharedState.{Pool, with_object, with_slot, with_new, o
 use Rattle.semantics.specs.Rows.{Part, Slots, Length, Named, named, int_length, part_of, part_at}
 use Rattle.vm_state.specs.SharedState.{object_with_monitor, with_monitor}
 use Rattle.semantics.specs.Quiet.{is_open}
-use Rattle.semantics.specs.Lawful.{Names, Knows, KnowsAll, KnowsSlots}
+use Rattle.semantics.specs.Lawful.{Names, Knows, KnowsAll, KnowsSlots, HoldsOfSlots}
 use Rattle.vm_state.proofs.ListLemmas.{tested}
 
--- ---- names
+-- ---- what objects hold
 
--- the objects hold known names alone
-abbrev pub Holds : Names → Pool → Type 0
-Holds known p = (n : ℕ) → KnowsSlots known (slots_at p n)
+abbrev pub HoldsOfPool : (Value → Type 0) → Pool → Type 0
+HoldsOfPool Q p = (n : ℕ) → HoldsOfSlots Q (slots_at p n)
 
 abbrev slots_of : Option Object → Option (List Value)
 slots_of o = option_map (λ (x : Object). x.slots) o
@@ -27,45 +27,80 @@ slots_of o = option_map (λ (x : Object). x.slots) o
 abbrev class_of : Option Object → Option ClassId
 class_of o = option_map (λ (x : Object). x.class) o
 
-with_object-holds : (known : Names) (p : Pool) (n : ℕ) (o : Option Object) → Holds known p
-    → KnowsSlots known (slots_of o) →
-    Holds known (with_object p n o)
-with_object-holds known p n o h ho k = elim (tested (k == n)) [
-  | inl e ↦ rw e ho
-  | inr e ↦ rw e (h k)
-]
+module _ (Q : Value → Type 0) where
+  with_object-has : (p : Pool) (n : ℕ) (o : Option Object) → HoldsOfPool Q p → HoldsOfSlots Q (slots_of o)
+      → HoldsOfPool Q (with_object p n o)
+  with_object-has p n o h ho k = elim (tested (k == n)) [
+    | inl e ↦ rw e ho
+    | inr e ↦ rw e (h k)
+  ]
 
-set-knows : (known : Names) (vs : List Value) (i : ℕ) (v : Value) → KnowsAll known vs → Knows known v
-    → KnowsAll known (slice_set vs i v)
-set-knows known [] i v h kv = tt
-set-knows known (u ∷ us) zero v h kv = (kv, h.1)
-set-knows known (u ∷ us) (suc i) v h kv = (h.0, set-knows known us i v h.1 kv)
+  set-has : (vs : List Value) (i : ℕ) (v : Value) → AllByRecursion Q vs → Q v → AllByRecursion Q (slice_set vs i v)
+  set-has [] i v h kv = tt
+  set-has (u ∷ us) zero v h kv = (kv, h.1)
+  set-has (u ∷ us) (suc i) v h kv = (h.0, set-has us i v h.1 kv)
+
+  pub with_slot-has : (p : Pool) (n i : ℕ) (v : Value) → HoldsOfPool Q p → Q v → HoldsOfPool Q (with_slot p n i v)
+  with_slot-has p n i v h kv = with_object-has p n _ h (slots (p.at n) (h n))
+    where
+      slots : (o : Option Object) → HoldsOfSlots Q (slots_of o)
+          → HoldsOfSlots Q (slots_of (option_map (object_with_slot i v) o))
+      slots None k = tt
+      slots (Some o) k = set-has o.slots i v k kv
+
+  with_monitor-has : (p : Pool) (n : ℕ) (m : Monitor) → HoldsOfPool Q p → HoldsOfPool Q (with_monitor p n m)
+  with_monitor-has p n m h = with_object-has p n _ h (slots (p.at n) (h n))
+    where
+      slots : (o : Option Object) → HoldsOfSlots Q (slots_of o)
+          → HoldsOfSlots Q (slots_of (option_map (object_with_monitor m) o))
+      slots None k = tt
+      slots (Some o) k = k
+
+  pub with_new-has : (p : Pool) (class : ClassId) (slots : List Value) → HoldsOfPool Q p → AllByRecursion Q slots
+      → HoldsOfPool Q (with_new p class slots)
+  with_new-has p class slots h ks n = elim (tested (n == p.count)) [
+    | inl e ↦ rw e ks
+    | inr e ↦ rw e (h n)
+  ]
+
+  -- a length is an int
+  module _ (ints : (n : ℤ) → Q (Int n)) where
+    named-has : (name ordinal : Value) → Q name → Q ordinal → HoldsOfSlots Q (named name ordinal)
+    named-has Null ordinal k h = tt
+    named-has name ordinal k h = (k, (h, tt))
+
+    part_of-has : (part : Part) (vs : List Value) → AllByRecursion Q vs → HoldsOfSlots Q (part_of part vs)
+    part_of-has Slots vs k = k
+    part_of-has Length vs k = (ints (int_length (length vs)), tt)
+    part_of-has Named [] k = tt
+    part_of-has Named (v ∷ []) k = tt
+    part_of-has Named (name ∷ ordinal ∷ vs) k = named-has name ordinal k.0 k.1.0
+
+    pub part_at-has : (part : Part) (p : Pool) (n : ℕ) → HoldsOfPool Q p → HoldsOfSlots Q (part_at part p n)
+    part_at-has part p n h = by_slots (slots_at p n) (h n)
+      where
+        by_slots : (o : Option (List Value)) → HoldsOfSlots Q o → HoldsOfSlots Q (option_and_then (part_of part) o)
+        by_slots None k = tt
+        by_slots (Some vs) k = part_of-has part vs k
+
+-- ---- names
+
+-- the objects hold known names alone
+abbrev pub Holds : Names → Pool → Type 0
+Holds known p = HoldsOfPool (Knows known) p
 
 pub with_slot-holds : (known : Names) (p : Pool) (n i : ℕ) (v : Value) → Holds known p → Knows known v
     → Holds known (with_slot p n i v)
-with_slot-holds known p n i v h kv = with_object-holds known p n _ h (slots (p.at n) (h n))
-  where
-    slots : (o : Option Object) → KnowsSlots known (slots_of o)
-        → KnowsSlots known (slots_of (option_map (object_with_slot i v) o))
-    slots None k = tt
-    slots (Some o) k = set-knows known o.slots i v k kv
+with_slot-holds known p n i v h kv = with_slot-has (Knows known) p n i v h kv
 
 pub with_monitor-holds : (known : Names) (p : Pool) (n : ℕ) (m : Monitor) → Holds known p
     → Holds known (with_monitor p n m)
-with_monitor-holds known p n m h = with_object-holds known p n _ h (slots (p.at n) (h n))
-  where
-    slots : (o : Option Object) → KnowsSlots known (slots_of o)
-        → KnowsSlots known (slots_of (option_map (object_with_monitor m) o))
-    slots None k = tt
-    slots (Some o) k = k
+with_monitor-holds known p n m h = with_monitor-has (Knows known) p n m h
 
 pub with_new-holds : (known : Names) (p : Pool) (class : ClassId) (slots : List Value) → Holds known p
     → KnowsAll known slots →
     Holds known (with_new p class slots)
-with_new-holds known p class slots h ks n = elim (tested (n == p.count)) [
-  | inl e ↦ rw e ks
-  | inr e ↦ rw e (h n)
-]
+with_new-holds known p class slots h ks = with_new-has (Knows known) p class slots h ks
 
 -- ---- what never changes of an object: its class, and how many slots it has
 
@@ -120,25 +155,9 @@ shape-part Length p q n open_part same = by_objects (p.at n) (q.at n) same
 
 -- ---- parts of objects
 
-named-known : (known : Names) (name ordinal : Value) → Knows known name → Knows known ordinal
-    → KnowsSlots known (named name ordinal)
-named-known known Null ordinal k h = tt
-named-known known name ordinal k h = (k, (h, tt))
-
-part_of-known : (known : Names) (part : Part) (vs : List Value) → KnowsAll known vs → KnowsSlots known (part_of part vs)
-part_of-known known Slots vs k = k
-part_of-known known Length vs k = (tt, tt)
-part_of-known known Named [] k = tt
-part_of-known known Named (v ∷ []) k = tt
-part_of-known known Named (name ∷ ordinal ∷ vs) k = named-known known name ordinal k.0 k.1.0
-
 pub part_at-holds : (known : Names) (part : Part) (p : Pool) (n : ℕ) → Holds known p
     → KnowsSlots known (part_at part p n)
-part_at-holds known part p n h = by_slots (slots_at p n) (h n)
-  where
-    by_slots : (o : Option (List Value)) → KnowsSlots known o → KnowsSlots known (option_and_then (part_of part) o)
-    by_slots None k = tt
-    by_slots (Some vs) k = part_of-known known part vs k
+part_at-holds known part p n h = part_at-has (Knows known) (λ n. tt) part p n h
 
 -- an open part holds no names
 pub open-known : (known : Names) (part : Part) (p : Pool) (n : ℕ) → is_open part ≡ true

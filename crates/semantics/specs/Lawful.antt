@@ -15,11 +15,38 @@ use Rattle.semantics.specs.Rows.{Make, UseMonitor, Print}
 use Rattle.semantics.specs.Programs.{Program}
 use Rattle.semantics.specs.Quiet.{is_final}
 
+-- ---- what holds of names and of values
+
+-- it holds of a value, if there is one
+abbrev pub HoldsOfSome : (Value → Type 0) → Option Value → Type 0
+HoldsOfSome Q None = Unit {0}
+HoldsOfSome Q (Some v) = Q v
+
+abbrev pub HoldsOfSlots : (Value → Type 0) → Option (List Value) → Type 0
+HoldsOfSlots Q None = Unit {0}
+HoldsOfSlots Q (Some vs) = AllByRecursion Q vs
+
+-- it holds of each operand and local variable
+abbrev pub HoldsOfFrame : (Value → Type 0) → Frame → Type 0
+HoldsOfFrame Q f = AllByRecursion Q f.operands.values × AllByRecursion (HoldsOfSome Q) f.locals
+
+abbrev pub HoldsOfMove : (Value → Type 0) → Move → Type 0
+HoldsOfMove Q (Stays place locals operands) =
+    AllByRecursion Q operands.values × AllByRecursion (HoldsOfSome Q) locals
+HoldsOfMove Q (Becomes frame) = HoldsOfFrame Q frame
+HoldsOfMove Q (Calls operands callee) = AllByRecursion Q operands.values × HoldsOfFrame Q callee
+HoldsOfMove Q (Returns value) = HoldsOfSome Q value
+
+abbrev pub HoldsOfOutcome : (Name → Type 0) → (Value → Type 0) → Outcome → Type 0
+HoldsOfOutcome N Q (Next move) = HoldsOfMove Q move
+HoldsOfOutcome N Q (Raise x class) = N x
+HoldsOfOutcome N Q (Halt kind) = Unit {0}
+
+-- ---- the names that are given to a row
+
 -- A test of names: those that are known somewhere.
 abbrev pub Names : Type 0
 Names = Name → Bool
-
--- ---- the names that are given to a row
 
 abbrev pub KnowsName : Names → Option Name → Type 0
 KnowsName known None = Unit {0}
@@ -32,26 +59,19 @@ abbrev pub KnowsAll : Names → List Value → Type 0
 KnowsAll known vs = AllByRecursion (Knows known) vs
 
 abbrev pub KnowsSome : Names → Option Value → Type 0
-KnowsSome known None = Unit {0}
-KnowsSome known (Some v) = Knows known v
+KnowsSome known o = HoldsOfSome (Knows known) o
 
 abbrev pub KnowsSlots : Names → Option (List Value) → Type 0
-KnowsSlots known None = Unit {0}
-KnowsSlots known (Some vs) = KnowsAll known vs
+KnowsSlots known o = HoldsOfSlots (Knows known) o
 
 abbrev pub KnowsFrame : Names → Frame → Type 0
-KnowsFrame known f = KnowsAll known f.operands.values × AllByRecursion (KnowsSome known) f.locals
+KnowsFrame known f = HoldsOfFrame (Knows known) f
 
 abbrev pub KnowsMove : Names → Move → Type 0
-KnowsMove known (Stays place locals operands) = KnowsAll known operands.values × AllByRecursion (KnowsSome known) locals
-KnowsMove known (Becomes frame) = KnowsFrame known frame
-KnowsMove known (Calls operands callee) = KnowsAll known operands.values × KnowsFrame known callee
-KnowsMove known (Returns value) = KnowsSome known value
+KnowsMove known move = HoldsOfMove (Knows known) move
 
 abbrev pub KnowsOutcome : Names → Outcome → Type 0
-KnowsOutcome known (Next move) = KnowsMove known move
-KnowsOutcome known (Raise x class) = known x ≡ true
-KnowsOutcome known (Halt kind) = Unit {0}
+KnowsOutcome known outcome = HoldsOfOutcome (λ x. known x ≡ true) (Knows known) outcome
 
 -- ---- finals, and the frames of initializers
 
@@ -69,22 +89,26 @@ OwnsOutcome P own (Halt kind) = Unit {0}
 
 -- ---- what a row may do
 
--- A row asks for names alone that it was given, and writes and leaves only such. It writes a static final of a class
--- alone that `own` has (JVMS 6.5, putstatic), and makes no frame of another's initializer (JVMS 2.9).
+-- Where N holds of the names and Q of the values that it is given, a row asks for such names alone, and writes and
+-- leaves only such. It writes a static final of a class alone that `own` has (JVMS 6.5, putstatic), and makes no frame of
+-- another's initializer (JVMS 2.9).
+abbrev pub FitsBy : Program → (Name → Type 0) → (Value → Type 0) → (ℕ → Bool) → Row → Type 0
+FitsBy P N Q own (Ends outcome) = HoldsOfOutcome N Q outcome × OwnsOutcome P own outcome
+FitsBy P N Q own (UseClass c next) = (b : Bool) → FitsBy P N Q own (next b)
+FitsBy P N Q own (ReadStatic c f next) = (v : Value) → Q v → FitsBy P N Q own (next v)
+FitsBy P N Q own (WriteStatic c f v next) = Q v × (is_final P c f ≡ true → own c ≡ true) × FitsBy P N Q own next
+FitsBy P N Q own (AskClass x next) = N x × ((o : Option ClassId) → FitsBy P N Q own (next o))
+FitsBy P N Q own (LookInto x part next) =
+    N x × ((o : Option (List Value)) → HoldsOfSlots Q o → FitsBy P N Q own (next o))
+FitsBy P N Q own (Change x i v next) = N x × Q v × FitsBy P N Q own next
+FitsBy P N Q own (Make class slots next) =
+    AllByRecursion Q slots × ((x : Name) → N x → FitsBy P N Q own (next x))
+FitsBy P N Q own (UseMonitor x enter next) = N x × ((b : Bool) → FitsBy P N Q own (next b))
+FitsBy P N Q own (Print text next) = FitsBy P N Q own next
+
+-- the same of known names
 abbrev pub Fits : Program → Names → (ℕ → Bool) → Row → Type 0
-Fits P known own (Ends outcome) = KnowsOutcome known outcome × OwnsOutcome P own outcome
-Fits P known own (UseClass c next) = (b : Bool) → Fits P known own (next b)
-Fits P known own (ReadStatic c f next) = (v : Value) → Knows known v → Fits P known own (next v)
-Fits P known own (WriteStatic c f v next) =
-    Knows known v × (is_final P c f ≡ true → own c ≡ true) × Fits P known own next
-Fits P known own (AskClass x next) = (known x ≡ true) × ((o : Option ClassId) → Fits P known own (next o))
-Fits P known own (LookInto x part next) =
-    (known x ≡ true) × ((o : Option (List Value)) → KnowsSlots known o → Fits P known own (next o))
-Fits P known own (Change x i v next) = (known x ≡ true) × Knows known v × Fits P known own next
-Fits P known own (Make class slots next) =
-    KnowsAll known slots × ((x : Name) → known x ≡ true → Fits P known own (next x))
-Fits P known own (UseMonitor x enter next) = (known x ≡ true) × ((b : Bool) → Fits P known own (next b))
-Fits P known own (Print text next) = Fits P known own next
+Fits P known own row = FitsBy P (λ x. known x ≡ true) (Knows known) own row
 
 -- ---- other forms of rows
 

@@ -7,9 +7,11 @@ use Rattle.program.specs.Tables.{Tables}
 use Rattle.region_shape.specs.Counts.{AreClosed}
 use Rattle.region_shape.specs.Laws.{IsLinked, IsFromFile, HaveShape}
 use Rattle.region_shape.specs.Sizes.{IsWithin}
+use Rattle.region_shape.specs.Texts.{HaveTexts}
 use Rattle.region_shape.specs.Wholes.{AreWhole}
 use Rattle.region_shape.proofs.LawsLemmas.{settled_have_shape_lem, settled_are_within_lem, settled_name_objects_lem}
 use Rattle.region_shape.proofs.NamesLemmas.{names_wider}
+use Rattle.region_shape.proofs.TextsLemmas.{settled_have_texts_lem}
 use Rattle.wave_scheduler.specs.Settled.{Wave, Settled, HasWave, region_in, below}
 use Rattle.wave_scheduler.specs.Settled.{LeavesRegion, AreSettled}
 use Rattle.wave_scheduler.specs.Wholes.{SettledAreWhole, SettledAreSmall}
@@ -55,6 +57,14 @@ module _ (P : Tables) (forced : List Bool) (budget : ℕ) (S : Settled) (linked 
       (settled_name_objects_lem P linked.program (below S k) (closed_below limit k (omega arith)) d cost r
       (not_yet d k at) settles)
 
+  texts_below : (limit n : ℕ) → n ≤ limit → HaveTexts P (below S n)
+  texts_below zero n small d r is =
+      absurd (let (k, at, less, has) = from_below S n d r is in omega arith)
+  texts_below (suc limit) n small d r is =
+      let (k, at, less, has) = from_below S n d r is in
+      let (cost, settles, within) = leaves d k r at has in
+      settled_have_texts_lem P linked.program (below S k) (texts_below limit k (omega arith)) d cost r settles
+
   all_there : (n d : ℕ) (r : Region) → below S n d ≡ Some r → region_in S d ≡ Some r
   all_there n d r is = (let (m, at, less, has) = from_below S n d r is in has)
 
@@ -69,6 +79,7 @@ module _ (P : Tables) (forced : List Bool) (budget : ℕ) (S : Settled) (linked 
         let (n, is) = in_wave d r has in
         names_wider (below S n) (region_in S) d r (λ e q here. all_there n e q here)
         (closed_below n n (omega arith) d r is);
+    texts = λ d r has. let (n, is) = in_wave d r has in texts_below n n (omega arith) d r is;
   }
 
   small : (c : ℕ) (r : Region) → region_in S c ≡ Some r → IsWithin budget r

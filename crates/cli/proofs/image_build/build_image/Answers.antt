@@ -1,4 +1,8 @@
-use Rattle.std.proofs.Common.{lit<}
+use Rattle.std.proofs.Common.{ℕ, List, lit<, map, subst, sym}
+use Rattle.image_format.specs.Images.{ImageText}
+use Rattle.image_writer.specs.ImageTexts.{told_of}
+use Rattle.image_writer.proofs.LinksLemmas.{family_links}
+use Rattle.wave_scheduler.specs.Outcomes.{outcome_of}
 use Rattle.cli.specs.Runs.{texts_of}
 use Rattle.cli.proofs.ImageBuildLemmas.{are_short}
 use Rattle.cli.proofs.image_build.build_image.Goals as goal
@@ -7,3 +11,21 @@ pub image_bytes-requires : goal.image_bytes-requires
 image_bytes-requires c =
     are_short (texts_of c.args.files.now) 4294967295 c.in-Ok.built.image.program (lit< tt) c.requires
     c.in-Ok.ensures.program
+
+pub returns-in-Ok-image_bytes-clause-image : goal.returns-in-Ok-image_bytes-clause-image
+returns-in-Ok-image_bytes-clause-image c =
+    let built = c.in-Ok.built in
+    let of = c.in-Ok.ensures.program in
+    let text = c.image_bytes.ensures.image (family_links of.files built.image.program.family of.links of.family) in
+    record {
+      image = built.image;
+      of = record {
+        program = of;
+        outcomes = map outcome_of built.verdicts;
+        built = c.in-Ok.ensures.built;
+        shows = c.in-Ok.ensures.shows;
+      };
+      text =
+          subst (λ (bytes : List ℕ). ImageText bytes built.image.program.family (told_of built.image))
+          (sym c.in-Ok-image_bytes.ensures.text) text;
+    }

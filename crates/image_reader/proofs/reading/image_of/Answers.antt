@@ -1,7 +1,7 @@
 use Rattle.std.proofs.Common.{◌∙◌, sym}
 use Rattle.evaluator.specs.Regions.{environment_of}
 use Rattle.image_reader.proofs.ImagesLemmas.{shaped, whole, small, told_again}
-use Rattle.image_reader.proofs.ProgramsLemmas.{class_count}
+use Rattle.image_writer.proofs.ProgramsLemmas.{class_count}
 use Rattle.image_reader.proofs.reading.image_of.Goals as goal
 
 pub held_regions-requires-clause-count : goal.held_regions-requires-clause-count

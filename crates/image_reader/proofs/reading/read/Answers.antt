@@ -1,10 +1,19 @@
-use Rattle.std.proofs.Common.{◌∙◌, inl, inr}
+use Rattle.std.proofs.Common.{◌∙◌, ℕ, List, inl, inr, subst, sym}
+use Rattle.image_format.specs.Images.{ImageText}
+use Rattle.image_writer.specs.ImageTexts.{told_of}
 use Rattle.image_reader.proofs.reading.read.Goals as goal
 
 pub returns-in-Ok-image_of-clause-only_text : goal.returns-in-Ok-image_of-clause-only_text
 returns-in-Ok-image_of-clause-only_text c family regions text =
     let same = c.in-Ok.ensures.only_text family regions text in
     (c.in-Ok-image_of.ensures.family ∙ same.0, c.in-Ok-image_of.ensures.told ∙ same.1)
+
+pub returns-in-Ok-image_of-clause-written : goal.returns-in-Ok-image_of-clause-written
+returns-in-Ok-image_of-clause-written c I text same =
+    let read : ImageText c.args.bytes.now I.program.family (told_of I) =
+    subst (λ (bytes : List ℕ). ImageText bytes I.program.family (told_of I)) (sym same) text in
+    let told = c.in-Ok.ensures.only_text I.program.family (told_of I) read in
+    (c.in-Ok-image_of.ensures.family ∙ told.0, c.in-Ok-image_of.ensures.told ∙ told.1)
 
 pub returns-in-Ok-image_of-clause-only_fault : goal.returns-in-Ok-image_of-clause-only_fault
 returns-in-Ok-image_of-clause-only_fault c x fails =

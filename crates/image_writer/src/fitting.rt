@@ -1,0 +1,80 @@
+//! Numbers in an image fit their types: what the types of its values say, which the definition of regions leaves out.
+//! The first two functions do nothing; the others go over what there is.
+
+ghost use Rattle.std.specs.Prelude.{◌≡◌, ℕ, ◌<◌, Some, length};
+ghost use Rattle.std.specs.List.{All};
+ghost use Rattle.vm_state.specs.declared.object.Object.{Object as Held};
+ghost use Rattle.vm_state.specs.Pools.{pool_by};
+ghost use Rattle.vm_state.specs.Statics.{field_in};
+ghost use Rattle.evaluator.specs.Regions.{environment_of};
+ghost use Rattle.image_writer.specs.steps.Fits.{ClassFits, FitsType};
+
+use object_graph::Image;
+use vm_state::classes::Fields;
+use vm_state::heap::Row;
+use vm_state::value::Value;
+
+/// A value's number fits.
+#[inline(always)]
+fn value_fits(_value: Value)
+    ensures { FitsType _value }
+{}
+
+/// So do those of these values.
+#[inline(always)]
+fn values_fit(values: &[Value])
+    ensures { All FitsType values.now }
+{
+    for value in values {
+        value_fits(*value);
+    }
+}
+
+/// Those of the first so many static fields.
+fn fields_fit(fields: &Fields, count: u32)
+    ensures { (k : ℕ) → k < count → FitsType (field_in fields.now k) }
+{
+    for field in 0..count {
+        value_fits(fields.get(field));
+    }
+}
+
+/// Those in the object of a number, if it is held.
+fn object_fits(objects: &Row, number: u32)
+    ensures { (object : Held) → (pool_by objects.now).at number ≡ Some object → All FitsType object.slots }
+{
+    if let Some(object) = objects.object(u64::from(number)) {
+        values_fit(object.slots.as_slice());
+    }
+}
+
+/// Those in the objects below a number.
+fn objects_fit(objects: &Row, count: u32)
+    ensures { (n : ℕ) (object : Held) → n < count → (pool_by objects.now).at n ≡ Some object
+        → All FitsType object.slots }
+{
+    for number in 0..count {
+        object_fits(objects, number);
+    }
+}
+
+/// Those in the region of a class, if it is initialized.
+fn class_fits(image: &Image, class: u32)
+    ensures { ClassFits image.now.program (environment_of image.now.regions) class }
+{
+    if let Some(region) = image.region(class) {
+        fields_fit(&region.fields, image.static_count(class));
+        objects_fit(&region.objects, image.object_count(class));
+    }
+}
+
+/// Those in the regions of all classes.
+pub(crate) fn classes_fit(image: &Image)
+    ensures { (c : ℕ) → c < length image.now.program.family
+        → ClassFits image.now.program (environment_of image.now.regions) c }
+{
+    let classes = image.program().family().classes();
+    for class in 0..classes.len() as u32 {
+        class_fits(image, class);
+    }
+}

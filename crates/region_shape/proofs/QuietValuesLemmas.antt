@@ -1,0 +1,137 @@
+-- What quiet instructions leave: c's objects are never fewer, and what holds of the values that they are given holds of
+-- those that they leave.
+use Rattle.std.proofs.Common.{◌≡◌, ℕ, ℤ, ◌+◌, ◌<◌, ◌≤◌, ◌==◌, true, false, inl, inr, Some, sym, ◌∙◌}
+use Rattle.std.proofs.Common.{subst, arith}
+use Rattle.vm_state.specs.declared.value.Value.{Value}
+use Rattle.vm_state.specs.declared.value.Value.TheVariants.{Int}
+use Rattle.vm_state.specs.declared.value.Name.{Name}
+use Rattle.vm_state.specs.declared.value.Maker.TheVariants.{Class}
+use Rattle.vm_state.specs.SharedState.{Region, same_maker, with_field, with_slot, with_new, class_at}
+use Rattle.vm_state.proofs.ListLemmas.{tested}
+use Rattle.semantics.specs.Rows.{Next, Raise, Halt, Row, Ends, UseClass, ReadStatic}
+use Rattle.semantics.specs.Rows.{WriteStatic, AskClass, LookInto, Change, Make, UseMonitor, Print, part_at}
+use Rattle.semantics.specs.Programs.{Program}
+use Rattle.semantics.specs.Quiet.{Environment, is_final, pool_seen, QuietMove, Leaves, Stops, Refused, Barred}
+use Rattle.semantics.specs.Quiet.{ForeignObject, is_open, elements_in, quiet}
+use Rattle.semantics.specs.Lawful.{HoldsOfMove, FitsBy}
+use Rattle.semantics.proofs.PoolsLemmas.{HoldsOfPool, with_slot-has, with_new-has, part_at-has}
+use Rattle.region_shape.proofs.BranchesLemmas.{branch, at_hand_some, closed}
+
+module _ (P : Program) (env : Environment) (c : ℕ) where
+  -- c's objects are never fewer
+  pub grows : (row : Row) (own : Region) (n : ℕ) (m : QuietMove) → quiet P env c own n row ≡ Leaves m
+      → own.pool.count ≤ m.region.pool.count
+  grows (Ends (Next move)) own n m q =
+      let e : record { move = move; region = own; elements = n } ≡ m = cc in
+      subst (λ (x : QuietMove). own.pool.count ≤ x.region.pool.count) e (omega arith)
+  grows (Ends (Raise x class)) own n m q = absurd cc
+  grows (Ends (Halt kind)) own n m q = absurd cc
+  grows (UseClass d next) own n m q = elim (branch (d == c) q) [
+    | inl on ↦ grows (next true) own n m on.1
+    | inr other ↦ grows (next true) own n m (at_hand_some (env d) other.1).2
+  ]
+  grows (ReadStatic d f next) own n m q = elim (branch (d == c) q) [
+    | inl on ↦ grows (next (own.fields f)) own n m on.1
+    | inr other ↦
+        let at = at_hand_some (env d) other.1 in
+        elim (branch (is_final P d f) at.2) [
+          | inl final ↦ grows (next (at.0.fields f)) own n m final.1
+          | inr shut ↦ absurd (let clash : Stops Barred ≡ Leaves m = shut.1 in cc)
+        ]
+  ]
+  grows (WriteStatic d f v next) own n m q = elim (branch (d == c) q) [
+    | inl on ↦ grows next (with_field own f v) n m on.1
+    | inr other ↦ absurd (let clash : Stops Barred ≡ Leaves m = other.1 in cc)
+  ]
+  grows (AskClass x next) own n m q =
+      let at = at_hand_some (pool_seen env c own x.maker) q in grows (next (class_at at.0 x.number)) own n m at.2
+  grows (LookInto x part next) own n m q = elim (branch (same_maker (Class c) x.maker) q) [
+    | inl on ↦ grows (next (part_at part own.pool x.number)) own n m on.1
+    | inr other ↦ elim (branch (is_open part) other.1) [
+      | inl open_part ↦ absurd (let clash : true ≡ false = sym open_part.0 ∙ closed part in cc)
+      | inr shut ↦ absurd (let clash : Stops (Refused ForeignObject) ≡ Leaves m = shut.1 in cc)
+    ]
+  ]
+  grows (Change x i v next) own n m q = elim (branch (same_maker (Class c) x.maker) q) [
+    | inl on ↦ grows next (record own { pool = with_slot own.pool x.number i v }) n m on.1
+    | inr other ↦ absurd (let clash : Stops (Refused ForeignObject) ≡ Leaves m = other.1 in cc)
+  ]
+  grows (Make class slots next) own n m q =
+      let more : own.pool.count + 1 ≤ m.region.pool.count =
+      grows (next (record { maker = Class c; number = own.pool.count }))
+      (record own { pool = with_new own.pool class slots }) (n + elements_in class slots) m q in
+      omega (arith, more)
+  grows (UseMonitor x enter next) own n m q = absurd cc
+  grows (Print text next) own n m q = absurd cc
+
+  -- it holds of all values that are left
+  pub record HoldsAfter (Q : Value → Type 0) (m : QuietMove) : Type 0 where
+    pub statics : (k : ℕ) → Q (m.region.fields k)
+    pub slots : HoldsOfPool Q m.region.pool
+    pub move : HoldsOfMove Q m.move
+
+  -- where it holds of ints, of the finals at hand, and of c's own names below a count
+  module _ (N : Name → Type 0) (Q : Value → Type 0) (ints : (n : ℤ) → Q (Int n)) (last : ℕ)
+      (finals : (d : ℕ) (r : Region) → env d ≡ Some r → (f : ℕ) → Q (r.fields f))
+      (fresh : (k : ℕ) → k < last → N (record { maker = Class c; number = k })) where
+    written : (own : Region) (f : ℕ) (v : Value) → ((k : ℕ) → Q (own.fields k)) → Q v
+        → (k : ℕ) → Q ((with_field own f v).fields k)
+    written own f v h hv k = elim (tested (k == f)) [ inl e ↦ rw e hv | inr e ↦ rw e (h k) ]
+
+    pub keeps_values : (row : Row) (own : Region) (n : ℕ) (m : QuietMove) → FitsBy P N Q (λ d. true) row
+        → ((k : ℕ) → Q (own.fields k)) → HoldsOfPool Q own.pool → m.region.pool.count ≤ last
+        → quiet P env c own n row ≡ Leaves m → HoldsAfter Q m
+    keeps_values (Ends (Next move)) own n m fits statics slots few q =
+        let e : record { move = move; region = own; elements = n } ≡ m = cc in
+        subst (HoldsAfter Q) e (record { statics = statics; slots = slots; move = fits.0 })
+    keeps_values (Ends (Raise x class)) own n m fits statics slots few q = absurd cc
+    keeps_values (Ends (Halt kind)) own n m fits statics slots few q = absurd cc
+    keeps_values (UseClass d next) own n m fits statics slots few q = elim (branch (d == c) q) [
+      | inl on ↦ keeps_values (next true) own n m (fits true) statics slots few on.1
+      | inr other ↦ keeps_values (next true) own n m (fits true) statics slots few (at_hand_some (env d) other.1).2
+    ]
+    keeps_values (ReadStatic d f next) own n m fits statics slots few q = elim (branch (d == c) q) [
+      | inl on ↦ keeps_values (next (own.fields f)) own n m (fits (own.fields f) (statics f)) statics slots few on.1
+      | inr other ↦
+          let at = at_hand_some (env d) other.1 in
+          elim (branch (is_final P d f) at.2) [
+            | inl final ↦
+                keeps_values (next (at.0.fields f)) own n m (fits (at.0.fields f) (finals d at.0 at.1 f)) statics slots
+                few final.1
+            | inr shut ↦ absurd (let clash : Stops Barred ≡ Leaves m = shut.1 in cc)
+          ]
+    ]
+    keeps_values (WriteStatic d f v next) own n m fits statics slots few q = elim (branch (d == c) q) [
+      | inl on ↦
+          keeps_values next (with_field own f v) n m fits.2 (written own f v statics fits.0) slots few on.1
+      | inr other ↦ absurd (let clash : Stops Barred ≡ Leaves m = other.1 in cc)
+    ]
+    keeps_values (AskClass x next) own n m fits statics slots few q =
+        let at = at_hand_some (pool_seen env c own x.maker) q in
+        keeps_values (next (class_at at.0 x.number)) own n m (fits.1 (class_at at.0 x.number)) statics slots few at.2
+    keeps_values (LookInto x part next) own n m fits statics slots few q =
+        elim (branch (same_maker (Class c) x.maker) q) [
+          | inl on ↦
+              keeps_values (next (part_at part own.pool x.number)) own n m
+              (fits.1 (part_at part own.pool x.number) (part_at-has Q ints part own.pool x.number slots)) statics slots
+              few on.1
+          | inr other ↦ elim (branch (is_open part) other.1) [
+            | inl open_part ↦ absurd (let clash : true ≡ false = sym open_part.0 ∙ closed part in cc)
+            | inr shut ↦ absurd (let clash : Stops (Refused ForeignObject) ≡ Leaves m = shut.1 in cc)
+          ]
+        ]
+    keeps_values (Change x i v next) own n m fits statics slots few q = elim (branch (same_maker (Class c) x.maker) q) [
+      | inl on ↦
+          keeps_values next (record own { pool = with_slot own.pool x.number i v }) n m fits.2 statics
+          (with_slot-has Q own.pool x.number i v slots fits.1) few on.1
+      | inr other ↦ absurd (let clash : Stops (Refused ForeignObject) ≡ Leaves m = other.1 in cc)
+    ]
+    keeps_values (Make class slots next) own n m fits statics held few q =
+        let x : Name = record { maker = Class c; number = own.pool.count } in
+        let new : Region = record own { pool = with_new own.pool class slots } in
+        let more : own.pool.count + 1 ≤ m.region.pool.count = grows (next x) new (n + elements_in class slots) m q in
+        keeps_values (next x) new (n + elements_in class slots) m
+        (fits.1 x (fresh own.pool.count (omega (arith, more, few)))) statics
+        (with_new-has Q own.pool class slots held fits.0) few q
+    keeps_values (UseMonitor x enter next) own n m fits statics slots few q = absurd cc
+    keeps_values (Print text next) own n m fits statics slots few q = absurd cc
