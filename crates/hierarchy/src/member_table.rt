@@ -97,8 +97,8 @@ impl MemberTable {
         Ok(MemberTable {
             texts,
             pools: Vec::new(alloc),
-            fields: MemberIndex::new(alloc, seed),
-            methods: MemberIndex::new(alloc, seed),
+            fields: MemberIndex::new(alloc, seed.of_numbers()),
+            methods: MemberIndex::new(alloc, seed.of_numbers()),
         })
     }
 

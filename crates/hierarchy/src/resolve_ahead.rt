@@ -193,7 +193,7 @@ impl Hierarchy {
     ) -> Result<FoundAhead, AllocError>
         ensures { IfOk result (AreAhead kind self.now) }
     {
-        let mut found = FoundAhead::new(alloc, self.seed());
+        let mut found = FoundAhead::new(alloc, self.seed().of_numbers());
         match self.find_ahead(alloc, kind, &mut found) {
             Ok(()) => Ok(found),
             Err(error) => Err(error),

@@ -8,7 +8,7 @@ use classfile::write;
 use loading::given::GivenClass;
 use sha2::{Digest, Sha512};
 use std::alloc::{AllocError, Global};
-use std::hash::{BuildHasher, DefaultHasher, Hasher};
+use std::hash::{BuildHasher, DefaultHasher, FoldHasher, Hasher};
 
 /// A hasher that has read a digest of all class files that are linked, and goes on from there with each key. Who writes
 /// the files cannot choose texts that meet in one place of a table, since whatever stands in them changes the digest;
@@ -28,6 +28,23 @@ impl BuildHasher for Seed {
     }
 }
 
+/// What tables of numbers hash with: numbers of texts and classes, which take a quick hasher. It has read what the seed
+/// makes of nothing, so nobody can choose either which numbers meet.
+#[derive(Clone, Copy)]
+pub(crate) struct NumberSeed {
+    start: FoldHasher,
+}
+
+impl BuildHasher for NumberSeed {
+    type Hasher = FoldHasher;
+
+    ghost build_hasher = { λ s. s.start };
+
+    fn build_hasher(&self) -> FoldHasher {
+        self.start
+    }
+}
+
 impl Seed {
     /// The seed of these classes.
     pub(crate) fn of_classes(alloc: Global, classes: &[GivenClass]) -> Result<Self, AllocError>
@@ -38,6 +55,13 @@ impl Seed {
         let mut start = DefaultHasher::new();
         start.write(&hasher.finalize());
         Ok(Seed { start })
+    }
+
+    /// The same for numbers.
+    pub(crate) fn of_numbers(&self) -> NumberSeed {
+        let mut start = FoldHasher::default();
+        start.write_u64(self.start.finish());
+        NumberSeed { start }
     }
 
     /// The same where a text is read too, for keys that come with it: who writes it cannot choose them either.
