@@ -120,12 +120,7 @@ impl<'a> SignatureIndex<'a> {
     }
 
     /// Whether one of the members has this name and descriptor. From then on one has.
-    fn note(
-        &mut self,
-        pool: &'a [Constant],
-        name: u16,
-        descriptor: u16,
-    ) -> Result<bool, AllocError>
+    fn note(&mut self, pool: &'a [Constant], name: u16, descriptor: u16) -> Result<bool, AllocError>
         requires name { has_utf8 pool.now name ≡ true }
         requires descriptor { has_utf8 pool.now descriptor ≡ true }
         requires firsts { AreFirsts pool.now self.old.firsts.items (find_utf8 self.old.by_utf8) }
