@@ -12,10 +12,9 @@ ghost use Rattle.loading.specs.Families.{IsFamily, superclass_in, superclasses_i
 ghost use Rattle.hierarchy.specs.steps.HierarchyTables.{interface_field_in, wanted_in};
 ghost use Rattle.hierarchy.specs.steps.MemberTables.{IsTableOf};
 ghost use Rattle.built_in.specs.Keys.{NameAndType};
-ghost use Rattle.hierarchy.specs.steps.MemberIndexes.{IsLookup};
+ghost use Rattle.hierarchy.specs.steps.MemberIndexes.{IsLookup, AreNumbers};
 ghost use Rattle.hierarchy.specs.MemberLookup.{flags_in, interface_method_in, is_inherited, key_in, member_flags};
 ghost use Rattle.hierarchy.specs.MemberNames.{text_in, named_in};
-ghost use Rattle.hierarchy.specs.steps.MemberIndexes.{AreNumbers};
 ghost use Rattle.hierarchy.specs.Resolution.{instance_method_in};
 
 use crate::member::DeclaredMember;

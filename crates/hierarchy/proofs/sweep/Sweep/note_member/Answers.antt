@@ -1,4 +1,3 @@
-use Rattle.std.proofs.Common.{}
 use Rattle.loading.specs.Names.{text_at}
 use Rattle.hierarchy.proofs.sweep.Sweep.note_member.Goals as goal
 
