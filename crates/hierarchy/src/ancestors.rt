@@ -142,10 +142,7 @@ impl Ancestors {
 fn place_in(places: &[u32], class: u32) -> u32
     ensures { result ≡ slice_index_or places.now class 0 }
 {
-    match places.get(class as usize) {
-        Some(place) => *place,
-        None => 0,
-    }
+    places.get(class as usize).copied().unwrap_or(0)
 }
 
 /// Makes room for so many classes, if there is less.

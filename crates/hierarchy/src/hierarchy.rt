@@ -239,46 +239,13 @@ pub(crate) fn find(
 {
     match wanted {
         Wanted::Field => table.field(class, key),
-        Wanted::InterfaceField => interface_field(family, table, class, key),
+        Wanted::InterfaceField if family.is_interface(class) => table.field(class, key),
         Wanted::Method => table.method(class, key),
         Wanted::InstanceMethod => instance_method(family, table, class, key),
-        Wanted::InterfaceMethod => interface_method(family, table, class, key),
-    }
-}
-
-/// The place of an interface's field.
-fn interface_field(
-    family: &Family,
-    table: &MemberTable,
-    class: u32,
-    key: Option<MemberKey>,
-) -> Option<u16>
-    requires { IsTableOf family.now table.now }
-    ensures { (name : NameAndType) → IsLookup table.now.texts name key
-        → result ≡ interface_field_in family.now name class }
-{
-    if family.is_interface(class) {
-        table.field(class, key)
-    } else {
-        None
-    }
-}
-
-/// The place of an interface's method that is neither private nor static.
-fn interface_method(
-    family: &Family,
-    table: &MemberTable,
-    class: u32,
-    key: Option<MemberKey>,
-) -> Option<u16>
-    requires { IsTableOf family.now table.now }
-    ensures { (name : NameAndType) → IsLookup table.now.texts name key
-        → result ≡ interface_method_in family.now name class }
-{
-    if family.is_interface(class) {
-        instance_method(family, table, class, key)
-    } else {
-        None
+        Wanted::InterfaceMethod if family.is_interface(class) => {
+            instance_method(family, table, class, key)
+        }
+        Wanted::InterfaceField | Wanted::InterfaceMethod => None,
     }
 }
 

@@ -26,8 +26,7 @@ impl BuildHasher for Seed {
     }
 }
 
-/// What tables of numbers hash with: numbers of texts and classes, which take a quick hasher. It has read what the seed
-/// makes of nothing, so nobody can choose either which numbers meet.
+/// What tables of numbers hash with: a quick hasher that has read the seed's hash, which nobody can choose either.
 #[derive(Clone, Copy)]
 pub(crate) struct NumberSeed {
     start: FoldHasher,
