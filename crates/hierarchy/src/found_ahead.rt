@@ -56,11 +56,8 @@ impl FoundAhead {
             ≡ (if same_member (record { class = class; key = key }) (record { class = c; key = k }) then Some member
             else found_in self.old c k)) }
     {
-        let reference = ClassMember {
-            class: class as usize,
-            key,
-        };
-        self.found.insert(reference, member)?;
+        let class = class as usize;
+        self.found.insert(ClassMember { class, key }, member)?;
         Ok(())
     }
 }
