@@ -386,7 +386,7 @@ fn runtime_pool_of(
     ensures adds { OnOk result (Adds strings.old (strings_of file.now) strings.new) }
     ensures kept { members.new ≡ members.old }
 {
-    let named = NamedClasses::of_file(alloc, linker.hierarchy.family(), file)?;
+    let named = NamedClasses::of_file(alloc, linker.hierarchy.family(), number, file)?;
     let resolver = Resolver {
         hierarchy: linker.hierarchy,
         numbers: linker.numbers,
