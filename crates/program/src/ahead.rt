@@ -150,7 +150,7 @@ impl Resolver<'_> {
         Ok(())
     }
 
-    /// Resolves one more reference, if it is not equal to the one before.
+    /// Notes what one more reference stands for, which is not resolved again if it is equal to the one before.
     fn resolve_ahead(
         &self,
         members: &mut MemberResolver<'_>,
