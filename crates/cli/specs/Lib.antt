@@ -9,3 +9,5 @@ pub mod Laws
 pub mod steps
 pub mod ImageBuilds
 pub mod ImageRuns
+pub mod Headline
+pub mod Begins
