@@ -10,4 +10,3 @@ pub mod steps
 pub mod ImageBuilds
 pub mod ImageRuns
 pub mod Headline
-pub mod Begins
