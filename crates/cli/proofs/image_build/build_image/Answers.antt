@@ -23,7 +23,9 @@ returns-in-Ok-image_bytes-clause-image c =
         program = of;
         outcomes = map outcome_of built.verdicts;
         built = c.in-Ok.ensures.built;
-        shows = c.in-Ok.ensures.shows;
+        exact = c.in-Ok.ensures.exact;
+        shows = record { to_image = c.in-Ok.ensures.to_image; to_class_files = c.in-Ok.ensures.to_class_files };
+        entries = c.in-Ok.ensures.entries;
       };
       text =
           subst (λ (bytes : List ℕ). ImageText bytes built.image.program.family (told_of built.image))
