@@ -17,7 +17,7 @@ take_contains row i x h = grind (arith, common_steps)
 take_here : (row : List ℕ) (i b : ℕ) → i < length row → b ≡ slice_index row i → Contains (take (i + 1) row) b
 take_here row i b h e = (i, omega (arith, length-take (i + 1) row), grind (arith, common_steps))
 
-push_same : (old : List ℕ) (b k : ℕ) → k < length old → slice_index (old ++ b ∷ []) k ≡ slice_index old k
+pub push_same : (old : List ℕ) (b k : ℕ) → k < length old → slice_index (old ++ b ∷ []) k ≡ slice_index old k
 push_same old b k h = grind (arith, common_steps)
 
 pub adds_more : (fresh : Bool) (old row new next : List ℕ) (i b : ℕ) → i < length row → b ≡ slice_index row i

@@ -1,13 +1,11 @@
 -- What components tell of cycles.
-use Rattle.std.proofs.Common.{◌≡◌, ℕ, ◌+◌, ◌<◌, ◌⊎◌, List, length, slice_index, take, inl, inr, sym, arith, ◌∙◌}
+use Rattle.std.proofs.Common.{◌≡◌, ℕ, ◌<◌, length, slice_index}
 use Rattle.std.specs.List.{All, Contains}
-use Rattle.std.proofs.lemmas.List.{take_more}
-use Rattle.std.proofs.lemmas.List.Elements.{All-contains, Contains-push_cases}
+use Rattle.std.proofs.lemmas.List.Elements.{All-contains}
 use Rattle.std.specs.Prelude.{◌↔◌}
 use Rattle.graph.specs.Rows.{Rows, successors_of}
-use Rattle.graph.specs.Reaches.{Reaches, itself, along, OnCycle}
+use Rattle.graph.specs.Reaches.{itself, along, OnCycle}
 use Rattle.graph.specs.Components.{Parts, AreComponents}
-use Rattle.graph.proofs.RowsLemmas.{has_successor}
 
 -- a vertex is on a cycle where it has an edge into its own component
 pub cycle_by_components : (graph : Rows) (parts : Parts) (v : ℕ) → AreComponents graph parts → v < length graph

@@ -1,6 +1,7 @@
 -- Marks beside the members that they mark.
 use Rattle.std.proofs.Common.{◌≡◌, ℕ, ◌<◌, ◌≤◌, ◌⊎◌, Bool, true, false, List, [], ◌∷◌, ◌++◌, length, get_or, set, inl}
 use Rattle.std.proofs.Common.{inr, refl, sym, ap, subst, arith, ◌∙◌}
+use Rattle.std.proofs.lemmas.Bool.{cases_eq, cases_lt}
 use Rattle.std.specs.List.{Contains}
 use Rattle.std.proofs.lemmas.Grind.{common_steps}
 use Rattle.std.proofs.lemmas.List.{length_push}
@@ -28,11 +29,8 @@ member_is_marked marks order m v h = by_mark (get_or marks m false) refl
         absurd (omega (arith, v.counted m, count_of-contains order m h, one_if_same (get_or marks m false) false e))
 
 pub marked_is_below : (marks : List Bool) (m : ℕ) → get_or marks m false ≡ true → m < length marks
-marked_is_below marks m e = by_order (less_or m (length marks))
+marked_is_below marks m e = by_order (cases_lt m (length marks))
   where
-    less_or : (m n : ℕ) → (m < n) ⊎ (n ≤ m)
-    less_or m n = grind arith
-
     past : (marks : List Bool) (m : ℕ) → length marks ≤ m → get_or marks m false ≡ false
     past marks m h = grind (arith, common_steps)
 
@@ -49,9 +47,6 @@ visited_distinct marks order v x = by_mark (get_or marks x false) refl
 
 pub visited_small : (marks : List Bool) (order : List ℕ) → IsVisited marks order → length order ≤ length marks
 visited_small marks order v = omega (arith, v.total, count_by-le-length (λ (b : Bool). b) marks)
-
-same_or : (x m : ℕ) → (m ≡ x) ⊎ (m ≡ x → ⊥)
-same_or x m = grind arith
 
 set_here : (marks : List Bool) (m : ℕ) (b : Bool) → m < length marks → get_or (set marks m b) m false ≡ b
 set_here marks m b h = grind (arith, common_steps)
@@ -72,7 +67,7 @@ visited_push marks order new m h clear e v = rw e (record {
     one_if_same (get_or marks m false) false clear,
     length_push order m,
   );
-  counted = λ x. elim (same_or x m) [
+  counted = λ x. elim (cases_eq m x) [
     | inl same ↦ rw (sym same)
         (omega (
           arith,
@@ -105,7 +100,7 @@ visited_pop marks order rest m h e v =
             one_if_same (get_or marks m false) true marked,
             length_push rest m,
           );
-      counted = λ x. elim (same_or x m) [
+      counted = λ x. elim (cases_eq m x) [
         | inl same ↦ rw (sym same)
             (omega (
               arith,

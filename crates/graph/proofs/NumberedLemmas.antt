@@ -1,13 +1,14 @@
 -- Vertices that have numbers are whole components: one more component, and all.
 use Rattle.std.proofs.Common.{◌≡◌, ℕ, zero, suc, ◌+◌, ◌<◌, ◌≤◌, ◌↔◌, ◌⊎◌, List, [], length, take, slice_index, inl, inr}
 use Rattle.std.proofs.Common.{refl, sym, subst, arith, ◌∙◌}
+use Rattle.std.proofs.lemmas.Bool.{cases_eq, cases_lt}
 use Rattle.std.specs.List.{All, Contains}
 use Rattle.std.proofs.lemmas.Grind.{common_steps}
 use Rattle.std.proofs.lemmas.List.{length-take}
 use Rattle.std.proofs.lemmas.List.Elements.{All-contains, All-get_or, All-from_get_or, Contains-get_or}
 use Rattle.graph.specs.Rows.{Rows, successors_of}
-use Rattle.graph.specs.Reaches.{Reaches, itself, along}
-use Rattle.graph.specs.Seen.{AreDistinct, count_of}
+use Rattle.graph.specs.Reaches.{Reaches, itself}
+use Rattle.graph.specs.Seen.{AreDistinct}
 use Rattle.graph.specs.Components.{AreMutual, Parts, AreComponents}
 use Rattle.graph.specs.Order.{HasEachOnce}
 use Rattle.graph.specs.steps.Reverse.{IsReverse}
@@ -19,12 +20,6 @@ use Rattle.graph.proofs.RowsLemmas.{has_successor}
 use Rattle.graph.proofs.ReachesLemmas.{Reaches-joined, Reaches-first}
 use Rattle.graph.proofs.ReverseLemmas.{IsReverse-turned, AreMutual-turned}
 use Rattle.graph.proofs.NumberingLemmas.{fresh_at, closed_reaches}
-
-less_or : (m n : ℕ) → (m < n) ⊎ (n ≤ m)
-less_or m n = grind arith
-
-same_or : (u v : ℕ) → (u ≡ v) ⊎ (u ≡ v → ⊥)
-same_or u v = grind arith
 
 abbrev IsClosedList : Rows → List ℕ → Type 0
 IsClosedList back items = (a b : ℕ) → Contains items a → Contains (successors_of back a) b → Contains items b
@@ -93,7 +88,7 @@ reaches_again_step back order old place j turned within closed rest less fresh p
         (subst (λ (u : ℕ). Reaches back root u) (sym is) further)))
       where
         beyond : j < k
-        beyond = elim (less_or k (j + 1)) [
+        beyond = elim (cases_lt k (j + 1)) [
           | inl low ↦ absurd (absent (subst (λ (u : ℕ). Contains (take (j + 1) order) u) is
               (in_front order k (j + 1) low (omega arith))))
           | inr more ↦ omega arith
@@ -107,16 +102,16 @@ reaches_again_at : (back : Rows) (order old : List ℕ) (place : ℕ) → IsTurn
     → Reaches back (slice_index order place) (slice_index order j)
     → Reaches back (slice_index order j) (slice_index order place)
 reaches_again_at back order old place turned within later closed zero j near small fresh path =
-    elim (same_or j place) [
+    elim (cases_eq j place) [
       | inl is ↦ rw is itself
       | inr n ↦ absurd (fresh (later j (omega arith) small))
     ]
 reaches_again_at back order old place turned within later closed (suc n) j near small fresh path =
-    elim (less_or j place) [
+    elim (cases_lt j place) [
       | inl less ↦ reaches_again_step back order old place j turned within closed
           (λ k more. reaches_again_at back order old place turned within later closed n k (omega arith))
           less fresh path
-      | inr more ↦ elim (same_or j place) [
+      | inr more ↦ elim (cases_eq j place) [
         | inl is ↦ rw is itself
         | inr other ↦ absurd (fresh (later j (omega arith) small))
       ]
@@ -154,7 +149,7 @@ old_or_found back root old before new numbers v distinct g h = by_place (place_o
   where
     by_place : (k : ℕ) × (k < length new) × (slice_index new k ≡ v)
         → Contains old v ⊎ Gathered back root old new numbers v
-    by_place (k, small, is) = elim (less_or k (length old)) [
+    by_place (k, small, is) = elim (cases_lt k (length old)) [
       | inl less ↦ inl (subst (λ (u : ℕ). Contains old u) (sym (g.same k less) ∙ is) (Contains-get_or old k 0 less))
       | inr more ↦ inr (found k more small is)
     ]
@@ -186,9 +181,9 @@ numbered_next back order old before new numbers place turned within later distin
   closed = closed;
   rises = λ a b h e. rises a b e (either a h) (either b (closed a b h e));
   shared = λ a b p q. shared a b (either a p) (either b q);
-  ascending = λ i j le h. elim (less_or j (length old)) [
+  ascending = λ i j le h. elim (cases_lt j (length old)) [
     | inl less ↦ old_places i j le less
-    | inr more ↦ elim (less_or i (length old)) [
+    | inr more ↦ elim (cases_lt i (length old)) [
       | inl less ↦ omega (arith, low_at i less, g.numbered j more h)
       | inr too ↦ omega (arith, g.numbered i too (omega arith), g.numbered j more h)
     ]
@@ -300,7 +295,7 @@ pub later_more : (order old new : List ℕ) (place : ℕ) → ((x : ℕ) → Con
     → Contains new (slice_index order place)
     → ((k : ℕ) → place + 1 ≤ k → k < length order → Contains old (slice_index order k))
     → (k : ℕ) → place ≤ k → k < length order → Contains new (slice_index order k)
-later_more order old new place keeps here later k low high = elim (same_or k place) [
+later_more order old new place keeps here later k low high = elim (cases_eq k place) [
   | inl is ↦ rw is here
   | inr other ↦ keeps (slice_index order k) (later k (omega arith) high)
 ]

@@ -1,6 +1,7 @@
 -- Components get numbers, one search over the graph with its edges turned round after the other.
-use Rattle.std.proofs.Common.{◌≡◌, ℕ, ◌+◌, ◌<◌, ◌≤◌, ◌⊎◌, Bool, true, false, List, [], ◌∷◌, ◌++◌, length}
-use Rattle.std.proofs.Common.{take, set, slice_index, inl, inr, refl, sym, subst, arith, ◌∙◌, ap}
+use Rattle.std.proofs.Common.{◌≡◌, ℕ, ◌+◌, ◌<◌, ◌≤◌, Bool, true, false, List, [], ◌∷◌, length}
+use Rattle.std.proofs.Common.{set, slice_index, inl, inr, refl, subst, arith, ◌∙◌, ap}
+use Rattle.std.proofs.lemmas.Bool.{cases_eq, cases_lt}
 use Rattle.std.specs.List.{All, Contains}
 use Rattle.std.proofs.lemmas.Grind.{common_steps}
 use Rattle.std.proofs.lemmas.List.{length_push}
@@ -8,24 +9,11 @@ use Rattle.std.proofs.lemmas.List.Elements.{All-push, All-contains, All-contains
 use Rattle.std.proofs.lemmas.List.Elements.{Contains-get_or, Contains-append_left, Contains-push, Contains-push_cases}
 use Rattle.graph.specs.Rows.{Rows, successors_of}
 use Rattle.graph.specs.Reaches.{Reaches, itself, along}
-use Rattle.graph.specs.Seen.{AreDistinct, Joins, count_of}
-use Rattle.graph.specs.Components.{AreMutual, Parts, AreComponents}
-use Rattle.graph.specs.Order.{HasEachOnce}
+use Rattle.graph.specs.Seen.{AreDistinct, Joins}
 use Rattle.graph.specs.steps.Adds.{Adds}
-use Rattle.graph.specs.steps.Reverse.{IsReverse}
-use Rattle.graph.specs.steps.Finishing.{IsTurnedOrder}
-use Rattle.graph.specs.steps.Numbering.{Gathering, Numbered}
-use Rattle.graph.proofs.SeenLemmas.{count_of-contains, places_counted}
-use Rattle.graph.proofs.OrderLemmas.{place_of_member, place_in_front, has_vertex}
-use Rattle.graph.proofs.RowsLemmas.{has_successor}
-use Rattle.graph.proofs.ReachesLemmas.{Reaches-joined, Reaches-first}
-use Rattle.graph.proofs.ReverseLemmas.{IsReverse-turned, AreMutual-turned}
-
-less_or : (m n : ℕ) → (m < n) ⊎ (n ≤ m)
-less_or m n = grind arith
-
-same_or : (u v : ℕ) → (u ≡ v) ⊎ (u ≡ v → ⊥)
-same_or u v = grind arith
+use Rattle.graph.specs.steps.Numbering.{Gathering}
+use Rattle.graph.proofs.SeenLemmas.{places_counted}
+use Rattle.graph.proofs.OrderLemmas.{place_of_member}
 
 -- a number stands at no two places
 pub apart : (items : List ℕ) (i j : ℕ) → AreDistinct items → i < j → j < length items
@@ -115,11 +103,11 @@ gathering_next back root old before items numbers new next small distinct len ro
   ];
   later = omega (arith, g.later);
   up_to = omega (arith, a.grows);
-  closed = λ k low high. rw (a.same k (omega arith)) (elim (less_or k next) [
+  closed = λ k low high. rw (a.same k (omega arith)) (elim (cases_lt k next) [
     | inl less ↦ All-weaker (Contains items) (Contains new) (λ x p. a.keeps x p) _ (g.closed k low less)
     | inr more ↦ rw (last k high more) a.added
   ]);
-  numbered = λ k low high. rw (a.same k (omega arith)) (elim (same_or (slice_index items k) v) [
+  numbered = λ k low high. rw (a.same k (omega arith)) (elim (cases_eq (slice_index items k) v) [
     | inl is ↦ rw is (set_here numbers v (length old) v_small)
     | inr n ↦ set_else numbers v (slice_index items k) (length old) n ∙ g.numbered k low (before_last k high n)
   ]);
@@ -139,7 +127,7 @@ gathering_next back root old before items numbers new next small distinct len ro
     last k h more = omega arith
 
     before_last : (k : ℕ) → k < next + 1 → (slice_index items k ≡ v → ⊥) → k < next
-    before_last k h n = elim (same_or k next) [
+    before_last k h n = elim (cases_eq k next) [
       | inl is ↦ absurd (n (ap (λ (j : ℕ). slice_index items j) is))
       | inr other ↦ omega arith
     ]

@@ -1,6 +1,7 @@
 -- What a topological order is good for.
-use Rattle.std.proofs.Common.{◌≡◌, ℕ, zero, suc, ◌+◌, ◌<◌, ◌≤◌, ◌↔◌, ◌⊎◌, inl, inr, ◌∙◌, Bool, true, false, ◌++◌, List}
+use Rattle.std.proofs.Common.{◌≡◌, ℕ, zero, suc, ◌+◌, ◌<◌, ◌↔◌, inl, inr, ◌∙◌, Bool, true, false, ◌++◌, List}
 use Rattle.std.proofs.Common.{[], ◌∷◌, length, take, get_or, slice_index, sym, subst, arith}
+use Rattle.std.proofs.lemmas.Bool.{cases_lt}
 use Rattle.std.specs.List.{All, Contains}
 use Rattle.std.proofs.lemmas.Grind.{common_steps}
 use Rattle.std.proofs.lemmas.List.Elements.{All-get_or, All-contains, Contains-push, Contains-push_cases}
@@ -80,14 +81,11 @@ pub after_more : (graph : Rows) (order finished : List ℕ) (i : ℕ)
     → All (Contains finished) (successors_of graph (slice_index order i))
     → ((j b : ℕ) → j < i → Contains (successors_of graph (slice_index order j)) b → Contains (take j order) b)
     → (j b : ℕ) → j < i + 1 → Contains (successors_of graph (slice_index order j)) b → Contains (take j order) b
-after_more graph order finished i same all after j b h edge = elim (less_or j i) [
+after_more graph order finished i same all after j b h edge = elim (cases_lt j i) [
   | inl less ↦ after j b less edge
   | inr more ↦ (let e : j ≡ i = omega arith in
       rw e (same b (All-contains (Contains finished) (successors_of graph (slice_index order i)) b all (rw e at edge))))
 ]
-  where
-    less_or : (m n : ℕ) → (m < n) ⊎ (n ≤ m)
-    less_or m n = grind arith
 
 -- one more member of an order is finished
 pub finished_more : (order old new : List ℕ) (i v : ℕ) (fresh : Bool) → i < length order → v ≡ slice_index order i

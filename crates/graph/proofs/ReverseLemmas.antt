@@ -1,20 +1,17 @@
 -- Graphs with their edges turned round.
 use Rattle.std.proofs.Common.{◌≡◌, ℕ, ◌+◌, ◌<◌, ◌≤◌, ◌↔◌, ◌⊎◌, List, [], ◌∷◌, ◌++◌, length, take, set, slice_index, inl}
 use Rattle.std.proofs.Common.{inr, refl, sym, subst, arith, ◌∙◌, replicate}
+use Rattle.std.proofs.lemmas.Bool.{cases_eq}
 use Rattle.std.specs.List.{All, Contains}
-use Rattle.std.proofs.lemmas.List.{length-set, length-replicate, take_all, take_more}
+use Rattle.std.proofs.lemmas.List.{length-set, length-replicate, take_more}
 use Rattle.std.proofs.lemmas.List.Elements.{Contains-push, Contains-push_cases, Contains-append_left}
 use Rattle.graph.specs.Rows.{Rows, successors_of}
 use Rattle.graph.specs.Reaches.{Reaches, itself, along}
 use Rattle.graph.specs.Components.{AreMutual}
-use Rattle.graph.specs.Order.{HasEachOnce}
 use Rattle.graph.specs.steps.Reverse.{IsReverse, IsReverseBelow, AddsEdges}
 use Rattle.graph.specs.steps.Finishing.{IsFinishingOrder, IsTurnedOrder}
 use Rattle.graph.proofs.RowsLemmas.{successors_of-set_same, successors_of-set_other, successors_of-empty, has_successor}
 use Rattle.graph.proofs.ReachesLemmas.{Reaches-joined}
-
-same_or : (u v : ℕ) → (u ≡ v) ⊎ (u ≡ v → ⊥)
-same_or u v = grind arith
 
 -- ---- the edges, as they are added
 
@@ -22,7 +19,7 @@ same_or u v = grind arith
 edge_added : (graph : Rows) (from to a b : ℕ) → from < length graph
     → Contains (successors_of (set graph from (successors_of graph from ++ to ∷ [])) b) a
     ↔ (Contains (successors_of graph b) a ⊎ ((a ≡ to) × (b ≡ from)))
-edge_added graph from to a b small = elim (same_or b from) [
+edge_added graph from to a b small = elim (cases_eq b from) [
   | inl e ↦ rw (e, successors_of-set_same graph from (successors_of graph from ++ to ∷ []) small) (
     λ h. elim (Contains-push_cases (successors_of graph from) to a h) [ inl o ↦ inl o | inr is ↦ inr (sym is, refl) ],
     λ h. elim h [
@@ -84,7 +81,7 @@ reverse_below_more graph old new v s a = record {
       | inl o ↦ (let was = (s.edges u b).0 o in (omega (arith, was.0), was.1))
       | inr (is, row) ↦ (omega arith, rw is row)
     ],
-    λ h. elim (same_or u v) [
+    λ h. elim (cases_eq u v) [
       | inl is ↦ (a.edges u b).1 (inr (is, rw is at h.1))
       | inr n ↦ (a.edges u b).1 (inl ((s.edges u b).1 (omega (arith, h.0), h.1)))
     ],

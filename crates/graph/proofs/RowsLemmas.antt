@@ -1,13 +1,14 @@
 -- The rows of a graph.
-use Rattle.std.proofs.Common.{◌≡◌, ℕ, ◌<◌, ◌≤◌, ◌⊎◌, List, [], ◌∷◌, ◌++◌, length, get_or, set, replicate, inl, inr, sym}
+use Rattle.std.proofs.Common.{◌≡◌, ℕ, ◌+◌, ◌<◌, ◌≤◌, ◌⊎◌, List, [], ◌∷◌, ◌++◌, length, get_or, set, replicate, inl, inr, sym}
 use Rattle.std.proofs.Common.{subst, ap, arith, ◌∙◌}
+use Rattle.std.proofs.lemmas.Bool.{cases_lt}
 use Rattle.std.specs.List.{All, Contains}
 use Rattle.std.specs.declared.vec.Vec.{Vec}
 use Rattle.std.specs.declared.alloc.Global.{Global}
 use Rattle.std.proofs.Math.ListN.{get_or-map}
-use Rattle.std.proofs.lemmas.Grind.{common_steps}
+use Rattle.std.proofs.lemmas.Grind.{common_steps, replicate_next}
 use Rattle.std.proofs.lemmas.List.{length-map, length-set, map-set, set-get_or, get_or_past, get_or_default}
-use Rattle.std.proofs.lemmas.List.{get_or-set_same, get_or-set_other}
+use Rattle.std.proofs.lemmas.List.{get_or-set_same, get_or-set_other, map-append}
 use Rattle.std.proofs.lemmas.List.Elements.{All-nil, All-get_or, All-set, All-push, All-replicate}
 use Rattle.graph.specs.Rows.{Rows, rows_of, successors_of, IsClosed}
 
@@ -20,22 +21,16 @@ no_successors graph v h = get_or_past graph v [] h
 
 -- what has a successor is a vertex
 pub has_successor : (graph : Rows) (v b : ℕ) → Contains (successors_of graph v) b → v < length graph
-has_successor graph v b edge = by_order (less_or v (length graph))
+has_successor graph v b edge = by_order (cases_lt v (length graph))
   where
-    less_or : (m n : ℕ) → (m < n) ⊎ (n ≤ m)
-    less_or m n = grind arith
-
     by_order : (v < length graph) ⊎ (length graph ≤ v) → v < length graph
     by_order (inl less) = less
     by_order (inr more) =
         (let none : Contains [] b = rw (no_successors graph v more) at edge in absurd (omega (arith, none.1)))
 
 pub successors_within : (graph : Rows) (v : ℕ) → IsClosed graph → All (λ b. b < length graph) (successors_of graph v)
-successors_within graph v closed = by_order (less_or v (length graph))
+successors_within graph v closed = by_order (cases_lt v (length graph))
   where
-    less_or : (m n : ℕ) → (m < n) ⊎ (n ≤ m)
-    less_or m n = grind arith
-
     by_order : (v < length graph) ⊎ (length graph ≤ v) → All (λ b. b < length graph) (successors_of graph v)
     by_order (inl less) = All-get_or (λ row. All (λ b. b < length graph) row) graph v [] less closed
     by_order (inr more) = rw (no_successors graph v more) (λ k d h. absurd (omega arith))
@@ -104,3 +99,10 @@ successors_of-set_other graph v u row other = get_or-set_other graph v u row [] 
 
 pub successors_of-empty : (count v : ℕ) → successors_of (replicate count []) v ≡ []
 successors_of-empty count v = grind (arith, common_steps)
+
+-- one more row, without successors
+pub one_empty_row_more : (old new : List (Vec ℕ Global)) (row : Vec ℕ Global) (n : ℕ) → new ≡ old ++ row ∷ []
+    → rows_of old ≡ replicate n [] → row.items ≡ []
+    → rows_of new ≡ replicate (n + 1) []
+one_empty_row_more old new row n pushed before empty =
+    rw (pushed, map-append (λ (r : Vec ℕ Global). r.items) old (row ∷ []), before, empty) (sym (replicate_next n []))

@@ -1,6 +1,7 @@
 -- The steps of a walk in depth.
 use Rattle.std.proofs.Common.{◌≡◌, ℕ, ◌+◌, ◌-◌, ◌<◌, ◌≤◌, List, [], ◌∷◌, ◌++◌, length, take, set, slice_index, ◌⊎◌, inl}
 use Rattle.std.proofs.Common.{inr, refl, sym, subst, arith, Bool, true, false}
+use Rattle.std.proofs.lemmas.Bool.{cases_eq, cases_lt}
 use Rattle.std.specs.List.{Contains}
 use Rattle.std.proofs.lemmas.Grind.{common_steps}
 use Rattle.std.proofs.lemmas.List.{length_push, take_all}
@@ -24,12 +25,6 @@ push_at xs b k h = grind (arith, common_steps)
 
 take_push : (xs : List ℕ) (b k : ℕ) → k ≤ length xs → take k (xs ++ b ∷ []) ≡ take k xs
 take_push xs b k h = grind (arith, common_steps)
-
-less_or : (k n : ℕ) → (k < n) ⊎ (n ≤ k)
-less_or k n = grind arith
-
-same_or : (u v : ℕ) → (u ≡ v) ⊎ (u ≡ v → ⊥)
-same_or u v = grind arith
 
 last_of : (n k : ℕ) → k < n + 1 → n ≤ k → k ≡ n
 last_of n k h j = omega arith
@@ -75,7 +70,7 @@ fresh_only false old new b absent s = absurd (absent s.0)
 counted_push : (seen path finished : List ℕ) (b : ℕ)
     → ((x : ℕ) → count_of finished x + count_of path x ≡ count_of seen x)
     → (x : ℕ) → count_of finished x + count_of (path ++ b ∷ []) x ≡ count_of (seen ++ b ∷ []) x
-counted_push seen path finished b counted x = elim (same_or b x) [
+counted_push seen path finished b counted x = elim (cases_eq b x) [
   | inl e ↦ subst (λ (y : ℕ). count_of finished y + count_of (path ++ b ∷ []) y ≡ count_of (seen ++ b ∷ []) y) e
       (omega (arith, counted b, count_of-push_same path b, count_of-push_same seen b))
   | inr n ↦ omega (arith, counted x, count_of-push_other path b x n, count_of-push_other seen b x n)
@@ -84,14 +79,14 @@ counted_push seen path finished b counted x = elim (same_or b x) [
 counted_pop : (seen path finished : List ℕ) (b : ℕ)
     → ((x : ℕ) → count_of finished x + count_of (path ++ b ∷ []) x ≡ count_of seen x)
     → (x : ℕ) → count_of (finished ++ b ∷ []) x + count_of path x ≡ count_of seen x
-counted_pop seen path finished b counted x = elim (same_or b x) [
+counted_pop seen path finished b counted x = elim (cases_eq b x) [
   | inl e ↦ subst (λ (y : ℕ). count_of (finished ++ b ∷ []) y + count_of path y ≡ count_of seen y) e
       (omega (arith, counted b, count_of-push_same path b, count_of-push_same finished b))
   | inr n ↦ omega (arith, counted x, count_of-push_other path b x n, count_of-push_other finished b x n)
 ]
 
 pub distinct_push : (seen : List ℕ) (b : ℕ) → (Contains seen b → ⊥) → AreDistinct seen → AreDistinct (seen ++ b ∷ [])
-distinct_push seen b absent distinct x = elim (same_or b x) [
+distinct_push seen b absent distinct x = elim (cases_eq b x) [
   | inl e ↦ subst (λ (y : ℕ). count_of (seen ++ b ∷ []) y ≤ 1) e
       (omega (arith, count_of-push_same seen b, count_of-absent seen b absent))
   | inr n ↦ omega (arith, distinct x, count_of-push_other seen b x n)
@@ -110,11 +105,11 @@ walk_look graph seen path passed finished v next small bound looked w = record {
   distinct = w.distinct;
   within = w.within;
   chain = w.chain;
-  short = λ u. elim (same_or u v) [
+  short = λ u. elim (cases_eq u v) [
     | inl e ↦ rw (here u e) (rw e bound)
     | inr n ↦ rw (else u n) (w.short u)
   ];
-  looked = λ u j h. elim (same_or u v) [
+  looked = λ u j h. elim (cases_eq u v) [
     | inl e ↦ rw e (looked j (rw (here u e) at h))
     | inr n ↦ w.looked u j (rw (else u n) at h)
   ];
@@ -137,10 +132,10 @@ walk_down graph seen path passed finished b absent small leads w = record {
   counted = counted_push seen path finished b w.counted;
   distinct = distinct_push seen b absent w.distinct;
   within = All-push (λ u. u < length graph) seen b w.within small;
-  chain = λ i j le h. elim (less_or j (length path)) [
+  chain = λ i j le h. elim (cases_lt j (length path)) [
     | inl less ↦ rw (push_before path b i (omega arith), push_before path b j less) (w.chain i j le less)
     | inr more ↦ (let j_is : j ≡ length path = last_of (length path) j (rw length_push at h) more in
-        rw (push_at path b j j_is) (elim (less_or i (length path)) [
+        rw (push_at path b j j_is) (elim (cases_lt i (length path)) [
           | inl less ↦ rw (push_before path b i less) (leads i less)
           | inr top ↦ rw (push_at path b i (omega arith)) itself
         ]))
@@ -209,7 +204,7 @@ reached_at_pop graph seen path finished v distinct counted explored up u (along 
 reached_push : (graph : Rows) (finished : List ℕ) (v : ℕ) → FinishesReached graph finished
     → ((u : ℕ) → Reaches graph v u → IsFinishedOrLater graph (finished ++ v ∷ []) v u)
     → FinishesReached graph (finished ++ v ∷ [])
-reached_push graph finished v before top i u h r = elim (less_or i (length finished)) [
+reached_push graph finished v before top i u h r = elim (cases_lt i (length finished)) [
   | inl less ↦ rw (push_before finished v i less, take_push finished v (i + 1) (omega arith))
       (before i u less (rw (push_before finished v i less) at r))
   | inr more ↦ (let i_is : i ≡ length finished = last_of (length finished) i (rw length_push at h) more in
@@ -233,7 +228,7 @@ walk_pop graph seen path path' passed finished finished' v ep ef all w = rw ef (
           (w.chain i j le (rw length_push (omega arith)));
       short = w.short;
       looked = w.looked;
-      after = λ i b h e. elim (less_or i (length finished)) [
+      after = λ i b h e. elim (cases_lt i (length finished)) [
         | inl less ↦ rw (push_before finished v i less, take_push finished v i (omega arith))
             (w.after i b less (rw (push_before finished v i less) at e))
         | inr more ↦ (let i_is : i ≡ length finished = last_of (length finished) i (rw length_push at h) more in
@@ -296,7 +291,7 @@ walk_done graph seen passed finished all w =
 -- ---- plain facts
 
 pub one_more : (P : ℕ → Type 0) (n : ℕ) → ((j : ℕ) → j < n → P j) → P n → (j : ℕ) → j < n + 1 → P j
-one_more P n below here j h = elim (less_or j n) [ inl less ↦ below j less | inr more ↦ subst P (is n j h more) here ]
+one_more P n below here j h = elim (cases_lt j n) [ inl less ↦ below j less | inr more ↦ subst P (is n j h more) here ]
   where
     is : (n j : ℕ) → j < n + 1 → n ≤ j → n ≡ j
     is n j h more = omega arith

@@ -45,7 +45,8 @@ told_class strings (classes.Array a) = told_array strings a a.element
 told_class strings class = image.Known class
 
 abbrev pub told_object : List (List ℕ) → Object → ImageObject
-told_object strings object = record { class = told_class strings object.class; slots = map (told_value strings) object.slots }
+told_object strings object =
+    record { class = told_class strings object.class; slots = map (told_value strings) object.slots }
 
 abbrev pub told_if : List (List ℕ) → Option Object → List ImageObject
 told_if strings None = []

@@ -2,6 +2,7 @@
 use Rattle.std.proofs.Common.{◌≡◌, ℕ, ◌<◌, Bool, true, false, cond, ◌&&◌, ◌==◌, List, length, map, get_or, Option, Some}
 use Rattle.std.proofs.Common.{None}
 use Rattle.std.proofs.Common.{Ok, Err, slice_get, refl, sym, ap, ◌∙◌, subst, arith, eqb-true}
+use Rattle.std.proofs.lemmas.Bool.{and_parts}
 use Rattle.std.specs.declared.result.Result.{Result}
 use Rattle.std.proofs.lemmas.Option.{same_Some, slice_get_within, slice_get-get_or}
 use Rattle.std.proofs.lemmas.Slice.Eq.{bytes_eq-Decides}
@@ -64,7 +65,7 @@ use Rattle.machine.specs.declared.object_operation.ObjectOperation.{ObjectOperat
 use Rattle.machine.specs.ObjectReferences.{new_of, check_cast_of, instance_of_of, get_field_of, put_field_of}
 use Rattle.machine.specs.Operations.{resolved_operation, operation_of, operation_at}
 use Rattle.machine.specs.Linked.{program_of}
-use Rattle.machine.proofs.ListLemmas.{left_of_pair, right_of_pair, first_passes, kept_place, both_true}
+use Rattle.machine.proofs.ListLemmas.{left_of_pair, right_of_pair, first_passes, kept_place}
 use Rattle.loading.proofs.PlaceLemmas.{mapped_at}
 use Rattle.machine.proofs.LinkedLemmas.{method_is}
 use Rattle.machine.proofs.LawsStaticLemmas.{IsClassIn}
@@ -356,7 +357,7 @@ descriptor_is f key j m found at =
     let first = first_passes (is_named f key) f.fields j found in
     let same : m ≡ first.0 = same_Some m first.0 (sym at ∙ first.1) in
     let named =
-    both_true (bytes_eq (text_at f first.0.name) key.name) (bytes_eq (text_at f first.0.descriptor) key.descriptor)
+    and_parts (bytes_eq (text_at f first.0.name) key.name) (bytes_eq (text_at f first.0.descriptor) key.descriptor)
     first.2 in
     ap (λ (x : Member). text_at f x.descriptor) same
     ∙ (bytes_eq-Decides (text_at f first.0.descriptor) key.descriptor).0 named.1
@@ -433,6 +434,6 @@ module _ (P : Tables) (is : IsProgram P) where
       let flagged : put.1.final ≡ true =
       sym (named_final d put.0 c k put.1.kind put.1.final put.1.place put.1.constant put.1.valued) ∙ final in
       let may : (c == d && is_method m (initializer_in P d)) ≡ true = rw flagged at put.1.may in
-      let parts = both_true (c == d) (is_method m (initializer_in P d)) may in
+      let parts = and_parts (c == d) (is_method m (initializer_in P d)) may in
       let same : c ≡ d = eqb-true c d parts.0 in
       (sym same, ap (initializer_in P) same ∙ method_is m (initializer_in P d) parts.1)

@@ -4,7 +4,7 @@ ghost use Rattle.std.specs.Prelude.{◌≡◌, List};
 ghost use Rattle.vm_state.specs.declared.text.Line.{Line};
 ghost use Rattle.machine.specs.Accesses.{Gives, KeptBy, Untouched};
 ghost use Rattle.machine.specs.Arrays.{is_checked, check_store, load_element, store_element};
-ghost use Rattle.machine.specs.steps.ArrayAccesses.{Reaches, ReachesOn, reach_loaded, reach_stored};
+ghost use Rattle.machine.specs.steps.ArrayAccesses.{Finds, PassesOn, reach_loaded, reach_stored};
 
 use crate::abrupt::{Abrupt, end_early};
 use crate::array_references::{Element, element_at, third_reference};
@@ -41,7 +41,7 @@ pub fn loaded<S: Store>(
     store: &S,
     kind: ElementKind,
 ) -> Result<Value, Abrupt>
-    ensures { (p : List Line) → Reaches S.stopped (S.run by (S.state store.now p)) (reach_loaded kind frame.now)
+    ensures { (p : List Line) → Finds S.stopped (S.run by (S.state store.now p)) (reach_loaded kind frame.now)
         result }
 {
     let index = frame.operands.top_int()?;
@@ -94,7 +94,7 @@ pub fn check_store<S: Store>(
     array: ArrayType,
     value: Value,
 ) -> Result<(), Abrupt>
-    ensures { (p : List Line) → ReachesOn S.stopped (S.run by (S.state store.now p))
+    ensures { (p : List Line) → PassesOn S.stopped (S.run by (S.state store.now p))
         (check_store program.now array value) result }
 {
     if !is_checked(value) {
@@ -121,7 +121,7 @@ pub fn stored<S: Store>(
     store: &S,
     kind: ElementKind,
 ) -> Result<Assignment, Abrupt>
-    ensures { (p : List Line) → Reaches S.stopped (S.run by (S.state store.now p))
+    ensures { (p : List Line) → Finds S.stopped (S.run by (S.state store.now p))
         (reach_stored program.now kind frame.now) result }
 {
     let value = top_stored(&frame.operands, stored_as(kind))?;

@@ -2,6 +2,7 @@
 use Rattle.std.proofs.Common.{◌≡◌, ◌⊎◌, ℕ, zero, suc, ◌==◌, Bool, true, false, ◌||◌, List, [], ◌∷◌, ◌++◌, map, reverse}
 use Rattle.std.proofs.Common.{not, cond}
 use Rattle.std.proofs.Common.{Option, Some, None, slice_get, refl, sym, ap, ◌∙◌, subst, inl, inr, eqb-true, eq-eqb}
+use Rattle.std.proofs.lemmas.Bool.{and_parts}
 use Rattle.std.specs.List.{list_any, filter, flat_map, AllByRecursion, AllZip}
 use Rattle.built_in.specs.declared.class_id.BuiltIn.{BuiltIn}
 use Rattle.built_in.specs.declared.class_id.BuiltIn.TheVariants as builtins
@@ -25,7 +26,6 @@ use Rattle.program.specs.InstanceFields.{added_slots, slots_of, slots_before}
 use Rattle.program.specs.Programs.{zero_of}
 use Rattle.program.proofs.SlotsLemmas.{slots_whole}
 use Rattle.program.proofs.SlotLawsLemmas.{superclass_first}
-use Rattle.machine.proofs.ListLemmas.{both_true}
 use Rattle.region_shape.specs.Suits.{suits}
 use Rattle.region_shape.proofs.SuitsLemmas.{zero_suits}
 
@@ -150,7 +150,7 @@ own_have f (m ∷ ms) = by (is_instance_field f m) refl (own_have f ms)
   where
     by : (b : Bool) → is_instance_field f m ≡ b → HaveValues (map (kind_of f) (filter (is_instance_field f) ms))
         → HaveValues (map (kind_of f) (filter (is_instance_field f) (m ∷ ms)))
-    by true is more = rw is ((both_true (not (has_flag m.access_flags 8)) (has_value (kind_of f m)) is).1, more)
+    by true is more = rw is ((and_parts (not (has_flag m.access_flags 8)) (has_value (kind_of f m)) is).1, more)
     by false is more = rw is more
 
 own_if_have : (o : Option ClassFile) → HaveValues (own_kinds_if o)

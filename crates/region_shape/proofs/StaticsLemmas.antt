@@ -1,6 +1,7 @@
 -- A region before its initializer runs has shape: each static is zero, null or a constant that suits its field.
 use Rattle.std.proofs.Common.{◌≡◌, ℕ, zero, suc, Bool, true, false, cond, List, [], ◌∷◌, map}
 use Rattle.std.proofs.Common.{Option, Some, None, slice_get, option_map, refl, sym, ap, ◌∙◌, subst, arith}
+use Rattle.std.proofs.lemmas.Bool.{and_parts}
 use Rattle.std.specs.Prelude.{unwrap_or, IsSomeAnd}
 use Rattle.std.specs.List.{All, Contains, filter}
 use Rattle.std.proofs.lemmas.Option.{same_Some, slice_get_within, slice_get-map, get_or_from_slice_get}
@@ -33,7 +34,7 @@ use Rattle.program.specs.Tables.{Tables, statics_if, statics_in}
 use Rattle.frame_instructions.specs.declared.operand_kind.OperandKind.TheVariants as operands
 use Rattle.machine.specs.Linked.{program_of}
 use Rattle.machine.specs.StoredKinds.{operand_kind}
-use Rattle.machine.proofs.ListLemmas.{left_of_pair, right_of_pair, both_true}
+use Rattle.machine.proofs.ListLemmas.{left_of_pair, right_of_pair}
 use Rattle.machine.proofs.LawsStaticLemmas.{IsClassIn}
 use Rattle.machine.proofs.LawsFinalLemmas.{given_of}
 use Rattle.region_shape.specs.Suits.{suits}
@@ -169,7 +170,7 @@ module _ (P : Tables) (is : IsProgram P) (f : ClassFile) (file : IsClassFile f) 
 
       by : (o : Option Value) → constant_value_of pool (kind_of f m) m ≡ o
           → suits (kind_of f m) (unwrap_or o (zero_of (kind_of f m))) ≡ true
-      by None e = zero_suits (kind_of f m) (both_true (has_flag m.access_flags 8) (has_value (kind_of f m)) static).1
+      by None e = zero_suits (kind_of f m) (and_parts (has_flag m.access_flags 8) (has_value (kind_of f m)) static).1
       by (Some v) e = by_flag v (has_flag m.access_flags 16) e
 
 -- ---- the region

@@ -1,18 +1,17 @@
 -- Big steps and small steps of an initializer agree: a run alone is the innermost frame's whole body, and then a run of
 -- its callers.
 use Rattle.std.proofs.Common.{◌≡◌, ℕ, zero, suc, ◌+◌, ◌≤◌, List, [], ◌∷◌, Option, Some, None, option_map}
-use Rattle.std.proofs.Common.{refl, sym, ap, subst, subst₂, ◌∙◌, add-zero, arith}
+use Rattle.std.proofs.Common.{refl, sym, ap, subst, subst₂, add-zero, arith}
 use Rattle.vm_state.specs.declared.value.Value.{Value}
 use Rattle.vm_state.specs.declared.frame.Frame.{Frame}
 use Rattle.vm_state.specs.SharedState.{Region}
-use Rattle.semantics.specs.Rows.{Move}
-use Rattle.semantics.specs.Moves.{with_operands, received, returned, moved}
+use Rattle.semantics.specs.Moves.{with_operands, received, returned}
 use Rattle.semantics.specs.Programs.{Program}
 use Rattle.semantics.specs.Quiet.{Environment}
 use Rattle.semantics.specs.Settling.{constant_region, RunsBody, ByReturn, ByStep, ByCall, SettlesBy, Settles}
 use Rattle.semantics.specs.Alone.{RunsAlone, Over, Step, body, SettlesAlone, StepsAgree}
 use Rattle.semantics.proofs.TestsLemmas.{from_some}
-use Rattle.semantics.proofs.FrameMovesLemmas.{Back, On, Down, way_of, onward_moved}
+use Rattle.semantics.proofs.FrameMovesLemmas.{Back, On, Down, way_of, onward_moved, moves_as}
 
 module _ (P : Program) (env : Environment) (c : ℕ) where
   -- ---- from big steps to small ones
@@ -21,11 +20,6 @@ module _ (P : Program) (env : Environment) (c : ℕ) where
       → RunsAlone P env c fs own k last
   at_cost {fs = fs} {own = own} {last = last} run same =
       subst (λ (cost : ℕ). RunsAlone P env c fs own cost last) same run
-
-  -- the same move, as one of all the frames
-  moves_as : {move other : Move} (f : Frame) (fs : List Frame) {o : Option (List Frame)} → move ≡ other
-      → moved other f fs ≡ o → moved move f fs ≡ o
-  moves_as f fs is leads = ap (λ (x : Move). moved x f fs) is ∙ leads
 
   -- a body, and then a run alone of the frames to which it returns, are a run alone
   pub alone_from_body : {f : Frame} {own back last : Region} {n k : ℕ} {v : Option Value}

@@ -1,6 +1,6 @@
 -- What holds of frames before a move, and of what it puts there, holds of the frames after it.
 use Rattle.std.proofs.Common.{◌≡◌, ℕ, Bool, true, inl, inr, List, [], ◌∷◌, Option, Some, None, nat_le, subst}
-use Rattle.std.proofs.Common.{option_map, refl, sym}
+use Rattle.std.proofs.Common.{option_map, refl, sym, ap, ◌∙◌}
 use Rattle.std.specs.List.{AllByRecursion}
 use Rattle.vm_state.specs.declared.value.Value.{Value}
 use Rattle.vm_state.specs.declared.value.Name.{Name}
@@ -14,7 +14,7 @@ use Rattle.semantics.specs.Rows.{Move, Stays, Becomes, Calls, Returns, Outcome, 
 use Rattle.semantics.specs.Moves.{advanced, with_operands, received, returned, moved, Left, Stand, Throw, Stop, stand}
 use Rattle.semantics.specs.Moves.{left_in}
 use Rattle.semantics.specs.Moves.{emptied, handled, caught, unwound}
-use Rattle.semantics.specs.Settling.{onward}
+use Rattle.semantics.specs.Settling.{onward, entered}
 use Rattle.semantics.specs.Programs.{Program}
 use Rattle.semantics.specs.Lawful.{Names, Knows, KnowsAll, KnowsSome, KnowsFrame, KnowsMove, KnowsOutcome}
 use Rattle.semantics.specs.helpers.Lawful.{KnowsFrames}
@@ -29,6 +29,18 @@ onward_moved (Stays place locals operands) f g fs e = rw (from_some e) refl
 onward_moved (Becomes h) f g fs e = rw (from_some e) refl
 onward_moved (Calls operands h) f g fs e = cc
 onward_moved (Returns v) f g fs e = cc
+
+-- where a frame goes on, it is the one on top
+pub onward_entered : (move : Move) (f g : Frame) → onward move f ≡ Some g → entered move f ≡ Some g
+onward_entered (Stays place locals operands) f g e = e
+onward_entered (Becomes h) f g e = e
+onward_entered (Calls operands h) f g e = cc
+onward_entered (Returns v) f g e = cc
+
+-- the same move, as one of all the frames
+pub moves_as : {move other : Move} (f : Frame) (fs : List Frame) {o : Option (List Frame)} → move ≡ other
+    → moved other f fs ≡ o → moved move f fs ≡ o
+moves_as f fs is leads = ap (λ (x : Move). moved x f fs) is ∙ leads
 
 -- where a move of the innermost frame leads
 pub data Way (move : Move) (f : Frame) (fs gs : List Frame) : Type 0 where

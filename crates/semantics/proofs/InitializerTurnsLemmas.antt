@@ -3,6 +3,7 @@
 use Rattle.std.proofs.Common.{◌≡◌, ◌≢◌, ℕ, ◌+◌, ◌<◌, ◌≤◌, Bool, true, false, ◌⊎◌, inl, inr, List, [], ◌∷◌, length}
 use Rattle.std.proofs.Common.{Option, Some, None}
 use Rattle.std.proofs.Common.{◌==◌, refl, sym, ap, ◌∙◌, subst, eqb-true, eq-eqb, arith, nat_lt, lt-ltb, ltb-true}
+use Rattle.std.proofs.lemmas.Bool.{and_parts}
 use Rattle.std.specs.List.{AllByRecursion}
 use Rattle.vm_state.specs.declared.value.Maker.TheVariants.{Class}
 use Rattle.vm_state.specs.declared.classes.ClassState.TheVariants.{InProgress, Initialized}
@@ -22,7 +23,6 @@ use Rattle.semantics.specs.Quiet.{Environment, QuietMove, Leaves, quiet_step}
 use Rattle.semantics.specs.Alone.{RunsAlone, Over, Step, body}
 use Rattle.semantics.specs.helpers.Lawful.{KnowsFrames}
 use Rattle.vm_state.proofs.ListLemmas.{tested}
-use Rattle.semantics.proofs.TestsLemmas.{both_true}
 use Rattle.semantics.proofs.VisibilityLemmas.{States, known, hidden_by}
 use Rattle.semantics.proofs.SettingLemmas.{Setting, is_below, below}
 use Rattle.semantics.proofs.FrameMovesLemmas.{moved_known}
@@ -57,10 +57,10 @@ module _ (S : Setting) where
   -- ---- waves fall going up the stack
 
   lower : (c d : ℕ) → is_below S.I S.wave c d ≡ true → S.wave d < S.wave c
-  lower c d b = ltb-true _ _ (both_true (S.I.holds d) (nat_lt (S.wave d) (S.wave c)) b).1
+  lower c d b = ltb-true _ _ (and_parts (S.I.holds d) (nat_lt (S.wave d) (S.wave c)) b).1
 
   accepted : (c d : ℕ) → is_below S.I S.wave c d ≡ true → S.I.holds d ≡ true
-  accepted c d b = (both_true (S.I.holds d) (nat_lt (S.wave d) (S.wave c)) b).0
+  accepted c d b = (and_parts (S.I.holds d) (nat_lt (S.wave d) (S.wave c)) b).0
 
   -- c may use d, so d is not among the accepted classes of the stack
   not_above : (c d : ℕ) (ls : List Level) → is_below S.I S.wave c d ≡ true → Higher S (S.wave c) ls → On d ls → ⊥

@@ -2,6 +2,7 @@
 use Rattle.std.proofs.Common.{◌≡◌, ◌≢◌, ℕ, true, false, inl, inr, List, Option, Some, None, ◌==◌, refl, sym, ap, ◌∙◌}
 use Rattle.std.proofs.Common.{subst, eqb-true}
 use Rattle.std.proofs.Common.{eq-eqb, nat_lt, ◌+◌}
+use Rattle.std.proofs.lemmas.Bool.{and_parts}
 use Rattle.vm_state.specs.declared.value.Value.{Value}
 use Rattle.vm_state.specs.declared.value.Name.{Name}
 use Rattle.vm_state.specs.declared.value.Maker.{Maker}
@@ -22,7 +23,7 @@ use Rattle.semantics.specs.Quiet.{is_open, Conduct, at_hand, if_fixed, elements_
 use Rattle.semantics.specs.Erasure.{is_hidden}
 use Rattle.semantics.specs.Lawful.{Knows, KnowsSlots, KnowsMove, Fits}
 use Rattle.vm_state.proofs.ListLemmas.{tested}
-use Rattle.semantics.proofs.TestsLemmas.{both_true, from_some, same_maker-true}
+use Rattle.semantics.proofs.TestsLemmas.{from_some, same_maker-true}
 use Rattle.semantics.proofs.BranchesLemmas.{from_fixed}
 use Rattle.semantics.proofs.KnownNamesLemmas.{Knows-mono}
 use Rattle.semantics.proofs.PoolsLemmas.{with_slot-holds, with_new-holds, part_at-holds, shape_at, shape-class}
@@ -65,7 +66,7 @@ module _ (S : Setting) where
     Free st = (d : ℕ) → is_below S.I S.wave c d ≡ true → st d ≢ InProgress t
 
     accepted_below : (d : ℕ) → is_below S.I S.wave c d ≡ true → S.I.holds d ≡ true
-    accepted_below d b = (both_true (S.I.holds d) (nat_lt (S.wave d) (S.wave c)) b).0
+    accepted_below d b = (and_parts (S.I.holds d) (nat_lt (S.wave d) (S.wave c)) b).0
 
     own_ready : (sh : SharedState) (d : ℕ) → sh.states c ≡ InProgress t → (d == c) ≡ true
         → usable t (sh.states d) ≡ Ready

@@ -15,6 +15,7 @@ use Rattle.semantics.specs.Settling.{constant_region, onward, entered, RunsBody,
 use Rattle.semantics.specs.Settling.{StopsBody, Before, At, Making, Inside, NoRoom, AfterCall, StoppedAt, StopExcludes}
 use Rattle.semantics.specs.Settling.{OneStop, SettlesOrStops}
 use Rattle.semantics.proofs.TestsLemmas.{from_some}
+use Rattle.semantics.proofs.FrameMovesLemmas.{onward_entered}
 use Rattle.semantics.proofs.OneRunLemmas.{same_move, same_elements, same_of, same_way, same_callee, same_back}
 use Rattle.semantics.proofs.OneRunLemmas.{after_same}
 use Rattle.semantics.proofs.OneRunLemmas.{body_once}
@@ -28,13 +29,6 @@ module _ (P : Program) (env : Environment) (c : ℕ) where
   first_move (ByReturn {m = m} moves is) = (m, moves, omega arith)
   first_move (ByStep {m = m} moves is on) = (m, moves, omega arith)
   first_move (ByCall {m = m} moves is called back on) = (m, moves, omega arith)
-
-  -- where a body goes on, it is entered
-  onward_entered : (move : Move) (f g : Frame) → onward move f ≡ Some g → entered move f ≡ Some g
-  onward_entered (Stays place locals operands) f g e = e
-  onward_entered (Becomes h) f g e = e
-  onward_entered (Calls operands h) f g e = cc
-  onward_entered (Returns v) f g e = cc
 
   enters : (f : Frame) {g h : Frame} {o : Conduct} {m move : QuietMove} → o ≡ Leaves m → o ≡ Leaves move →
       entered m.move f ≡ Some g → entered move.move f ≡ Some h → g ≡ h

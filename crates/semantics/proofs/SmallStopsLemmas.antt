@@ -14,7 +14,7 @@ use Rattle.semantics.specs.Settling.{StopsBody, Before, At, Making, Inside, NoRo
 use Rattle.semantics.specs.Alone.{RunsAlone, Over, Step, body, StopsAlone, Unpaid, Failing, Unmade, Full, Later}
 use Rattle.semantics.specs.Alone.{StoppedAlone, StopsAgree}
 use Rattle.semantics.proofs.TestsLemmas.{from_some}
-use Rattle.semantics.proofs.FrameMovesLemmas.{onward_moved}
+use Rattle.semantics.proofs.FrameMovesLemmas.{onward_moved, moves_as}
 use Rattle.semantics.proofs.OneRunLemmas.{same_move, same_elements, same_of}
 use Rattle.semantics.proofs.BigStepsLemmas.{small_from_big}
 use Rattle.semantics.proofs.RefusalsLemmas.{settles_or_stops_lem}
@@ -26,11 +26,6 @@ module _ (P : Program) (env : Environment) (c : ℕ) where
       → StopsAlone P env c fs own k stop
   at_budget {fs = fs} {own = own} {stop = stop} stops same =
       subst (λ (n : ℕ). StopsAlone P env c fs own n stop) same stops
-
-  -- the same move, as one of all the frames
-  moves_as : {move other : Move} (f : Frame) (fs : List Frame) {o : Option (List Frame)} → move ≡ other
-      → moved other f fs ≡ o → moved move f fs ≡ o
-  moves_as f fs is leads = ap (λ (x : Move). moved x f fs) is ∙ leads
 
   -- stopped one instruction later
   pub later : {f : Frame} {fs gs : List Frame} {own : Region} {m : QuietMove} {k : ℕ} {stop : Stop}

@@ -2,6 +2,7 @@
 use Rattle.std.proofs.Common.{◌≡◌, ℕ, zero, suc, ◌+◌, Bool, true, false, inl, inr, List, [], ◌∷◌, length, map, ◌==◌}
 use Rattle.std.proofs.Common.{if◌then◌else◌, refl}
 use Rattle.std.proofs.Common.{ap, arith, get_or, nat_lt}
+use Rattle.std.proofs.lemmas.Bool.{and_parts}
 use Rattle.vm_state.specs.declared.value.Maker.{Maker}
 use Rattle.vm_state.specs.declared.value.Maker.TheVariants as makers
 use Rattle.vm_state.specs.declared.classes.ClassState.TheVariants.{Uninitialized, InProgress}
@@ -13,7 +14,6 @@ use Rattle.semantics.specs.Images.{Image, image_start}
 use Rattle.semantics.specs.Erasure.{cut_thread, IsErased}
 use Rattle.semantics.specs.Lawful.{Names}
 use Rattle.vm_state.proofs.ListLemmas.{tested}
-use Rattle.semantics.proofs.TestsLemmas.{both_true}
 use Rattle.semantics.proofs.PoolsLemmas.{Holds}
 use Rattle.semantics.proofs.VisibilityLemmas.{known, shown}
 use Rattle.semantics.proofs.ConstantsLemmas.{zeros_known}
@@ -96,7 +96,7 @@ module _ (S : Setting) (entries : List ℕ) where
     shared = record {
       done = λ c a. rw a refl;
       states = λ c n. rw n refl;
-      region = λ c h. (let a : S.I.holds c ≡ true = (both_true (S.I.holds c) true h).0 in rw a refl);
+      region = λ c h. (let a : S.I.holds c ≡ true = (and_parts (S.I.holds c) true h).0 in rw a refl);
       regions = λ c h. elim (tested (S.I.holds c)) [
         | inl a ↦ (let clash : true ≡ false = rw a at h in cc)
         | inr n ↦ rw n refl

@@ -1,15 +1,9 @@
 -- Small facts on tests and options.
-use Rattle.std.proofs.Common.{◌≡◌, Bool, true, false, ◌&&◌, Some, refl}
+use Rattle.std.proofs.Common.{◌≡◌, true, Some, refl}
 use Rattle.vm_state.specs.declared.value.Maker.{Maker}
 use Rattle.vm_state.specs.declared.value.Maker.TheVariants.{Class, Thread}
 use Rattle.std.proofs.Common.{ap, eqb-true, eq-eqb}
 use Rattle.vm_state.specs.SharedState.{same_maker}
-
--- both parts of a conjunction
-pub both_true : (a b : Bool) → (a && b) ≡ true → (a ≡ true) × (b ≡ true)
-both_true true true h = (refl, refl)
-both_true true false h = cc
-both_true false b h = cc
 
 pub from_some : {A : Type 0} {a b : A} → Some a ≡ Some b → a ≡ b
 from_some h = cc

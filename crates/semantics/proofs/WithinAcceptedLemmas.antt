@@ -1,5 +1,6 @@
 -- The regions of accepted classes of lower waves refer to objects of such classes alone; a class's parents are uses.
-use Rattle.std.proofs.Common.{◌≡◌, inl, ℕ, Bool, true, false, ◌||◌, ◌==◌, Some, List, refl, arith}
+use Rattle.std.proofs.Common.{◌≡◌, inl, ℕ, true, ◌||◌, ◌==◌, Some, List, arith}
+use Rattle.std.proofs.Math.Bool.{or-true}
 use Rattle.std.specs.Option.{is_some}
 use Rattle.vm_state.specs.SharedState.{Region}
 use Rattle.semantics.specs.Programs.{Program}
@@ -10,17 +11,13 @@ use Rattle.semantics.specs.Soundness.{names_at_hand, HasLower, LowerIsClosed, Pa
 use Rattle.semantics.proofs.WavesLemmas.{wave_once}
 use Rattle.semantics.proofs.WithinNamesLemmas.{KnowsRegion, settled_known}
 
-or_true : (b : Bool) → (b || true) ≡ true
-or_true true = refl
-or_true false = refl
-
 pub lower_still : (uses : ℕ → List ℕ) (e d c : ℕ) → IsLower uses e d → IsLower uses d c → IsLower uses e c
 lower_still uses e d c (m, n, of_e, of_d, less) (k, l, still_d, of_c, more) =
     (m, l, of_e, of_c, omega (arith, wave_once of_d still_d))
 
 module _ (P : Program) (A : Analysis) (lawful : IsLawful P) (env : Environment) (c : ℕ) (has : HasLower P A env c) where
   own_at_hand : (d : ℕ) (r : Region) → env d ≡ Some r → (d == c || is_some (env d)) ≡ true
-  own_at_hand d r at = rw at (or_true (d == c))
+  own_at_hand d r at = rw at (or-true (d == c))
 
   accepted_known : {d : ℕ} {r : Region} → Accepted P A d r → IsLower A.uses d c → KnowsRegion (names_at_hand env c) r
   accepted_known {d = d} {r = r} (Accepts e region other n one allowed some lower known settles within) down =

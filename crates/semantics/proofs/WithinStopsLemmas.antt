@@ -7,19 +7,20 @@ use Rattle.vm_state.specs.declared.value.Maker.{Maker}
 use Rattle.vm_state.specs.declared.value.Maker.TheVariants.{Class, Thread}
 use Rattle.vm_state.specs.declared.frame.Frame.{Frame}
 use Rattle.vm_state.specs.SharedState.{Region, same_maker, with_field}
-use Rattle.semantics.specs.Rows.{Move, Stays, Becomes, Calls, Returns, Next, Raise, Halt, Row, Ends}
+use Rattle.semantics.specs.Rows.{Move, Next, Raise, Halt, Row, Ends}
 use Rattle.semantics.specs.Rows.{UseClass, ReadStatic, WriteStatic, AskClass, LookInto, Change}
 use Rattle.semantics.specs.Rows.{Make, UseMonitor, Print, part_at}
 use Rattle.semantics.specs.Programs.{Program}
 use Rattle.semantics.specs.Quiet.{Environment, is_final, pool_seen, Refusal, Stop, Refused, Barred, Raised}
 use Rattle.semantics.specs.Quiet.{ForeignObject, OverBudget, Faulted, Conduct, Leaves, Stops, is_open, at_hand}
 use Rattle.semantics.specs.Quiet.{if_fixed, elements_in, quiet, quiet_step}
-use Rattle.semantics.specs.Settling.{RunsBody, ByReturn, ByStep, ByCall, onward, entered, StopsBody, Before, At}
+use Rattle.semantics.specs.Settling.{RunsBody, ByReturn, ByStep, ByCall, entered, StopsBody, Before, At}
 use Rattle.semantics.specs.Settling.{Making, Inside, NoRoom, AfterCall, StoppedAt}
 use Rattle.semantics.specs.Lawful.{Names, KnowsFrame, KnowsMove, KnowsSome, IsLawful}
 use Rattle.semantics.specs.Bounds.{Scope, MovesWithin, IsInScope, Bounds, IsBounded, MayRun, Initializes, Called}
 use Rattle.semantics.specs.Bounds.{IsUse, IsClean}
 use Rattle.semantics.specs.Soundness.{is_made_at_hand, names_at_hand, IsClosed, HasUses, StopsWithin}
+use Rattle.semantics.proofs.FrameMovesLemmas.{onward_entered}
 use Rattle.semantics.proofs.PoolsLemmas.{with_slot-holds, with_new-holds, part_at-holds, open-known}
 use Rattle.semantics.proofs.WithinRowsLemmas.{received_has, entered_has}
 use Rattle.semantics.proofs.WithinNamesLemmas.{KnowsRegion, constant_region_known, entered_known}
@@ -28,13 +29,6 @@ use Rattle.semantics.proofs.WithinNamesLemmas.{field_known, back_known, Suits, f
 -- what was stopped was refused
 abbrev pub IsRefused : Stop → Type 0
 IsRefused stop = (why : Refusal) × (stop ≡ Refused why)
-
--- a frame that goes on is the one on top
-onward_entered : (move : Move) (f g : Frame) → onward move f ≡ Some g → entered move f ≡ Some g
-onward_entered (Stays place locals operands) f g e = e
-onward_entered (Becomes h) f g e = e
-onward_entered (Calls operands h) f g e = cc
-onward_entered (Returns v) f g e = cc
 
 -- What is said of an instruction bars nothing, and what it needs is used.
 record IsFree (used : ℕ → Type 0) (c : ℕ) (scope : Scope) : Type 0 where

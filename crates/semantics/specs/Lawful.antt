@@ -90,8 +90,8 @@ OwnsOutcome P own (Halt kind) = Unit {0}
 -- ---- what a row may do
 
 -- Where N holds of the names and Q of the values that it is given, a row asks for such names alone, and writes and
--- leaves only such. It writes a static final of a class alone that `own` has (JVMS 6.5, putstatic), and makes no frame of
--- another's initializer (JVMS 2.9).
+-- leaves only such. It writes a static final of a class alone that `own` has (JVMS 6.5, putstatic), and makes no frame
+-- of another's initializer (JVMS 2.9).
 abbrev pub FitsBy : Program → (Name → Type 0) → (Value → Type 0) → (ℕ → Bool) → Row → Type 0
 FitsBy P N Q own (Ends outcome) = HoldsOfOutcome N Q outcome × OwnsOutcome P own outcome
 FitsBy P N Q own (UseClass c next) = (b : Bool) → FitsBy P N Q own (next b)

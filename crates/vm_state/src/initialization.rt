@@ -424,18 +424,6 @@ impl Frames {
         }
     }
 
-    /// Takes the innermost frame above the highest initialization; its caller is the innermost one then.
-    pub fn pop(&mut self) -> Option<Frame>
-        ensures thread { self.new.thread ≡ self.old.thread }
-        ensures frame { result ≡ first_frame (segment_of self.old) }
-        ensures segment { segment_of self.new ≡ callers_of (segment_of self.old) }
-        ensures levels { self.new.levels ≡ self.old.levels }
-    {
-        let Segment { innermost, callers } = self.segment.take()?;
-        self.segment = callers.into_segment();
-        Some(innermost)
-    }
-
     /// Puts an initialization on top of the stack.
     ///
     /// # Errors

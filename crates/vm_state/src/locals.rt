@@ -3,7 +3,7 @@
 ghost use Rattle.std.specs.Prelude.{◌≡◌, ◌+◌, ◌^◌, ◌<◌, ◌≤◌, IfOk, OnErr, OnOk, Some, None, length, option_map};
 ghost use Rattle.std.specs.Prelude.{◌≢◌, [], map, replicate, slice_get, slice_set, true, false};
 ghost use Rattle.vm_state.specs.declared.value.Value.{Value};
-ghost use Rattle.vm_state.specs.Locals.{int_at, long_at, stored, value_at};
+ghost use Rattle.vm_state.specs.Locals.{int_at, stored, value_at};
 ghost use Rattle.vm_state.specs.Variables.{value_in};
 ghost use Rattle.vm_state.specs.Values.{places};
 ghost use Rattle.vm_state.specs.Arguments.{passed, taken};
@@ -212,19 +212,6 @@ impl Locals {
         }
     }
 
-    /// Puts a long into a place. Where a long is there already its number alone is written.
-    #[inline(always)]
-    fn put_long(&mut self, at: usize, number: i64)
-        requires { at < length self.old }
-        ensures { self.new ≡ slice_set self.old at (Some (Value.Long number)) }
-    {
-        let variable = &mut self.variables[at];
-        match variable {
-            Variable::Long(held) => *held = number,
-            _ => *variable = Variable::Long(number),
-        }
-    }
-
     /// The int in a local variable.
     ///
     /// # Errors
@@ -237,23 +224,6 @@ impl Locals {
     {
         match self.variable(at as usize) {
             Some(Variable::Int(number)) => Ok(number),
-            _ => Err(Fault),
-        }
-    }
-
-    /// The long in a local variable.
-    ///
-    /// # Errors
-    /// `Fault` where no long is there, or one that was ended.
-    #[tactic(auto, unfolding(crate::specs::Locals::value_at))]
-    #[inline(always)]
-    pub fn long_at(&self, at: u16) -> Result<i64, Fault>
-        ensures ok { IfOk result (λ n. long_at self.now at ≡ Some n) }
-        ensures err { OnErr result (long_at self.now at ≡ None) }
-    {
-        let at = at as usize;
-        match (self.variable(at), self.variable(at + 1)) {
-            (Some(Variable::Long(number)), Some(Variable::Nothing)) => Ok(number),
             _ => Err(Fault),
         }
     }
@@ -317,26 +287,6 @@ impl Locals {
             return Err(Fault);
         }
         self.put_int(at, number);
-        Ok(())
-    }
-
-    /// Stores a long. Where a long is there already its number alone is written.
-    ///
-    /// # Errors
-    /// `Fault` where its two places are not there; nothing has changed then.
-    #[tactic(auto, unfolding(crate::specs::Locals::stored))]
-    #[inline(always)]
-    pub fn store_long(&mut self, at: u16, number: i64) -> Result<(), Fault>
-        ensures ok { OnOk result (stored self.old at (Value.Long number) ≡ Some self.new) }
-        ensures err { OnErr result (stored self.old at (Value.Long number) ≡ None) }
-        ensures same { OnErr result (self.new ≡ self.old) }
-    {
-        let at = at as usize;
-        if at + 1 >= self.count() {
-            return Err(Fault);
-        }
-        self.put_long(at, number);
-        self.put(at + 1, Variable::Nothing);
         Ok(())
     }
 

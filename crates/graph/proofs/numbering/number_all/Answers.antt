@@ -1,4 +1,4 @@
-use Rattle.std.proofs.Common.{◌≡◌, ℕ, ◌+◌, ◌-◌, ◌<◌, ◌≤◌, length, slice_index, arith}
+use Rattle.std.proofs.Common.{ℕ, ◌+◌, ◌-◌, ◌<◌, ◌≤◌, length, slice_index, arith}
 use Rattle.std.specs.List.{Contains}
 use Rattle.graph.specs.steps.Numbering.{Gathering}
 use Rattle.graph.proofs.NumberedLemmas.{numbered_next, later_more, later_all}

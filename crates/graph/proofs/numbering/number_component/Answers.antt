@@ -1,4 +1,4 @@
-use Rattle.std.proofs.Common.{◌≡◌, ℕ, ◌<◌, List, length, sym, subst, arith, slice_index, ap, ◌∙◌}
+use Rattle.std.proofs.Common.{◌≡◌, ℕ, ◌<◌, List, length, subst, arith, slice_index, ap, ◌∙◌}
 use Rattle.std.specs.List.{All}
 use Rattle.graph.specs.Rows.{successors_of}
 use Rattle.graph.specs.steps.Adds.{Adds}
