@@ -10,7 +10,8 @@ use Rattle.std.proofs.lemmas.List.{get_or_past}
 use Rattle.std.proofs.lemmas.Option.{slice_get_past}
 use Rattle.std.proofs.lemmas.List.Concat.{flat_map-cons}
 use Rattle.std.proofs.lemmas.List.Elements.{All-nil, All-cons, All-same, All-append, All-contains, Contains-get_or}
-use Rattle.std.proofs.lemmas.List.Elements.{Contains-append_cases, Contains-append_left, Contains-push, Contains-push_cases}
+use Rattle.std.proofs.lemmas.List.Elements.{Contains-append_cases, Contains-append_left, Contains-push}
+use Rattle.std.proofs.lemmas.List.Elements.{Contains-push_cases}
 use Rattle.classfile.specs.Class.{IsClassFile}
 use Rattle.classfile.specs.ClassFile.{ClassFile}
 use Rattle.classfile.specs.Printing.{units_of}
@@ -54,7 +55,7 @@ unit_long u = by (nat_lt 0 u && nat_lt u 128) (nat_lt u 2048)
     by false true = omega arith
     by false false = omega arith
 
-units_short : (units : List ℕ) → length units ≤ length (units_text units)
+pub units_short : (units : List ℕ) → length units ≤ length (units_text units)
 units_short [] = omega arith
 units_short (u ∷ us) =
     omega (

@@ -5,7 +5,7 @@ use Rattle.std.proofs.Common.{List, [], ◌∷◌, ◌++◌, length, map, replic
 use Rattle.std.proofs.Common.{get_or, slice_get, unwrap_or}
 use Rattle.std.proofs.Common.{refl, sym, ap, subst, arith, length-append}
 use Rattle.std.specs.List.{flat_map, range_with_len}
-use Rattle.std.proofs.lemmas.Bool.{ltb-true, leb-true}
+use Rattle.std.proofs.lemmas.Bool.{and_parts, ltb-true, leb-true}
 use Rattle.std.proofs.lemmas.List.{length-replicate}
 use Rattle.std.proofs.lemmas.Option.{get_or_from_slice_get}
 use Rattle.std.proofs.lemmas.List.Concat.{flat_map-append}
@@ -33,7 +33,6 @@ use Rattle.semantics.specs.Lawful.{Knows, KnowsAll, KnowsSlots}
 use Rattle.semantics.specs.Quiet.{Environment, pool_seen}
 use Rattle.program.specs.Arrays.{is_name}
 use Rattle.program.specs.Tables.{Tables}
-use Rattle.machine.proofs.ListLemmas.{both_true}
 use Rattle.region_shape.specs.Counts.{count_of, is_there}
 use Rattle.region_shape.specs.Shapes.{HasObjects}
 use Rattle.region_shape.specs.Wholes.{AreWhole}
@@ -72,7 +71,8 @@ module _ (P : Tables) (has : HasFiles P) where
       )
 
   -- the type's name is that of what is told of it, if it has one
-  short_known : (a : ArrayType) (e : ElementType) → a.element ≡ e → is_name a.dimensions (element_text P.family e) ≡ true
+  short_known : (a : ArrayType) (e : ElementType) → a.element ≡ e
+      → is_name a.dimensions (element_text P.family e) ≡ true
       → IsShort a.dimensions (element_text P.family a.element)
       → length (name_of_class P.family (told_array P.strings a e)) < 2 ^ 16
   short_known a (elements.Unknown n) is named short = absurd cc
@@ -94,8 +94,9 @@ module _ (P : Tables) (has : HasFiles P) where
       let Q : ElementType → Type 0 = λ e. length (name_of_class P.family (told_array P.strings a e)) < 2 ^ 16 in
       subst Q (sym unknown.element) (short_unknown a unknown.number unknown.name unknown.named unknown.short)
   short_name (classes.Array a) (inl objects) =
-      let named = (both_true (leb a.dimensions 255) (is_name a.dimensions (element_text P.family a.element)) objects.1).1 in
-      short_known a a.element refl named (short_array a.dimensions (element_text P.family a.element) named)
+      let text = element_text P.family a.element in
+      let named = (and_parts (leb a.dimensions 255) (is_name a.dimensions text) objects.1).1 in
+      short_known a a.element refl named (short_array a.dimensions text named)
 
 -- ---- regions
 

@@ -5,7 +5,7 @@ use Rattle.std.proofs.Common.{is_some, slice_get, refl, sym, ap, subst, arith, a
 use Rattle.std.specs.Prelude.{FitsSigned, int_le}
 use Rattle.std.specs.Int.{w32, w64}
 use Rattle.std.specs.List.{All, AllByRecursion, AllZip, range_with_len}
-use Rattle.std.proofs.lemmas.Bool.{ltb-true, leb-true, le-leb}
+use Rattle.std.proofs.lemmas.Bool.{and_parts, ltb-true, leb-true, le-leb}
 use Rattle.std.proofs.lemmas.List.{length-map}
 use Rattle.std.proofs.lemmas.List.Elements.{All-nil, All-cons, All-head, All-tail}
 use Rattle.std.proofs.lemmas.Option.{get_or_from_slice_get}
@@ -28,7 +28,6 @@ use Rattle.program.specs.Arrays.{is_name, IsUnknownArray, IsUnknownName}
 use Rattle.program.specs.InstanceFields.{slots_of}
 use Rattle.program.specs.Tables.{Tables}
 use Rattle.machine.specs.Arrays.{kind_of_component, kind_of_element}
-use Rattle.machine.proofs.ListLemmas.{both_true}
 use Rattle.region_shape.specs.Suits.{suits}
 use Rattle.region_shape.specs.Shapes.{AreElements}
 use Rattle.region_shape.specs.Shapes.{has_objects as has_instances, HasObjects as HasInstances, AreSlots as HaveSlots}
@@ -227,7 +226,7 @@ module _ (P : Tables) (has : HasFiles P) where
   class_has (classes.Given c) vs objects slots = objects
   class_has (classes.BuiltIn b) vs objects slots = built_in_has b objects
   class_has (classes.Array a) vs (inl known) slots =
-      let is = both_true (leb a.dimensions 255) (is_name a.dimensions (element_text P.family a.element)) known.1 in
+      let is = and_parts (leb a.dimensions 255) (is_name a.dimensions (element_text P.family a.element)) known.1 in
       known_has a a.element is.1 (array_type a vs known.0 is.0 is.1 slots)
   class_has (classes.Array a) vs (inr unknown) slots = unknown_has a unknown
 
@@ -247,7 +246,7 @@ module _ (P : Tables) (has : HasFiles P) where
       by : HasInstances P (classes.Array a)
           → AreSlots P.family (told_array P.strings a a.element) (map (told_value P.strings) vs)
       by (inl known) =
-          let is = both_true (leb a.dimensions 255) (is_name a.dimensions (element_text P.family a.element)) known.1 in
+          let is = and_parts (leb a.dimensions 255) (is_name a.dimensions (element_text P.family a.element)) known.1 in
           known_slots a a.element (map (told_value P.strings) vs) is.1 told
       by (inr unknown) = unknown_slots a (map (told_value P.strings) vs) unknown told
 

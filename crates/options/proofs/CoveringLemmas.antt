@@ -4,7 +4,7 @@ use Rattle.std.proofs.Common.{get_or, take, Some, refl, sym, ap, ◌∙◌, subs
 use Rattle.std.proofs.Common.{max}
 use Rattle.std.specs.List.{All}
 use Rattle.std.specs.String.{string_bytes}
-use Rattle.std.proofs.lemmas.Bool.{cases_lt}
+use Rattle.std.proofs.lemmas.Bool.{cases_eq, cases_lt}
 use Rattle.std.proofs.lemmas.List.{get_or-set_same, get_or-set_other, length-set, take_all}
 use Rattle.std.proofs.lemmas.List.Elements.{All-nil}
 use Rattle.std.proofs.lemmas.Option.{same_Some, slice_get_within, slice_get_cases}
@@ -20,15 +20,6 @@ use Rattle.options.specs.declared.fault.OptionFault.TheVariants.{Memory, Unknown
 use Rattle.options.specs.declared.sorted_names.DottedName.{DottedName}
 use Rattle.options.specs.declared.sorted_names.Run.{Run}
 use Rattle.options.proofs.ListLemmas.{all_more, among, among_more, into_among}
-
-cases_same : (a b : ℕ) → (a ≡ b) ⊎ (a ≢ b)
-cases_same a b = elim (cases_lt a b) [
-  | inl less ↦ inr (λ same. absurd (omega (arith, less, same)))
-  | inr not_less ↦ elim (cases_lt b a) [
-    | inl more ↦ inr (λ same. absurd (omega (arith, more, same)))
-    | inr not_more ↦ inl (omega (arith, not_less, not_more))
-  ]
-]
 
 slice_get_there : {A : Type 0} (xs : List A) (i : ℕ) → i < length xs → (x : A) × (slice_get xs i ≡ Some x)
 slice_get_there xs i small = elim (slice_get_cases xs i).1 [
@@ -53,7 +44,7 @@ module _ (old : List ℕ) (run : Run) (small : run.first < length old) where
       there j other = get_or-set_other old run.first j run.end 0 (λ same. other (sym same))
 
       to : (i : ℕ) → Covers new i → Covers old i ⊎ IsInRun run i
-      to i (j, le, below) = elim (cases_same run.first j) [
+      to i (j, le, below) = elim (cases_eq run.first j) [
         | inl same ↦
             let read : get_or new j 0 ≡ run.end = ap (λ (k : ℕ). get_or new k 0) (sym same) ∙ here in
             inr (omega (arith, same, le), omega (arith, read, below))
@@ -61,7 +52,7 @@ module _ (old : List ℕ) (run : Run) (small : run.first < length old) where
       ]
 
       from : (i : ℕ) → Covers old i ⊎ IsInRun run i → Covers new i
-      from i (inl (j, le, below)) = elim (cases_same run.first j) [
+      from i (inl (j, le, below)) = elim (cases_eq run.first j) [
         | inl same ↦
             let read : get_or old j 0 ≡ get_or old run.first 0 = ap (λ (k : ℕ). get_or old k 0) (sym same) in
             (run.first, omega (arith, same, le), omega (arith, here, longer, read, below))

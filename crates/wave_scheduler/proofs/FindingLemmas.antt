@@ -21,6 +21,7 @@ use Rattle.wave_scheduler.specs.steps.Waves.{AreRefusedIn, dependent}
 use Rattle.wave_scheduler.specs.steps.Finding.{SetsClass}
 use Rattle.wave_scheduler.specs.steps.Finding.{is_refused, TellsBelow}
 use Rattle.wave_scheduler.proofs.ReachesLemmas.{one_of}
+use Rattle.wave_scheduler.proofs.SpreadingLemmas.{less_or_same}
 
 -- ---- a place of a list
 
@@ -87,9 +88,6 @@ accepted_or S e = by (slice_get S.outcomes e) refl
     by (Some (Refused r)) at = inr (λ (k, here). let clash : Some (Refused r) ≡ Some (Wave k) = sym at ∙ here in cc)
     by (Some (Stopped w)) at = inr (λ (k, here). let clash : Some (Stopped w) ≡ Some (Wave k) = sym at ∙ here in cc)
 
-less_or : (c limit : ℕ) → c < limit + 1 → (c < limit) ⊎ (c ≡ limit)
-less_or c limit low = grind arith
-
 -- ---- which classes are not accepted
 
 pub no_wave : (reason : Reason) (k : ℕ) → outcome_of (verdicts.Refused reason) ≡ Wave k → ⊥
@@ -130,7 +128,7 @@ pub tells_more : (first : List (Option ℕ)) (limit : ℕ) (old : List Outcome) 
     → TellsBelow first (limit + 1) old (map outcome_of more)
 tells_more first limit old cur more o x d low was tells told is = rw (is, map-set outcome_of cur limit o) record {
   count = length-set (map outcome_of cur) limit (outcome_of o) ∙ tells.count;
-  each = λ c y small at. elim (less_or c limit small) [
+  each = λ c y small at. elim (less_or_same c limit small) [
     | inl less ↦
         set_other (map outcome_of cur) limit c (outcome_of o) (omega arith) ∙ tells.each c y less at
     | inr last ↦
@@ -170,7 +168,7 @@ starts_from judged outs rs are none = record {
 pub counts_more : (judged : List Verdict) (i count more : ℕ) (v : Verdict) → i < length judged
     → v ≡ slice_index_or judged i v → ((c n : ℕ) → c < i → before.HasWave judged c n → n < count) → count ≤ more
     → ((n : ℕ) → v ≡ verdicts.Wave n → n < more) → (c n : ℕ) → c < i + 1 → before.HasWave judged c n → n < more
-counts_more judged i count more v low is under grows above c n small at = elim (less_or c i small) [
+counts_more judged i count more v low is under grows above c n small at = elim (less_or_same c i small) [
   | inl less ↦ (let b = under c n less at in omega arith)
   | inr last ↦
       let here : slice_get judged i ≡ Some v = slice_get-get_or judged i v low ∙ ap Some (sym is) in

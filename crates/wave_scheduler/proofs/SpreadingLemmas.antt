@@ -10,6 +10,7 @@ use Rattle.graph.specs.Rows.{Rows, successors_of}
 use Rattle.graph.specs.Reaches.{Reaches, itself, along}
 use Rattle.graph.specs.Seen.{Joins}
 use Rattle.graph.specs.steps.Adds.{Adds}
+use Rattle.graph.proofs.AddsLemmas.{push_same}
 use Rattle.wave_scheduler.specs.steps.Tainting.{IsClosedIn, AddsReached}
 
 -- what was seen before is there, and what a vertex reaches; the first so many have what their rows have
@@ -32,9 +33,6 @@ closed_before : (graph : Rows) (old items : List ℕ) (k : ℕ) → IsClosedIn g
 closed_before graph old items k closed small same keeps =
     rw same (all_in (successors_of graph (slice_index old k)) items
     (λ x p. keeps x (closed (slice_index old k) x (at_place old k small) p)))
-
-push_same : (old : List ℕ) (b k : ℕ) → k < length old → slice_index (old ++ b ∷ []) k ≡ slice_index old k
-push_same old b k h = grind (arith, common_steps)
 
 push_grows : (old : List ℕ) (b : ℕ) → length old ≤ length (old ++ b ∷ [])
 push_grows old b = grind (arith, common_steps)
@@ -60,7 +58,7 @@ spreading_first graph from false old items closed (there, s) = rw s (record {
   up_to = omega arith;
 })
 
-less_or_same : (k next : ℕ) → k < next + 1 → (k < next) ⊎ (k ≡ next)
+pub less_or_same : (k next : ℕ) → k < next + 1 → (k < next) ⊎ (k ≡ next)
 less_or_same k next small = grind arith
 
 pub spreading_next : (graph : Rows) (from : ℕ) (old items new : List ℕ) (next : ℕ) → IsClosedIn graph old

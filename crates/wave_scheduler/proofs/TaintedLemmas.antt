@@ -1,6 +1,7 @@
 -- What depends on classes that are not accepted.
 use Rattle.std.proofs.Common.{◌≡◌, ◌≢◌, ◌⊎◌, ℕ, ◌+◌, ◌*◌, ◌<◌, ◌≤◌, List, [], length, inl, inr, refl, sym, subst}
 use Rattle.std.proofs.Common.{◌∙◌, ap, Some, slice_get, slice_index_or, option_map, arith}
+use Rattle.std.proofs.lemmas.Bool.{cases_eq}
 use Rattle.std.specs.List.{Contains}
 use Rattle.std.proofs.lemmas.Option.{slice_get-get_or, slice_get-map}
 use Rattle.graph.specs.Rows.{Rows}
@@ -25,12 +26,7 @@ use Rattle.wave_scheduler.specs.steps.Tainting.{IsClosedIn, AddsReached, AreDepe
 use Rattle.wave_scheduler.specs.steps.Tainting.{Spreads}
 use Rattle.wave_scheduler.specs.steps.Tainting.{DependsOnRefused, SeesBelow, IsOver, SeesOver, AreTainted}
 use Rattle.wave_scheduler.proofs.FindingLemmas.{refused_or}
-
-same_or : (n m : ℕ) → (n ≡ m) ⊎ (n ≢ m)
-same_or n m = grind arith
-
-less_or : (c limit : ℕ) → c < limit + 1 → (c < limit) ⊎ (c ≡ limit)
-less_or c limit low = grind arith
+use Rattle.wave_scheduler.proofs.SpreadingLemmas.{less_or_same}
 
 -- ---- what was added
 
@@ -103,7 +99,7 @@ sees_more S old new i sees s v = (
 )
   where
     by : DependsOnRefused S new (i + 1) v → IsSeen new v
-    by (e, low, never, path) = elim (less_or e i low) [
+    by (e, low, never, path) = elim (less_or_same e i low) [
       | inl less ↦
           (s.each v).1 (inl ((sees v).1 (e, less, never, moved_back i e (¬ IsAccepted S i) old new s v path)))
       | inr same ↦
@@ -224,7 +220,7 @@ tainted_more P S T c old new are low accepted same s = record {
 }
   where
     still : (e : ℕ) → (¬ IsAccepted S e) → ¬ IsAccepted T e
-    still e never = elim (same_or e c) [
+    still e never = elim (cases_eq e c) [
       | inl is ↦ absurd (never (subst (IsAccepted S) (sym is) accepted))
       | inr apart ↦ λ (k, at). never (k, sym (same e apart) ∙ at)
     ]
@@ -237,7 +233,7 @@ tainted_more P S T c old new are low accepted same s = record {
     there v (inr (never, path)) = (c, low, never, moved c c (¬ IsAccepted T c) old new s v path)
 
     back : (v : ℕ) → DependsOnRefused T new (length P.classes) v → IsSeen new v
-    back v (e, less, never, path) = elim (same_or e c) [
+    back v (e, less, never, path) = elim (cases_eq e c) [
       | inl is ↦
           let never_c : ¬ IsAccepted T c = subst (λ (x : ℕ). ¬ IsAccepted T x) is never in
           let path_c : Reaches new.dependents (vertex_in new c) v =

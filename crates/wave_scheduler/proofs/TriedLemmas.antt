@@ -2,6 +2,7 @@
 -- there.
 use Rattle.std.proofs.Common.{◌≡◌, ℕ, zero, suc, ◌<◌, Bool, true, false, ◌||◌, ◌==◌}
 use Rattle.std.proofs.Common.{Some, is_some, refl, arith}
+use Rattle.std.proofs.Math.Bool.{or-true}
 use Rattle.vm_state.specs.SharedState.{Region}
 use Rattle.semantics.specs.Soundness.{names_at_hand, IsClosed}
 use Rattle.semantics.proofs.WithinNamesLemmas.{KnowsRegion, settled_known}
@@ -15,14 +16,10 @@ use Rattle.wave_scheduler.specs.Settled.{Settled, HasWave, region_in, below}
 use Rattle.wave_scheduler.specs.Laws.{AreSettledBelow, NeverBarred}
 use Rattle.wave_scheduler.proofs.SettledLemmas.{below_there, from_below}
 
-or_true : (b : Bool) → (b || true) ≡ true
-or_true true = refl
-or_true false = refl
-
 module _ (P : Tables) (is : IsProgram P) (budget : ℕ) (S : Settled) (n : ℕ) (are : AreSettledBelow P budget S n)
     (c : ℕ) where
   own_at_hand : (d : ℕ) (r : Region) → below S n d ≡ Some r → (d == c || is_some (below S n d)) ≡ true
-  own_at_hand d r at = rw at (or_true (d == c))
+  own_at_hand d r at = rw at (or-true (d == c))
 
   region_known : (limit m d : ℕ) (r : Region) → m < limit → m < n → HasWave S d m → region_in S d ≡ Some r
       → KnowsRegion (names_at_hand (below S n) c) r

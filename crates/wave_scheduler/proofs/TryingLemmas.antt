@@ -2,6 +2,7 @@
 use Rattle.std.proofs.Common.{◌≡◌, ◌≢◌, ◌⊎◌, inl, inr, ℕ, zero, suc, ◌+◌, ◌<◌, Bool, List, [], ◌∷◌, ◌++◌, length}
 use Rattle.std.proofs.Common.{take}
 use Rattle.std.proofs.Common.{Option, Some, None, slice_get, slice_index, refl, sym, subst, ◌∙◌, arith}
+use Rattle.std.proofs.lemmas.Bool.{cases_eq}
 use Rattle.std.specs.List.{Contains}
 use Rattle.std.proofs.lemmas.List.{take_more}
 use Rattle.std.proofs.lemmas.List.Elements.{Contains-push, Contains-push_cases, Contains-append_left}
@@ -33,9 +34,6 @@ use Rattle.wave_scheduler.proofs.WavesLemmas.{had_wave, one_before}
 use Rattle.wave_scheduler.proofs.TriesLemmas.{tries_decide_lem}
 use Rattle.wave_scheduler.proofs.FindingLemmas.{accepted_or}
 use Rattle.wave_scheduler.proofs.TaintedLemmas.{use_seen, IsFrom, seen_from, next_from, tainted_more}
-
-same_or : (n m : ℕ) → (n ≡ m) ⊎ (n ≢ m)
-same_or n m = grind arith
 
 module _ (P : Tables) (forced : List Bool) (budget : ℕ) (judged : List Verdict) (n : ℕ) (old : Settled)
     (is : IsProgram P) (fits : IsFamily P.family) (within : AreParentsWithin P.family)
@@ -150,7 +148,7 @@ module _ (P : Tables) (forced : List Bool) (budget : ℕ) (judged : List Verdict
             | inl past ↦ tries.wave x past
             | inr last ↦ subst (λ (y : ℕ). before.HasWave judged y n) last wave
           ];
-          here = λ x o there at. elim (same_or x c) [
+          here = λ x o there at. elim (cases_eq x c) [
             | inr other ↦ elim (Contains-push_cases done c x there) [
               | inr last ↦ absurd (other (sym last))
               | inl past ↦

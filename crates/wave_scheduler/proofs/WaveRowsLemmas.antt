@@ -2,6 +2,7 @@
 use Rattle.std.proofs.Common.{◌≡◌, ◌≢◌, ◌⊎◌, ℕ, ◌+◌, ◌<◌, ◌≤◌, List, [], ◌∷◌, ◌++◌, length, take, replicate}
 use Rattle.std.proofs.Common.{slice_index, slice_index_or, slice_set, slice_get, Some, inl, inr, refl, sym, ap, subst}
 use Rattle.std.proofs.Common.{◌∙◌, arith}
+use Rattle.std.proofs.lemmas.Bool.{cases_eq}
 use Rattle.std.specs.List.{Contains}
 use Rattle.std.proofs.lemmas.Grind.{common_steps}
 use Rattle.std.proofs.lemmas.List.{length-set, length-replicate}
@@ -18,12 +19,7 @@ use Rattle.initializer_analysis.specs.Verdicts.{HasWave}
 use Rattle.wave_scheduler.specs.steps.WaveRows.{row_in, AreEachOnce, AreRows, IsRowBelow, AreRowsBelow}
 use Rattle.wave_scheduler.specs.steps.WaveRows.{JoinsWave}
 use Rattle.wave_scheduler.proofs.WavesLemmas.{one_before}
-
-same_or : (n m : ℕ) → (n ≡ m) ⊎ (n ≢ m)
-same_or n m = grind arith
-
-less_or : (c limit : ℕ) → c < limit + 1 → (c < limit) ⊎ (c ≡ limit)
-less_or c limit low = grind arith
+use Rattle.wave_scheduler.proofs.SpreadingLemmas.{less_or_same}
 
 -- ---- one more class
 
@@ -43,7 +39,7 @@ length_more : (row : List ℕ) (c : ℕ) → length (row ++ c ∷ []) ≡ length
 length_more row c = grind (arith, common_steps)
 
 once_more : (row : List ℕ) (c : ℕ) → AreEachOnce row → (¬ Contains row c) → AreEachOnce (row ++ c ∷ [])
-once_more row c once new j small = elim (less_or j (length row) (omega (arith, length_more row c))) [
+once_more row c once new j small = elim (less_or_same j (length row) (omega (arith, length_more row c))) [
   | inl less ↦ rw (take_before row c j less, index_before row c j less) (once j less)
   | inr last ↦ rw (last, take_whole row c, index_last row c) new
 ]
@@ -55,7 +51,7 @@ joined judged c n row wave below = record {
     | inl before ↦ (let (low, had) = below.has x before in (omega arith, had))
     | inr is ↦ (omega arith, subst (λ (y : ℕ). HasWave judged y n) is wave)
   ];
-  all = λ x low had. elim (less_or x c low) [
+  all = λ x low had. elim (less_or_same x c low) [
     | inl less ↦ Contains-append_left row (c ∷ []) x (below.all x less had)
     | inr same ↦ subst (Contains (row ++ c ∷ [])) (sym same) (Contains-push row c)
   ];
@@ -66,7 +62,7 @@ kept : (judged : List Verdict) (c n : ℕ) (row : List ℕ) → (¬ HasWave judg
     → IsRowBelow judged (c + 1) n row
 kept judged c n row never below = record {
   has = λ x there. (let (low, had) = below.has x there in (omega arith, had));
-  all = λ x low had. elim (less_or x c low) [
+  all = λ x low had. elim (less_or_same x c low) [
     | inl less ↦ below.all x less had
     | inr same ↦ absurd (never (subst (λ (y : ℕ). HasWave judged y n) same had))
   ];
@@ -82,7 +78,7 @@ pub rows_more : (judged : List Verdict) (c count : ℕ) (old new : Rows) (v d : 
     → JoinsWave c v old new → AreRowsBelow judged (c + 1) count new
 rows_more judged c count old new (Wave m) d low is above below joins = rw joins (record {
   len = length-set old m (row_in old m ++ c ∷ []) ∙ below.len;
-  each = λ n. elim (same_or n m) [
+  each = λ n. elim (cases_eq n m) [
     | inl same ↦ rw (same, successors_of-set_same old m (row_in old m ++ c ∷ []) small)
         (joined judged c m (row_in old m) wave (below.each m))
     | inr apart ↦ rw (successors_of-set_other old m n (row_in old m ++ c ∷ []) apart)
