@@ -1,4 +1,6 @@
 pub mod TextsLemmas
+pub mod ChainsLemmas
+pub mod FoundTextsLemmas
 pub mod MemberIndexesPlaceLemmas
 pub mod MemberIndexesLemmas
 pub mod MemberTablesLemmas

@@ -20,10 +20,10 @@ use Rattle.loading.specs.declared.given.GivenClass.{GivenClass}
 use Rattle.hierarchy.specs.declared.member_index.MemberIndex.{MemberIndex}
 use Rattle.hierarchy.specs.declared.member_index.MemberKey.{MemberKey}
 use Rattle.hierarchy.specs.declared.member_table.MemberTable.{MemberTable}
-use Rattle.hierarchy.specs.steps.MemberTables.{IsTableOf}
+use Rattle.hierarchy.specs.steps.MemberTables.{IsTableOf, HavePools, AreIndexed}
 use Rattle.hierarchy.specs.steps.PoolTexts.{AreTextNumbers}
 use Rattle.loading.proofs.PlaceLemmas.{slice_get_push, pushed_at}
-use Rattle.hierarchy.proofs.MemberIndexesLemmas.{grown, index_same}
+use Rattle.hierarchy.proofs.MemberIndexesLemmas.{index_same}
 
 -- what classes declare with one class more, for fields and for methods
 module _ (own : NameAndType → Option ClassFile → Option ℕ) (members : ClassFile → List Member)
@@ -76,47 +76,64 @@ pools_next old texts family given pools numbers keeps count here before c f n of
       | inr last ↦ absurd (eqb-false (length family) c e (sym count ∙ sym last.0))
     ]
 
--- a table with one class more
-pub table_with : (old new : MemberTable) (family : Family) (given : GivenClass) (numbers : List ℕ)
-    (fields methods : List Member)
+-- one class more has its numbers
+pub pools_with : (old texts : List (List ℕ)) (family : Family) (given : GivenClass) (pools new_pools : List (List ℕ))
+    (numbers : List ℕ) → KeepsNumbers old texts → AreDistinct texts → AreTextNumbers texts given.file numbers
+    → new_pools ≡ pools ++ numbers ∷ [] → HavePools family old pools → HavePools (family ++ given ∷ []) texts new_pools
+pools_with old texts family given pools new_pools numbers keeps distinct here pushed have = record {
+  distinct = distinct;
+  first = keeps 0 [] have.first;
+  count = omega (
+    arith,
+    ap length pushed,
+    length-append pools (numbers ∷ []),
+    have.count,
+    length-append family (given ∷ []),
+  );
+  pools = λ c f n of there. pools_next old texts family given pools numbers keeps have.count here
+      have.pools c f n of (ap (λ l. slice_get l c) (sym pushed) ∙ there);
+}
+
+-- the members of one class more are found
+pub indexed_with : (family : Family) (given : GivenClass) (texts : List (List ℕ)) (numbers : List ℕ)
+    (old_fields new_fields old_methods new_methods : MemberIndex) (fields methods : List Member)
     → fields ≡ given.file.fields → methods ≡ given.file.methods
-    → KeepsNumbers old.texts new.texts → AreDistinct new.texts → AreTextNumbers new.texts given.file numbers
-    → new.pools.items ≡ old.pools.items ++ numbers ∷ []
+    → AreDistinct texts → AreTextNumbers texts given.file numbers
     → ((texts : List (List ℕ)) (f : ClassFile) (declared : ℕ → NameAndType → Option ℕ) → AreTextNumbers texts f numbers
-    → AreDistinct texts → IsIndex texts declared (place_of old.fields)
-    → IsIndex texts (declared_after declared (length family) f fields) (place_of new.fields))
+    → AreDistinct texts → IsIndex texts declared (place_of old_fields)
+    → IsIndex texts (declared_after declared (length family) f fields) (place_of new_fields))
     → ((texts : List (List ℕ)) (f : ClassFile) (declared : ℕ → NameAndType → Option ℕ) → AreTextNumbers texts f numbers
-    → AreDistinct texts → IsIndex texts declared (place_of old.methods)
-    → IsIndex texts (declared_after declared (length family) f methods) (place_of new.methods))
-    → IsTableOf family old → IsTableOf (family ++ given ∷ []) new
-table_with old new family given numbers fields methods fs ms keeps distinct here pushed by_fields by_methods is =
+    → AreDistinct texts → IsIndex texts declared (place_of old_methods)
+    → IsIndex texts (declared_after declared (length family) f methods) (place_of new_methods))
+    → AreIndexed family texts old_fields old_methods
+    → AreIndexed (family ++ given ∷ []) texts new_fields new_methods
+indexed_with family given texts numbers old_fields new_fields old_methods new_methods fields methods fs ms distinct
+    here by_fields by_methods is =
     record {
-      distinct = distinct;
-      first = keeps 0 [] is.first;
-      count = omega (
-        arith,
-        ap length pushed,
-        length-append old.pools.items (numbers ∷ []),
-        is.count,
-        length-append family (given ∷ []),
-      );
-      pools = λ c f n of there. pools_next old.texts new.texts family given old.pools.items numbers keeps is.count here
-          is.pools c f n of (ap (λ l. slice_get l c) (sym pushed) ∙ there);
-      fields = index_same new.texts _ (λ c q. field_in (family ++ given ∷ []) q c) (place_of new.fields)
+      fields = index_same texts _ (λ c q. field_in (family ++ given ∷ []) q c) (place_of new_fields)
           (one_class field_of (λ f. f.fields) (λ q. refl) (λ q f. refl) family given)
-          (subst (λ (l : List Member). IsIndex new.texts
-          (declared_after (λ c q. field_in family q c) (length family) given.file l) (place_of new.fields)) fs
-          (by_fields new.texts given.file _ here distinct
-          (grown old.texts new.texts _ (place_of old.fields) is.fields keeps distinct)));
-      methods = index_same new.texts _ (λ c q. method_in (family ++ given ∷ []) q c) (place_of new.methods)
+          (subst (λ (l : List Member). IsIndex texts
+          (declared_after (λ c q. field_in family q c) (length family) given.file l) (place_of new_fields)) fs
+          (by_fields texts given.file _ here distinct is.fields));
+      methods = index_same texts _ (λ c q. method_in (family ++ given ∷ []) q c) (place_of new_methods)
           (one_class method_of (λ f. f.methods) (λ q. refl) (λ q f. refl) family given)
-          (subst (λ (l : List Member). IsIndex new.texts
-          (declared_after (λ c q. method_in family q c) (length family) given.file l) (place_of new.methods)) ms
-          (by_methods new.texts given.file _ here distinct
-          (grown old.texts new.texts _ (place_of old.methods) is.methods keeps distinct)));
+          (subst (λ (l : List Member). IsIndex texts
+          (declared_after (λ c q. method_in family q c) (length family) given.file l) (place_of new_methods)) ms
+          (by_methods texts given.file _ here distinct is.methods));
     }
 
--- ---- a table of no classes
+pub table_from : (family : Family) (table : MemberTable) → HavePools family table.texts table.pools.items
+    → AreIndexed family table.texts table.fields table.methods → IsTableOf family table
+table_from family table have indexed = record {
+  distinct = have.distinct;
+  first = have.first;
+  count = have.count;
+  pools = have.pools;
+  fields = indexed.fields;
+  methods = indexed.methods;
+}
+
+-- ---- no classes
 
 none_found : (texts : List (List ℕ)) (declared : ℕ → NameAndType → Option ℕ) (index : MemberIndex)
     → ((c : ℕ) (q : NameAndType) → declared c q ≡ None)
@@ -127,17 +144,21 @@ none_found texts declared index nothing empty = record {
   found = λ c q n are. empty c n ∙ sym (nothing c q);
 }
 
-pub table_of_none : (table : MemberTable) → AreDistinct table.texts → slice_get table.texts 0 ≡ Some []
-    → table.pools.items ≡ []
-    → ((c : ℕ) (q : MemberKey) → place_of table.fields c q ≡ None)
-    → ((c : ℕ) (q : MemberKey) → place_of table.methods c q ≡ None) → IsTableOf [] table
-table_of_none table distinct first none fields methods = record {
+pub no_pools : (texts pools : List (List ℕ)) → AreDistinct texts → slice_get texts 0 ≡ Some [] → pools ≡ []
+    → HavePools [] texts pools
+no_pools texts pools distinct first none = record {
   distinct = distinct;
   first = first;
   count = ap length none;
   pools = λ c f n of there. let clash : None ≡ Some f = of in absurd cc;
-  fields = none_found table.texts _ table.fields (λ c q. refl) fields;
-  methods = none_found table.texts _ table.methods (λ c q. refl) methods;
+}
+
+pub none_indexed : (texts : List (List ℕ)) (fields methods : MemberIndex)
+    → ((c : ℕ) (q : MemberKey) → place_of fields c q ≡ None)
+    → ((c : ℕ) (q : MemberKey) → place_of methods c q ≡ None) → AreIndexed [] texts fields methods
+none_indexed texts fields methods no_fields no_methods = record {
+  fields = none_found texts _ fields (λ c q. refl) no_fields;
+  methods = none_found texts _ methods (λ c q. refl) no_methods;
 }
 
 -- ---- what members are called

@@ -25,3 +25,5 @@ pub mod Groups
 pub mod FoundAhead
 pub mod Specials
 pub mod Selectable
+pub mod Chains
+pub mod FoundTexts

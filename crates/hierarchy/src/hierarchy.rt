@@ -88,9 +88,9 @@ impl Hierarchy {
         &self.family
     }
 
-    /// The seed of its classes, which tables of what stands in their files are to hash with.
+    /// Where the codes of texts begin that stand in its class files.
     pub fn seed(&self) -> Seed {
-        self.table.seed()
+        Seed::plain()
     }
 
     /// The numbers of a name and a descriptor. Without numbers no given class has such a member.

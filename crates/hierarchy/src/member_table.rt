@@ -1,7 +1,7 @@
 //! The table of all members of a family.
 
 ghost use Rattle.std.specs.Prelude.{◌≡◌, ◌≤◌, ◌^◌, ℕ, List, Option, [], ◌∷◌, ◌++◌, IfOk, OnOk, length, slice_get, Some};
-ghost use Rattle.std.specs.Prelude.{option_copied};
+ghost use Rattle.std.specs.Prelude.{option_copied, None};
 ghost use Rattle.loading.specs.Families.{Family};
 ghost use Rattle.built_in.specs.Keys.{NameAndType};
 ghost use Rattle.loading.specs.Names.{text_at};
@@ -10,13 +10,14 @@ ghost use Rattle.hierarchy.specs.steps.PoolTexts.{AreTextNumbers};
 ghost use Rattle.classfile.specs.ClassFile.{ClassFile as File};
 ghost use Rattle.hierarchy.specs.steps.MemberIndexes.{place_of, IsIndex, Notes, IsLookup, declared_after, AreNumbers};
 ghost use Rattle.hierarchy.specs.MemberLookup.{field_in, method_in};
-ghost use Rattle.hierarchy.specs.steps.MemberTables.{IsTableOf};
+ghost use Rattle.hierarchy.specs.steps.MemberTables.{IsTableOf, HavePools, AreIndexed};
+ghost use Rattle.hierarchy.specs.declared.member_index.MemberKey.{MemberKey as Key};
 ghost use Rattle.hierarchy.specs.MemberNames.{named_in};
 
 use crate::member_index::{MemberIndex, MemberKey};
 use crate::member_name::MemberName;
 use crate::pool_texts::PoolTexts;
-use crate::seed::Seed;
+use crate::seed::{NumberSeed, Seed};
 use crate::texts::Texts;
 use classfile::Member;
 use loading::given::GivenClass;
@@ -29,6 +30,8 @@ pub(crate) struct MemberTable {
     pools: Vec<PoolTexts>,
     fields: MemberIndex,
     methods: MemberIndex,
+    /// What tables by name and descriptor hash with.
+    seed: NumberSeed,
 }
 
 // By hand, since a derived one is proved anew wherever one is let go.
@@ -39,7 +42,76 @@ impl Drop for MemberTable {
             pools: _,
             fields: _,
             methods: _,
+            seed: _,
         } = self;
+    }
+}
+
+/// The texts of classes by number.
+struct Numbered {
+    texts: Texts,
+    /// By class: the numbers of its file's texts.
+    pools: Vec<PoolTexts>,
+}
+
+// By hand, since a derived one is proved anew wherever one is let go.
+impl Drop for Numbered {
+    fn drop(self) {
+        let Numbered { texts: _, pools: _ } = self;
+    }
+}
+
+impl Numbered {
+    /// The texts of these classes.
+    fn of_classes(alloc: Global, classes: &[GivenClass]) -> Result<Self, AllocError>
+        ensures { IfOk result (λ numbered. HavePools classes.now numbered.texts numbered.pools.items) }
+    {
+        let texts = Texts::with_empty(alloc, Seed::plain())?;
+        let mut numbered = Numbered {
+            texts,
+            pools: Vec::new(alloc),
+        };
+        match numbered.add_classes(alloc, classes) {
+            Ok(()) => Ok(numbered),
+            Err(error) => Err(error),
+        }
+    }
+
+    /// Gives the texts of all classes numbers.
+    fn add_classes(&mut self, alloc: Global, classes: &[GivenClass]) -> Result<(), AllocError>
+        requires { HavePools [] self.old.texts self.old.pools.items }
+        ensures { OnOk result (HavePools classes.now self.new.texts self.new.pools.items) }
+    {
+        for given in classes {
+            self.add_class(alloc, given)?;
+        }
+        Ok(())
+    }
+
+    /// Gives the texts of the next class numbers.
+    fn add_class(&mut self, alloc: Global, given: &GivenClass) -> Result<(), AllocError>
+        requires { slice_get self.old.texts 0 ≡ Some [] }
+        ensures { OnOk result ((family : Family) → HavePools family self.old.texts self.old.pools.items
+            → HavePools (family ++ given.now ∷ []) self.new.texts self.new.pools.items) }
+    {
+        let pool = PoolTexts::of_file(alloc, &mut self.texts, &given.file)?;
+        self.pools.push(pool)?;
+        Ok(())
+    }
+
+    /// The table of these, with what its members are found by.
+    fn into_table(self, fields: MemberIndex, methods: MemberIndex, seed: NumberSeed) -> MemberTable
+        ensures { (family : Family) → HavePools family self.texts self.pools.items
+            → AreIndexed family self.texts fields methods → IsTableOf family result }
+    {
+        let Numbered { texts, pools } = self;
+        MemberTable {
+            texts,
+            pools,
+            fields,
+            methods,
+            seed,
+        }
     }
 }
 
@@ -82,28 +154,33 @@ impl MemberTable {
     pub(crate) fn of_classes(alloc: Global, classes: &[GivenClass]) -> Result<Self, AllocError>
         ensures { IfOk result (IsTableOf classes.now) }
     {
-        let seed = Seed::of_classes(classes);
-        let mut table = MemberTable::new(alloc, seed)?;
-        add_classes(alloc, &mut table, classes)?;
-        Ok(table)
+        match Numbered::of_classes(alloc, classes) {
+            Ok(numbered) => MemberTable::of_numbered(alloc, classes, numbered),
+            Err(error) => Err(error),
+        }
     }
 
-    /// The table of no classes.
-    fn new(alloc: Global, seed: Seed) -> Result<Self, AllocError>
-        ensures { IfOk result (IsTableOf []) }
+    /// The table of classes whose texts have numbers.
+    fn of_numbered(
+        alloc: Global,
+        classes: &[GivenClass],
+        numbered: Numbered,
+    ) -> Result<Self, AllocError>
+        requires { HavePools classes.now numbered.texts numbered.pools.items }
+        ensures { IfOk result (IsTableOf classes.now) }
     {
-        let texts = Texts::with_empty(alloc, seed)?;
-        Ok(MemberTable {
-            texts,
-            pools: Vec::new(alloc),
-            fields: MemberIndex::new(alloc, seed.of_numbers()),
-            methods: MemberIndex::new(alloc, seed.of_numbers()),
-        })
+        let seed = NumberSeed::of_members(classes, &numbered.pools);
+        let mut fields = MemberIndex::new(alloc, seed);
+        let mut methods = MemberIndex::new(alloc, seed);
+        match index_classes(classes, &numbered.pools, &mut fields, &mut methods) {
+            Ok(()) => Ok(numbered.into_table(fields, methods, seed)),
+            Err(error) => Err(error),
+        }
     }
 
-    /// The seed of its classes.
-    pub(crate) fn seed(&self) -> Seed {
-        self.texts.seed()
+    /// What tables by name and descriptor are to hash with.
+    pub(crate) fn seed(&self) -> NumberSeed {
+        self.seed
     }
 
     /// The numbers of a name and a descriptor, if both have some.
@@ -151,37 +228,40 @@ impl MemberTable {
 }
 
 /// Notes the fields and the methods of all classes.
-fn add_classes(
-    alloc: Global,
-    table: &mut MemberTable,
+fn index_classes(
     classes: &[GivenClass],
+    pools: &[PoolTexts],
+    fields: &mut MemberIndex,
+    methods: &mut MemberIndex,
 ) -> Result<(), AllocError>
-    requires { IsTableOf [] table.old }
-    ensures { OnOk result (IsTableOf classes.now table.new) }
+    requires count { length pools.now ≡ length classes.now }
+    requires fields { (class : ℕ) (key : Key) → place_of fields.old class key ≡ None }
+    requires methods { (class : ℕ) (key : Key) → place_of methods.old class key ≡ None }
+    ensures { OnOk result ((texts : List (List ℕ)) → HavePools classes.now texts pools.now
+        → AreIndexed classes.now texts fields.new methods.new) }
 {
     for (class, given) in classes.iter().enumerate() {
-        add_class(alloc, table, class, given)?;
+        index_class(&pools[class], fields, methods, class, given)?;
     }
     Ok(())
 }
 
 /// Notes the fields and the methods of the next class.
-fn add_class(
-    alloc: Global,
-    table: &mut MemberTable,
+fn index_class(
+    pool: &PoolTexts,
+    fields: &mut MemberIndex,
+    methods: &mut MemberIndex,
     class: usize,
     given: &GivenClass,
 ) -> Result<(), AllocError>
-    requires { slice_get table.old.texts 0 ≡ Some [] }
-    ensures { OnOk result ((family : Family) → length family ≡ class → IsTableOf family table.old
-        → IsTableOf (family ++ given.now ∷ []) table.new) }
+    ensures { OnOk result ((family : Family) (texts : List (List ℕ)) → length family ≡ class → AreDistinct texts
+        → AreTextNumbers texts given.now.file pool.now → AreIndexed family texts fields.old methods.old
+        → AreIndexed (family ++ given.now ∷ []) texts fields.new methods.new) }
 {
     let file = &given.file;
     // A class file that was read has less than 2^16 members of a kind (JVMS 4.1).
     let _constants = file.constants();
-    let pool = PoolTexts::of_file(alloc, &mut table.texts, file)?;
-    add_members(&pool, &mut table.fields, class, file.fields())?;
-    add_members(&pool, &mut table.methods, class, file.methods())?;
-    table.pools.push(pool)?;
+    add_members(pool, fields, class, file.fields())?;
+    add_members(pool, methods, class, file.methods())?;
     Ok(())
 }

@@ -108,7 +108,7 @@ impl Reaches {
         requires places { ArePlaces order.now places.now }
         ensures { IfOk result (AllAreTold family.now table.now order.now) }
     {
-        let mut reaches = Reaches::nowhere(alloc, table.seed().of_numbers());
+        let mut reaches = Reaches::nowhere(alloc, table.seed());
         match reaches.note(alloc, family, table, order, places) {
             Ok(()) => Ok(reaches),
             Err(error) => Err(error),

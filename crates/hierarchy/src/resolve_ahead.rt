@@ -23,6 +23,7 @@ use crate::found_ahead::FoundAhead;
 use crate::hierarchy::Hierarchy;
 use crate::member_index::MemberKey;
 use crate::parents_first::ParentsFirst;
+use crate::seed::NumberSeed;
 use crate::wanted::Wanted;
 use crate::ways::fill;
 use crate::windows::note;
@@ -190,25 +191,24 @@ impl Hierarchy {
     ) -> Result<FoundAhead, AllocError>
         ensures { IfOk result (AreAhead kind self.now) }
     {
-        let mut found = FoundAhead::new(alloc, self.seed().of_numbers());
-        match self.find_ahead(alloc, kind, &mut found) {
-            Ok(()) => Ok(found),
+        match self.asked(alloc, kind) {
+            Ok(asked) => self.found_for(alloc, kind, &asked),
             Err(error) => Err(error),
         }
     }
 
-    /// Adds what they resolve to.
-    fn find_ahead(
+    /// What these resolve to.
+    fn found_for(
         &self,
         alloc: Global,
         kind: MemberKind,
-        found: &mut FoundAhead,
-    ) -> Result<(), AllocError>
-        requires { AreAhead kind self.now found.old }
-        ensures { OnOk result (AreAhead kind self.now found.new) }
+        asked: &[Asked],
+    ) -> Result<FoundAhead, AllocError>
+        ensures { IfOk result (AreAhead kind self.now) }
     {
-        match self.asked(alloc, kind) {
-            Ok(asked) => self.add_asked_ahead(alloc, kind, &asked, found),
+        let mut found = FoundAhead::new(alloc, NumberSeed::of_references(asked));
+        match self.add_asked_ahead(alloc, kind, asked, &mut found) {
+            Ok(()) => Ok(found),
             Err(error) => Err(error),
         }
     }

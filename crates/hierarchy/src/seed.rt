@@ -1,16 +1,17 @@
-//! What the hash tables of a family hash with.
+//! Where codes of texts begin, and what tables of numbers hash with.
 
-ghost use Rattle.std.specs.Prelude.{◌≡◌, ◌++◌, List, ℕ};
-ghost use Rattle.sha2.specs.Hashers.{Holds512};
-ghost use Rattle.hierarchy.specs.Seeds.{files_text, start_of, start_with};
+ghost use Rattle.std.specs.Prelude.{◌≡◌};
+ghost use Rattle.hierarchy.specs.Seeds.{start_with};
 
+use crate::asked::Asked;
+use crate::member_index::MemberKey;
+use crate::pool_texts::PoolTexts;
+use classfile::Member;
 use loading::given::GivenClass;
 use sha2::{Digest, Sha512};
 use std::hash::{BuildHasher, DefaultHasher, FoldHasher, Hasher};
 
-/// A hasher that has read a digest of all class files that are linked, and goes on from there with each key. Who writes
-/// the files cannot choose texts that meet in one place of a table, since whatever stands in them changes the digest;
-/// and the same files have the same seed.
+/// Where the codes of texts begin (`texts::Texts`). They are found as fast from any seed, whoever wrote them.
 #[derive(Clone, Copy)]
 pub struct Seed {
     start: DefaultHasher,
@@ -26,7 +27,8 @@ impl BuildHasher for Seed {
     }
 }
 
-/// What tables of numbers hash with: a quick hasher that has read the seed's hash, which nobody can choose either.
+/// What tables of numbers hash with: a quick hasher that has read a digest of all that is put into them. Who writes the
+/// class files cannot choose numbers that meet in one place of a table, since whatever they are changes the digest.
 #[derive(Clone, Copy)]
 pub(crate) struct NumberSeed {
     start: FoldHasher,
@@ -43,22 +45,18 @@ impl BuildHasher for NumberSeed {
 }
 
 impl Seed {
-    /// The seed of these classes.
-    pub(crate) fn of_classes(classes: &[GivenClass]) -> Self
-        ensures { result.start ≡ start_of classes.now }
-    {
-        let mut hasher = Sha512::new();
-        add_files(&mut hasher, classes);
-        let mut start = DefaultHasher::new();
-        start.write(&hasher.finalize());
-        Seed { start }
+    /// The seed of no text.
+    pub(crate) fn plain() -> Self {
+        Seed {
+            start: DefaultHasher::new(),
+        }
     }
 
-    /// The same for numbers.
-    pub(crate) fn of_numbers(&self) -> NumberSeed {
+    /// A quick hasher that begins there.
+    pub(crate) fn of_codes(&self) -> FoldHasher {
         let mut start = FoldHasher::default();
         start.write_u64(self.start.finish());
-        NumberSeed { start }
+        start
     }
 
     /// The same where a text is read too, for keys that come with it: who writes it cannot choose them either.
@@ -73,11 +71,45 @@ impl Seed {
     }
 }
 
-/// Adds the class files to what the digest is of.
-fn add_files(hasher: &mut Sha512, classes: &[GivenClass])
-    ensures { (before : List ℕ) → Holds512 hasher.old before → Holds512 hasher.new (before ++ files_text classes.now) }
-{
-    for given in classes {
-        hasher.update(given.file.text());
+impl NumberSeed {
+    /// The seed for what the members of these classes are called.
+    pub(crate) fn of_members(classes: &[GivenClass], pools: &[PoolTexts]) -> Self {
+        let mut hasher = Sha512::new();
+        for (given, pool) in classes.iter().zip(pools) {
+            add_keys(&mut hasher, pool, given.file.fields());
+            add_keys(&mut hasher, pool, given.file.methods());
+        }
+        NumberSeed::of_digest(hasher)
     }
+
+    /// The seed for these references.
+    pub(crate) fn of_references(asked: &[Asked]) -> Self {
+        let mut hasher = Sha512::new();
+        for reference in asked {
+            hasher.update(&reference.class.to_le_bytes());
+            add_key(&mut hasher, reference.key);
+        }
+        NumberSeed::of_digest(hasher)
+    }
+
+    /// The seed of a digest.
+    fn of_digest(hasher: Sha512) -> Self {
+        let mut start = FoldHasher::default();
+        start.write(&hasher.finalize());
+        NumberSeed { start }
+    }
+}
+
+/// Adds what members of a class are called to what a digest is of, and how many they are.
+fn add_keys(hasher: &mut Sha512, pool: &PoolTexts, members: &[Member]) {
+    hasher.update(&members.len().to_le_bytes());
+    for member in members {
+        add_key(hasher, pool.key(member.name, member.descriptor));
+    }
+}
+
+/// Adds a name and a descriptor, by their numbers.
+fn add_key(hasher: &mut Sha512, key: MemberKey) {
+    hasher.update(&key.name.to_le_bytes());
+    hasher.update(&key.descriptor.to_le_bytes());
 }

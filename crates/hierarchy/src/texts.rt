@@ -6,35 +6,37 @@ ghost use Rattle.std.specs.List.{Contains};
 ghost use Rattle.hierarchy.specs.Texts.{AreDistinct};
 ghost use Rattle.hierarchy.specs.steps.GrowingTexts.{KeepsNumbers};
 
+use crate::finder::Finder;
 use crate::seed::Seed;
-use indexmap::IndexSet;
 use std::alloc::{AllocError, Global};
 use std::marker::Model;
 
 /// Texts in the order in which they came, each once. A text's number is its place.
 #[derive(Drop)]
 pub struct Texts {
-    texts: IndexSet<Vec<u8>, Seed>,
+    texts: Vec<Vec<u8>>,
+    finder: Finder,
 }
 
 impl Model for Texts {
-    ghost use Rattle.std.specs.Prelude.{List, ℕ, map};
-    ghost use Rattle.hierarchy.specs.Texts.{AreDistinct};
+    ghost use Rattle.std.specs.Prelude.{List, ℕ};
+    ghost use Rattle.hierarchy.specs.steps.FoundTexts.{texts_of, AreFound};
 
     ghost Value = { List (List ℕ) };
 
-    ghost view = { λ s. map (λ text. text.items) s.texts.keys };
+    ghost view = { λ s. texts_of s.texts.items };
 
-    ghost invariant = { λ s. AreDistinct (map (λ text. text.items) s.texts.keys) };
+    ghost invariant = { λ s. AreFound (texts_of s.texts.items) s.finder };
 }
 
 impl Texts {
-    /// No texts, to be found by a seed.
+    /// No texts. Their codes begin at a seed.
     pub fn new(alloc: Global, seed: Seed) -> Self
         ensures { result ≡ [] }
     {
         Texts {
-            texts: IndexSet::with_hasher(alloc, seed),
+            texts: Vec::new(alloc),
+            finder: Finder::new(alloc, seed.of_codes()),
         }
     }
 
@@ -51,7 +53,7 @@ impl Texts {
         Ok(texts)
     }
 
-    /// The same texts, to be found by another seed.
+    /// The same texts, with codes that begin at another seed.
     ///
     /// # Errors
     /// Where memory runs out.
@@ -65,24 +67,19 @@ impl Texts {
         Ok(texts)
     }
 
-    /// What they are found by.
-    pub(crate) fn seed(&self) -> Seed {
-        *self.texts.hasher()
-    }
-
     /// The number of a text, if it has one.
     pub fn number(&self, text: &[u8]) -> Option<usize>
         ensures number { MatchOption result (¬ Contains self.now text.now) (λ n. slice_get self.now n ≡ Some text.now) }
         ensures distinct { AreDistinct self.now }
     {
-        self.texts.get_index_of(text)
+        self.finder.number(&self.texts, text)
     }
 
     /// The text of a number.
     pub fn text(&self, number: usize) -> Option<&[u8]>
         ensures { option_map (λ t. t.now) result ≡ slice_get self.now number }
     {
-        let text = self.texts.get_index(number)?;
+        let text = self.texts.get(number)?;
         Some(text.as_slice())
     }
 
@@ -115,7 +112,10 @@ impl Texts {
         ensures err { OnErr result (self.new ≡ self.old) }
     {
         let copy = Vec::from_slice(alloc, text)?;
-        let (number, _) = self.texts.insert_full(copy)?;
+        self.texts.reserve(1)?;
+        self.finder.add(alloc, &self.texts, text)?;
+        let number = self.texts.len();
+        self.texts.push_reserved(copy);
         Ok(number)
     }
 
