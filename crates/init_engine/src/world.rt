@@ -310,7 +310,7 @@ impl World {
     ///
     /// # Errors
     /// `AllocError` where memory is refused; the thread may have lost its frames then.
-    pub(crate) fn run_stretch(
+    pub(crate) fn run_course(
         &mut self,
         alloc: Global,
         program: &Program,
