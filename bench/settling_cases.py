@@ -35,7 +35,7 @@ class Initializer(Machine):
         self.classes, self.name, self.left = classes, name, budget
         self.states = {one: "done" for one in known} | {name: "by"}
         self.statics = {place: value for statics, _ in known.values() for place, value in statics.items()}
-        self.objects, self.own, self.stack, self.ending = [], set(), [], None
+        self.objects, self.own, self.stack, self.printed, self.ending = [], set(), [], [], None
 
     def settled(self):
         """Its statics and its objects."""
@@ -144,9 +144,14 @@ class Program:
             self.found[name] = self.tried(name)
         return self.found[name]
 
-    def tried(self, name):
+    def by_code(self, name):
+        """The reason that the code of a class decides, if there is one."""
         reason = self.wanted[name].split(" ")[1]
-        if reason in BY_CODE:
+        return reason if reason in BY_CODE else None
+
+    def tried(self, name):
+        reason = self.by_code(name)
+        if reason:
             return reason
         uses = self.uses(name)
         refused = [one for one in uses if isinstance(self.becomes(one), str)]
@@ -196,4 +201,5 @@ def main():
     sys.exit(1 if others else 0)
 
 
-main()
+if __name__ == "__main__":
+    main()

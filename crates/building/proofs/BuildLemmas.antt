@@ -5,6 +5,8 @@ use Rattle.std.proofs.Math.Path.{fun_ext}
 use Rattle.std.proofs.lemmas.List.{length-map}
 use Rattle.std.proofs.lemmas.Option.{slice_get-map, slice_get_within}
 use Rattle.vm_state.specs.SharedState.{Region}
+use Rattle.semantics.specs.Acceptance.{Accepted}
+use Rattle.semantics.proofs.AcceptedRegionsLemmas.{one_region_lem}
 use Rattle.semantics.proofs.BranchesLemmas.{value_in}
 use Rattle.semantics.proofs.TestsLemmas.{from_some}
 use Rattle.program.specs.Tables.{Tables}
@@ -22,10 +24,13 @@ use Rattle.initializer_analysis.specs.Verdicts.{IsAccepted}
 use Rattle.wave_scheduler.specs.declared.outcome.Settled.{Settled as Answer}
 use Rattle.wave_scheduler.proofs.FindingLemmas.{region_seen, no_wave}
 use Rattle.wave_scheduler.proofs.ReachesLemmas.{one_of}
+use Rattle.wave_scheduler.proofs.AnalysisLemmas.{has_analysis_lem}
+use Rattle.wave_scheduler.proofs.ExactLemmas.{settled_are_exact_lem}
 use Rattle.wave_scheduler.proofs.HeadlineLemmas.{settled_show_the_same_lem}
 use Rattle.wave_scheduler.proofs.WholesLemmas.{settled_are_whole_lem, settled_are_small_lem}
+use Rattle.machine.specs.Linked.{program_of}
 use Rattle.object_graph.specs.Images.{ImageTables, AreSmall, start_image, region_or}
-use Rattle.building.specs.Builds.{IsSettledAs, IsBuilt, ShowsTheSame}
+use Rattle.building.specs.Builds.{IsSettledAs, IsBuilt, HoldsAccepted, StartsShowTheSame}
 
 -- ---- regions
 
@@ -66,12 +71,39 @@ module _ (P : Tables) (run build : Option (List ℕ)) (budget : ℕ) (linked : I
           (seen c r here)
 
   pub shows_by : (S : Settled) (I : ImageTables) → I.program ≡ P → IsSettledAs P run build budget S
-      → ((c : ℕ) → environment_of I.regions c ≡ region_in S c) → ShowsTheSame I
+      → ((c : ℕ) → environment_of I.regions c ≡ region_in S c) → StartsShowTheSame I
   shows_by S I is by same entries s =
       let as_here = subst (λ (Q : Tables). IsSettledAs Q run build budget S) (sym is) by in
       let here = subst (λ (Q : Tables). IsLinked Q) (sym is) linked in
       settled_show_the_same_lem I.program as_here.patterns.forced budget S (start_image I) entries here.program
       here.family here.within as_here.patterns.settled (has_regions S I same) s
+
+  pub exact_by : (S : Settled) (I : ImageTables) → I.program ≡ P → IsSettledAs P run build budget S
+      → ((c : ℕ) → environment_of I.regions c ≡ region_in S c) → HoldsAccepted run budget I
+  exact_by S I is by same =
+      let as_here = subst (λ (Q : Tables). IsSettledAs Q run build budget S) (sym is) by in
+      let here = subst (λ (Q : Tables). IsLinked Q) (sym is) linked in
+      let (A, analysis, parents) =
+      has_analysis_lem I.program as_here.patterns.forced budget here.program here.family here.within in
+      let exact =
+      settled_are_exact_lem I.program as_here.patterns.forced budget S A (start_image I) as_here.patterns.settled
+      analysis (has_regions S I same) in
+      let there : (c : ℕ) (r : Region) → environment_of I.regions c ≡ Some r → Accepted (program_of I.program) A c r =
+      λ c r at.
+      subst (λ (t : Region). Accepted (program_of I.program) A c t) (ap (region_or _) at)
+      (exact.sound c (ap is_some at)) in
+      record {
+        forced = as_here.patterns.forced;
+        are = as_here.patterns.are;
+        analysis = A;
+        is = analysis;
+        exactly = λ c r. (
+          there c r,
+          λ accepted.
+              let (s, at) = value_in (environment_of I.regions c) (exact.complete c r accepted) in
+              at ∙ ap Some (one_region_lem (program_of I.program) A c s r (there c s at) accepted),
+        );
+      }
 
 module _ (P : Tables) (run build : Option (List ℕ)) (budget : ℕ) (s : Answer) (I : ImageTables)
     (verdicts : List Verdict) (program : I.program ≡ P) (regions : I.regions ≡ s.regions)
@@ -124,5 +156,8 @@ module _ (P : Tables) (run build : Option (List ℕ)) (budget : ℕ) (s : Answer
       back : IsSome (environment_of I.regions c) → IsAccepted verdicts c
       back some = let (r, here) = value_in (environment_of I.regions c) some in held r here
 
-  pub shows_built : IsLinked P → ShowsTheSame I
+  pub exact_built : IsLinked P → HoldsAccepted run budget I
+  exact_built linked = exact_by P run build budget linked (settled_of s) I program by seen_in
+
+  pub shows_built : IsLinked P → StartsShowTheSame I
   shows_built linked = shows_by P run build budget linked (settled_of s) I program by seen_in

@@ -2,11 +2,14 @@
 use Rattle.std.specs.Prelude.{◌≡◌, ◌↔◌, ℕ, Bool, List, [], Option, Some, None, option_map}
 use Rattle.std.specs.Borrow.{Bor}
 use Rattle.std.specs.List.{All}
+use Rattle.vm_state.specs.SharedState.{Region}
+use Rattle.semantics.specs.Acceptance.{Accepted, Analysis}
 use Rattle.semantics.specs.Images.{image_start}
 use Rattle.semantics.specs.Worlds.{Observation, Shows, lazy_start}
 use Rattle.program.specs.Tables.{Tables}
 use Rattle.machine.specs.Linked.{program_of}
 use Rattle.evaluator.specs.Regions.{environment_of}
+use Rattle.wave_scheduler.specs.Laws.{IsAnalysis}
 use Rattle.wave_scheduler.specs.Settled.{Outcome, Settled, region_in, AreSettled}
 use Rattle.options.specs.Lists.{items_of, IsNonEmpty}
 use Rattle.options.specs.Classes.{AreClasses, IsDemanded, IsForced}
@@ -65,8 +68,20 @@ pub record IsBuilt (run_time build_time : Option (List ℕ)) (budget : ℕ) (I :
   pub regions : (c : ℕ) → environment_of I.regions c ≡ region_in settled c
   pub told : settled.outcomes ≡ outcomes
 
--- From any entries a run from the image and the lazy procedure show the same.
-abbrev pub ShowsTheSame : ImageTables → Type 0
-ShowsTheSame I = (entries : List ℕ) (s : Observation)
+-- The image holds exactly the accepted classes' results: it has a region of a class exactly where the class is
+-- accepted, and then the one that its initializer leaves.
+pub record HoldsAccepted (run_time : Option (List ℕ)) (budget : ℕ) (I : ImageTables) : Type 0 where
+  -- the classes that are forced to run time
+  pub forced : List Bool
+  pub are : AreClasses forced (IsForced I.program.family (patterns_in run_time))
+  -- of each class its uses and whether it is allowed, and the budget
+  pub analysis : Analysis
+  pub is : IsAnalysis I.program forced budget analysis
+  pub exactly : (c : ℕ) (r : Region)
+      → (environment_of I.regions c ≡ Some r) ↔ Accepted (program_of I.program) analysis c r
+
+-- From any entry classes a run from the image and the lazy procedure show the same.
+abbrev pub StartsShowTheSame : ImageTables → Type 0
+StartsShowTheSame I = (entries : List ℕ) (s : Observation)
     → Shows (program_of I.program) (lazy_start (program_of I.program) entries) s
     ↔ Shows (program_of I.program) (image_start (program_of I.program) (start_image I) entries) s

@@ -10,7 +10,7 @@ ghost use Rattle.wave_scheduler.specs.Outcomes.{outcome_of, settled_of};
 ghost use Rattle.object_graph.specs.Images.{AreSmall};
 ghost use Rattle.options.specs.Demands.{AreMet, IsUnmet};
 ghost use Rattle.building.specs.Builds.{patterns_in, text_of, AreDemandsMet, IsBuilt, IsRead, IsSettledAs, IsSettledBy};
-ghost use Rattle.building.specs.Builds.{ShowsTheSame};
+ghost use Rattle.building.specs.Builds.{HoldsAccepted, StartsShowTheSame};
 ghost use Rattle.building.specs.Refusals.{DemandsFail, ForcingFails, IsLeftUnmet, IsListFault, IsOption, ListsFail};
 ghost use Rattle.building.specs.Refusals.{OptionsFail};
 ghost use Rattle.building.specs.declared.build.BuildFault.TheVariants.{Memory};
@@ -268,7 +268,11 @@ pub fn build_program(
     // Nothing is built but for want of memory, or for what is wrong with the options.
     ensures fault { IfErr result (λ fault. (fault ≡ Memory) ⊎ IsOption (OptionsFail program
         (text_of options.now.run_time) (text_of options.now.build_time) options.now.budget) fault) }
-    ensures shows { IfOk result (λ built. ShowsTheSame built.image) }
+    // The image holds exactly the accepted classes' results.
+    ensures exact { IfOk result
+        (λ built. HoldsAccepted (text_of options.now.run_time) options.now.budget built.image) }
+    // From any entry classes a run from the image and the lazy procedure show the same.
+    ensures shows { IfOk result (λ built. StartsShowTheSame built.image) }
     // The classes that have a wave are those that have a region.
     ensures count { IfOk result (λ built. length built.verdicts ≡ length built.image.program.classes) }
     ensures waves { IfOk result (λ built. (class : ℕ)

@@ -7,3 +7,5 @@ pub mod OneBuildLemmas
 pub mod RunningLemmas
 pub mod ImageBuildLemmas
 pub mod ImageRunLemmas
+pub mod EntriesLemmas
+pub mod HeadlineLemmas

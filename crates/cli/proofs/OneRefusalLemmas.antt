@@ -39,7 +39,7 @@ same_files (text ∷ texts) (f ∷ fs) (g ∷ gs) are also =
     let rest : fs ≡ gs = same_files texts fs gs are.1 also.1 in
     cc
 
-kept : {A : Type 0} (n : ℕ) (xs : List A) (k : ℕ) (x : A) → k < n → slice_get xs k ≡ Some x
+pub kept : {A : Type 0} (n : ℕ) (xs : List A) (k : ℕ) (x : A) → k < n → slice_get xs k ≡ Some x
     → slice_get (take n xs) k ≡ Some x
 kept zero xs k x less at = absurd (omega arith)
 kept (suc n) [] k x less at = at

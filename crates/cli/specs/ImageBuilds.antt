@@ -3,7 +3,8 @@ use Rattle.std.specs.Prelude.{◌≤◌, ℕ, List, Option, length}
 use Rattle.std.specs.List.{All}
 use Rattle.wave_scheduler.specs.Settled.{Outcome}
 use Rattle.object_graph.specs.Images.{ImageTables}
-use Rattle.building.specs.Builds.{IsBuilt, ShowsTheSame}
+use Rattle.building.specs.Builds.{HoldsAccepted, IsBuilt}
+use Rattle.cli.specs.Headline.{ShowsTheSame, TakesTheSameEntries}
 use Rattle.cli.specs.ImageRuns.{IsTextOf}
 use Rattle.cli.specs.Runs.{IsProgramOf}
 
@@ -11,14 +12,16 @@ use Rattle.cli.specs.Runs.{IsProgramOf}
 abbrev pub AreAtMost : ℕ → List (List ℕ) → Type 0
 AreAtMost most texts = All (λ (text : List ℕ). length text ≤ most) texts
 
--- An image of the program of class files that these texts are, built by these options and within this budget. Runs from
--- it and the lazy procedure show the same.
+-- An image of the program of class files that these texts are, built by these options and within this budget. It holds
+-- exactly the accepted classes' results, and shows the same as the class files, from any entries.
 pub record IsImageOf (texts : List (List ℕ)) (run_time build_time : Option (List ℕ)) (budget : ℕ) (I : ImageTables)
     : Type 0 where
   pub program : IsProgramOf texts I.program
   pub outcomes : List Outcome
   pub built : IsBuilt run_time build_time budget I outcomes
+  pub exact : HoldsAccepted run_time budget I
   pub shows : ShowsTheSame I
+  pub entries : TakesTheSameEntries I
 
 -- The bytes are the text of such an image, as which they are read back.
 pub record IsBuiltText (texts : List (List ℕ)) (run_time build_time : Option (List ℕ)) (budget : ℕ) (bytes : List ℕ)

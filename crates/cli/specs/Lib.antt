@@ -9,3 +9,4 @@ pub mod Laws
 pub mod steps
 pub mod ImageBuilds
 pub mod ImageRuns
+pub mod Headline

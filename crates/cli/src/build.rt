@@ -1,11 +1,12 @@
 //! From class files' bytes to an image.
 
 ghost use Rattle.std.specs.Prelude.{◌≡◌, ◌↔◌, ◌⊎◌, map, Err, IfErr, IfOk, IsTrue, OnOk};
-ghost use Rattle.building.specs.Builds.{text_of, IsBuilt, ShowsTheSame};
+ghost use Rattle.building.specs.Builds.{text_of, HoldsAccepted, IsBuilt};
 ghost use Rattle.building.specs.declared.build.BuildFault.TheVariants.{Memory, Budget};
 ghost use Rattle.report.specs.Waves.{GiveWaves};
 ghost use Rattle.wave_scheduler.specs.Outcomes.{outcome_of};
 ghost use Rattle.cli.specs.Builds.{BuildFails, IsBudget};
+ghost use Rattle.cli.specs.Headline.{ClassFilesToImage, ImageToClassFiles, TakesTheSameEntries};
 ghost use Rattle.cli.specs.Runs.{IsProgramOf, texts_of};
 ghost use Rattle.cli.specs.steps.Builds.{fault_of};
 
@@ -49,8 +50,14 @@ pub fn build_here(
     ensures built { IfOk result (λ built. IsBuilt (text_of options.now.run_time) (text_of options.now.build_time)
         options.now.budget built.image (map outcome_of built.verdicts)) }
     ensures range { OnOk result (IsBudget options.now.budget) }
-    // Runs from the image and the lazy procedure show the same.
-    ensures shows { IfOk result (λ built. ShowsTheSame built.image) }
+    // The image holds exactly the accepted classes' results.
+    ensures exact { IfOk result
+        (λ built. HoldsAccepted (text_of options.now.run_time) options.now.budget built.image) }
+    // The headline: what the class files show under some schedule of the lazy procedure, a run from the image shows
+    // under some schedule, and conversely, for every list of entries.
+    ensures to_image { IfOk result (λ built. ClassFilesToImage built.image) }
+    ensures to_class_files { IfOk result (λ built. ImageToClassFiles built.image) }
+    ensures entries { IfOk result (λ built. TakesTheSameEntries built.image) }
     // The classes that have a wave are those that have a region.
     ensures waves { IfOk result (λ built. GiveWaves built.image built.verdicts) }
     // Nothing is built but for want of memory, or for the first that is wrong.

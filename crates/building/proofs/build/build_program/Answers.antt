@@ -1,7 +1,8 @@
 use Rattle.std.proofs.Common.{refl}
 use Rattle.building.specs.Builds.{text_of}
 use Rattle.building.specs.steps.Gathered.{built_of}
-use Rattle.building.proofs.BuildLemmas.{whole_by, small_by, built_by, count_built, waves_built, shows_built}
+use Rattle.building.proofs.BuildLemmas.{whole_by, small_by, built_by, count_built, waves_built, exact_built}
+use Rattle.building.proofs.BuildLemmas.{shows_built}
 use Rattle.building.proofs.build.build_program.Goals as goal
 
 pub image_of-requires-clause-whole : goal.image_of-requires-clause-whole
@@ -37,6 +38,14 @@ returns-in-Ok-clause-waves c =
     (text_of c.args.options.now.build_time) c.args.options.now.budget c.in-Ok.settled
     (built_of c.args.program c.in-Ok.settled).image c.in-Ok.settled.verdicts refl refl refl
     c.in-Ok.ensures.settled)
+
+pub returns-in-Ok-clause-exact : goal.returns-in-Ok-clause-exact
+returns-in-Ok-clause-exact c =
+    rw c.image_of.ensures (exact_built c.args.program (text_of c.args.options.now.run_time)
+    (text_of c.args.options.now.build_time) c.args.options.now.budget c.in-Ok.settled
+    (built_of c.args.program c.in-Ok.settled).image c.in-Ok.settled.verdicts refl refl refl
+    c.in-Ok.ensures.settled
+    c.is_linked.ensures)
 
 pub returns-in-Ok-clause-shows : goal.returns-in-Ok-clause-shows
 returns-in-Ok-clause-shows c =

@@ -7,6 +7,7 @@ use Rattle.cli.specs.Runs.{texts_of, IsProgramOf}
 use Rattle.cli.specs.Builds.{IsBudget, range}
 use Rattle.cli.proofs.BuildLemmas.{is_from_file, give_waves, not_built, not_linked_build, no_option_is_budget}
 use Rattle.cli.proofs.BuildLemmas.{refused_for_no_budget, within_range, wrong_budget}
+use Rattle.cli.proofs.HeadlineLemmas.{entries_alike, shows_image, shows_class_files}
 use Rattle.cli.proofs.build.build_here.Goals as goal
 
 pub build_program-requires-clause-files : goal.build_program-requires-clause-files
@@ -33,6 +34,23 @@ returns-in-Ok-clause-range c =
 pub returns-in-Ok-clause-waves : goal.returns-in-Ok-clause-waves
 returns-in-Ok-clause-waves c =
     give_waves c.build_program.result c.build_program.ensures.count c.build_program.ensures.waves
+
+-- ---- the headline
+
+pub returns-in-Ok-clause-to_image : goal.returns-in-Ok-clause-to_image
+returns-in-Ok-clause-to_image c =
+    shows_image c.build_program.result c.in-Ok.program c.in-Ok.ensures.program.family.fits
+    c.build_program.ensures.program c.build_program.ensures.shows
+
+pub returns-in-Ok-clause-to_class_files : goal.returns-in-Ok-clause-to_class_files
+returns-in-Ok-clause-to_class_files c =
+    shows_class_files c.build_program.result c.in-Ok.program c.in-Ok.ensures.program.family.fits
+    c.build_program.ensures.program c.build_program.ensures.shows
+
+pub returns-in-Ok-clause-entries : goal.returns-in-Ok-clause-entries
+returns-in-Ok-clause-entries c =
+    entries_alike c.build_program.result c.in-Ok.program c.in-Ok.ensures.program.family.fits
+    c.build_program.ensures.program
 
 -- ---- what is refused
 
