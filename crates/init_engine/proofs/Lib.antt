@@ -3,6 +3,7 @@ pub mod RoundLemmas
 pub mod MapLemmas
 pub mod StartLemmas
 pub mod ScheduleLemmas
+pub mod SetLemmas
 pub mod CourseRuns
 pub mod ThreadLemmas
 pub mod WorldSteps

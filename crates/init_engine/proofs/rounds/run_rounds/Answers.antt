@@ -97,14 +97,14 @@ rounds-preserved c =
     let room : n ≤ c.rounds.allowance.steps =
     omega (arith, c.in_ok-ahead.ensures.ahead.bounded, c.rounds_of_one-most.ensures.steps) in
     let turns = goes_round P count (length c.rounds.world.threads) c.rounds_of_one-most.result n c.args.from
-    c.rounds.place to (world_of c.args.world.now) (world_of c.rounds.world) (world_of c.run_ahead.new.world) (world_of c.round.new.world)
-    (schedule_of c.args.schedule.now) (schedule_of c.rounds.schedule) (schedule_of c.run_ahead.new.schedule)
-    (schedule_of c.round.new.schedule) kept.turns kept.threads c.in_ok-ahead.ensures.ahead fits midst
-    c.in_ok-place.ensures.asks c.in_ok-place.ensures.left within in
+    c.rounds.place to (world_of c.args.world.now) (world_of c.rounds.world) (world_of c.run_ahead.new.world)
+    (world_of c.round.new.world) (schedule_of c.args.schedule.now) (schedule_of c.rounds.schedule)
+    (schedule_of c.run_ahead.new.schedule) (schedule_of c.round.new.schedule) kept.turns kept.threads
+    c.in_ok-ahead.ensures.ahead fits midst c.in_ok-place.ensures.asks c.in_ok-place.ensures.left within in
     let spends = spends_round P count (length c.rounds.world.threads) c.rounds_of_one-most.result n c.args.from
-    c.rounds.place c.in_ok-place.place (world_of c.rounds.world) (world_of c.run_ahead.new.world) (schedule_of c.args.schedule.now)
-    (schedule_of c.rounds.schedule) (schedule_of c.run_ahead.new.schedule) (schedule_of c.round.new.schedule)
-    c.args.world.now.printed c.rounds.world.printed c.run_ahead.new.world.printed c.round.new.world.printed
+    c.rounds.place c.in_ok-place.place (world_of c.rounds.world) (world_of c.run_ahead.new.world)
+    (schedule_of c.args.schedule.now) (schedule_of c.rounds.schedule) (schedule_of c.run_ahead.new.schedule)
+    (schedule_of c.round.new.schedule) c.args.world.now.printed c.rounds.world.printed c.run_ahead.new.world.printed c.round.new.world.printed
     c.args.allowance.now c.rounds.allowance c.round.new.allowance c.run_ahead.new.text kept.spends kept.place
     c.in_ok-ahead.ensures.ahead c.in_ok-ahead.ensures.prints fits room midst c.in_ok-place.ensures.spends in
     let all : to.asked ≡ count = omega (arith, within, c.if-place-count.false, c.thread_count-count.ensures) in
