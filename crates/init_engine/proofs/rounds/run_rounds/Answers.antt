@@ -104,7 +104,8 @@ rounds-preserved c =
     let spends = spends_round P count (length c.rounds.world.threads) c.rounds_of_one-most.result n c.args.from
     c.rounds.place c.in_ok-place.place (world_of c.rounds.world) (world_of c.run_ahead.new.world)
     (schedule_of c.args.schedule.now) (schedule_of c.rounds.schedule) (schedule_of c.run_ahead.new.schedule)
-    (schedule_of c.round.new.schedule) c.args.world.now.printed c.rounds.world.printed c.run_ahead.new.world.printed c.round.new.world.printed
+    (schedule_of c.round.new.schedule) c.args.world.now.printed c.rounds.world.printed c.run_ahead.new.world.printed
+    c.round.new.world.printed
     c.args.allowance.now c.rounds.allowance c.round.new.allowance c.run_ahead.new.text kept.spends kept.place
     c.in_ok-ahead.ensures.ahead c.in_ok-ahead.ensures.prints fits room midst c.in_ok-place.ensures.spends in
     let all : to.asked ≡ count = omega (arith, within, c.if-place-count.false, c.thread_count-count.ensures) in
