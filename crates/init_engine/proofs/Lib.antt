@@ -3,7 +3,8 @@ pub mod RoundLemmas
 pub mod MapLemmas
 pub mod StartLemmas
 pub mod ScheduleLemmas
-pub mod StretchRuns
+pub mod SetLemmas
+pub mod CourseRuns
 pub mod ThreadLemmas
 pub mod WorldSteps
 pub mod EntryLemmas

@@ -10,7 +10,7 @@ use Rattle.init_engine.specs.Rounds.{Asked, nobody, steps, passes, Turns, idle, 
 use Rattle.init_engine.specs.Rounds.{Rounds, no_rounds, more_rounds, TurnsSoFar}
 use borrow.Author.Count.{below_more}
 use Rattle.init_engine.specs.declared.world.Turn.TheVariants.{Moved, Waiting, Ended}
-use Rattle.init_engine.specs.steps.Rounds.{IsAsking, IsAskedSo, IsStretch}
+use Rattle.init_engine.specs.steps.Rounds.{IsAsking, IsAskedSo, IsRunAhead}
 
 -- ---- one round
 
@@ -206,7 +206,7 @@ next_so_far P count limit left asked done first now schedule t all some =
       joined = t.joined ∙ sym (append-nil (t.before ++ t.round));
     }
 
--- ---- stretches of the only thread
+-- ---- the only thread run ahead
 
 none_less : (n : ℕ) → n - 0 ≡ n
 none_less n = omega arith
@@ -243,11 +243,11 @@ unasked nobody none = (refl, refl)
 unasked (steps {t} asked room stepped) none = absurd (omega (arith, none))
 unasked (passes {t} asked room stands) none = absurd (omega (arith, none))
 
-some_stretch : (P : Program) (count limit left asked done n : ℕ) (first w now : World) (before after : List ℕ)
+some_ahead : (P : Program) (count limit left asked done n : ℕ) (first w now : World) (before after : List ℕ)
     → TurnsSoFar P count first limit before left asked done w → Run P w (replicate n 0) now →
     after ≡ before ++ replicate n 0 → n ≤ left → count ≡ 1 → asked ≡ 0 →
     TurnsSoFar P count first limit after (left - n) asked done now
-some_stretch P count limit left asked done n first w now before after t run recorded fits one none =
+some_ahead P count limit left asked done n first w now before after t run recorded fits one none =
     let fresh = unasked t.are_asked none in
     let same : before ≡ t.before = t.joined ∙ (ap (λ s. t.before ++ s) fresh.0 ∙ append-nil t.before) in
     let alone = subst (λ k. Rounds P k first limit t.before left w) one
@@ -266,10 +266,10 @@ some_stretch P count limit left asked done n first w now before after t run reco
       joined = recorded ∙ (ap (λ s. s ++ replicate n 0) same ∙ sym (append-nil (t.before ++ replicate n 0)));
     }
 
-no_stretch_so_far : (P : Program) (count limit left asked done : ℕ) (first w now : World) (before after : List ℕ)
+none_ahead_so_far : (P : Program) (count limit left asked done : ℕ) (first w now : World) (before after : List ℕ)
     → TurnsSoFar P count first limit before left asked done w → w ≡ now → after ≡ before ++ [] →
     TurnsSoFar P count first limit after (left - 0) asked done now
-no_stretch_so_far P count limit left asked done first w now before after t same recorded =
+none_ahead_so_far P count limit left asked done first w now before after t same recorded =
     subst (λ k. TurnsSoFar P count first limit after k asked done now) (sym (none_less left))
     (subst (λ (v : World). TurnsSoFar P count first limit after left asked done v) same
     (subst (λ (s : List ℕ). TurnsSoFar P count first limit s left asked done w)
@@ -279,39 +279,39 @@ zero_or_more : (n : ℕ) → (n ≡ 0) ⊎ (0 < n)
 zero_or_more zero = inl refl
 zero_or_more (suc n) = inr (omega arith)
 
--- turns go on by a stretch, which is none in the midst of a round
-pub stretch_so_far : (P : Program) (count limit left asked done most n : ℕ) (first w now : World)
+-- turns go on by the only thread run ahead, which makes no step in the midst of a round
+pub ahead_so_far : (P : Program) (count limit left asked done most n : ℕ) (first w now : World)
     (before after : List ℕ) → TurnsSoFar P count first limit before left asked done w →
-    IsStretch P count w most n now before after → n ≤ left → (0 < asked → n ≡ 0) →
+    IsRunAhead P count w most n now before after → n ≤ left → (0 < asked → n ≡ 0) →
     TurnsSoFar P count first limit after (left - n) asked done now
-stretch_so_far P count limit left asked done most zero first w now before after t s fits midst =
-    no_stretch_so_far P count limit left asked done first w now before after t s.run s.recorded
-stretch_so_far P count limit left asked done most (suc n) first w now before after t s fits midst =
+ahead_so_far P count limit left asked done most zero first w now before after t s fits midst =
+    none_ahead_so_far P count limit left asked done first w now before after t s.run s.recorded
+ahead_so_far P count limit left asked done most (suc n) first w now before after t s fits midst =
     let none : asked ≡ 0 = elim (zero_or_more asked) [
       | inl none ↦ none
       | inr some ↦ absurd (omega (arith, midst some))
     ] in
     elim s.alone [
       | inl nothing ↦ absurd (omega (arith, nothing))
-      | inr one ↦ some_stretch P count limit left asked done (suc n) first w now before after t s.run s.recorded fits
+      | inr one ↦ some_ahead P count limit left asked done (suc n) first w now before after t s.run s.recorded fits
           one none
     ]
 
-pub stretch_counts : (P : Program) (count left n : ℕ) (first now : World) (before after : List ℕ)
-    → IsStretch P count first left n now before after → length after ≡ length before + n
-stretch_counts P count left n first now before after s =
+pub ahead_counts : (P : Program) (count left n : ℕ) (first now : World) (before after : List ℕ)
+    → IsRunAhead P count first left n now before after → length after ≡ length before + n
+ahead_counts P count left n first now before after s =
     omega (arith, ap length s.recorded, length-append before (replicate n 0), length-replicate {A = ℕ} n 0)
 
-pub no_stretch : (P : Program) (count most : ℕ) (w : World) (before : List ℕ)
-    → IsStretch P count w most 0 w before before
-no_stretch P count most w before =
+pub none_ahead : (P : Program) (count most : ℕ) (w : World) (before : List ℕ)
+    → IsRunAhead P count w most 0 w before before
+none_ahead P count most w before =
     let bounded : 0 ≤ most = omega arith in
     record { run = refl; recorded = sym (append-nil before); bounded = bounded; alone = inl refl }
 
-pub one_stretch : (P : Program) (count most done : ℕ) (w now : World) (before after : List ℕ) → count ≡ 1
+pub one_ahead : (P : Program) (count most done : ℕ) (w now : World) (before after : List ℕ) → count ≡ 1
     → Run P w (replicate done 0) now → after ≡ before ++ replicate done 0 → done ≤ most →
-    IsStretch P count w most done now before after
-one_stretch P count most done w now before after one run recorded bounded =
+    IsRunAhead P count w most done now before after
+one_ahead P count most done w now before after one run recorded bounded =
     record { run = run; recorded = recorded; bounded = bounded; alone = inr one }
 
 -- ---- the only thread, run ahead

@@ -16,11 +16,11 @@ use Rattle.init_engine.specs.declared.world.Turn.TheVariants.{Moved, Waiting, En
 use Rattle.init_engine.specs.declared.rounds.Place.{Place}
 use Rattle.init_engine.specs.declared.rounds.Allowance.{Allowance}
 use Rattle.init_engine.specs.Rounds.{Turns, TurnsSoFar}
-use Rattle.init_engine.specs.steps.Rounds.{IsAsking, IsAskedSo, IsStretch}
+use Rattle.init_engine.specs.steps.Rounds.{IsAsking, IsAskedSo, IsRunAhead}
 use Rattle.init_engine.specs.steps.Slices.{PrintsBy, Spends, AsksFurther, GoesOn, HasHalted, IsLast, IsSpent, IsPlace}
 use Rattle.init_engine.specs.steps.Slices.{steps_of}
 use Rattle.init_engine.proofs.RoundLemmas.{asked_moved, asked_waiting, asked_ended, asked_so_far, next_so_far}
-use Rattle.init_engine.proofs.RoundLemmas.{stretch_so_far, stretch_counts, turns_of_last, run_so_far}
+use Rattle.init_engine.proofs.RoundLemmas.{ahead_so_far, ahead_counts, turns_of_last, run_so_far}
 use Rattle.init_engine.proofs.RoundLemmas.{stop_of_turns}
 
 -- ---- text
@@ -235,16 +235,16 @@ place_ahead count n p is fits midst = record {
 
 pub spends_ahead : (P : Program) (count most n : ℕ) (from p : Place) (w next : World) (before now after : List ℕ)
     (old mid new : List Line) (had left : Allowance) (text : ℕ) → Spends from p before now old mid had left →
-    p.done ≤ p.left → p.done ≤ p.asked → IsStretch P count w most n next now after →
+    p.done ≤ p.left → p.done ≤ p.asked → IsRunAhead P count w most n next now after →
     PrintsBy n mid new left.text text → n ≤ p.left → n ≤ left.steps → (0 < p.asked → n ≡ 0) →
     Spends from (after_rounds p n) before after old new had (record { steps = left.steps - n; text = text })
-spends_ahead P count most n from p w next before now after old mid new had left text spends bounded few stretch prints
+spends_ahead P count most n from p w next before now after old mid new had left text spends bounded few alone prints
     fits room midst =
     let further : Spends p (after_rounds p n) now after mid new left (record { steps = left.steps - n; text = text }) =
     record {
       made = n;
       fewer_to_go = (ahead_is n p.left p.asked p.done fits bounded few midst).0;
-      scheduled = stretch_counts P count most n w next now after stretch;
+      scheduled = ahead_counts P count most n w next now after alone;
       counted = omega (arith, room);
       prints = prints;
     } in
@@ -252,10 +252,10 @@ spends_ahead P count most n from p w next before now after old mid new had left 
     (record { steps = left.steps - n; text = text }) spends further
 
 pub goes_ahead : (P : Program) (count most n : ℕ) (from p : Place) (old w next : World) (before now after : List ℕ)
-    → GoesOn P count from p old w before now → IsStretch P count w most n next now after → n ≤ p.left →
+    → GoesOn P count from p old w before now → IsRunAhead P count w most n next now after → n ≤ p.left →
     (0 < p.asked → n ≡ 0) → GoesOn P count from (after_rounds p n) old next before after
-goes_ahead P count most n from p old w next before now after on stretch fits midst first limit t =
-    stretch_so_far P count limit p.left p.asked p.done most n first w next now after (on first limit t) stretch fits
+goes_ahead P count most n from p old w next before now after on alone fits midst first limit t =
+    ahead_so_far P count limit p.left p.asked p.done most n first w next now after (on first limit t) alone fits
     midst
 
 pub goes_by_round : (P : Program) (count : ℕ) (from p to : Place) (old w new : World) (before now after : List ℕ)
@@ -294,25 +294,25 @@ spends_to_next from p before after old new had left s = record {
 
 pub goes_round : (P : Program) (count threads most n : ℕ) (from p to : Place) (old w mid new : World)
     (before now further after : List ℕ) → GoesOn P count from p old w before now → threads ≡ count →
-    IsStretch P threads w most n mid now further → n ≤ p.left → (0 < p.asked → n ≡ 0) →
+    IsRunAhead P threads w most n mid now further → n ≤ p.left → (0 < p.asked → n ≡ 0) →
     AsksFurther P (after_rounds p n) to mid new further after → to.left ≡ p.left - n → to.asked ≤ count →
     GoesOn P count from to old new before after
-goes_round P count threads most n from p to old w mid new before now further after on all stretch fits midst asks same
+goes_round P count threads most n from p to old w mid new before now further after on all alone fits midst asks same
     within =
     let ahead = goes_ahead P count most n from p old w mid before now further on
-    (subst (λ k. IsStretch P k w most n mid now further) all stretch) fits midst in
+    (subst (λ k. IsRunAhead P k w most n mid now further) all alone) fits midst in
     goes_by_round P count from (after_rounds p n) to old mid new before further after ahead asks same within
 
 pub spends_round : (P : Program) (count threads most n : ℕ) (from p to : Place) (w mid : World)
     (before now further after : List ℕ) (a b c d : List Line) (had left spent : Allowance) (text : ℕ) →
-    Spends from p before now a b had left → IsPlace count p → IsStretch P threads w most n mid now further →
+    Spends from p before now a b had left → IsPlace count p → IsRunAhead P threads w most n mid now further →
     PrintsBy n b c left.text text → n ≤ p.left → n ≤ left.steps → (0 < p.asked → n ≡ 0) →
     Spends (after_rounds p n) to further after c d (record { steps = left.steps - n; text = text }) spent →
     Spends from to before after a d had spent
 spends_round P count threads most n from p to w mid before now further after a b c d had left spent text spends is
-    stretch prints fits room midst rest =
+    alone prints fits room midst rest =
     let ahead = spends_ahead P threads most n from p w mid before now further a b c had left text spends is.bounded
-    is.few stretch prints fits room midst in
+    is.few alone prints fits room midst in
     spends_then from (after_rounds p n) to before further after a c d had
     (record { steps = left.steps - n; text = text }) spent ahead rest
 

@@ -1,17 +1,16 @@
 //! One step of one thread: an instruction, or a part of the initialization procedure (JVMS 5.5).
 
-ghost use Rattle.std.specs.Prelude.{◌≡◌, ◌∷◌, [], List, IfOk, OnOk, OnErr, Some, None, IsSome};
+ghost use Rattle.std.specs.Prelude.{◌≡◌, ◌∷◌, List, IfOk, OnOk, OnErr, Some, None, IsSome};
 ghost use Rattle.vm_state.specs.declared.initialization.Level.{Level};
 ghost use Rattle.vm_state.specs.declared.text.Line.{Line};
-ghost use Rattle.vm_state.specs.Shares.{shared_of, SharesTheSame, Begins};
+ghost use Rattle.vm_state.specs.Shares.{shared_of, SharesTheSame};
 ghost use Rattle.vm_state.specs.Stacks.{segment_of, levels_of};
 ghost use Rattle.vm_state.specs.declared.value.Maker.{Maker};
 ghost use Rattle.semantics.specs.Rows.{run_row};
-ghost use Rattle.semantics.specs.Steps.{Going, standing, initialization_of, finishes, initializes, fails, step_thread};
+ghost use Rattle.semantics.specs.Steps.{Going, standing, finishes, initializes, fails, step_thread};
 ghost use Rattle.machine.specs.Failures.{failure};
 ghost use Rattle.machine.specs.Linked.{program_of, initializer_frame};
-ghost use Rattle.program.specs.Tables.{statics_in};
-ghost use Rattle.init_engine.specs.steps.Progress.{HasRoomFor, PrintsNothing, Stands, Steps, StaysPut};
+ghost use Rattle.init_engine.specs.steps.Progress.{HasBegun, HasRoomFor, PrintsNothing, Stands, Steps, StaysPut};
 ghost use Rattle.init_engine.specs.steps.Progress.{left_by_step};
 
 use machine::entering::initializer_frame;
@@ -56,14 +55,7 @@ fn begin(
     class: u32,
 ) -> Result<(), AllocError>
     ensures thread { frames.new.thread ≡ frames.old.thread }
-    ensures shared { OnOk result (Begins shared.old shared.new class frames.old.thread (statics_in program.now class)) }
-    ensures segment { OnOk result (segment_of frames.new ≡ []) }
-    ensures levels { OnOk result
-        (levels_of frames.new ≡ record {
-          initialization = initialization_of (program_of program.now) class;
-          under =
-              segment_of frames.old;
-        } ∷ levels_of frames.old) }
+    ensures begun { OnOk result (HasBegun program.now class frames.old shared.old frames.new shared.new) }
     ensures err { OnErr result ((frames.new ≡ frames.old) × (SharesTheSame shared.old shared.new)) }
 {
     let statics = program.statics(class);
@@ -93,14 +85,7 @@ fn step_begin(
 ) -> Result<Progress, AllocError>
     ensures answer { IfOk result (λ r. r ≡ Progress.Moved) }
     ensures thread { frames.new.thread ≡ frames.old.thread }
-    ensures shared { OnOk result (Begins shared.old shared.new class frames.old.thread (statics_in program.now class)) }
-    ensures segment { OnOk result (segment_of frames.new ≡ []) }
-    ensures levels { OnOk result
-        (levels_of frames.new ≡ record {
-          initialization = initialization_of (program_of program.now) class;
-          under =
-              segment_of frames.old;
-        } ∷ levels_of frames.old) }
+    ensures begun { OnOk result (HasBegun program.now class frames.old shared.old frames.new shared.new) }
     ensures err { OnErr result ((frames.new ≡ frames.old) × (SharesTheSame shared.old shared.new)) }
     ensures silent { IfOk result PrintsNothing }
 {

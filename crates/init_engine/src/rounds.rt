@@ -8,7 +8,7 @@ ghost use Rattle.machine.specs.Linked.{program_of};
 ghost use Rattle.courses.specs.steps.StepTables.{KeepsSteps};
 ghost use Rattle.init_engine.specs.Turns.{IsTurn, world_of};
 ghost use Rattle.init_engine.specs.Schedules.{schedule_of};
-ghost use Rattle.init_engine.specs.steps.Rounds.{IsAsking, IsStretch};
+ghost use Rattle.init_engine.specs.steps.Rounds.{IsAsking, IsRunAhead};
 ghost use Rattle.init_engine.specs.steps.Slices.{AsksFurther, GoesOn, HasHalted, HasPaused, IsLast, IsPlace};
 ghost use Rattle.init_engine.specs.steps.Slices.{IsSpent, PrintsBy, Spends, steps_of, to_go_from};
 
@@ -219,7 +219,7 @@ fn run_alone(
 {
     let mut left = most;
     'ahead: while *text > 0 {
-        let count = world.run_stretch(alloc, program, table, 0, left)?;
+        let count = world.run_course(alloc, program, table, 0, left)?;
         left -= count;
         if left == 0 {
             break;
@@ -234,7 +234,7 @@ fn run_alone(
 }
 
 /// Where there is one thread: its steps, each a round. It answers how many there were.
-fn stretch(
+fn run_ahead(
     alloc: Global,
     program: &Program,
     world: &mut World,
@@ -246,7 +246,7 @@ fn stretch(
     requires room { length (schedule_of schedule.old) + most < 2 ^ 64 }
     requires steps { KeepsSteps program.now table.old }
     ensures steps { OnOk result (KeepsSteps program.now table.new) }
-    ensures stretch { IfOk result (λ done. IsStretch (program_of program.now) (length world.old.threads)
+    ensures ahead { IfOk result (λ done. IsRunAhead (program_of program.now) (length world.old.threads)
         (world_of world.old) most done (world_of world.new) (schedule_of schedule.old) (schedule_of schedule.new)) }
     ensures prints { IfOk result (λ done. PrintsBy done world.old.printed world.new.printed text.old text.new) }
     ensures threads { length world.new.threads ≡ length world.old.threads }
@@ -288,7 +288,7 @@ pub(crate) fn run_rounds(
     let mut place = from;
     'rounds: loop {
         let most = place.rounds_of_one(allowance.steps);
-        let ahead = stretch(
+        let ahead = run_ahead(
             alloc,
             program,
             world,

@@ -306,11 +306,11 @@ impl World {
 
     /// Runs instructions of a thread after each of which it goes on in a frame above the same initializations, as long
     /// as the next is such a one and there were fewer than so many. It answers how many steps that were. The steps of
-    /// the methods that run are made and kept.
+    /// the methods that run often enough are made and kept.
     ///
     /// # Errors
     /// `AllocError` where memory is refused; the thread may have lost its frames then.
-    pub(crate) fn run_stretch(
+    pub(crate) fn run_course(
         &mut self,
         alloc: Global,
         program: &Program,

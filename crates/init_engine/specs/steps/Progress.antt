@@ -1,15 +1,18 @@
 -- What a step of a thread says, in the words of the definition.
-use Rattle.std.specs.Prelude.{◌≡◌, ◌<◌, ℕ, List, Option, Some, None, vec_len, vec_capacity}
+use Rattle.std.specs.Prelude.{◌≡◌, ◌<◌, ℕ, List, [], ◌∷◌, Option, Some, None, vec_len, vec_capacity}
 use Rattle.std.specs.Global.{Vec}
 use Rattle.vm_state.specs.declared.ends.End.{End}
 use Rattle.vm_state.specs.declared.initialization.Frames.{Frames}
 use Rattle.vm_state.specs.SharedTables.{SharedTables}
 use Rattle.vm_state.specs.declared.text.Line.{Line}
 use Rattle.vm_state.specs.SharedState.{SharedState, with_line}
-use Rattle.vm_state.specs.Shares.{shared_of}
+use Rattle.vm_state.specs.Shares.{Begins, shared_of}
+use Rattle.vm_state.specs.Stacks.{segment_of, levels_of}
 use Rattle.semantics.specs.Programs.{Program}
+use Rattle.program.specs.Tables.{Tables, statics_in}
 use Rattle.machine.specs.Effects.{going}
-use Rattle.semantics.specs.Steps.{Thread, Ended as HasEnded, After, step_thread}
+use Rattle.machine.specs.Linked.{program_of}
+use Rattle.semantics.specs.Steps.{Thread, Ended as HasEnded, After, initialization_of, step_thread}
 use Rattle.init_engine.specs.declared.procedure.Progress.{Progress}
 use Rattle.init_engine.specs.declared.procedure.Progress.TheVariants.{Moved, Printed, Ended, Waits}
 
@@ -30,6 +33,14 @@ abbrev pub Steps : Program → Frames → SharedTables → Progress → Frames �
 Steps P old before progress new after =
     (p : List Line) → step_thread P old.thread (shared_of before p) (going old) ≡ left_by_step progress old.thread new
     (shared_of after p)
+
+-- a thread began the initialization of a class: it stands highest, over the frames that were there
+pub record HasBegun (P : Tables) (class : ℕ) (old : Frames) (before : SharedTables) (new : Frames)
+    (after : SharedTables) : Type 0 where
+  pub shared : Begins before after class old.thread (statics_in P class)
+  pub segment : segment_of new ≡ []
+  pub levels : levels_of new
+      ≡ record { initialization = initialization_of (program_of P) class; under = segment_of old } ∷ levels_of old
 
 -- where there is no step the thread and what threads share stay as they were
 abbrev pub StaysPut : Progress → Frames → Frames → SharedTables → SharedTables → Type 0

@@ -21,7 +21,7 @@ pub record IsAskedSo (P : Program) (first : World) (most asked done : ℕ) (now 
   pub recorded : after ≡ before ++ round
 
 -- rounds of one step of the only thread, if there were any
-pub record IsStretch (P : Program) (count : ℕ) (first : World) (most done : ℕ) (now : World)
+pub record IsRunAhead (P : Program) (count : ℕ) (first : World) (most done : ℕ) (now : World)
     (before after : List ℕ) : Type 0 where
   pub run : Run P first (replicate done 0) now
   pub recorded : after ≡ before ++ replicate done 0

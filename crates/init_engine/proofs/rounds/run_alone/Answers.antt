@@ -13,29 +13,29 @@ pub ahead-preserved : goal.ahead-preserved
 ahead-preserved c =
     let P = program_of c.args.program.now in
     let first = world_of c.args.world.now in
-    let now = world_of c.run_stretch.new.self in
+    let now = world_of c.run_course.new.self in
     let next = world_of c.step.new.world in
     let most = c.args.most in
     let count = c.in_ok-count.count in
     let left = c.ahead.left in
     let within = c.ahead.invariant.within in
     let few = c.in_ok-count.ensures.most in
-    let stretched = run_further P most left count first (world_of c.ahead.world) now within few c.ahead.invariant.run
+    let walked = run_further P most left count first (world_of c.ahead.world) now within few c.ahead.invariant.run
     c.in_ok-count.ensures.run in
     let moved : step P now 0 ≡ Some next = rw c.in-Moved.is at c.in_ok-step.ensures.turn in
     let inside : left - count ≤ most = omega (arith, within) in
     let one : 1 ≤ left - count = omega (arith, c.if-left-eq0.false) in
     let before = quiet_further most left count c.args.text.now c.ahead.text c.args.world.now.printed
-    c.ahead.world.printed c.run_stretch.new.self.printed within few c.in_ok-count.ensures.printed
+    c.ahead.world.printed c.run_course.new.self.printed within few c.in_ok-count.ensures.printed
     c.ahead.invariant.prints in
     let further : most - (left - count - 1) ≡ most - (left - count) + 1 = omega (arith, inside, one) in
     record {
-      run = run_further P most (left - count) 1 first now next inside one stretched (next, moved, refl);
+      run = run_further P most (left - count) 1 first now next inside one walked (next, moved, refl);
       within = omega (arith, within);
-      threads = c.step.ensures.threads ∙ (c.run_stretch.ensures.threads ∙ c.ahead.invariant.threads);
+      threads = c.step.ensures.threads ∙ (c.run_course.ensures.threads ∙ c.ahead.invariant.threads);
       keeps = c.in_ok-count.ensures.steps;
       prints = prints_then (most - (left - count)) 1 (most - (left - count - 1)) c.args.text.now c.ahead.text
-          c.step.new.text c.args.world.now.printed c.run_stretch.new.self.printed c.step.new.world.printed further before
+          c.step.new.text c.args.world.now.printed c.run_course.new.self.printed c.step.new.world.printed further before
           (rw c.in-Moved.is at c.in_ok-step.ensures.prints);
     }
 
@@ -52,16 +52,16 @@ returns-clause-run c =
       | else-ahead-test w ↦ rw (w.left-is, w.world-is) run
       | then-ahead-test+in_ok-count+then-left-eq0 w ↦
           rw (w.left-is, w.world-is) (run_further P most left w.in_ok-count.count first now
-          (world_of w.run_stretch.new.self) within w.in_ok-count.ensures.most run w.in_ok-count.ensures.run)
+          (world_of w.run_course.new.self) within w.in_ok-count.ensures.most run w.in_ok-count.ensures.run)
       | then-ahead-test+in_ok-count+else-left-eq0+in_ok-step+in-Waiting w ↦
           let none = rw w.in-Waiting.is at w.in_ok-step.ensures.turn in
-          let further = run_further P most left w.in_ok-count.count first now (world_of w.run_stretch.new.self) within
+          let further = run_further P most left w.in_ok-count.count first now (world_of w.run_course.new.self) within
           w.in_ok-count.ensures.most run w.in_ok-count.ensures.run in
           rw (w.left-is, w.world-is)
           (subst (Run P first (replicate (most - (left - w.in_ok-count.count)) 0)) (sym none.2) further)
       | then-ahead-test+in_ok-count+else-left-eq0+in_ok-step+in-Ended w ↦
           let none = rw w.in-Ended.is at w.in_ok-step.ensures.turn in
-          let further = run_further P most left w.in_ok-count.count first now (world_of w.run_stretch.new.self) within
+          let further = run_further P most left w.in_ok-count.count first now (world_of w.run_course.new.self) within
           w.in_ok-count.ensures.most run w.in_ok-count.ensures.run in
           rw (w.left-is, w.world-is)
           (subst (Run P first (replicate (most - (left - w.in_ok-count.count)) 0)) (sym none.2) further)
@@ -79,18 +79,18 @@ returns-clause-prints c =
       | else-ahead-test w ↦ rw (w.left-is, w.world-is, w.text-is) prints
       | then-ahead-test+in_ok-count+then-left-eq0 w ↦
           rw (w.left-is, w.world-is, w.text-is) (quiet_further most left w.in_ok-count.count had c.ahead.text before
-          c.ahead.world.printed w.run_stretch.new.self.printed within w.in_ok-count.ensures.most
+          c.ahead.world.printed w.run_course.new.self.printed within w.in_ok-count.ensures.most
           w.in_ok-count.ensures.printed prints)
       | then-ahead-test+in_ok-count+else-left-eq0+in_ok-step+in-Waiting w ↦
           let further = quiet_further most left w.in_ok-count.count had c.ahead.text before c.ahead.world.printed
-          w.run_stretch.new.self.printed within w.in_ok-count.ensures.most w.in_ok-count.ensures.printed prints in
+          w.run_course.new.self.printed within w.in_ok-count.ensures.most w.in_ok-count.ensures.printed prints in
           rw (w.left-is, w.world-is, w.text-is) (prints_no_more (most - (left - w.in_ok-count.count)) had c.ahead.text
-          w.step.new.text before w.run_stretch.new.self.printed w.step.new.world.printed further
+          w.step.new.text before w.run_course.new.self.printed w.step.new.world.printed further
           (rw w.in-Waiting.is at w.in_ok-step.ensures.prints))
       | then-ahead-test+in_ok-count+else-left-eq0+in_ok-step+in-Ended w ↦
           let further = quiet_further most left w.in_ok-count.count had c.ahead.text before c.ahead.world.printed
-          w.run_stretch.new.self.printed within w.in_ok-count.ensures.most w.in_ok-count.ensures.printed prints in
+          w.run_course.new.self.printed within w.in_ok-count.ensures.most w.in_ok-count.ensures.printed prints in
           rw (w.left-is, w.world-is, w.text-is) (prints_no_more (most - (left - w.in_ok-count.count)) had c.ahead.text
-          w.step.new.text before w.run_stretch.new.self.printed w.step.new.world.printed further
+          w.step.new.text before w.run_course.new.self.printed w.step.new.world.printed further
           (rw w.in-Ended.is at w.in_ok-step.ensures.prints))
     ]

@@ -1,6 +1,6 @@
 use Rattle.std.proofs.Common.{rules}
-use Rattle.init_engine.proofs.StretchRuns.{world_runs}
-use Rattle.init_engine.proofs.world.World.run_stretch.Goals as goal
+use Rattle.init_engine.proofs.CourseRuns.{world_runs}
+use Rattle.init_engine.proofs.world.World.run_course.Goals as goal
 
 pub returns-clause-run : goal.returns-clause-run
 returns-clause-run c =

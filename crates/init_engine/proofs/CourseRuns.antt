@@ -2,7 +2,7 @@
 use Rattle.std.proofs.Common.{◌≡◌, ℕ, zero, suc, ◌<◌, List, [], ◌∷◌, Option, Some, length, get_or, slice_get, map}
 use Rattle.std.proofs.Common.{slice_set}
 use Rattle.std.proofs.Common.{replicate, refl, sym, ap, subst, ◌∙◌}
-use Rattle.std.proofs.lemmas.List.{map-set}
+use Rattle.std.proofs.lemmas.List.{map-set, set-set}
 use Rattle.std.proofs.lemmas.Option.{slice_get-get_or}
 use Rattle.vm_state.specs.declared.frame.Frame.{Frame}
 use Rattle.vm_state.specs.declared.initialization.Level.{Level}
@@ -23,6 +23,7 @@ use Rattle.init_engine.specs.declared.world.Thread.TheVariants.{Going, Ended}
 use Rattle.init_engine.specs.Numbering.{AreNumbered}
 use Rattle.init_engine.specs.Threads.{thread_of}
 use Rattle.init_engine.specs.steps.Threads.{RunsHere}
+use Rattle.init_engine.proofs.SetLemmas.{get_set, set_same}
 use Rattle.init_engine.proofs.WorldSteps.{world_with, thread_at}
 
 advances_steps : (P : Tables) (t : ℕ) (fs gs : List Frame) (ls : List Level) (sh new : SharedState) →
@@ -38,22 +39,6 @@ advances_steps P t (f ∷ fs) (g ∷ gs) ls sh new (leads, some) =
 
 abbrev world_by : SharedState → List DefinedThread → World
 world_by sh threads = record { shared = sh; threads = threads }
-
-set_twice : {X : Type 0} (xs : List X) (i : ℕ) (a b : X) → slice_set (slice_set xs i a) i b ≡ slice_set xs i b
-set_twice [] i a b = refl
-set_twice (x ∷ xs) zero a b = refl
-set_twice (x ∷ xs) (suc i) a b = ap (λ r. x ∷ r) (set_twice xs i a b)
-
-get_set : {X : Type 0} (xs : List X) (i : ℕ) (a b : X) → slice_get xs i ≡ Some a
-    → slice_get (slice_set xs i b) i ≡ Some b
-get_set [] i a b h = cc
-get_set (x ∷ xs) zero a b h = refl
-get_set (x ∷ xs) (suc i) a b h = get_set xs i a b h
-
-set_same : {X : Type 0} (xs : List X) (i : ℕ) (a : X) → slice_get xs i ≡ Some a → xs ≡ slice_set xs i a
-set_same [] i a h = cc
-set_same (x ∷ xs) zero a h = let e : x ≡ a = cc in ap (λ y. y ∷ xs) e
-set_same (x ∷ xs) (suc i) a h = ap (λ r. x ∷ r) (set_same xs i a h)
 
 module _ (P : Tables) (t : ℕ) (ls : List Level) where
   runs_above : (n : ℕ) (threads : List DefinedThread) (a b : Above) →
@@ -74,7 +59,7 @@ module _ (P : Tables) (t : ℕ) (ls : List Level) where
         stepped,
         subst (λ (ts : List DefinedThread). Run (program_of P) (world_by m.shared there) (replicate n t)
             (world_by b.shared ts))
-            (set_twice threads t middle (IsGoingOn b.frames ls)) rest,
+            (set-set threads t middle (IsGoingOn b.frames ls)) rest,
       )
 
 -- ---- what the code's run of one thread is
