@@ -1,7 +1,6 @@
 -- A graph of calls while it is made.
-use Rattle.std.proofs.Common.{◌≡◌, ℕ, ◌+◌, ◌<◌, Bool, true, false, not, List, [], ◌∷◌, ◌++◌, length, Some, slice_get, refl}
-use Rattle.std.proofs.Common.{sym, ap, subst}
-use Rattle.std.proofs.Common.{◌∙◌, inl, inr, arith}
+use Rattle.std.proofs.Common.{◌≡◌, ℕ, ◌+◌, ◌<◌, Bool, true, false, not, List, [], ◌∷◌, ◌++◌, length, Some, slice_get}
+use Rattle.std.proofs.Common.{refl, sym, ap, subst, ◌∙◌, inl, inr, arith}
 use Rattle.std.specs.List.{Contains}
 use Rattle.std.proofs.lemmas.Option.{slice_get_within}
 use Rattle.graph.specs.Seen.{Seen, Joins}
