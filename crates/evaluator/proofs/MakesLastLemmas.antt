@@ -1,67 +1,29 @@
 -- No instruction fails a check once it made an array: what it pushes then finds room, since it took an operand off.
-use Rattle.std.proofs.Common.{◌≡◌, ◌≤◌, zero, suc, refl, arith, if◌then◌else◌}
-use Rattle.std.proofs.Common.{ℕ, ℤ, ◌+◌, Bool, true, false, cond, List, [], ◌∷◌, Option, Some, None, Ok, Err, length}
-use Rattle.std.proofs.Common.{not, ◌&&◌, replicate}
+use Rattle.std.proofs.Common.{◌≡◌, ◌≤◌, zero, suc, refl, arith}
+use Rattle.std.proofs.Common.{ℕ, Bool, true, false, List, [], ◌∷◌, Option, Some, None, Ok, Err}
 use Rattle.std.specs.Prelude.{nat_le}
 use Rattle.std.specs.declared.result.Result.{Result}
-use Rattle.bytecode.specs.declared.operand.ElementKind.{ElementKind}
-use Rattle.built_in.specs.declared.class_id.ArrayType.{ArrayType}
-use Rattle.built_in.specs.declared.class_id.BuiltIn.{BuiltIn as BuiltInClass}
 use Rattle.built_in.specs.declared.class_id.BuiltIn.TheVariants as builtins
-use Rattle.built_in.specs.declared.class_id.ClassId.{ClassId}
-use Rattle.built_in.specs.declared.class_id.ClassId.TheVariants.{Given, BuiltIn, Array}
-use Rattle.built_in.specs.declared.method.BuiltInMethod.{BuiltInMethod}
-use Rattle.built_in.specs.declared.method.BuiltInMethod.TheVariants as members
-use Rattle.vm_state.specs.declared.ends.FaultKind.{FaultKind}
 use Rattle.vm_state.specs.declared.frame.Frame.{Frame}
 use Rattle.vm_state.specs.declared.value.Name.{Name}
 use Rattle.vm_state.specs.declared.value.Value.{Value}
 use Rattle.vm_state.specs.declared.value.Value.TheVariants as values
-use Rattle.vm_state.specs.Arguments.{taken, passed}
-use Rattle.vm_state.specs.Operands.{OperandStack, pushed, top, top_of, top_int, rest, rest_of, dropped}
-use Rattle.vm_state.specs.Values.{places, int_of, name_of, value_by, value_of}
+use Rattle.vm_state.specs.Operands.{pushed, top, top_of, rest, rest_of, dropped}
+use Rattle.vm_state.specs.Values.{places, name_of, value_by, value_of}
 use Rattle.evaluator.specs.steps.Within.{Moves, MakesLast}
-use Rattle.semantics.specs.Moves.{advanced, with_operands}
-use Rattle.semantics.specs.Rows.{Row, AskClass, Change, UseMonitor}
-use Rattle.hierarchy.specs.declared.member.Method.{Method}
-use Rattle.hierarchy.specs.declared.member.Method.TheVariants as methods
-use Rattle.hierarchy.specs.Selection.{selected}
-use Rattle.hierarchy.specs.Subtypes.{is_below}
-use Rattle.program.specs.declared.class.Implementation.{Implementation}
-use Rattle.program.specs.declared.class.Implementation.TheVariants as implementations
-use Rattle.program.specs.Tables.{Tables, implementation_at, initializer_in}
-use Rattle.frame_instructions.specs.declared.operand_kind.OperandKind.TheVariants.{Int, Reference}
+use Rattle.semantics.specs.Moves.{with_operands}
+use Rattle.semantics.specs.Rows.{Row, UseMonitor}
+use Rattle.program.specs.Tables.{Tables}
+use Rattle.frame_instructions.specs.declared.operand_kind.OperandKind.TheVariants.{Reference}
 use Rattle.frame_instructions.specs.declared.trap.Trap.{Trap}
 use Rattle.frame_instructions.specs.declared.trap.Trap.TheVariants as traps
-use Rattle.frame_instructions.specs.Instructions.{is_null}
-use Rattle.frame_instructions.specs.OperandKinds.{of_kind, as_kind, top_as}
-use Rattle.machine.specs.declared.array_operation.ArrayOperation.{ArrayOperation}
-use Rattle.machine.specs.declared.array_operation.ArrayOperation.TheVariants as arrays
-use Rattle.machine.specs.declared.call_operation.Choice.{Choice}
-use Rattle.machine.specs.declared.call_operation.Choice.TheVariants.{Selected, Found}
-use Rattle.machine.specs.declared.call_operation.InstanceCall.{InstanceCall}
-use Rattle.machine.specs.declared.call_operation.StaticCall.{StaticCall}
-use Rattle.machine.specs.declared.object_operation.InstanceField.{InstanceField}
-use Rattle.machine.specs.Initializers.{is_method}
-use Rattle.machine.specs.StoredKinds.{top_stored, extra_places}
-use Rattle.machine.specs.RowParts.{halts, needing, goes_on, push, raises, if_usable}
-use Rattle.machine.specs.ObjectParts.{slot_in, on_name, class_of_nameless, ask_class_of}
-use Rattle.machine.specs.ObjectParts.{without_object, on_object}
-use Rattle.machine.specs.Objects.{new_object, is_of, ask_is_of, cast_row, check_cast, int_of_boolean, instance_of}
-use Rattle.machine.specs.Objects.{throw_of, throw_row, is_holder, on_holder, get_field, put_field}
-use Rattle.machine.specs.Arrays.{unless_trapped, array_type, served_type, slot_at, size_of, make_array, array_length}
-use Rattle.machine.specs.Arrays.{at_element, load_element, is_checked, if_held, can_hold, check_store, store_element}
-use Rattle.machine.specs.Arrays.{stored_as, array_row, type_of_primitives, zero_of}
-use Rattle.machine.specs.Members.{on_enum, replaced, or_slot, clone_if_array}
-use Rattle.machine.specs.Members.{member_row}
-use Rattle.machine.specs.Calls.{parameters_at, has_arguments, receiver_under, reaches, reached, enter_static, runs}
-use Rattle.machine.specs.Calls.{runs_chosen, is_out, called_on, call_instance}
-use Rattle.machine.specs.Printing.{printed_text, ended, print_on, print_value, end_line}
-use Rattle.machine.specs.Table.{call_main, local_row, return_row, call_row, operation_row, fetched, active_row, row}
+use Rattle.frame_instructions.specs.OperandKinds.{top_as}
+use Rattle.machine.specs.StoredKinds.{top_stored}
+use Rattle.machine.specs.RowParts.{needing, push, if_usable}
+use Rattle.machine.specs.Table.{local_row, return_row, call_row, operation_row, fetched, active_row, row}
 use Rattle.frame_instructions.specs.Families.{local_after}
 use Rattle.program.specs.declared.signature.ReturnKind.{ReturnKind}
 use Rattle.program.specs.declared.signature.ReturnKind.TheVariants as returns
-use Rattle.program.specs.declared.runtime_constant.FieldKind.{FieldKind}
 use Rattle.program.specs.Tables.{main_in}
 use Rattle.machine.specs.Objects.{object_row}
 use Rattle.machine.specs.Monitors.{without_monitor, use_monitor, entered, left}
@@ -76,7 +38,6 @@ use Rattle.vm_state.specs.declared.frame.Activity.TheVariants.{Start, Method as 
 use Rattle.vm_state.specs.declared.value.Maker.{Maker}
 use Rattle.vm_state.specs.declared.value.Maker.TheVariants.{Class, Thread}
 use Rattle.vm_state.proofs.OperandLemmas.{one_place}
-use Rattle.built_in.specs.declared.method.Printed.{Printed}
 use Rattle.machine.proofs.AnyRowsLemmas.{GoesUp, GoesOut, raised_any, needed_any, usable_any, pushed_any, named_any}
 use Rattle.machine.proofs.AnyRowsLemmas.{array_any, given_any, built_in_any, cast_any, instance_any, throw_any, got_any}
 use Rattle.machine.proofs.AnyRowsLemmas.{put_any, static_any, instance_call_any, print_any, line_any, main_any}

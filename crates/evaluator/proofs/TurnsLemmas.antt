@@ -138,14 +138,6 @@ module _ (P : Program) (env : Environment) (c : ℕ) where
 
   -- ---- turns in a row
 
-  pub goes_none : (fs : List Frame) (own : Region) (budget : ℕ) → GoesOn P env c fs own budget fs own budget
-  goes_none fs own budget = record {
-    cost = 0;
-    paid = omega arith;
-    runs = λ n last run. subst (λ (k : ℕ). RunsAlone P env c fs own k last) (omega arith) run;
-    stops = λ stop stops. stops;
-  }
-
   pub goes_further : {fs gs hs : List Frame} {own new last : Region} {budget left rest : ℕ} →
       GoesOn P env c fs own budget gs new left → GoesOn P env c gs new left hs last rest →
       GoesOn P env c fs own budget hs last rest

@@ -1,18 +1,15 @@
 //! One instruction of a class's initializer that runs alone.
 
-ghost use Rattle.std.specs.Prelude.{◌≡◌, ◌-◌, ℕ, suc, ◌∷◌, IfOk, IfErr, OnErr, Ok};
-ghost use Rattle.vm_state.specs.declared.frame.Frame.{Frame as Held};
-ghost use Rattle.vm_state.specs.SharedState.{Region as RegionOf};
+ghost use Rattle.std.specs.Prelude.{◌≡◌, ◌-◌, suc, IfOk, OnErr};
 ghost use Rattle.vm_state.specs.Segments.{frames_of};
-ghost use Rattle.semantics.specs.Programs.{Program as Linked};
-ghost use Rattle.semantics.specs.Quiet.{Environment, quiet_step};
+ghost use Rattle.semantics.specs.Quiet.{quiet_step};
 ghost use Rattle.machine.specs.Accesses.{Untouched};
 ghost use Rattle.machine.specs.Linked.{program_of};
 ghost use Rattle.evaluator.specs.Regions.{region_of, environment_of};
 ghost use Rattle.evaluator.specs.Outcomes.{stop_of};
 ghost use Rattle.evaluator.specs.steps.Within.{capped};
 ghost use Rattle.evaluator.specs.steps.Builds.{stopped_build};
-ghost use Rattle.evaluator.specs.steps.Turns.{conduct_of, Performs, IsTurn};
+ghost use Rattle.evaluator.specs.steps.Turns.{Concludes, Performs, IsTurn};
 ghost use Rattle.semantics.specs.Quiet.{Stops};
 ghost use Rattle.machine.specs.declared.kinds.Stop.{Stop as Reason};
 
@@ -71,11 +68,7 @@ fn perform<'a>(
 
 /// A call: the frame of the method called stands on its caller, which loses so many operands.
 fn call(segment: &mut Segment, callee: Frame, arguments: usize) -> Result<Turn, AllocError>
-    ensures { IfOk result (λ turn. (P : Linked) (env : Environment) (c most : ℕ) (f : Held) (own new : RegionOf)
-        (made : ℕ) → Untouched (Ok (Conclusion.Calls callee arguments)) f segment.old.innermost →
-        capped most (quiet_step P env c f own)
-        ≡ conduct_of (Conclusion.Calls callee arguments) segment.old.innermost new made →
-        IsTurn P env c (f ∷ segment.old.callers) own (suc most) turn (frames_of segment.new) new (most - made)) }
+    ensures { IfOk result (λ turn. Concludes (Conclusion.Calls callee arguments) segment.old turn segment.new) }
 {
     segment.innermost.operands.drop_many(arguments);
     segment.call(callee)?;
@@ -84,9 +77,7 @@ fn call(segment: &mut Segment, callee: Frame, arguments: usize) -> Result<Turn, 
 
 /// A return to the caller, where there is one.
 fn return_from(segment: &mut Segment, value: Option<Value>) -> Turn
-    ensures { (P : Linked) (env : Environment) (c most : ℕ) (f : Held) (own new : RegionOf) (made : ℕ) →
-        capped most (quiet_step P env c f own) ≡ conduct_of (Conclusion.Returns value) segment.old.innermost new made →
-        IsTurn P env c (f ∷ segment.old.callers) own (suc most) result (frames_of segment.new) new (most - made) }
+    ensures { Concludes (Conclusion.Returns value) segment.old result segment.new }
 {
     let Some(caller) = segment.callers.pop() else {
         return Turn::Over;
@@ -103,11 +94,7 @@ fn return_from(segment: &mut Segment, value: Option<Value>) -> Turn
 /// # Errors
 /// `AllocError` where memory is refused to a call.
 fn conclude(segment: &mut Segment, conclusion: Conclusion) -> Result<Turn, AllocError>
-    ensures { IfOk result (λ turn. (P : Linked) (env : Environment) (c most : ℕ) (f : Held) (own new : RegionOf)
-        (made : ℕ) → f.activity ≡ segment.old.innermost.activity →
-        Untouched (Ok conclusion) f segment.old.innermost →
-        capped most (quiet_step P env c f own) ≡ conduct_of conclusion segment.old.innermost new made →
-        IsTurn P env c (f ∷ segment.old.callers) own (suc most) turn (frames_of segment.new) new (most - made)) }
+    ensures { IfOk result (λ turn. Concludes conclusion segment.old turn segment.new) }
 {
     match conclusion {
         Conclusion::Stays => Ok(Turn::On),

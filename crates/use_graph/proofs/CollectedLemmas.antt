@@ -74,12 +74,6 @@ abbrev pub EachBefore : {A : Type 0} → List A → (A → Type 0) → ℕ → T
 EachBefore {A} items Q i = (item : A) → Contains (take i items) item → Q item
 
 module _ {A : Type 0} (items : List A) (Q : A → Type 0) where
-  none_before : (k : ℕ) → k < length (take 0 items) → ⊥
-  none_before k small = grind (arith, common_steps)
-
-  pub before_none : EachBefore items Q 0
-  before_none item (k, small, e) = absurd (none_before k small)
-
   pub before_more : (i : ℕ) (d : A) → i < length items → EachBefore items Q i → Q (get_or items i d)
       → EachBefore items Q (i + 1)
   before_more i d small before here item among =

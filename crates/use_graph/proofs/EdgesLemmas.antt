@@ -1,6 +1,6 @@
 -- Edges that are added to a graph.
 use Rattle.std.proofs.Common.{◌≡◌, ◌⊎◌, ◌↔◌, ℕ, ◌+◌, ◌<◌, List, [], ◌∷◌, ◌++◌, length, take, Some, slice_get}
-use Rattle.std.proofs.Common.{slice_set, get_or, refl, sym, subst, ◌∙◌}
+use Rattle.std.proofs.Common.{slice_set, get_or, sym, subst, ◌∙◌}
 use Rattle.std.proofs.Common.{inl, inr, arith}
 use Rattle.std.specs.List.{Contains}
 use Rattle.std.proofs.lemmas.List.{take_more}
@@ -53,9 +53,6 @@ module _ (old : Rows) (from to : ℕ) (h : from < length old) where
 
 -- ---- more edges from one vertex
 
-pub none_added : (old : Rows) (from : ℕ) (Q : ℕ → Type 0) → Extends old old from Q
-none_added old from Q = record { keeps = λ n t p. p; only = λ n t p. inl p }
-
 pub extends_weaker : (old new : Rows) (from : ℕ) (P Q : ℕ → Type 0) → ((t : ℕ) → P t → Q t) → Extends old new from P
     → Extends old new from Q
 extends_weaker old new from P Q h x = record {
@@ -85,17 +82,6 @@ pub record Led (methods : List DeclaredMember) (old graph : Rows) (from : ℕ) (
   pub vertices : length graph ≡ length old
   pub extends : Extends old graph from (IsNumberOf methods some)
   pub leads : LeadsToEach methods graph from (take i some)
-
-pub led_none : (methods : List DeclaredMember) (old : Rows) (from : ℕ) (some : List DeclaredMember)
-    → Led methods old old from some 0
-led_none methods old from some = record {
-  vertices = refl;
-  extends = none_added old from (IsNumberOf methods some);
-  leads = λ y (k, small, e). absurd (no_first k small);
-}
-  where
-    no_first : (k : ℕ) → k < length (take 0 some) → ⊥
-    no_first k small = grind (arith, common_steps)
 
 pub led_more : (methods : List DeclaredMember) (old graph new : Rows) (from : ℕ) (some : List DeclaredMember) (i : ℕ)
     → i < length some → Led methods old graph from some i

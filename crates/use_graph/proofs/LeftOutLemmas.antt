@@ -1,7 +1,8 @@
 -- Native and synchronized methods among those that calls may run.
 use Rattle.std.proofs.Common.{◌≡◌, ◌↔◌, ◌⊎◌, ℕ, ◌<◌, Bool, true, false, List, [], length, Option, Some, slice_get}
-use Rattle.std.proofs.Common.{slice_set, refl, sym, ap, subst, ◌∙◌, inl, inr, arith, IsTrue}
+use Rattle.std.proofs.Common.{slice_set, refl, sym, ap, subst, ◌∙◌, inl, inr, arith, IsTrue, length-set}
 use Rattle.std.specs.List.{Contains}
+use Rattle.std.proofs.lemmas.Option.{slice_get_within}
 use Rattle.hierarchy.proofs.RowLemmas.{set_here, set_else}
 use Rattle.hierarchy.specs.declared.member.DeclaredMember.{DeclaredMember}
 use Rattle.hierarchy.specs.declared.member.Method.{Method}
@@ -34,11 +35,11 @@ module _ (P : Tables) where
     λ (e, j, named, left). is.1 (record { class = e; index = j }, (listed e j).1 (inr named), left),
   )
 
-  -- what was found of one more method
-  pub known_more : (methods : List DeclaredMember) (known : List (Option Bool)) (n : ℕ) (z : DeclaredMember) (b : Bool)
+  known_of : (methods : List DeclaredMember) (known : List (Option Bool)) (n : ℕ) (z : DeclaredMember) (b : Bool)
       → AreKnown P methods known → n < length known → slice_get methods n ≡ Some z
-      → (IsTrue b ↔ SelectsLeftOut P z) → AreKnown P methods (slice_set known n (Some b))
-  known_more methods known n z b are small at is r y so here there = by (decide r)
+      → (IsTrue b ↔ SelectsLeftOut P z) → (r : ℕ) (y : DeclaredMember) (so : Bool) → slice_get methods r ≡ Some y
+      → slice_get (slice_set known n (Some b)) r ≡ Some (Some so) → (IsTrue so ↔ SelectsLeftOut P y)
+  known_of methods known n z b are small at is r y so here there = by (decide r)
     where
       decide : (r : ℕ) → (n ≡ r) ⊎ (n ≡ r → ⊥)
       decide r = grind arith
@@ -52,7 +53,17 @@ module _ (P : Tables) where
           let member : z ≡ y = cc in
           subst (λ (v : Bool). IsTrue v ↔ SelectsLeftOut P y) value
           (subst (λ (m : DeclaredMember). IsTrue b ↔ SelectsLeftOut P m) member is)
-      by (inr other) = are r y so here (sym (set_else known n r (Some b) other) ∙ there)
+      by (inr other) = are.each r y so here (sym (set_else known n r (Some b) other) ∙ there)
+
+  -- what was found, and of one more method
+  pub known_more : (methods : List DeclaredMember) (known : List (Option Bool)) (n : ℕ) (z : DeclaredMember) (b : Bool)
+      → AreKnown P methods known → slice_get methods n ≡ Some z → (IsTrue b ↔ SelectsLeftOut P z)
+      → AreKnown P methods (slice_set known n (Some b))
+  known_more methods known n z b are at is = record {
+    len = length-set known n (Some b) ∙ are.len;
+    each = known_of methods known n z b are
+        (let low = slice_get_within methods n z at in omega (arith, are.len)) at is;
+  }
 
   -- ---- what is selected
 

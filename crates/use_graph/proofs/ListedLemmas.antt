@@ -6,17 +6,8 @@ use Rattle.graph.specs.Seen.{AreDistinct}
 use Rattle.graph.proofs.NumberingLemmas.{apart}
 use Rattle.hierarchy.specs.declared.member.DeclaredMember.{DeclaredMember}
 use Rattle.use_graph.specs.Uses.{StandOnce}
-use Rattle.use_graph.specs.steps.Numbers.{AreNumbered}
 use Rattle.use_graph.specs.steps.Searching.{AddsMethod}
 use Rattle.use_graph.proofs.NumbersLemmas.{push_cases}
-
-pub numbered_once : (firsts : List ℕ) (methods : List DeclaredMember) → AreNumbered firsts methods → StandOnce methods
-numbered_once firsts methods are i j m here there =
-    let (a, at, is) = are.placed i m.class m.index here in
-    let (b, other, same) = are.placed j m.class m.index there in
-    let two : Some a ≡ Some b = sym at ∙ other in
-    let one : a ≡ b = cc in
-    omega (arith, is, same, one)
 
 -- methods of the first so many vertices, none at two places
 pub record ListedBelow (methods : List DeclaredMember) (reached : List ℕ) (place : ℕ) (found : List DeclaredMember) :

@@ -1,13 +1,11 @@
 -- What the code of a linked program needs are given classes.
-use Rattle.std.proofs.Common.{◌≡◌, inl, inr, ℕ, ◌<◌, Bool, true, false, cond, not, ◌&&◌, List, length, Option}
-use Rattle.std.proofs.Common.{Some, None, Ok, Err, IsSome, is_some, slice_get, get_or, refl, sym, ap, subst, ◌∙◌, arith}
+use Rattle.std.proofs.Common.{◌≡◌, inl, inr, ℕ, ◌<◌, Bool, true, false, cond, not, ◌&&◌, length, Option}
+use Rattle.std.proofs.Common.{Some, None, Ok, Err, IsSome, is_some, refl, sym, ap, subst, ◌∙◌}
 use Rattle.std.specs.declared.result.Result.{Result}
 use Rattle.std.proofs.lemmas.Bool.{cases_lt}
-use Rattle.std.proofs.lemmas.Option.{slice_get_within, slice_get_past, slice_get-get_or}
+use Rattle.std.proofs.lemmas.Option.{slice_get_past}
 use Rattle.classfile.specs.Flags.{has_flag}
 use Rattle.classfile.specs.ClassFile.{ClassFile}
-use Rattle.classfile.specs.declared.constant.Constant.{Constant}
-use Rattle.classfile.specs.declared.constant.Constant.TheVariants as constants
 use Rattle.bytecode.specs.declared.instruction.Instruction.{Instruction}
 use Rattle.bytecode.specs.declared.instruction.Instruction.TheVariants as instructions
 use Rattle.vm_state.specs.declared.ends.FaultKind.{FaultKind}
@@ -20,13 +18,10 @@ use Rattle.built_in.specs.declared.class_id.ClassId.TheVariants as class_ids
 use Rattle.built_in.specs.declared.method.BuiltInMethod.TheVariants as members
 use Rattle.loading.specs.Families.{Family, file_of, file_in, passes}
 use Rattle.hierarchy.specs.MemberLookup.{flags_of}
-use Rattle.hierarchy.specs.declared.member.Field.{Field}
-use Rattle.hierarchy.specs.declared.member.Field.TheVariants as fields
 use Rattle.hierarchy.specs.declared.member.Method.{Method}
 use Rattle.hierarchy.specs.declared.member.Method.TheVariants as methods
 use Rattle.hierarchy.specs.declared.member.Unresolved.{Unresolved}
 use Rattle.hierarchy.specs.declared.member.Unresolved.TheVariants as unresolved
-use Rattle.program.specs.declared.class.Class.{Class}
 use Rattle.program.specs.declared.class.Implementation.{Implementation}
 use Rattle.program.specs.declared.class.Implementation.TheVariants as implementations
 use Rattle.program.specs.declared.runtime_constant.FieldKind.{FieldKind}
@@ -39,12 +34,9 @@ use Rattle.program.specs.declared.runtime_constant.RuntimeConstant.TheVariants a
 use Rattle.program.specs.declared.signature.Signature.{Signature}
 use Rattle.program.specs.Arrays.{array_of}
 use Rattle.program.specs.CalledMethods.{is_static_method}
-use Rattle.program.specs.Fields.{static_of, final_of, static_number_of}
-use Rattle.program.specs.FieldTargets.{target_in, targeted}
-use Rattle.program.specs.InstanceFields.{slot_of, has_instances, is_instantiable_in}
+use Rattle.program.specs.InstanceFields.{has_instances, is_instantiable_in}
 use Rattle.program.specs.Programs.{IsProgram}
-use Rattle.program.specs.RuntimePool.{IsRuntimeConstant}
-use Rattle.program.specs.Tables.{Tables, runtime_pool_of, constant_at, signature_at, instruction_at, implementation_at}
+use Rattle.program.specs.Tables.{Tables, constant_at, signature_at, instruction_at, implementation_at}
 use Rattle.program.specs.Tables.{initializer_in}
 use Rattle.frame_instructions.specs.declared.operand_kind.OperandKind.{OperandKind}
 use Rattle.frame_instructions.specs.declared.operand_kind.OperandKind.TheVariants as operands
@@ -67,8 +59,7 @@ use Rattle.machine.specs.Operations.{Operation, PutStatic, Return, Refused, int_
 use Rattle.machine.specs.Operations.{may_write, if_valued, get_target, getstatic_of, put_target, putstatic_of, on_call}
 use Rattle.machine.specs.Operations.{returns_so, return_of, new_of_references, anewarray_of, on_object}
 use Rattle.machine.specs.Operations.{resolved_operation, local_or, operation_of, operation_at}
-use Rattle.machine.proofs.ListLemmas.{left_of_pair}
-use Rattle.machine.proofs.LawsStaticLemmas.{IsClassIn}
+use Rattle.machine.proofs.LawsFinalLemmas.{constant_at_put, static_target}
 use Rattle.use_graph.specs.Code.{needed_by}
 use Rattle.use_graph.specs.Uses.{MayNeed}
 
@@ -100,79 +91,16 @@ instantiable_given family c = by (file_in family c)
     by None is = cc
     by (Some f) is = refl
 
-abbrev IsOk : FieldTarget → FieldTarget → Type 0
-IsOk a b = ◌≡◌ {A = Result FieldTarget Unresolved} (Ok a) (Ok b)
-
--- a static field is one of a class that is there
-static_given : (family : Family) (c k : ℕ) (final : Bool) (place : ℕ) (r : Result Field Unresolved)
-    → targeted family r ≡ Ok (targets.Static c k final place) → IsGiven family c
-static_given family c k final place (Err x) e = cc
-static_given family c k final place (Ok fields.Out) e = cc
-static_given family c k final place (Ok (fields.Given x j)) e = by_file (file_in family x) refl e
-  where
-    by_static : (f : ClassFile) (b : Bool) → file_in family x ≡ Some f
-        → IsOk (cond b (targets.Static x (static_number_of f j) (final_of (slice_get f.fields j)) j)
-        (targets.Instance x j (slot_of family x j))) (targets.Static c k final place)
-        → IsGiven family c
-    by_static f true file h =
-        (let class : x ≡ c = cc in subst (IsGiven family) class (ap is_some file))
-    by_static f false file h = cc
-
-    by_file : (o : Option ClassFile) → file_in family x ≡ o
-        → IsOk (target_in o x j (slot_of family x j)) (targets.Static c k final place)
-        → IsGiven family c
-    by_file None file h = cc
-    by_file (Some f) file h = by_static f (static_of (slice_get f.fields j)) file h
-
 -- ---- constants that stand for fields
 
-field_held : {family : Family} {strings : List (List ℕ)} {f : ClassFile} {index : ℕ} {constant : Constant}
-    {held : RuntimeConstant}
-    (kind : FieldKind) (target : Result FieldTarget Unresolved) → held ≡ runtime.Field kind target
-    → IsRuntimeConstant family strings f index constant held
-    → (r : Result Field Unresolved) × (targeted family r ≡ target)
-field_held kind target e (IsRuntimeConstant.field r resolves) = (r, cc)
-field_held kind target e IsRuntimeConstant.int = absurd cc
-field_held kind target e IsRuntimeConstant.long = absurd cc
-field_held kind target e IsRuntimeConstant.float = absurd cc
-field_held kind target e IsRuntimeConstant.double = absurd cc
-field_held kind target e (IsRuntimeConstant.string h) = absurd cc
-field_held kind target e (IsRuntimeConstant.class h) = absurd cc
-field_held kind target e (IsRuntimeConstant.method h) = absurd cc
-field_held kind target e (IsRuntimeConstant.interface_method h) = absurd cc
-field_held kind target e IsRuntimeConstant.utf8 = absurd cc
-field_held kind target e IsRuntimeConstant.unusable = absurd cc
-field_held kind target e IsRuntimeConstant.name_and_type = absurd cc
-field_held kind target e IsRuntimeConstant.method_handle = absurd cc
-field_held kind target e IsRuntimeConstant.method_type = absurd cc
-field_held kind target e IsRuntimeConstant.invoke_dynamic = absurd cc
-
 module _ (P : Tables) (is : IsProgram P) where
-  held_at : (d index : ℕ) (kind : FieldKind) (target : Result FieldTarget Unresolved)
-      → constant_at P d index ≡ Some (runtime.Field kind target)
-      → (r : Result Field Unresolved) × (targeted P.family r ≡ target)
-  held_at d index kind target e = by (slice_get P.classes d) refl e
-    where
-      by : (o : Option Class) → slice_get P.classes d ≡ o
-          → slice_get (runtime_pool_of o) index ≡ Some (runtime.Field kind target)
-          → (r : Result Field Unresolved) × (targeted P.family r ≡ target)
-      by None there h = absurd cc
-      by (Some class) there h =
-          let found = left_of_pair (IsClassIn P) P.family P.classes d class is.classes there in
-          let f = found.0.file in
-          let pool = found.2.runtime_pool in
-          let within : index < length f.constants =
-          omega (arith, slice_get_within class.runtime_pool index (runtime.Field kind target) h, pool.count) in
-          let constant = get_or f.constants index constants.Unusable in
-          let at : slice_get f.constants index ≡ Some constant =
-          slice_get-get_or f.constants index constants.Unusable within in
-          field_held kind target refl (pool.each index constant (runtime.Field kind target) at h)
-
+  -- a static field is one of a class that is there
   constant_given : (d index c k : ℕ) (kind : FieldKind) (final : Bool) (place : ℕ)
       → constant_at P d index ≡ Some (runtime.Field kind (Ok (targets.Static c k final place))) → IsGiven P.family c
   constant_given d index c k kind final place at =
-      let (r, target) = held_at d index kind (Ok (targets.Static c k final place)) at in
-      static_given P.family c k final place r target
+      let source = (constant_at_put P is d index kind (Ok (targets.Static c k final place)) at).2 in
+      let static = static_target P.family c k final place source.result source.target_is in
+      ap is_some static.stands
 
 -- ---- operations
 
@@ -180,9 +108,6 @@ module _ (P : Tables) where
   -- what it needs is given
   abbrev NeedsGiven : Operation → Type 0
   NeedsGiven o = (e : ℕ) → needed_by o ≡ Some e → IsGiven P.family e
-
-  needs_none : (o : Operation) → needed_by o ≡ None → NeedsGiven o
-  needs_none o none e some = (let clash : None ≡ Some e = sym none ∙ some in cc)
 
   from_int : (c : Option RuntimeConstant) → NeedsGiven (int_constant c)
   from_int (Some (runtime.Int n)) e h = cc

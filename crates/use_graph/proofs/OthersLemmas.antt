@@ -12,19 +12,6 @@ pub record Others (used : List ℕ) (class limit : ℕ) (classes : List ℕ) : T
   pub members : (e : ℕ) → Contains classes e ↔ ((e < limit) × (e ≢ class) × Contains used e)
   pub ascending : IsStrictlyIncreasing classes
 
-pub others_none : (used : List ℕ) (class : ℕ) (classes : List ℕ) → classes ≡ [] → Others used class 0 classes
-others_none used class classes none =
-    subst (λ (l : List ℕ). Others used class 0 l) (sym none) (record {
-      members = λ e. (
-        λ (k, small, is). absurd (empty k small),
-        λ (low, other, among). absurd (omega arith),
-      );
-      ascending = λ k low. absurd (empty (k + 1) low);
-    })
-  where
-    empty : (k : ℕ) → k < length {A = ℕ} [] → ⊥
-    empty k small = grind (arith, common_steps)
-
 below_or_last : (e limit : ℕ) → e < limit + 1 → (e < limit) ⊎ (e ≡ limit)
 below_or_last e limit low = grind arith
 

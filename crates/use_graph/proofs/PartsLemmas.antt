@@ -1,9 +1,9 @@
 -- A graph of calls while it is made.
-use Rattle.std.proofs.Common.{◌≡◌, ℕ, ◌+◌, Bool, true, false, not, List, [], ◌∷◌, ◌++◌, length, Some, slice_get, refl}
-use Rattle.std.proofs.Common.{sym, ap, subst}
-use Rattle.std.proofs.Common.{◌∙◌, inl, inr}
+use Rattle.std.proofs.Common.{◌≡◌, ℕ, ◌+◌, ◌<◌, Bool, true, false, not, List, [], ◌∷◌, ◌++◌, length, Some, slice_get}
+use Rattle.std.proofs.Common.{refl, sym, ap, subst, ◌∙◌, inl, inr, arith}
 use Rattle.std.specs.List.{Contains}
-use Rattle.graph.specs.Seen.{Joins}
+use Rattle.std.proofs.lemmas.Option.{slice_get_within}
+use Rattle.graph.specs.Seen.{Seen, Joins}
 use Rattle.std.proofs.lemmas.List.Elements.{Contains-push_cases}
 use Rattle.graph.specs.Rows.{Rows, successors_of}
 use Rattle.program.specs.Tables.{Tables}
@@ -11,6 +11,7 @@ use Rattle.hierarchy.specs.declared.member.DeclaredMember.{DeclaredMember}
 use Rattle.use_graph.specs.steps.Numbers.{HasNumber}
 use Rattle.use_graph.specs.steps.CallGraphs.{IsEdge, named, LeadsTo}
 use Rattle.use_graph.specs.steps.Growing.{Extends, EdgeTo, Grows, IsLike, IsPart, LeadsToLike, LeadsToNamed}
+use Rattle.use_graph.specs.steps.Growing.{IsGrowing, GrowsBy}
 use Rattle.use_graph.proofs.EdgesLemmas.{edge_kept}
 
 module _ (P : Tables) (methods : List DeclaredMember) where
@@ -71,14 +72,50 @@ module _ (P : Tables) (methods : List DeclaredMember) where
   leads_straight graph from z leads e j like number =
       let found = leads e j like number in (found.0, found.1, inl found.2)
 
-  pub grows_more : (old mid new : Rows) → Grows old mid → Grows mid new → Grows old new
-  grows_more old mid new first then n t p = then n t (first n t p)
-
   pub leads_kept : (old new : Rows) (from e j : ℕ) → Grows old new → LeadsTo methods old from e j
       → LeadsTo methods new from e j
   leads_kept old new from e j grows (to, is, inl edge) = (to, is, inl (grows from to edge))
   leads_kept old new from e j grows (to, is, inr (r, first, then)) =
       (to, is, inr (r, grows from (length methods + r) first, grows (length methods + r) to then))
+
+-- ---- steps
+
+module _ {P : Tables} {methods : List DeclaredMember} where
+  pub is_vertex : {graph : Rows} {groups : Seen} (n : ℕ) (m : DeclaredMember) → IsGrowing P methods graph groups
+      → slice_get methods n ≡ Some m → n < length graph
+  is_vertex n m growing at = omega (arith, growing.part.vertices, slice_get_within methods n m at)
+
+  pub no_step : {graph : Rows} {groups : Seen} {Leads : Type 0} → IsGrowing P methods graph groups → Leads
+      → GrowsBy P methods graph graph groups Leads
+  no_step growing leads = record { growing = growing; grows = λ n t p. p; leads = leads }
+
+  -- edges from one method
+  pub one_step : {old new : Rows} {groups : Seen} {from : ℕ} {Q : ℕ → Type 0} {Leads : Type 0}
+      → IsGrowing P methods old groups → length new ≡ length old → Extends old new from Q
+      → ((t : ℕ) → Q t → IsEdge P methods from t) → Leads → GrowsBy P methods old new groups Leads
+  one_step {old} {new} {groups} {from} {Q} growing count x edges leads = record {
+    growing = record {
+      few = growing.few;
+      limit = growing.limit;
+      part = part_extended P methods old new groups.items from Q growing.part count x edges;
+    };
+    grows = x.keeps;
+    leads = leads;
+  }
+
+  pub two_steps : {old mid new : Rows} {groups more : Seen} {First Then : Type 0}
+      → GrowsBy P methods old mid groups First → GrowsBy P methods mid new more Then
+      → GrowsBy P methods old new more Then
+  two_steps first then = record {
+    growing = then.growing;
+    grows = λ n t p. then.grows n t (first.grows n t p);
+    leads = then.leads;
+  }
+
+  -- what edges lead to, said in another way
+  pub leading : {old new : Rows} {groups : Seen} {Leads So : Type 0} → GrowsBy P methods old new groups Leads → So
+      → GrowsBy P methods old new groups So
+  leading step so = record { growing = step.growing; grows = step.grows; leads = so }
 
 -- an edge to a method, by its class and place
 pub leads_to : (methods : List DeclaredMember) (graph : Rows) (from : ℕ) (member : DeclaredMember) (e j : ℕ)

@@ -1,49 +1,21 @@
 -- The parts of instructions that touch objects alone, and the instructions that do no more, are in every scope.
-use Rattle.std.proofs.Common.{◌≡◌, ℕ, ℤ, Bool, true, false, cond, List, Option, Some, None, Ok, Err}
-use Rattle.std.proofs.Common.{nat_le}
-use Rattle.std.specs.declared.result.Result.{Result}
-use Rattle.built_in.specs.declared.class_id.ArrayType.{ArrayType}
+use Rattle.std.proofs.Common.{◌≡◌, Bool, true, false, cond, Option}
 use Rattle.built_in.specs.declared.class_id.BuiltIn.{BuiltIn as BuiltInClass}
 use Rattle.built_in.specs.declared.class_id.BuiltIn.TheVariants as builtins
-use Rattle.built_in.specs.declared.class_id.ClassId.{ClassId}
-use Rattle.built_in.specs.declared.class_id.ClassId.TheVariants.{Given, BuiltIn, Array}
-use Rattle.built_in.specs.declared.method.BuiltInMethod.{BuiltInMethod}
-use Rattle.built_in.specs.declared.method.BuiltInMethod.TheVariants as members
 use Rattle.vm_state.specs.declared.value.Value.{Value}
 use Rattle.vm_state.specs.declared.value.Value.TheVariants as values
-use Rattle.vm_state.specs.declared.value.Name.{Name}
 use Rattle.vm_state.specs.declared.ends.FaultKind.{FaultKind}
-use Rattle.vm_state.specs.declared.ends.FaultKind.TheVariants as faults
 use Rattle.vm_state.specs.declared.frame.Frame.{Frame}
-use Rattle.vm_state.specs.Operands.{pushed, top, top_int, rest}
-use Rattle.vm_state.specs.Values.{name_of, int_of, value_of}
-use Rattle.bytecode.specs.declared.operand.ElementKind.{ElementKind}
-use Rattle.semantics.specs.Rows.{Row, Ends, Raise, AskClass, Change, Make, UseMonitor}
+use Rattle.vm_state.specs.Operands.{pushed, rest}
+use Rattle.vm_state.specs.Values.{name_of, value_of}
+use Rattle.semantics.specs.Rows.{Row, UseMonitor}
 use Rattle.semantics.specs.Moves.{advanced, with_operands}
 use Rattle.semantics.specs.Bounds.{Scope, IsInScope}
-use Rattle.hierarchy.specs.Subtypes.{is_below}
 use Rattle.program.specs.Tables.{Tables}
-use Rattle.frame_instructions.specs.declared.trap.Trap.{Trap}
-use Rattle.frame_instructions.specs.declared.trap.Trap.TheVariants as traps
-use Rattle.frame_instructions.specs.declared.operand_kind.OperandKind.TheVariants.{Int, Reference}
-use Rattle.frame_instructions.specs.Instructions.{is_null}
+use Rattle.frame_instructions.specs.declared.operand_kind.OperandKind.TheVariants.{Reference}
 use Rattle.frame_instructions.specs.OperandKinds.{top_as}
-use Rattle.machine.specs.declared.array_operation.ArrayOperation.{ArrayOperation}
-use Rattle.machine.specs.declared.array_operation.ArrayOperation.TheVariants as arrays
-use Rattle.machine.specs.declared.object_operation.InstanceField.{InstanceField}
-use Rattle.machine.specs.StoredKinds.{top_stored, extra_places}
 use Rattle.machine.specs.RowParts.{halts, needing, goes_on, push, raises}
-use Rattle.machine.specs.ObjectParts.{slot_in, look_into_slot, look_into_named, on_name, class_of_nameless}
-use Rattle.machine.specs.ObjectParts.{ask_class_of, without_object, on_object}
-use Rattle.machine.specs.Objects.{new_object, is_of, check_cast, instance_of, cast_row, throw_of, throw_row}
-use Rattle.machine.specs.Objects.{is_holder, on_holder}
-use Rattle.machine.specs.Objects.{int_of_boolean, get_field, put_field}
 use Rattle.machine.specs.Monitors.{without_monitor, use_monitor, entered, left}
-use Rattle.machine.specs.Members.{on_enum, new_enum, replaced, or_slot, enum_part, copy_of, clone_if_array}
-use Rattle.machine.specs.Members.{member_row}
-use Rattle.machine.specs.Arrays.{stored_as, unless_trapped, array_type, served_type, slot_at, size_of, can_hold}
-use Rattle.machine.specs.Arrays.{make_array, array_length, at_element, load_element, is_checked, if_held, check_store}
-use Rattle.machine.specs.Arrays.{store_element, array_row}
 use Rattle.machine.specs.Linked.{program_of}
 use Rattle.machine.proofs.TableLemmas.{needing_any}
 use Rattle.machine.proofs.AnyRowsLemmas.{GoesUp, either_any, named_any}

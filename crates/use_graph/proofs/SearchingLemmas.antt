@@ -1,8 +1,8 @@
 -- What the initialization of one class may run and use, by the vertices that are reached.
-use Rattle.std.proofs.Common.{◌≡◌, ◌≢◌, ◌↔◌, ◌⊎◌, ℕ, ◌<◌, List, [], ◌∷◌, length, Option, Some, None}
-use Rattle.std.proofs.Common.{slice_get, MatchOption, get_or, refl, sym, ap, subst, ◌∙◌, inl, inr, arith}
+use Rattle.std.proofs.Common.{◌≡◌, ◌≢◌, ◌↔◌, ◌⊎◌, ℕ, ◌<◌, List, [], length, Option, Some, None}
+use Rattle.std.proofs.Common.{slice_get, MatchOption, refl, sym, ap, subst, ◌∙◌, inl, inr, arith}
 use Rattle.std.specs.List.{Contains}
-use Rattle.std.proofs.lemmas.Option.{slice_get_within, slice_get-get_or}
+use Rattle.std.proofs.lemmas.Option.{slice_get_within}
 use Rattle.program.specs.Tables.{Tables, order_in, initializer_in}
 use Rattle.hierarchy.specs.declared.member.DeclaredMember.{DeclaredMember}
 use Rattle.use_graph.specs.declared.body.Told.{Told}
@@ -10,12 +10,12 @@ use Rattle.use_graph.specs.declared.body.BodyUses.{BodyUses}
 use Rattle.use_graph.specs.declared.mark.Mark.{Mark}
 use Rattle.use_graph.specs.declared.mark.Evidence.{Evidence}
 use Rattle.use_graph.specs.declared.whole_program.UseGraph.{UseGraph}
-use Rattle.use_graph.specs.Uses.{MayRun, MayNeed, IsUse, Means, Tells}
+use Rattle.use_graph.specs.Uses.{MayRun, MayNeed, IsUse, Tells}
 use Rattle.use_graph.specs.steps.Deeds.{HoldsOfOne}
 use Rattle.use_graph.specs.steps.Bodies.{IsUseGraph}
 use Rattle.use_graph.specs.steps.Numbers.{HasNumber, AreMethods}
 use Rattle.use_graph.specs.steps.Searching.{StartsAt, AreReached, IsAmong, IsClassBelow, IsNeededAt, IsNeededIn}
-use Rattle.use_graph.specs.steps.Searching.{Unmarked, IsFound}
+use Rattle.use_graph.specs.steps.Searching.{IsFound}
 use Rattle.use_graph.proofs.DeedsLemmas.{pc_of_told}
 use Rattle.use_graph.proofs.ListLemmas.{one_of}
 
@@ -127,16 +127,6 @@ module _ (P : Tables) (graph : UseGraph) (c : ℕ) (reached : List ℕ) (whole :
         ],
         λ runs. (all m).1 (inr ((are m).1 runs)),
       )
-
--- ---- what is not marked
-
-pub unmarked_body : (graph : UseGraph) (c : ℕ) (mark : Mark) (n : ℕ) (b : BodyUses)
-    → slice_get graph.bodies.items n ≡ Some b → ((t : Told) → Contains b.told.items t → ¬ Means c t.feature mark)
-    → Unmarked graph c mark n
-unmarked_body graph c mark n b at none m x t here there among means =
-    let two : Some b ≡ Some x = sym at ∙ there in
-    let is : b ≡ x = cc in
-    none t (subst (λ (y : BodyUses). Contains y.told.items t) (sym is) among) means
 
 -- ---- one vertex
 

@@ -1,6 +1,6 @@
 //! What the instructions of a method need, and what is told of them.
 
-ghost use Rattle.std.specs.Prelude.{◌≡◌, ◌↔◌, ◌⊎◌, ℕ, Some, length, IsTrue, IfOk, OnOk};
+ghost use Rattle.std.specs.Prelude.{◌≡◌, ◌↔◌, ◌⊎◌, ℕ, Some, IsTrue, IfOk, OnOk};
 ghost use Rattle.std.specs.List.{Contains};
 ghost use Rattle.use_graph.specs.declared.body.Told.{Told as Held};
 ghost use Rattle.use_graph.specs.declared.feature.Feature.TheVariants as features;
@@ -99,7 +99,6 @@ fn add_told(
     deed: Deed,
     told: &mut Vec<Told>,
 ) -> Result<(), AllocError>
-    requires len { length known.old ≡ length numbers.now }
     requires known { AreKnown program.now numbers.now known.old }
     ensures known { AreKnown program.now numbers.now known.new }
     ensures told { OnOk result ((t : Held) → Contains told.new.items t
@@ -120,7 +119,6 @@ fn add_all_told(
     deeds: &[Deed],
     told: &mut Vec<Told>,
 ) -> Result<(), AllocError>
-    requires len { length known.old ≡ length numbers.now }
     requires known { AreKnown program.now numbers.now known.old }
     ensures known { AreKnown program.now numbers.now known.new }
     ensures told { OnOk result ((t : Held) → Contains told.new.items t
@@ -140,7 +138,6 @@ fn uses_of(
     known: &mut [Option<bool>],
     deeds: &[Deed],
 ) -> Result<BodyUses, AllocError>
-    requires len { length known.old ≡ length numbers.now }
     requires known { AreKnown program.now numbers.now known.old }
     ensures known { AreKnown program.now numbers.now known.new }
     ensures uses { IfOk result (AreUsesOf program.now deeds.now) }
@@ -160,7 +157,6 @@ pub(crate) fn body_uses(
     known: &mut [Option<bool>],
     method: DeclaredMember,
 ) -> Result<BodyUses, AllocError>
-    requires len { length known.old ≡ length numbers.now }
     requires known { AreKnown program.now numbers.now known.old }
     ensures known { AreKnown program.now numbers.now known.new }
     ensures uses { IfOk result (AreBodyUses program.now method) }

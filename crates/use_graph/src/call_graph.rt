@@ -9,7 +9,7 @@ ghost use Rattle.use_graph.specs.Uses.{Calls};
 ghost use Rattle.use_graph.specs.declared.callee.Callee.TheVariants as callees;
 ghost use Rattle.use_graph.specs.steps.CallGraphs.{IsCallGraph};
 ghost use Rattle.use_graph.specs.steps.Deeds.{CallsBy};
-ghost use Rattle.use_graph.specs.steps.Growing.{Grows, IsPart, LeadsToAll, LeadsToNamed};
+ghost use Rattle.use_graph.specs.steps.Growing.{IsPart, IsGrowing, GrowsBy, LeadsToAll, LeadsToNamed};
 ghost use Rattle.use_graph.specs.steps.Growing.{LeadsByEach, LeadsByBody, LeadsByNumber};
 ghost use Rattle.use_graph.specs.steps.Numbers.{HasNumber};
 ghost use Rattle.use_graph.specs.steps.Growing.{Extends, EdgeTo, IsLike, LeadsToLike, IsNumberOf, LeadsToEach};
@@ -109,14 +109,10 @@ fn add_group(
     number: usize,
     method: DeclaredMember,
 ) -> Result<(), AllocError>
-    requires limit { groups.old.limit ≡ length numbers.now }
-    requires few { length numbers.now ≤ 65535 * 65535 }
-    requires part { IsPart program.now numbers.now graph.old groups.old.items }
+    requires growing { IsGrowing program.now numbers.now graph.old groups.old }
     requires number { slice_get numbers.now number ≡ Some method }
-    ensures limit { groups.new.limit ≡ groups.old.limit }
-    ensures part { OnOk result (IsPart program.now numbers.now graph.new groups.new.items) }
-    ensures grows { OnOk result (Grows graph.old graph.new) }
-    ensures there { OnOk result (Contains groups.new.items number) }
+    ensures { OnOk result (GrowsBy program.now numbers.now graph.old graph.new groups.new
+        (Contains groups.new.items number)) }
 {
     let vertex = group_vertex(numbers, number);
     if !groups.add(number)? {
@@ -146,16 +142,12 @@ fn add_named(
     caller: DeclaredMember,
     method: DeclaredMember,
 ) -> Result<(), AllocError>
-    requires limit { groups.old.limit ≡ length numbers.now }
-    requires few { length numbers.now ≤ 65535 * 65535 }
-    requires part { IsPart program.now numbers.now graph.old groups.old.items }
+    requires growing { IsGrowing program.now numbers.now graph.old groups.old }
     requires from { slice_get numbers.now from ≡ Some caller }
     requires calls { (e j : ℕ) → IsNamedLike program.now.family method e j
         → Calls program.now caller.class caller.index e j }
-    ensures limit { groups.new.limit ≡ groups.old.limit }
-    ensures part { OnOk result (IsPart program.now numbers.now graph.new groups.new.items) }
-    ensures grows { OnOk result (Grows graph.old graph.new) }
-    ensures leads { OnOk result (LeadsToNamed program.now numbers.now graph.new from method) }
+    ensures { OnOk result (GrowsBy program.now numbers.now graph.old graph.new groups.new
+        (LeadsToNamed program.now numbers.now graph.new from method)) }
 {
     match numbers.number(method.class, method.index) {
         Some(number) => {
@@ -181,16 +173,12 @@ fn add_selected(
     caller: DeclaredMember,
     method: Method,
 ) -> Result<(), AllocError>
-    requires limit { groups.old.limit ≡ length numbers.now }
-    requires few { length numbers.now ≤ 65535 * 65535 }
-    requires part { IsPart program.now numbers.now graph.old groups.old.items }
+    requires growing { IsGrowing program.now numbers.now graph.old groups.old }
     requires from { slice_get numbers.now from ≡ Some caller }
     requires calls { (e j : ℕ) → MayRunFor program.now (callees.Selected method) e j
         → Calls program.now caller.class caller.index e j }
-    ensures limit { groups.new.limit ≡ groups.old.limit }
-    ensures part { OnOk result (IsPart program.now numbers.now graph.new groups.new.items) }
-    ensures grows { OnOk result (Grows graph.old graph.new) }
-    ensures leads { OnOk result (LeadsToAll program.now numbers.now graph.new from (callees.Selected method)) }
+    ensures { OnOk result (GrowsBy program.now numbers.now graph.old graph.new groups.new
+        (LeadsToAll program.now numbers.now graph.new from (callees.Selected method))) }
 {
     match program.selectable(method) {
         Selectable::Nothing => Ok(()),
@@ -216,16 +204,12 @@ fn add_call(
     caller: DeclaredMember,
     callee: Callee,
 ) -> Result<(), AllocError>
-    requires limit { groups.old.limit ≡ length numbers.now }
-    requires few { length numbers.now ≤ 65535 * 65535 }
-    requires part { IsPart program.now numbers.now graph.old groups.old.items }
+    requires growing { IsGrowing program.now numbers.now graph.old groups.old }
     requires from { slice_get numbers.now from ≡ Some caller }
     requires calls { (e j : ℕ) → MayRunFor program.now callee e j
         → Calls program.now caller.class caller.index e j }
-    ensures limit { groups.new.limit ≡ groups.old.limit }
-    ensures part { OnOk result (IsPart program.now numbers.now graph.new groups.new.items) }
-    ensures grows { OnOk result (Grows graph.old graph.new) }
-    ensures leads { OnOk result (LeadsToAll program.now numbers.now graph.new from callee) }
+    ensures { OnOk result (GrowsBy program.now numbers.now graph.old graph.new groups.new
+        (LeadsToAll program.now numbers.now graph.new from callee)) }
 {
     match callee {
         Callee::Nobody => Ok(()),
@@ -251,16 +235,12 @@ fn add_calls(
     caller: DeclaredMember,
     deeds: &[Deed],
 ) -> Result<(), AllocError>
-    requires limit { groups.old.limit ≡ length numbers.now }
-    requires few { length numbers.now ≤ 65535 * 65535 }
-    requires part { IsPart program.now numbers.now graph.old groups.old.items }
+    requires growing { IsGrowing program.now numbers.now graph.old groups.old }
     requires from { slice_get numbers.now from ≡ Some caller }
     requires calls { (e j : ℕ) → CallsBy program.now deeds.now e j
         → Calls program.now caller.class caller.index e j }
-    ensures limit { groups.new.limit ≡ groups.old.limit }
-    ensures part { OnOk result (IsPart program.now numbers.now graph.new groups.new.items) }
-    ensures grows { OnOk result (Grows graph.old graph.new) }
-    ensures leads { OnOk result (LeadsByEach program.now numbers.now graph.new from deeds.now) }
+    ensures { OnOk result (GrowsBy program.now numbers.now graph.old graph.new groups.new
+        (LeadsByEach program.now numbers.now graph.new from deeds.now)) }
 {
     for deed in deeds {
         add_call(
@@ -287,14 +267,10 @@ fn add_body(
     from: usize,
     caller: DeclaredMember,
 ) -> Result<(), AllocError>
-    requires limit { groups.old.limit ≡ length numbers.now }
-    requires few { length numbers.now ≤ 65535 * 65535 }
-    requires part { IsPart program.now numbers.now graph.old groups.old.items }
+    requires growing { IsGrowing program.now numbers.now graph.old groups.old }
     requires from { slice_get numbers.now from ≡ Some caller }
-    ensures limit { groups.new.limit ≡ groups.old.limit }
-    ensures part { OnOk result (IsPart program.now numbers.now graph.new groups.new.items) }
-    ensures grows { OnOk result (Grows graph.old graph.new) }
-    ensures leads { OnOk result (LeadsByBody program.now numbers.now graph.new from caller) }
+    ensures { OnOk result (GrowsBy program.now numbers.now graph.old graph.new groups.new
+        (LeadsByBody program.now numbers.now graph.new from caller)) }
 {
     let deeds = deeds_of(alloc, program, caller.class, caller.index)?;
     add_calls(alloc, program, numbers, graph, groups, from, caller, &deeds)?;
@@ -310,13 +286,9 @@ fn add_numbered(
     groups: &mut Visited,
     number: usize,
 ) -> Result<(), AllocError>
-    requires limit { groups.old.limit ≡ length numbers.now }
-    requires few { length numbers.now ≤ 65535 * 65535 }
-    requires part { IsPart program.now numbers.now graph.old groups.old.items }
-    ensures limit { groups.new.limit ≡ groups.old.limit }
-    ensures part { OnOk result (IsPart program.now numbers.now graph.new groups.new.items) }
-    ensures grows { OnOk result (Grows graph.old graph.new) }
-    ensures leads { OnOk result (LeadsByNumber program.now numbers.now graph.new number) }
+    requires growing { IsGrowing program.now numbers.now graph.old groups.old }
+    ensures { OnOk result (GrowsBy program.now numbers.now graph.old graph.new groups.new
+        (LeadsByNumber program.now numbers.now graph.new number)) }
 {
     let Some(method) = numbers.method(number) else {
         return Ok(());
@@ -333,9 +305,7 @@ fn add_bodies(
     graph: &mut Graph,
     groups: &mut Visited,
 ) -> Result<(), AllocError>
-    requires limit { groups.old.limit ≡ length numbers.now }
-    requires few { length numbers.now ≤ 65535 * 65535 }
-    requires part { IsPart program.now numbers.now graph.old groups.old.items }
+    requires growing { IsGrowing program.now numbers.now graph.old groups.old }
     ensures { OnOk result (IsCallGraph program.now numbers.now graph.new) }
 {
     for number in 0..numbers.len() {

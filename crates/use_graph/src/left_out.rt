@@ -1,6 +1,6 @@
 //! Calls that may run a native or synchronized method, which is left out.
 
-ghost use Rattle.std.specs.Prelude.{◌≡◌, ◌↔◌, length, IsTrue, IfOk, OnOk};
+ghost use Rattle.std.specs.Prelude.{◌↔◌, IsTrue, IfOk};
 ghost use Rattle.std.specs.List.{Contains};
 ghost use Rattle.use_graph.specs.Uses.{IsLeftOut};
 ghost use Rattle.use_graph.specs.declared.callee.Callee.TheVariants as callees;
@@ -58,7 +58,6 @@ fn selects_left_out_once(
     known: &mut [Option<bool>],
     method: DeclaredMember,
 ) -> Result<bool, AllocError>
-    requires len { length known.old ≡ length numbers.now }
     requires known { AreKnown program.now numbers.now known.old }
     ensures known { AreKnown program.now numbers.now known.new }
     ensures answer { IfOk result (λ yes. IsTrue yes ↔ SelectsLeftOut program.now method) }
@@ -82,7 +81,6 @@ fn selected_left_out(
     known: &mut [Option<bool>],
     method: Method,
 ) -> Result<bool, AllocError>
-    requires len { length known.old ≡ length numbers.now }
     requires known { AreKnown program.now numbers.now known.old }
     ensures known { AreKnown program.now numbers.now known.new }
     ensures answer { IfOk result (λ yes. IsTrue yes ↔ MayRunLeftOut program.now (callees.Selected method)) }
@@ -106,7 +104,6 @@ pub(crate) fn calls_left_out(
     known: &mut [Option<bool>],
     callee: Callee,
 ) -> Result<bool, AllocError>
-    requires len { length known.old ≡ length numbers.now }
     requires known { AreKnown program.now numbers.now known.old }
     ensures known { AreKnown program.now numbers.now known.new }
     ensures answer { IfOk result (λ yes. IsTrue yes ↔ MayRunLeftOut program.now callee) }

@@ -43,7 +43,6 @@ fn add_one_body(
     number: usize,
     bodies: &mut Vec<BodyUses>,
 ) -> Result<(), AllocError>
-    requires len { length known.old ≡ length numbers.now }
     requires known { AreKnown program.now numbers.now known.old }
     requires number { number < length numbers.now }
     ensures known { AreKnown program.now numbers.now known.new }
@@ -65,7 +64,6 @@ fn add_bodies(
     known: &mut [Option<bool>],
     bodies: &mut Vec<BodyUses>,
 ) -> Result<(), AllocError>
-    requires len { length known.old ≡ length numbers.now }
     requires known { AreKnown program.now numbers.now known.old }
     requires none { length bodies.old.items ≡ 0 }
     ensures len { OnOk result (length bodies.new.items ≡ length numbers.now) }

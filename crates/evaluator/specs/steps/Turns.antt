@@ -1,15 +1,18 @@
 -- What one instruction of an initializer did, in the words of runs alone.
-use Rattle.std.specs.Prelude.{◌≡◌, ◌≤◌, ℕ, ◌+◌, List, [], Option, Some, None, Ok, Err}
+use Rattle.std.specs.Prelude.{◌≡◌, ◌≤◌, ℕ, suc, ◌+◌, ◌-◌, List, [], ◌∷◌, Option, Some, None, Ok, Err}
 use Rattle.std.specs.declared.result.Result.{Result}
 use Rattle.vm_state.specs.declared.frame.Frame.{Frame}
+use Rattle.vm_state.specs.declared.frame.Segment.{Segment}
+use Rattle.vm_state.specs.Segments.{frames_of}
 use Rattle.vm_state.specs.SharedState.{Region}
 use Rattle.vm_state.specs.Operands.{dropped}
 use Rattle.semantics.specs.Rows.{Becomes as BecomesFrame, Calls as CallsFrame, Returns as ReturnsValue}
 use Rattle.semantics.specs.Moves.{stays}
 use Rattle.semantics.specs.Programs.{Program}
 use Rattle.semantics.specs.Quiet.{Environment, Stop, Refused, Raised, Faulted, Barred, Conduct, Leaves, Stops}
+use Rattle.semantics.specs.Quiet.{quiet_step}
 use Rattle.semantics.specs.Alone.{RunsAlone, StopsAlone}
-use Rattle.machine.specs.Accesses.{unless_refused}
+use Rattle.machine.specs.Accesses.{unless_refused, Untouched}
 use Rattle.machine.specs.declared.kinds.Conclusion.{Conclusion}
 use Rattle.machine.specs.declared.kinds.Conclusion.TheVariants.{Stays, Becomes, Calls, Returns, Prints, Raises, Halts}
 use Rattle.machine.specs.declared.kinds.Stop.{Stop as Reason}
@@ -18,6 +21,7 @@ use Rattle.evaluator.specs.declared.turn.Turn.{Turn}
 use Rattle.evaluator.specs.declared.turn.Turn.TheVariants.{On, Over, Stopped}
 use Rattle.evaluator.specs.Outcomes.{stop_of}
 use Rattle.evaluator.specs.steps.Builds.{stopped_build}
+use Rattle.evaluator.specs.steps.Within.{capped}
 
 -- what an instruction is that was concluded so, with this frame, region and count of elements
 abbrev pub conduct_of : Conclusion → Frame → Region → ℕ → Conduct
@@ -49,6 +53,14 @@ abbrev pub IsTurn : Program → Environment → ℕ → List Frame → Region �
 IsTurn P env c fs own left On gs new rest = GoesOn P env c fs own left gs new rest
 IsTurn P env c fs own left Over gs new rest = GoesOn P env c fs own left [] new rest
 IsTurn P env c fs own left (Stopped halt) gs new rest = StopsAlone P env c fs own left (stop_of halt)
+
+-- What an instruction that was concluded so, whatever frame it began with, makes of the frames that it stands on.
+abbrev pub Concludes : Conclusion → Segment → Turn → Segment → Type 0
+Concludes conclusion old turn new =
+    (P : Program) (env : Environment) (c most : ℕ) (f : Frame) (own left : Region) (made : ℕ)
+    → f.activity ≡ old.innermost.activity → Untouched (Ok conclusion) f old.innermost
+    → capped most (quiet_step P env c f own) ≡ conduct_of conclusion old.innermost left made
+    → IsTurn P env c (f ∷ old.callers) own (suc most) turn (frames_of new) left (most - made)
 
 -- how frames of an initializer ended within a budget
 abbrev pub IsEnd : Program → Environment → ℕ → List Frame → Region → ℕ → Option Halt → Region → Type 0

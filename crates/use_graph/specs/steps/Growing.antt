@@ -1,7 +1,8 @@
 -- A graph of calls while it is made.
-use Rattle.std.specs.Prelude.{◌≡◌, ◌⊎◌, ℕ, ◌+◌, ◌*◌, List, length, Some, slice_get}
+use Rattle.std.specs.Prelude.{◌≡◌, ◌⊎◌, ℕ, ◌+◌, ◌*◌, ◌≤◌, List, length, Some, slice_get}
 use Rattle.std.specs.List.{Contains}
 use Rattle.graph.specs.Rows.{Rows, successors_of}
+use Rattle.graph.specs.Seen.{Seen}
 use Rattle.program.specs.Tables.{Tables}
 use Rattle.hierarchy.specs.declared.member.DeclaredMember.{DeclaredMember}
 use Rattle.hierarchy.specs.Selectable.{IsNamedLike}
@@ -53,6 +54,19 @@ pub record IsPart (P : Tables) (methods : List DeclaredMember) (graph : Rows) (g
   pub sound : (n to : ℕ) → Contains (successors_of graph n) to → IsEdge P methods n to
   pub grouped : (r : ℕ) (z : DeclaredMember) → Contains groups r → slice_get methods r ≡ Some z
       → LeadsToLike P methods graph (length methods + r) z
+
+-- What holds before and after each step: the methods have numbers, and groups are among these.
+pub record IsGrowing (P : Tables) (methods : List DeclaredMember) (graph : Rows) (groups : Seen) : Type 0 where
+  pub few : length methods ≤ 65535 * 65535
+  pub limit : groups.limit ≡ length methods
+  pub part : IsPart P methods graph groups.items
+
+-- What a step adds to a graph: no edge goes, and edges lead where they are to.
+pub record GrowsBy (P : Tables) (methods : List DeclaredMember) (old new : Rows) (groups : Seen) (Leads : Type 0) :
+    Type 0 where
+  pub growing : IsGrowing P methods new groups
+  pub grows : Grows old new
+  pub leads : Leads
 
 -- edges lead from a method to all that may run for a call
 abbrev pub LeadsToAll : Tables → List DeclaredMember → Rows → ℕ → Callee → Type 0

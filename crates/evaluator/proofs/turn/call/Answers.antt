@@ -7,7 +7,7 @@ use Rattle.evaluator.proofs.turn.call.Goals as goal
 
 pub returns : goal.returns
 returns c =
-    λ P env k most f own new made same e.
+    λ P env k most f own new made active same e.
     let s = c.args.segment.now in
     let operands = dropped c.args.arguments s.innermost.operands in
     let leads : frames_of c.call.new.self ≡ c.args.callee ∷ with_operands f operands ∷ s.callers =

@@ -1,31 +1,26 @@
-use Rattle.std.proofs.Common.{◌≡◌, Some, refl, slice_get, subst, sym, arith}
+use Rattle.std.proofs.Common.{refl, subst, sym, arith}
 use Rattle.hierarchy.specs.declared.member.DeclaredMember.{DeclaredMember}
-use Rattle.std.proofs.lemmas.Option.{slice_get_within}
 use Rattle.use_graph.specs.Code.{MayRunFor}
 use Rattle.use_graph.specs.declared.callee.Callee.{Callee}
 use Rattle.use_graph.specs.steps.CallGraphs.{calls}
-use Rattle.use_graph.proofs.PartsLemmas.{part_extended}
+use Rattle.use_graph.proofs.PartsLemmas.{is_vertex, one_step, leads_to}
 use Rattle.use_graph.proofs.call_graph.add_call.Goals as goal
 
-pub returns-in_ok-add_edge_to-in-Exactly-clause-part : goal.returns-in_ok-add_edge_to-in-Exactly-clause-part
-returns-in_ok-add_edge_to-in-Exactly-clause-part c =
-    let methods = c.args.numbers.now in
+pub returns-in_ok-add_edge_to-in-Exactly : goal.returns-in_ok-add_edge_to-in-Exactly
+returns-in_ok-add_edge_to-in-Exactly c =
     let class = c.in-Exactly.class in
     let index = c.in-Exactly.index in
     let member : DeclaredMember = record { class = class; index = index } in
-    part_extended c.args.program.now methods c.args.graph.now c.add_edge_to.new.graph c.args.groups.now.items
-    c.args.from
-    (λ t. slice_get methods t ≡ Some member) c.requires.part c.in_ok-add_edge_to-in-Exactly.ensures.len
-    c.in_ok-add_edge_to-in-Exactly.ensures.extends
+    let added = c.in_ok-add_edge_to-in-Exactly.ensures in
+    one_step c.requires.growing added.len added.extends
     (λ t is. calls c.requires.from is (c.requires.calls class index
     (subst (λ (callee : Callee). MayRunFor c.args.program.now callee class index) (sym c.in-Exactly.is) (refl, refl))))
+    (λ e j may number.
+    let same = subst (λ (callee : Callee). MayRunFor c.args.program.now callee e j) c.in-Exactly.is may in
+    leads_to c.args.numbers.now c.add_edge_to.new.graph c.args.from member e j same.0 same.1 added.there number)
 
 pub add_edge_to-requires-clause-from : goal.add_edge_to-requires-clause-from
-add_edge_to-requires-clause-from c = omega (
-  arith,
-  c.requires.part.vertices,
-  slice_get_within c.args.numbers.now c.args.from c.args.caller c.requires.from,
-)
+add_edge_to-requires-clause-from c = is_vertex c.args.from c.args.caller c.requires.growing c.requires.from
 
 pub add_edge_to-requires-clause-vertices : goal.add_edge_to-requires-clause-vertices
-add_edge_to-requires-clause-vertices c = omega (arith, c.requires.part.vertices)
+add_edge_to-requires-clause-vertices c = omega (arith, c.requires.growing.part.vertices)
