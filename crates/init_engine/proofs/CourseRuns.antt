@@ -1,7 +1,7 @@
 -- Instructions in a row after each of which a thread goes on in one frame are a run.
 use Rattle.std.proofs.Common.{◌≡◌, ℕ, zero, suc, ◌<◌, List, [], ◌∷◌, Option, Some, length, get_or, slice_get, map}
 use Rattle.std.proofs.Common.{slice_set}
-use Rattle.std.proofs.Common.{replicate, refl, sym, ap, subst, ◌∙◌}
+use Rattle.std.proofs.Common.{replicate, sym, ap, subst, ◌∙◌}
 use Rattle.std.proofs.lemmas.List.{map-set, set-set}
 use Rattle.std.proofs.lemmas.Option.{slice_get-get_or}
 use Rattle.vm_state.specs.declared.frame.Frame.{Frame}

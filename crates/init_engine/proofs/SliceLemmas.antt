@@ -1,5 +1,5 @@
 -- What the parts of a slice do, one after the other.
-use Rattle.std.proofs.Common.{◌≡◌, ◌≢◌, ℕ, zero, suc, Bool, true, false, Some, ◌+◌, ◌-◌, ◌<◌, ◌≤◌, ◌⊎◌, inl, inr, List}
+use Rattle.std.proofs.Common.{◌≡◌, ℕ, zero, suc, Bool, true, false, Some, ◌+◌, ◌-◌, ◌<◌, ◌≤◌, ◌⊎◌, inl, inr, List}
 use Rattle.std.proofs.Common.{[], ◌∷◌, ◌++◌, length, slice_get, refl, sym, ap, subst, ◌∙◌, arith, append_assoc}
 use Rattle.std.proofs.Common.{append-nil, length-append}
 use Rattle.std.proofs.Math.Seq.{get_or-append_seam}
@@ -10,7 +10,7 @@ use Rattle.semantics.specs.Programs.{Program}
 use Rattle.semantics.specs.Worlds.{World}
 use Rattle.init_engine.specs.Turns.{Prints, world_of}
 use Rattle.init_engine.specs.Schedules.{schedule_of}
-use Rattle.init_engine.specs.Turnings.{IsWithin, EndsAfter, Midway, IsUnderWay, HasTurned, IsSlice, text_length}
+use Rattle.init_engine.specs.Turnings.{IsWithin, Midway, IsUnderWay, HasTurned, IsSlice, text_length}
 use Rattle.init_engine.specs.declared.world.Turn.{Turn}
 use Rattle.init_engine.specs.declared.world.Turn.TheVariants.{Moved, Waiting, Ended}
 use Rattle.init_engine.specs.declared.rounds.Place.{Place}

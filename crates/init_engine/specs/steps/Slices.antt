@@ -1,5 +1,5 @@
 -- What the parts of a slice do.
-use Rattle.std.specs.Prelude.{◌≡◌, ℕ, ◌+◌, ◌-◌, ◌<◌, ◌≤◌, ◌⊎◌, Bool, true, false, List, [], ◌++◌, length}
+use Rattle.std.specs.Prelude.{◌≡◌, ℕ, ◌+◌, ◌-◌, ◌≤◌, ◌⊎◌, Bool, true, false, List, [], ◌++◌, length}
 use Rattle.vm_state.specs.declared.text.Line.{Line}
 use Rattle.semantics.specs.Programs.{Program}
 use Rattle.semantics.specs.Worlds.{World}

@@ -1,4 +1,4 @@
-use Rattle.std.proofs.Common.{◌≡◌, ◌∙◌, length, subst, ap}
+use Rattle.std.proofs.Common.{◌∙◌, subst}
 use Rattle.machine.specs.Linked.{program_of}
 use Rattle.init_engine.specs.Turns.{world_of}
 use Rattle.init_engine.specs.Schedules.{schedule_of}
