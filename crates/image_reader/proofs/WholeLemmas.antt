@@ -5,7 +5,7 @@ use Rattle.std.proofs.Common.{is_some, slice_get, option_map, unwrap_or, refl, s
 use Rattle.std.proofs.Common.{length-append, eqb-true}
 use Rattle.std.specs.Prelude.{int_le}
 use Rattle.std.specs.List.{All, AllByRecursion, AllZip}
-use Rattle.std.proofs.lemmas.Bool.{lt-ltb, leb-true, le-leb}
+use Rattle.std.proofs.lemmas.Bool.{and_parts, lt-ltb, leb-true, le-leb}
 use Rattle.std.proofs.lemmas.List.{length-replicate}
 use Rattle.std.proofs.lemmas.List.Elements.{All-head, All-tail}
 use Rattle.std.proofs.lemmas.Option.{slice_get_past, slice_get_within}
@@ -34,7 +34,7 @@ use Rattle.program.specs.Arrays.{is_array_class, is_name}
 use Rattle.program.specs.InstanceFields.{static_kinds, slots_of}
 use Rattle.program.specs.Tables.{Tables}
 use Rattle.machine.specs.Arrays.{kind_of_component, kind_of_element}
-use Rattle.machine.proofs.ListLemmas.{both_true, right_of_pair}
+use Rattle.machine.proofs.ListLemmas.{right_of_pair}
 use Rattle.region_shape.specs.Suits.{suits}
 use Rattle.region_shape.specs.Shapes.{SuitsField, AreElements}
 use Rattle.region_shape.specs.Shapes.{has_objects as has_instances, HasObjects as HasInstances, AreSlots as HaveSlots}
@@ -65,17 +65,17 @@ up_to : (n most : ℕ) → leb n most ≡ true → ltb n (most + 1) ≡ true
 up_to n most low = let least : n ≤ most = leb-true n most low in lt-ltb n (most + 1) (omega (arith, least))
 
 int_suits : (kind : FieldKind) (n : ℤ) → Suits kind (values.Int n) → suits kind (machine.Int n) ≡ true
-int_suits kinds.Boolean (pos n) fits = up_to n 1 (both_true (int_le (pos 0) (pos n)) (leb n 1) fits.1).1
+int_suits kinds.Boolean (pos n) fits = up_to n 1 (and_parts (int_le (pos 0) (pos n)) (leb n 1) fits.1).1
 int_suits kinds.Boolean (negsuc n) fits = absurd cc
-int_suits kinds.Byte (pos n) fits = up_to n 127 (both_true (int_le (negsuc 127) (pos n)) (leb n 127) fits.1).1
+int_suits kinds.Byte (pos n) fits = up_to n 127 (and_parts (int_le (negsuc 127) (pos n)) (leb n 127) fits.1).1
 int_suits kinds.Byte (negsuc n) fits =
-    up_to n 127 (both_true (leb n 127) (int_le (negsuc n) (pos 127)) fits.1).0
-int_suits kinds.Char (pos n) fits = up_to n 65535 (both_true (int_le (pos 0) (pos n)) (leb n 65535) fits.1).1
+    up_to n 127 (and_parts (leb n 127) (int_le (negsuc n) (pos 127)) fits.1).0
+int_suits kinds.Char (pos n) fits = up_to n 65535 (and_parts (int_le (pos 0) (pos n)) (leb n 65535) fits.1).1
 int_suits kinds.Char (negsuc n) fits = absurd cc
 int_suits kinds.Short (pos n) fits =
-    up_to n 32767 (both_true (int_le (negsuc 32767) (pos n)) (leb n 32767) fits.1).1
+    up_to n 32767 (and_parts (int_le (negsuc 32767) (pos n)) (leb n 32767) fits.1).1
 int_suits kinds.Short (negsuc n) fits =
-    up_to n 32767 (both_true (leb n 32767) (int_le (negsuc n) (pos 32767)) fits.1).0
+    up_to n 32767 (and_parts (leb n 32767) (int_le (negsuc n) (pos 32767)) fits.1).0
 int_suits kinds.Int n fits = refl
 int_suits kinds.Long n fits = absurd fits
 int_suits kinds.Float n fits = absurd fits

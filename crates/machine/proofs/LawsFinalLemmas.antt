@@ -62,7 +62,7 @@ use Rattle.machine.specs.Initializers.{is_method}
 use Rattle.machine.specs.CallReferences.{invokevirtual_of, invokeinterface_of, invokespecial_of, invokestatic_of}
 use Rattle.machine.specs.declared.call_operation.CallOperation.{CallOperation}
 use Rattle.machine.specs.declared.object_operation.ObjectOperation.{ObjectOperation}
-use Rattle.machine.specs.ObjectReferences.{new_of, check_cast_of, instance_of_of, get_field_of, put_field_of}
+use Rattle.machine.specs.ObjectReferences.{new_of, check_cast_of, instance_test_of, get_field_of, put_field_of}
 use Rattle.machine.specs.Operations.{resolved_operation, operation_of, operation_at}
 use Rattle.machine.specs.Linked.{program_of}
 use Rattle.machine.proofs.ListLemmas.{left_of_pair, right_of_pair, first_passes, kept_place}
@@ -200,7 +200,7 @@ module _ (w : FieldKind) (c k : ℕ) where
     put_resolved (instructions.NewReferenceArray index) e = absurd (no_anewarray P (constant_at P d index) e)
     put_resolved (instructions.New index) e = absurd (no_object (new_of P (constant_at P d index)) e)
     put_resolved (instructions.CheckCast index) e = absurd (no_object (check_cast_of (constant_at P d index)) e)
-    put_resolved (instructions.InstanceOf index) e = absurd (no_object (instance_of_of (constant_at P d index)) e)
+    put_resolved (instructions.InstanceOf index) e = absurd (no_object (instance_test_of (constant_at P d index)) e)
     put_resolved instructions.Throw e = absurd cc
     put_resolved (instructions.GetField index) e = absurd (no_object (get_field_of (constant_at P d index)) e)
     put_resolved (instructions.PutField index) e = absurd (no_object (put_field_of (constant_at P d index)) e)

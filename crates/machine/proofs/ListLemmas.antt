@@ -83,10 +83,6 @@ kept_place {X = X} p (y ∷ ys) (suc j) x h passed = by (p y) refl (kept_place p
         let more : count_by p (y ∷ take j ys) ≡ count_by p (take j ys) = omega (arith, count, none) in
         rw (more, here) rest
 
-pub both_true : (a b : Bool) → (a && b) ≡ true → (a ≡ true) × (b ≡ true)
-both_true true b e = (refl, e)
-both_true false b e = absurd cc
-
 pub second_of_three : (a b c : Bool) → (a && b && c) ≡ true → b ≡ true
 second_of_three true true c e = refl
 second_of_three true false c e = absurd cc

@@ -2,7 +2,7 @@
 
 ghost use Rattle.std.specs.Prelude.{◌≡◌};
 ghost use Rattle.machine.specs.ObjectReferences.{named_class, new_built_in, new_class, new_of, check_cast_of};
-ghost use Rattle.machine.specs.ObjectReferences.{instance_of_of, instance_field, named_instance_field};
+ghost use Rattle.machine.specs.ObjectReferences.{instance_test_of, instance_field, named_instance_field};
 ghost use Rattle.machine.specs.ObjectReferences.{get_field_of, put_field_of};
 
 use built_in::class_id::{BuiltIn, ClassId};
@@ -106,8 +106,8 @@ pub fn check_cast_of(constant: Option<RuntimeConstant>) -> Result<ObjectOperatio
 ///
 /// # Errors
 /// The fault that it is, whatever its frame holds.
-pub fn instance_of_of(constant: Option<RuntimeConstant>) -> Result<ObjectOperation, FaultKind>
-    ensures { result ≡ instance_of_of constant }
+pub fn instance_test_of(constant: Option<RuntimeConstant>) -> Result<ObjectOperation, FaultKind>
+    ensures { result ≡ instance_test_of constant }
 {
     Ok(ObjectOperation::InstanceOf(named_class(constant)?))
 }

@@ -12,7 +12,7 @@ use crate::call_operation::{
     CallOperation, invokeinterface_of, invokespecial_of, invokestatic_of, invokevirtual_of,
 };
 use crate::object_operation::{
-    ObjectOperation, check_cast_of, get_field_of, instance_of_of, new_of, put_field_of,
+    ObjectOperation, check_cast_of, get_field_of, instance_test_of, new_of, put_field_of,
 };
 use crate::stored_kind::operand_kind;
 use bytecode::Instruction;
@@ -275,7 +275,7 @@ pub fn resolved_operation(
         }
         Instruction::New(index) => on_object(new_of(program, program.constant(class, *index))),
         Instruction::CheckCast(index) => on_object(check_cast_of(program.constant(class, *index))),
-        Instruction::InstanceOf(index) => on_object(instance_of_of(program.constant(
+        Instruction::InstanceOf(index) => on_object(instance_test_of(program.constant(
             class, *index,
         ))),
         Instruction::Throw => Resolved::OnObject(ObjectOperation::Throw),

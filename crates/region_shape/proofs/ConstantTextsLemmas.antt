@@ -44,7 +44,7 @@ use Rattle.frame_instructions.specs.Instructions.{local_of}
 use Rattle.machine.specs.CallReferences.{invokevirtual_of, invokeinterface_of, invokespecial_of, invokestatic_of}
 use Rattle.machine.specs.declared.call_operation.CallOperation.{CallOperation}
 use Rattle.machine.specs.declared.object_operation.ObjectOperation.{ObjectOperation}
-use Rattle.machine.specs.ObjectReferences.{new_of, check_cast_of, instance_of_of, get_field_of, put_field_of}
+use Rattle.machine.specs.ObjectReferences.{new_of, check_cast_of, instance_test_of, get_field_of, put_field_of}
 use Rattle.machine.specs.Operations.{Operation, PushText, PutStatic, Return, Refused, int_constant, long_constant}
 use Rattle.machine.specs.Operations.{may_write, if_valued, get_target, getstatic_of, put_target, putstatic_of, on_call}
 use Rattle.machine.specs.Operations.{returns_so, return_of, new_of_references, anewarray_of, on_object}

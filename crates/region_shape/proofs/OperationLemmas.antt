@@ -62,7 +62,7 @@ use Rattle.machine.specs.declared.object_operation.InstanceField.{InstanceField}
 use Rattle.machine.specs.declared.object_operation.ObjectOperation.{ObjectOperation}
 use Rattle.machine.specs.declared.object_operation.ObjectOperation.TheVariants as objects
 use Rattle.machine.specs.ObjectReferences.{named_class, new_built_in, new_class, new_named, new_of, check_cast_to}
-use Rattle.machine.specs.ObjectReferences.{check_cast_of, instance_of_named, instance_of_of, instance_field}
+use Rattle.machine.specs.ObjectReferences.{check_cast_of, instance_of_named, instance_test_of, instance_field}
 use Rattle.machine.specs.ObjectReferences.{of_valued_kind, named_instance_field, get_field_by, get_field_of}
 use Rattle.machine.specs.ObjectReferences.{put_field_by, put_field_of}
 use Rattle.machine.specs.Operations.{Operation, PushText, PutStatic, OnArray, OnObject, Return, Refused, int_constant}
@@ -277,7 +277,7 @@ module _ (P : Tables) (is : IsProgram P) where
       by (Ok c) = tt
       by (Err kind) = tt
 
-  instance_typed : (e : Option RuntimeConstant) → IsTyped P (on_object (instance_of_of e))
+  instance_typed : (e : Option RuntimeConstant) → IsTyped P (on_object (instance_test_of e))
   instance_typed e = by (named_class e)
     where
       by : (r : Result ClassId FaultKind) → IsTyped P (on_object (instance_of_named r))

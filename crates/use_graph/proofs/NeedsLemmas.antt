@@ -53,7 +53,7 @@ use Rattle.machine.specs.CallReferences.{static_reference, is_static_target, ins
 use Rattle.machine.specs.CallReferences.{virtual_callee, virtual_reference, found_special}
 use Rattle.machine.specs.CallReferences.{special_callee, special_reference}
 use Rattle.machine.specs.ObjectReferences.{named_class, new_built_in, new_named, new_of, check_cast_to}
-use Rattle.machine.specs.ObjectReferences.{check_cast_of, instance_of_named, instance_of_of, named_instance_field}
+use Rattle.machine.specs.ObjectReferences.{check_cast_of, instance_of_named, instance_test_of, named_instance_field}
 use Rattle.machine.specs.ObjectReferences.{get_field_by, get_field_of, put_field_by, put_field_of}
 use Rattle.machine.specs.Operations.{Operation, PutStatic, Return, Refused, int_constant, long_constant}
 use Rattle.machine.specs.Operations.{may_write, if_valued, get_target, getstatic_of, put_target, putstatic_of, on_call}
@@ -171,7 +171,7 @@ module _ (P : Tables) where
       by_named (Ok x) e h = cc
       by_named (Err kind) e h = cc
 
-  from_instance : (c : Option RuntimeConstant) → NeedsGiven (on_object (instance_of_of c))
+  from_instance : (c : Option RuntimeConstant) → NeedsGiven (on_object (instance_test_of c))
   from_instance c = by_named (named_class c)
     where
       by_named : (r : Result ClassId FaultKind) → NeedsGiven (on_object (instance_of_named r))

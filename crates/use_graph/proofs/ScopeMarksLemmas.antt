@@ -46,7 +46,7 @@ use Rattle.machine.specs.declared.object_operation.ObjectOperation.TheVariants a
 use Rattle.machine.specs.CallReferences.{of_class, of_interface, of_either, has_values}
 use Rattle.program.specs.InstanceFields.{is_instantiable_in}
 use Rattle.machine.specs.ObjectReferences.{named_class, new_built_in, new_named, new_of}
-use Rattle.machine.specs.ObjectReferences.{check_cast_to, check_cast_of, instance_of_named, instance_of_of}
+use Rattle.machine.specs.ObjectReferences.{check_cast_to, check_cast_of, instance_of_named, instance_test_of}
 use Rattle.machine.specs.ObjectReferences.{named_instance_field, get_field_by, get_field_of, put_field_by, put_field_of}
 use Rattle.machine.specs.Operations.{Operation, Local, PutStatic, GetOut, OnCall, Return, Refused, OnObject}
 use Rattle.machine.specs.Operations.{int_constant}
@@ -160,7 +160,7 @@ module _ (P : Tables) where
       by_named (Ok c) = silent_made (objects.CheckCast c) refl
       by_named (Err kind) = silent_refused kind
 
-  silent_instance : (e : Option RuntimeConstant) → IsSilentObject (instance_of_of e)
+  silent_instance : (e : Option RuntimeConstant) → IsSilentObject (instance_test_of e)
   silent_instance e = by_named (named_class e)
     where
       by_named : (r : Result ClassId FaultKind) → IsSilentObject (instance_of_named r)
