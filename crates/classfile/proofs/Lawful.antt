@@ -7,7 +7,6 @@ use Rattle.std.proofs.lemmas.Bool.{cases_lt, ltb-false, ltb-true, le-ltb, lt-ltb
 use Rattle.std.proofs.lemmas.List.{take_at, drop_at, take-append-drop, length-append, length-take, get_or-drop}
 use Rattle.std.proofs.lemmas.List.{get_or-take, get_or_past}
 use Rattle.std.proofs.lemmas.Nat.{be_bytes_2, be_bytes_4, from_be_bytes-to_be_bytes_2, from_be_bytes-to_be_bytes_4}
-use Rattle.classfile.specs.declared.fault.ClassFault.{ClassFault}
 use Rattle.classfile.specs.declared.fault.ClassFault.TheVariants as faults
 use Rattle.classfile.specs.reading.Numbers.{◌>>=◌, number_at, run_at}
 use Rattle.classfile.specs.Gives.{offset}
@@ -34,30 +33,30 @@ pub record Takes {X : Type 0} (Spells : X → List ℕ → Type 0) (bytes : List
   pub parts : bytes ≡ text ++ rest
   pub rest_fits : IsBytes rest
 
-pub record Lawful {X : Type 0} (read : List ℕ → Result (X × List ℕ) ClassFault) (Spells : X → List ℕ → Type 0)
+pub record Lawful {E X : Type 0} (read : List ℕ → Result (X × List ℕ) E) (Spells : X → List ℕ → Type 0)
     (FailsAt : List ℕ
-    → ClassFault → Type 0) : Type 0 where
+    → E → Type 0) : Type 0 where
   pub takes : (bytes : List ℕ) (x : X) (rest : List ℕ) → IsBytes bytes → read bytes ≡ Ok (x, rest)
       → Takes Spells bytes x rest
   pub again : (x : X) (text : List ℕ) (rest : List ℕ) → Spells x text → read (text ++ rest) ≡ Ok (x, rest)
-  pub blames : (bytes : List ℕ) (f : ClassFault) → IsBytes bytes → read bytes ≡ Err f → FailsAt bytes f
-  pub blamed : (bytes : List ℕ) (f : ClassFault) → IsBytes bytes → FailsAt bytes f → read bytes ≡ Err f
+  pub blames : (bytes : List ℕ) (f : E) → IsBytes bytes → read bytes ≡ Err f → FailsAt bytes f
+  pub blamed : (bytes : List ℕ) (f : E) → IsBytes bytes → FailsAt bytes f → read bytes ≡ Err f
 
-pub bind_ok : {A B : Type 0} (r : Result A ClassFault) (f : A → Result B ClassFault) (y : B) → (r >>= f) ≡ Ok y
+pub bind_ok : {E A B : Type 0} (r : Result A E) (f : A → Result B E) (y : B) → (r >>= f) ≡ Ok y
     → (x : A) × (r ≡ Ok x) × (f x ≡ Ok y)
 bind_ok (Ok x) f y e = (x, refl, e)
 bind_ok (Err d) f y e = absurd cc
 
-pub bind_err : {A B : Type 0} (r : Result A ClassFault) (f : A → Result B ClassFault) (d : ClassFault)
+pub bind_err : {E A B : Type 0} (r : Result A E) (f : A → Result B E) (d : E)
     → (r >>= f) ≡ Err d → (r ≡ Err d)
     ⊎ ((x : A) × (r ≡ Ok x) × (f x ≡ Err d))
 bind_err (Ok x) f d e = inr (x, refl, e)
 bind_err (Err c) f d e = inl (let q : c ≡ d = cc in rw q refl)
 
-abbrev pub done : {A : Type 0} → A → Result A ClassFault
+abbrev pub done : {E : Type 0} → {A : Type 0} → A → Result A E
 done x = Ok x
 
-pub ok_is : {A : Type 0} (x y : A) → done x ≡ done y → x ≡ y
+pub ok_is : {E A : Type 0} (x y : A) → done {E = E} x ≡ done {E = E} y → x ≡ y
 ok_is x y e = cc
 
 -- ---- one part and then the other
@@ -75,14 +74,14 @@ pub record Both {X Y : Type 0} (First : X → List ℕ → Type 0) (Second : X �
 abbrev pub fits_as : (bytes other : List ℕ) → bytes ≡ other → IsBytes bytes → IsBytes other
 fits_as bytes other e fits = let P : List ℕ → Type 0 = λ z. IsBytes z in subst P e fits
 
-pub then_lawful : {X Y : Type 0} {S : X → List ℕ → Type 0} {F : List ℕ → ClassFault → Type 0} {T : X → Y → List ℕ
+pub then_lawful : {E X Y : Type 0} {S : X → List ℕ → Type 0} {F : List ℕ → E → Type 0} {T : X → Y → List ℕ
     → Type 0} {G : List ℕ → X
-    → List ℕ → ClassFault → Type 0}
-    (r : List ℕ → Result (X × List ℕ) ClassFault) (go : List ℕ → X × List ℕ → Result (Y × List ℕ) ClassFault)
+    → List ℕ → E → Type 0}
+    (r : List ℕ → Result (X × List ℕ) E) (go : List ℕ → X × List ℕ → Result (Y × List ℕ) E)
     → Lawful r S F
     → ((bytes : List ℕ) (x : X) (text : List ℕ) → S x text → Lawful (λ rest. go bytes (x, rest)) (T x) (G bytes x))
     → Lawful (λ bytes. r bytes >>= go bytes) (Both S T) (λ bytes. Either S F (G bytes) bytes)
-then_lawful {X} {Y} r go one two = record {
+then_lawful {E} {X} {Y} r go one two = record {
   takes = λ bytes y rest fits e.
       let b = bind_ok (r bytes) (go bytes) (y, rest) e in
       let t = one.takes bytes b.0.0 b.0.1 fits b.1 in
@@ -106,7 +105,7 @@ then_lawful {X} {Y} r go one two = record {
       ∙ append_assoc s.front s.back rest in
       let read : r (text ++ rest) ≡ Ok (s.value, s.back ++ rest) = ap r same
       ∙ one.again s.value s.front (s.back ++ rest) s.first in
-      ap (λ (z : Result (X × List ℕ) ClassFault). z >>= go (text ++ rest)) read
+      ap (λ (z : Result (X × List ℕ) E). z >>= go (text ++ rest)) read
       ∙ (two (text ++ rest) s.value s.front s.first).again y s.back rest s.second;
   blames = λ bytes f fits e.
       elim (bind_err (r bytes) (go bytes) f e) [
@@ -125,11 +124,11 @@ then_lawful {X} {Y} r go one two = record {
       ];
   blamed = λ bytes f fits h.
       elim h [
-        | inl here ↦ ap (λ (z : Result (X × List ℕ) ClassFault). z >>= go bytes) (one.blamed bytes f fits here)
+        | inl here ↦ ap (λ (z : Result (X × List ℕ) E). z >>= go bytes) (one.blamed bytes f fits here)
         | inr w ↦
             let back : IsBytes w.rest = IsBytes-back w.text w.rest (fits_as bytes (w.text ++ w.rest) w.parts fits) in
             let read : r bytes ≡ Ok (w.value, w.rest) = ap r w.parts ∙ one.again w.value w.text w.rest w.spelled in
-            ap (λ (z : Result (X × List ℕ) ClassFault). z >>= go bytes) read
+            ap (λ (z : Result (X × List ℕ) E). z >>= go bytes) read
             ∙ (two bytes w.value w.text w.spelled).blamed w.rest f back w.next
       ];
 }
@@ -139,8 +138,8 @@ then_lawful {X} {Y} r go one two = record {
 abbrev pub Is : {X : Type 0} → X → X → List ℕ → Type 0
 Is made x text = (x ≡ made) × (text ≡ [])
 
-pub pure_lawful : {X : Type 0} (made : X) → Lawful (λ bytes. Ok (made, bytes)) (Is made) (λ bytes f. ⊥)
-pure_lawful {X} made = record {
+pub pure_lawful : {E X : Type 0} (made : X) → Lawful {E = E} (λ bytes. Ok (made, bytes)) (Is made) (λ bytes f. ⊥)
+pure_lawful {E} {X} made = record {
   takes = λ bytes x rest fits e.
       let p : (made, bytes) ≡ (x, rest) = cc in
       record {
@@ -193,19 +192,22 @@ wide8 = record {
   below = λ bytes fits. omega (arith, fits 0);
 }
 
-pub guard_ok : {A : Type 0} (b : Bool) (d : ClassFault) (x y : A) → cond b (Err d) (Ok x) ≡ Ok y → (b ≡ false) × (x ≡ y)
+pub guard_ok : {E A : Type 0} (b : Bool) (d : E) (x y : A) → cond b (Err d) (Ok x) ≡ Ok y → (b ≡ false) × (x ≡ y)
 guard_ok true d x y e = absurd cc
 guard_ok false d x y e = (refl, cc)
 
-pub guard_err : {A : Type 0} (b : Bool) (d f : ClassFault) (x : A) → cond b (Err d) (Ok x) ≡ Err f → (b ≡ true)
+pub guard_err : {E A : Type 0} (b : Bool) (d f : E) (x : A) → cond b (Err d) (Ok x) ≡ Err f → (b ≡ true)
     × (f ≡ d)
 guard_err true d f x e = (refl, cc)
 guard_err false d f x e = absurd cc
 
-pub run_lawful : (count total : ℕ) → Lawful (run_at count total) (Run count) (Cut count total)
-run_lawful count total = record {
+-- a run of so many bytes, or some fault that the bytes decide
+pub cut_run_lawful : {E : Type 0} (count : ℕ) (why : List ℕ → E)
+    → Lawful (λ bytes. cond (ltb (length bytes) count) (Err (why bytes)) (Ok (take count bytes, drop count bytes)))
+    (Run count) (λ bytes f. (length bytes < count) × (f ≡ why bytes))
+cut_run_lawful count why = record {
   takes = λ bytes x rest fits e.
-      let g = guard_ok (ltb (length bytes) count) (faults.Truncated (offset total bytes))
+      let g = guard_ok (ltb (length bytes) count) (why bytes)
       (take count bytes, drop count bytes)
       (x, rest) e in
       let long : count ≤ length bytes = ltb-false _ _ g.0 in
@@ -222,17 +224,20 @@ run_lawful count total = record {
       let long : ltb (length (x ++ rest)) count ≡ false = le-ltb _ _ (omega (arith, length-append x rest, s.0)) in
       rw (s.1, long, take_at x rest count s.0, drop_at x rest count s.0) refl;
   blames = λ bytes f fits e.
-      let g = guard_err (ltb (length bytes) count) (faults.Truncated (offset total bytes)) f
+      let g = guard_err (ltb (length bytes) count) (why bytes) f
       (take count bytes, drop count bytes) e in
       (ltb-true _ _ g.0, g.1);
   blamed = λ bytes f fits h. rw (lt-ltb (length bytes) count h.0, h.1) refl;
 }
 
-pub number_lawful : (w : Width) (wide : IsWide w) (total : ℕ)
-    → Lawful (number_at w total) (Number w) (CutNumber w total)
-number_lawful w wide total = record {
+-- a number, or some fault that the bytes decide
+pub cut_number_lawful : {E : Type 0} (w : Width) (wide : IsWide w) (why : List ℕ → E)
+    → Lawful (λ bytes. cond (ltb (length bytes) (byte_len w)) (Err (why bytes))
+    (Ok (from_be_bytes w (take (byte_len w) bytes), drop (byte_len w) bytes)))
+    (Number w) (λ bytes f. (length bytes < byte_len w) × (f ≡ why bytes))
+cut_number_lawful w wide why = record {
   takes = λ bytes n rest fits e.
-      let g = guard_ok (ltb (length bytes) (byte_len w)) (faults.Truncated (offset total bytes))
+      let g = guard_ok (ltb (length bytes) (byte_len w)) (why bytes)
       (from_be_bytes w (take (byte_len w) bytes), drop (byte_len w) bytes) (n, rest) e in
       let long : byte_len w ≤ length bytes = ltb-false _ _ g.0 in
       let n-is : from_be_bytes w (take (byte_len w) bytes) ≡ n = ap (λ (p : ℕ × List ℕ). p.0) g.1 in
@@ -262,11 +267,18 @@ number_lawful w wide total = record {
       )
       refl;
   blames = λ bytes f fits e.
-      let g = guard_err (ltb (length bytes) (byte_len w)) (faults.Truncated (offset total bytes)) f
+      let g = guard_err (ltb (length bytes) (byte_len w)) (why bytes) f
       (from_be_bytes w (take (byte_len w) bytes), drop (byte_len w) bytes) e in
       (ltb-true _ _ g.0, g.1);
   blamed = λ bytes f fits h. rw (lt-ltb (length bytes) (byte_len w) h.0, h.1) refl;
 }
+
+pub run_lawful : (count total : ℕ) → Lawful (run_at count total) (Run count) (Cut count total)
+run_lawful count total = cut_run_lawful count (λ bytes. faults.Truncated (offset total bytes))
+
+pub number_lawful : (w : Width) (wide : IsWide w) (total : ℕ)
+    → Lawful (number_at w total) (Number w) (CutNumber w total)
+number_lawful w wide total = cut_number_lawful w wide (λ bytes. faults.Truncated (offset total bytes))
 
 -- ---- a value made of what was read
 
@@ -275,12 +287,11 @@ pub record Mapped {X Y : Type 0} (make : X → Y) (S : X → List ℕ → Type 0
   pub spelled : S value text
   pub is : y ≡ make value
 
-pub map_lawful : {X Y : Type 0} (make : X → Y) (r : List ℕ → Result (X × List ℕ) ClassFault) (S : X → List ℕ → Type 0)
-    (F : List ℕ
-    → ClassFault → Type 0)
+pub map_lawful : {E X Y : Type 0} (make : X → Y) (r : List ℕ → Result (X × List ℕ) E) (S : X → List ℕ → Type 0)
+    (F : List ℕ → E → Type 0)
     → Lawful r S F → Lawful (λ bytes. r bytes >>= λ p. Ok (make p.0, p.1)) (Mapped make S) F
-map_lawful {X} {Y} make r S F one =
-    let go : X × List ℕ → Result (Y × List ℕ) ClassFault = λ p. Ok (make p.0, p.1) in
+map_lawful {E} {X} {Y} make r S F one =
+    let go : X × List ℕ → Result (Y × List ℕ) E = λ p. Ok (make p.0, p.1) in
     record {
       takes = λ bytes y rest fits e.
           let b = bind_ok (r bytes) go (y, rest) e in
@@ -294,20 +305,20 @@ map_lawful {X} {Y} make r S F one =
             rest_fits =
                 (let P : List ℕ → Type 0 = λ z. IsBytes z in subst P rest-is t.rest_fits);
           };
-      again = λ y text rest s. ap (λ (z : Result (X × List ℕ) ClassFault). z >>= go)
+      again = λ y text rest s. ap (λ (z : Result (X × List ℕ) E). z >>= go)
           (one.again s.value text rest s.spelled) ∙ rw s.is refl;
       blames = λ bytes f fits e.
           elim (bind_err (r bytes) go f e) [
             | inl here ↦ one.blames bytes f fits here
             | inr (x, is, there) ↦ absurd cc
           ];
-      blamed = λ bytes f fits h. ap (λ (z : Result (X × List ℕ) ClassFault). z >>= go) (one.blamed bytes f fits h);
+      blamed = λ bytes f fits h. ap (λ (z : Result (X × List ℕ) E). z >>= go) (one.blamed bytes f fits h);
     }
 
 -- ---- the same in other words
 
-pub restated : {X : Type 0} {r : List ℕ → Result (X × List ℕ) ClassFault} {S T : X → List ℕ → Type 0}
-    {F : List ℕ → ClassFault → Type 0}
+pub restated : {E X : Type 0} {r : List ℕ → Result (X × List ℕ) E} {S T : X → List ℕ → Type 0}
+    {F : List ℕ → E → Type 0}
     → Lawful r S F → ((x : X) (text : List ℕ) → S x text → T x text) → ((x : X) (text : List ℕ) → T x text → S x text)
     → Lawful r T F
 restated one there back = record {
@@ -330,13 +341,13 @@ pub record Tested {X : Type 0} (test : X → Bool) (wanted : Bool) (S : X → Li
   pub passes : test x ≡ wanted
 
 -- bad at some fault that the bytes before decide
-pub tested_lawful : {X : Type 0} (r : List ℕ → Result (X × List ℕ) ClassFault) (S : X → List ℕ → Type 0)
-    (F : List ℕ → ClassFault
-    → Type 0) (bad : X → Bool) (why : List ℕ → ClassFault)
+pub tested_lawful : {E X : Type 0} (r : List ℕ → Result (X × List ℕ) E) (S : X → List ℕ → Type 0)
+    (F : List ℕ → E
+    → Type 0) (bad : X → Bool) (why : List ℕ → E)
     → Lawful r S F → Lawful (λ bytes. r bytes >>= λ p. cond (bad p.0) (Err (why bytes)) (Ok p)) (Tested bad false S)
     (λ bytes f. F bytes f ⊎ FailsAfter S (λ x rest g. (bad x ≡ true) × (g ≡ why bytes)) bytes f)
-tested_lawful {X} r S F bad why one =
-    let go : List ℕ → X × List ℕ → Result (X × List ℕ) ClassFault =
+tested_lawful {E} {X} r S F bad why one =
+    let go : List ℕ → X × List ℕ → Result (X × List ℕ) E =
     λ bytes p. cond (bad p.0) (Err (why bytes)) (Ok p) in
     record {
       takes = λ bytes x rest fits e.
@@ -352,7 +363,7 @@ tested_lawful {X} r S F bad why one =
             rest_fits =
                 t.rest_fits;
           };
-      again = λ x text rest s. ap (λ (z : Result (X × List ℕ) ClassFault). z >>= go (text ++ rest))
+      again = λ x text rest s. ap (λ (z : Result (X × List ℕ) E). z >>= go (text ++ rest))
           (one.again x text rest s.spelled)
           ∙ rw s.passes refl;
       blames = λ bytes f fits e.
@@ -372,9 +383,9 @@ tested_lawful {X} r S F bad why one =
           ];
       blamed = λ bytes f fits h.
           elim h [
-            | inl here ↦ ap (λ (z : Result (X × List ℕ) ClassFault). z >>= go bytes) (one.blamed bytes f fits here)
+            | inl here ↦ ap (λ (z : Result (X × List ℕ) E). z >>= go bytes) (one.blamed bytes f fits here)
             | inr w ↦
                 let is : r bytes ≡ Ok (w.value, w.rest) = ap r w.parts ∙ one.again w.value w.text w.rest w.spelled in
-                ap (λ (z : Result (X × List ℕ) ClassFault). z >>= go bytes) is ∙ rw (w.next.0, w.next.1) refl
+                ap (λ (z : Result (X × List ℕ) E). z >>= go bytes) is ∙ rw (w.next.0, w.next.1) refl
           ];
     }

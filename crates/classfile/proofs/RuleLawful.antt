@@ -44,20 +44,20 @@ bad_unless : {Rule : Type 0} (good : Bool) → Decides good Rule → ¬ Rule →
 bad_unless true d no_rule = absurd (no_rule (d.0 refl))
 bad_unless false d no_rule = refl
 
-pub good_ok : {A : Type 0} (b : Bool) (d : ClassFault) (x y : A) → cond b (Ok x) (Err d) ≡ Ok y → (b ≡ true) × (x ≡ y)
+pub good_ok : {E A : Type 0} (b : Bool) (d : E) (x y : A) → cond b (Ok x) (Err d) ≡ Ok y → (b ≡ true) × (x ≡ y)
 good_ok true d x y e = (refl, cc)
 good_ok false d x y e = absurd cc
 
-good_err : {A : Type 0} (b : Bool) (d f : ClassFault) (x : A) → cond b (Ok x) (Err d) ≡ Err f → (b ≡ false) × (f ≡ d)
+good_err : {E A : Type 0} (b : Bool) (d f : E) (x : A) → cond b (Ok x) (Err d) ≡ Err f → (b ≡ false) × (f ≡ d)
 good_err true d f x e = absurd cc
 good_err false d f x e = (refl, cc)
 
-pub bad_ok : {A : Type 0} (b : Bool) (d : ClassFault) (r : Result A ClassFault) (y : A) → cond b (Err d) r ≡ Ok y
+pub bad_ok : {E A : Type 0} (b : Bool) (d : E) (r : Result A E) (y : A) → cond b (Err d) r ≡ Ok y
     → (b ≡ false) × (r ≡ Ok y)
 bad_ok true d r y e = absurd cc
 bad_ok false d r y e = (refl, e)
 
-bad_err : {A : Type 0} (b : Bool) (d f : ClassFault) (r : Result A ClassFault) → cond b (Err d) r ≡ Err f
+bad_err : {E A : Type 0} (b : Bool) (d f : E) (r : Result A E) → cond b (Err d) r ≡ Err f
     → ((b ≡ true) × (f ≡ d))
     ⊎ ((b ≡ false) × (r ≡ Err f))
 bad_err true d f r e = inl (refl, cc)
@@ -65,14 +65,14 @@ bad_err false d f r e = inr (refl, e)
 
 -- ---- a rule on what was read
 
-pub ruled_lawful : {X : Type 0} {S : X → List ℕ → Type 0} {F : List ℕ → ClassFault → Type 0}
-    (r : List ℕ → Result (X × List ℕ) ClassFault)
-    (good : X → Bool) (Rule : X → Type 0) (why : List ℕ → X → ClassFault)
+pub ruled_lawful : {E X : Type 0} {S : X → List ℕ → Type 0} {F : List ℕ → E → Type 0}
+    (r : List ℕ → Result (X × List ℕ) E)
+    (good : X → Bool) (Rule : X → Type 0) (why : List ℕ → X → E)
     → ((x : X) → Decides (good x) (Rule x)) → Lawful r S F
     → Lawful (λ bytes. r bytes >>= λ p. cond (good p.0) (Ok p) (Err (why bytes p.0)))
     (Ruled S Rule) (λ bytes. RuleFails S F Rule (why bytes) bytes)
-ruled_lawful {X} r good Rule why decides one =
-    let go : List ℕ → X × List ℕ → Result (X × List ℕ) ClassFault =
+ruled_lawful {E} {X} r good Rule why decides one =
+    let go : List ℕ → X × List ℕ → Result (X × List ℕ) E =
     λ bytes p. cond (good p.0) (Ok p) (Err (why bytes p.0)) in
     record {
       takes = λ bytes x rest fits e.
@@ -90,7 +90,7 @@ ruled_lawful {X} r good Rule why decides one =
           };
       again = λ x text rest s.
           let passes = (decides x).1 s.1 in
-          ap (λ (z : Result (X × List ℕ) ClassFault). z >>= go (text ++ rest)) (one.again x text rest s.0)
+          ap (λ (z : Result (X × List ℕ) E). z >>= go (text ++ rest)) (one.again x text rest s.0)
           ∙ rw passes refl;
       blames = λ bytes f fits e.
           elim (bind_err (r bytes) (go bytes) f e) [
@@ -110,23 +110,23 @@ ruled_lawful {X} r good Rule why decides one =
           ];
       blamed = λ bytes f fits h.
           elim h [
-            | inl here ↦ ap (λ (z : Result (X × List ℕ) ClassFault). z >>= go bytes) (one.blamed bytes f fits here)
+            | inl here ↦ ap (λ (z : Result (X × List ℕ) E). z >>= go bytes) (one.blamed bytes f fits here)
             | inr w ↦
                 let is : r bytes ≡ Ok (w.value, w.rest) = ap r w.parts ∙ one.again w.value w.text w.rest w.spelled in
                 let misses = bad_unless (good w.value) (decides w.value) w.next.0 in
-                ap (λ (z : Result (X × List ℕ) ClassFault). z >>= go bytes) is ∙ rw (misses, w.next.1) refl
+                ap (λ (z : Result (X × List ℕ) E). z >>= go bytes) is ∙ rw (misses, w.next.1) refl
           ];
     }
 
 -- a value made of what was read, under a rule
-pub kept_lawful : {X Y : Type 0} {S : X → List ℕ → Type 0} {F : List ℕ → ClassFault → Type 0} (make : X → Y)
+pub kept_lawful : {E X Y : Type 0} {S : X → List ℕ → Type 0} {F : List ℕ → E → Type 0} (make : X → Y)
     (bad : X → Bool) (Rule : X
-    → Type 0) (why : ClassFault) (r : List ℕ → Result (X × List ℕ) ClassFault)
+    → Type 0) (why : E) (r : List ℕ → Result (X × List ℕ) E)
     → ((x : X) → Refuses (bad x) (Rule x)) → Lawful r S F
     → Lawful (λ bytes. r bytes >>= λ p. cond (bad p.0) (Err why) (Ok (make p.0, p.1)))
     (Mapped make (Ruled S Rule)) (RuleFails S F Rule (λ x. why))
-kept_lawful {X} {Y} make bad Rule why r refuses one =
-    let go : X × List ℕ → Result (Y × List ℕ) ClassFault = λ p. cond (bad p.0) (Err why) (Ok (make p.0, p.1)) in
+kept_lawful {E} {X} {Y} make bad Rule why r refuses one =
+    let go : X × List ℕ → Result (Y × List ℕ) E = λ p. cond (bad p.0) (Err why) (Ok (make p.0, p.1)) in
     record {
       takes = λ bytes y rest fits e.
           let b = bind_ok (r bytes) go (y, rest) e in
@@ -148,7 +148,7 @@ kept_lawful {X} {Y} make bad Rule why r refuses one =
           };
       again = λ y text rest s.
           let passes = (refuses s.value).1 s.spelled.1 in
-          ap (λ (z : Result (X × List ℕ) ClassFault). z >>= go) (one.again s.value text rest s.spelled.0)
+          ap (λ (z : Result (X × List ℕ) E). z >>= go) (one.again s.value text rest s.spelled.0)
           ∙ rw (passes, s.is) refl;
       blames = λ bytes f fits e.
           elim (bind_err (r bytes) go f e) [
@@ -170,18 +170,18 @@ kept_lawful {X} {Y} make bad Rule why r refuses one =
           ];
       blamed = λ bytes f fits h.
           elim h [
-            | inl here ↦ ap (λ (z : Result (X × List ℕ) ClassFault). z >>= go) (one.blamed bytes f fits here)
+            | inl here ↦ ap (λ (z : Result (X × List ℕ) E). z >>= go) (one.blamed bytes f fits here)
             | inr w ↦
                 let is : r bytes ≡ Ok (w.value, w.rest) = ap r w.parts ∙ one.again w.value w.text w.rest w.spelled in
                 let hit = bad_if (bad w.value) (refuses w.value) w.next.0 in
-                ap (λ (z : Result (X × List ℕ) ClassFault). z >>= go) is ∙ rw (hit, w.next.1) refl
+                ap (λ (z : Result (X × List ℕ) E). z >>= go) is ∙ rw (hit, w.next.1) refl
           ];
     }
 
 -- a reader after a rule
-pub guarded_lawful : {X : Type 0} {S : X → List ℕ → Type 0} {F : List ℕ → ClassFault → Type 0} (bad : Bool)
+pub guarded_lawful : {E X : Type 0} {S : X → List ℕ → Type 0} {F : List ℕ → E → Type 0} (bad : Bool)
     (Rule : Type 0)
-    (why : ClassFault) (r : List ℕ → Result (X × List ℕ) ClassFault)
+    (why : E) (r : List ℕ → Result (X × List ℕ) E)
     → Refuses bad Rule → (Rule → Lawful r S F)
     → Lawful (λ bytes. cond bad (Err why) (r bytes)) (λ x text. Rule × S x text)
     (λ bytes. BreaksOr Rule why (F bytes))
@@ -207,38 +207,38 @@ guarded_lawful bad Rule why r refuses one = record {
 -- ---- a value computed of what was read, or the one fault that the bytes before decide
 
 -- what making has to do with texts
-pub record Makes {X Y : Type 0} (S : X → List ℕ → Type 0) (T : Y → List ℕ → Type 0) (Rule : X → Type 0)
-    (make : X → Result Y ClassFault)
-    (why : ClassFault) : Type 0 where
+pub record Makes {E X Y : Type 0} (S : X → List ℕ → Type 0) (T : Y → List ℕ → Type 0) (Rule : X → Type 0)
+    (make : X → Result Y E)
+    (why : E) : Type 0 where
   pub made : (x : X) (text : List ℕ) (y : Y) → IsBytes text → S x text → make x ≡ Ok y → T y text
   pub again : (y : Y) (text : List ℕ) → T y text → (x : X) × (S x text × (make x ≡ Ok y))
-  pub fault : (x : X) (f : ClassFault) → make x ≡ Err f → f ≡ why
+  pub fault : (x : X) (f : E) → make x ≡ Err f → f ≡ why
   pub rule : (x : X) (text : List ℕ) (y : Y) → S x text → T y text → Rule x
   pub by_rule : (x : X) (text : List ℕ) → S x text → Rule x → (y : Y) × T y text
 
-made_or_not : {Y : Type 0} (r : Result Y ClassFault) → ((y : Y) × (r ≡ Ok y)) ⊎ ((f : ClassFault) × (r ≡ Err f))
+made_or_not : {E Y : Type 0} (r : Result Y E) → ((y : Y) × (r ≡ Ok y)) ⊎ ((f : E) × (r ≡ Err f))
 made_or_not (Ok y) = inl (y, refl)
 made_or_not (Err f) = inr (f, refl)
 
-bound_err : {A B : Type 0} (r : Result A ClassFault) (f : A → B) (d : ClassFault) → (r >>= λ a. Ok (f a)) ≡ Err d
+bound_err : {E A B : Type 0} (r : Result A E) (f : A → B) (d : E) → (r >>= λ a. Ok (f a)) ≡ Err d
     → r ≡ Err d
 bound_err (Ok x) f d e = absurd cc
 bound_err (Err c) f d e = let q : c ≡ d = cc in rw q refl
 
-one_answer : {Y : Type 0} (r : Result Y ClassFault) (y : Y) (f : ClassFault) → r ≡ Ok y → r ≡ Err f → ⊥
+one_answer : {E Y : Type 0} (r : Result Y E) (y : Y) (f : E) → r ≡ Ok y → r ≡ Err f → ⊥
 one_answer (Ok x) y f e h = cc
 one_answer (Err g) y f e h = cc
 
-pub made_lawful : {X Y : Type 0} {S : X → List ℕ → Type 0} {F : List ℕ → ClassFault → Type 0} (T : Y → List ℕ → Type 0)
+pub made_lawful : {E X Y : Type 0} {S : X → List ℕ → Type 0} {F : List ℕ → E → Type 0} (T : Y → List ℕ → Type 0)
     (Rule : X
-    → Type 0) (r : List ℕ → Result (X × List ℕ) ClassFault) (make : List ℕ → X → Result Y ClassFault) (why : List ℕ
-    → ClassFault)
+    → Type 0) (r : List ℕ → Result (X × List ℕ) E) (make : List ℕ → X → Result Y E) (why : List ℕ
+    → E)
     → Lawful r S F → ((bytes : List ℕ) → Makes S T Rule (make bytes) (why bytes))
     → Lawful (λ bytes. r bytes >>= λ p. make bytes p.0 >>= λ y. Ok (y, p.1)) T
     (λ bytes. RuleFails S F Rule (λ x. why bytes) bytes)
-made_lawful {X} {Y} T Rule r make why one makes =
-    let pack : List ℕ → Y → Result (Y × List ℕ) ClassFault = λ rest y. Ok (y, rest) in
-    let go : List ℕ → X × List ℕ → Result (Y × List ℕ) ClassFault = λ bytes p. make bytes p.0 >>= pack p.1 in
+made_lawful {E} {X} {Y} T Rule r make why one makes =
+    let pack : List ℕ → Y → Result (Y × List ℕ) E = λ rest y. Ok (y, rest) in
+    let go : List ℕ → X × List ℕ → Result (Y × List ℕ) E = λ bytes p. make bytes p.0 >>= pack p.1 in
     let read_again : (bytes : List ℕ) (y : Y) (text rest : List ℕ) → T y text
     → (x : X) × ((r (text ++ rest) ≡ Ok (x, rest)) × (make bytes x ≡ Ok y)) = λ bytes y text rest t.
     let m = (makes bytes).again y text t in (m.0, (one.again m.0 text rest m.1.0, m.1.1)) in
@@ -261,7 +261,7 @@ made_lawful {X} {Y} T Rule r make why one makes =
           };
       again = λ y text rest t.
           let a = read_again (text ++ rest) y text rest t in
-          ap (λ (z : Result (X × List ℕ) ClassFault). z >>= go (text ++ rest)) a.1.0 ∙ rw a.1.1 refl;
+          ap (λ (z : Result (X × List ℕ) E). z >>= go (text ++ rest)) a.1.0 ∙ rw a.1.1 refl;
       blames = λ bytes f fits e.
           elim (bind_err (r bytes) (go bytes) f e) [
             | inl here ↦ inl (one.blames bytes f fits here)
@@ -287,11 +287,11 @@ made_lawful {X} {Y} T Rule r make why one makes =
           ];
       blamed = λ bytes f fits h.
           elim h [
-            | inl here ↦ ap (λ (z : Result (X × List ℕ) ClassFault). z >>= go bytes) (one.blamed bytes f fits here)
+            | inl here ↦ ap (λ (z : Result (X × List ℕ) E). z >>= go bytes) (one.blamed bytes f fits here)
             | inr w ↦
                 let is : r bytes ≡ Ok (w.value, w.rest) = ap r w.parts ∙ one.again w.value w.text w.rest w.spelled in
                 let front = IsBytes-front w.text w.rest (fits_as bytes (w.text ++ w.rest) w.parts fits) in
-                ap (λ (z : Result (X × List ℕ) ClassFault). z >>= go bytes) is
+                ap (λ (z : Result (X × List ℕ) E). z >>= go bytes) is
                 ∙ elim (made_or_not (make bytes w.value)) [
                   | inl (y, made) ↦ absurd
                       (w.next.0

@@ -14,8 +14,8 @@ use Rattle.classfile.specs.Constants.{is_wide, kind_of_tag}
 use Rattle.classfile.specs.Spelling.{constant_text, Fits, AreConstants, constants_text}
 
 -- the bytes begin with the text of x, and what follows fails
-pub record FailsAfter {X : Type 0} (Spells : X → List ℕ → Type 0) (Next : X → List ℕ → ClassFault →
-    Type 0) (bytes : List ℕ) (fault : ClassFault) : Type 0 where
+pub record FailsAfter {X E : Type 0} (Spells : X → List ℕ → Type 0) (Next : X → List ℕ → E → Type 0)
+    (bytes : List ℕ) (fault : E) : Type 0 where
   pub value : X
   pub text : List ℕ
   pub rest : List ℕ
@@ -24,9 +24,8 @@ pub record FailsAfter {X : Type 0} (Spells : X → List ℕ → Type 0) (Next : 
   pub next : Next value rest fault
 
 -- one part and then, depending on it, the other: the first of them that fails
-abbrev pub Either : {X : Type 0} → (X → List ℕ → Type 0) → (List ℕ → ClassFault → Type 0)
-    → (X → List ℕ → ClassFault → Type 0) → List ℕ →
-    ClassFault → Type 0
+abbrev pub Either : {X E : Type 0} → (X → List ℕ → Type 0) → (List ℕ → E → Type 0) → (X → List ℕ → E → Type 0)
+    → List ℕ → E → Type 0
 Either Spells First Next bytes fault = First bytes fault ⊎ FailsAfter Spells Next bytes fault
 
 -- ---- what a part spells

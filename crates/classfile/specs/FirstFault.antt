@@ -31,11 +31,11 @@ use Rattle.classfile.specs.Class.{IsNoArray, IsClassText}
 -- ---- rules
 
 -- a rule is broken, and this is its fault
-abbrev pub Breaks : Type 0 → ClassFault → ClassFault → Type 0
+abbrev pub Breaks : {E : Type 0} → Type 0 → E → E → Type 0
 Breaks Rule why fault = (¬ Rule) × (fault ≡ why)
 
 -- a rule is broken, or it holds and what comes next fails
-abbrev pub BreaksOr : Type 0 → ClassFault → (ClassFault → Type 0) → ClassFault → Type 0
+abbrev pub BreaksOr : {E : Type 0} → Type 0 → E → (E → Type 0) → E → Type 0
 BreaksOr Rule why Next fault = Breaks Rule why fault ⊎ (Rule × Next fault)
 
 -- the text of what keeps a rule
@@ -43,9 +43,8 @@ abbrev pub Ruled : {X : Type 0} → (X → List ℕ → Type 0) → (X → Type 
 Ruled Spells Rule x text = Spells x text × Rule x
 
 -- a part fails, or what it spells breaks a rule
-abbrev pub RuleFails : {X : Type 0} → (X → List ℕ → Type 0) → (List ℕ → ClassFault → Type 0) → (X → Type 0)
-    → (X → ClassFault)
-    → List ℕ → ClassFault → Type 0
+abbrev pub RuleFails : {X E : Type 0} → (X → List ℕ → Type 0) → (List ℕ → E → Type 0) → (X → Type 0) → (X → E)
+    → List ℕ → E → Type 0
 RuleFails Spells Fails Rule why = Either Spells Fails (λ x rest. Breaks (Rule x) (why x))
 
 -- ---- tables
