@@ -16,3 +16,5 @@ pub mod KeptLemmas
 pub mod SlotLawsLemmas
 pub mod CountsLemmas
 pub mod AddedStringsLemmas
+pub mod SparseLemmas
+pub mod KeptConstantsLemmas

@@ -6,3 +6,5 @@ pub mod NamedClasses
 pub mod PoolFields
 pub mod Ahead
 pub mod Slots
+pub mod Sparse
+pub mod NamedConstants

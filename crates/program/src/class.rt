@@ -1,11 +1,14 @@
 //! What the machine uses of a given class.
 
-ghost use Rattle.std.specs.Prelude.{◌≡◌, slice_get};
+ghost use Rattle.std.specs.Prelude.{◌≡◌, ◌<◌, ◌^◌, length, IfOk, slice_get};
+ghost use Rattle.program.specs.steps.NamedConstants.{held_in};
 
 use crate::handler::Handlers;
 use crate::runtime_constant::RuntimeConstant;
 use crate::signature::{ReturnKind, Signatures};
+use crate::sparse::Sparse;
 use bytecode::Body;
+use std::alloc::{AllocError, Global};
 use std::marker::Model;
 use vm_state::classes::StaticField;
 
@@ -86,24 +89,67 @@ impl StaticFields {
 /// The run-time constant pool of a class (JVMS 5.1), by the indices of its constant pool.
 #[derive(Drop)]
 pub struct RuntimePool {
-    pub(crate) constants: Vec<RuntimeConstant>,
+    /// Those that an instruction may name.
+    constants: Sparse<RuntimeConstant>,
 }
 
 impl Model for RuntimePool {
-    ghost use Rattle.std.specs.Prelude.{List};
+    ghost use Rattle.std.specs.Prelude.{List, map};
     ghost use Rattle.program.specs.declared.runtime_constant.RuntimeConstant.{RuntimeConstant as Held};
+    ghost use Rattle.program.specs.steps.Sparse.{entries, ArePlaces};
+    ghost use Rattle.program.specs.steps.NamedConstants.{held_in};
 
     ghost Value = { List Held };
 
-    ghost view = { λ s. s.constants.items };
+    ghost view = { λ s. map held_in (entries s.constants.places.items s.constants.items.items) };
+
+    ghost invariant = { λ s. ArePlaces s.constants.places.items s.constants.items.items };
+}
+
+/// What a constant is kept as: nothing where no instruction names it.
+fn named(constant: RuntimeConstant) -> Option<RuntimeConstant>
+    ensures { held_in result ≡ constant }
+{
+    match constant {
+        RuntimeConstant::Other => None,
+        _ => Some(constant),
+    }
+}
+
+/// The constant at a place of those that are kept.
+fn constant_at(constants: &[RuntimeConstant], place: u16) -> RuntimeConstant
+    ensures { result ≡ held_in (slice_get constants.now place) }
+{
+    match constants.get(usize::from(place)) {
+        Some(constant) => *constant,
+        None => RuntimeConstant::Other,
+    }
 }
 
 impl RuntimePool {
+    /// The pool of these constants.
+    pub(crate) fn of_constants(
+        alloc: Global,
+        constants: &[RuntimeConstant],
+    ) -> Result<Self, AllocError>
+        requires { length constants.now < 2 ^ 16 }
+        ensures { IfOk result (λ pool. pool ≡ constants.now) }
+    {
+        let mut entries = Sparse::with_capacity(alloc, constants.len())?;
+        for constant in constants {
+            entries.add(named(*constant))?;
+        }
+        Ok(RuntimePool { constants: entries })
+    }
+
     /// The constant at an index.
     pub(crate) fn at(&self, index: u16) -> Option<RuntimeConstant>
         ensures { result ≡ slice_get self.now index }
     {
-        self.constants.get(usize::from(index)).copied()
+        match self.constants.place(index) {
+            Some(place) => Some(constant_at(&self.constants.items, place)),
+            None => None,
+        }
     }
 }
 

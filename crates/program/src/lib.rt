@@ -25,6 +25,7 @@ pub mod runtime_constant;
 mod runtime_pool;
 pub mod signature;
 mod slots;
+mod sparse;
 mod static_numbers;
 mod statics;
 

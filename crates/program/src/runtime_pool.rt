@@ -284,7 +284,7 @@ impl Resolver<'_> {
         let mut pool = Vec::with_capacity(alloc, self.file.constants().len())?;
         let mut earlier = EarlierStrings::new(alloc);
         self.add_constants(alloc, members, strings, &ahead, &mut earlier, &mut pool)?;
-        Ok(RuntimePool { constants: pool })
+        RuntimePool::of_constants(alloc, &pool)
     }
 
     /// Adds a constant for each entry of a class file's constant pool.

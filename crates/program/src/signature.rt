@@ -7,6 +7,7 @@ ghost use Rattle.program.specs.steps.ParsedSignatures.{dimensions, name_length, 
 ghost use Rattle.program.specs.steps.ParsedSignatures.{ends_parameters, AreParameters, IsParsed, IsEntry};
 
 use crate::runtime_constant::FieldKind;
+use crate::sparse::Sparse;
 use crate::statics::field_kind;
 use classfile::{ClassFile, Constant, is_method_descriptor};
 use std::alloc::{AllocError, Global};
@@ -53,16 +54,19 @@ pub struct Signature {
 /// The signatures that the method descriptors of a class file's constant pool say, by their indices.
 #[derive(Drop)]
 pub struct Signatures {
-    pub(crate) signatures: Vec<Option<Signature>>,
+    signatures: Sparse<Signature>,
 }
 
 impl Model for Signatures {
     ghost use Rattle.std.specs.Prelude.{List, Option};
     ghost use Rattle.program.specs.declared.signature.Signature.{Signature as Held};
+    ghost use Rattle.program.specs.steps.Sparse.{entries, ArePlaces};
 
     ghost Value = { List (Option Held) };
 
-    ghost view = { λ s. s.signatures.items };
+    ghost view = { λ s. entries s.signatures.places.items s.signatures.items.items };
+
+    ghost invariant = { λ s. ArePlaces s.signatures.places.items s.signatures.items.items };
 }
 
 /// The place of the first byte that is no `[`.
@@ -194,9 +198,9 @@ pub(crate) fn signatures_of(alloc: Global, file: &ClassFile) -> Result<Signature
     ensures { IfOk result (AreSignatures file.now) }
 {
     let constants = file.constants();
-    let mut signatures = Vec::with_capacity(alloc, constants.len())?;
+    let mut signatures = Sparse::with_capacity(alloc, constants.len())?;
     for constant in constants {
-        signatures.push(signature_in(alloc, constant)?)?;
+        signatures.add(signature_in(alloc, constant)?)?;
     }
     Ok(Signatures { signatures })
 }
@@ -206,10 +210,8 @@ impl Signatures {
     pub fn at(&self, index: u16) -> Option<&Signature>
         ensures { option_copied result ≡ signature_in self.now index }
     {
-        match self.signatures.get(usize::from(index)) {
-            Some(Some(signature)) => Some(signature),
-            _ => None,
-        }
+        let place = self.signatures.place(index)?;
+        self.signatures.items.get(usize::from(place))
     }
 }
 
