@@ -11,11 +11,10 @@ use Rattle.built_in.specs.Keys.{NameAndType}
 use Rattle.loading.specs.Names.{text_at}
 use Rattle.hierarchy.specs.MemberLookup.{is_named}
 use Rattle.hierarchy.specs.Texts.{AreDistinct}
-use Rattle.hierarchy.specs.steps.GrowingTexts.{KeepsNumbers}
 use Rattle.hierarchy.specs.declared.member_index.MemberKey.{MemberKey}
 use Rattle.hierarchy.specs.steps.MemberIndexes.{same_key, first_place, AreNumbers, IsIndex, Notes, first_some}
 use Rattle.hierarchy.specs.steps.MemberIndexes.{declared_after}
-use Rattle.loading.proofs.PlaceLemmas.{place_in, contains_at}
+use Rattle.loading.proofs.PlaceLemmas.{contains_at}
 use Rattle.hierarchy.proofs.MemberIndexesPlaceLemmas.{both_true, key_is}
 
 -- what classes declare, and places by numbers
@@ -46,57 +45,6 @@ one_number texts key a b distinct p q =
     let n = distinct a.name b.name key.name p.name q.name in
     let d = distinct a.descriptor b.descriptor key.descriptor p.descriptor q.descriptor in
     λ i. record { name = n i; descriptor = d i }
-
-pub numbers_of : (texts : List (List ℕ)) (key : NameAndType) → Contains texts key.name × Contains texts key.descriptor
-    → (numbers : MemberKey) × AreNumbers texts key numbers
-numbers_of texts key has =
-    let n = place_in texts key.name has.0 in
-    let d = place_in texts key.descriptor has.1 in
-    (record { name = n.0; descriptor = d.0 }, record { name = n.1; descriptor = d.1 })
-
-pub numbers_stay : (old new : List (List ℕ)) (key : NameAndType) (numbers : MemberKey) → KeepsNumbers old new
-    → AreNumbers old key numbers
-    → AreNumbers new key numbers
-numbers_stay old new key numbers keeps are = record {
-  name = keeps numbers.name key.name are.name;
-  descriptor = keeps numbers.descriptor key.descriptor are.descriptor;
-}
-
-text_stays : (old new : List (List ℕ)) (text : List ℕ) → KeepsNumbers old new → Contains old text → Contains new text
-text_stays old new text keeps has = let at = place_in old text has in contains_at new at.0 text (keeps at.0 text at.1)
-
--- ---- more texts
-
-module _ (old new : List (List ℕ)) (declared : Declared) (place : Place) (is : IsIndex old declared place)
-    (keeps : KeepsNumbers old new) (distinct : AreDistinct new) where
-  still_found : (class : ℕ) (key : NameAndType) (numbers : MemberKey) → AreNumbers new key numbers
-      → place class numbers ≡ declared class key
-  still_found class key numbers are = by (place class numbers) refl
-    where
-      none : (d : Option ℕ) → place class numbers ≡ None → declared class key ≡ d
-          → place class numbers ≡ declared class key
-      none None e f = e ∙ sym f
-      none (Some k) e f =
-          let had = numbers_of old key (is.numbered class key k f) in
-          let same : had.0 ≡ numbers =
-          one_number new key had.0 numbers distinct (numbers_stay old new key had.0 keeps had.1) are in
-          ap (place class) (sym same) ∙ is.found class key had.0 had.1
-
-      by : (o : Option ℕ) → place class numbers ≡ o → place class numbers ≡ declared class key
-      by None e = none (declared class key) e refl
-      by (Some k) e =
-          let had = is.known class numbers k e in
-          let same : had.0 ≡ key = one_key new had.0 key numbers (numbers_stay old new had.0 numbers keeps had.1) are in
-          is.found class had.0 numbers had.1 ∙ ap (declared class) same
-
-  pub grown : IsIndex new declared place
-  grown = record {
-    numbered = λ class key k e. let has = is.numbered class key k e in
-        (text_stays old new key.name keeps has.0, text_stays old new key.descriptor keeps has.1);
-    known = λ class numbers k e. let had = is.known class numbers k e in
-        (had.0, numbers_stay old new had.0 numbers keeps had.1);
-    found = still_found;
-  }
 
 -- ---- one more member
 
@@ -237,18 +185,18 @@ one_more declared class f ms m c q = by (eqb class c)
     by false = refl
 
 -- one member of a class is noted after the others
-pub member_noted : (old new : List (List ℕ)) (declared : Declared) (before after : Place) (class : ℕ) (f : ClassFile)
+pub member_noted : (texts : List (List ℕ)) (declared : Declared) (before after : Place) (class : ℕ) (f : ClassFile)
     (ms : List Member) (m : Member)
-    → IsIndex old (declared_after declared class f ms) before → KeepsNumbers old new → AreDistinct new
-    → Notes new before after class (record { name = text_at f m.name; descriptor = text_at f m.descriptor }) (length ms)
-    → IsIndex new (declared_after declared class f (ms ++ m ∷ [])) after
-member_noted old new declared before after class f ms m is keeps distinct notes =
+    → IsIndex texts (declared_after declared class f ms) before → AreDistinct texts
+    → Notes texts before after class (record { name = text_at f m.name; descriptor = text_at f m.descriptor })
+    (length ms)
+    → IsIndex texts (declared_after declared class f (ms ++ m ∷ [])) after
+member_noted texts declared before after class f ms m is distinct notes =
     let key : NameAndType = record { name = text_at f m.name; descriptor = text_at f m.descriptor } in
-    index_same new (declared_with (declared_after declared class f ms) class key (length ms))
+    index_same texts (declared_with (declared_after declared class f ms) class key (length ms))
     (declared_after declared class f (ms ++ m ∷ [])) after
     (one_more declared class f ms m)
-    (noted new (declared_after declared class f ms) before after class key (length ms)
-    (grown old new (declared_after declared class f ms) before is keeps distinct) distinct notes)
+    (noted texts (declared_after declared class f ms) before after class key (length ms) is distinct notes)
 
 -- no members are noted yet
 pub none_noted : (texts : List (List ℕ)) (declared : Declared) (place : Place) (class : ℕ) (f : ClassFile)

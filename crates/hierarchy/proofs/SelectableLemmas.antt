@@ -1,6 +1,6 @@
 -- What a virtual call may select for objects of any given class.
 use Rattle.std.proofs.Common.{◌≡◌, ◌⊎◌, ◌↔◌, ℕ, ◌<◌, Bool, true, false, cond, List, [], ◌∷◌, length, Option, Some, None}
-use Rattle.std.proofs.Common.{◌+◌, ◌++◌, zero, suc, refl, sym, ap, ◌∙◌, inl, inr, subst, slice_get, get_or, take}
+use Rattle.std.proofs.Common.{◌+◌, ◌++◌, suc, refl, sym, ap, ◌∙◌, inl, inr, subst, slice_get, get_or, take}
 use Rattle.std.proofs.Common.{option_map, is_some, arith}
 use Rattle.std.specs.Option.{option_or}
 use Rattle.std.specs.List.{Contains, find, position_from}
@@ -17,10 +17,10 @@ use Rattle.hierarchy.specs.declared.member.Method.{Method}
 use Rattle.hierarchy.specs.declared.member.Method.TheVariants as method
 use Rattle.hierarchy.specs.Initialization.{given_superclasses}
 use Rattle.hierarchy.specs.MemberLookup.{is_inherited, is_private, flags_in, key_in, method_with, interface_method_in}
-use Rattle.hierarchy.specs.MemberLookup.{is_named, keep_if, key_of, key_if, method_in, flags_of, member_flags}
+use Rattle.hierarchy.specs.MemberLookup.{is_named, keep_if, key_of, key_if, method_in, flags_of}
 use Rattle.hierarchy.specs.MemberLookup.{method_of as method_in_file}
 use Rattle.hierarchy.specs.Resolution.{instance_method_in}
-use Rattle.hierarchy.specs.Selection.{method_at, method_of, first_declared, member_with, member_at_end, first_up}
+use Rattle.hierarchy.specs.Selection.{method_at, method_of, first_declared, member_at_end, first_up}
 use Rattle.hierarchy.specs.Selection.{the_default, found_from, found_if, selected}
 use Rattle.hierarchy.specs.Subtypes.{end_of_chain}
 use Rattle.hierarchy.specs.Selectable.{IsSelectable}
@@ -33,7 +33,7 @@ use Rattle.classfile.specs.ClassFile.{ClassFile}
 use Rattle.classfile.specs.declared.member.Member.{Member}
 use Rattle.loading.specs.declared.given.GivenClass.{GivenClass}
 use Rattle.hierarchy.proofs.NotedLemmas.{noted_next}
-use Rattle.hierarchy.proofs.SweepsLemmas.{named_by, name_is}
+use Rattle.hierarchy.proofs.SweepsLemmas.{name_is}
 
 or_cases : {A : Type 0} (a b : Option A) (x : A) → option_or a b ≡ Some x → (a ≡ Some x) ⊎ (b ≡ Some x)
 or_cases None b x h = inr h

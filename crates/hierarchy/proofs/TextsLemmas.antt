@@ -1,43 +1,14 @@
--- Texts by number: what a look-up in a set of texts says, and what one more text changes.
-use Rattle.std.proofs.Common.{◌≡◌, ℕ, zero, suc, ◌+◌, ◌<◌, Bool, true, false, List, [], ◌∷◌, ◌++◌, length, map, take}
-use Rattle.std.proofs.Common.{get_or, Option, Some, None, is_some, slice_get, position, MatchOption, refl, sym, ap, ◌∙◌}
-use Rattle.std.proofs.Common.{inl, inr, subst, arith}
-use Rattle.std.specs.List.{Contains, list_any}
-use Rattle.std.specs.Str.{bytes_eq}
-use Rattle.std.proofs.lemmas.Slice.Eq.{bytes_eq-Decides}
-use Rattle.std.proofs.lemmas.List.Quantifiers.{position-Some}
-use Rattle.std.proofs.lemmas.List.Elements.{Contains-append_right}
+-- Texts by number: what one more text changes.
+use Rattle.std.proofs.Common.{◌≡◌, ℕ, zero, suc, ◌+◌, ◌<◌, List, [], ◌∷◌, ◌++◌, length, take}
+use Rattle.std.proofs.Common.{Some, None, slice_get, sym, ap, ◌∙◌}
+use Rattle.std.proofs.Common.{inl, inr, arith}
+use Rattle.std.specs.List.{Contains}
 use Rattle.std.proofs.lemmas.Bool.{cases_lt}
 use Rattle.std.proofs.lemmas.List.{take_all, take_more}
 use Rattle.std.proofs.lemmas.Option.{get_or_from_slice_get, slice_get-get_or, slice_get_within}
-use Rattle.std.proofs.lemmas.Map.Keys.{any_passes_from_place}
-use Rattle.indexmap.specs.IndexSet.{insert_key}
 use Rattle.hierarchy.specs.Texts.{AreDistinct}
 use Rattle.hierarchy.specs.steps.GrowingTexts.{KeepsNumbers}
-use Rattle.loading.proofs.PlaceLemmas.{contains_at, place_in, mapped_at, unmapped_at, pushed_at, kept_at, map_push}
-
-module _ {V : Type 0} (items : V → List ℕ) (text : List ℕ) where
-  -- a set that has no key with a text does not have the text
-  pub absent : (keys : List V) → list_any (λ (k : V). bytes_eq text (items k)) keys ≡ false
-      → ¬ Contains (map items keys) text
-  absent keys none has =
-      let at = place_in (map items keys) text has in
-      let found = unmapped_at items keys at.0 text at.1 in
-      let passes : bytes_eq text (items found.0) ≡ true = (bytes_eq-Decides text (items found.0)).1 (sym found.2) in
-      let some : list_any (λ (k : V). bytes_eq text (items k)) keys ≡ true =
-      any_passes_from_place (λ (k : V). bytes_eq text (items k)) keys at.0 found.0 found.1 passes in
-      cc
-
-  -- the number that a look-up gives is the text's
-  pub number_is : (keys : List V) (r : Option ℕ) → r ≡ position (λ (k : V). bytes_eq text (items k)) keys
-      → is_some r ≡ list_any (λ (k : V). bytes_eq text (items k)) keys
-      → MatchOption r (¬ Contains (map items keys) text) (λ n. slice_get (map items keys) n ≡ Some text)
-  number_is keys None e found = absent keys (sym found)
-  number_is [] (Some n) e found = absurd cc
-  number_is (k ∷ ks) (Some n) e found =
-      let at = position-Some (λ (k : V). bytes_eq text (items k)) (k ∷ ks) n k (sym e) in
-      let same : text ≡ items (get_or (k ∷ ks) n k) = (bytes_eq-Decides text (items (get_or (k ∷ ks) n k))).0 at.1 in
-      mapped_at items (k ∷ ks) n (get_or (k ∷ ks) n k) (slice_get-get_or (k ∷ ks) n k at.0) ∙ ap Some (sym same)
+use Rattle.loading.proofs.PlaceLemmas.{contains_at, place_in, pushed_at, kept_at}
 
 -- one more text, which was not among them
 pub distinct_push : (texts : List (List ℕ)) (text : List ℕ) → ¬ Contains texts text → AreDistinct texts
@@ -56,32 +27,6 @@ distinct_push texts text new apart i j t at also =
 
 pub keeps_push : (texts : List (List ℕ)) (text : List ℕ) → KeepsNumbers texts (texts ++ text ∷ [])
 keeps_push texts text i t at = kept_at texts text t i at
-
-module _ {V : Type 0} (items : V → List ℕ) (text : List ℕ) where
-  -- a set without a text has no key with it
-  pub has_none : (keys : List V) → ¬ Contains (map items keys) text → list_any (λ (k : V). bytes_eq text (items k)) keys
-      ≡ false
-  has_none [] apart = refl
-  has_none (k ∷ ks) apart =
-      by (bytes_eq text (items k)) refl
-      (has_none ks (λ has. apart (Contains-append_right (items k ∷ []) (map items ks) text has)))
-    where
-      by : (b : Bool) → bytes_eq text (items k) ≡ b → list_any (λ (y : V). bytes_eq text (items y)) ks ≡ false
-          → list_any (λ (y : V). bytes_eq text (items y)) (k ∷ ks) ≡ false
-      by true e rest =
-          absurd
-          (apart (contains_at (items k ∷ map items ks) 0 text (ap Some (sym ((bytes_eq-Decides text (items k)).0 e)))))
-      by false e rest = rw (e, rest) refl
-
--- the texts of a set that a new one was added to
-pub texts_after : {V : Type 0} (items : V → List ℕ) (old new : List V) (key : V) (text : List ℕ) → items key ≡ text
-    → ¬ Contains (map items old) text → new ≡ insert_key (λ (x : V) (y : V). bytes_eq (items x) (items y)) old key
-    → map items new ≡ map items old ++ text ∷ []
-texts_after {V = V} items old new key text is apart after =
-    let none : list_any (λ (y : V). bytes_eq (items key) (items y)) old ≡ false =
-    has_none items (items key) old (λ has. apart (subst (Contains (map items old)) is has)) in
-    let one : new ≡ old ++ key ∷ [] = rw none at after in
-    ap (map items) one ∙ map_push items old key ∙ ap (λ t. map items old ++ t ∷ []) is
 
 -- ---- distinct texts, one after the other
 

@@ -1,12 +1,6 @@
 -- Texts that others are added to.
 use Rattle.std.specs.Prelude.{◌≡◌, ℕ, List, Some, slice_get}
-use Rattle.hierarchy.specs.Texts.{AreDistinct}
 
 -- what has a number keeps it
 abbrev pub KeepsNumbers : List (List ℕ) → List (List ℕ) → Type 0
 KeepsNumbers old new = (i : ℕ) (text : List ℕ) → slice_get old i ≡ Some text → slice_get new i ≡ Some text
-
--- texts that others were added to
-pub record Grows (old new : List (List ℕ)) : Type 0 where
-  pub keeps : KeepsNumbers old new
-  pub distinct : AreDistinct old → AreDistinct new

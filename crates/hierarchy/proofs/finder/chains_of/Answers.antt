@@ -1,4 +1,4 @@
-use Rattle.std.proofs.Common.{rules, List, ℕ, subst, sym, take, length, arith, refl}
+use Rattle.std.proofs.Common.{rules, List, ℕ, subst, sym, take, length, refl}
 use Rattle.std.proofs.lemmas.Option.{slice_get_read}
 use Rattle.loading.proofs.PlaceLemmas.{mapped_at}
 use Rattle.hierarchy.specs.steps.FoundTexts.{texts_of, AreLinked}

@@ -1,6 +1,5 @@
-use Rattle.std.proofs.Common.{◌≡◌, ◌∙◌, ◌-◌, ◌<◌, ◌%◌, ℕ, suc, Some, slice_get, length, map, get_or, subst, sym, ap, arith}
+use Rattle.std.proofs.Common.{◌≡◌, ◌∙◌, ◌-◌, ◌<◌, ◌%◌, suc, slice_get, length, get_or, subst, sym, ap, arith}
 use Rattle.loading.proofs.PlaceLemmas.{place_in}
-use Rattle.hierarchy.specs.steps.Chains.{IsInBucket}
 use Rattle.hierarchy.specs.steps.FoundTexts.{texts_of, code_of}
 use Rattle.hierarchy.proofs.FoundTextsLemmas.{in_its_bucket}
 use Rattle.hierarchy.proofs.finder.linked.Goals as goal

@@ -1,4 +1,4 @@
-use Rattle.std.proofs.Common.{◌≡◌, rules, List, ℕ, ◌∙◌, subst, sym, take, length, arith, refl, map}
+use Rattle.std.proofs.Common.{List, ℕ, ◌∙◌, subst, sym, take, length, arith, refl}
 use Rattle.std.proofs.lemmas.List.{length-take-le}
 use Rattle.std.proofs.lemmas.Option.{slice_get_read}
 use Rattle.loading.proofs.PlaceLemmas.{mapped_at}

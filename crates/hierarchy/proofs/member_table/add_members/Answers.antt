@@ -19,8 +19,8 @@ loop-place-preserved c = λ texts f declared numbers distinct is.
     let count : length (take i ms) ≡ i = length-take-le i ms (omega arith) in
     subst (λ (l : List Member). IsIndex texts (declared_after declared c.args.class f l)
     (place_of c.add_member.new.index)) (sym here)
-    (member_noted texts texts declared (place_of c.loop-place.index) (place_of c.add_member.new.index) c.args.class f
-    (take i ms) m (c.loop-place.invariant texts f declared numbers distinct is) (λ j text at. at) distinct
+    (member_noted texts declared (place_of c.loop-place.index) (place_of c.add_member.new.index) c.args.class f
+    (take i ms) m (c.loop-place.invariant texts f declared numbers distinct is) distinct
     (subst (λ n. Notes texts (place_of c.loop-place.index) (place_of c.add_member.new.index) c.args.class key n)
     (sym count) (c.in_ok-add_member.ensures texts f numbers)))
 

@@ -1,4 +1,4 @@
-use Rattle.std.proofs.Common.{◌≡◌, ◌∙◌, rules, MatchOption, Some, slice_get, subst, sym}
+use Rattle.std.proofs.Common.{◌≡◌, ◌∙◌, MatchOption, Some, slice_get, subst, sym}
 use Rattle.std.specs.List.{Contains}
 use Rattle.hierarchy.specs.steps.FoundTexts.{texts_of, number_in, Finds}
 use Rattle.hierarchy.proofs.finder.Finder.number.Goals as goal

@@ -1,4 +1,4 @@
-use Rattle.std.proofs.Common.{◌≡◌, ◌⊎◌, Some, ap, sym, subst, ◌∙◌, inl, inr}
+use Rattle.std.proofs.Common.{◌≡◌, Some, ap, sym, subst, ◌∙◌, inl, inr}
 use Rattle.built_in.specs.Keys.{NameAndType}
 use Rattle.hierarchy.specs.MemberLookup.{key_in}
 use Rattle.hierarchy.specs.Resolution.{instance_method_in}

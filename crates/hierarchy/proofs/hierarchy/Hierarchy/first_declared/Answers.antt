@@ -5,8 +5,6 @@ use Rattle.hierarchy.specs.Resolution.{instance_method_in}
 use Rattle.built_in.specs.Keys.{NameAndType}
 use Rattle.hierarchy.specs.steps.MemberIndexes.{IsLookup}
 use Rattle.hierarchy.specs.steps.Reaches.{classes_noted}
-use Rattle.hierarchy.specs.steps.Selectable.{declared_as}
-use Rattle.hierarchy.specs.declared.member.DeclaredMember.{DeclaredMember}
 use Rattle.hierarchy.specs.declared.reach_table.Reach.{Reach}
 use Rattle.hierarchy.proofs.SelectableLemmas.{none_more, none_of, declared_is}
 use Rattle.hierarchy.proofs.hierarchy.Hierarchy.first_declared.Goals as goal

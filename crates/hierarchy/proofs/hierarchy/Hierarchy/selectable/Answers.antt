@@ -1,4 +1,4 @@
-use Rattle.std.proofs.Common.{◌≡◌, ◌↔◌, ℕ, true, false, Some, None, subst, sym, ap, ◌∙◌}
+use Rattle.std.proofs.Common.{◌≡◌, ◌↔◌, ℕ, true, false, Some, subst, sym, ap, ◌∙◌}
 use Rattle.built_in.specs.Keys.{NameAndType}
 use Rattle.hierarchy.specs.MemberLookup.{flags_in, is_private, key_in, is_inherited}
 use Rattle.hierarchy.specs.Resolution.{instance_method_in}
