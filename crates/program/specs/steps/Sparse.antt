@@ -10,4 +10,3 @@ entries places items = map (slice_get items) places
 pub record ArePlaces {T : Type 0} (places : List ℕ) (items : List T) : Type 0 where
   pub few : length items ≤ length places
   pub each : All (λ place. (place < length items) ⊎ (place ≡ 65535)) places
-
