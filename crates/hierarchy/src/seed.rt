@@ -108,8 +108,8 @@ fn add_keys(hasher: &mut Sha512, pool: &PoolTexts, members: &[Member]) {
     }
 }
 
-/// Adds a name and a descriptor, by their numbers.
+/// Adds a name and a descriptor, by their numbers. 65,535 class files of as many constants have less than 2^32 texts.
 fn add_key(hasher: &mut Sha512, key: MemberKey) {
-    hasher.update(&key.name.to_le_bytes());
-    hasher.update(&key.descriptor.to_le_bytes());
+    let both = key.name << 32 ^ key.descriptor;
+    hasher.update(&both.to_le_bytes());
 }
