@@ -1,8 +1,8 @@
 -- The marks of a class, by the labels that its class initialization method reaches.
-use Rattle.std.proofs.Common.{◌≡◌, ◌↔◌, ℕ, ◌<◌, List, [], ◌∷◌, length, get_or, Bool, true, false, IsTrue}
+use Rattle.std.proofs.Common.{◌≡◌, ◌↔◌, ℕ, ◌<◌, List, length, Bool, true, false, IsTrue}
 use Rattle.std.proofs.Common.{Option, Some, None, is_some, unwrap_or, slice_get, slice_index_or, refl, sym, ap, subst}
 use Rattle.std.proofs.Common.{◌∙◌, arith}
-use Rattle.std.proofs.lemmas.Option.{slice_get_within, slice_get-get_or}
+use Rattle.std.proofs.lemmas.Option.{slice_get_within}
 use Rattle.program.specs.Tables.{Tables, initializer_in}
 use Rattle.hierarchy.specs.declared.member.DeclaredMember.{DeclaredMember}
 use Rattle.use_graph.specs.declared.body.Told.{Told}
@@ -10,7 +10,6 @@ use Rattle.use_graph.specs.declared.body.BodyUses.{BodyUses}
 use Rattle.use_graph.specs.declared.feature.Feature.{Feature}
 use Rattle.use_graph.specs.declared.feature.Feature.TheVariants as features
 use Rattle.use_graph.specs.declared.mark.Mark.{Mark}
-use Rattle.use_graph.specs.declared.mark.Mark.TheVariants as marks
 use Rattle.use_graph.specs.declared.whole_program.UseGraph.{UseGraph}
 use Rattle.use_graph.specs.Uses.{IsDeclared, MayRun, mark_of, field_class, Means, HasMark}
 use Rattle.use_graph.specs.steps.Bodies.{IsUseGraph}

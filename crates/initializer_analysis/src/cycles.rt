@@ -2,12 +2,10 @@
 
 ghost use Rattle.std.specs.Prelude.{◌≡◌, ◌≢◌, ◌↔◌, ◌≤◌, ◌*◌, ◌+◌, ◌<◌, ℕ, length, replicate, slice_index, IsTrue, IfOk};
 ghost use Rattle.std.specs.List.{All};
-ghost use Rattle.graph.specs.Components.{AreComponents};
-ghost use Rattle.use_graph.specs.steps.Bodies.{IsUseGraph};
 ghost use Rattle.initializer_analysis.specs.steps.LeastReached.{no_labels};
 ghost use Rattle.initializer_analysis.specs.steps.OwnReasons.{AreOnCycles};
 ghost use Rattle.initializer_analysis.specs.steps.Cycles.{AddsMember, HaveMembers, HasOther, AreOthers};
-ghost use Rattle.initializer_analysis.specs.steps.Dependence.{vertex_of, IsDependence};
+ghost use Rattle.initializer_analysis.specs.steps.Dependence.{vertex_of, AreDependences};
 
 use crate::dependence::class_vertex;
 use crate::labels::Least;
@@ -134,9 +132,7 @@ pub(crate) fn cycles(
     graph: &Graph,
     components: &Components,
 ) -> Result<Vec<bool>, AllocError>
-    requires uses { IsUseGraph program.now uses.now }
-    requires graph { IsDependence program.now uses.now graph.now }
-    requires components { AreComponents graph.now components.now }
+    requires dependences { AreDependences program.now uses.now graph.now components.now }
     ensures { IfOk result (λ on. AreOnCycles program.now on.items) }
 {
     let limit = program.given_count();

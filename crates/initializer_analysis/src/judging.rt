@@ -5,7 +5,7 @@ ghost use Rattle.graph.specs.Components.{AreComponents};
 ghost use Rattle.use_graph.specs.steps.Bodies.{IsUseGraph};
 ghost use Rattle.initializer_analysis.specs.steps.OwnReasons.{AreOwnReasons};
 ghost use Rattle.initializer_analysis.specs.Verdicts.{AreVerdicts};
-ghost use Rattle.initializer_analysis.specs.steps.Dependence.{IsDependence};
+ghost use Rattle.initializer_analysis.specs.steps.Dependence.{IsDependence, AreDependences};
 ghost use Rattle.initializer_analysis.specs.steps.Judging.{verdict_by, AreVerdictsBy, IsJudged, AreJudgedBy};
 
 use crate::cycles::cycles;
@@ -69,10 +69,8 @@ fn verdicts_of(
     reasons: &[Option<Reason>],
     refused: &[bool],
 ) -> Result<Verdicts, AllocError>
-    requires uses { IsUseGraph program.now uses.now }
+    requires dependences { AreDependences program.now uses.now graph.now components.now }
     requires calls { AreComponents uses.now.calls calls.now }
-    requires graph { IsDependence program.now uses.now graph.now }
-    requires components { AreComponents graph.now components.now }
     requires reasons { length reasons.now ≡ length program.now.classes }
     ensures { IfOk result (IsJudged program.now uses.now graph.now reasons.now refused.now) }
 {
@@ -99,10 +97,8 @@ fn judge_known(
     components: &Components,
     reasons: &[Option<Reason>],
 ) -> Result<Verdicts, AllocError>
-    requires uses { IsUseGraph program.now uses.now }
+    requires dependences { AreDependences program.now uses.now graph.now components.now }
     requires calls { AreComponents uses.now.calls calls.now }
-    requires graph { IsDependence program.now uses.now graph.now }
-    requires components { AreComponents graph.now components.now }
     requires reasons { length reasons.now ≡ length program.now.classes }
     ensures { IfOk result (AreJudgedBy program.now uses.now graph.now reasons.now) }
 {
@@ -130,10 +126,8 @@ fn reasons_by(
     graph: &Graph,
     components: &Components,
 ) -> Result<Vec<Option<Reason>>, AllocError>
-    requires uses { IsUseGraph program.now uses.now }
+    requires dependences { AreDependences program.now uses.now graph.now components.now }
     requires calls { AreComponents uses.now.calls calls.now }
-    requires graph { IsDependence program.now uses.now graph.now }
-    requires components { AreComponents graph.now components.now }
     ensures { IfOk result (λ reasons. AreOwnReasons program.now forced.now reasons.items) }
 {
     match cycles(alloc, program, uses, graph, components) {
@@ -152,10 +146,8 @@ fn judge_over(
     graph: &Graph,
     components: &Components,
 ) -> Result<Verdicts, AllocError>
-    requires uses { IsUseGraph program.now uses.now }
+    requires dependences { AreDependences program.now uses.now graph.now components.now }
     requires calls { AreComponents uses.now.calls calls.now }
-    requires graph { IsDependence program.now uses.now graph.now }
-    requires components { AreComponents graph.now components.now }
     ensures { IfOk result (AreVerdicts program.now forced.now) }
 {
     match reasons_by(alloc, program, forced, uses, calls, graph, components) {

@@ -1,9 +1,7 @@
 //! Which classes depend on one that is refused for a reason of its own, itself among them.
 
 ghost use Rattle.std.specs.Prelude.{◌≡◌, ◌≤◌, ◌*◌, ◌+◌, ℕ, length, IfOk, OnOk};
-ghost use Rattle.graph.specs.Components.{AreComponents};
-ghost use Rattle.use_graph.specs.steps.Bodies.{IsUseGraph};
-ghost use Rattle.initializer_analysis.specs.steps.Dependence.{IsDependence};
+ghost use Rattle.initializer_analysis.specs.steps.Dependence.{AreDependences};
 ghost use Rattle.initializer_analysis.specs.steps.Judging.{label_by, Labelled, AreOwnLabels, AreFirstThere, AreRefused};
 
 use crate::dependence::class_vertex;
@@ -88,9 +86,7 @@ pub(crate) fn refused_classes(
     components: &Components,
     reasons: &[Option<Reason>],
 ) -> Result<Vec<bool>, AllocError>
-    requires uses { IsUseGraph program.now uses.now }
-    requires graph { IsDependence program.now uses.now graph.now }
-    requires components { AreComponents graph.now components.now }
+    requires dependences { AreDependences program.now uses.now graph.now components.now }
     requires reasons { length reasons.now ≡ length program.now.classes }
     ensures { IfOk result (λ refused. AreRefused program.now uses.now graph.now reasons.now refused.items) }
 {

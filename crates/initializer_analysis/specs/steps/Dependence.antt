@@ -1,10 +1,12 @@
 -- A graph of what classes and methods depend on, and edges that are added to it.
 use Rattle.std.specs.Prelude.{◌≡◌, ◌≢◌, ◌↔◌, ◌⊎◌, ℕ, ◌+◌, ◌<◌, ◌≤◌, Option, Some, [], length, slice_get}
 use Rattle.std.specs.List.{Contains}
+use Rattle.graph.specs.Components.{Parts, AreComponents}
 use Rattle.graph.specs.Rows.{Rows, successors_of}
 use Rattle.program.specs.Tables.{Tables, order_in}
 use Rattle.use_graph.specs.declared.body.BodyUses.{BodyUses}
 use Rattle.use_graph.specs.declared.whole_program.UseGraph.{UseGraph}
+use Rattle.use_graph.specs.steps.Bodies.{IsUseGraph}
 use Rattle.use_graph.specs.steps.Deeds.{HoldsOfOne}
 use Rattle.use_graph.specs.steps.Searching.{StartsAt}
 
@@ -38,6 +40,12 @@ pub record IsDependence (P : Tables) (uses : UseGraph) (graph : Rows) : Type 0 w
   pub vertices : length graph ≡ length uses.calls + length P.classes
   pub methods : (v b : ℕ) → v < length uses.calls → Contains (successors_of graph v) b ↔ DependsAt P uses v b
   pub classes : (c : ℕ) → c < length P.classes → IsClassRow P uses graph c
+
+-- What methods call and need, what classes and methods depend on by that, and the components of this.
+pub record AreDependences (P : Tables) (use_graph : UseGraph) (rows : Rows) (parts : Parts) : Type 0 where
+  pub uses : IsUseGraph P use_graph
+  pub graph : IsDependence P use_graph rows
+  pub components : AreComponents rows parts
 
 -- ---- while it is made
 

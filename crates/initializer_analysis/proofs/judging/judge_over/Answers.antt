@@ -14,6 +14,7 @@ returns-in-Ok c =
     (λ verdicts (refused, are, judged).
     let (first, heights, firsts, waves, by) = judged in
     let (marks, classes, high) = waves in
-    are_verdicts P uses graph c.requires.uses c.requires.graph c.args.forced.now c.as_slice.result.now refused first
-    heights marks verdicts (rw c.as_slice.ensures.value c.in-Ok.ensures) are firsts classes high by)
+    are_verdicts P uses graph c.requires.dependences.uses c.requires.dependences.graph c.args.forced.now
+    c.as_slice.result.now refused first heights marks verdicts (rw c.as_slice.ensures.value c.in-Ok.ensures) are firsts
+    classes high by)
     c.judge_known.ensures

@@ -4,7 +4,8 @@ use Rattle.initializer_analysis.proofs.refused_classes.refused_classes.Goals as 
 pub returns : goal.returns
 returns c =
     let count = c.given_count-limit.ensures.value in
-    are_refused c.args.program.now c.args.uses.now c.args.graph.now c.requires.uses c.requires.graph
-    c.args.reasons.now c.in_ok-own.own.items c.in_ok-least.least.items c.in_ok-refused.refused.items c.requires.reasons
+    are_refused c.args.program.now c.args.uses.now c.args.graph.now c.requires.dependences.uses
+    c.requires.dependences.graph c.args.reasons.now c.in_ok-own.own.items c.in_ok-least.least.items
+    c.in_ok-refused.refused.items c.requires.reasons
     (rw count at c.in_ok-own.ensures) (rw c.as_slice.ensures.value at c.in_ok-least.ensures.least)
     (rw (count, c.as_slice-2.ensures.value) at c.in_ok-refused.ensures)
