@@ -10,3 +10,4 @@ pub mod steps
 pub mod ImageBuilds
 pub mod ImageRuns
 pub mod Headline
+pub mod Begins

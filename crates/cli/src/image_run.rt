@@ -2,6 +2,7 @@
 ghost use Rattle.std.specs.Prelude.{◌≡◌, ◌⊎◌, IfErr, IfOk};
 ghost use Rattle.init_engine.specs.Turns.{world_of};
 ghost use Rattle.image_reader.specs.Starts.{IsImageStart};
+ghost use Rattle.cli.specs.Begins.{IsBegunFromImage};
 ghost use Rattle.cli.specs.ImageRuns.{IsNoRun, IsShownFromImage, IsTextOf};
 ghost use Rattle.cli.specs.declared.fault.Refusal.TheVariants.{Memory};
 
@@ -78,7 +79,10 @@ pub(crate) fn start<F: Files>(
     alloc: Global,
     words: &Run<'_>,
     files: &mut F,
-) -> Result<ImageStart, Refusal> {
+) -> Result<ImageStart, Refusal>
+    // The world is the start of the image of the text that was got.
+    ensures { IfOk result (λ start. IsBegunFromImage start.image (world_of start.world)) }
+{
     match files.get(words.image) {
         Ok(bytes) => {
             let entries = entries_of(alloc, words.entries)?;

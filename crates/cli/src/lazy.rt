@@ -1,8 +1,9 @@
 //! The lazy procedure from class files' bytes to what is seen, and the command `lazy` over it.
 ghost use Rattle.std.specs.Prelude.{◌≡◌, ◌⊎◌, IfErr, IfOk};
 ghost use Rattle.init_engine.specs.Turns.{world_of};
+ghost use Rattle.init_engine.specs.Starts.{IsStart};
+ghost use Rattle.cli.specs.Begins.{IsBegun};
 ghost use Rattle.cli.specs.Runs.{IsProgramOf, IsRefused, IsShown, IsShownFrom, texts_of};
-ghost use Rattle.cli.specs.steps.Refusals.{IsRefusedEntry};
 ghost use Rattle.cli.specs.declared.fault.Refusal.TheVariants.{Memory};
 
 use crate::class_files::linked_program;
@@ -51,29 +52,12 @@ pub fn run_class_files(
     ensures refusal { IfErr result
         (λ refusal. (refusal ≡ Memory) ⊎ IsRefused (texts_of files.now) entries.now refusal) }
 {
-    match linked_program(alloc, files) {
-        Ok(program) => match run_program(alloc, &program, entries, limit) {
-            Ok(shown) => Ok(LazyRun { program, shown }),
-            Err(refusal) => Err(refusal),
-        },
+    match lazy_start(alloc, files, entries) {
+        Ok(LazyStart { program, world }) => {
+            let shown = shown_by_turns(alloc, &program, world, limit)?;
+            Ok(LazyRun { program, shown })
+        }
         Err(refusal) => Err(refusal),
-    }
-}
-
-/// Runs a program by turns, for at most so many steps.
-fn run_program(
-    alloc: Global,
-    program: &Program,
-    entries: &[ClassName],
-    limit: u64,
-) -> Result<Shown, Refusal>
-    ensures shown { IfOk result (λ shown. IsShown program.now entries.now limit shown) }
-    ensures refusal { IfErr result
-        (λ refusal. (refusal ≡ Memory) ⊎ IsRefusedEntry program.now entries.now refusal) }
-{
-    match World::lazy(alloc, program, entries) {
-        Ok(world) => Ok(shown_by_turns(alloc, program, world, limit)?),
-        Err(fault) => Err(Refusal::of_entry(fault)),
     }
 }
 
@@ -102,6 +86,26 @@ pub(crate) struct LazyStart {
     pub world: World,
 }
 
+/// The lazy start of the program of class files.
+fn lazy_start(
+    alloc: Global,
+    files: &[Vec<u8>],
+    entries: &[ClassName],
+) -> Result<LazyStart, Refusal>
+    ensures program { IfOk result (λ start. IsProgramOf (texts_of files.now) start.program) }
+    ensures start { IfOk result (λ start. IsStart start.program entries.now (world_of start.world)) }
+    ensures refusal { IfErr result
+        (λ refusal. (refusal ≡ Memory) ⊎ IsRefused (texts_of files.now) entries.now refusal) }
+{
+    match linked_program(alloc, files) {
+        Ok(program) => match World::lazy(alloc, &program, entries) {
+            Ok(world) => Ok(LazyStart { program, world }),
+            Err(fault) => Err(Refusal::of_entry(fault)),
+        },
+        Err(refusal) => Err(refusal),
+    }
+}
+
 /// Reads the class files, and answers their lazy start, as the words say.
 ///
 /// # Errors
@@ -110,14 +114,13 @@ pub(crate) fn begin<F: Files>(
     alloc: Global,
     words: &Lazy<'_>,
     files: &mut F,
-) -> Result<LazyStart, Refusal> {
-    let contents = contents(alloc, words.files.as_slice(), files, usize::MAX)?;
-    let program = linked_program(alloc, contents.as_slice())?;
+) -> Result<LazyStart, Refusal>
+    // The world is the lazy start of the program of the texts that were got.
+    ensures { IfOk result (λ start. IsBegun start.program (world_of start.world)) }
+{
+    let texts = contents(alloc, words.files.as_slice(), files, usize::MAX)?;
     let entries = entries_of(alloc, words.entries)?;
-    match World::lazy(alloc, &program, entries.as_slice()) {
-        Ok(world) => Ok(LazyStart { program, world }),
-        Err(fault) => Err(Refusal::of_entry(fault)),
-    }
+    lazy_start(alloc, texts.as_slice(), entries.as_slice())
 }
 
 /// The class names of a list: cut at commas, with slashes for dots.
