@@ -60,7 +60,8 @@ adds_more P Q R first second = record {
 
 -- ---- what is held stays held
 
-at_front : {X : Type 0} (xs more : List X) (i : ℕ) (x : X) → slice_get xs i ≡ Some x → slice_get (xs ++ more) i ≡ Some x
+pub at_front : {X : Type 0} (xs more : List X) (i : ℕ) (x : X) → slice_get xs i ≡ Some x
+    → slice_get (xs ++ more) i ≡ Some x
 at_front [] more i x at = absurd cc
 at_front (y ∷ ys) more zero x at = at
 at_front (y ∷ ys) more (suc i) x at = at_front ys more i x at
@@ -142,6 +143,10 @@ module _ (S T added : List (List ℕ)) (grown : T ≡ S ++ added) where
 
 -- ---- values in order
 
+pub taken : {X : Type 0} (told : List X) (i : ℕ) (t : X) → i < length told → t ≡ get_or told i t
+    → take (i + 1) told ≡ take i told ++ t ∷ []
+taken {X = X} told i t within item = take_more told i t within ∙ ap (λ (x : X). take i told ++ x ∷ []) (sym item)
+
 -- the step of a loop over values
 pub next_held : (P Q R : Tables) (told : List ImageValue) (i : ℕ) (t : ImageValue) (vs more : List Value) (v : Value)
     → i < length told → t ≡ get_or told i t → HoldsValues Q.strings (take i told) vs × AddsStrings P Q
@@ -150,9 +155,7 @@ pub next_held : (P Q R : Tables) (told : List ImageValue) (i : ℕ) (t : ImageVa
 next_held P Q R told i t vs more v within item held adds holds grown =
     let kept = values_kept Q.strings R.strings adds.added adds.strings (take i told) vs held.0 in
     let pushed = all_zipped_more (HoldsValue R.strings) (take i told) vs t v kept holds in
-    let all : take (i + 1) told ≡ take i told ++ t ∷ [] =
-    take_more told i t within ∙ ap (λ (x : ImageValue). take i told ++ x ∷ []) (sym item) in
-    (rw (grown, all) pushed, adds_more P Q R held.1 adds)
+    (rw (grown, taken told i t within item) pushed, adds_more P Q R held.1 adds)
 
 -- ---- static fields
 
@@ -191,7 +194,7 @@ all_fields S (t ∷ told) (v ∷ vs) holds (suc k) = all_fields S told vs holds.
 
 -- ---- objects
 
-last_at : {X : Type 0} (xs : List X) (x : X) → slice_get (xs ++ x ∷ []) (length xs) ≡ Some x
+pub last_at : {X : Type 0} (xs : List X) (x : X) → slice_get (xs ++ x ∷ []) (length xs) ≡ Some x
 last_at [] x = refl
 last_at (y ∷ ys) x = last_at ys x
 
@@ -227,8 +230,8 @@ next_object S told t pool class slots objects named holds = record {
 pub no_regions : (S : List (List ℕ)) → HoldsRegions S [] (environment_of [])
 no_regions S c = refl
 
-pub next_region : (S : List (List ℕ)) (told : List (Option ImageRegion)) (t : Option ImageRegion) (old new : Environment)
-    (n : ℕ) → length told ≡ n → HoldsRegions S told old → HoldsClass S t (new n)
+pub next_region : (S : List (List ℕ)) (told : List (Option ImageRegion)) (t : Option ImageRegion)
+    (old new : Environment) (n : ℕ) → length told ≡ n → HoldsRegions S told old → HoldsClass S t (new n)
     → ((c : ℕ) → c ≢ n → new c ≡ old c) → HoldsRegions S (told ++ t ∷ []) new
 next_region S told t old new n count holds here others c = by (tested (c == n))
   where
