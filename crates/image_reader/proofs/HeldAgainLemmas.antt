@@ -3,7 +3,7 @@ use Rattle.std.proofs.Common.{◌≡◌, ◌∙◌, inl, inr, ℕ, zero, suc, �
 use Rattle.std.proofs.Common.{List, [], ◌∷◌, ◌++◌, length, map, get_or}
 use Rattle.std.proofs.Common.{Option, Some, None, is_some, slice_get, option_map, refl, sym, ap, subst, arith, add-zero}
 use Rattle.std.specs.List.{AllByRecursion, flat_map, range_with_len}
-use Rattle.std.proofs.lemmas.Bool.{cases_lt, ltb-true}
+use Rattle.std.proofs.lemmas.Bool.{and_parts, cases_lt, ltb-true}
 use Rattle.std.proofs.lemmas.List.{get_or_past}
 use Rattle.std.proofs.lemmas.List.FromFn.{length-map-range_with_len, get_or-map-range_with_len}
 use Rattle.std.proofs.lemmas.Option.{get_or_from_slice_get, slice_get-get_or, slice_get_past}
@@ -25,7 +25,6 @@ use Rattle.program.specs.declared.runtime_constant.FieldKind.{FieldKind}
 use Rattle.program.specs.Arrays.{is_name, IsUnknownArray}
 use Rattle.program.specs.InstanceFields.{static_kinds}
 use Rattle.program.specs.Tables.{Tables, statics_in}
-use Rattle.machine.proofs.ListLemmas.{both_true}
 use Rattle.region_shape.specs.Counts.{is_there}
 use Rattle.region_shape.specs.Shapes.{HasObjects, SuitsField}
 use Rattle.region_shape.specs.Texts.{HasText}
@@ -140,7 +139,7 @@ module _ (P : Tables) (has : HasFiles P) where
   type_again (classes.BuiltIn b) has = refl
   type_again (classes.Array a) (inl known) =
       known_again a a.element
-      (both_true (leb a.dimensions 255) (is_name a.dimensions (element_text P.family a.element)) known.1).1
+      (and_parts (leb a.dimensions 255) (is_name a.dimensions (element_text P.family a.element)) known.1).1
   type_again (classes.Array a) (inr unknown) = unknown_again a unknown
 
   -- ---- regions
