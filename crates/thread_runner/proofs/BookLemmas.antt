@@ -1,30 +1,34 @@
--- A book grows by the steps of a commit.
-use Rattle.std.proofs.Common.{◌≡◌, ◌≢◌, ℕ, zero, suc, ◌+◌, ◌<◌, ◌≤◌, ◌++◌, List, [], ◌∷◌, Option, Some, None, refl, sym}
-use Rattle.std.proofs.Common.{ap, subst, ◌∙◌, arith, slice_get, slice_set, replicate, length, length-append}
-use Rattle.std.proofs.Common.{option_and_then, Bool, Ok, Err}
+-- A history grows by the steps of a commit.
+use Rattle.std.proofs.Common.{◌≡◌, ◌≢◌, ℕ, zero, suc, ◌+◌, ◌<◌, ◌≤◌, ◌++◌, List, [], ◌∷◌, Option, Some, None, refl}
+use Rattle.std.proofs.Common.{sym, ap, subst, ◌∙◌, arith, slice_get, replicate, length, length-append}
+use Rattle.std.proofs.Common.{option_and_then, append-nil, inl, inr, Bool, Ok, Err}
 use Rattle.std.specs.Prelude.{IfOk}
 use Rattle.std.specs.declared.result.Result.{Result}
 use Rattle.std.proofs.lemmas.List.{length-replicate}
 use Rattle.vm_state.specs.declared.frame.Frame.{Frame}
 use Rattle.vm_state.specs.declared.initialization.Frames.{Frames}
 use Rattle.vm_state.specs.declared.initialization.Level.{Level}
-use Rattle.vm_state.specs.Stacks.{segment_of, levels_of}
+use Rattle.vm_state.specs.declared.text.Line.{Line}
+use Rattle.vm_state.specs.Shares.{shared_of}
 use Rattle.semantics.specs.Steps.{Thread, Going, Ended}
-use Rattle.semantics.specs.Worlds.{World, Run, step}
+use Rattle.semantics.specs.Worlds.{World, Run}
 use Rattle.semantics.proofs.RunsLemmas.{runs_join_lem, run_more}
 use Rattle.program.specs.Tables.{Tables}
 use Rattle.machine.specs.Effects.{going}
 use Rattle.machine.specs.Linked.{program_of}
 use Rattle.init_engine.specs.Schedules.{schedule_of, AreRuns}
-use Rattle.init_engine.specs.Stacks.{AreFrames, IsStackOf, with_thread}
-use Rattle.init_engine.specs.Turns.{Goes, IsTurn}
+use Rattle.init_engine.specs.Stacks.{IsStackOf, with_thread}
+use Rattle.init_engine.specs.Standing.{Standing}
+use Rattle.init_engine.specs.Turns.{Goes, IsTurn, Prints, world_of}
 use Rattle.init_engine.specs.declared.world.Turn.{Turn}
 use Rattle.init_engine.specs.declared.world.Turn.TheVariants as turns
-use Rattle.thread_runner.specs.Local.{AreDone, local_steps, local_step}
+use Rattle.thread_runner.specs.Local.{local_steps, local_step}
 use Rattle.thread_runner.specs.Stretches.{IsLocalRun, Reach}
-use Rattle.thread_runner.specs.Kept.{IsKept, Pages, steps_of}
-use Rattle.thread_runner.specs.Commits.{Fits, after, reached}
-use Rattle.thread_runner.specs.steps.Advances.{IsFar, there}
+use Rattle.thread_runner.specs.Kept.{Grows, IsKept, Past, steps_of}
+use Rattle.thread_runner.specs.Commits.{Fits, IsCommit, IsSettled, MovedTo, after, there}
+use Rattle.thread_runner.specs.declared.history.Commit.{Commit}
+use Rattle.thread_runner.specs.declared.history.Commit.TheVariants as commits
+use Rattle.thread_runner.specs.steps.Advances.{answered, counted}
 use Rattle.thread_runner.proofs.LocalLemmas.{set_twice, set_same, get_set, local_run, replicate-more}
 
 abbrev with_threads : World → List Thread → World
@@ -62,10 +66,10 @@ has_gone P w t s fits run some =
     (stands_so P s.done s.count (slice_get w.threads t) s.from (going s.to) fits.0.1 some run)
 
 -- where its frames are, a stretch leads to the world after it
-reached_by : (P : Tables) (w : World) (t : ℕ) (s : Reach) (n : ℕ) → s.count ≡ n → Fits w t s → IsLocalRun P s
-    → Run (program_of P) w (replicate n t) (reached w t s n)
-reached_by P w t s zero is fits run = refl
-reached_by P w t s (suc n) is fits run =
+led_by : (P : Tables) (w : World) (t : ℕ) (s : Reach) (n : ℕ) → s.count ≡ n → Fits w t s → IsLocalRun P s
+    → Run (program_of P) w (replicate n t) (there w t s.to n)
+led_by P w t s zero is fits run = refl
+led_by P w t s (suc n) is fits run =
     let some : 0 < s.count = omega (arith, is) in
     let at = stands_so P s.done s.count (slice_get w.threads t) s.from (going s.to) fits.0.1 some run in
     local_run P s.done w fits.1 t (going s.from) at (suc n) (going s.to)
@@ -73,28 +77,7 @@ reached_by P w t s (suc n) is fits run =
 
 pub led_there : (P : Tables) (w : World) (t : ℕ) (s : Reach) → Fits w t s → IsLocalRun P s
     → Run (program_of P) w (replicate s.count t) (after w t s)
-led_there P w t s fits run = reached_by P w t s s.count refl fits run
-
--- what is kept, after n more steps of t
-pub keeps : (P : Tables) (start : World) (b : Pages) (w : World) (j : List (ℕ × ℕ)) (n t : ℕ) → IsKept P start b
-    → Run (program_of P) b.world (replicate n t) w → schedule_of j ≡ schedule_of b.journal ++ replicate n t
-    → AreRuns j → steps_of b < b.limit → n ≤ 1024
-    → IsKept P start (record { world = w; journal = j; limit = b.limit; sent = b.sent })
-keeps P start b w j n t kept runs is apart below short = record {
-  runs = subst (λ s. Run (program_of P) start s w) (sym is)
-      (runs_join_lem (program_of P) start b.world w (schedule_of b.journal) (replicate n t) kept.runs runs);
-  apart = apart;
-  room = omega (
-    arith,
-    ap length is,
-    length-append (schedule_of b.journal)
-        (replicate n t),
-    length-replicate n t,
-    below,
-    short,
-  );
-  limit = kept.limit;
-}
+led_there P w t s fits run = led_by P w t s s.count refl fits run
 
 -- ---- what advance does
 
@@ -103,18 +86,20 @@ gone None h = absurd h
 gone (Some (Going fs ls)) h = (fs, ls, refl)
 gone (Some (Ended end)) h = absurd h
 
-pub far_here : (P : Tables) (w v : World) (t : ℕ) (to : Frames) (count : ℕ) (turn : Turn) → count ≡ 0
-    → IsTurn (program_of P) w t turn v → IsFar P w t to count turn v
+far_here : (P : Tables) (w v : World) (t : ℕ) (to : Frames) (count : ℕ) (turn : Turn) → count ≡ 0
+    → IsTurn (program_of P) w t turn v → IsTurn (program_of P) (there w t to count) t turn v
 far_here P w v t to zero turn is h = h
 far_here P w v t to (suc n) turn is h = absurd (omega (arith, is))
 
 pub far_here_if : {E : Type 0} (P : Tables) (w v : World) (t : ℕ) (to : Frames) (count : ℕ) (r : Result Turn E)
-    → count ≡ 0 → IfOk r (λ turn. IsTurn (program_of P) w t turn v) → IfOk r (λ turn. IsFar P w t to count turn v)
+    → count ≡ 0 → IfOk r (λ turn. IsTurn (program_of P) w t turn v)
+    → IfOk r (λ turn. IsTurn (program_of P) (there w t to count) t turn v)
 far_here_if P w v t to count (Ok turn) is h = far_here P w v t to count turn is h
 far_here_if P w v t to count (Err e) is h = tt
 
 pub far_there : (P : Tables) (w m v : World) (t : ℕ) (to : Frames) (count : ℕ) (turn : Turn) → 0 < count
-    → m ≡ with_thread w t (going to) → IsTurn (program_of P) m t turn v → IsFar P w t to count turn v
+    → m ≡ with_thread w t (going to) → IsTurn (program_of P) m t turn v
+    → IsTurn (program_of P) (there w t to count) t turn v
 far_there P w m v t to zero turn some is h = absurd (omega (arith, some))
 far_there P w m v t to (suc n) turn some is h = subst (λ x. IsTurn (program_of P) x t turn v) is h
 
@@ -129,30 +114,99 @@ pub stands_there : (w m n : World) (t : ℕ) (a b : Thread) → slice_get w.thre
 stands_there w m n t a b at there same =
     ap (λ (x : World). slice_get x.threads t) (same ∙ there) ∙ get_set w.threads t a b at
 
+-- ---- what was printed
+
+pub printed_same : (a b : Standing) → world_of a ≡ world_of b → a.printed ≡ b.printed
+unfolding shared_of
+printed_same a b h = ap (λ (w : World). w.shared.printed) h
+
+pub grows_none : (old new : List Line) → new ≡ old → Grows old new
+grows_none old new same = ([], same ∙ sym (append-nil old))
+
+pub grows_by : (turn : Turn) (old new : List Line) → Prints turn old new → Grows old new
+grows_by turns.Moved old new (inl same) = grows_none old new same
+grows_by turns.Moved old new (inr (line, more)) = (line ∷ [], more)
+grows_by turns.Waiting old new same = grows_none old new same
+grows_by turns.Ended old new same = grows_none old new same
+
 -- ---- what a commit does
 
--- the world where advance took its turn is the one after the stretch
-pub there_after : (w : World) (t : ℕ) (s : Reach) (n : ℕ) → there w t s.to n ≡ reached w t s n
-there_after w t s zero = refl
-there_after w t s (suc n) = refl
+-- what is kept, after n more steps of t
+pub keeps : (P : Tables) (start : World) (h : Past) (v : Standing) (j : List (ℕ × ℕ)) (n t : ℕ) → IsKept P start h
+    → Run (program_of P) (world_of h.world) (replicate n t) (world_of v)
+    → schedule_of j ≡ schedule_of h.journal ++ replicate n t → AreRuns j → steps_of h < h.limit → n ≤ 1024
+    → IsKept P start (record { world = v; journal = j; limit = h.limit })
+keeps P start h v j n t kept runs is apart below short = record {
+  runs = subst (λ s. Run (program_of P) start s (world_of v)) (sym is)
+      (runs_join_lem (program_of P) start (world_of h.world) (world_of v) (schedule_of h.journal) (replicate n t)
+      kept.runs runs);
+  apart = apart;
+  room = omega (
+    arith,
+    ap length is,
+    length-append (schedule_of h.journal)
+        (replicate n t),
+    length-replicate n t,
+    below,
+    short,
+  );
+  limit = kept.limit;
+}
 
-pub turn_run : (P : Tables) (w v : World) (t : ℕ) (s : Reach) (turn : Turn) (more : ℕ) → Fits w t s → IsLocalRun P s
-    → IsFar P w t s.to s.count turn v → (turn ≡ turns.Moved → more ≡ s.count + 1)
-    → (turn ≢ turns.Moved → more ≡ s.count)
-    → Run (program_of P) w (replicate more t) v
-turn_run P w v t s turns.Moved more fits run far moved stood =
-    let h : more ≡ s.count + 1 = moved refl in
-    let k : suc s.count ≡ more = omega (arith, h) in
-    let e : replicate s.count t ++ t ∷ [] ≡ replicate more t =
-    replicate-more s.count t ∙ ap (λ i. replicate i t) k in
-    subst (λ x. Run (program_of P) w x v) e
-    (run_more (program_of P) w (after w t s) v (replicate s.count t) t (led_there P w t s fits run)
-    (ap (λ (x : World). step (program_of P) x t) (sym (there_after w t s s.count)) ∙ far))
-turn_run P w v t s turns.Waiting more fits run far moved stood =
-    subst (λ k. Run (program_of P) w (replicate k t) v) (sym (stood (λ e. cc)))
-    (subst (λ x. Run (program_of P) w (replicate s.count t) x) (sym (far.2 ∙ there_after w t s s.count))
-    (led_there P w t s fits run))
-turn_run P w v t s turns.Ended more fits run far moved stood =
-    subst (λ k. Run (program_of P) w (replicate k t) v) (sym (stood (λ e. cc)))
-    (subst (λ x. Run (program_of P) w (replicate s.count t) x) (sym (far.2 ∙ there_after w t s s.count))
-    (led_there P w t s fits run))
+-- after a turn behind n steps there were so many
+pub turn_run : (P : Tables) (w there v : World) (t n : ℕ) (turn : Turn) → Run (program_of P) w (replicate n t) there
+    → IsTurn (program_of P) there t turn v → Run (program_of P) w (replicate (counted turn n) t) v
+turn_run P w there v t n turns.Moved led is =
+    let k : suc n ≡ n + 1 = omega arith in
+    subst (λ x. Run (program_of P) w x v) (replicate-more n t ∙ ap (λ i. replicate i t) k)
+    (run_more (program_of P) w there v (replicate n t) t led is)
+turn_run P w there v t n turns.Waiting led is = subst (λ x. Run (program_of P) w (replicate n t) x) (sym is.2) led
+turn_run P w there v t n turns.Ended led is = subst (λ x. Run (program_of P) w (replicate n t) x) (sym is.2) led
+
+pub counted_small : (turn : Turn) (n : ℕ) → n ≤ 1023 → counted turn n ≤ 1024
+counted_small turns.Moved n h = omega (arith, h)
+counted_small turns.Waiting n h = omega (arith, h)
+counted_small turns.Ended n h = omega (arith, h)
+
+pub settled : (P : Tables) (old new : Past) (t n : ℕ) (to : Frames) (turn : Turn)
+    → IsTurn (program_of P) (there (world_of old.world) t to n) t turn (world_of new.world)
+    → schedule_of new.journal ≡ schedule_of old.journal ++ replicate (counted turn n) t
+    → (counted turn n ≡ 0 → new.journal ≡ old.journal) → new.limit ≡ old.limit
+    → IsSettled P old t n (there (world_of old.world) t to n) (answered turn n) new
+settled P old new t n to turns.Moved is grown none limit =
+    subst (λ (o : Option World). MovedTo old t n (there (world_of old.world) t to n) o new) (sym is)
+    (record { world = refl; journal = grown; limit = limit })
+settled P old new t zero to turns.Waiting is grown none limit =
+    (is.0, (refl, is.1, record { world = is.2; journal = none refl; limit = limit }))
+settled P old new t (suc n) to turns.Waiting is grown none limit =
+    subst (λ (o : Option World). MovedTo old t (suc n) (there (world_of old.world) t to (suc n)) o new) (sym is.1)
+    (omega arith, record { world = is.2; journal = grown; limit = limit })
+settled P old new t zero to turns.Ended is grown none limit =
+    (is.0, (refl, is.1, record { world = is.2; journal = none refl; limit = limit }))
+settled P old new t (suc n) to turns.Ended is grown none limit =
+    subst (λ (o : Option World). MovedTo old t (suc n) (there (world_of old.world) t to (suc n)) o new) (sym is.1)
+    (omega arith, record { world = is.2; journal = grown; limit = limit })
+
+pub none_added : (schedule : List ℕ) (t n : ℕ) → n ≡ 0 → schedule ≡ schedule ++ replicate n t
+none_added schedule t zero is = sym (append-nil schedule)
+none_added schedule t (suc n) is = absurd (omega (arith, is))
+
+-- a commit that counts
+counts : (P : Tables) (old : Past) (t : ℕ) (s : Reach) (a : Commit) (new : Past) → steps_of old < old.limit
+    → Fits (world_of old.world) t s → IsSettled P old t s.count (after (world_of old.world) t s) a new
+    → IsCommit P old t s a new
+counts P old t s commits.Full new below fits h = absurd h
+counts P old t s commits.Stale new below fits h = absurd h
+counts P old t s commits.Moved new below fits h = (below, fits, h)
+counts P old t s commits.Waiting new below fits h = (below, fits, h)
+counts P old t s commits.Ended new below fits h = (below, fits, h)
+
+pub counts_if : {E : Type 0} (P : Tables) (old : Past) (t : ℕ) (s : Reach) (to : Frames) (n : ℕ) (r : Result Commit E)
+    (new : Past) → n ≡ s.count → to ≡ s.to → steps_of old < old.limit → Fits (world_of old.world) t s
+    → IfOk r (λ a. IsSettled P old t n (there (world_of old.world) t to n) a new)
+    → IfOk r (λ a. IsCommit P old t s a new)
+counts_if P old t s to n (Ok a) new is at below fits h =
+    counts P old t s a new below fits
+    (subst (λ (f : Frames). IsSettled P old t s.count (there (world_of old.world) t f s.count) a new) at
+    (subst (λ k. IsSettled P old t k (there (world_of old.world) t to k) a new) is h))
+counts_if P old t s to n (Err e) new is at below fits h = tt

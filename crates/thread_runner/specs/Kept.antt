@@ -1,31 +1,44 @@
 -- What a book keeps.
-use Rattle.std.specs.Prelude.{◌≡◌, ℕ, ◌+◌, ◌<◌, ◌≤◌, ◌^◌, ◌++◌, List, [], ◌∷◌, length}
+use Rattle.std.specs.Prelude.{◌≡◌, ℕ, ◌+◌, ◌<◌, ◌≤◌, ◌^◌, ◌++◌, List, length}
 use Rattle.vm_state.specs.declared.text.Line.{Line}
 use Rattle.semantics.specs.Worlds.{World, Run}
 use Rattle.program.specs.Tables.{Tables}
 use Rattle.machine.specs.Linked.{program_of}
 use Rattle.init_engine.specs.Schedules.{schedule_of, AreRuns}
+use Rattle.init_engine.specs.Standing.{Standing}
+use Rattle.init_engine.specs.Turns.{world_of}
+use Rattle.thread_runner.specs.Sendings.{text_of}
 
--- the text that was printed
-abbrev pub text_of : List Line → List ℕ
-text_of [] = []
-text_of (l ∷ ls) = l.text ++ text_of ls
+-- ---- the history of all threads
 
--- a book as contracts see it: the world, the journal by its runs, the limit, and how many bytes of what was printed
--- have gone out
-pub record Pages : Type 0 where
-  pub world : World
+-- a history as contracts see it: the world, the journal by its runs, and the limit of its steps
+pub record Past : Type 0 where
+  pub world : Standing
   pub journal : List (ℕ × ℕ)
   pub limit : ℕ
-  pub sent : ℕ
 
 -- how many steps the journal has
-abbrev pub steps_of : Pages → ℕ
-steps_of b = length (schedule_of b.journal)
+abbrev pub steps_of : Past → ℕ
+steps_of h = length (schedule_of h.journal)
 
 -- the journal's run leads from the start to the world
-pub record IsKept (P : Tables) (start : World) (b : Pages) : Type 0 where
-  pub runs : Run (program_of P) start (schedule_of b.journal) b.world
-  pub apart : AreRuns b.journal
-  pub room : steps_of b < b.limit + 1024
-  pub limit : b.limit ≤ 2 ^ 62
+pub record IsKept (P : Tables) (start : World) (h : Past) : Type 0 where
+  pub runs : Run (program_of P) start (schedule_of h.journal) (world_of h.world)
+  pub apart : AreRuns h.journal
+  pub room : steps_of h < h.limit + 1024
+  pub limit : h.limit ≤ 2 ^ 62
+
+-- lines that were printed, and more
+abbrev pub Grows : List Line → List Line → Type 0
+Grows old new = (lines : List Line) × (new ≡ old ++ lines)
+
+-- ---- a book
+
+-- a book as contracts see it: its history, and how many bytes of what was printed have gone out
+pub record Pages : Type 0 where
+  pub past : Past
+  pub sent : ℕ
+
+-- what was printed in the world of a book
+abbrev pub printed_text : Pages → List ℕ
+printed_text b = text_of b.past.world.printed

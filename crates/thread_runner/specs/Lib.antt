@@ -1,6 +1,9 @@
 pub mod Local
 pub mod Stretches
+pub mod Sendings
 pub mod Kept
+pub mod Origins
 pub mod Replays
 pub mod Commits
+pub mod Answers
 pub mod steps

@@ -1,21 +1,22 @@
 //! Parts of a commit.
 
-ghost use Rattle.std.specs.Prelude.{◌≡◌, ◌≢◌, ◌+◌, ◌<◌, ◌≤◌, true, false, IfOk, OnErr, length, slice_get};
-ghost use Rattle.init_engine.specs.Turns.{Goes};
+ghost use Rattle.std.specs.Prelude.{◌≡◌, ◌+◌, ◌<◌, ◌≤◌, true, false, IfOk, OnErr, length, slice_get};
+ghost use Rattle.machine.specs.Linked.{program_of};
+ghost use Rattle.init_engine.specs.Turns.{Goes, IsTurn, Prints, world_of};
+ghost use Rattle.thread_runner.specs.Commits.{there};
 ghost use Rattle.thread_runner.specs.Local.{AreDone};
-ghost use Rattle.thread_runner.specs.steps.Advances.{IsFar};
+ghost use Rattle.thread_runner.specs.steps.Advances.{counted};
 
 use crate::done_set::DoneSet;
-use crate::stacks::Stacks;
-use init_engine::Turn;
+use init_engine::{Turn, World};
 use program::Program;
 use std::alloc::{AllocError, Global};
 use vm_state::initialization::Frames;
 
 /// Whether the classes of a set are initialized.
-pub fn all_done<W: Stacks>(world: &W, done: &DoneSet) -> bool
-    ensures yes { result ≡ true → AreDone done.now (W.world world.now).shared }
-    ensures no { result ≡ false → ¬ AreDone done.now (W.world world.now).shared }
+pub(crate) fn all_done(world: &World, done: &DoneSet) -> bool
+    ensures yes { result ≡ true → AreDone done.now (world_of world.now).shared }
+    ensures no { result ≡ false → ¬ AreDone done.now (world_of world.now).shared }
 {
     for class in 0..done.len() {
         if done.has(class) && !world.is_initialized(class) {
@@ -30,20 +31,22 @@ pub fn all_done<W: Stacks>(world: &W, done: &DoneSet) -> bool
 ///
 /// # Errors
 /// `AllocError` where memory is refused; the world is as it was.
-pub fn advance<W: Stacks>(
+pub(crate) fn advance(
     alloc: Global,
-    world: &mut W,
+    world: &mut World,
     program: &Program,
     thread: u32,
     to: Frames,
     count: u64,
 ) -> Result<Turn, AllocError>
-    requires thread { thread < length (W.world world.old).threads }
+    requires thread { thread < length world.old.threads }
     requires number { to.thread ≡ thread }
-    requires going { 0 < count → Goes (slice_get (W.world world.old).threads thread) }
-    ensures far { IfOk result (λ turn. IsFar program.now (W.world world.old) thread to count turn (W.world world.new)) }
-    ensures threads { length (W.world world.new).threads ≡ length (W.world world.old).threads }
-    ensures memory { OnErr result (W.world world.new ≡ W.world world.old) }
+    requires going { 0 < count → Goes (slice_get (world_of world.old).threads thread) }
+    ensures far { IfOk result (λ turn. IsTurn (program_of program.now)
+        (there (world_of world.old) thread to count) thread turn (world_of world.new)) }
+    ensures threads { length world.new.threads ≡ length world.old.threads }
+    ensures prints { IfOk result (λ turn. Prints turn world.old.printed world.new.printed) }
+    ensures memory { OnErr result (world_of world.new ≡ world_of world.old) }
 {
     if count == 0 {
         return world.step(alloc, program, thread);
@@ -59,11 +62,10 @@ pub fn advance<W: Stacks>(
     }
 }
 
-/// How many steps were counted, of so many of a stretch.
-pub fn counted(turn: Turn, count: u64) -> u64
+/// How many steps there were, with so many of a stretch before a turn.
+pub(crate) fn counted(turn: Turn, count: u64) -> u64
     requires { count ≤ 1023 }
-    ensures moved { turn ≡ Turn.Moved → result ≡ count + 1 }
-    ensures stood { turn ≢ Turn.Moved → result ≡ count }
+    ensures { result ≡ counted turn count }
 {
     match turn {
         Turn::Moved => count + 1,

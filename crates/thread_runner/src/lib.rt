@@ -1,13 +1,28 @@
 //! Threads that run together: local instructions outside the lock, a book of one history, and its replay.
 #![tactic(auto)]
 
-pub mod advance;
+mod advance;
+mod answer;
+mod book;
+mod desk;
 pub mod done_set;
+mod gate;
+mod history;
 pub mod laws;
 mod local_end;
 mod local_step;
 pub mod origin;
 pub mod replay;
+mod run;
 pub mod running;
-pub mod stacks;
+mod sending;
 pub mod stretch;
+mod worker;
+
+pub use answer::{Ended, RunFault};
+pub use book::Book;
+pub use gate::{Gate, Open};
+pub use history::Commit;
+pub use journal::Journal;
+pub use run::run_threads;
+pub use sinks::{Out, Sink, SinkFault};

@@ -1,5 +1,7 @@
 //! Which program and start a book is of.
 
+use std::marker::Brand;
+
 /// Which program a book is of, and the world that it starts from. Each call of a program picks them.
 pub trait Origin {
     ghost use Rattle.program.specs.Tables.{Tables};
@@ -8,4 +10,12 @@ pub trait Origin {
     ghost program: { Tables };
 
     ghost start: { World };
+}
+
+impl Origin for Brand {
+    ghost use Rattle.thread_runner.specs.Origins.{no_classes, no_threads};
+
+    ghost program = { no_classes };
+
+    ghost start = { no_threads };
 }

@@ -1,4 +1,4 @@
-use Rattle.std.proofs.Common.{◌≡◌, Some, Ok, Err, refl, rules, sym}
+use Rattle.std.proofs.Common.{◌≡◌, Some, Ok, Err, refl, rules}
 use Rattle.std.specs.declared.result.Result.{Result}
 use Rattle.frame_instructions.specs.declared.trap.Trap.{Trap}
 use Rattle.frame_instructions.specs.Instructions.{after}

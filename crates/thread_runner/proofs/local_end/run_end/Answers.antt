@@ -1,4 +1,4 @@
-use Rattle.std.proofs.Common.{◌≡◌, Some, ap, sym, ◌∙◌, rules}
+use Rattle.std.proofs.Common.{◌≡◌, Some, ap, ◌∙◌, rules}
 use Rattle.hierarchy.specs.declared.member.Method.TheVariants.{Given}
 use Rattle.machine.specs.declared.call_operation.Choice.TheVariants.{Found}
 use Rattle.machine.specs.Accesses.{concluded}

@@ -1,0 +1,30 @@
+use Rattle.std.proofs.Common.{◌<◌, sym, subst, replicate}
+use Rattle.vm_state.specs.declared.initialization.Frames.{Frames}
+use Rattle.semantics.specs.Worlds.{Run}
+use Rattle.machine.specs.Linked.{program_of}
+use Rattle.init_engine.specs.Turns.{world_of}
+use Rattle.thread_runner.specs.Commits.{there}
+use Rattle.thread_runner.proofs.BookLemmas.{counts_if, has_gone, led_there}
+use Rattle.thread_runner.proofs.history.History.commit.Goals as goal
+
+pub settle-requires-clause-going : goal.settle-requires-clause-going
+settle-requires-clause-going g c = λ some.
+    has_gone g.O.Origin.program (world_of c.args.self.now.world) c.args.thread c.args.stretch
+    (c.fits.ensures.yes c.if-not-fits.false) c.into_end.ensures.run
+    (subst (λ k. 0 < k) c.count-count.ensures.is some)
+
+pub settle-requires-clause-led : goal.settle-requires-clause-led
+settle-requires-clause-led g c =
+    let P = g.O.Origin.program in
+    let w = world_of c.args.self.now.world in
+    let t = c.args.thread in
+    subst (λ (f : Frames). Run (program_of P) w (replicate c.count-count.result t)
+    (there w t f c.count-count.result)) (sym c.into_end.ensures.is)
+    (subst (λ k. Run (program_of P) w (replicate k t) (there w t c.args.stretch.to k)) (sym c.count-count.ensures.is)
+    (led_there P w t c.args.stretch (c.fits.ensures.yes c.if-not-fits.false) c.into_end.ensures.run))
+
+pub returns-clause-answer : goal.returns-clause-answer
+returns-clause-answer g c =
+    counts_if g.O.Origin.program c.args.self.now c.args.thread c.args.stretch c.into_end.result c.count-count.result
+    c.settle.result c.settle.new.self c.count-count.ensures.is c.into_end.ensures.is
+    (c.is_full.ensures.no c.if-is_full.false) (c.fits.ensures.yes c.if-not-fits.false) c.settle.ensures.answer

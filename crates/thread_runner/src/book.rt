@@ -1,0 +1,175 @@
+//! One history of all threads, and how much of what was printed has gone out.
+
+ghost use Rattle.std.specs.Prelude.{◌≡◌, ◌≢◌, ◌+◌, ◌<◌, ◌≤◌, ◌^◌, ℕ, [], true, false, IfOk, OnOk, OnErr, length};
+ghost use Rattle.vm_state.specs.declared.classes.ClassState.TheVariants.{Initialized};
+ghost use Rattle.init_engine.specs.Schedules.{AreRuns};
+ghost use Rattle.init_engine.specs.Stacks.{AreFrames};
+ghost use Rattle.init_engine.specs.Turns.{world_of};
+ghost use Rattle.thread_runner.specs.Commits.{IsCommit, Same};
+ghost use Rattle.thread_runner.specs.Kept.{Grows, IsKept, printed_text, steps_of};
+ghost use Rattle.thread_runner.specs.Local.{AreDone, is_done};
+ghost use Rattle.thread_runner.specs.Sendings.{SendsOn};
+
+use crate::done_set::DoneSet;
+use crate::history::{Commit, History};
+use crate::origin::Origin;
+use crate::sending::{send_lines, text_length};
+use crate::stretch::Stretch;
+use init_engine::World;
+use program::Program;
+use sinks::{Sink, SinkFault};
+use std::alloc::{AllocError, Global};
+use std::marker::Model;
+use vm_state::initialization::Frames;
+
+/// A world, the journal that leads to it from the start, and how much of what was printed has gone out.
+#[derive(Drop)]
+pub struct Book<O: Origin> {
+    history: History<O>,
+    /// So many lines have gone out, and so many bytes of the next.
+    lines: usize,
+    bytes: usize,
+}
+
+impl<O: Origin> Model for Book<O> {
+    ghost use Rattle.thread_runner.specs.Kept.{Pages};
+    ghost use Rattle.thread_runner.specs.Sendings.{IsPlace, sent_of};
+
+    ghost Value = { Pages };
+
+    ghost view = { λ b. record { past = b.history; sent = sent_of b.history.world.printed b.lines b.bytes } };
+
+    ghost invariant = { λ b. IsPlace b.history.world.printed b.lines b.bytes };
+}
+
+impl<O: Origin> Book<O> {
+    /// A book of a world that is the start, with an empty journal, of which nothing has gone out. It takes no memory.
+    pub fn new(alloc: Global, world: World, limit: u64) -> Book<O>
+        requires start { world_of world ≡ O.start }
+        requires limit { limit ≤ 2 ^ 62 }
+        ensures past { result.past ≡ record { world = world; journal = []; limit = limit } }
+        ensures sent { result.sent ≡ 0 }
+    {
+        Book {
+            history: History::new(alloc, world, limit),
+            lines: 0,
+            bytes: 0,
+        }
+    }
+
+    /// The world that the journal leads to.
+    pub fn world(&self) -> &World
+        ensures is { result.now ≡ self.now.past.world }
+        ensures kept { IsKept O.program O.start self.now.past }
+        ensures sent { self.now.sent ≤ length (printed_text self.now) }
+    {
+        self.history.world()
+    }
+
+    /// The journal by its runs.
+    pub fn journal(&self) -> &[(u32, u64)]
+        ensures is { result.now ≡ self.now.past.journal }
+        ensures runs { AreRuns result.now }
+    {
+        self.history.journal()
+    }
+
+    /// Whether the journal has as many steps as it may.
+    pub fn is_full(&self) -> bool
+        ensures yes { result ≡ true → self.now.past.limit ≤ steps_of self.now.past }
+        ensures no { result ≡ false → steps_of self.now.past < self.now.past.limit }
+    {
+        self.history.is_full()
+    }
+
+    /// The frames of a thread; none where it has ended.
+    ///
+    /// # Errors
+    /// `AllocError` where memory is refused.
+    pub fn frames(&self, alloc: Global, thread: u32) -> Result<Frames, AllocError>
+        requires { thread < length self.now.past.world.threads }
+        ensures { IfOk result (λ s. AreFrames (world_of self.now.past.world) thread s) }
+    {
+        self.history.world().frames(alloc, thread)
+    }
+
+    /// The given classes of a program that are initialized.
+    ///
+    /// # Errors
+    /// `AllocError` where memory is refused.
+    pub fn done(&self, alloc: Global, program: &Program) -> Result<DoneSet, AllocError>
+        ensures sound { IfOk result (λ done. AreDone done (world_of self.now.past.world).shared) }
+        ensures whole { IfOk result (λ done. (class : ℕ) → class < length program.now.classes
+            → (world_of self.now.past.world).shared.states class ≡ Initialized → is_done done class ≡ true) }
+    {
+        initialized_in(alloc, self.history.world(), program.given_count())
+    }
+
+    /// The steps of a stretch, and one more where there is one.
+    ///
+    /// # Errors
+    /// `AllocError` where memory is refused; nothing has changed then.
+    pub fn commit(
+        &mut self,
+        alloc: Global,
+        program: &Program,
+        thread: u32,
+        stretch: Stretch<O>,
+    ) -> Result<Commit, AllocError>
+        requires program { program.now ≡ O.program }
+        requires thread { thread < length self.old.past.world.threads }
+        ensures answer { IfOk result (λ a. IsCommit O.program self.old.past thread stretch a self.new.past) }
+        ensures sent { self.new.sent ≡ self.old.sent }
+        ensures within { self.old.sent ≤ length (printed_text self.old) }
+        ensures grows { Grows self.old.past.world.printed self.new.past.world.printed }
+        ensures threads { length self.new.past.world.threads ≡ length self.old.past.world.threads }
+        ensures limit { self.new.past.limit ≡ self.old.past.limit }
+        ensures memory { OnErr result (Same self.old.past self.new.past) }
+    {
+        self.history.commit(alloc, program, thread, stretch)
+    }
+
+    /// How many bytes of what was printed have gone out.
+    pub fn sent(&self) -> u128
+        ensures is { result ≡ self.now.sent }
+        ensures within { self.now.sent ≤ length (printed_text self.now) }
+    {
+        text_length(self.history.world().printed(), self.lines) + self.bytes as u128
+    }
+
+    /// Sends what was printed and has not gone out.
+    ///
+    /// # Errors
+    /// `SinkFault` where the sink failed; what went out before counts as sent.
+    pub fn send<S: Sink>(&mut self, sink: &mut S) -> Result<(), SinkFault>
+        ensures past { self.new.past ≡ self.old.past }
+        ensures sends { SendsOn (printed_text self.old) self.old.sent self.new.sent (S.got sink.old) (S.got sink.new) }
+        ensures all { OnOk result (self.new.sent ≡ length (printed_text self.old)) }
+        ensures failed { OnErr result (S.failures sink.new ≢ S.failures sink.old) }
+        ensures well { OnOk result (S.failures sink.new ≡ S.failures sink.old) }
+    {
+        let (lines, bytes, whole) = send_lines(
+            self.history.world().printed(),
+            self.lines,
+            self.bytes,
+            sink,
+        );
+        self.lines = lines;
+        self.bytes = bytes;
+        if whole { Ok(()) } else { Err(SinkFault) }
+    }
+}
+
+/// Those of the first classes that are initialized in a world.
+fn initialized_in(alloc: Global, world: &World, count: u32) -> Result<DoneSet, AllocError>
+    requires { count ≤ 65535 }
+    ensures sound { IfOk result (λ done. AreDone done (world_of world.now).shared) }
+    ensures whole { IfOk result (λ done. (class : ℕ) → class < count
+        → (world_of world.now).shared.states class ≡ Initialized → is_done done class ≡ true) }
+{
+    let mut marks = Vec::new(alloc);
+    for class in 0..count {
+        marks.push(world.is_initialized(class))?;
+    }
+    Ok(DoneSet::of_marks(marks))
+}

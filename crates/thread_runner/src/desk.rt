@@ -1,0 +1,324 @@
+//! What lies under the lock of a run of threads.
+
+ghost use Rattle.std.specs.Prelude.{◌≡◌, ◌≢◌, ◌<◌, ◌++◌, ℕ, List, Some, true, false, IfSome, IfOk, length, take};
+ghost use Rattle.std.proofs.Props.{props};
+ghost use Rattle.semantics.specs.Worlds.{seen};
+ghost use Rattle.init_engine.specs.Observations.{IsObservation};
+ghost use Rattle.init_engine.specs.Turns.{world_of};
+ghost use Rattle.thread_runner.specs.Answers.{IsAnswer};
+ghost use Rattle.thread_runner.specs.Kept.{printed_text};
+ghost use Rattle.thread_runner.specs.steps.Verdicts.{IsVerdict};
+
+use crate::answer::{Ended, RunFault};
+use crate::book::Book;
+use crate::done_set::DoneSet;
+use crate::history::Commit;
+use crate::origin::Origin;
+use crate::stretch::Stretch;
+use init_engine::{Rest, World};
+use journal::Journal;
+use program::Program;
+use sinks::{Sink, SinkFault};
+use std::alloc::{AllocError, Global};
+use std::marker::Brand;
+use vm_state::initialization::Frames;
+
+/// What the sink of a run had got before, how often it had failed, and the limit of steps. Each call of a run picks
+/// them.
+pub trait Session: Origin {
+    ghost use Rattle.std.specs.Prelude.{ℕ, List, Option};
+
+    ghost before: { Option (List ℕ) };
+
+    ghost failed: { ℕ };
+
+    ghost limit: { ℕ };
+}
+
+impl Session for Brand {
+    ghost use Rattle.std.specs.Prelude.{None};
+
+    ghost before = { None };
+
+    ghost failed = { 0 };
+
+    ghost limit = { 0 };
+}
+
+/// What a thread does next.
+#[derive(Clone, Copy)]
+pub(crate) enum Next {
+    /// It goes on: it has moved.
+    Moved,
+    /// It begins anew: its stretch did not count.
+    Again,
+    /// It waits until another thread has moved.
+    Sleep,
+    /// It ends.
+    Leave,
+}
+
+/// What a thread takes along from under the lock.
+#[derive(Drop)]
+pub(crate) struct Front {
+    pub frames: Frames,
+    pub done: DoneSet,
+}
+
+/// The book, the sink that got the first bytes of what was printed, and how the run stands.
+#[derive(Drop)]
+pub(crate) struct Desk<O: Session, S: Sink> {
+    book: Book<O>,
+    sink: S,
+    moves: u64,
+    over: bool,
+    memory: bool,
+    failed: bool,
+    ghost sent: { (bs : List ℕ) → O.before ≡ Some bs
+        → S.got sink ≡ Some (bs ++ take book.sent (printed_text book)) } by { Prim.hlevel props },
+    ghost threads: { length book.past.world.threads ≡ length O.start.threads },
+    ghost limit_is: { book.past.limit ≡ O.limit },
+    ghost well: { failed ≡ false → S.failures sink ≡ O.failed },
+    ghost fault: { failed ≡ true → S.failures sink ≢ O.failed },
+}
+
+impl<O: Session, S: Sink> Desk<O, S> {
+    /// Before the first step.
+    pub(crate) fn new(book: Book<O>, sink: S) -> Desk<O, S>
+        requires world { world_of book.past.world ≡ O.start }
+        requires limit { book.past.limit ≡ O.limit }
+        requires sent { book.sent ≡ 0 }
+        requires before { S.got sink ≡ O.before }
+        requires failed { S.failures sink ≡ O.failed }
+    {
+        Desk {
+            book,
+            sink,
+            moves: 0,
+            over: false,
+            memory: false,
+            failed: false,
+        }
+    }
+
+    /// How many commits have moved a thread, modulo 2^64.
+    pub(crate) fn moves(&self) -> u64 {
+        self.moves
+    }
+
+    /// Whether the run goes on and no commit has moved a thread since there were so many.
+    pub(crate) fn is_same(&self, moves: u64) -> bool {
+        !self.over && self.moves == moves
+    }
+
+    /// Ends the run.
+    pub(crate) fn end(&mut self) {
+        self.over = true;
+    }
+
+    /// Ends the run for want of memory.
+    pub(crate) fn end_for_memory(&mut self) {
+        self.memory = true;
+        self.over = true;
+    }
+
+    /// The frames of a thread and the classes that are initialized, while the run goes on.
+    pub(crate) fn look(&mut self, alloc: Global, program: &Program, thread: u32) -> Option<Front>
+        requires { thread < length O.start.threads }
+    {
+        if self.over {
+            return None;
+        }
+        match front_of(alloc, program, &self.book, thread) {
+            Ok(front) => Some(front),
+            Err(_) => {
+                self.end_for_memory();
+                None
+            }
+        }
+    }
+
+    /// A commit, and what it printed into the sink.
+    pub(crate) fn turn(
+        &mut self,
+        alloc: Global,
+        program: &Program,
+        thread: u32,
+        stretch: Stretch<O>,
+    ) -> Next
+        requires program { program.now ≡ O.program }
+        requires thread { thread < length O.start.threads }
+    {
+        if self.over || self.failed {
+            return Next::Leave;
+        }
+        match self.book.commit(alloc, program, thread, stretch) {
+            Ok(answer) => self.follow(program, answer),
+            Err(_) => {
+                self.end_for_memory();
+                Next::Leave
+            }
+        }
+    }
+
+    /// What a thread does after a commit.
+    fn follow(&mut self, program: &Program, answer: Commit) -> Next
+        requires { self.old.failed ≡ false }
+    {
+        match answer {
+            Commit::Full => {
+                self.end();
+                Next::Leave
+            }
+            Commit::Stale => Next::Again,
+            Commit::Moved => {
+                self.moves = self.moves.wrapping_add(1);
+                if self.send() {
+                    Next::Moved
+                } else {
+                    Next::Leave
+                }
+            }
+            Commit::Waiting => {
+                self.end_if_stuck(program);
+                if self.over { Next::Leave } else { Next::Sleep }
+            }
+            Commit::Ended => {
+                self.end_if_stuck(program);
+                Next::Leave
+            }
+        }
+    }
+
+    /// Sends what was printed, and answers whether it went out; else the run is over.
+    fn send(&mut self) -> bool
+        requires { self.old.failed ≡ false }
+        ensures book { self.new.book.past ≡ self.old.book.past }
+        ensures all { result ≡ true → self.new.book.sent ≡ length (printed_text self.new.book) }
+        ensures well { result ≡ true → self.new.failed ≡ false }
+        ensures failed { result ≡ false → self.new.failed ≡ true }
+    {
+        match self.book.send(&mut self.sink) {
+            Ok(()) => true,
+            Err(SinkFault) => {
+                self.failed = true;
+                self.over = true;
+                false
+            }
+        }
+    }
+
+    /// Ends the run where no thread has a step.
+    fn end_if_stuck(&mut self, program: &Program) {
+        if self.book.world().stuck(program) {
+            self.over = true;
+        }
+    }
+
+    /// What a run answers once its threads were joined, or none where it goes on.
+    pub(crate) fn judge(
+        &mut self,
+        alloc: Global,
+        program: &Program,
+        started: bool,
+    ) -> Option<Result<Ended, RunFault>>
+        requires { program.now ≡ O.program }
+        ensures { IfSome result (λ r. IsAnswer O.program O.start O.limit r O.before (S.got self.new.sink) O.failed
+            (S.failures self.new.sink)) }
+    {
+        let _world = self.book.world();
+        if self.failed {
+            return Some(Err(RunFault::Device(self.book.sent())));
+        }
+        if self.memory {
+            return Some(Err(RunFault::Memory));
+        }
+        if !started {
+            return Some(Err(RunFault::Spawn));
+        }
+        if !self.send() {
+            return Some(Err(RunFault::Device(self.book.sent())));
+        }
+        judge_book(alloc, program, &self.book)
+    }
+
+    /// The sink.
+    pub(crate) fn into_sink(self) -> S
+        ensures { result ≡ self.sink }
+    {
+        let Desk {
+            book: _,
+            sink,
+            moves: _,
+            over: _,
+            memory: _,
+            failed: _,
+        } = self;
+        sink
+    }
+}
+
+/// The frames of a thread, and the classes that are initialized.
+fn front_of<O: Origin>(
+    alloc: Global,
+    program: &Program,
+    book: &Book<O>,
+    thread: u32,
+) -> Result<Front, AllocError>
+    requires { thread < length book.now.past.world.threads }
+{
+    match book.frames(alloc, thread) {
+        Ok(frames) => match book.done(alloc, program) {
+            Ok(done) => Ok(Front { frames, done }),
+            Err(error) => Err(error),
+        },
+        Err(error) => Err(error),
+    }
+}
+
+/// A journal, and what is seen of a world.
+fn end_with(alloc: Global, world: &World, journal: Journal) -> Result<Ended, AllocError>
+    ensures journal { IfOk result (λ e. e.journal ≡ journal) }
+    ensures seen { IfOk result (λ e. IsObservation e.seen (seen (world_of world.now))) }
+{
+    match world.seen(alloc) {
+        Ok(seen) => Ok(Ended { journal, seen }),
+        Err(error) => Err(error),
+    }
+}
+
+/// The journal of a book, and what is seen of its world.
+fn end_of<O: Origin>(alloc: Global, book: &Book<O>) -> Result<Ended, AllocError>
+    ensures journal { IfOk result (λ e. e.journal ≡ book.now.past.journal) }
+    ensures seen { IfOk result (λ e. IsObservation e.seen (seen (world_of book.now.past.world))) }
+{
+    match Vec::from_slice(alloc, book.journal()) {
+        Ok(runs) => end_with(alloc, book.world(), Journal::of(runs)),
+        Err(_) => Err(AllocError),
+    }
+}
+
+/// What a run answers by its book alone, or none where it goes on.
+fn judge_book<O: Origin>(
+    alloc: Global,
+    program: &Program,
+    book: &Book<O>,
+) -> Option<Result<Ended, RunFault>>
+    requires { program.now ≡ O.program }
+    ensures { IfSome result (λ r. IsVerdict O.program O.start book.now.past.limit (world_of book.now.past.world) r) }
+{
+    let Ok(ended) = end_of(alloc, book) else {
+        return Some(Err(RunFault::Memory));
+    };
+    match book.world().rest(program) {
+        Rest::Ended => Some(Ok(ended)),
+        Rest::Stuck => Some(Err(RunFault::Stuck(ended))),
+        Rest::Going => {
+            if book.is_full() {
+                Some(Err(RunFault::Limit(ended)))
+            } else {
+                None
+            }
+        }
+    }
+}

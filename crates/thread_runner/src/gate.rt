@@ -1,0 +1,35 @@
+//! What threads ask before and after each stretch.
+
+/// Asked by each thread before and after each stretch, outside the lock. `who` is the thread, and `job` the number of
+/// its commits so far that answered `Moved`.
+pub trait Gate: Sync {
+    /// Whether a thread may begin its stretch, asked for the `turn`th time, from 0.
+    fn ready(&self, who: u32, job: u64, turn: u32) -> bool;
+
+    /// The stretch is made, and not yet committed.
+    fn done(&self, who: u32, job: u64);
+}
+
+/// Always ready.
+#[derive(Clone, Copy)]
+pub struct Open;
+
+impl Gate for Open {
+    fn ready(&self, _who: u32, _job: u64, _turn: u32) -> bool {
+        true
+    }
+
+    fn done(&self, _who: u32, _job: u64) {}
+}
+
+/// How often a gate is asked at most.
+const TURNS: u32 = 1_000_000;
+
+/// Asks until the gate is ready.
+pub(crate) fn ask<G: Gate>(gate: &G, who: u32, job: u64) {
+    for turn in 0..TURNS {
+        if gate.ready(who, job, turn) {
+            return;
+        }
+    }
+}

@@ -1,0 +1,210 @@
+//! The history of all threads, and the world that it leads to.
+
+ghost use Rattle.std.specs.Prelude.{◌≡◌, ◌+◌, ◌<◌, ◌≤◌, ◌^◌, ◌++◌, [], true, false, IfOk, OnErr, length, replicate};
+ghost use Rattle.std.specs.Prelude.{slice_get, vec_len, vec_capacity};
+ghost use Rattle.semantics.specs.Worlds.{Run};
+ghost use Rattle.machine.specs.Linked.{program_of};
+ghost use Rattle.init_engine.specs.Schedules.{schedule_of, AreRuns};
+ghost use Rattle.init_engine.specs.Turns.{Goes, world_of};
+ghost use Rattle.thread_runner.specs.Commits.{Fits, IsCommit, IsSettled, Same, there};
+ghost use Rattle.thread_runner.specs.Kept.{Grows, IsKept, steps_of};
+ghost use Rattle.thread_runner.specs.steps.Advances.{answered};
+
+use crate::advance::{advance, all_done, counted};
+use crate::origin::Origin;
+use crate::stretch::Stretch;
+use init_engine::{Turn, World};
+use journal::runs::add_steps;
+use program::Program;
+use std::alloc::{AllocError, Global};
+use std::marker::{Model, PhantomData};
+use vm_state::initialization::Frames;
+
+/// What a commit answers.
+#[derive(Clone, Copy, Debug)]
+pub enum Commit {
+    /// The journal has as many steps as it may. Nothing changes.
+    Full,
+    /// The stretch does not begin where its thread is, or takes a class to be initialized that is not. Nothing changes.
+    Stale,
+    /// A step was counted, or more.
+    Moved,
+    /// None was: the thread has no step until another one moves.
+    Waiting,
+    /// None was: the thread has ended.
+    Ended,
+}
+
+/// A world, and the journal that leads to it from the start.
+#[derive(Drop)]
+pub(crate) struct History<O: Origin> {
+    world: World,
+    journal: Vec<(u32, u64)>,
+    steps: u64,
+    limit: u64,
+    of: PhantomData<O>,
+}
+
+impl<O: Origin> Model for History<O> {
+    ghost use Rattle.std.specs.Prelude.{◌≡◌};
+    ghost use Rattle.thread_runner.specs.Kept.{Past, IsKept, steps_of};
+
+    ghost Value = { Past };
+
+    ghost view = { λ h. record { world = h.world; journal = h.journal.items; limit = h.limit } };
+
+    ghost invariant = { λ h.
+        (h.steps ≡ steps_of (record { world = h.world; journal = h.journal.items; limit = h.limit }))
+        × IsKept O.program O.start (record { world = h.world; journal = h.journal.items; limit = h.limit }) };
+}
+
+/// What is answered after so many steps of a stretch and a turn.
+fn answer_of(turn: Turn, count: u64) -> Commit
+    ensures { result ≡ answered turn count }
+{
+    match turn {
+        Turn::Moved => Commit::Moved,
+        Turn::Waiting => match count {
+            0 => Commit::Waiting,
+            _ => Commit::Moved,
+        },
+        Turn::Ended => match count {
+            0 => Commit::Ended,
+            _ => Commit::Moved,
+        },
+    }
+}
+
+/// Adds so many steps of a thread to runs that have room for one more, and nothing where there are none.
+fn add_some(runs: &mut Vec<(u32, u64)>, thread: u32, steps: u64)
+    requires room { vec_len runs.old < vec_capacity runs.old }
+    requires runs { AreRuns runs.old.items }
+    requires fits { length (schedule_of runs.old.items) + steps < 2 ^ 64 }
+    ensures runs { AreRuns runs.new.items }
+    ensures schedule { schedule_of runs.new.items ≡ schedule_of runs.old.items ++ replicate steps thread }
+    ensures none { steps ≡ 0 → runs.new.items ≡ runs.old.items }
+{
+    if steps == 0 {
+        return;
+    }
+    if !add_steps(runs, thread, steps) {
+        unreachable!()
+    }
+}
+
+impl<O: Origin> History<O> {
+    /// The history of a world that is the start, with an empty journal. It takes no memory.
+    pub(crate) fn new(alloc: Global, world: World, limit: u64) -> History<O>
+        requires start { world_of world ≡ O.start }
+        requires limit { limit ≤ 2 ^ 62 }
+        ensures { result ≡ record { world = world; journal = []; limit = limit } }
+    {
+        History {
+            world,
+            journal: Vec::new(alloc),
+            steps: 0,
+            limit,
+            of: PhantomData,
+        }
+    }
+
+    /// The world that the journal leads to.
+    pub(crate) fn world(&self) -> &World
+        ensures is { result.now ≡ self.now.world }
+        ensures kept { IsKept O.program O.start self.now }
+    {
+        &self.world
+    }
+
+    /// The journal by its runs.
+    pub(crate) fn journal(&self) -> &[(u32, u64)]
+        ensures is { result.now ≡ self.now.journal }
+        ensures runs { AreRuns result.now }
+    {
+        self.journal.as_slice()
+    }
+
+    /// Whether the journal has as many steps as it may.
+    pub(crate) fn is_full(&self) -> bool
+        ensures yes { result ≡ true → self.now.limit ≤ steps_of self.now }
+        ensures no { result ≡ false → steps_of self.now < self.now.limit }
+    {
+        self.steps >= self.limit
+    }
+
+    /// Whether a stretch begins where its thread is, and the classes are initialized that it takes to be.
+    fn fits(&self, thread: u32, stretch: &Stretch<O>) -> bool
+        requires { thread < length self.now.world.threads }
+        ensures yes { result ≡ true → Fits (world_of self.now.world) thread stretch.now }
+        ensures no { result ≡ false → ¬ Fits (world_of self.now.world) thread stretch.now }
+    {
+        if !self.world.has_frames(thread, stretch.from()) {
+            return false;
+        }
+        all_done(&self.world, stretch.done())
+    }
+
+    /// Counts so many steps that lead a thread to these frames, and one more where there is one.
+    ///
+    /// # Errors
+    /// `AllocError` where memory is refused; nothing has changed then.
+    fn settle(
+        &mut self,
+        alloc: Global,
+        program: &Program,
+        thread: u32,
+        to: Frames,
+        count: u64,
+    ) -> Result<Commit, AllocError>
+        requires program { program.now ≡ O.program }
+        requires thread { thread < length self.old.world.threads }
+        requires number { to.thread ≡ thread }
+        requires most { count ≤ 1023 }
+        requires below { steps_of self.old < self.old.limit }
+        requires going { 0 < count → Goes (slice_get (world_of self.old.world).threads thread) }
+        requires led { Run (program_of O.program) (world_of self.old.world) (replicate count thread)
+            (there (world_of self.old.world) thread to count) }
+        ensures answer { IfOk result (λ a. IsSettled O.program self.old thread count
+            (there (world_of self.old.world) thread to count) a self.new) }
+        ensures grows { Grows self.old.world.printed self.new.world.printed }
+        ensures threads { length self.new.world.threads ≡ length self.old.world.threads }
+        ensures limit { self.new.limit ≡ self.old.limit }
+        ensures memory { OnErr result (Same self.old self.new) }
+    {
+        self.journal.reserve(1)?;
+        let turn = advance(alloc, &mut self.world, program, thread, to, count)?;
+        let more = counted(turn, count);
+        add_some(&mut self.journal, thread, more);
+        self.steps += more;
+        Ok(answer_of(turn, count))
+    }
+
+    /// The steps of a stretch, and one more where there is one.
+    ///
+    /// # Errors
+    /// `AllocError` where memory is refused; nothing has changed then.
+    pub(crate) fn commit(
+        &mut self,
+        alloc: Global,
+        program: &Program,
+        thread: u32,
+        stretch: Stretch<O>,
+    ) -> Result<Commit, AllocError>
+        requires program { program.now ≡ O.program }
+        requires thread { thread < length self.old.world.threads }
+        ensures answer { IfOk result (λ a. IsCommit O.program self.old thread stretch a self.new) }
+        ensures grows { Grows self.old.world.printed self.new.world.printed }
+        ensures threads { length self.new.world.threads ≡ length self.old.world.threads }
+        ensures limit { self.new.limit ≡ self.old.limit }
+        ensures memory { OnErr result (Same self.old self.new) }
+    {
+        if self.is_full() {
+            return Ok(Commit::Full);
+        }
+        if !self.fits(thread, &stretch) {
+            return Ok(Commit::Stale);
+        }
+        let count = stretch.count();
+        self.settle(alloc, program, thread, stretch.into_end(), count)
+    }
+}

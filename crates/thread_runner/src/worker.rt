@@ -1,0 +1,92 @@
+//! One thread of a run.
+
+ghost use Rattle.std.specs.Prelude.{◌≡◌, ◌<◌, length};
+
+use crate::desk::{Desk, Front, Next, Session};
+use crate::gate::{Gate, ask};
+use crate::running::stretch;
+use crate::stretch::Stretch;
+use program::Program;
+use sinks::Sink;
+use std::alloc::Global;
+use std::sync::{Condvar, Mutex, Wait};
+
+/// Runs one thread to its end, or to that of the run.
+pub(crate) fn work<O: Session, S: Sink, G: Gate, R: Wait>(
+    rt: &R,
+    alloc: Global,
+    program: &Program,
+    desk: &Mutex<Desk<O, S>>,
+    moved: &Condvar,
+    gate: &G,
+    thread: u32,
+)
+    requires program { program.now ≡ O.program }
+    requires thread { thread < length O.start.threads }
+{
+    let mut job = 0u64;
+    for _ in rt.forever() {
+        let Some(front) = look(rt, alloc, program, desk, thread) else {
+            moved.notify_all();
+            return;
+        };
+        ask(gate, thread, job);
+        let made = stretch::<O>(alloc, program, front.frames, front.done);
+        gate.done(thread, job);
+        let Ok(made) = made else {
+            desk.lock(rt).end_for_memory();
+            moved.notify_all();
+            return;
+        };
+        match settle(rt, alloc, program, desk, moved, thread, made) {
+            Next::Moved => job = job.wrapping_add(1),
+            Next::Leave => return,
+            Next::Again => {}
+            Next::Sleep => {}
+        }
+    }
+}
+
+/// What a thread takes along from under the lock, while the run goes on.
+fn look<O: Session, S: Sink, R: Wait>(
+    rt: &R,
+    alloc: Global,
+    program: &Program,
+    desk: &Mutex<Desk<O, S>>,
+    thread: u32,
+) -> Option<Front>
+    requires { thread < length O.start.threads }
+{
+    desk.lock(rt).look(alloc, program, thread)
+}
+
+/// Commits a stretch. A thread that waits sleeps until another one has moved or the run is over, and whoever moves or
+/// ends it wakes all.
+fn settle<O: Session, S: Sink, R: Wait>(
+    rt: &R,
+    alloc: Global,
+    program: &Program,
+    desk: &Mutex<Desk<O, S>>,
+    moved: &Condvar,
+    thread: u32,
+    made: Stretch<O>,
+) -> Next
+    requires program { program.now ≡ O.program }
+    requires thread { thread < length O.start.threads }
+{
+    let mut guard = desk.lock(rt);
+    let next = guard.turn(alloc, program, thread, made);
+    match next {
+        Next::Moved | Next::Leave => {
+            drop(guard);
+            moved.notify_all();
+        }
+        Next::Sleep => {
+            let moves = guard.moves();
+            let guard = moved.wait_while(rt, guard, |desk| desk.is_same(moves));
+            drop(guard);
+        }
+        Next::Again => drop(guard),
+    }
+    next
+}
