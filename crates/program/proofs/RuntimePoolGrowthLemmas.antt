@@ -8,9 +8,10 @@ use Rattle.program.specs.declared.runtime_constant.RuntimeConstant.{RuntimeConst
 use Rattle.loading.specs.declared.given.GivenClass.{GivenClass}
 use Rattle.loading.specs.Families.{Family}
 use Rattle.loading.specs.Names.{text_at}
-use Rattle.hierarchy.specs.steps.GrowingTexts.{KeepsNumbers, Grows}
+use Rattle.hierarchy.specs.steps.GrowingTexts.{KeepsNumbers}
 use Rattle.program.specs.RuntimePool.{IsRuntimeConstant}
 use Rattle.program.specs.Programs.{IsClass}
+use Rattle.program.specs.steps.GrowingStrings.{Grows}
 
 pub grows_twice : {a b c : List (List ℕ)} → Grows a b → Grows b c → Grows a c
 grows_twice first second = record {

@@ -15,10 +15,9 @@ ghost use Rattle.program.specs.steps.StaticNumbers.{AreStaticNumbersOf};
 ghost use Rattle.hierarchy.specs.Initialization.{AreOrders};
 ghost use Rattle.program.specs.Programs.{AreClasses, HasOwnStrings, IsClass, IsProgram, IsImplementation, static_field};
 ghost use Rattle.hierarchy.specs.Texts.{AreDistinct};
-ghost use Rattle.hierarchy.specs.steps.GrowingTexts.{Grows};
 ghost use Rattle.program.specs.RuntimePool.{IsRuntimePool};
 ghost use Rattle.program.specs.Strings.{strings_of, all_strings, AreFirsts};
-ghost use Rattle.program.specs.steps.GrowingStrings.{Adds};
+ghost use Rattle.program.specs.steps.GrowingStrings.{Adds, Grows};
 
 use crate::class::{Class, Methods, RuntimePool, StaticFields};
 use crate::field_slots::field_slots_of;

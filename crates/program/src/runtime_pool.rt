@@ -13,10 +13,9 @@ ghost use Rattle.loading.specs.Families.{file_in};
 ghost use Rattle.program.specs.RuntimePool.{IsRuntimeConstant, IsRuntimePool};
 ghost use Rattle.program.specs.steps.ResolvedConstants.{IsTargetAt, IsResolved, IsPlain, IsFieldConstant};
 ghost use Rattle.program.specs.steps.ResolvedConstants.{AreRuntimeConstants};
-ghost use Rattle.hierarchy.specs.steps.GrowingTexts.{Grows};
 ghost use Rattle.program.specs.steps.Ahead.{AreAhead};
 ghost use Rattle.program.specs.Strings.{string_of, strings_of};
-ghost use Rattle.program.specs.steps.GrowingStrings.{Adds};
+ghost use Rattle.program.specs.steps.GrowingStrings.{Adds, Grows};
 
 use crate::ahead::MembersAhead;
 use crate::class::RuntimePool;

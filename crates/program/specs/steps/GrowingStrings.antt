@@ -1,6 +1,13 @@
 -- Strings that others are added to.
 use Rattle.std.specs.Prelude.{ℕ, List, ◌++◌}
+use Rattle.hierarchy.specs.Texts.{AreDistinct}
+use Rattle.hierarchy.specs.steps.GrowingTexts.{KeepsNumbers}
 use Rattle.program.specs.Strings.{AreFirsts}
+
+-- texts that others were added to
+pub record Grows (old new : List (List ℕ)) : Type 0 where
+  pub keeps : KeepsNumbers old new
+  pub distinct : AreDistinct old → AreDistinct new
 
 -- the strings of more texts
 abbrev pub Adds : List (List ℕ) → List (List ℕ) → List (List ℕ) → Type 0

@@ -3,9 +3,8 @@ use Rattle.std.specs.List.{AllZip}
 use Rattle.program.specs.declared.class.Class.{Class}
 use Rattle.loading.specs.declared.given.GivenClass.{GivenClass}
 use Rattle.program.specs.Programs.{IsClass}
-use Rattle.hierarchy.specs.steps.GrowingTexts.{Grows}
 use Rattle.program.specs.Strings.{all_strings}
-use Rattle.program.specs.steps.GrowingStrings.{Adds}
+use Rattle.program.specs.steps.GrowingStrings.{Adds, Grows}
 use Rattle.program.proofs.assembly.add_classes.Given as goal
 
 abbrev pub invariant-loop-number : goal.invariant-loop-number

@@ -1,8 +1,7 @@
 use Rattle.std.proofs.Common.{◌≡◌, length, take}
 use Rattle.std.specs.List.{flat_map}
-use Rattle.hierarchy.specs.steps.GrowingTexts.{Grows}
 use Rattle.program.specs.Strings.{string_of}
-use Rattle.program.specs.steps.GrowingStrings.{Adds}
+use Rattle.program.specs.steps.GrowingStrings.{Adds, Grows}
 use Rattle.program.specs.steps.ResolvedConstants.{AreRuntimeConstants}
 use Rattle.program.proofs.resolver.Resolver.add_constants.Given as goal
 
