@@ -1,0 +1,207 @@
+//! Gates that hold threads until all are there. Each wait ends after ten seconds, and the tests demand that none did.
+
+ghost use Rattle.std.specs.Prelude.{Some};
+
+use crate::programs::{CIRCLE, M, Q_AND_T, SPIN, Tape, program_of, start_of};
+use std::process::Abort;
+use std::rt::Clock;
+use std::sync::atomic::{AtomicU64, Ordering};
+use std::test::*;
+use std::thread;
+use std::time::Duration;
+use thread_runner::{Gate, RunFault, Sink, SinkFault, run_threads};
+
+/// How often a wait sleeps for a millisecond at most.
+const SLEEPS: u32 = 10_000;
+
+/// Holds the first `need` calls until all of them are inside.
+#[derive(Drop)]
+pub struct Meet<'a, R: Clock> {
+    rt: &'a R,
+    need: u64,
+    inside: AtomicU64,
+    late: AtomicU64,
+}
+
+impl<'a, R: Clock> Meet<'a, R> {
+    pub fn new(rt: &'a R, need: u64) -> Meet<'a, R> {
+        Meet {
+            rt,
+            need,
+            inside: AtomicU64::new(0),
+            late: AtomicU64::new(0),
+        }
+    }
+
+    fn is_over(&self) -> bool {
+        self.inside.load(Ordering::SeqCst) >= self.need || self.late.load(Ordering::SeqCst) > 0
+    }
+}
+
+impl<'a, R: Clock + Sync> Gate for Meet<'a, R> {
+    fn ready(&self, _who: u32, _job: u64, turn: u32) -> bool {
+        if turn > 0 || self.inside.fetch_add(1, Ordering::SeqCst) >= self.need {
+            return true;
+        }
+        for _ in 0..SLEEPS {
+            if self.is_over() {
+                return true;
+            }
+            thread::sleep(self.rt, Duration::from_millis(1));
+        }
+        self.late.fetch_add(1, Ordering::SeqCst);
+        true
+    }
+
+    fn done(&self, _who: u32, _job: u64) {}
+}
+
+#[test]
+fn two_threads_meet(rt: HostRuntime) -> Result<(), Fail> {
+    let program = program_of(rt.alloc(), Q_AND_T)?;
+    let world = start_of(rt.alloc(), &program, &["T", "T"])?;
+    let gate = Meet::new(&rt, 2);
+    let tape = Tape::new(rt.alloc(), 100);
+    let (answer, tape) = run_threads(&rt, rt.alloc(), &program, world, &gate, tape, 10_000);
+    let Ok(ended) = answer else {
+        return Err(Fail::new("no end"));
+    };
+    assert_eq!(rt; tape.got.as_slice(), b"5\n".as_slice());
+    assert_eq!(rt; ended.seen.threads.len(), 2);
+    assert_eq!(rt; gate.late.load(Ordering::SeqCst), 0);
+    Ok(())
+}
+
+#[test]
+fn sixty_four_threads_meet(rt: HostRuntime) -> Result<(), Fail> {
+    let program = program_of(rt.alloc(), Q_AND_T)?;
+    let world = start_of(rt.alloc(), &program, &["T"; 64])?;
+    let gate = Meet::new(&rt, 64);
+    let tape = Tape::new(rt.alloc(), 100);
+    let (answer, tape) = run_threads(&rt, rt.alloc(), &program, world, &gate, tape, 10_000);
+    let Ok(ended) = answer else {
+        return Err(Fail::new("no end"));
+    };
+    assert_eq!(rt; tape.got.as_slice(), b"5\n".as_slice());
+    assert_eq!(rt; ended.seen.threads.len(), 64);
+    assert_eq!(rt; gate.late.load(Ordering::SeqCst), 0);
+    Ok(())
+}
+
+/// Thread 1 begins once thread 0 asks at its second stretch, and thread 0 makes that stretch while the sink is in a
+/// call.
+#[derive(Drop)]
+struct Cross<'a, R: Clock> {
+    rt: &'a R,
+    asked: AtomicU64,
+    entered: AtomicU64,
+    made: AtomicU64,
+    late: AtomicU64,
+}
+
+impl<'a, R: Clock> Cross<'a, R> {
+    fn wait(&self, flag: &AtomicU64) {
+        for _ in 0..SLEEPS {
+            if flag.load(Ordering::SeqCst) > 0 {
+                return;
+            }
+            thread::sleep(self.rt, Duration::from_millis(1));
+        }
+        self.late.fetch_add(1, Ordering::SeqCst);
+    }
+}
+
+impl<'a, R: Clock + Sync> Gate for Cross<'a, R> {
+    fn ready(&self, who: u32, job: u64, _turn: u32) -> bool {
+        if who == 0 && job == 1 {
+            self.asked.store(1, Ordering::SeqCst);
+            self.wait(&self.entered);
+        }
+        if who == 1 && job == 0 {
+            self.wait(&self.asked);
+        }
+        true
+    }
+
+    fn done(&self, who: u32, job: u64) {
+        if who == 0 && job == 1 {
+            self.made.store(1, Ordering::SeqCst);
+        }
+    }
+}
+
+/// A tape whose calls wait for thread 0's second stretch.
+#[derive(Drop)]
+struct SlowTape<'a, R: Clock> {
+    tape: Tape,
+    cross: &'a Cross<'a, R>,
+}
+
+impl<'a, R: Clock> Sink for SlowTape<'a, R> {
+    ghost got = { λ s. Some s.tape.got.items };
+
+    ghost failures = { λ s. s.tape.failures };
+
+    fn put(&mut self, bytes: &[u8]) -> Result<usize, SinkFault> {
+        self.cross.entered.store(1, Ordering::SeqCst);
+        self.cross.wait(&self.cross.made);
+        self.tape.put(bytes)
+    }
+}
+
+#[test]
+fn a_stretch_is_made_while_the_sink_has_the_lock(rt: HostRuntime) -> Result<(), Fail> {
+    let text = format!(in rt.alloc(); "{SPIN}\n{M}")?;
+    let program = program_of(rt.alloc(), &text)?;
+    let world = start_of(rt.alloc(), &program, &["Spin", "M"])?;
+    let cross = Cross {
+        rt: &rt,
+        asked: AtomicU64::new(0),
+        entered: AtomicU64::new(0),
+        made: AtomicU64::new(0),
+        late: AtomicU64::new(0),
+    };
+    let slow = SlowTape {
+        tape: Tape::new(rt.alloc(), 100),
+        cross: &cross,
+    };
+    let (answer, slow) = run_threads(&rt, rt.alloc(), &program, world, &cross, slow, 100_000);
+    let Ok(_ended) = answer else {
+        return Err(Fail::new("no end"));
+    };
+    assert_eq!(rt; slow.tape.got.as_slice(), b"7\n".as_slice());
+    assert_eq!(rt; cross.late.load(Ordering::SeqCst), 0);
+    Ok(())
+}
+
+/// Holds each of two threads before its sixth commit until both are there.
+#[derive(Drop)]
+struct Both<'a, R: Clock> {
+    meet: Meet<'a, R>,
+}
+
+impl<'a, R: Clock + Sync> Gate for Both<'a, R> {
+    fn ready(&self, who: u32, job: u64, turn: u32) -> bool {
+        job != 5 || self.meet.ready(who, job, turn)
+    }
+
+    fn done(&self, _who: u32, _job: u64) {}
+}
+
+#[test]
+fn two_threads_wait_for_one_another(rt: HostRuntime) -> Result<(), Fail> {
+    let program = program_of(rt.alloc(), CIRCLE)?;
+    let world = start_of(rt.alloc(), &program, &["Pa", "Pb"])?;
+    let gate = Both {
+        meet: Meet::new(&rt, 2),
+    };
+    let tape = Tape::new(rt.alloc(), 100);
+    let (answer, tape) = run_threads(&rt, rt.alloc(), &program, world, &gate, tape, 10_000);
+    let Err(RunFault::Stuck(ended)) = answer else {
+        return Err(Fail::new("not stuck"));
+    };
+    assert_eq!(rt; tape.got.len(), 0);
+    assert_eq!(rt; ended.seen.threads.len(), 2);
+    assert_eq!(rt; gate.meet.late.load(Ordering::SeqCst), 0);
+    Ok(())
+}

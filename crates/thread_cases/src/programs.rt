@@ -1,0 +1,104 @@
+//! Programs and starts from classes in their text form, and a sink in memory.
+
+ghost use Rattle.std.specs.Prelude.{Some};
+
+use cases::{add_class_files, modified_utf8};
+use classfile::{ClassName, read};
+use init_engine::World;
+use program::{Program, link};
+use std::alloc::{AllocError, Global};
+use std::test::*;
+use thread_runner::{Sink, SinkFault};
+
+/// A class that prints 7.
+pub const M: &str = "class M: main 8 8 out bipush 7 println return";
+
+/// A class whose initializer prints 5, and one whose main needs it.
+pub const Q_AND_T: &str = "class Q: static v:I, initializer 8 8 out bipush 5 println return
+class T: main 8 8 getstatic Q.v:I pop return";
+
+/// A main of 3,000 local instructions and more: 1,000 times round a loop of three.
+pub const SPIN: &str =
+    "class Spin: main 8 8 sipush #1000 istore_1 again: iinc 1 255 iload_1 ifne >again return";
+
+/// A main that never ends.
+pub const EVER: &str = "class Ever: main 8 8 again: goto >again";
+
+/// Classes of which each waits for the other where two threads begin them.
+pub const CIRCLE: &str =
+    "class Ca: static final x:I, initializer 8 8 getstatic Cb.y:I putstatic Ca.x:I return
+class Cb: static final y:I, initializer 8 8 getstatic Ca.x:I putstatic Cb.y:I return
+class Pa: main 8 8 getstatic Ca.x:I pop return
+class Pb: main 8 8 getstatic Cb.y:I pop return";
+
+/// The program of classes in their text form.
+pub fn program_of(alloc: Global, text: &str) -> Result<Program, Fail> {
+    let mut files = Vec::new(alloc);
+    let misspelled = add_class_files(alloc, &mut files, text)?;
+    if !misspelled.is_empty() {
+        return Err(Fail::new("misspelled"));
+    }
+    let mut classes = Vec::new(alloc);
+    for bytes in &files {
+        match read(alloc, bytes) {
+            Ok(class) => classes.push(class)?,
+            Err(_) => return Err(Fail::new("no class file")),
+        }
+    }
+    match link(alloc, classes) {
+        Ok(program) => Ok(program),
+        Err(_) => Err(Fail::new("no program")),
+    }
+}
+
+/// The lazy start of these entries.
+pub fn start_of(alloc: Global, program: &Program, entries: &[&str]) -> Result<World, Fail> {
+    let mut names = Vec::new(alloc);
+    for entry in entries {
+        names.push(name_of(alloc, entry)?)?;
+    }
+    match World::lazy(alloc, program, &names) {
+        Ok(world) => Ok(world),
+        Err(_) => Err(Fail::new("no start")),
+    }
+}
+
+fn name_of(alloc: Global, text: &str) -> Result<ClassName, AllocError> {
+    ClassName::from_modified_utf8(alloc, &modified_utf8(alloc, text)?)
+}
+
+/// A sink in memory, which fails once it has got so many bytes.
+#[derive(Drop)]
+pub struct Tape {
+    pub got: Vec<u8>,
+    room: usize,
+    failures: u64,
+}
+
+impl Tape {
+    /// An empty one.
+    pub fn new(alloc: Global, room: usize) -> Tape {
+        Tape {
+            got: Vec::new(alloc),
+            room,
+            failures: 0,
+        }
+    }
+}
+
+impl Sink for Tape {
+    ghost got = { λ t. Some t.got.items };
+
+    ghost failures = { λ t. t.failures };
+
+    fn put(&mut self, bytes: &[u8]) -> Result<usize, SinkFault> {
+        let Some(first) = bytes.first() else {
+            return Ok(0);
+        };
+        if self.got.len() >= self.room || self.got.push(*first).is_err() {
+            self.failures = self.failures.wrapping_add(1);
+            return Err(SinkFault);
+        }
+        Ok(1)
+    }
+}
