@@ -9,3 +9,4 @@ pub mod ImageBuildLemmas
 pub mod ImageRunLemmas
 pub mod EntriesLemmas
 pub mod HeadlineLemmas
+pub mod ReadBackLemmas

@@ -2,7 +2,10 @@
 ghost use Rattle.std.specs.Prelude.{◌≡◌, ◌⊎◌, IfErr, IfOk};
 ghost use Rattle.building.specs.Builds.{text_of as list_of};
 ghost use Rattle.building.specs.declared.build.BuildFault.TheVariants.{Memory};
+ghost use Rattle.evaluator.specs.Regions.{environment_of};
 ghost use Rattle.loading.specs.Files.{Links};
+ghost use Rattle.object_graph.specs.Images.{AreSmall};
+ghost use Rattle.region_shape.specs.Wholes.{AreWhole};
 ghost use Rattle.image_format.specs.Images.{AreShort, ImageText, files_of};
 ghost use Rattle.image_writer.specs.ImageTexts.{text_of, told_of};
 ghost use Rattle.cli.specs.Builds.{BuildFails};
@@ -55,7 +58,11 @@ fn image_bytes(alloc: Global, image: &Image) -> Result<Vec<u8>, AllocError>
     ensures text { IfOk result (λ bytes. bytes.items ≡ text_of image.now) }
     ensures image { Links (files_of image.now.program.family)
         → ImageText (text_of image.now) image.now.program.family (told_of image.now) }
+    // What holds of every image.
+    ensures whole { AreWhole image.now.program (environment_of image.now.regions) }
+    ensures small { AreSmall image.now.program (environment_of image.now.regions) }
 {
+    let _held = image.region(0);
     let mut bytes = Out::new(Vec::new(alloc));
     match write(alloc, image, &mut bytes) {
         Ok(()) => Ok(bytes.into_inner()),

@@ -3,7 +3,7 @@
 ghost use Rattle.std.specs.Prelude.{◌≡◌, ◌≤◌, ◌⊎◌, List, Option, ℕ, length, take, drop, IfOk, IfErr, MatchResult};
 ghost use Rattle.std.specs.Int.{w32, from_be_bytes};
 ghost use Rattle.loading.specs.Families.{Family as Classes};
-ghost use Rattle.program.specs.Programs.{IsProgram};
+ghost use Rattle.program.specs.Programs.{HasOwnStrings, IsProgram};
 ghost use Rattle.image_format.specs.declared.region.ImageRegion.{ImageRegion as Held};
 ghost use Rattle.image_format.specs.Images.{ImageText};
 ghost use Rattle.image_parser.specs.declared.image_fault.ImageFault.{ImageFault as Fault};
@@ -38,6 +38,8 @@ pub fn parse(alloc: Global, bytes: &[u8]) -> Result<Parsed, ImageFault>
     ensures text { IfOk result (λ parsed. ImageText bytes.now parsed.program.family parsed.regions) }
     // The program is that of these class files.
     ensures program { IfOk result (λ parsed. IsProgram parsed.program) }
+    // It has no strings but theirs.
+    ensures own_strings { IfOk result (λ parsed. HasOwnStrings parsed.program) }
     // Every text of an image is accepted as that image, unless memory runs out.
     ensures only_text { (family : Classes) (regions : List (Option Held)) → ImageText bytes.now family regions
         → MatchResult result (λ parsed. (parsed.program.family ≡ family) × (parsed.regions ≡ regions))
@@ -59,6 +61,7 @@ pub fn image_or_fault()
 fn of_bytes(alloc: Global, bytes: &[u8]) -> Result<Parsed, ImageFault>
     ensures text { IfOk result (λ parsed. ImageText bytes.now parsed.program.family parsed.regions) }
     ensures program { IfOk result (λ parsed. IsProgram parsed.program) }
+    ensures own_strings { IfOk result (λ parsed. HasOwnStrings parsed.program) }
     ensures fault { IfErr result (λ x. (x ≡ Memory) ⊎ ImageFails bytes.now x) }
 {
     match parts_of(bytes) {
@@ -85,6 +88,7 @@ fn of_parts(alloc: Global, version: Version, parts: &[u8]) -> Result<Parsed, Ima
     requires { 4 ≤ length parts.now }
     ensures text { IfOk result (λ parsed. PartsText parts.now parsed.program.family parsed.regions) }
     ensures program { IfOk result (λ parsed. IsProgram parsed.program) }
+    ensures own_strings { IfOk result (λ parsed. HasOwnStrings parsed.program) }
     ensures fault { IfErr result (λ x. (x ≡ Memory) ⊎ PartsFail parts.now x) }
 {
     let (count, bytes) = count_at(parts);
@@ -105,6 +109,7 @@ fn of_files(
     requires { HasFiles parts.now files.items rest.now }
     ensures text { IfOk result (λ parsed. PartsText parts.now parsed.program.family parsed.regions) }
     ensures program { IfOk result (λ parsed. IsProgram parsed.program) }
+    ensures own_strings { IfOk result (λ parsed. HasOwnStrings parsed.program) }
     ensures fault { IfErr result (λ x. (x ≡ Memory) ⊎ PartsFail parts.now x) }
 {
     match link(alloc, files) {
@@ -123,8 +128,10 @@ fn of_program(
 ) -> Result<Parsed, ImageFault>
     requires linked { IsLinked parts.now program.family rest.now }
     requires program { IsProgram program }
+    requires own_strings { HasOwnStrings program }
     ensures text { IfOk result (λ parsed. PartsText parts.now parsed.program.family parsed.regions) }
     ensures program { IfOk result (λ parsed. IsProgram parsed.program) }
+    ensures own_strings { IfOk result (λ parsed. HasOwnStrings parsed.program) }
     ensures fault { IfErr result (λ x. (x ≡ Memory) ⊎ PartsFail parts.now x) }
 {
     match read_regions(alloc, version, &program, rest) {

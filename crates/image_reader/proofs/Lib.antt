@@ -4,3 +4,6 @@ pub mod ClassesLemmas
 pub mod ToldLemmas
 pub mod WholeLemmas
 pub mod ImagesLemmas
+pub mod SameLemmas
+pub mod HeldAgainLemmas
+pub mod ReadAgainLemmas

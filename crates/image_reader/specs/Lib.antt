@@ -1,2 +1,3 @@
+pub mod Readings
 pub mod Starts
 pub mod steps

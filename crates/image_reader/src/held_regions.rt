@@ -3,6 +3,11 @@
 ghost use Rattle.std.specs.Prelude.{◌≡◌, ◌<◌, ◌^◌, ◌++◌, ◌∷◌, [], List, Option, length, IfOk, OnOk};
 ghost use Rattle.std.specs.List.{All};
 ghost use Rattle.classfile.specs.Units.{IsModifiedUtf8};
+ghost use Rattle.built_in.specs.declared.class_id.ClassId.{ClassId as Class};
+ghost use Rattle.built_in.specs.declared.class_id.ElementType.{ElementType as Element};
+ghost use Rattle.vm_state.specs.declared.object.Object.{Object};
+ghost use Rattle.vm_state.specs.SharedState.{Pool, Region as Held};
+ghost use Rattle.semantics.specs.Quiet.{Environment};
 ghost use Rattle.vm_state.specs.Objects.{empty_row};
 ghost use Rattle.vm_state.specs.Pools.{pool_by};
 ghost use Rattle.evaluator.specs.Regions.{environment_of, region_of};
@@ -10,8 +15,8 @@ ghost use Rattle.image_format.specs.declared.object.ImageObject.{ImageObject as 
 ghost use Rattle.image_format.specs.declared.region.ImageRegion.{ImageRegion as ToldRegion};
 ghost use Rattle.image_format.specs.Names.{name_of_class};
 ghost use Rattle.image_format.specs.Shapes.{HasObjects, HasShape, ObjectHasShape};
-ghost use Rattle.image_reader.specs.steps.Held.{AddsStrings, HaveShape, HoldsObjects, HoldsRegion, HoldsRegions};
-ghost use Rattle.image_reader.specs.steps.Held.{HoldsElement, HoldsType, MayHaveShape};
+ghost use Rattle.image_reader.specs.steps.Held.{AddsStrings, HaveShape, HoldsClass, HoldsObject, HoldsObjects};
+ghost use Rattle.image_reader.specs.steps.Held.{HoldsElement, HoldsRegion, HoldsRegions, HoldsType, MayHaveShape};
 
 use crate::held_values::{held_fields, held_values};
 use built_in::class_id::{ArrayType, ClassId, ElementType};
@@ -34,6 +39,8 @@ fn unknown_element(
     requires few { length name.now < 2 ^ 16 }
     ensures holds { IfOk result (HoldsElement program.new.strings name.now) }
     ensures adds { OnOk result (AddsStrings program.old program.new) }
+    ensures same { (element : Element) → HoldsElement program.old.strings name.now element
+        → OnOk result (program.new ≡ program.old) }
 {
     let name = ClassName::from_modified_utf8(alloc, name.as_slice())?;
     let number = program.add_string(alloc, name.units())?;
@@ -53,6 +60,7 @@ fn held_type(
     requires name { length (name_of_class program.old.family class.now) < 2 ^ 16 }
     ensures holds { IfOk result (HoldsType program.new.strings class.now) }
     ensures adds { OnOk result (AddsStrings program.old program.new) }
+    ensures same { (id : Class) → HoldsType program.old.strings class.now id → OnOk result (program.new ≡ program.old) }
 {
     match class {
         ImageClass::Known(class) => Ok(*class),
@@ -77,6 +85,7 @@ fn add_object(
     ensures holds { (objects : List ToldObject) → HoldsObjects program.old.strings objects (pool_by row.old)
         → OnOk result (HoldsObjects program.new.strings (objects ++ object.now ∷ []) (pool_by row.new)) }
     ensures adds { OnOk result (AddsStrings program.old program.new) }
+    ensures same { (o : Object) → HoldsObject program.old.strings object.now o → OnOk result (program.new ≡ program.old) }
 {
     let class = held_type(alloc, program, &object.class)?;
     let values = held_values(alloc, program, object.slots.as_slice())?;
@@ -95,6 +104,7 @@ fn add_objects(
     requires shape { All (ObjectHasShape program.old.family) objects.now }
     ensures holds { OnOk result (HoldsObjects program.new.strings objects.now (pool_by row.new)) }
     ensures adds { OnOk result (AddsStrings program.old program.new) }
+    ensures same { (pool : Pool) → HoldsObjects program.old.strings objects.now pool → OnOk result (program.new ≡ program.old) }
 {
     for object in objects {
         add_object(alloc, program, object, row)?;
@@ -111,6 +121,7 @@ fn held_objects(
     requires { All (ObjectHasShape program.old.family) objects.now }
     ensures holds { IfOk result (λ row. HoldsObjects program.new.strings objects.now (pool_by row)) }
     ensures adds { OnOk result (AddsStrings program.old program.new) }
+    ensures same { (pool : Pool) → HoldsObjects program.old.strings objects.now pool → OnOk result (program.new ≡ program.old) }
 {
     let mut row = Row::new(alloc);
     match add_objects(alloc, program, objects, &mut row) {
@@ -129,6 +140,7 @@ fn held_region(
     requires { HasShape program.old.family class region.now }
     ensures holds { IfOk result (λ held. HoldsRegion program.new.strings region.now (region_of held)) }
     ensures adds { OnOk result (AddsStrings program.old program.new) }
+    ensures same { (r : Held) → HoldsRegion program.old.strings region.now r → OnOk result (program.new ≡ program.old) }
 {
     let _classes = program.classes();
     let fields = held_fields(alloc, program, region.statics.as_slice())?;
@@ -149,6 +161,7 @@ fn add_region(
         → HoldsRegions program.old.strings lower (environment_of held.old)
         → OnOk result (HoldsRegions program.new.strings (lower ++ region.now ∷ []) (environment_of held.new)) }
     ensures adds { OnOk result (AddsStrings program.old program.new) }
+    ensures same { (r : Option Held) → HoldsClass program.old.strings region.now r → OnOk result (program.new ≡ program.old) }
 {
     match region {
         Some(region) => held.put(class, held_region(alloc, program, class, region)?),
@@ -168,6 +181,8 @@ fn add_regions(
     requires shape { HaveShape program.old.family regions.now }
     ensures holds { OnOk result (HoldsRegions program.new.strings regions.now (environment_of held.new)) }
     ensures adds { OnOk result (AddsStrings program.old program.new) }
+    ensures same { (env : Environment) → HoldsRegions program.old.strings regions.now env
+        → OnOk result (program.new ≡ program.old) }
 {
     for class in 0..program.given_count() {
         add_region(alloc, program, class, &regions[class as usize], held)?;
@@ -185,6 +200,8 @@ pub(crate) fn held_regions(
     requires shape { HaveShape program.old.family regions.now }
     ensures holds { IfOk result (λ held. HoldsRegions program.new.strings regions.now (environment_of held)) }
     ensures adds { OnOk result (AddsStrings program.old program.new) }
+    ensures same { (env : Environment) → HoldsRegions program.old.strings regions.now env
+        → OnOk result (program.new ≡ program.old) }
 {
     let mut held = Regions::none(alloc);
     match add_regions(alloc, program, regions, &mut held) {

@@ -1,7 +1,8 @@
 //! Values that an image says, as the machine holds them.
 
-ghost use Rattle.std.specs.Prelude.{◌≡◌, [], IfOk, OnOk};
+ghost use Rattle.std.specs.Prelude.{◌≡◌, ℕ, List, [], IfOk, OnOk};
 ghost use Rattle.std.specs.List.{All};
+ghost use Rattle.vm_state.specs.declared.value.Value.{Value as Held};
 ghost use Rattle.vm_state.specs.Statics.{field_in};
 ghost use Rattle.image_format.specs.declared.value.ImageValue.TheVariants.{Text};
 ghost use Rattle.image_format.specs.Shapes.{AreUnits};
@@ -18,6 +19,8 @@ fn held_text(alloc: Global, program: &mut Program, units: &Units) -> Result<Valu
     requires { AreUnits units.now }
     ensures holds { IfOk result (HoldsValue program.new.strings (Text units.now)) }
     ensures adds { OnOk result (AddsStrings program.old program.new) }
+    ensures same { (v : Held) → HoldsValue program.old.strings (Text units.now) v
+        → OnOk result (program.new ≡ program.old) }
 {
     let number = program.add_string(alloc, units.as_slice())?;
     Ok(Value::Text(number))
@@ -28,6 +31,7 @@ fn held_value(alloc: Global, program: &mut Program, value: &ImageValue) -> Resul
     requires { HasUnits value.now }
     ensures holds { IfOk result (HoldsValue program.new.strings value.now) }
     ensures adds { OnOk result (AddsStrings program.old program.new) }
+    ensures same { (v : Held) → HoldsValue program.old.strings value.now v → OnOk result (program.new ≡ program.old) }
 {
     match value {
         ImageValue::Null => Ok(Value::Null),
@@ -50,6 +54,8 @@ fn push_held(
     requires units { All HasUnits values.now }
     ensures holds { OnOk result (HoldsValues program.new.strings values.now held.new.items) }
     ensures adds { OnOk result (AddsStrings program.old program.new) }
+    ensures same { (vs : List Held) → HoldsValues program.old.strings values.now vs
+        → OnOk result (program.new ≡ program.old) }
 {
     for value in values {
         held.push(held_value(alloc, program, value)?)?;
@@ -66,6 +72,8 @@ pub(crate) fn held_values(
     requires { All HasUnits values.now }
     ensures holds { IfOk result (λ held. HoldsValues program.new.strings values.now held.items) }
     ensures adds { OnOk result (AddsStrings program.old program.new) }
+    ensures same { (vs : List Held) → HoldsValues program.old.strings values.now vs
+        → OnOk result (program.new ≡ program.old) }
 {
     let mut held = Vec::with_capacity(alloc, values.len())?;
     push_held(alloc, program, values, &mut held)?;
@@ -96,6 +104,8 @@ pub(crate) fn held_fields(
     requires { All HasUnits values.now }
     ensures holds { IfOk result (λ fields. HoldsFields program.new.strings values.now (field_in fields)) }
     ensures adds { OnOk result (AddsStrings program.old program.new) }
+    ensures same { (fields : ℕ → Held) → HoldsFields program.old.strings values.now fields
+        → OnOk result (program.new ≡ program.old) }
 {
     let held = held_values(alloc, program, values)?;
     fields_of(alloc, &held)

@@ -2,6 +2,9 @@
 
 ghost use Rattle.std.specs.Prelude.{◌≡◌, ◌⊎◌, List, Option, IfErr, IfOk, MatchResult};
 ghost use Rattle.loading.specs.Families.{Family as Classes};
+ghost use Rattle.program.specs.Programs.{IsProgram};
+ghost use Rattle.semantics.specs.Quiet.{Environment};
+ghost use Rattle.evaluator.specs.Regions.{environment_of};
 ghost use Rattle.image_format.specs.declared.region.ImageRegion.{ImageRegion as Told};
 ghost use Rattle.image_format.specs.Images.{AreRegions, ImageText};
 ghost use Rattle.image_parser.specs.declared.image_fault.ImageFault.{ImageFault as Fault};
@@ -9,6 +12,8 @@ ghost use Rattle.image_parser.specs.declared.image_fault.ImageFault.TheVariants.
 ghost use Rattle.image_parser.specs.ImageFaults.{Answers, ImageFails};
 ghost use Rattle.object_graph.specs.Images.{ImageTables};
 ghost use Rattle.image_writer.specs.ImageTexts.{text_of, told_of};
+ghost use Rattle.image_reader.specs.Readings.{IsOfOwnStrings, IsSameImage};
+ghost use Rattle.image_reader.specs.steps.Held.{HoldsRegions};
 
 use crate::held_regions::held_regions;
 use image_parser::{ImageFault, Parsed, parse};
@@ -31,6 +36,9 @@ pub fn read(alloc: Global, bytes: &[u8]) -> Result<Image, ImageFault>
     ensures written { (I : ImageTables) → ImageText (text_of I) I.program.family (told_of I) → bytes.now ≡ text_of I
         → MatchResult result (λ image. (image.program.family ≡ I.program.family) × (told_of image ≡ told_of I))
         (λ x. x ≡ Memory) }
+    // A text of an image of a linked program, with no strings but its class files', is read as that image.
+    ensures same { (I : ImageTables) → IsOfOwnStrings I → ImageText bytes.now I.program.family (told_of I)
+        → IfOk result (λ image. IsSameImage I image) }
     // What is refused is refused for what is wrong first, or because memory runs out.
     ensures fault { IfErr result (λ x. (x ≡ Memory) ⊎ ImageFails bytes.now x) }
     // Everything else is refused for what is wrong first, unless memory runs out.
@@ -55,6 +63,12 @@ fn image_of(alloc: Global, parsed: Parsed, digest: &[u8]) -> Result<Image, Alloc
     requires { AreRegions parsed.program.family parsed.regions }
     ensures family { IfOk result (λ image. image.program.family ≡ parsed.program.family) }
     ensures told { IfOk result (λ image. told_of image ≡ parsed.regions) }
+    ensures program { IfOk result (λ image. IsProgram image.program) }
+    ensures holds { IfOk result (λ image. HoldsRegions image.program.strings parsed.regions
+        (environment_of image.regions)) }
+    // Where the program's own strings tell all that is told, the image is of this program.
+    ensures same { (env : Environment) → HoldsRegions parsed.program.strings parsed.regions env
+        → IfOk result (λ image. image.program ≡ parsed.program) }
 {
     let Parsed {
         mut program,

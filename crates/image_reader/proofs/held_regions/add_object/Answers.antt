@@ -1,6 +1,7 @@
 use Rattle.vm_state.specs.Pools.{pool_by}
 use Rattle.image_reader.specs.steps.Held.{HoldsValues}
 use Rattle.image_reader.proofs.HeldLemmas.{adds_more, objects_kept, next_object, slots_units, type_kept}
+use Rattle.image_reader.proofs.SameLemmas.{next_values}
 use Rattle.image_reader.proofs.held_regions.add_object.Goals as goal
 
 pub held_values-requires : goal.held_values-requires
@@ -23,3 +24,9 @@ returns-clause-holds c objects holds =
     rw c.in_ok-make.ensures.ok
     (next_object R.strings objects c.args.object.now (pool_by c.args.row.now) c.in_ok-class.class c.of_vec.result kept
     class slots)
+
+pub returns-clause-same : goal.returns-clause-same
+returns-clause-same c o holds =
+    next_values c.args.program.now c.held_type.new.program c.held_values.new.program
+    (c.in_ok-class.ensures.same o.class holds.class) c.args.object.now.slots o.slots holds.slots
+    (rw c.as_slice.ensures at c.in_ok-values.ensures.same)

@@ -1,6 +1,7 @@
 use Rattle.std.proofs.lemmas.Result.{on_ok_weaker}
 use Rattle.evaluator.specs.Regions.{environment_of}
 use Rattle.image_reader.proofs.HeldLemmas.{put_region, regions_kept}
+use Rattle.image_reader.proofs.SameLemmas.{of_class, on_ok}
 use Rattle.image_reader.proofs.held_regions.add_region.Goals as goal
 
 pub returns-in_ok-held_region-in-Some-clause-holds : goal.returns-in_ok-held_region-in-Some-clause-holds
@@ -13,3 +14,8 @@ returns-in_ok-held_region-in-Some-clause-holds c lower count holds =
     (λ put. put_region T lower c.args.region.now c.in-Some.region c.args.held.now c.put.new.self c.args.class
     c.in_ok-held_region-in-Some.field-0 count kept c.in-Some.is c.in_ok-held_region-in-Some.ensures.holds put)
     c.put.ensures.ok
+
+pub returns-in_ok-held_region-in-Some-clause-same : goal.returns-in_ok-held_region-in-Some-clause-same
+returns-in_ok-held_region-in-Some-clause-same c r holds =
+    let region = of_class c.args.program.now.strings c.args.region.now c.in-Some.region r c.in-Some.is holds in
+    on_ok c.put.result (c.in_ok-held_region-in-Some.ensures.same region.0 region.1)

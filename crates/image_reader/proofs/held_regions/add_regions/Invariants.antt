@@ -1,4 +1,5 @@
-use Rattle.std.proofs.Common.{take}
+use Rattle.std.proofs.Common.{◌≡◌, take}
+use Rattle.semantics.specs.Quiet.{Environment}
 use Rattle.evaluator.specs.Regions.{environment_of}
 use Rattle.image_reader.specs.steps.Held.{AddsStrings, HoldsRegions}
 use Rattle.image_reader.proofs.held_regions.add_regions.Given as goal
@@ -6,3 +7,4 @@ use Rattle.image_reader.proofs.held_regions.add_regions.Given as goal
 abbrev pub invariant-loop-class : goal.invariant-loop-class
 invariant-loop-class l =
     HoldsRegions l.program.strings (take l.class l.regions) (environment_of l.held) × AddsStrings l.fn.program l.program
+    × ((env : Environment) → HoldsRegions l.fn.program.strings l.regions env → l.program ≡ l.fn.program)

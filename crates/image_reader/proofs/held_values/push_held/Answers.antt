@@ -1,8 +1,18 @@
 use Rattle.image_reader.proofs.HeldLemmas.{next_held}
+use Rattle.image_reader.proofs.SameLemmas.{next_value}
 use Rattle.image_reader.proofs.held_values.push_held.Goals as goal
 
 pub loop-value-preserved : goal.loop-value-preserved
 loop-value-preserved c =
-    next_held c.args.program.now c.loop-value.program c.held_value.new.program c.args.values.now c.loop-value.value-index
-    c.value-item.result _ _ c.in_ok-held_value.field-0 c.loop-value-test.true c.value-item.is c.loop-value.invariant
-    c.in_ok-held_value.ensures.adds c.in_ok-held_value.ensures.holds c.in_ok-push.ensures.items
+    let P = c.args.program.now in
+    let Q = c.loop-value.program in
+    let R = c.held_value.new.program in
+    let so_far = c.loop-value.invariant in
+    let held = next_held P Q R c.args.values.now c.loop-value.value-index c.value-item.result _ _
+    c.in_ok-held_value.field-0 c.loop-value-test.true c.value-item.is (so_far.0, so_far.1.0)
+    c.in_ok-held_value.ensures.adds c.in_ok-held_value.ensures.holds c.in_ok-push.ensures.items in (
+      held.0,
+      held.1,
+      λ vs holds. next_value P Q R (so_far.1.1 vs holds) c.args.values.now vs c.loop-value.value-index
+          c.value-item.result c.loop-value-test.true c.value-item.is holds c.in_ok-held_value.ensures.same,
+    )

@@ -31,3 +31,14 @@ returns-clause-told c =
     (told_again c.args.parsed.program c.args.parsed.regions c.requires c.held_regions.new.program
     c.classes-classes.ensures.fits (rw c.reseed_strings.ensures at c.in_ok-held.ensures.adds)
     (environment_of c.in_ok-held.held) (rw c.as_slice.ensures at c.in_ok-held.ensures.holds))
+
+pub returns-clause-program : goal.returns-clause-program
+returns-clause-program c = rw c.gather.ensures c.classes-classes.ensures.fits
+
+pub returns-clause-holds : goal.returns-clause-holds
+returns-clause-holds c = rw c.gather.ensures (rw c.as_slice.ensures at c.in_ok-held.ensures.holds)
+
+pub returns-clause-same : goal.returns-clause-same
+returns-clause-same c env holds =
+    rw c.gather.ensures
+    ((rw (c.reseed_strings.ensures, c.as_slice.ensures) at c.in_ok-held.ensures.same) env holds)

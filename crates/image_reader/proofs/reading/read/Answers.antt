@@ -1,6 +1,7 @@
 use Rattle.std.proofs.Common.{◌∙◌, ℕ, List, inl, inr, subst, sym}
 use Rattle.image_format.specs.Images.{ImageText}
 use Rattle.image_writer.specs.ImageTexts.{told_of}
+use Rattle.image_reader.proofs.ReadAgainLemmas.{read_again}
 use Rattle.image_reader.proofs.reading.read.Goals as goal
 
 pub returns-in-Ok-image_of-clause-only_text : goal.returns-in-Ok-image_of-clause-only_text
@@ -18,3 +19,11 @@ returns-in-Ok-image_of-clause-written c I text same =
 pub returns-in-Ok-image_of-clause-only_fault : goal.returns-in-Ok-image_of-clause-only_fault
 returns-in-Ok-image_of-clause-only_fault c x fails =
     elim (c.in-Ok.ensures.only_fault x fails) [ inl refused ↦ absurd cc | inr refused ↦ absurd cc ]
+
+pub returns-in-Ok-image_of-clause-same : goal.returns-in-Ok-image_of-clause-same
+returns-in-Ok-image_of-clause-same c I own text =
+    let told = c.in-Ok.ensures.only_text I.program.family (told_of I) text in
+    let image = c.in-Ok-image_of.ensures in
+    read_again I c.in-Ok.parsed.program c.in-Ok.parsed.regions c.in-Ok-image_of.image own text.files
+    c.in-Ok.ensures.text.classes c.in-Ok.ensures.program c.in-Ok.ensures.own_strings told.0 told.1 image.program image.holds
+    image.same
