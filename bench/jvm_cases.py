@@ -219,6 +219,8 @@ def java_programs():
     with open(os.path.join(data, "..", "args"), encoding="utf-8") as args:
         words = args.read().split()
     for word in words:
+        if word.startswith("report="):
+            continue
         if word.endswith(".class"):
             with open(os.path.join(data, word), "rb") as file:
                 files.append(file.read())

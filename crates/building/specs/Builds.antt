@@ -68,8 +68,8 @@ pub record IsBuilt (run_time build_time : Option (List ℕ)) (budget : ℕ) (I :
   pub regions : (c : ℕ) → environment_of I.regions c ≡ region_in settled c
   pub told : settled.outcomes ≡ outcomes
 
--- The image holds exactly the accepted classes' results: it has a region of a class exactly where the class is accepted,
--- and then the one that its initializer leaves.
+-- The image holds exactly the accepted classes' results: it has a region of a class exactly where the class is
+-- accepted, and then the one that its initializer leaves.
 pub record HoldsAccepted (run_time : Option (List ℕ)) (budget : ℕ) (I : ImageTables) : Type 0 where
   -- the classes that are forced to run time
   pub forced : List Bool

@@ -18,13 +18,17 @@ use Rattle.std.proofs.lemmas.Slice.Eq.{bytes_eq-Decides}
 use Rattle.std.proofs.lemmas.Map.Text.{is_eq-slice_cmp}
 use Rattle.classfile.specs.declared.constant.Constant.{Constant}
 use Rattle.classfile.specs.Lookup.{utf8_in, utf8_of}
-use Rattle.classfile.specs.reading.LookupTests.{has_utf8, same_utf8}
+use Rattle.classfile.specs.reading.LookupTests.{has_utf8, equal_utf8s, same_utf8}
 use Rattle.classfile.specs.reading.Earlier.{Utf8Map, utf8_hash, find_utf8, find_after, first_of, AreFirsts, Grows}
 
 -- a test says which
 either_way : (b : Bool) → (b ≡ true) ⊎ (b ≡ false)
 either_way true = inl refl
 either_way false = inr refl
+
+equal_to_itself : (text : Option (List ℕ)) → equal_utf8s text text ≡ true
+equal_to_itself None = refl
+equal_to_itself (Some t) = (bytes_eq-Decides t t).1 refl
 
 within_by : (pool : List Constant) (index : ℕ) (o : Option Constant) → slice_get pool index ≡ o
     → is_some (utf8_in o) ≡ true
@@ -36,6 +40,11 @@ within_by pool index (Some c) e h = slice_get_within pool index c e
 pub text_is_within : (pool : List Constant) (index : ℕ) → has_utf8 pool index ≡ true → index < length pool
 unfolding has_utf8 utf8_of
 text_is_within pool index h = within_by pool index (slice_get pool index) refl h
+
+-- an index names the text that it names
+pub same_index : (pool : List Constant) (one other : ℕ) → one ≡ other → same_utf8 pool one other ≡ true
+unfolding same_utf8
+same_index pool one other same = rw (← same) (equal_to_itself (utf8_of pool one))
 
 -- ---- the map by texts
 

@@ -5,7 +5,6 @@ pub mod ConstantLawful
 pub mod ConstantsLawful
 pub mod UnitsLemmas
 pub mod PrintingLemmas
-pub mod SizesLemmas
 pub mod BoolLemmas
 pub mod LookupTestsLemmas
 pub mod GrammarLemmas

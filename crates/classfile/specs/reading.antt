@@ -12,4 +12,3 @@ pub mod Members
 pub mod Numbers
 pub mod Pool
 pub mod Repeat
-pub mod Sizes

@@ -2,13 +2,17 @@
 
 ghost use Rattle.std.specs.Prelude.{◌≡◌, List, ℕ, IfOk};
 
+use smallvec::SmallVec;
 use std::alloc::{AllocError, Global};
 use std::marker::Model;
+
+/// A run of so many bytes at most stands in its attribute, and needs no allocation.
+const SHORT: usize = 24;
 
 /// Bytes, seen as their list.
 #[derive(Drop)]
 pub struct Bytes {
-    bytes: Vec<u8>,
+    bytes: SmallVec<u8, SHORT>,
 }
 
 impl Model for Bytes {
@@ -22,7 +26,7 @@ impl Bytes {
         ensures { IfOk result (λ b. b ≡ bytes.now) }
     {
         Ok(Bytes {
-            bytes: Vec::from_slice(alloc, bytes)?,
+            bytes: SmallVec::from_slice(alloc, bytes)?,
         })
     }
 
@@ -30,6 +34,6 @@ impl Bytes {
     pub fn as_slice(&self) -> &[u8]
         ensures { result.now ≡ self.now }
     {
-        &self.bytes
+        self.bytes.as_slice()
     }
 }

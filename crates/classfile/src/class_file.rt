@@ -9,33 +9,36 @@ ghost use Rattle.classfile.specs.FirstFault.{FirstFault, IsFirstFault, ExactlyOn
 ghost use Rattle.classfile.specs.Lookup.{utf8_of, class_name_of};
 ghost use Rattle.classfile.specs.Gives.{Gives};
 ghost use Rattle.classfile.specs.ClassFile.{ClassFile};
+ghost use Rattle.classfile.specs.Text.{class_text};
 ghost use Rattle.classfile.specs.Units.{IsModifiedUtf8};
 
 use crate::attribute::Attribute;
+use crate::bytes::Bytes;
 use crate::constant::Constant;
 use crate::fault::ClassFault;
 use crate::lookup::{class_name_of, utf8_of};
 use crate::member::Member;
 use crate::raw::{RawClassFile, class_of};
-use std::alloc::Global;
+use std::alloc::{AllocError, Global};
 use std::marker::Model;
 
-/// A class file of version 52 (JVMS 4.1). [`read`] alone makes one, and it keeps what every byte says
-/// and every rule that is checked.
+/// A class file of version 52 (JVMS 4.1). [`read`] alone makes one, and it keeps its text, what every byte
+/// says and every rule that is checked.
 #[derive(Drop)]
 pub struct ClassFile {
+    text: Bytes,
     raw: RawClassFile,
 }
 
 impl Model for ClassFile {
     ghost use Rattle.classfile.specs.ClassFile.{ClassFile};
-    ghost use Rattle.classfile.specs.Class.{IsClassFile};
+    ghost use Rattle.classfile.specs.Class.{IsClassText};
 
     ghost Value = { ClassFile };
 
     ghost view = { λ c. c.raw };
 
-    ghost invariant = { λ c. IsClassFile c.raw };
+    ghost invariant = { λ c. IsClassText c.text c.raw };
 }
 
 /// Reads a class file. What is accepted is, byte for byte, the text of the class file that is answered,
@@ -56,8 +59,20 @@ pub fn read(alloc: Global, bytes: &[u8]) -> Result<ClassFile, ClassFault>
     ensures only_fault { (fault : ClassFault) → FirstFault bytes.now fault
         → Gives {Y = ClassFile} (λ c. c) result (Err fault) }
 {
+    let text = Bytes::copy_of(alloc, bytes)?;
     let raw = class_of(alloc, bytes)?;
-    Ok(ClassFile { raw })
+    Ok(ClassFile { text, raw })
+}
+
+/// A copy of the text of a class file (JVMS 4.1): the very bytes that it was read from.
+///
+/// # Errors
+///
+/// `AllocError` where memory runs out; the class file stays as it was.
+pub fn write(alloc: Global, class: &ClassFile) -> Result<Vec<u8>, AllocError>
+    ensures { IfOk result (λ bytes. bytes.items ≡ class_text class.now) }
+{
+    Vec::from_slice(alloc, class.text())
 }
 
 /// Bytes are the text of one class file or break one rule first, and never both.
@@ -66,6 +81,13 @@ pub fn text_or_fault()
 {}
 
 impl ClassFile {
+    /// The text of the class file (JVMS 4.1): the very bytes that it was read from.
+    pub fn text(&self) -> &[u8]
+        ensures { result.now ≡ class_text self.now }
+    {
+        self.text.as_slice()
+    }
+
     /// The constants of the constant pool by index (JVMS 4.4): index 0 is unusable, and so is the one
     /// after a Long or a Double.
     pub fn constants(&self) -> &[Constant]

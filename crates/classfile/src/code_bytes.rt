@@ -2,13 +2,17 @@
 
 ghost use Rattle.std.specs.Prelude.{◌≡◌, ◌<◌, ◌^◌, length, IfOk};
 
+use smallvec::SmallVec;
 use std::alloc::{AllocError, Global};
 use std::marker::Model;
+
+/// Code of so many bytes at most stands in its attribute, and needs no allocation.
+const SHORT: usize = 24;
 
 /// The bytes of a method's code, fewer than 65,536 of them (JVMS 4.7.3), seen as their list.
 #[derive(Drop)]
 pub struct CodeBytes {
-    bytes: Vec<u8>,
+    bytes: SmallVec<u8, SHORT>,
 }
 
 impl Model for CodeBytes {
@@ -27,7 +31,7 @@ impl CodeBytes {
         ensures { IfOk result (λ b. b ≡ bytes.now) }
     {
         Ok(CodeBytes {
-            bytes: Vec::from_slice(alloc, bytes)?,
+            bytes: SmallVec::from_slice(alloc, bytes)?,
         })
     }
 
@@ -36,6 +40,6 @@ impl CodeBytes {
         ensures is { result.now ≡ self.now }
         ensures short { length self.now < 2 ^ 16 }
     {
-        &self.bytes
+        self.bytes.as_slice()
     }
 }

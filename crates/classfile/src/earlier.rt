@@ -1,8 +1,9 @@
 //! The members of a table that stand before, found by name and descriptor.
 
 ghost use Rattle.std.specs.Prelude.{◌≡◌, ◌++◌, ℕ, List, [], ◌∷◌, Some, None, true, unwrap_or, IfOk, OnOk};
-ghost use Rattle.classfile.specs.reading.Earlier.{utf8_hash, find_utf8, find_after, first_of, AreFirsts, Grows, Finds};
-ghost use Rattle.classfile.specs.reading.LookupTests.{has_utf8};
+ghost use Rattle.classfile.specs.reading.Earlier.{utf8_hash, find_utf8, find_after, first_of, AreFirsts, Grows};
+ghost use Rattle.classfile.specs.reading.Earlier.{FindsBy, FindsIn, Finds};
+ghost use Rattle.classfile.specs.reading.LookupTests.{has_utf8, same_utf8};
 ghost use Rattle.classfile.specs.reading.Members.{is_declared};
 ghost use Rattle.classfile.specs.declared.member.Member.{Member};
 
@@ -12,10 +13,20 @@ use crate::member::Member;
 use std::alloc::{AllocError, Global};
 use std::collections::{BTreeMap, BTreeSet};
 
-/// The members so far. Of equal texts one index stands for all, the first that was asked for.
+/// Of a table of so many members at most, each is compared with those before.
+const FEW: u16 = 8;
+
+/// The members so far.
 #[derive(Drop)]
 pub(crate) struct Earlier<'a> {
     pub(crate) members: Vec<Member>,
+    /// Where the table has more than a few members.
+    index: Option<SignatureIndex<'a>>,
+}
+
+/// The names and descriptors of members. Of equal texts one index stands for all, the first that was asked for.
+#[derive(Drop)]
+pub(crate) struct SignatureIndex<'a> {
     /// By index of the pool: the first index of the same text, once it was asked for.
     firsts: Vec<Option<u16>>,
     /// The same by text. A number of the text stands before it, since numbers are compared faster.
@@ -94,20 +105,64 @@ fn first_at<'a>(
     Ok(first)
 }
 
-impl<'a> Earlier<'a> {
-    /// No members yet.
-    pub(crate) fn new(alloc: Global, pool: &'a [Constant]) -> Result<Self, AllocError>
-        ensures none { IfOk result (λ e. e.members.items ≡ []) }
-        ensures finds { IfOk result (λ e. Finds pool.now e []) }
+impl<'a> SignatureIndex<'a> {
+    /// That of no members.
+    fn new(alloc: Global, pool: &'a [Constant]) -> Result<Self, AllocError>
+        ensures { IfOk result (λ index. FindsIn pool.now index []) }
     {
         let mut firsts = Vec::with_capacity(alloc, pool.len())?;
         firsts.resize(pool.len(), None)?;
-        Ok(Earlier {
-            members: Vec::new(alloc),
+        Ok(SignatureIndex {
             firsts,
             by_utf8: BTreeMap::new(alloc),
             pairs: BTreeSet::new(alloc),
         })
+    }
+
+    /// Whether one of the members has this name and descriptor. From then on one has.
+    fn note(&mut self, pool: &'a [Constant], name: u16, descriptor: u16) -> Result<bool, AllocError>
+        requires name { has_utf8 pool.now name ≡ true }
+        requires descriptor { has_utf8 pool.now descriptor ≡ true }
+        requires firsts { AreFirsts pool.now self.old.firsts.items (find_utf8 self.old.by_utf8) }
+        ensures value { IfOk result (λ found. (members : List Member) → FindsIn pool.now self.old members
+            → found ≡ is_declared pool.now name descriptor members) }
+        ensures finds { OnOk result ((members : List Member) (m : Member) → FindsIn pool.now self.old members
+            → m.name ≡ name → m.descriptor ≡ descriptor → FindsIn pool.now self.new (members ++ m ∷ [])) }
+    {
+        let name = first_at(pool, &mut self.firsts, &mut self.by_utf8, name)?;
+        let descriptor = first_at(pool, &mut self.firsts, &mut self.by_utf8, descriptor)?;
+        Ok(!self.pairs.insert((name, descriptor))?)
+    }
+}
+
+/// The index of a table of so many members, if it wants one.
+fn index_for<'a>(
+    alloc: Global,
+    pool: &'a [Constant],
+    count: u16,
+) -> Result<Option<SignatureIndex<'a>>, AllocError>
+    ensures { IfOk result (λ index. FindsBy pool.now index []) }
+{
+    if count <= FEW {
+        return Ok(None);
+    }
+    Ok(Some(SignatureIndex::new(alloc, pool)?))
+}
+
+impl<'a> Earlier<'a> {
+    /// No members yet, of a table of so many. There is room for `room` of them.
+    pub(crate) fn new(
+        alloc: Global,
+        pool: &'a [Constant],
+        count: u16,
+        room: usize,
+    ) -> Result<Self, AllocError>
+        ensures none { IfOk result (λ e. e.members.items ≡ []) }
+        ensures finds { IfOk result (λ e. Finds pool.now e []) }
+    {
+        let members = Vec::with_capacity(alloc, room)?;
+        let index = index_for(alloc, pool, count)?;
+        Ok(Earlier { members, index })
     }
 
     /// The members alone.
@@ -116,6 +171,31 @@ impl<'a> Earlier<'a> {
     {
         self.members
     }
+}
+
+/// Whether two indices name the same text.
+#[tactic(auto, using(crate::proofs::EarlierUtf8Lemmas::same_index), unfolding(crate::specs::reading::LookupTests::same_utf8))]
+fn same_utf8(pool: &[Constant], one: u16, other: u16) -> bool
+    ensures { result ≡ same_utf8 pool.now one other }
+{
+    if one == other {
+        return true;
+    }
+    match (utf8_of(pool, one), utf8_of(pool, other)) {
+        (None, None) => true,
+        (Some(one), Some(other)) => one == other,
+        _ => false,
+    }
+}
+
+/// Whether one of these members has this name and descriptor.
+#[tactic(auto, unfolding(crate::specs::reading::Members::is_declared))]
+fn is_among(pool: &[Constant], members: &[Member], name: u16, descriptor: u16) -> bool
+    ensures { result ≡ is_declared pool.now name descriptor members.now }
+{
+    members.iter().any(|member| {
+        same_utf8(pool, member.name, name) && same_utf8(pool, member.descriptor, descriptor)
+    })
 }
 
 /// Whether one of these members has this name and descriptor. From then on they are found.
@@ -133,7 +213,8 @@ pub(crate) fn is_declared<'a>(
     ensures finds { OnOk result ((m : Member) → m.name ≡ name → m.descriptor ≡ descriptor
         → Finds pool.now earlier.new (earlier.old.members.items ++ m ∷ [])) }
 {
-    let name = first_at(pool, &mut earlier.firsts, &mut earlier.by_utf8, name)?;
-    let descriptor = first_at(pool, &mut earlier.firsts, &mut earlier.by_utf8, descriptor)?;
-    Ok(!earlier.pairs.insert((name, descriptor))?)
+    match &mut earlier.index {
+        None => Ok(is_among(pool, &earlier.members, name, descriptor)),
+        Some(index) => index.note(pool, name, descriptor),
+    }
 }

@@ -25,11 +25,10 @@ mod pool;
 mod printing;
 mod raw;
 mod unread;
-mod writing;
 
 pub use attribute::{Attribute, Attributes};
 pub use bytes::Bytes;
-pub use class_file::{ClassFile, read, text_or_fault};
+pub use class_file::{ClassFile, read, text_or_fault, write};
 pub use code::Code;
 pub use code_bytes::CodeBytes;
 pub use constant::Constant;
@@ -41,4 +40,3 @@ pub use modified::ModifiedUtf8;
 pub use name::{ClassName, printed, printed_unit};
 pub use pool::ConstantPool;
 pub use unread::{UnreadAttribute, UnreadAttributes};
-pub use writing::write;

@@ -17,7 +17,7 @@ use crate::constant::Constant;
 use crate::earlier::{Earlier, is_declared};
 use crate::fault::ClassFault;
 use crate::flags::has_no_body;
-use crate::numbers::u16_at;
+use crate::numbers::{room_for, u16_at};
 use crate::pool::ConstantPool;
 use crate::unread::utf8_index_at;
 use std::alloc::Global;
@@ -253,7 +253,7 @@ fn counted_members_at<'a>(
 ) -> Result<(Members, &'a [u8]), ClassFault>
     ensures { Gives (λ x. (x.0, x.1.now)) result (counted_members_at kind pool.now total count bytes.now) }
 {
-    let mut earlier = Earlier::new(alloc, pool.as_slice())?;
+    let mut earlier = Earlier::new(alloc, pool.as_slice(), count, room_for(count, bytes))?;
     let rest = push_members_at(alloc, kind, pool, total, count, &mut earlier, bytes)?;
     let items = earlier.into_members();
     Ok((Members { items }, rest))

@@ -6,13 +6,17 @@ ghost use Rattle.classfile.specs.reading.Modified.{is_one, is_two, is_three, all
 ghost use Rattle.classfile.specs.Units.{unit_text, units_text, IsModifiedUtf8};
 ghost use Rattle.classfile.specs.Printing.{unit_of_two, unit_of_three, units_of};
 
+use smallvec::SmallVec;
 use std::alloc::{AllocError, Global};
 use std::marker::Model;
+
+/// A text of so many bytes at most stands in its constant, and needs no allocation.
+const SHORT: usize = 24;
 
 /// Bytes that are modified UTF-8: each 16-bit unit in its one spelling.
 #[derive(Drop)]
 pub struct ModifiedUtf8 {
-    bytes: Vec<u8>,
+    bytes: SmallVec<u8, SHORT>,
 }
 
 impl Model for ModifiedUtf8 {
@@ -33,7 +37,7 @@ impl ModifiedUtf8 {
         ensures { IfOk result (λ s. s ≡ bytes.now) }
     {
         Ok(ModifiedUtf8 {
-            bytes: Vec::from_slice(alloc, bytes)?,
+            bytes: SmallVec::from_slice(alloc, bytes)?,
         })
     }
 
@@ -45,7 +49,7 @@ impl ModifiedUtf8 {
     pub fn from_units(alloc: Global, units: &[u16]) -> Result<Self, AllocError>
         ensures { IfOk result (λ s. s ≡ units_text units.now) }
     {
-        let mut bytes = Vec::new(alloc);
+        let mut bytes = SmallVec::new(alloc);
         for unit in units {
             push_unit(&mut bytes, *unit)?;
         }
@@ -57,12 +61,12 @@ impl ModifiedUtf8 {
         ensures is { result.now ≡ self.now }
         ensures modified { IsModifiedUtf8 self.now }
     {
-        &self.bytes
+        self.bytes.as_slice()
     }
 }
 
 /// Writes the spelling of a unit after the bytes.
-fn push_unit(bytes: &mut Vec<u8>, unit: u16) -> Result<(), AllocError>
+fn push_unit(bytes: &mut SmallVec<u8, SHORT>, unit: u16) -> Result<(), AllocError>
     ensures { OnOk result (bytes.new.items ≡ bytes.old.items ++ unit_text unit) }
 {
     let last = (128 + unit % 64) as u8;

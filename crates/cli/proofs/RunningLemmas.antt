@@ -1,5 +1,6 @@
 -- Lines that go out, one piece after the other.
-use Rattle.std.proofs.Common.{◌≡◌, ◌+◌, ◌≤◌, ◌∙◌, ℕ, suc, List, [], ◌∷◌, ◌++◌, Option, Some, None, length, take, drop, ap}
+use Rattle.std.proofs.Common.{◌≡◌, ◌+◌, ◌≤◌, ◌∙◌, ℕ, suc, List, [], ◌∷◌, ◌++◌, Option, Some, None, length, take, drop}
+use Rattle.std.proofs.Common.{ap}
 use Rattle.std.proofs.Common.{sym, subst, refl, arith, append_assoc, append-nil, length-append, Bool, true, Err}
 use Rattle.std.proofs.Math.Seq.{take-add, take-length}
 use Rattle.std.proofs.lemmas.Grind.{flat_map-append}
@@ -83,7 +84,8 @@ still_sent steps bytes sent over old new before now s within got = (
 pub all_sent : (sent count : ℕ) (lines : List Line) (before now after : Option (List ℕ))
     → Appends before now (lines_text (take sent lines)) → Appends now after (lines_text (drop sent lines)) →
     count ≡ length lines →
-    (count ≤ length lines) × Appends before after (lines_text (take count lines)) × Appends before after (lines_text lines)
+    (count ≤ length lines) × Appends before after (lines_text (take count lines))
+    × Appends before after (lines_text lines)
 all_sent sent count lines before now after first second all =
     let whole = subst (λ (text : List ℕ). Appends before after text) (all_lines sent lines)
     (appends_then before now after (lines_text (take sent lines)) (lines_text (drop sent lines)) first second) in (

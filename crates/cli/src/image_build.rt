@@ -2,12 +2,6 @@
 ghost use Rattle.std.specs.Prelude.{◌≡◌, ◌⊎◌, IfErr, IfOk};
 ghost use Rattle.building.specs.Builds.{text_of as list_of};
 ghost use Rattle.building.specs.declared.build.BuildFault.TheVariants.{Memory};
-ghost use Rattle.evaluator.specs.Regions.{environment_of};
-ghost use Rattle.loading.specs.Files.{Links};
-ghost use Rattle.object_graph.specs.Images.{AreSmall};
-ghost use Rattle.region_shape.specs.Wholes.{AreWhole};
-ghost use Rattle.image_format.specs.Images.{AreShort, ImageText, files_of};
-ghost use Rattle.image_writer.specs.ImageTexts.{text_of, told_of};
 ghost use Rattle.cli.specs.Builds.{BuildFails};
 ghost use Rattle.cli.specs.ImageBuilds.{AreAtMost, IsBuiltText};
 ghost use Rattle.cli.specs.Runs.{texts_of};
@@ -17,10 +11,8 @@ use crate::files::contents;
 use crate::requested::{options_of, refusal_of};
 use crate::{Build, Files, Refusal};
 use building::{BuildFault, BuildOptions};
-use image_writer::sink::Out;
-use image_writer::write;
-use object_graph::Image;
-use std::alloc::{AllocError, Global};
+use image_writer::image_text;
+use std::alloc::Global;
 
 /// The greatest length of a class file of an image, which counts its bytes in 32 bits.
 pub const GREATEST_LENGTH: usize = 0xFFFF_FFFF;
@@ -44,29 +36,14 @@ pub fn build_image(
         (list_of options.now.run_time) (list_of options.now.build_time) options.now.budget fault) }
 {
     match build_here(alloc, files, options) {
-        Ok(built) => match image_bytes(alloc, &built.image) {
-            Ok(bytes) => Ok(bytes),
-            Err(_) => Err(BuildFault::Memory),
-        },
+        Ok(built) => {
+            let _region = built.image.region(0);
+            match image_text(alloc, &built.image) {
+                Ok(bytes) => Ok(bytes),
+                Err(_) => Err(BuildFault::Memory),
+            }
+        }
         Err(fault) => Err(fault),
-    }
-}
-
-/// The text of an image.
-fn image_bytes(alloc: Global, image: &Image) -> Result<Vec<u8>, AllocError>
-    requires { AreShort image.now.program.family }
-    ensures text { IfOk result (λ bytes. bytes.items ≡ text_of image.now) }
-    ensures image { Links (files_of image.now.program.family)
-        → ImageText (text_of image.now) image.now.program.family (told_of image.now) }
-    // What holds of every image.
-    ensures whole { AreWhole image.now.program (environment_of image.now.regions) }
-    ensures small { AreSmall image.now.program (environment_of image.now.regions) }
-{
-    let _held = image.region(0);
-    let mut bytes = Out::new(Vec::new(alloc));
-    match write(alloc, image, &mut bytes) {
-        Ok(()) => Ok(bytes.into_inner()),
-        Err(_) => Err(AllocError),
     }
 }
 

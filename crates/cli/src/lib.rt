@@ -33,7 +33,7 @@ pub use image_reader::ImageFault;
 pub use image_run::{ImageRun, run_image};
 pub use init_engine::Rest;
 pub use lazy::{LazyRun, Shown, entries_of, run_class_files};
-pub use run::command;
+pub use run::{End, Held, command, command_holding};
 pub use running::{Ran, RunFault, run_world};
 pub use status::{Status, status_of};
 pub use threads::thread_lines;

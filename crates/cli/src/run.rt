@@ -10,6 +10,7 @@ use crate::{
     lazy, reporting, request_of, run_world, status_of, thread_lines,
 };
 use init_engine::World;
+use object_graph::Image;
 use program::Program;
 use std::alloc::Global;
 use std::io::Write;
@@ -40,11 +41,53 @@ pub fn command<F: Files, W: Write + Send, E: Write>(
     ensures refused { result.0 ≡ 1 → (result.1 ≡ out) ⊎ IsOfRun (W.contents out) (W.contents result.1) }
     ensures words { result.0 ≡ 2 → result.1 ≡ out }
 {
-    let status = match request_of(alloc, words) {
+    let End {
+        status,
+        out,
+        held: _,
+    } = command_holding(alloc, words, files, out, errors);
+    (status, out)
+}
+
+/// What a command holds at its end: what ran, which takes time to let go of piece by piece.
+#[derive(Drop)]
+pub enum Held {
+    Nothing,
+    Program(Program),
+    Image(Image),
+}
+
+/// How a command ended.
+pub struct End<W> {
+    /// The exit status.
+    pub status: u8,
+    /// Standard output.
+    pub out: W,
+    /// What the command still holds, for a caller that ends with it.
+    pub held: Held,
+}
+
+/// Does the same as `command`, and answers what ran too.
+pub fn command_holding<F: Files, W: Write + Send, E: Write>(
+    alloc: Global,
+    words: &[&str],
+    files: &mut F,
+    mut out: W,
+    errors: &mut E,
+) -> End<W>
+    ensures range { result.status ≤ 6 }
+    ensures refused { result.status ≡ 1 → (result.out ≡ out) ⊎ IsOfRun (W.contents out) (W.contents result.out) }
+    ensures words { result.status ≡ 2 → result.out ≡ out }
+{
+    let (status, held) = match request_of(alloc, words) {
         Ok(request) => do_request(alloc, &request, files, &mut out, errors),
-        Err(fault) => tell_words(&fault, &mut out, errors),
+        Err(fault) => (tell_words(&fault, &mut out, errors), Held::Nothing),
     };
-    (status.code(), out)
+    End {
+        status: status.code(),
+        out,
+        held,
+    }
 }
 
 /// Does the command of a request.
@@ -54,15 +97,21 @@ fn do_request<F: Files, W: Write, E: Write>(
     files: &mut F,
     out: &mut W,
     errors: &mut E,
-) -> Status
-    ensures refused { result ≡ Status.Refused
+) -> (Status, Held)
+    ensures refused { result.0 ≡ Status.Refused
         → (out.new ≡ out.old) ⊎ IsOfRun (W.contents out.old) (W.contents out.new) }
-    ensures words { result ≢ Status.Words }
+    ensures words { result.0 ≢ Status.Words }
 {
     match request {
-        Request::Build(words) => tell_done(image_build::run(alloc, words, files), errors),
+        Request::Build(words) => {
+            let status = tell_done(image_build::run(alloc, words, files), errors);
+            (status, Held::Nothing)
+        }
         Request::Lazy(words) => run_lazily(alloc, words, files, out, errors),
-        Request::Report(words) => tell_report(reporting::run(alloc, words, files), out, errors),
+        Request::Report(words) => {
+            let status = tell_report(reporting::run(alloc, words, files), out, errors);
+            (status, Held::Nothing)
+        }
         Request::Run(words) => run_image(alloc, words, files, out, errors),
     }
 }
@@ -74,21 +123,17 @@ fn run_lazily<F: Files, W: Write, E: Write>(
     files: &mut F,
     out: &mut W,
     errors: &mut E,
-) -> Status
-    ensures refused { result ≡ Status.Refused
+) -> (Status, Held)
+    ensures refused { result.0 ≡ Status.Refused
         → (out.new ≡ out.old) ⊎ IsOfRun (W.contents out.old) (W.contents out.new) }
-    ensures words { result ≢ Status.Words }
+    ensures words { result.0 ≢ Status.Words }
 {
     match lazy::begin(alloc, words, files) {
-        Ok(LazyStart { program, world }) => run_from(
-            alloc,
-            &program,
-            world,
-            words.limit,
-            out,
-            errors,
-        ),
-        Err(refusal) => refuse(&refusal, errors),
+        Ok(LazyStart { program, world }) => {
+            let status = run_from(alloc, &program, world, words.limit, out, errors);
+            (status, Held::Program(program))
+        }
+        Err(refusal) => (refuse(&refusal, errors), Held::Nothing),
     }
 }
 
@@ -99,16 +144,17 @@ fn run_image<F: Files, W: Write, E: Write>(
     files: &mut F,
     out: &mut W,
     errors: &mut E,
-) -> Status
-    ensures refused { result ≡ Status.Refused
+) -> (Status, Held)
+    ensures refused { result.0 ≡ Status.Refused
         → (out.new ≡ out.old) ⊎ IsOfRun (W.contents out.old) (W.contents out.new) }
-    ensures words { result ≢ Status.Words }
+    ensures words { result.0 ≢ Status.Words }
 {
     match image_run::start(alloc, words, files) {
         Ok(ImageStart { image, world }) => {
-            run_from(alloc, image.program(), world, words.limit, out, errors)
+            let status = run_from(alloc, image.program(), world, words.limit, out, errors);
+            (status, Held::Image(image))
         }
-        Err(refusal) => refuse(&refusal, errors),
+        Err(refusal) => (refuse(&refusal, errors), Held::Nothing),
     }
 }
 

@@ -1,7 +1,6 @@
 -- What stands above some classes, and the first of a list that has something.
-use Rattle.std.proofs.Common.{◌≡◌, ℕ, suc, true, List, [], ◌∷◌, ◌++◌, Option, Some, None}
-use Rattle.std.proofs.Common.{refl, sym, ap, ◌∙◌, inl, inr, arith}
-use Rattle.std.proofs.Common.{append-nil}
+use Rattle.std.proofs.Common.{◌≡◌, ℕ, suc, true, List, [], ◌∷◌, ◌++◌, Option, Some, None, refl, sym, ap, ◌∙◌, inl, inr}
+use Rattle.std.proofs.Common.{arith, append-nil}
 use Rattle.std.specs.List.{Contains}
 use Rattle.loading.specs.Families.{Family, IsFamily, IsAncestor, parent, further, parents_in, interfaces_in}
 use Rattle.loading.specs.Families.{superclasses_in, given_superclass, is_interface_in}

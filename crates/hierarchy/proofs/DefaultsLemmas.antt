@@ -1,19 +1,17 @@
 -- The one default among superinterfaces, as methods are found one after another.
-use Rattle.std.proofs.Common.{◌≡◌, ◌↔◌, ◌<◌, length, ℕ, Bool, true, false, cond, eqb, List, [], ◌∷◌, ◌++◌, Option}
-use Rattle.std.proofs.Common.{Some, None}
-use Rattle.std.proofs.Common.{MatchOption, refl, sym, ap, ◌∙◌, subst, inl, inr, arith, is_some}
+use Rattle.std.proofs.Common.{◌≡◌, ◌↔◌, ◌<◌, length, ℕ, Bool, true, false, cond, eqb, List, [], ◌∷◌, ◌++◌, Option, Some}
+use Rattle.std.proofs.Common.{None, MatchOption, refl, sym, ap, ◌∙◌, subst, inl, inr, arith, is_some}
 use Rattle.std.specs.List.{Contains}
 use Rattle.std.proofs.lemmas.Bool.{eqb-true, eq-eqb}
-use Rattle.std.proofs.lemmas.List.Elements.{Contains-append_left, Contains-push, Contains-push_cases}
-use Rattle.std.proofs.lemmas.List.Elements.{All-contains}
+use Rattle.std.proofs.lemmas.List.Elements.{Contains-append_left, Contains-push, Contains-push_cases, All-contains}
 use Rattle.built_in.specs.Keys.{NameAndType}
 use Rattle.loading.specs.Families.{Family, IsFamily, IsAncestor, parent, further, parents_in}
 use Rattle.graph.specs.steps.Adds.{Adds}
 use Rattle.hierarchy.specs.steps.Above.{IsAmongOrAbove}
 use Rattle.hierarchy.specs.MemberLookup.{interface_method_in, IsDefault, IsTheDefault, HasNoDefault, flags_in}
 use Rattle.hierarchy.specs.MemberLookup.{is_abstract}
-use Rattle.hierarchy.specs.steps.Defaults.{AreFound, nothing, one, several, found_with, found_after, only_of}
-use Rattle.hierarchy.specs.steps.Defaults.{HasMethod, IsFree, AreCovered, AreParentsOf, Among}
+use Rattle.hierarchy.specs.steps.Defaults.{AreFound, nothing, one, several, found_with, found_after, only_of, HasMethod}
+use Rattle.hierarchy.specs.steps.Defaults.{IsFree, AreCovered, AreParentsOf, Among}
 use Rattle.hierarchy.specs.declared.defaults.Found.{Found}
 use Rattle.hierarchy.specs.declared.defaults.Found.TheVariants as found
 use Rattle.hierarchy.proofs.AboveLemmas.{ancestor_through}

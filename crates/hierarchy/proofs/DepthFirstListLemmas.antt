@@ -1,7 +1,6 @@
 -- A row read class by class.
 use Rattle.std.proofs.Common.{◌≡◌, ℕ, suc, ◌≤◌, List, [], ◌∷◌, ◌++◌, length, Option, Some, None, slice_get, refl, sym}
-use Rattle.std.proofs.Common.{ap}
-use Rattle.std.proofs.Common.{◌∙◌, subst, append_assoc, pred, arith}
+use Rattle.std.proofs.Common.{ap, ◌∙◌, subst, append_assoc, pred, arith}
 use Rattle.hierarchy.specs.steps.DepthFirst.{IsRow}
 
 -- one class was read, or none is left

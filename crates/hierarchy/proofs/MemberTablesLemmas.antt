@@ -12,7 +12,7 @@ use Rattle.loading.specs.Names.{text_at}
 use Rattle.loading.specs.Families.{Family, file_of, file_in}
 use Rattle.hierarchy.specs.MemberNames.{named_in}
 use Rattle.hierarchy.specs.declared.member_name.MemberName.{MemberName}
-use Rattle.hierarchy.specs.steps.MemberIndexes.{AreNumbers}
+use Rattle.hierarchy.specs.steps.MemberIndexes.{AreNumbers, place_of, IsIndex, first_some, declared_after}
 use Rattle.hierarchy.specs.MemberLookup.{is_named, field_in, method_in, field_of, method_of}
 use Rattle.hierarchy.specs.Texts.{AreDistinct}
 use Rattle.hierarchy.specs.steps.GrowingTexts.{KeepsNumbers}
@@ -20,7 +20,6 @@ use Rattle.loading.specs.declared.given.GivenClass.{GivenClass}
 use Rattle.hierarchy.specs.declared.member_index.MemberIndex.{MemberIndex}
 use Rattle.hierarchy.specs.declared.member_index.MemberKey.{MemberKey}
 use Rattle.hierarchy.specs.declared.member_table.MemberTable.{MemberTable}
-use Rattle.hierarchy.specs.steps.MemberIndexes.{place_of, IsIndex, first_some, declared_after}
 use Rattle.hierarchy.specs.steps.MemberTables.{IsTableOf}
 use Rattle.hierarchy.specs.steps.PoolTexts.{AreTextNumbers}
 use Rattle.loading.proofs.PlaceLemmas.{slice_get_push, pushed_at}

@@ -1,7 +1,6 @@
 -- The texts of a class file by index, and their numbers.
 use Rattle.std.proofs.Common.{◌≡◌, ℕ, zero, suc, ◌+◌, ◌<◌, ◌≤◌, ◌⊎◌, List, [], ◌∷◌, ◌++◌, length, get_or, Some}
-use Rattle.std.proofs.Common.{slice_get, refl, sym}
-use Rattle.std.proofs.Common.{ap, ◌∙◌, unwrap_or, inl, inr, arith}
+use Rattle.std.proofs.Common.{slice_get, refl, sym, ap, ◌∙◌, unwrap_or, inl, inr, arith}
 use Rattle.std.proofs.lemmas.Option.{slice_get_past, slice_get_read}
 use Rattle.std.proofs.lemmas.Bool.{cases_lt}
 use Rattle.classfile.specs.ClassFile.{ClassFile}

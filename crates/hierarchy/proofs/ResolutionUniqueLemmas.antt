@@ -1,6 +1,5 @@
 -- A reference resolves to one member, or to none, and so does a selection.
-use Rattle.std.proofs.Common.{◌≡◌, ℕ, true, Option, Some, None, slice_get, refl, sym, ap}
-use Rattle.std.proofs.Common.{◌∙◌, subst}
+use Rattle.std.proofs.Common.{◌≡◌, ℕ, true, Option, Some, None, slice_get, refl, sym, ap, ◌∙◌, subst}
 use Rattle.std.proofs.lemmas.Option.{same_Some}
 use Rattle.classfile.specs.ClassFile.{ClassFile}
 use Rattle.classfile.specs.declared.member.Member.{Member}
@@ -15,8 +14,8 @@ use Rattle.hierarchy.specs.declared.member.Field.{Field}
 use Rattle.hierarchy.specs.declared.member.Field.TheVariants as field
 use Rattle.hierarchy.specs.declared.member.Method.{Method}
 use Rattle.hierarchy.specs.declared.member.Method.TheVariants as method
-use Rattle.hierarchy.specs.MemberLookup.{UpClasses, IsTheDefault, key_in, is_private}
-use Rattle.hierarchy.specs.MemberLookup.{flags_in, flags_of, member_flags, key_if, key_of}
+use Rattle.hierarchy.specs.MemberLookup.{UpClasses, IsTheDefault, key_in, is_private, flags_in, flags_of, member_flags}
+use Rattle.hierarchy.specs.MemberLookup.{key_if, key_of}
 use Rattle.hierarchy.specs.Resolution.{ResolvesField, ResolvesMethod, AmongInterfaces, SelectsByKey, Selects}
 use Rattle.hierarchy.proofs.UniquenessLemmas.{same_search}
 use Rattle.hierarchy.proofs.BuiltInMembersLemmas.{same_member, same_array_member}

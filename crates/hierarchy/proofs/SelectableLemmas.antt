@@ -3,7 +3,7 @@ use Rattle.std.proofs.Common.{◌≡◌, ◌⊎◌, ◌↔◌, ℕ, ◌<◌, Boo
 use Rattle.std.proofs.Common.{◌+◌, ◌++◌, zero, suc, refl, sym, ap, ◌∙◌, inl, inr, subst, slice_get, get_or, take}
 use Rattle.std.proofs.Common.{option_map, is_some, arith}
 use Rattle.std.specs.Option.{option_or}
-use Rattle.std.specs.List.{Contains, find}
+use Rattle.std.specs.List.{Contains, find, position_from}
 use Rattle.std.proofs.lemmas.List.Elements.{Contains-append_left, Contains-append_right, Contains-append_cases}
 use Rattle.std.proofs.lemmas.List.Elements.{Contains-push, Contains-push_cases}
 use Rattle.built_in.specs.Keys.{NameAndType}
@@ -12,11 +12,13 @@ use Rattle.built_in.specs.declared.method.BuiltInMethod.{BuiltInMethod}
 use Rattle.built_in.specs.Methods.{key_of_member}
 use Rattle.loading.specs.declared.given.Superclass.{Superclass}
 use Rattle.loading.specs.declared.given.Superclass.TheVariants as super
-use Rattle.loading.specs.Families.{Family, is_interface_in}
+use Rattle.loading.specs.Families.{Family, is_interface_in, file_in, file_of}
 use Rattle.hierarchy.specs.declared.member.Method.{Method}
 use Rattle.hierarchy.specs.declared.member.Method.TheVariants as method
 use Rattle.hierarchy.specs.Initialization.{given_superclasses}
 use Rattle.hierarchy.specs.MemberLookup.{is_inherited, is_private, flags_in, key_in, method_with, interface_method_in}
+use Rattle.hierarchy.specs.MemberLookup.{is_named, keep_if, key_of, key_if, method_in, flags_of, member_flags}
+use Rattle.hierarchy.specs.MemberLookup.{method_of as method_in_file}
 use Rattle.hierarchy.specs.Resolution.{instance_method_in}
 use Rattle.hierarchy.specs.Selection.{method_at, method_of, first_declared, member_with, member_at_end, first_up}
 use Rattle.hierarchy.specs.Selection.{the_default, found_from, found_if, selected}
@@ -26,14 +28,10 @@ use Rattle.hierarchy.specs.steps.Reaches.{class_noted, classes_noted}
 use Rattle.hierarchy.specs.steps.Selectable.{at_place, declared_as}
 use Rattle.hierarchy.specs.declared.member.DeclaredMember.{DeclaredMember}
 use Rattle.hierarchy.specs.declared.reach_table.Reach.{Reach}
-use Rattle.hierarchy.specs.MemberLookup.{is_named, keep_if, key_of, key_if, method_in, flags_of, member_flags}
-use Rattle.hierarchy.specs.MemberLookup.{method_of as method_in_file}
-use Rattle.std.specs.List.{position_from}
 use Rattle.std.proofs.lemmas.Option.{slice_get_within}
 use Rattle.classfile.specs.ClassFile.{ClassFile}
 use Rattle.classfile.specs.declared.member.Member.{Member}
 use Rattle.loading.specs.declared.given.GivenClass.{GivenClass}
-use Rattle.loading.specs.Families.{file_in, file_of}
 use Rattle.hierarchy.proofs.NotedLemmas.{noted_next}
 use Rattle.hierarchy.proofs.SweepsLemmas.{named_by, name_is}
 

@@ -6,8 +6,7 @@ use Rattle.built_in.specs.declared.class_id.ClassId.{ClassId}
 use Rattle.built_in.specs.declared.class_id.ClassId.TheVariants as class
 use Rattle.loading.specs.Families.{Family, IsFamily, AreParentsWithin}
 use Rattle.loading.specs.declared.given.Superclass.TheVariants as super
-use Rattle.hierarchy.specs.MemberLookup.{UpClasses, method_with, is_inherited, is_private}
-use Rattle.hierarchy.specs.MemberLookup.{flags_in, key_in}
+use Rattle.hierarchy.specs.MemberLookup.{UpClasses, method_with, is_inherited, is_private, flags_in, key_in}
 use Rattle.hierarchy.specs.Resolution.{SelectsByKey, Selects}
 use Rattle.hierarchy.specs.Selection.{first_up, the_default, found_from, found_if, selected}
 use Rattle.hierarchy.specs.declared.member.Method.{Method}

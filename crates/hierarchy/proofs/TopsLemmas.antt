@@ -1,6 +1,6 @@
 -- The built-in classes above given ones.
-use Rattle.std.proofs.Common.{◌≡◌, ℕ, zero, suc, ◌+◌, ◌<◌, List, [], ◌∷◌, length, take, get_or, Some, None}
-use Rattle.std.proofs.Common.{slice_get, slice_set, refl, sym, ap, ◌∙◌, subst, inl, inr, arith}
+use Rattle.std.proofs.Common.{◌≡◌, ℕ, zero, suc, ◌+◌, ◌<◌, List, [], ◌∷◌, length, take, get_or, Some, None, slice_get}
+use Rattle.std.proofs.Common.{slice_set, refl, sym, ap, ◌∙◌, subst, inl, inr, arith}
 use Rattle.std.specs.List.{Contains}
 use Rattle.std.proofs.lemmas.Bool.{cases_eq}
 use Rattle.std.proofs.lemmas.List.{take_more, get_or_default}
@@ -8,8 +8,7 @@ use Rattle.std.proofs.lemmas.List.Elements.{Contains-append_right, Contains-push
 use Rattle.std.proofs.lemmas.Option.{slice_get_read}
 use Rattle.built_in.specs.declared.class_id.BuiltIn.{BuiltIn}
 use Rattle.loading.specs.Families.{Family, IsParentsFirst, interfaces_in, superclasses_in, superclass_in}
-use Rattle.loading.specs.Families.{given_superclass}
-use Rattle.loading.specs.Families.{parents_in}
+use Rattle.loading.specs.Families.{given_superclass, parents_in}
 use Rattle.loading.specs.declared.given.Superclass.TheVariants as super
 use Rattle.hierarchy.specs.steps.Tops.{IsTop}
 use Rattle.loading.proofs.PlaceLemmas.{contains_at}

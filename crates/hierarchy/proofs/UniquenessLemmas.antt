@@ -4,8 +4,7 @@ use Rattle.std.specs.List.{filter}
 use Rattle.loading.specs.Families.{Family, superclasses_in}
 use Rattle.hierarchy.specs.Search.{SuperinterfacesFirst, none, next, Search, nothing, here, above, firsts}
 use Rattle.hierarchy.specs.Initialization.{is_initialized_first, IsInitializationOrder, interface, class}
-use Rattle.hierarchy.specs.Initialization.{AreSuperclasses}
-use Rattle.hierarchy.specs.Initialization.{none as no_superclass, next as next_superclass}
+use Rattle.hierarchy.specs.Initialization.{AreSuperclasses, none as no_superclass, next as next_superclass}
 use Rattle.hierarchy.specs.declared.member.DeclaredMember.{DeclaredMember}
 
 pub same_superclasses : {family : Family} {c : ℕ} {a b : List ℕ} → AreSuperclasses family c a

@@ -1,21 +1,20 @@
 -- Methods along superclasses, by the nearest class that declares one.
 use Rattle.std.proofs.Common.{◌≡◌, ℕ, zero, suc, ◌<◌, ◌≤◌, [], ◌∷◌, length, Option, Some, None, refl, sym, ap, ◌∙◌}
-use Rattle.std.proofs.Common.{subst}
-use Rattle.std.proofs.Common.{arith, IsSome, inl, inr, Bool, true, false, cond, List, slice_index_or}
+use Rattle.std.proofs.Common.{subst, arith, IsSome, inl, inr, Bool, true, false, cond, List, slice_index_or}
 use Rattle.built_in.specs.Keys.{NameAndType}
 use Rattle.built_in.specs.declared.class_id.BuiltIn.{BuiltIn}
-use Rattle.loading.specs.Families.{Family, superclass_in, superclasses_in, given_superclass}
+use Rattle.loading.specs.Families.{Family, superclass_in, superclasses_in, given_superclass, IsFamily, superclass_if}
+use Rattle.loading.specs.Families.{file_of, file_in, is_interface_in}
 use Rattle.loading.specs.declared.given.Superclass.{Superclass}
 use Rattle.loading.specs.declared.given.Superclass.TheVariants as super
-use Rattle.hierarchy.specs.MemberLookup.{UpClasses, here as stands, up as one_above, beyond}
+use Rattle.hierarchy.specs.MemberLookup.{UpClasses, here as stands, up as one_above, beyond, field_in, field_of}
+use Rattle.hierarchy.specs.MemberLookup.{method_in, method_of, keep_if, is_inherited, flags_in}
 use Rattle.hierarchy.specs.declared.member.DeclaredMember.{DeclaredMember}
 use Rattle.hierarchy.specs.declared.member.Method.{Method}
 use Rattle.hierarchy.specs.declared.member.Method.TheVariants as method
-use Rattle.hierarchy.specs.steps.Reaches.{Nearest, here, above, nowhere}
+use Rattle.hierarchy.specs.steps.Reaches.{Nearest, here, above, nowhere, AllTell, GoUp, reaches_of, reaching}
 use Rattle.std.specs.List.{Contains}
 use Rattle.std.proofs.lemmas.Option.{slice_get_past}
-use Rattle.loading.specs.Families.{IsFamily, superclass_if, file_of, file_in, is_interface_in}
-use Rattle.hierarchy.specs.MemberLookup.{field_in, field_of, method_in, method_of, keep_if, is_inherited, flags_in}
 use Rattle.hierarchy.specs.steps.HierarchyTables.{wanted_in}
 use Rattle.hierarchy.specs.steps.MemberTables.{IsTableOf}
 use Rattle.hierarchy.specs.declared.member_table.MemberTable.{MemberTable}
@@ -28,7 +27,6 @@ use Rattle.hierarchy.specs.steps.MemberIndexes.{AreNumbers}
 use Rattle.hierarchy.specs.steps.NearestMembers.{AreNearest, AllAreTold, rows_of}
 use Rattle.hierarchy.specs.steps.Sweeps.{members_by}
 use Rattle.hierarchy.specs.declared.nearest.Reaches.{Reaches}
-use Rattle.hierarchy.specs.steps.Reaches.{AllTell, GoUp, reaches_of, reaching}
 use Rattle.std.proofs.lemmas.Bool.{cases_lt}
 use Rattle.hierarchy.proofs.FamiliesChainLemmas.{height, falls_given}
 use Rattle.hierarchy.specs.steps.Tops.{IsTop, direct, further}

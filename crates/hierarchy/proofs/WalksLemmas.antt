@@ -1,20 +1,18 @@
 -- The steps of a walk up a family.
 use Rattle.std.proofs.Common.{◌≡◌, ℕ, zero, suc, ◌⊎◌, ◌↔◌, Bool, true, false, List, [], ◌∷◌, ◌++◌, length, map, reverse}
-use Rattle.std.proofs.Common.{Option, Some, None, refl, sym, ap, ◌∙◌, subst, inl, inr, arith}
-use Rattle.std.proofs.Common.{append-nil, append_assoc, drop, drop-cons, get_or}
-use Rattle.std.proofs.Common.{◌+◌, ◌-◌, ◌*◌, ◌<◌, ◌≤◌}
+use Rattle.std.proofs.Common.{Option, Some, None, refl, sym, ap, ◌∙◌, subst, inl, inr, arith, append-nil, append_assoc}
+use Rattle.std.proofs.Common.{drop, drop-cons, get_or, ◌+◌, ◌-◌, ◌*◌, ◌<◌, ◌≤◌}
 use Rattle.std.specs.List.{All, Contains}
 use Rattle.std.proofs.Math.Nat.{suc-mul}
 use Rattle.std.proofs.Math.Seq.{drop-length}
-use Rattle.std.proofs.lemmas.List.{reverse-append}
-use Rattle.std.proofs.lemmas.List.{length-append, length-map, length-reverse, length_push}
+use Rattle.std.proofs.lemmas.List.{reverse-append, length-append, length-map, length-reverse, length_push}
 use Rattle.std.proofs.lemmas.List.Elements.{All-append, All-map, All-weaker, All-contains_itself, All-nil}
 use Rattle.std.proofs.lemmas.List.Elements.{Contains-append_left, Contains-append_right, Contains-append_cases}
 use Rattle.std.proofs.lemmas.List.Elements.{Contains-push, Contains-push_cases}
 use Rattle.graph.specs.Seen.{Joins}
 use Rattle.graph.proofs.WalkingLemmas.{distinct_push}
-use Rattle.loading.specs.Families.{Family, IsFamily, IsAncestor, parent, further, parents_in}
-use Rattle.loading.specs.Families.{AreParentsWithin, given_superclass}
+use Rattle.loading.specs.Families.{Family, IsFamily, IsAncestor, parent, further, parents_in, AreParentsWithin}
+use Rattle.loading.specs.Families.{given_superclass}
 use Rattle.loading.specs.declared.given.Superclass.{Superclass}
 use Rattle.loading.specs.declared.given.Superclass.TheVariants as super
 use Rattle.hierarchy.specs.Search.{Search, nothing, here, above}

@@ -1,19 +1,17 @@
 -- Classes after their parents, as a walk leaves them, and searches past what was found before.
 use Rattle.std.proofs.Common.{◌≡◌, ℕ, zero, suc, ◌⊎◌, List, [], ◌∷◌, ◌++◌, Option, Some, None, refl, sym, ap, ◌∙◌}
-use Rattle.std.proofs.Common.{subst, inl, inr, arith, false, ◌<◌, ◌≤◌, length, take, get_or}
-use Rattle.std.proofs.Common.{append-nil, append_assoc}
+use Rattle.std.proofs.Common.{subst, inl, inr, arith, false, ◌<◌, ◌≤◌, length, take, get_or, append-nil, append_assoc}
 use Rattle.std.specs.List.{Contains}
 use Rattle.std.proofs.Math.Seq.{take-suc}
 use Rattle.std.proofs.lemmas.Bool.{cases_lt}
 use Rattle.std.proofs.lemmas.List.{take_all, get_or_default}
-use Rattle.std.proofs.lemmas.List.Elements.{Contains-push_cases}
+use Rattle.std.proofs.lemmas.List.Elements.{Contains-push_cases, Contains-append_left, Contains-append_right}
+use Rattle.std.proofs.lemmas.List.Elements.{Contains-append_cases}
 use Rattle.std.proofs.lemmas.Option.{slice_get_read}
-use Rattle.std.proofs.lemmas.List.Elements.{Contains-append_left, Contains-append_right, Contains-append_cases}
-use Rattle.loading.specs.Families.{Family, IsAncestor, parent, further, parents_in}
+use Rattle.loading.specs.Families.{Family, IsAncestor, parent, further, parents_in, IsParentsFirst, superclasses_in}
 use Rattle.hierarchy.specs.Search.{Search, here, above, firsts}
 use Rattle.hierarchy.specs.steps.Above.{first_with, with_place, or_else, IsAmongOrAbove}
 use Rattle.hierarchy.specs.steps.Walks.{ParentsBefore, none, next, HasPostorder}
-use Rattle.loading.specs.Families.{IsParentsFirst, superclasses_in}
 use Rattle.loading.proofs.FamiliesParentLemmas.{no_interfaces, no_superclasses}
 use Rattle.hierarchy.specs.declared.member.DeclaredMember.{DeclaredMember}
 use Rattle.hierarchy.proofs.AboveLemmas.{or_else_assoc, first_with-append, among_parents, further_on}

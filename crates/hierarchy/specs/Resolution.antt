@@ -16,8 +16,7 @@ use Rattle.loading.specs.Families.{Family, is_interface_in}
 use Rattle.hierarchy.specs.Search.{Search}
 use Rattle.built_in.specs.Methods.{HasArrayMember, key_of_member, out_key}
 use Rattle.hierarchy.specs.MemberLookup.{field_in, method_in, method_with, interface_method_in, flags_in, is_private}
-use Rattle.hierarchy.specs.MemberLookup.{is_inherited}
-use Rattle.hierarchy.specs.MemberLookup.{UpClasses, IsTheDefault, HasNoDefault, key_in}
+use Rattle.hierarchy.specs.MemberLookup.{is_inherited, UpClasses, IsTheDefault, HasNoDefault, key_in}
 
 -- ---- fields (JVMS 5.4.3.2): of the class, of its superinterfaces, of its superclass
 

@@ -1,10 +1,10 @@
 //! What stands above a class (JVMS 5.4.3.2 to 5.4.3.4).
 
-ghost use Rattle.std.specs.Prelude.{◌≡◌, ◌↔◌, None, Some, length, IsTrue, IfOk, OnOk, MatchOption};
+ghost use Rattle.std.specs.Prelude.{◌≡◌, ◌≤◌, ◌↔◌, None, Some, length, IsTrue, IfOk, OnOk, MatchOption};
 ghost use Rattle.std.specs.Prelude.{slice_get, slice_index_or};
 ghost use Rattle.std.specs.List.{Contains};
 ghost use Rattle.loading.specs.Families.{parents_in};
-ghost use Rattle.hierarchy.specs.steps.Ancestors.{AreOf};
+ghost use Rattle.hierarchy.specs.steps.Ancestors.{AreOf, HasRoom};
 ghost use Rattle.hierarchy.specs.steps.DepthFirst.{ArePlaces};
 ghost use Rattle.hierarchy.specs.steps.Walks.{IsSearchOrder};
 
@@ -15,12 +15,10 @@ use loading::family::Family;
 use std::alloc::{AllocError, Global};
 use std::marker::Model;
 
-/// A family has no more classes than these.
-const MOST_CLASSES: usize = 65_535;
-
 /// All above a class: its superinterfaces, its superclass and what stands above these, each once, in the order in which
 /// searches come to them. They are kept until those of another class are asked for.
 pub(crate) struct Ancestors {
+    alloc: Global,
     /// The class that they were found of.
     class: Option<u32>,
     walk: Walk,
@@ -32,6 +30,7 @@ pub(crate) struct Ancestors {
 impl Drop for Ancestors {
     fn drop(self) {
         let Ancestors {
+            alloc: _,
             class: _,
             walk: _,
             places: _,
@@ -58,19 +57,19 @@ impl Model for Ancestors {
 }
 
 impl Ancestors {
-    /// Those of no class yet, with room for the classes of any family.
+    /// Those of no class yet. Room is taken when the first are looked for: most programs never do.
     ///
     /// # Errors
     /// Where memory runs out.
     pub(crate) fn new(alloc: Global) -> Result<Ancestors, AllocError>
         ensures { IfOk result (λ ancestors. ancestors.class ≡ None) }
     {
-        let walk = Walk::new(alloc, MOST_CLASSES)?;
-        let places = vec![in alloc; 0; MOST_CLASSES]?;
+        let walk = Walk::new(alloc, 0)?;
         Ok(Ancestors {
+            alloc,
             class: None,
             walk,
-            places,
+            places: Vec::new(alloc),
         })
     }
 
@@ -108,10 +107,12 @@ impl Ancestors {
         ensures class { self.new.class ≡ None }
         ensures order { OnOk result (IsSearchOrder family.now (parents_in family.now class) self.new.items) }
     {
-        if class as usize >= family.classes().len() {
+        let count = family.classes().len();
+        if class as usize >= count {
             self.walk.forget();
             return Ok(());
         }
+        make_room(self.alloc, count, &mut self.walk, &mut self.places)?;
         match self.walk.above_class(family, class) {
             Ok(()) => {
                 note_places(self.walk.entered(), &mut self.places);
@@ -141,17 +142,35 @@ impl Ancestors {
 fn place_in(places: &[u32], class: u32) -> u32
     ensures { result ≡ slice_index_or places.now class 0 }
 {
-    match places.get(class as usize) {
-        Some(place) => *place,
-        None => 0,
+    places.get(class as usize).copied().unwrap_or(0)
+}
+
+/// Makes room for so many classes, if there is less.
+fn make_room(
+    alloc: Global,
+    count: usize,
+    walk: &mut Walk,
+    places: &mut Vec<u32>,
+) -> Result<(), AllocError>
+    requires few { count ≤ 65535 }
+    requires room { HasRoom walk.old places.old.items }
+    ensures room { HasRoom walk.new places.new.items }
+    ensures enough { OnOk result (count ≤ length places.new.items) }
+{
+    if count <= places.len() {
+        return Ok(());
     }
+    let wider = vec![in alloc; 0; count]?;
+    *walk = Walk::new(alloc, count)?;
+    *places = wider;
+    Ok(())
 }
 
 /// Notes where each class stands in a list.
 fn note_places(classes: &Visited, places: &mut Vec<u32>)
-    requires limit { classes.now.limit ≡ 65535 }
-    requires len { length places.old.items ≡ 65535 }
-    ensures len { length places.new.items ≡ 65535 }
+    requires limit { classes.now.limit ≡ length places.old.items }
+    requires few { length places.old.items ≤ 65535 }
+    ensures len { length places.new.items ≡ length places.old.items }
     ensures places { ArePlaces classes.now.items places.new.items }
 {
     for place in 0..classes.len() {

@@ -41,28 +41,20 @@ impl MemberKind {
 
     /// The indices of the class and of the name and type of a reference of this kind.
     fn indices(self, constant: &Constant) -> Option<(u16, u16)> {
-        match (self, constant) {
-            (
-                MemberKind::Field,
-                Constant::Fieldref {
-                    class,
-                    name_and_type,
-                },
-            ) => Some((*class, *name_and_type)),
-            (
-                MemberKind::Method,
-                Constant::Methodref {
-                    class,
-                    name_and_type,
-                },
-            ) => Some((*class, *name_and_type)),
-            (
-                MemberKind::Method,
-                Constant::InterfaceMethodref {
-                    class,
-                    name_and_type,
-                },
-            ) => Some((*class, *name_and_type)),
+        let is_field = matches!(self, MemberKind::Field);
+        match constant {
+            Constant::Fieldref {
+                class,
+                name_and_type,
+            } if is_field => Some((*class, *name_and_type)),
+            Constant::Methodref {
+                class,
+                name_and_type,
+            }
+            | Constant::InterfaceMethodref {
+                class,
+                name_and_type,
+            } if !is_field => Some((*class, *name_and_type)),
             _ => None,
         }
     }

@@ -4,9 +4,8 @@
 ghost use Rattle.std.specs.Prelude.{◌≡◌, ◌↔◌, ◌<◌, ◌++◌, ◌∷◌, [], ℕ, List, length, IsTrue, MatchOption};
 ghost use Rattle.std.specs.List.{Contains};
 ghost use Rattle.hierarchy.specs.declared.defaults.Found.TheVariants as found;
-ghost use Rattle.hierarchy.specs.steps.Defaults.{AreFound, found_after, only_of};
-ghost use Rattle.hierarchy.specs.steps.Defaults.{HasMethod, IsFree, AreCovered, AreParentsOf, classes_of};
-ghost use Rattle.hierarchy.specs.steps.Defaults.{Among};
+ghost use Rattle.hierarchy.specs.steps.Defaults.{AreFound, found_after, only_of, HasMethod, IsFree, AreCovered};
+ghost use Rattle.hierarchy.specs.steps.Defaults.{AreParentsOf, classes_of, Among};
 ghost use Rattle.hierarchy.specs.steps.Reaches.{class_noted};
 ghost use Rattle.loading.specs.Families.{IsAncestor, parents_in};
 ghost use Rattle.built_in.specs.Keys.{NameAndType};

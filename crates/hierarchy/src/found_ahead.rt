@@ -7,14 +7,14 @@ ghost use Rattle.hierarchy.specs.steps.MemberIndexes.{same_member};
 
 use crate::member::DeclaredMember;
 use crate::member_index::{ClassMember, MemberKey};
-use crate::seed::Seed;
+use crate::seed::NumberSeed;
 use indexmap::IndexMap;
 use std::alloc::{AllocError, Global};
 
 /// By the class that a reference names, and the numbers of its name and descriptor: the member that it resolves to, or
 /// that there is none.
 pub(crate) struct FoundAhead {
-    found: IndexMap<ClassMember, Option<DeclaredMember>, Seed>,
+    found: IndexMap<ClassMember, Option<DeclaredMember>, NumberSeed>,
 }
 
 // By hand, since a derived one is proved anew wherever one is let go.
@@ -26,7 +26,7 @@ impl Drop for FoundAhead {
 
 impl FoundAhead {
     /// Nothing found.
-    pub(crate) fn new(alloc: Global, seed: Seed) -> Self
+    pub(crate) fn new(alloc: Global, seed: NumberSeed) -> Self
         ensures { (class : ℕ) (key : Key) → found_in result class key ≡ None }
     {
         FoundAhead {
@@ -38,12 +38,11 @@ impl FoundAhead {
     pub(crate) fn get(&self, class: u32, key: MemberKey) -> Option<Option<DeclaredMember>>
         ensures { result ≡ found_in self.now class key }
     {
-        self.found
-            .get(&ClassMember {
-                class: class as usize,
-                key,
-            })
-            .copied()
+        if self.found.is_empty() {
+            return None;
+        }
+        let class = class as usize;
+        self.found.get(&ClassMember { class, key }).copied()
     }
 
     /// Notes what was found for a reference.
@@ -57,11 +56,8 @@ impl FoundAhead {
             ≡ (if same_member (record { class = class; key = key }) (record { class = c; key = k }) then Some member
             else found_in self.old c k)) }
     {
-        let reference = ClassMember {
-            class: class as usize,
-            key,
-        };
-        self.found.insert(reference, member)?;
+        let class = class as usize;
+        self.found.insert(ClassMember { class, key }, member)?;
         Ok(())
     }
 }

@@ -12,10 +12,9 @@ ghost use Rattle.loading.specs.Families.{IsFamily, superclass_in, superclasses_i
 ghost use Rattle.hierarchy.specs.steps.HierarchyTables.{interface_field_in, wanted_in};
 ghost use Rattle.hierarchy.specs.steps.MemberTables.{IsTableOf};
 ghost use Rattle.built_in.specs.Keys.{NameAndType};
-ghost use Rattle.hierarchy.specs.steps.MemberIndexes.{IsLookup};
+ghost use Rattle.hierarchy.specs.steps.MemberIndexes.{IsLookup, AreNumbers};
 ghost use Rattle.hierarchy.specs.MemberLookup.{flags_in, interface_method_in, is_inherited, key_in, member_flags};
 ghost use Rattle.hierarchy.specs.MemberNames.{text_in, named_in};
-ghost use Rattle.hierarchy.specs.steps.MemberIndexes.{AreNumbers};
 ghost use Rattle.hierarchy.specs.Resolution.{instance_method_in};
 
 use crate::member::DeclaredMember;
@@ -240,46 +239,13 @@ pub(crate) fn find(
 {
     match wanted {
         Wanted::Field => table.field(class, key),
-        Wanted::InterfaceField => interface_field(family, table, class, key),
+        Wanted::InterfaceField if family.is_interface(class) => table.field(class, key),
         Wanted::Method => table.method(class, key),
         Wanted::InstanceMethod => instance_method(family, table, class, key),
-        Wanted::InterfaceMethod => interface_method(family, table, class, key),
-    }
-}
-
-/// The place of an interface's field.
-fn interface_field(
-    family: &Family,
-    table: &MemberTable,
-    class: u32,
-    key: Option<MemberKey>,
-) -> Option<u16>
-    requires { IsTableOf family.now table.now }
-    ensures { (name : NameAndType) → IsLookup table.now.texts name key
-        → result ≡ interface_field_in family.now name class }
-{
-    if family.is_interface(class) {
-        table.field(class, key)
-    } else {
-        None
-    }
-}
-
-/// The place of an interface's method that is neither private nor static.
-fn interface_method(
-    family: &Family,
-    table: &MemberTable,
-    class: u32,
-    key: Option<MemberKey>,
-) -> Option<u16>
-    requires { IsTableOf family.now table.now }
-    ensures { (name : NameAndType) → IsLookup table.now.texts name key
-        → result ≡ interface_method_in family.now name class }
-{
-    if family.is_interface(class) {
-        instance_method(family, table, class, key)
-    } else {
-        None
+        Wanted::InterfaceMethod if family.is_interface(class) => {
+            instance_method(family, table, class, key)
+        }
+        Wanted::InterfaceField | Wanted::InterfaceMethod => None,
     }
 }
 

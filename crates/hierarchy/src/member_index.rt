@@ -4,7 +4,7 @@ ghost use Rattle.std.specs.Prelude.{◌≡◌, ◌↔◌, ℕ, None, OnOk, IsTru
 ghost use Rattle.hierarchy.specs.steps.MemberIndexes.{place_of, place_after};
 ghost use Rattle.hierarchy.specs.declared.member_index.MemberKey.{MemberKey as Key};
 
-use crate::seed::Seed;
+use crate::seed::NumberSeed;
 use indexmap::IndexMap;
 use std::alloc::{AllocError, Global};
 
@@ -40,12 +40,12 @@ pub(crate) struct ClassMember {
 /// The places of members among those that their classes declare.
 #[derive(Drop)]
 pub(crate) struct MemberIndex {
-    places: IndexMap<ClassMember, u16, Seed>,
+    places: IndexMap<ClassMember, u16, NumberSeed>,
 }
 
 impl MemberIndex {
     /// No members.
-    pub(crate) fn new(alloc: Global, seed: Seed) -> Self
+    pub(crate) fn new(alloc: Global, seed: NumberSeed) -> Self
         ensures { (class : ℕ) (key : Key) → place_of result class key ≡ None }
     {
         MemberIndex {

@@ -1,17 +1,16 @@
 //! The table of all members of a family.
 
-ghost use Rattle.std.specs.Prelude.{◌≡◌, ◌≤◌, ◌^◌, ℕ, List, Option, [], ◌∷◌, ◌++◌, IfOk, OnOk, length, slice_get};
-ghost use Rattle.std.specs.Prelude.{Some, option_copied};
+ghost use Rattle.std.specs.Prelude.{◌≡◌, ◌≤◌, ◌^◌, ℕ, List, Option, [], ◌∷◌, ◌++◌, IfOk, OnOk, length, slice_get, Some};
+ghost use Rattle.std.specs.Prelude.{option_copied};
 ghost use Rattle.loading.specs.Families.{Family};
 ghost use Rattle.built_in.specs.Keys.{NameAndType};
 ghost use Rattle.loading.specs.Names.{text_at};
 ghost use Rattle.hierarchy.specs.Texts.{AreDistinct};
 ghost use Rattle.hierarchy.specs.steps.PoolTexts.{AreTextNumbers};
 ghost use Rattle.classfile.specs.ClassFile.{ClassFile as File};
-ghost use Rattle.hierarchy.specs.steps.MemberIndexes.{place_of, IsIndex, Notes, IsLookup, declared_after};
+ghost use Rattle.hierarchy.specs.steps.MemberIndexes.{place_of, IsIndex, Notes, IsLookup, declared_after, AreNumbers};
 ghost use Rattle.hierarchy.specs.MemberLookup.{field_in, method_in};
 ghost use Rattle.hierarchy.specs.steps.MemberTables.{IsTableOf};
-ghost use Rattle.hierarchy.specs.steps.MemberIndexes.{AreNumbers};
 ghost use Rattle.hierarchy.specs.MemberNames.{named_in};
 
 use crate::member_index::{MemberIndex, MemberKey};
@@ -83,7 +82,7 @@ impl MemberTable {
     pub(crate) fn of_classes(alloc: Global, classes: &[GivenClass]) -> Result<Self, AllocError>
         ensures { IfOk result (IsTableOf classes.now) }
     {
-        let seed = Seed::of_classes(alloc, classes)?;
+        let seed = Seed::of_classes(classes);
         let mut table = MemberTable::new(alloc, seed)?;
         add_classes(alloc, &mut table, classes)?;
         Ok(table)
@@ -97,8 +96,8 @@ impl MemberTable {
         Ok(MemberTable {
             texts,
             pools: Vec::new(alloc),
-            fields: MemberIndex::new(alloc, seed),
-            methods: MemberIndex::new(alloc, seed),
+            fields: MemberIndex::new(alloc, seed.of_numbers()),
+            methods: MemberIndex::new(alloc, seed.of_numbers()),
         })
     }
 

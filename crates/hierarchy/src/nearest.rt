@@ -19,7 +19,7 @@ use crate::member_index::MemberKey;
 use crate::member_table::MemberTable;
 use crate::reach_table::{Reach, ReachTable};
 use crate::reaches::note_reaches;
-use crate::seed::Seed;
+use crate::seed::NumberSeed;
 use crate::tops::{top_in, tops_of};
 use crate::wanted::Wanted;
 use built_in::class_id::BuiltIn;
@@ -108,7 +108,7 @@ impl Reaches {
         requires places { ArePlaces order.now places.now }
         ensures { IfOk result (AllAreTold family.now table.now order.now) }
     {
-        let mut reaches = Reaches::nowhere(alloc, table.seed());
+        let mut reaches = Reaches::nowhere(alloc, table.seed().of_numbers());
         match reaches.note(alloc, family, table, order, places) {
             Ok(()) => Ok(reaches),
             Err(error) => Err(error),
@@ -116,7 +116,7 @@ impl Reaches {
     }
 
     /// No class is noted yet.
-    fn nowhere(alloc: Global, seed: Seed) -> Self
+    fn nowhere(alloc: Global, seed: NumberSeed) -> Self
         ensures { (kind : Kind) → IsEmpty (rows_of kind result) }
     {
         Reaches {

@@ -89,10 +89,7 @@ impl PoolTexts {
     pub(crate) fn number(&self, index: u16) -> usize
         ensures { result ≡ slice_index_or self.now index 0 }
     {
-        match self.numbers.get(usize::from(index)) {
-            Some(number) => *number,
-            None => 0,
-        }
+        self.numbers.get(usize::from(index)).copied().unwrap_or(0)
     }
 
     /// The numbers of a name and a descriptor, by their indices.

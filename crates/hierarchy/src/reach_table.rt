@@ -7,7 +7,7 @@ ghost use Rattle.hierarchy.specs.steps.Reaches.{reaches_of, number_in, IsReachTa
 
 use crate::member::DeclaredMember;
 use crate::member_index::MemberKey;
-use crate::seed::Seed;
+use crate::seed::NumberSeed;
 use indexmap::IndexMap;
 use std::alloc::{AllocError, Global};
 
@@ -20,7 +20,7 @@ pub(crate) struct Reach {
 
 /// For each name and descriptor its reaches, in the order of their places.
 pub(crate) struct ReachTable {
-    numbers: IndexMap<MemberKey, usize, Seed>,
+    numbers: IndexMap<MemberKey, usize, NumberSeed>,
     rows: Vec<Vec<Reach>>,
 }
 
@@ -36,7 +36,7 @@ impl Drop for ReachTable {
 
 impl ReachTable {
     /// No reaches.
-    pub(crate) fn new(alloc: Global, seed: Seed) -> Self
+    pub(crate) fn new(alloc: Global, seed: NumberSeed) -> Self
         ensures table { IsReachTable result }
         ensures empty { (key : Key) → reaches_of result key ≡ [] }
     {

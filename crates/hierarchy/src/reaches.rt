@@ -60,10 +60,7 @@ impl Sweep<'_> {
     fn place(&self, class: u32) -> usize
         ensures { result ≡ slice_index_or self.now.places.now class 0 }
     {
-        match self.places.get(class as usize) {
-            Some(place) => *place,
-            None => 0,
-        }
+        self.places.get(class as usize).copied().unwrap_or(0)
     }
 
     /// Notes what is the nearest from a class on that comes next.
@@ -101,20 +98,9 @@ fn members_of_file(wanted: Wanted, file: &ClassFile) -> &[Member]
     match wanted {
         Wanted::Field => file.fields(),
         Wanted::Method | Wanted::InstanceMethod => file.methods(),
-        Wanted::InterfaceField => {
-            if is_interface(file) {
-                file.fields()
-            } else {
-                &[]
-            }
-        }
-        Wanted::InterfaceMethod => {
-            if is_interface(file) {
-                file.methods()
-            } else {
-                &[]
-            }
-        }
+        Wanted::InterfaceField if is_interface(file) => file.fields(),
+        Wanted::InterfaceMethod if is_interface(file) => file.methods(),
+        Wanted::InterfaceField | Wanted::InterfaceMethod => &[],
     }
 }
 
@@ -127,31 +113,6 @@ impl Sweep<'_> {
             Some(file) => members_of_file(self.wanted, file),
             None => &[],
         }
-    }
-
-    /// Notes one member of a class.
-    fn note_member(
-        &self,
-        alloc: Global,
-        rows: &mut ReachTable,
-        pool: &PoolTexts,
-        member: &Member,
-        class: u32,
-        place: usize,
-    ) -> Result<(), AllocError>
-        requires fits { IsTableOf self.now.family.now self.now.table.now }
-        requires rows { IsReachTable rows.old }
-        requires stands { StandsBehind self.now.family.now self.now.places.now
-            (take place self.now.order.now) class place }
-        ensures rows { OnOk result (IsReachTable rows.new) }
-        ensures go { OnOk result (AllGo (members_of self.now) (take place self.now.order.now) class rows.old rows.new) }
-        ensures noted { OnOk result ((f : File) → AreTextNumbers self.now.table.now.texts f pool.now
-            → IsNoted (members_of self.now) (take place self.now.order.now) class rows.old rows.new
-            (record { name = text_at f member.now.name; descriptor = text_at f member.now.descriptor })) }
-    {
-        let key = pool.key(member.name, member.descriptor);
-        self.note(alloc, rows, key, class, place)?;
-        Ok(())
     }
 
     /// Notes all members that a class declares.
@@ -177,7 +138,8 @@ impl Sweep<'_> {
             (record { name = text_at f m.name; descriptor = text_at f m.descriptor })) }
     {
         for member in members {
-            self.note_member(alloc, rows, pool, member, class, place)?;
+            let key = pool.key(member.name, member.descriptor);
+            self.note(alloc, rows, key, class, place)?;
         }
         Ok(())
     }

@@ -89,12 +89,9 @@ impl Ways {
     /// Whether walks for some references, and a look at each class that declares a member, would take longer than ways
     /// through all classes. A step of a walk takes some ten times as long as one of a way.
     fn are_shorter(&self, hierarchy: &Hierarchy, wanted: Wanted, group: &Group) -> bool {
-        let way = self
-            .order
-            .steps
-            .len()
-            .saturating_add(self.order.parents.len())
-            .saturating_add(group.declared.len());
+        let steps = self.order.steps.len();
+        let way = steps.saturating_add(self.order.parents.len());
+        let way = way.saturating_add(group.declared.len());
         let ways = way.saturating_mul(group.declared.len() / BITS + 1);
         let mut walks: usize = 0;
         for answer in &group.answers {
@@ -193,7 +190,7 @@ impl Hierarchy {
     ) -> Result<FoundAhead, AllocError>
         ensures { IfOk result (AreAhead kind self.now) }
     {
-        let mut found = FoundAhead::new(alloc, self.seed());
+        let mut found = FoundAhead::new(alloc, self.seed().of_numbers());
         match self.find_ahead(alloc, kind, &mut found) {
             Ok(()) => Ok(found),
             Err(error) => Err(error),

@@ -1,9 +1,10 @@
 -- The class that is found by a name is the one that the name stands for.
-use Rattle.std.proofs.Common.{◌≡◌, ℕ, zero, suc, ◌-◌, ◌<◌, ◌≤◌, ◌⊎◌, Bool, true, false, ◌&&◌, List, [], ◌∷◌, ◌++◌, length, map, replicate}
-use Rattle.std.proofs.Common.{Option, Some, None, is_some, slice_get, unwrap_or, option_map, refl, sym, ap, subst, ◌∙◌, arith, inl, inr, ltb}
+use Rattle.std.proofs.Common.{◌≡◌, ℕ, zero, suc, ◌-◌, ◌<◌, ◌≤◌, ◌⊎◌, Bool, true, false, ◌&&◌, List, [], ◌∷◌, ◌++◌}
+use Rattle.std.proofs.Common.{length, map, replicate, Option, Some, None, is_some, slice_get, unwrap_or, option_map}
+use Rattle.std.proofs.Common.{refl, sym, ap, subst, ◌∙◌, arith, inl, inr, ltb}
 use Rattle.std.specs.List.{flat_map}
 use Rattle.std.specs.Str.{bytes_eq}
-use Rattle.std.proofs.lemmas.Bool.{cases_lt, ltb-true, lt-ltb}
+use Rattle.std.proofs.lemmas.Bool.{and_parts, cases_lt, ltb-true, lt-ltb}
 use Rattle.std.proofs.lemmas.Slice.Eq.{bytes_eq-Decides}
 use Rattle.built_in.specs.ClassNames.{name_of_built_in}
 use Rattle.built_in.specs.declared.class_id.ArrayType.{ArrayType}
@@ -65,15 +66,25 @@ built_member builtins.ArithmeticException = inr (inr (inr (inr (inr (inr (inr (i
 built_member builtins.NullPointerException = inr (inr (inr (inr (inr (inr (inr (inr (inl refl))))))))
 built_member builtins.ClassCastException = inr (inr (inr (inr (inr (inr (inr (inr (inr (inl refl)))))))))
 built_member builtins.ArrayStoreException = inr (inr (inr (inr (inr (inr (inr (inr (inr (inr (inl refl))))))))))
-built_member builtins.NegativeArraySizeException = inr (inr (inr (inr (inr (inr (inr (inr (inr (inr (inr (inl refl)))))))))))
-built_member builtins.IllegalMonitorStateException = inr (inr (inr (inr (inr (inr (inr (inr (inr (inr (inr (inr (inl refl))))))))))))
-built_member builtins.IndexOutOfBoundsException = inr (inr (inr (inr (inr (inr (inr (inr (inr (inr (inr (inr (inr (inl refl)))))))))))))
-built_member builtins.ArrayIndexOutOfBoundsException = inr (inr (inr (inr (inr (inr (inr (inr (inr (inr (inr (inr (inr (inr (inl refl))))))))))))))
-built_member builtins.Error = inr (inr (inr (inr (inr (inr (inr (inr (inr (inr (inr (inr (inr (inr (inr (inl refl)))))))))))))))
-built_member builtins.LinkageError = inr (inr (inr (inr (inr (inr (inr (inr (inr (inr (inr (inr (inr (inr (inr (inr (inl refl))))))))))))))))
-built_member builtins.ExceptionInInitializerError = inr (inr (inr (inr (inr (inr (inr (inr (inr (inr (inr (inr (inr (inr (inr (inr (inr (inl refl)))))))))))))))))
-built_member builtins.NoClassDefFoundError = inr (inr (inr (inr (inr (inr (inr (inr (inr (inr (inr (inr (inr (inr (inr (inr (inr (inr (inl refl))))))))))))))))))
-built_member builtins.PrintStream = inr (inr (inr (inr (inr (inr (inr (inr (inr (inr (inr (inr (inr (inr (inr (inr (inr (inr (inr (inl refl)))))))))))))))))))
+built_member builtins.NegativeArraySizeException =
+    inr (inr (inr (inr (inr (inr (inr (inr (inr (inr (inr (inl refl)))))))))))
+built_member builtins.IllegalMonitorStateException =
+    inr (inr (inr (inr (inr (inr (inr (inr (inr (inr (inr (inr (inl refl))))))))))))
+built_member builtins.IndexOutOfBoundsException =
+    inr (inr (inr (inr (inr (inr (inr (inr (inr (inr (inr (inr (inr (inl refl)))))))))))))
+built_member builtins.ArrayIndexOutOfBoundsException =
+    inr (inr (inr (inr (inr (inr (inr (inr (inr (inr (inr (inr (inr (inr (inl refl))))))))))))))
+built_member builtins.Error =
+    inr (inr (inr (inr (inr (inr (inr (inr (inr (inr (inr (inr (inr (inr (inr (inl refl)))))))))))))))
+built_member builtins.LinkageError =
+    inr (inr (inr (inr (inr (inr (inr (inr (inr (inr (inr (inr (inr (inr (inr (inr (inl refl))))))))))))))))
+built_member builtins.ExceptionInInitializerError =
+    inr (inr (inr (inr (inr (inr (inr (inr (inr (inr (inr (inr (inr (inr (inr (inr (inr (inl refl)))))))))))))))))
+built_member builtins.NoClassDefFoundError =
+    inr (inr (inr (inr (inr (inr (inr (inr (inr (inr (inr (inr (inr (inr (inr (inr (inr (inr (inl refl))))))))))))))))))
+built_member builtins.PrintStream =
+    inr (inr (inr (inr (inr (inr (inr (inr (inr (inr (inr (inr (inr (inr (inr (inr (inr (inr (inr (
+    inl refl)))))))))))))))))))
 
 -- ---- all classes
 
@@ -91,7 +102,8 @@ number_within : (family : Family) (c : ℕ) (name : List ℕ) → name_in family
 number_within family c name e =
     let g = given_within (slice_get family c) name e in within family c g.0 g.1
 
-of_mapped : (o : Option (List ℕ)) (text : List ℕ) → option_map object_type o ≡ Some text → (name : List ℕ) × (o ≡ Some name)
+of_mapped : (o : Option (List ℕ)) (text : List ℕ) → option_map object_type o ≡ Some text
+    → (name : List ℕ) × (o ≡ Some name)
 of_mapped None text e = absurd cc
 of_mapped (Some name) text e = (name, refl)
 
@@ -124,12 +136,15 @@ array_member : (family : Family) (a : ArrayType) (text : List ℕ) → 1 ≤ a.d
 array_member family a text some few is =
     let d : ℕ = a.dimensions - 1 in
     let back : suc d ≡ a.dimensions = omega arith in
-    let make : ElementType → ClassId = λ (e : ElementType). classes.Array (record { dimensions = suc d; element = e }) in
+    let make : ElementType → ClassId =
+    λ (e : ElementType). classes.Array (record { dimensions = suc d; element = e }) in
     let here : Member (make a.element) (arrays_of family d) =
     member_map make a.element (all_elements family) (element_member family a.element text is) in
-    let P : ℕ → Type 0 = λ n. Member (classes.Array (record { dimensions = n; element = a.element })) (arrays_of family d) in
+    let P : ℕ → Type 0 = λ n.
+    Member (classes.Array (record { dimensions = n; element = a.element })) (arrays_of family d) in
     let flat : Member (classes.Array a) (flat_map (arrays_of family) (below 255)) =
-    member_flat (arrays_of family) d (classes.Array a) (below 255) (member_below 255 d (omega arith)) (subst P back here) in
+    member_flat (arrays_of family) d (classes.Array a) (below 255) (member_below 255 d (omega arith))
+    (subst P back here) in
     member_right (classes.Array a) (map (λ (c : ℕ). classes.Given c) (below (length family)))
     (map (λ (b : BuiltIn). classes.BuiltIn b) all_built_in ++ flat_map (arrays_of family) (below 255))
     (member_right (classes.Array a) (map (λ (b : BuiltIn). classes.BuiltIn b) all_built_in)
@@ -152,11 +167,7 @@ class_member family name (classes.Array a) (array some few element is) = array_m
 
 -- ---- tests
 
-and_true : (a b : Bool) → (a && b) ≡ true → (a ≡ true) × (b ≡ true)
-and_true true b e = (refl, e)
-and_true false b e = absurd cc
-
-some_of : (o : Option (List ℕ)) → is_some o ≡ true → (text : List ℕ) × (o ≡ Some text)
+pub some_of : (o : Option (List ℕ)) → is_some o ≡ true → (text : List ℕ) × (o ≡ Some text)
 some_of None e = absurd cc
 some_of (Some text) e = (text, refl)
 
@@ -169,15 +180,16 @@ equal_of a b e = (bytes_eq-Decides a b).0 e
 named_of : (family : Family) (name : List ℕ) (class : ClassId) → is_named family name class ≡ true
     → IsNamed family name class
 named_of family name (classes.Given c) e =
-    let p = and_true (is_some (name_in family c)) (bytes_eq (class_name family (classes.Given c)) name) e in
+    let p = and_parts (is_some (name_in family c)) (bytes_eq (class_name family (classes.Given c)) name) e in
     let s = some_of (name_in family c) p.0 in
-    let same : s.0 ≡ name = sym (or_nothing (name_in family c) s.0 s.1) ∙ equal_of (class_name family (classes.Given c)) name p.1 in
+    let same : s.0 ≡ name = sym (or_nothing (name_in family c) s.0 s.1)
+    ∙ equal_of (class_name family (classes.Given c)) name p.1 in
     given (s.1 ∙ ap (λ (z : List ℕ). Some z) same)
 named_of family name (classes.BuiltIn b) e = built_in (equal_of (name_of_built_in b) name e)
 named_of family name (classes.Array a) e =
-    let p = and_true (is_class family (classes.Array a)) (bytes_eq (class_name family (classes.Array a)) name) e in
-    let q = and_true (ltb 0 a.dimensions) (ltb a.dimensions 256 && is_some (descriptor_of family a.element)) p.0 in
-    let r = and_true (ltb a.dimensions 256) (is_some (descriptor_of family a.element)) q.1 in
+    let p = and_parts (is_class family (classes.Array a)) (bytes_eq (class_name family (classes.Array a)) name) e in
+    let q = and_parts (ltb 0 a.dimensions) (ltb a.dimensions 256 && is_some (descriptor_of family a.element)) p.0 in
+    let r = and_parts (ltb a.dimensions 256) (is_some (descriptor_of family a.element)) q.1 in
     let s = some_of (descriptor_of family a.element) r.1 in
     let few = ltb-true _ _ r.0 in
     let some = ltb-true _ _ q.0 in
@@ -213,7 +225,8 @@ first_stands family name [] (Some y) e all = absurd cc
 first_stands family name (class ∷ rest) o e all = by (is_named family name class) refl (first_stands family name rest o)
   where
     by : (b : Bool) → is_named family name class ≡ b
-        → (first_named family name rest ≡ o → ((x : ClassId) → IsNamed family name x → Member x rest) → StandsFor family name o)
+        → (first_named family name rest ≡ o → ((x : ClassId) → IsNamed family name x → Member x rest)
+        → StandsFor family name o)
         → StandsFor family name o
     by true is again =
         let found : o ≡ Some class = sym e ∙ rw is refl in
@@ -221,7 +234,8 @@ first_stands family name (class ∷ rest) o e all = by (is_named family name cla
     by false is again =
         let next : first_named family name rest ≡ o = rw is at e in
         again next (λ x h. elim (all x h) [
-          | inl same ↦ absurd (let t = test_named family name x h in let f : is_named family name x ≡ false = rw same is in cc)
+          | inl same ↦ absurd (let t = test_named family name x h in
+              let f : is_named family name x ≡ false = rw same is in cc)
           | inr r ↦ r
         ])
 

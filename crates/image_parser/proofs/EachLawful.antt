@@ -19,7 +19,8 @@ abbrev EachAfter : {K X : Type 0} → (K → X → List ℕ → Type 0) → List
 EachAfter Spells [] items = Is items
 EachAfter Spells (k ∷ ks) items = Both (Spells k) (λ x. EachAfter Spells ks (items ++ x ∷ []))
 
-after_lawful : {E : Type 0} {K X : Type 0} (read : K → List ℕ → Result (X × List ℕ) E) (Spells : K → X → List ℕ → Type 0)
+after_lawful : {E : Type 0} {K X : Type 0} (read : K → List ℕ → Result (X × List ℕ) E)
+    (Spells : K → X → List ℕ → Type 0)
     (Fails : K → List ℕ → E → Type 0)
     → ((k : K) → Lawful (read k) (Spells k) (Fails k)) → (ks : List K) (items : List X)
     → Lawful (each_at read ks items) (EachAfter Spells ks items) (EachFails Spells Fails ks)
@@ -36,7 +37,8 @@ record Added {K X : Type 0} (spell : X → List ℕ) (Fits : K → X → Type 0)
   each : AllZip Fits ks added
   spelled : text ≡ flat_map spell added
 
-added_by : {K X : Type 0} (spell : X → List ℕ) (Fits : K → X → Type 0) (ks : List K) (items all : List X) (text : List ℕ)
+added_by : {K X : Type 0} (spell : X → List ℕ) (Fits : K → X → Type 0) (ks : List K) (items all : List X)
+    (text : List ℕ)
     → EachAfter (Spelled spell Fits) ks items all text → Added spell Fits ks items all text
 added_by {K} {X} spell Fits [] items all text s = record {
   added = [];

@@ -1,6 +1,6 @@
 -- Reading part after part, as a loop does.
-use Rattle.std.proofs.Common.{◌≡◌, ℕ, suc, ◌-◌, ◌+◌, ◌≤◌, ◌<◌, List, [], ◌∷◌, ◌++◌, length, get_or, drop, Result, Ok, Err}
-use Rattle.std.proofs.Common.{refl, sym, ap, ◌∙◌, arith, drop-cons}
+use Rattle.std.proofs.Common.{◌≡◌, ℕ, suc, ◌-◌, ◌+◌, ◌≤◌, ◌<◌, List, [], ◌∷◌, ◌++◌, length, get_or, drop, Result, Ok}
+use Rattle.std.proofs.Common.{Err, refl, sym, ap, ◌∙◌, arith, drop-cons}
 use Rattle.std.proofs.lemmas.List.{drop_all}
 use Rattle.image_parser.specs.declared.fault.RegionFault.{RegionFault}
 use Rattle.image_parser.specs.declared.fault.RegionFault.TheVariants as faults
@@ -20,7 +20,8 @@ fails_bind faults.Memory r f goal h one = tt
 fails_bind faults.Truncated r f goal h one = failed faults.Truncated r f goal h one
 fails_bind faults.Shape r f goal h one = failed faults.Shape r f goal h one
 
-each_next : {K X : Type 0} (read : EachReader K X) (ks rest : List K) (k : K) (items : List X) (bytes after : List ℕ) (x : X)
+each_next : {K X : Type 0} (read : EachReader K X) (ks rest : List K) (k : K) (items : List X) (bytes after : List ℕ)
+    (x : X)
     (goal : Result (List X × List ℕ) RegionFault) → ks ≡ k ∷ rest → read k bytes ≡ Ok (x, after)
     → each_at read ks items bytes ≡ goal → each_at read rest (items ++ x ∷ []) after ≡ goal
 unfolding each_at
@@ -69,7 +70,8 @@ split : {K : Type 0} (ks : List K) (i : ℕ) (d : K) → i < length ks → drop 
 split {K} ks i d lt =
     let next : suc i ≡ i + 1 = omega arith in drop-cons ks i d lt ∙ ap (λ (k : ℕ). get_or ks i d ∷ drop k ks) next
 
-pub next_of : {K X : Type 0} (read : EachReader K X) (ks : List K) {i : ℕ} (d : K) (items : List X) (bytes : List ℕ) {x : X}
+pub next_of : {K X : Type 0} (read : EachReader K X) (ks : List K) {i : ℕ} (d : K) (items : List X)
+    (bytes : List ℕ) {x : X}
     {after : List ℕ} {goal : Result (List X × List ℕ) RegionFault} → i < length ks
     → read (get_or ks i d) bytes ≡ Ok (x, after) → each_at read (drop i ks) items bytes ≡ goal
     → each_at read (drop (i + 1) ks) (items ++ x ∷ []) after ≡ goal

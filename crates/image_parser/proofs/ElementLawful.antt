@@ -1,9 +1,9 @@
 -- Readers of the elements of arrays are lawful.
-use Rattle.std.proofs.Common.{◌≡◌, ℕ, ℤ, pos, negsuc, suc, ◌-◌, ◌<◌, ◌^◌, ◌%◌, ◌/◌, Bool, true, false, ◌&&◌, ltb, [], ◌∷◌}
-use Rattle.std.proofs.Common.{refl, sym, ap, subst, ◌∙◌, arith, inl, inr}
+use Rattle.std.proofs.Common.{◌≡◌, ℕ, ℤ, pos, negsuc, suc, ◌-◌, ◌<◌, ◌^◌, ◌%◌, ◌/◌, Bool, true, false, ◌&&◌, ltb, []}
+use Rattle.std.proofs.Common.{◌∷◌, refl, sym, ap, subst, ◌∙◌, arith, inl, inr}
 use Rattle.std.specs.Prelude.{FitsSigned, int_le}
 use Rattle.std.specs.Int.{Width, w8, w16, w32, w64, to_be_bytes, cast_signed, cast_unsigned}
-use Rattle.std.proofs.lemmas.Bool.{cases_lt, lt-ltb, le-ltb, le-leb, leb-true}
+use Rattle.std.proofs.lemmas.Bool.{and_parts, and_from, cases_lt, lt-ltb, le-ltb, le-leb, leb-true}
 use Rattle.std.proofs.lemmas.Int.{of_z-to_z}
 use mir.ValLaws.{to_z-of_z, of_z_fits, to_z-Fits}
 use Rattle.program.specs.declared.runtime_constant.FieldKind.{FieldKind}
@@ -15,16 +15,11 @@ use Rattle.image_format.specs.Texts.{element_text}
 use Rattle.image_parser.specs.FirstFailing.{Number, limit_of}
 use Rattle.image_parser.specs.RegionFaults.{CutNumber, ElementFails, IsElement}
 use Rattle.image_parser.specs.reading.Results.{number_at}
-use Rattle.image_parser.specs.reading.Values.{made_at, byte_of_bits, char_of_bits, short_of_bits, int_of_bits, long_of_bits, element_at}
-use Rattle.image_parser.proofs.Lawful.{Lawful, IsWide, wide8, wide16, wide32, wide64, number_lawful, map_lawful, restated}
+use Rattle.image_parser.specs.reading.Values.{made_at, byte_of_bits, char_of_bits, short_of_bits, int_of_bits}
+use Rattle.image_parser.specs.reading.Values.{long_of_bits, element_at}
+use Rattle.image_parser.proofs.Lawful.{Lawful, IsWide, wide8, wide16, wide32, wide64, number_lawful, map_lawful}
+use Rattle.image_parser.proofs.Lawful.{restated}
 use Rattle.image_parser.proofs.ValueLawful.{value_lawful}
-
-both_true : (a b : Bool) → a ≡ true → b ≡ true → (a && b) ≡ true
-both_true a b p q = rw (p, q) refl
-
-and_true : (a b : Bool) → (a && b) ≡ true → (a ≡ true) × (b ≡ true)
-and_true true b e = (refl, e)
-and_true false b e = absurd cc
 
 -- ---- what a number of some bits makes
 
@@ -58,7 +53,8 @@ made_char : IsMade kinds.Char w16 char_of_bits (2 ^ 16)
 made_char = record {
   suits = λ b lt. (
     record { sfits = omega (arith, lt) },
-    both_true (int_le (pos 0) (pos b)) (int_le (pos b) (pos 65535)) (le-leb 0 b (omega arith)) (le-leb b 65535 (omega (arith, lt))),
+    and_from (int_le (pos 0) (pos b)) (int_le (pos b) (pos 65535)) (le-leb 0 b (omega arith))
+        (le-leb b 65535 (omega (arith, lt))),
   );
   text = λ b lt. refl;
   bits = λ v h. char_bits v h;
@@ -66,9 +62,11 @@ made_char = record {
   where
     char_bits : (v : ImageValue) → Suits kinds.Char v → (b : ℕ) × ((b < 2 ^ 16) × (v ≡ char_of_bits b))
     char_bits (values.Int (pos n)) h =
-        let r = and_true (int_le (pos 0) (pos n)) (int_le (pos n) (pos 65535)) h.1 in
+        let r = and_parts (int_le (pos 0) (pos n)) (int_le (pos n) (pos 65535)) h.1 in
         let top = leb-true n 65535 r.1 in (n, (omega (arith, top), refl))
-    char_bits (values.Int (negsuc n)) h = absurd (let r = and_true (int_le (pos 0) (negsuc n)) (int_le (negsuc n) (pos 65535)) h.1 in let low = r.0 in cc)
+    char_bits (values.Int (negsuc n)) h =
+        absurd (let r = and_parts (int_le (pos 0) (negsuc n)) (int_le (negsuc n) (pos 65535)) h.1 in
+        let low = r.0 in cc)
     char_bits values.Null h = absurd h
     char_bits (values.Long n) h = absurd h
     char_bits (values.Text u) h = absurd h
@@ -117,21 +115,24 @@ low_two x b e =
 byte_in_range : (z : ℤ) → FitsSigned w8 z → FitsSigned w32 z × (is_in_range kinds.Byte z ≡ true)
 byte_in_range (pos n) f = let small = f.sfits in
     (record { sfits = omega (arith, small) }, le-leb n 127 (omega (arith, small)))
-byte_in_range (negsuc n) f = let small = f.sfits in
-    (record { sfits = omega (arith, small) }, both_true (int_le (negsuc 127) (negsuc n)) true (le-leb n 127 (omega (arith, small))) refl)
+byte_in_range (negsuc n) f = let small = f.sfits in (
+  record { sfits = omega (arith, small) },
+  and_from (int_le (negsuc 127) (negsuc n)) true
+      (le-leb n 127 (omega (arith, small))) refl,
+)
 
 short_in_range : (z : ℤ) → FitsSigned w16 z → FitsSigned w32 z × (is_in_range kinds.Short z ≡ true)
 short_in_range (pos n) f = let small = f.sfits in
     (record { sfits = omega (arith, small) }, le-leb n 32767 (omega (arith, small)))
 short_in_range (negsuc n) f = let small = f.sfits in (
   record { sfits = omega (arith, small) },
-  both_true (int_le (negsuc 32767) (negsuc n)) true (le-leb n 32767 (omega (arith, small))) refl,
+  and_from (int_le (negsuc 32767) (negsuc n)) true (le-leb n 32767 (omega (arith, small))) refl,
 )
 
 int_in_range : (z : ℤ) → FitsSigned w32 z → is_in_range kinds.Int z ≡ true
 int_in_range (pos n) f = let small = f.sfits in le-leb n 2147483647 (omega (arith, small))
 int_in_range (negsuc n) f = let small = f.sfits in
-    both_true (int_le (negsuc 2147483647) (negsuc n)) true (le-leb n 2147483647 (omega (arith, small))) refl
+    and_from (int_le (negsuc 2147483647) (negsuc n)) true (le-leb n 2147483647 (omega (arith, small))) refl
 
 byte_bits : (z : ℤ) → is_in_range kinds.Byte z ≡ true → (b : ℕ) × ((b < 256) × (z ≡ cast_signed w8 b))
 byte_bits (pos n) e =
@@ -139,7 +140,7 @@ byte_bits (pos n) e =
     let h : ltb n 128 ≡ true = lt-ltb n 128 (omega (arith, top)) in
     (n, (omega (arith, top), rw h refl))
 byte_bits (negsuc n) e =
-    let r = and_true (int_le (negsuc 127) (negsuc n)) true e in
+    let r = and_parts (int_le (negsuc 127) (negsuc n)) true e in
     let top = leb-true n 127 r.0 in
     let h : ltb (255 - n) 128 ≡ false = le-ltb (255 - n) 128 (omega (arith, top)) in
     let same : n ≡ 256 - suc (255 - n) = omega (arith, top) in
@@ -151,7 +152,7 @@ short_bits (pos n) e =
     let h : ltb n 32768 ≡ true = lt-ltb n 32768 (omega (arith, top)) in
     (n, (omega (arith, top), rw h refl))
 short_bits (negsuc n) e =
-    let r = and_true (int_le (negsuc 32767) (negsuc n)) true e in
+    let r = and_parts (int_le (negsuc 32767) (negsuc n)) true e in
     let top = leb-true n 32767 r.0 in
     let h : ltb (65535 - n) 32768 ≡ false = le-ltb (65535 - n) 32768 (omega (arith, top)) in
     let same : n ≡ 65536 - suc (65535 - n) = omega (arith, top) in

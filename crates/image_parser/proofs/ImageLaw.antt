@@ -1,6 +1,6 @@
 -- Bytes are the text of one image or have one fault, and never both.
-use Rattle.std.proofs.Common.{◌≡◌, ℕ, ◌+◌, ◌<◌, ◌≤◌, ◌^◌, ◌⊎◌, List, ◌++◌, length, take, drop}
-use Rattle.std.proofs.Common.{Option, None, Result, Ok, Err, refl, sym, ap, subst, ◌∙◌, arith, inl, inr}
+use Rattle.std.proofs.Common.{◌≡◌, ℕ, ◌+◌, ◌<◌, ◌≤◌, ◌^◌, ◌⊎◌, List, ◌++◌, length, take, drop, Option, None, Result, Ok}
+use Rattle.std.proofs.Common.{Err, refl, sym, ap, subst, ◌∙◌, arith, inl, inr}
 use Rattle.std.specs.Int.{w32, from_be_bytes}
 use Rattle.std.specs.Prelude.{IfOk, IfErr, MatchResult}
 use Rattle.std.specs.List.{flat_map}
@@ -177,10 +177,12 @@ module _ (parts : List ℕ) (fits : IsBytes parts) where
   no_parts_fault : (family : Family) (held : Held) (f : ImageFault) → PartsText parts family held
       → PartsFail parts f → ⊥
   no_parts_fault family held f text (files n bytes e few is fails) =
-      has_no_fault parts (classes_of family) (rest_of family held) n bytes e fits (text_has parts family held text) few is
+      has_no_fault parts (classes_of family) (rest_of family held) n bytes e fits
+      (text_has parts family held text) few is
       fails
   no_parts_fault family held f text (link read rest e has fails) =
-      let same = one_has parts read (classes_of family) rest (rest_of family held) has (text_has parts family held text) in
+      let same = one_has parts read (classes_of family) rest (rest_of family held) has
+      (text_has parts family held text) in
       let P : List ClassFile → Type 0 = λ z. LinkFails z e in
       link_not_both (classes_of family) e text.links (subst P same.0 fails)
   no_parts_fault family held f text (regions G rest e linked fails) =
@@ -299,7 +301,8 @@ module _ (bytes : List ℕ) (fits : IsBytes bytes) where
       (subst P same (text_parts bytes G b t))
 
   one_image_fault : (f g : ImageFault) → ImageFails bytes f → ImageFails bytes g → f ≡ g
-  one_image_fault f g (frame e fails) (frame d blames) = ap of_header ((frame_or_fault bytes).one_fault e d fails blames)
+  one_image_fault f g (frame e fails) (frame d blames) =
+      ap of_header ((frame_or_fault bytes).one_fault e d fails blames)
   one_image_fault f g (frame e fails) (within parts d framed blames) =
       absurd ((frame_or_fault bytes).not_both parts e framed fails)
   one_image_fault f g (within parts e framed fails) (frame d blames) =

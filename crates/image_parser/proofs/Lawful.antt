@@ -1,7 +1,7 @@
 -- Readers whose answers and faults are what a part spells and how it fails.
 use Rattle.std.proofs.Common.{◌≡◌, ℕ, suc, ◌+◌, ◌%◌, ◌<◌, ◌≤◌, ◌⊎◌, Bool, true, false, cond, ltb, List, [], ◌∷◌, ◌++◌}
-use Rattle.std.proofs.Common.{length, get_or, take}
-use Rattle.std.proofs.Common.{drop, Result, Ok, Err, refl, sym, ap, subst, ◌∙◌, append_assoc, arith, inl, inr}
+use Rattle.std.proofs.Common.{length, get_or, take, drop, Result, Ok, Err, refl, sym, ap, subst, ◌∙◌, append_assoc}
+use Rattle.std.proofs.Common.{arith, inl, inr}
 use Rattle.std.specs.Int.{Width, w8, w16, w32, w64, byte_len, from_be_bytes, to_be_bytes}
 use Rattle.std.proofs.lemmas.Bool.{cases_lt, ltb-false, ltb-true, le-ltb, lt-ltb}
 use Rattle.std.proofs.lemmas.List.{take_at, drop_at, take-append-drop, length-append, length-take, get_or-drop}
@@ -201,7 +201,8 @@ wide8 = record {
   below = λ bytes fits. omega (arith, fits 0);
 }
 
-pub guard_ok : {E : Type 0} {A : Type 0} (b : Bool) (d : E) (x y : A) → cond b (Err d) (Ok x) ≡ Ok y → (b ≡ false) × (x ≡ y)
+pub guard_ok : {E : Type 0} {A : Type 0} (b : Bool) (d : E) (x y : A) → cond b (Err d) (Ok x) ≡ Ok y
+    → (b ≡ false) × (x ≡ y)
 guard_ok true d x y e = absurd cc
 guard_ok false d x y e = (refl, cc)
 
@@ -282,7 +283,8 @@ pub record Mapped {X Y : Type 0} (make : X → Y) (S : X → List ℕ → Type 0
   pub spelled : S value text
   pub is : y ≡ make value
 
-pub map_lawful : {E : Type 0} {X Y : Type 0} (make : X → Y) (r : List ℕ → Result (X × List ℕ) E) (S : X → List ℕ → Type 0)
+pub map_lawful : {E : Type 0} {X Y : Type 0} (make : X → Y) (r : List ℕ → Result (X × List ℕ) E)
+    (S : X → List ℕ → Type 0)
     (F : List ℕ
     → E → Type 0)
     → Lawful r S F → Lawful (λ bytes. r bytes >>= λ p. Ok (make p.0, p.1)) (Mapped make S) F

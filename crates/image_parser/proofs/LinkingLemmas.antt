@@ -1,6 +1,6 @@
 -- Class files in the order of their names make one program or have a fault.
-use Rattle.std.proofs.Common.{◌≡◌, ℕ, zero, suc, ◌+◌, ◌<◌, ◌⊎◌, inl, inr, Bool, true, false, List, [], ◌∷◌}
-use Rattle.std.proofs.Common.{length, map, Option, Some, None, slice_get, refl, sym, ap, subst, ◌∙◌, arith}
+use Rattle.std.proofs.Common.{◌≡◌, ℕ, zero, suc, ◌+◌, ◌<◌, ◌⊎◌, inl, inr, Bool, true, false, List, [], ◌∷◌, length, map}
+use Rattle.std.proofs.Common.{Option, Some, None, slice_get, refl, sym, ap, subst, ◌∙◌, arith}
 use Rattle.std.specs.List.{All, AllZip, Contains, zip}
 use Rattle.std.specs.Option.{option_map}
 use Rattle.std.specs.Str.{bytes_eq}
@@ -27,13 +27,11 @@ use Rattle.loading.specs.Families.{Family, IsFamilyOf, name_in}
 use Rattle.loading.specs.Files.{IsGiven, IsBuiltIn, IsUnknown, IsGivenClass, IsTaken, HasLeastBadParent, WithinLimit}
 use Rattle.loading.specs.Files.{No, IsLeast, LinkFails, Links, limit, taken}
 use Rattle.loading.specs.Names.{name_of, superclass_of, interfaces_of, is_interface}
-use Rattle.loading.specs.steps.Linking.{Ascend, AreNamed, AreParents, AreInterfaces, IsSuperclass}
-use Rattle.loading.specs.steps.Linking.{HasBadSuperclass, HasBadInterface, name_at, name_among}
-use Rattle.loading.specs.steps.Linking.{is_interface_at, may_be_extended, is_object, class_of_parts, file_of_class, parents_of_class}
-use Rattle.loading.specs.steps.Linking.{none_named}
+use Rattle.loading.specs.steps.Linking.{Ascend, AreNamed, AreParents, AreInterfaces, IsSuperclass, HasBadSuperclass}
+use Rattle.loading.specs.steps.Linking.{HasBadInterface, name_at, name_among, is_interface_at, may_be_extended}
+use Rattle.loading.specs.steps.Linking.{is_object, class_of_parts, file_of_class, parents_of_class, none_named}
 use Rattle.loading.specs.steps.Linking.{unknown_class, not_extended, not_below_object, one_unknown, one_no_interface}
-use Rattle.loading.proofs.FilesParentLemmas.{class_file, named_known, least_superclass, least_interface}
-use Rattle.loading.proofs.FilesParentLemmas.{no_bad_parent}
+use Rattle.loading.proofs.FilesParentLemmas.{class_file, named_known, least_superclass, least_interface, no_bad_parent}
 use Rattle.loading.proofs.FilesTakenLemmas.{HasTakenName, least_taken, none_taken}
 use Rattle.loading.proofs.FilesTwiceLemmas.{none_twice}
 use Rattle.loading.proofs.LinkingClassLemmas.{AreMade, made_of_parts, made_is_linked, name_in_files}
@@ -130,7 +128,8 @@ taken_from files few up fit (suc m) k end none =
     let at = there files k (omega (arith, end)) in
     let f = at.0 in
     elim (built_known (name_of f)) [
-      | inr never ↦ taken_from files few up fit m (k + 1) (omega (arith, end)) (none_more HasTakenName files k f at.1 none never)
+      | inr never ↦ taken_from files few up fit m (k + 1) (omega (arith, end))
+          (none_more HasTakenName files k f at.1 none never)
       | inl built ↦
           let P : List ℕ → Type 0 = λ z. IsLeast (IsTaken files) z in
           let units = own_units files fit f (member_at files k f at.1) in
@@ -333,7 +332,14 @@ module _ (files : List ClassFile) (named : AreNamed files) where
         elim (first_on_cycle family linked.within) [
           | inr acyclic ↦
               let fits = family_fits family linked acyclic in
-              inl (family, (family_of_made files family made fits, links_made files family parents few named made all fits))
+              inl (
+                family,
+                (
+                  family_of_made files family made fits,
+                  links_made files family parents few named made all
+                      fits,
+                ),
+              )
           | inl some ↦
               let name = name_there family made some.0 some.1.0 in
               let fault : LinkFault = faults.Circle (units_of name.0) in

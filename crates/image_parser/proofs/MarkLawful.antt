@@ -1,6 +1,6 @@
 -- Readers of marks are lawful.
-use Rattle.std.proofs.Common.{◌≡◌, ℕ, zero, suc, List, [], ◌++◌, length, Some, None, Result, Ok, Err}
-use Rattle.std.proofs.Common.{refl, sym, ap, subst, ◌∙◌, arith}
+use Rattle.std.proofs.Common.{◌≡◌, ℕ, zero, suc, List, [], ◌++◌, length, Some, None, Result, Ok, Err, refl, sym, ap}
+use Rattle.std.proofs.Common.{subst, ◌∙◌, arith}
 use Rattle.std.specs.Prelude.{IfOk, IfErr}
 use Rattle.std.specs.Int.{w8}
 use Rattle.classfile.specs.Spelling.{u1}
@@ -13,12 +13,13 @@ use Rattle.image_parser.specs.FirstFailing.{Number, IsBytes}
 use Rattle.image_parser.specs.RegionFaults.{IsRegion, RegionFails}
 use Rattle.image_parser.specs.Regions.{Begins}
 use Rattle.image_parser.specs.Inside.{inside}
-use Rattle.image_parser.specs.MarkFaults.{numbers, MarkFits, IsMark, MarkedFails, MarkFails, MarkFailsIn, MarksFail, AreMarks}
-use Rattle.image_parser.specs.MarkFaults.{IsMarksFault, FailsIn, GivesIn}
+use Rattle.image_parser.specs.MarkFaults.{numbers, MarkFits, IsMark, MarkedFails, MarkFails, MarkFailsIn, MarksFail}
+use Rattle.image_parser.specs.MarkFaults.{AreMarks, IsMarksFault, FailsIn, GivesIn}
 use Rattle.image_parser.specs.reading.Results.{number_at}
 use Rattle.image_parser.specs.reading.Objects.{region_at}
 use Rattle.image_parser.specs.reading.Marks.{Mark, marked, marked_at, mark_at, inside_at, mark_in, marks_at}
-use Rattle.image_parser.proofs.Lawful.{Lawful, Both, Is, Mapped, wide8, number_lawful, pure_lawful, map_lawful, then_lawful, restated}
+use Rattle.image_parser.proofs.Lawful.{Lawful, Both, Is, Mapped, wide8, number_lawful, pure_lawful, map_lawful}
+use Rattle.image_parser.proofs.Lawful.{then_lawful, restated}
 use Rattle.image_parser.proofs.EachLawful.{each_lawful}
 use Rattle.image_parser.proofs.ValueLawful.{shape_lawful}
 use Rattle.image_parser.proofs.ObjectLawful.{region_lawful}

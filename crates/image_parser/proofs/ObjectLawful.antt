@@ -1,10 +1,10 @@
 -- Readers of objects and regions are lawful.
-use Rattle.std.proofs.Common.{◌≡◌, ℕ, ◌<◌, ◌^◌, Bool, true, false, ◌&&◌, ltb, eqb, option_map, replicate, cond, List, [], ◌++◌, length}
-use Rattle.std.proofs.Common.{Option, Some, None, is_some, Ok, Err, refl, sym, ap, subst, ◌∙◌, arith}
+use Rattle.std.proofs.Common.{◌≡◌, ℕ, ◌<◌, ◌^◌, Bool, true, false, ◌&&◌, ltb, eqb, option_map, replicate, cond, List}
+use Rattle.std.proofs.Common.{[], ◌++◌, length, Option, Some, None, is_some, Ok, Err, refl, sym, ap, subst, ◌∙◌, arith}
 use Rattle.std.specs.Bool.{Decides}
 use Rattle.std.specs.List.{flat_map}
 use Rattle.std.specs.Int.{w8, w16, w32}
-use Rattle.std.proofs.lemmas.Bool.{ltb-true, lt-ltb, eqb-true}
+use Rattle.std.proofs.lemmas.Bool.{and_parts, ltb-true, lt-ltb, eqb-true}
 use Rattle.classfile.specs.Spelling.{u1, u2, u4}
 use Rattle.built_in.specs.declared.class_id.ClassId.{ClassId}
 use Rattle.built_in.specs.declared.class_id.ClassId.TheVariants as classes
@@ -31,25 +31,25 @@ use Rattle.image_format.specs.Texts.{array_text}
 use Rattle.image_parser.specs.declared.fault.RegionFault.{RegionFault}
 use Rattle.image_parser.specs.declared.fault.RegionFault.TheVariants as faults
 use Rattle.image_parser.specs.FirstFailing.{Either, Number, Run, Ruled, RuleFails, EachFails, times}
-use Rattle.image_parser.specs.RegionFaults.{CutNumber, IsValue, ValueFails, ElementFails, ElementsFail}
-use Rattle.image_parser.specs.RegionFaults.{known_form, form_of, NameFails, IsName, NamesClass, IsClass, ClassFails}
-use Rattle.image_parser.specs.RegionFaults.{ArrayFails, SlotsFail, ObjectFails}
-use Rattle.image_parser.specs.RegionFaults.{IsObject, ObjectsFail, AreStatics, RegionFails, IsRegion}
+use Rattle.image_parser.specs.RegionFaults.{CutNumber, IsValue, ValueFails, ElementFails, ElementsFail, known_form}
+use Rattle.image_parser.specs.RegionFaults.{form_of, NameFails, IsName, NamesClass, IsClass, ClassFails, ArrayFails}
+use Rattle.image_parser.specs.RegionFaults.{SlotsFail, ObjectFails, IsObject, ObjectsFail, AreStatics, RegionFails}
+use Rattle.image_parser.specs.RegionFaults.{IsRegion}
 use Rattle.image_parser.specs.reading.Results.{◌>>=◌, number_at, run_at, each_at}
 use Rattle.image_parser.specs.reading.Values.{value_at, element_at}
 use Rattle.image_parser.specs.reading.ClassNames.{class_of}
 use Rattle.image_parser.specs.reading.Unknown.{unknown_of}
 use Rattle.image_parser.specs.reading.Objects.{is_form, may_be, good_class, unknown_if, class_if, class_for, name_at}
-use Rattle.image_parser.specs.reading.Objects.{class_at}
-use Rattle.image_parser.specs.reading.Objects.{elements_at, count_at, array_at, slots_at, formed_at, form_at, object_at}
-use Rattle.image_parser.specs.reading.Objects.{object_of, region_of, objects_at, counted_region_at, region_at}
-use Rattle.image_parser.proofs.Lawful.{Lawful, Both, Is, Mapped, wide8, wide16, wide32, number_lawful, run_lawful, pure_lawful}
-use Rattle.image_parser.proofs.Lawful.{ok_is, restated, then_lawful, map_lawful}
+use Rattle.image_parser.specs.reading.Objects.{class_at, elements_at, count_at, array_at, slots_at, formed_at, form_at}
+use Rattle.image_parser.specs.reading.Objects.{object_at, object_of, region_of, objects_at, counted_region_at}
+use Rattle.image_parser.specs.reading.Objects.{region_at}
+use Rattle.image_parser.proofs.Lawful.{Lawful, Both, Is, Mapped, wide8, wide16, wide32, number_lawful, run_lawful}
+use Rattle.image_parser.proofs.Lawful.{pure_lawful, ok_is, restated, then_lawful, map_lawful}
 use Rattle.image_parser.proofs.RuleLawful.{append_equal, good_ok, ruled_lawful, Makes, made_lawful}
 use Rattle.image_parser.proofs.EachLawful.{AllSpelled, each_lawful}
 use Rattle.image_parser.proofs.ValueLawful.{value_lawful, times_all, all_times}
 use Rattle.image_parser.proofs.ElementLawful.{element_lawful}
-use Rattle.image_parser.proofs.ClassNameLemmas.{stands, name_is, or_nothing}
+use Rattle.image_parser.proofs.ClassNameLemmas.{some_of, stands, name_is, or_nothing}
 use Rattle.image_parser.proofs.UnknownLemmas.{unknown_is, unknown_back}
 
 -- ---- tests
@@ -96,10 +96,6 @@ name_lawful = restated (then_lawful (number_at w16) (λ bytes count. run_at coun
 
 -- ---- classes
 
-and_parts : (a b : Bool) → (a && b) ≡ true → (a ≡ true) × (b ≡ true)
-and_parts true b e = (refl, e)
-and_parts false b e = absurd cc
-
 one_form : (form : ℕ) → eqb form 1 ≡ true → 1 ≡ form
 one_form form e = sym (eqb-true form 1 e)
 
@@ -139,18 +135,15 @@ named_if : (o : Option ClassFile) → passes has_instances o ≡ true → (name 
 named_if None e = absurd cc
 named_if (Some f) e = (name_of f, refl)
 
-text_if : (o : Option (List ℕ)) → is_some o ≡ true → (text : List ℕ) × (o ≡ Some text)
-text_if None e = absurd cc
-text_if (Some text) e = (text, refl)
-
-named_has : (family : Family) (class : ClassId) → KnownHasObjects family class → IsNamed family (class_name family class) class
+named_has : (family : Family) (class : ClassId) → KnownHasObjects family class
+    → IsNamed family (class_name family class) class
 named_has family (classes.Given c) h =
     let n = named_if (file_in family c) h in
     let same : class_name family (classes.Given c) ≡ n.0 = rw n.1 refl in
     given (n.1 ∙ ap (λ (z : List ℕ). Some z) (sym same))
 named_has family (classes.BuiltIn b) h = built_in refl
 named_has family (classes.Array a) h =
-    let t = text_if (descriptor_of family a.element) h.element in
+    let t = some_of (descriptor_of family a.element) h.element in
     array h.some h.few t.1
     (ap (λ (z : List ℕ). replicate a.dimensions 91 ++ z) (or_nothing (descriptor_of family a.element) t.0 t.1))
 
@@ -218,7 +211,8 @@ module _ (family : Family) (fits : IsFamily family) where
   again_by form (image.Known class) has of_form =
       let name = class_name family class in
       let found : class_of family name ≡ Some class =
-      one_class family fits name (class_of family name) (Some class) (stands family name) (named_has family class has) in
+      one_class family fits name (class_of family name) (Some class) (stands family name)
+      (named_has family class has) in
       let good : good_class family form class ≡ true =
       subst (λ (n : ℕ). good_class family n class ≡ true) of_form (good_of family class has) in
       rw (found, good) refl
@@ -229,7 +223,8 @@ module _ (family : Family) (fits : IsFamily family) where
       ap (class_if family form name) u.0 ∙ ap (unknown_if form) u.1
       ∙ ap (λ (b : Bool). cond b (Ok (image.UnknownArray d class)) (Err faults.Shape)) good
 
-  class_makes : (form : ℕ) → Makes IsName (IsClass family form) (NamesClass family form) (class_for family form) faults.Shape
+  class_makes : (form : ℕ)
+      → Makes IsName (IsClass family form) (NamesClass family form) (class_for family form) faults.Shape
   class_makes form = record {
     made = λ x text y bytes s e. made_by form x text y s (class_of family x) refl e;
     again = λ y text t.
@@ -242,7 +237,8 @@ module _ (family : Family) (fits : IsFamily family) where
 
   class_lawful : (form : ℕ) → Lawful (class_at family form) (IsClass family form) (ClassFails family form)
   unfolding class_at
-  class_lawful form = made_lawful (IsClass family form) (NamesClass family form) name_at (λ bytes. class_for family form)
+  class_lawful form = made_lawful (IsClass family form) (NamesClass family form) name_at
+      (λ bytes. class_for family form)
       faults.Shape name_lawful (λ bytes. class_makes form)
 
 -- ---- slots
@@ -287,7 +283,8 @@ array_there kind name vs back s =
     let all = times_all (Suits kind) s.value vs s.second.0 in
     let same : u4 s.value ≡ u4 (length vs) = ap (λ (n : ℕ). u4 n) (sym all.0) in
     let text : back ≡ u4 (length vs) ++ flat_map (element_text kind) vs =
-    s.parts ∙ append_equal s.front (u4 (length vs)) s.back (flat_map (element_text kind) vs) (s.first.0.1 ∙ same) s.second.1 in
+    s.parts ∙ append_equal s.front (u4 (length vs)) s.back (flat_map (element_text kind) vs) (s.first.0.1 ∙ same)
+    s.second.1 in
     ((rw (all.0) s.first.1, all.1), ap (λ (z : List ℕ). u1 1 ++ (named_text name ++ z)) text)
 
 slots_there : (family : Family) (class : ImageClass) (name : List ℕ) (vs : List ImageValue) (back : List ℕ)
@@ -394,7 +391,8 @@ object_back family object text s =
       parts = s.1 ∙ a.is;
     }
 
-pub object_lawful : (family : Family) → IsFamily family → Lawful (object_at family) (IsObject family) (ObjectFails family)
+pub object_lawful : (family : Family) → IsFamily family
+    → Lawful (object_at family) (IsObject family) (ObjectFails family)
 unfolding object_at
 object_lawful family fits =
     restated (then_lawful form_at (λ bytes form. formed_at family form.0 form.1) form_lawful
@@ -409,7 +407,8 @@ objects_lawful : (family : Family) → IsFamily family → (n : ℕ)
     → Lawful (objects_at family n) (Objects family n) (ObjectsFail family n)
 unfolding objects_at
 objects_lawful family fits n = each_lawful (object_text family) (λ (one : Unit {0}). ObjectHasShape family)
-    (λ (one : Unit {0}). ObjectFails family) (λ (one : Unit {0}). object_at family) (λ one. object_lawful family fits) (times n)
+    (λ (one : Unit {0}). ObjectFails family) (λ (one : Unit {0}). object_at family) (λ one. object_lawful family fits)
+    (times n)
 
 abbrev Counted : Family → ℕ → ℕ → ImageRegion → List ℕ → Type 0
 Counted family c n = Both (AreStatics family c) (λ statics. Mapped (region_of statics) (Objects family n))

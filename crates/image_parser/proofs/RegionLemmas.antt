@@ -21,7 +21,8 @@ begins r S F one bytes fits p e =
 
 pub gives_text : {X Y : Type 0} (r : List ℕ → Result (X × List ℕ) RegionFault) (S : X → List ℕ → Type 0)
     (F : List ℕ → RegionFault → Type 0) → Lawful r S F → (view : Y → X × List ℕ) (result : Result Y RegionFault)
-    (bytes : List ℕ) → IsBytes bytes → Gives view result (r bytes) → IfOk result (λ y. Begins S bytes (view y).0 (view y).1)
+    (bytes : List ℕ) → IsBytes bytes → Gives view result (r bytes)
+    → IfOk result (λ y. Begins S bytes (view y).0 (view y).1)
 gives_text r S F one view (Ok y) bytes fits e = begins r S F one bytes fits (view y) e
 gives_text r S F one view (Err f) bytes fits e = tt
 
@@ -74,7 +75,8 @@ read_again : (family : Family) → IsFamily family → (c : ℕ) (bytes : List �
 read_again family fam c bytes region rest b =
     ap (region_at family c) b.parts ∙ (region_lawful family fam c).again region b.text rest b.spelled
 
-pub exactly_one : (family : Family) (c : ℕ) (bytes : List ℕ) → IsFamily family → IsBytes bytes → ExactlyOne family c bytes
+pub exactly_one : (family : Family) (c : ℕ) (bytes : List ℕ) → IsFamily family → IsBytes bytes
+    → ExactlyOne family c bytes
 exactly_one family c bytes fam fits =
     let one = region_lawful family fam c in
     record {

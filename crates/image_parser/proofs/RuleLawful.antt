@@ -1,7 +1,6 @@
 -- Lawful readers put together: one after another, under a rule, and to the end of the bytes.
 use Rattle.std.proofs.Common.{◌≡◌, ℕ, zero, suc, ◌<◌, ◌⊎◌, Bool, true, false, cond, List, [], ◌∷◌, ◌++◌, Result, Ok}
-use Rattle.std.proofs.Common.{Err, refl, sym, ap}
-use Rattle.std.proofs.Common.{◌∙◌, arith, inl, inr}
+use Rattle.std.proofs.Common.{Err, refl, sym, ap, ◌∙◌, arith, inl, inr}
 use Rattle.std.specs.Bool.{Decides}
 use Rattle.image_parser.specs.reading.Results.{◌>>=◌}
 use Rattle.image_parser.specs.FirstFailing.{IsBytes, BreaksOr, Ruled, RuleFails}
@@ -38,11 +37,13 @@ bad_unless : {Rule : Type 0} (good : Bool) → Decides good Rule → ¬ Rule →
 bad_unless true d no_rule = absurd (no_rule (d.0 refl))
 bad_unless false d no_rule = refl
 
-pub good_ok : {E : Type 0} {A : Type 0} (b : Bool) (d : E) (x y : A) → cond b (Ok x) (Err d) ≡ Ok y → (b ≡ true) × (x ≡ y)
+pub good_ok : {E : Type 0} {A : Type 0} (b : Bool) (d : E) (x y : A) → cond b (Ok x) (Err d) ≡ Ok y
+    → (b ≡ true) × (x ≡ y)
 good_ok true d x y e = (refl, cc)
 good_ok false d x y e = absurd cc
 
-good_err : {E : Type 0} {A : Type 0} (b : Bool) (d f : E) (x : A) → cond b (Ok x) (Err d) ≡ Err f → (b ≡ false) × (f ≡ d)
+good_err : {E : Type 0} {A : Type 0} (b : Bool) (d f : E) (x : A) → cond b (Ok x) (Err d) ≡ Err f
+    → (b ≡ false) × (f ≡ d)
 good_err true d f x e = absurd cc
 good_err false d f x e = (refl, cc)
 
@@ -223,7 +224,8 @@ one_answer : {E : Type 0} {Y : Type 0} (r : Result Y E) (y : Y) (f : E) → r �
 one_answer (Ok x) y f e h = cc
 one_answer (Err g) y f e h = cc
 
-pub made_lawful : {E : Type 0} {X Y : Type 0} {S : X → List ℕ → Type 0} {F : List ℕ → E → Type 0} (T : Y → List ℕ → Type 0)
+pub made_lawful : {E : Type 0} {X Y : Type 0} {S : X → List ℕ → Type 0} {F : List ℕ → E → Type 0}
+    (T : Y → List ℕ → Type 0)
     (Rule : X
     → Type 0) (r : List ℕ → Result (X × List ℕ) E) (make : List ℕ → X → Result Y E) (why : E)
     → Lawful r S F → ((bytes : List ℕ) → Makes S T Rule (make bytes) why)

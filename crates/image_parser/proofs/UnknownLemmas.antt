@@ -1,11 +1,11 @@
 -- Names of array types whose elements are of a class that is neither given nor built in.
-use Rattle.std.proofs.Common.{◌≡◌, ◌≢◌, ℕ, zero, suc, ◌+◌, ◌-◌, ◌<◌, ◌≤◌, Bool, true, false, ◌&&◌, not, ltb, eqb, List, []}
-use Rattle.std.proofs.Common.{◌∷◌, ◌++◌, length, take, drop, get_or, replicate, Option, Some, None, option_map, refl, sym}
-use Rattle.std.proofs.Common.{ap, subst, ◌∙◌, arith, cond}
+use Rattle.std.proofs.Common.{◌≡◌, ◌≢◌, ℕ, zero, suc, ◌+◌, ◌-◌, ◌<◌, ◌≤◌, Bool, true, false, ◌&&◌, not, ltb, eqb, List}
+use Rattle.std.proofs.Common.{[], ◌∷◌, ◌++◌, length, take, drop, get_or, replicate, Option, Some, None, option_map}
+use Rattle.std.proofs.Common.{refl, sym, ap, subst, ◌∙◌, arith, cond}
 use Rattle.std.specs.Prelude.{◌||◌}
 use Rattle.std.specs.Bool.{Decides}
 use Rattle.std.specs.List.{All, list_any}
-use Rattle.std.proofs.lemmas.Bool.{ltb-true, lt-ltb, eqb-true}
+use Rattle.std.proofs.lemmas.Bool.{and_parts, ltb-true, lt-ltb, eqb-true}
 use Rattle.std.proofs.lemmas.List.{take_all, take_more, length-append, append_cancel_right}
 use Rattle.std.proofs.lemmas.List.Elements.{All-nil, All-cons, All-head, All-tail}
 use Rattle.std.proofs.lemmas.Option.{same_Some}
@@ -32,10 +32,6 @@ use Rattle.image_parser.specs.reading.Unknown.{brackets, object_in, is_object_na
 use Rattle.image_parser.proofs.ClassNameLemmas.{stands}
 
 -- ---- tests
-
-both_true : (a b : Bool) → (a && b) ≡ true → (a ≡ true) × (b ≡ true)
-both_true true b e = (refl, e)
-both_true false b e = absurd cc
 
 -- bytes are modified UTF-8 where they are the spelling of the units that they would spell
 pub same_modified : (t : Bool) (spelled bytes : List ℕ) → Decides t (spelled ≡ bytes) → IsModifiedUtf8 spelled
@@ -111,8 +107,8 @@ object_is (b ∷ bs) name e = by (is_object_text (b ∷ bs)) refl
   where
     by : (t : Bool) → is_object_text (b ∷ bs) ≡ t → b ∷ bs ≡ object_type name
     by true is =
-        let p = both_true (ltb 1 (length (b ∷ bs))) _ is in
-        let q = both_true (eqb b 76) _ p.1 in
+        let p = and_parts (ltb 1 (length (b ∷ bs))) _ is in
+        let q = and_parts (eqb b 76) _ p.1 in
         let some = ltb-true 1 (length (b ∷ bs)) p.0 in
         let first : b ≡ 76 = eqb-true b 76 q.0 in
         let k : ℕ = length bs - 1 in
@@ -190,8 +186,8 @@ IsGood name = IsObjectName name × IsModifiedUtf8 name
 
 good_is : (name : List ℕ) → is_object_name name ≡ true → IsGood name
 good_is name e =
-    let p = both_true (ltb 0 (length name)) _ e in
-    let q = both_true (not (semicolon_in name)) (is_modified name) p.1 in
+    let p = and_parts (ltb 0 (length name)) _ e in
+    let q = and_parts (not (semicolon_in name)) (is_modified name) p.1 in
     let some = ltb-true 0 (length name) p.0 in (
       record {
         not_empty = λ is. (let none : length name ≡ 0 = ap length is in omega (arith, none, some));
@@ -228,8 +224,8 @@ spelled_by name d (Some class) p front is e = by (goes d class) refl
   where
     by : (t : Bool) → goes d class ≡ t → Spelled name p.0 p.1
     by true test =
-        let h = both_true (ltb 0 d) _ test in
-        let g = both_true (ltb d 256) (is_object_name class) h.1 in
+        let h = and_parts (ltb 0 d) _ test in
+        let g = and_parts (ltb d 256) (is_object_name class) h.1 in
         let low = ltb-true 0 d h.0 in
         let high = ltb-true d 256 g.0 in
         let found : Some (d, class) ≡ Some p =

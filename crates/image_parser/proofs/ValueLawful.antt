@@ -24,8 +24,8 @@ use Rattle.image_parser.specs.RegionFaults.{CutNumber, BodyFails, TaggedFails, V
 use Rattle.image_parser.specs.reading.Results.{◌>>=◌, number_at}
 use Rattle.image_parser.specs.reading.Values.{unit_at, units_at, counted_units_at, int_of_bits, long_of_bits, int_at}
 use Rattle.image_parser.specs.reading.Values.{text_at, reference_at, body_at, tagged_at, value_at}
-use Rattle.image_parser.proofs.Lawful.{Lawful, Both, Is, Mapped, wide8, wide16, wide32, wide64, number_lawful, pure_lawful}
-use Rattle.image_parser.proofs.Lawful.{restated, then_lawful, map_lawful}
+use Rattle.image_parser.proofs.Lawful.{Lawful, Both, Is, Mapped, wide8, wide16, wide32, wide64, number_lawful}
+use Rattle.image_parser.proofs.Lawful.{pure_lawful, restated, then_lawful, map_lawful}
 use Rattle.image_parser.proofs.RuleLawful.{Refuses, append_equal, kept_lawful, guarded_lawful}
 use Rattle.image_parser.proofs.EachLawful.{AllSpelled, each_lawful}
 
@@ -89,11 +89,13 @@ body_lawful kind tags.Int =
     kept_lawful int_of_bits (λ bits. not (is_in_range kind (cast_signed w32 bits)))
     (λ bits. is_in_range kind (cast_signed w32 bits) ≡ true) faults.Shape (number_at w32)
     (λ bits. refuses_not (is_in_range kind (cast_signed w32 bits))) (number_lawful w32 wide32)
-body_lawful kind tags.Long = map_lawful long_of_bits (number_at w64) (Number w64) (CutNumber w64) (number_lawful w64 wide64)
+body_lawful kind tags.Long =
+    map_lawful long_of_bits (number_at w64) (Number w64) (CutNumber w64) (number_lawful w64 wide64)
 body_lawful kind tags.Text =
     map_lawful (λ units. values.Text units) counted_units_at AreUnitsText _ units_lawful
 body_lawful kind tags.Object =
-    then_lawful (number_at w32) (λ bytes class. number_at w32 class.1 >>= λ number. Ok (values.Object class.0 number.0, number.1))
+    then_lawful (number_at w32)
+    (λ bytes class. number_at w32 class.1 >>= λ number. Ok (values.Object class.0 number.0, number.1))
     (number_lawful w32 wide32) (λ bytes class text s.
     map_lawful (λ number. values.Object class number) (number_at w32) (Number w32) (CutNumber w32)
     (number_lawful w32 wide32))
@@ -103,7 +105,8 @@ abbrev Tagged : FieldKind → Option Tag → ImageValue → List ℕ → Type 0
 Tagged kind None v text = ⊥
 Tagged kind (Some tag) v text = (may_have kind tag ≡ true) × Body kind tag v text
 
-tagged_lawful : (kind : FieldKind) (tag : Option Tag) → Lawful (tagged_at kind tag) (Tagged kind tag) (TaggedFails kind tag)
+tagged_lawful : (kind : FieldKind) (tag : Option Tag)
+    → Lawful (tagged_at kind tag) (Tagged kind tag) (TaggedFails kind tag)
 tagged_lawful kind None = shape_lawful
 tagged_lawful kind (Some tag) =
     guarded_lawful (not (may_have kind tag)) (may_have kind tag ≡ true) faults.Shape (body_at kind tag)
@@ -257,7 +260,8 @@ tagged_there kind (Some tag) n v back e s =
     let h = body_there kind tag v back s.0 s.1 in
     (h.0, ap (λ (m : ℕ). u1 m ++ back) (number_is n tag e) ∙ h.1)
 
-value_there : (kind : FieldKind) (v : ImageValue) (text : List ℕ) → Both (Number w8) (λ n. Tagged kind (tag_of n)) v text
+value_there : (kind : FieldKind) (v : ImageValue) (text : List ℕ)
+    → Both (Number w8) (λ n. Tagged kind (tag_of n)) v text
     → IsValue kind v text
 value_there kind v text s =
     let h = tagged_there kind (tag_of s.value) s.value v s.back refl s.second in
@@ -265,7 +269,8 @@ value_there kind v text s =
 
 -- ---- what suits is read again
 
-int_of : (kind : FieldKind) (n : ℤ) → Suits kind (values.Int n) → (may_have kind tags.Int ≡ true) × IsIntOf kind (values.Int n)
+int_of : (kind : FieldKind) (n : ℤ) → Suits kind (values.Int n)
+    → (may_have kind tags.Int ≡ true) × IsIntOf kind (values.Int n)
 unfolding may_have
 int_of kinds.Boolean n h = (refl, h)
 int_of kinds.Byte n h = (refl, h)
@@ -340,7 +345,12 @@ value_parts kind (values.Long n) h =
       tag = tags.Long;
       may = r.0;
       back = u8 (cast_unsigned w64 n);
-      body = record { value = cast_unsigned w64 n; spelled = (small, refl); is = ap (λ (z : ℤ). values.Long z) (sym same) };
+      body = record {
+        value = cast_unsigned w64 n;
+        spelled = (small, refl);
+        is = ap (λ (z : ℤ). values.Long z)
+            (sym same);
+      };
       is = refl;
     }
 value_parts kind (values.Text units) h =

@@ -9,7 +9,8 @@ ghost use Rattle.image_format.specs.Images.{ImageText};
 ghost use Rattle.image_parser.specs.declared.image_fault.ImageFault.{ImageFault as Fault};
 ghost use Rattle.image_parser.specs.declared.image_fault.ImageFault.TheVariants.{Memory};
 ghost use Rattle.image_parser.specs.FirstFailing.{IsBytes};
-ghost use Rattle.image_parser.specs.ImageFaults.{HasFiles, IsLinked, PartsText, PartsFail, IsImage, ImageFails, Answers};
+ghost use Rattle.image_parser.specs.ImageFaults.{HasFiles, IsLinked, PartsText, PartsFail, IsImage, ImageFails};
+ghost use Rattle.image_parser.specs.ImageFaults.{Answers};
 ghost use Rattle.image_parser.specs.TextOrFault.{TextOrFault};
 
 use crate::files::read_files;

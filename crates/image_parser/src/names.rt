@@ -30,6 +30,7 @@ fn is_there(regions: &[Option<ImageRegion>], value: &ImageValue) -> bool
     }
 }
 
+/// Whether the objects that some values name are there.
 fn are_there(regions: &[Option<ImageRegion>], values: &[ImageValue]) -> bool
     ensures { Decides result (All (IsThere regions.now) values.now) }
 {
@@ -41,6 +42,7 @@ fn are_there(regions: &[Option<ImageRegion>], values: &[ImageValue]) -> bool
     true
 }
 
+/// Whether those that the slots of some objects name are.
 fn slots_are_there(regions: &[Option<ImageRegion>], objects: &[ImageObject]) -> bool
     ensures { Decides result (All (SlotsAreThere regions.now) objects.now) }
 {
@@ -60,6 +62,7 @@ fn names_objects(regions: &[Option<ImageRegion>], region: &ImageRegion) -> bool
         && slots_are_there(regions, region.objects.as_slice())
 }
 
+/// The same of the region of a class, if it has one.
 fn mark_names(regions: &[Option<ImageRegion>], mark: &Option<ImageRegion>) -> bool
     ensures { Decides result (MarkNames regions.now mark.now) }
 {

@@ -6,6 +6,7 @@ ghost use Rattle.image_parser.specs.reading.Results.{Gives, number_at, run_at};
 
 use crate::fault::RegionFault;
 
+/// A number of 8 bits.
 pub(crate) fn u8_at(bytes: &[u8]) -> Result<(u8, &[u8]), RegionFault>
     ensures { Gives (λ x. (x.0, x.1.now)) result (number_at w8 bytes.now) }
 {
@@ -16,6 +17,7 @@ pub(crate) fn u8_at(bytes: &[u8]) -> Result<(u8, &[u8]), RegionFault>
     Ok((u8::from_be_bytes([front[0]]), rest))
 }
 
+/// A number of 16 bits, its highest byte first.
 pub(crate) fn u16_at(bytes: &[u8]) -> Result<(u16, &[u8]), RegionFault>
     ensures { Gives (λ x. (x.0, x.1.now)) result (number_at w16 bytes.now) }
 {
@@ -26,6 +28,7 @@ pub(crate) fn u16_at(bytes: &[u8]) -> Result<(u16, &[u8]), RegionFault>
     Ok((u16::from_be_bytes([front[0], front[1]]), rest))
 }
 
+/// A number of 32 bits, its highest byte first.
 pub(crate) fn u32_at(bytes: &[u8]) -> Result<(u32, &[u8]), RegionFault>
     ensures { Gives (λ x. (x.0, x.1.now)) result (number_at w32 bytes.now) }
 {
@@ -39,6 +42,7 @@ pub(crate) fn u32_at(bytes: &[u8]) -> Result<(u32, &[u8]), RegionFault>
     ))
 }
 
+/// A number of 64 bits, its highest byte first.
 pub(crate) fn u64_at(bytes: &[u8]) -> Result<(u64, &[u8]), RegionFault>
     ensures { Gives (λ x. (x.0, x.1.now)) result (number_at w64 bytes.now) }
 {

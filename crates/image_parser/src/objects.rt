@@ -101,6 +101,7 @@ fn unknown_if(alloc: Global, form: u8, name: &[u8]) -> Result<ImageClass, Region
     }
 }
 
+/// The class of a name, where there can be objects of it of this form.
 fn class_for(
     alloc: Global,
     program: &Program,
@@ -139,6 +140,7 @@ fn class_at<'a>(
     Ok((class, rest))
 }
 
+/// How many elements an array has: a number that an int can be.
 #[tactic(auto, unfolding(crate::specs::reading::Objects::count_at))]
 fn count_at(bytes: &[u8]) -> Result<(u32, &[u8]), RegionFault>
     ensures { Gives (λ x. (x.0, x.1.now)) result (count_at bytes.now) }
@@ -151,6 +153,7 @@ fn count_at(bytes: &[u8]) -> Result<(u32, &[u8]), RegionFault>
     }
 }
 
+/// So many elements. No room is asked for beyond the bytes that are left.
 #[tactic(auto, unfolding(crate::specs::reading::Objects::elements_at))]
 fn elements_at(
     alloc: Global,
@@ -220,6 +223,7 @@ fn slots_at<'a>(
     }
 }
 
+/// The slots of an object of a class that the program knows.
 fn known_slots_at<'a>(
     alloc: Global,
     program: &Program,
@@ -250,6 +254,7 @@ fn formed_at<'a>(
     Ok((ImageObject { class, slots }, rest))
 }
 
+/// The form of an object: 0 for an instance of a class, 1 for an array.
 #[tactic(auto, unfolding(crate::specs::reading::Objects::form_at))]
 fn form_at(bytes: &[u8]) -> Result<(u8, &[u8]), RegionFault>
     ensures { Gives (λ x. (x.0, x.1.now)) result (form_at bytes.now) }
@@ -262,6 +267,7 @@ fn form_at(bytes: &[u8]) -> Result<(u8, &[u8]), RegionFault>
     }
 }
 
+/// An object: its form, and what follows it.
 #[tactic(auto, unfolding(crate::specs::reading::Objects::object_at))]
 fn object_at<'a>(
     alloc: Global,
@@ -294,6 +300,7 @@ fn push_objects_at<'a>(
     Ok(rest)
 }
 
+/// So many objects. No room is asked for beyond the bytes that are left.
 #[tactic(auto, unfolding(crate::specs::reading::Objects::objects_at))]
 fn objects_at<'a>(
     alloc: Global,
@@ -322,6 +329,7 @@ fn statics_at<'a>(
     values_at(alloc, &kinds, bytes)
 }
 
+/// The statics of a class and so many objects.
 #[tactic(auto, unfolding(crate::specs::reading::Objects::counted_region_at))]
 fn counted_region_at<'a>(
     alloc: Global,
@@ -337,6 +345,7 @@ fn counted_region_at<'a>(
     Ok((ImageRegion { statics, objects }, rest))
 }
 
+/// The count of the objects, then the statics and these.
 #[tactic(auto, unfolding(crate::specs::reading::Objects::region_at))]
 fn whole_region_at<'a>(
     alloc: Global,

@@ -44,5 +44,6 @@ pub fn read_region<'a>(
 
 /// Bytes begin with the text of one region of a class or fail with one fault, and never both.
 pub fn region_or_fault()
-    ensures { (family : Classes) (c : ℕ) (bytes : List ℕ) → IsFamily family → IsBytes bytes → ExactlyOne family c bytes }
+    ensures { (family : Classes) (c : ℕ) (bytes : List ℕ) → IsFamily family → IsBytes bytes
+        → ExactlyOne family c bytes }
 {}

@@ -43,12 +43,14 @@ fn greatest(kind: FieldKind) -> i32
     }
 }
 
+/// Whether a number is one of a field of this kind.
 fn is_in_range(kind: FieldKind, number: i32) -> bool
     ensures { result ≡ is_in_range kind number }
 {
     least(kind) <= number && number <= greatest(kind)
 }
 
+/// The value of a field that is held as an int.
 #[tactic(auto, unfolding(crate::specs::reading::Values::int_at))]
 fn int_at(kind: FieldKind, bytes: &[u8]) -> Result<(ImageValue, &[u8]), RegionFault>
     ensures { Gives (λ x. (x.0, x.1.now)) result (int_at kind bytes.now) }
@@ -61,6 +63,7 @@ fn int_at(kind: FieldKind, bytes: &[u8]) -> Result<(ImageValue, &[u8]), RegionFa
     Ok((ImageValue::Int(number), rest))
 }
 
+/// The value of a long field.
 fn long_at(bytes: &[u8]) -> Result<(ImageValue, &[u8]), RegionFault>
     ensures { Gives (λ x. (x.0, x.1.now)) result (long_at bytes.now) }
 {
@@ -86,6 +89,7 @@ fn push_units_at<'a>(
     Ok(rest)
 }
 
+/// A count of units, and these.
 #[tactic(auto, unfolding(crate::specs::reading::Values::counted_units_at))]
 fn counted_units_at(alloc: Global, bytes: &[u8]) -> Result<(Units, &[u8]), RegionFault>
     ensures { Gives (λ x. (x.0, x.1.now)) result (counted_units_at bytes.now) }
@@ -96,6 +100,7 @@ fn counted_units_at(alloc: Global, bytes: &[u8]) -> Result<(Units, &[u8]), Regio
     Ok((Units::of_vec(units), rest))
 }
 
+/// A string, by its UTF-16 units.
 #[tactic(auto, unfolding(crate::specs::reading::Values::text_at))]
 fn text_at(alloc: Global, bytes: &[u8]) -> Result<(ImageValue, &[u8]), RegionFault>
     ensures { Gives (λ x. (x.0, x.1.now)) result (text_at bytes.now) }
@@ -104,6 +109,7 @@ fn text_at(alloc: Global, bytes: &[u8]) -> Result<(ImageValue, &[u8]), RegionFau
     Ok((ImageValue::Text(units), rest))
 }
 
+/// A reference to an object: the class whose region has it, and its number there.
 #[tactic(auto, unfolding(crate::specs::reading::Values::reference_at))]
 fn reference_at(bytes: &[u8]) -> Result<(ImageValue, &[u8]), RegionFault>
     ensures { Gives (λ x. (x.0, x.1.now)) result (reference_at bytes.now) }
@@ -163,6 +169,7 @@ pub(crate) fn value_at(
     tagged_at(alloc, kind, tag_of(tag), rest)
 }
 
+/// An element of an array of bytes or booleans.
 fn byte_at(bytes: &[u8]) -> Result<(ImageValue, &[u8]), RegionFault>
     ensures { Gives (λ x. (x.0, x.1.now)) result (made_at byte_of_bits (number_at w8 bytes.now)) }
 {
@@ -170,6 +177,7 @@ fn byte_at(bytes: &[u8]) -> Result<(ImageValue, &[u8]), RegionFault>
     Ok((ImageValue::Int(i32::from(bits.cast_signed())), rest))
 }
 
+/// An element of an array of chars.
 fn char_at(bytes: &[u8]) -> Result<(ImageValue, &[u8]), RegionFault>
     ensures { Gives (λ x. (x.0, x.1.now)) result (made_at char_of_bits (number_at w16 bytes.now)) }
 {
@@ -177,6 +185,7 @@ fn char_at(bytes: &[u8]) -> Result<(ImageValue, &[u8]), RegionFault>
     Ok((ImageValue::Int(i32::from(bits)), rest))
 }
 
+/// An element of an array of shorts.
 fn short_at(bytes: &[u8]) -> Result<(ImageValue, &[u8]), RegionFault>
     ensures { Gives (λ x. (x.0, x.1.now)) result (made_at short_of_bits (number_at w16 bytes.now)) }
 {
@@ -184,6 +193,7 @@ fn short_at(bytes: &[u8]) -> Result<(ImageValue, &[u8]), RegionFault>
     Ok((ImageValue::Int(i32::from(bits.cast_signed())), rest))
 }
 
+/// An element of an array of ints.
 fn bare_int_at(bytes: &[u8]) -> Result<(ImageValue, &[u8]), RegionFault>
     ensures { Gives (λ x. (x.0, x.1.now)) result (made_at int_of_bits (number_at w32 bytes.now)) }
 {

@@ -22,23 +22,29 @@ use object_graph::Image;
 use sha2::{Digest, Sha256};
 use std::alloc::{AllocError, Global};
 
+/// The bytes of a class file's length and of its class's mark.
+const BESIDE_EACH_FILE: usize = 5;
+
+/// The bytes of what stands before the class files, and of the digest.
+const AROUND_CLASSES: usize = 42;
+
 /// A length, and a class file.
-fn push_file(alloc: Global, out: &mut Vec<u8>, file: &ClassFile) -> Result<(), AllocError>
+fn push_file(out: &mut Vec<u8>, file: &ClassFile) -> Result<(), AllocError>
     requires { length (class_text file.now) < 2 ^ 32 }
     ensures { OnOk result (out.new.items ≡ out.old.items ++ file_text file.now) }
 {
-    let bytes = classfile::write(alloc, file)?;
-    push_u32(out, bytes.len() as u32)?;
-    out.extend_from_slice(&bytes)
+    let text = file.text();
+    push_u32(out, text.len() as u32)?;
+    out.extend_from_slice(text)
 }
 
 /// The class files of all classes.
-fn push_files(alloc: Global, out: &mut Vec<u8>, classes: &[GivenClass]) -> Result<(), AllocError>
+fn push_files(out: &mut Vec<u8>, classes: &[GivenClass]) -> Result<(), AllocError>
     requires { AreShort classes.now }
     ensures { OnOk result (out.new.items ≡ out.old.items ++ flat_map given_text classes.now) }
 {
     for given in classes {
-        push_file(alloc, out, &given.file)?;
+        push_file(out, &given.file)?;
     }
     Ok(())
 }
@@ -52,6 +58,22 @@ fn push_header(out: &mut Vec<u8>, count: u32) -> Result<(), AllocError>
     push_u32(out, count)
 }
 
+/// How many bytes the class files take, with their lengths and marks.
+fn files_length(classes: &[GivenClass]) -> usize {
+    let mut length = 0usize;
+    for given in classes {
+        length = length
+            .saturating_add(given.file.text().len())
+            .saturating_add(BESIDE_EACH_FILE);
+    }
+    length
+}
+
+/// Room for the text of an image, but for what the regions of its classes take.
+fn room_for(image: &Image) -> usize {
+    files_length(image.program().family().classes()).saturating_add(AROUND_CLASSES)
+}
+
 /// All before the digest.
 fn push_body(alloc: Global, out: &mut Vec<u8>, image: &Image) -> Result<(), AllocError>
     requires { AreShort image.now.program.family }
@@ -60,7 +82,7 @@ fn push_body(alloc: Global, out: &mut Vec<u8>, image: &Image) -> Result<(), Allo
 {
     let classes = image.program().family().classes();
     push_header(out, classes.len() as u32)?;
-    push_files(alloc, out, classes)?;
+    push_files(out, classes)?;
     push_marks(alloc, out, image)
 }
 
@@ -98,7 +120,7 @@ pub fn image_text(alloc: Global, image: &Image) -> Result<Vec<u8>, AllocError>
         → ImageText (text_of image.now) image.now.program.family (told_of image.now) }
 {
     is_text_of(image);
-    let mut out = Vec::new(alloc);
+    let mut out = Vec::with_capacity(alloc, room_for(image))?;
     push_body(alloc, &mut out, image)?;
     push_digest(&mut out)?;
     Ok(out)

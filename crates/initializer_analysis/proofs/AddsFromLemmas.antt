@@ -7,30 +7,23 @@ use Rattle.std.proofs.lemmas.List.Elements.{Contains-push_cases, Contains-push, 
 use Rattle.graph.specs.Rows.{Rows, successors_of}
 use Rattle.use_graph.specs.steps.Deeds.{HoldsOfOne}
 use Rattle.use_graph.proofs.CollectedLemmas.{collected_none, collected_more, collected_all}
+use Rattle.use_graph.proofs.EdgesLemmas.{with_edge, row_here, row_beside}
 use Rattle.initializer_analysis.specs.steps.Dependence.{AddsFrom}
 
 module _ (old : Rows) (from to : ℕ) (h : from < length old) where
-  abbrev with_edge : Rows
-  with_edge = slice_set old from (successors_of old from ++ to ∷ [])
-
-  here : successors_of with_edge from ≡ successors_of old from ++ to ∷ []
-  here = grind (arith, common_steps)
-
-  beside : (n : ℕ) → n ≢ from → successors_of with_edge n ≡ successors_of old n
-  beside n other = grind (arith, common_steps)
-
-  pub edge_adds : AddsFrom old with_edge from (λ b. to ≡ b)
+  pub edge_adds : AddsFrom old (with_edge old from to h) from (λ b. to ≡ b)
   edge_adds = record {
     len = length-set old from (successors_of old from ++ to ∷ []);
     row = λ b. (
-      λ p. Contains-push_cases (successors_of old from) to b (subst (λ (l : List ℕ). Contains l b) here p),
-      λ p. subst (λ (l : List ℕ). Contains l b) (sym here) (elim p [
+      λ p. Contains-push_cases (successors_of old from) to b
+          (subst (λ (l : List ℕ). Contains l b) (row_here old from to h) p),
+      λ p. subst (λ (l : List ℕ). Contains l b) (sym (row_here old from to h)) (elim p [
         | inl was ↦ Contains-append_left (successors_of old from) (to ∷ []) b was
         | inr same ↦ subst (λ (x : ℕ). Contains (successors_of old from ++ to ∷ []) x) same
             (Contains-push (successors_of old from) to)
       ]),
     );
-    others = beside;
+    others = row_beside old from to h;
   }
 
 -- ---- none, and more

@@ -19,7 +19,7 @@ use Rattle.use_graph.specs.steps.Searching.{StartsAt}
 use Rattle.use_graph.proofs.ReachedLemmas.{runs_reached, reached_runs, run_begins}
 use Rattle.initializer_analysis.specs.Verdicts.{UsesAlong, one, more}
 use Rattle.initializer_analysis.specs.steps.Dependence.{vertex_of, ClassDependsOn, IsDependence}
-use Rattle.initializer_analysis.proofs.VerdictsLemmas.{one_of}
+use Rattle.use_graph.proofs.ListLemmas.{one_of}
 
 -- ---- uses of uses
 

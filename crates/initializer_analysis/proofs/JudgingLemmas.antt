@@ -26,7 +26,7 @@ use Rattle.initializer_analysis.specs.Verdicts.{NoneHolds, HasWave, IsFirstReaso
 use Rattle.initializer_analysis.specs.Verdicts.{IsAccepted, IsVerdict, AreVerdicts}
 use Rattle.initializer_analysis.specs.steps.Dependence.{vertex_of, IsDependence}
 use Rattle.initializer_analysis.specs.steps.Judging.{own_reason, AreOwnLabels, AreFirstThere}
-use Rattle.initializer_analysis.specs.steps.Judging.{ReachesRefused, AreRefused}
+use Rattle.initializer_analysis.specs.steps.Judging.{DependsOnRefused, AreRefused}
 use Rattle.initializer_analysis.specs.steps.Judging.{AreClassMarks, verdict_by, AreVerdictsBy}
 use Rattle.initializer_analysis.proofs.LeastLemmas.{IsFirst-least, IsFirst-is}
 use Rattle.initializer_analysis.proofs.DependenceLemmas.{use_reached, next_use, two_on_cycle}
@@ -79,7 +79,7 @@ module _ (P : Tables) (uses : UseGraph) (graph : Rows) (whole : IsUseGraph P use
       is_least c low = l (at c) (omega (arith, is.vertices))
 
       first_there : (c : ℕ) → c < length P.classes → (f : Option ℕ) → (slice_index_or least (at c) no_labels).first ≡ f
-          → is_some (slice_index_or least (at c) no_labels).first ≡ true → ReachesRefused uses graph own c
+          → is_some (slice_index_or least (at c) no_labels).first ≡ true → DependsOnRefused uses graph own c
       first_there c low None none held =
           absurd (let denied : is_some (slice_index_or least (at c) no_labels).first ≡ false =
           ap is_some none in cc)

@@ -1,6 +1,7 @@
 -- The marks of a class, by the labels that its class initialization method reaches.
 use Rattle.std.proofs.Common.{◌≡◌, ◌↔◌, ℕ, ◌<◌, List, [], ◌∷◌, length, get_or, Bool, true, false, IsTrue}
-use Rattle.std.proofs.Common.{Option, Some, None, is_some, slice_get, slice_index_or, refl, sym, ap, subst, ◌∙◌, arith}
+use Rattle.std.proofs.Common.{Option, Some, None, is_some, unwrap_or, slice_get, slice_index_or, refl, sym, ap, subst}
+use Rattle.std.proofs.Common.{◌∙◌, arith}
 use Rattle.std.proofs.lemmas.Option.{slice_get_within, slice_get-get_or}
 use Rattle.program.specs.Tables.{Tables, initializer_in}
 use Rattle.hierarchy.specs.declared.member.DeclaredMember.{DeclaredMember}
@@ -11,10 +12,11 @@ use Rattle.use_graph.specs.declared.feature.Feature.TheVariants as features
 use Rattle.use_graph.specs.declared.mark.Mark.{Mark}
 use Rattle.use_graph.specs.declared.mark.Mark.TheVariants as marks
 use Rattle.use_graph.specs.declared.whole_program.UseGraph.{UseGraph}
-use Rattle.use_graph.specs.Uses.{IsDeclared, MayRun, Means, HasMark}
+use Rattle.use_graph.specs.Uses.{IsDeclared, MayRun, mark_of, field_class, Means, HasMark}
 use Rattle.use_graph.specs.steps.Bodies.{IsUseGraph}
 use Rattle.use_graph.specs.steps.Searching.{StartsAt}
 use Rattle.use_graph.proofs.DeedsLemmas.{pc_of_told}
+use Rattle.use_graph.proofs.ListLemmas.{one_of}
 use Rattle.use_graph.proofs.ReachedLemmas.{runs_reached, reached_runs, run_begins}
 use Rattle.initializer_analysis.specs.declared.labels.Least.{Least}
 use Rattle.initializer_analysis.specs.Least.{IsFirst, IsOf}
@@ -24,45 +26,34 @@ use Rattle.initializer_analysis.proofs.LabelsLemmas.{IsFirst-of_but, IsFirst-tel
 
 -- ---- labels and marks
 
-some_same : (u v : ℕ) → Some u ≡ Some v → u ≡ v
-some_same u v e = cc
-
-not_none : (l : ℕ) → ¬ (None ≡ Some l)
-not_none l e = absurd (let bad : None ≡ Some l = e in cc)
-
-counts : (c l : ℕ) (mark other : Mark) → mark ≡ other → (¬ (ignored other c ≡ Some l)) → ¬ (ignored mark c ≡ Some l)
-counts c l mark other is n = subst (λ (m : Mark). ¬ (ignored m c ≡ Some l)) (sym is) n
+-- a label is ignored just where it is of the class's own field
+ignored_own : (t : Feature) (c : ℕ)
+    → (field_class t ≡ Some c) ↔ (ignored (mark_of t) c ≡ Some (unwrap_or (field_class t) 0))
+ignored_own features.Prints c = (λ e. cc, λ e. cc)
+ignored_own features.Throws c = (λ e. cc, λ e. cc)
+ignored_own features.Locks c = (λ e. cc, λ e. cc)
+ignored_own (features.Writes d) c = (λ e. sym e, λ e. sym e)
+ignored_own (features.Reads d) c = (λ e. sym e, λ e. sym e)
+ignored_own features.LeftOut c = (λ e. cc, λ e. cc)
+ignored_own features.Misses c = (λ e. cc, λ e. cc)
 
 -- what is told means a mark by a label that is not ignored
 pub means_label : (c : ℕ) (t : Feature) (mark : Mark) → Means c t mark
     → (l : ℕ) × IsLabel t mark l × (¬ (ignored mark c ≡ Some l))
-means_label c features.Prints mark is = (0, (refl, is), counts c 0 mark marks.Prints is (not_none 0))
-means_label c features.Throws mark is = (0, (refl, is), counts c 0 mark marks.Throws is (not_none 0))
-means_label c features.Locks mark is = (0, (refl, is), counts c 0 mark marks.Monitors is (not_none 0))
-means_label c (features.Writes e) mark (other, is) =
-    (e, (refl, is), counts c e mark marks.ForeignWrite is (λ q. other (sym (some_same c e q))))
-means_label c (features.Reads e) mark (other, is) =
-    (e, (refl, is), counts c e mark marks.ForeignRead is (λ q. other (sym (some_same c e q))))
-means_label c features.LeftOut mark is = (0, (refl, is), counts c 0 mark marks.Unsupported is (not_none 0))
-means_label c features.Misses mark is = (0, (refl, is), counts c 0 mark marks.Missing is (not_none 0))
+means_label c t mark (is, other) = (
+  unwrap_or (field_class t) 0,
+  (is, refl),
+  λ same. other ((ignored_own t c).1 (ap (λ (m : Mark). ignored m c) (sym is) ∙ same)),
+)
 
 pub label_means : (c : ℕ) (t : Feature) (mark : Mark) (l : ℕ) → IsLabel t mark l → (¬ (ignored mark c ≡ Some l))
     → Means c t mark
-label_means c features.Prints mark l (same, is) n = is
-label_means c features.Throws mark l (same, is) n = is
-label_means c features.Locks mark l (same, is) n = is
-label_means c (features.Writes e) mark l (same, is) n =
-    (λ q. counts c l marks.ForeignWrite mark (sym is) n (ap Some (sym (same ∙ q))), is)
-label_means c (features.Reads e) mark l (same, is) n =
-    (λ q. counts c l marks.ForeignRead mark (sym is) n (ap Some (sym (same ∙ q))), is)
-label_means c features.LeftOut mark l (same, is) n = is
-label_means c features.Misses mark l (same, is) n = is
+label_means c t mark l (is, label) counts = (
+  is,
+  λ own. counts (ap (λ (m : Mark). ignored m c) is ∙ (ignored_own t c).0 own ∙ ap Some (sym label)),
+)
 
 -- ---- methods and their bodies
-
-one_of : {A : Type 0} (xs : List A) (n : ℕ) → n < length xs → (x : A) × (slice_get xs n ≡ Some x)
-one_of [] n low = absurd (omega arith)
-one_of (x ∷ xs) n low = (get_or (x ∷ xs) n x, slice_get-get_or (x ∷ xs) n x low)
 
 pub method_of : (P : Tables) (uses : UseGraph) → IsUseGraph P uses → (n : ℕ) (b : BodyUses)
     → slice_get uses.bodies.items n ≡ Some b → (m : DeclaredMember) × (slice_get uses.methods n ≡ Some m)

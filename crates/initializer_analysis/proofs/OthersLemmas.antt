@@ -43,8 +43,8 @@ module _ {A : Type 0} (Q : ℕ → A → Type 0) (d : A) where
 
 -- ---- other classes of a component
 
-abbrev pub Tells : UseGraph → List ℕ → ℕ → ℕ → Bool → Type 0
-Tells uses numbers limit c b = IsTrue b ↔ HasOther uses numbers limit c
+abbrev pub TellsOther : UseGraph → List ℕ → ℕ → ℕ → Bool → Type 0
+TellsOther uses numbers limit c b = IsTrue b ↔ HasOther uses numbers limit c
 
 abbrev pub AreOthersBelow : UseGraph → List ℕ → ℕ → ℕ → List Bool → Type 0
-AreOthersBelow uses numbers limit c on_cycle = HoldsBelow (Tells uses numbers limit) false c on_cycle
+AreOthersBelow uses numbers limit c on_cycle = HoldsBelow (TellsOther uses numbers limit) false c on_cycle

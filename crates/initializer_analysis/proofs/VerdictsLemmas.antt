@@ -6,6 +6,7 @@ use Rattle.program.specs.Tables.{Tables}
 use Rattle.use_graph.specs.declared.mark.Mark.{Mark}
 use Rattle.use_graph.specs.declared.mark.Mark.TheVariants as marks
 use Rattle.use_graph.specs.Uses.{IsUse}
+use Rattle.use_graph.proofs.ListLemmas.{one_of, same_lists}
 use Rattle.initializer_analysis.specs.declared.verdict.Reason.{Reason}
 use Rattle.initializer_analysis.specs.declared.verdict.Reason.TheVariants as reasons
 use Rattle.initializer_analysis.specs.declared.verdict.Verdict.{Verdict}
@@ -13,32 +14,16 @@ use Rattle.initializer_analysis.specs.declared.verdict.Verdict.TheVariants.{Wave
 use Rattle.initializer_analysis.specs.Verdicts.{Holds, rank, rank_of, IsFirstReason, NoneHolds, HasWave, IsAccepted}
 use Rattle.initializer_analysis.specs.Verdicts.{IsFirstRefused, IsWave, IsVerdict, AreVerdicts, OneVerdict, WavesFall}
 
--- ---- lists that agree at each place
-
-module _ {A : Type 0} where
-  pub one_of : (xs : List A) (n : ℕ) → n < length xs → (x : A) × (slice_get xs n ≡ Some x)
-  one_of [] n low = absurd (omega arith)
-  one_of (x ∷ xs) n low = (get_or (x ∷ xs) n x, slice_get-get_or (x ∷ xs) n x low)
-
-  same_lists : (xs ys : List A) → length xs ≡ length ys
-      → ((n : ℕ) (x y : A) → slice_get xs n ≡ Some x → slice_get ys n ≡ Some y → x ≡ y) → xs ≡ ys
-  same_lists [] [] count agree = refl
-  same_lists [] (y ∷ ys) count agree = absurd (omega arith)
-  same_lists (x ∷ xs) [] count agree = absurd (omega arith)
-  same_lists (x ∷ xs) (y ∷ ys) count agree =
-      ap (λ (z : A). z ∷ xs) (agree 0 x y refl refl)
-      ∙ ap (λ (l : List A). y ∷ l) (same_lists xs ys (omega arith) (λ n p q. agree (suc n) p q))
-
 -- ---- reasons
 
 -- a mark by its rank
-abbrev mark_of : ℕ → Option Mark
-mark_of n =
+abbrev mark_ranked : ℕ → Option Mark
+mark_ranked n =
     if n == 2 then Some marks.Prints else if n == 3 then Some marks.Throws else if n == 4 then Some marks.Monitors
     else if n == 5 then Some marks.ForeignWrite else if n == 6 then Some marks.ForeignRead
     else if n == 7 then Some marks.Unsupported else if n == 8 then Some marks.Missing else None
 
-mark_back : (m : Mark) → mark_of (rank_of m) ≡ Some m
+mark_back : (m : Mark) → mark_ranked (rank_of m) ≡ Some m
 mark_back marks.Prints = refl
 mark_back marks.Throws = refl
 mark_back marks.Monitors = refl
@@ -48,7 +33,7 @@ mark_back marks.Unsupported = refl
 mark_back marks.Missing = refl
 
 pub same_mark : (m n : Mark) → rank_of m ≡ rank_of n → m ≡ n
-same_mark m n e = (let two : Some m ≡ Some n = sym (mark_back m) ∙ ap mark_of e ∙ mark_back n in cc)
+same_mark m n e = (let two : Some m ≡ Some n = sym (mark_back m) ∙ ap mark_ranked e ∙ mark_back n in cc)
 
 -- the rank of a mark is between those of the other reasons
 pub mark_between : (m : Mark) → (1 < rank_of m) × (rank_of m < 9)
@@ -83,9 +68,9 @@ module _ (P : Tables) (forced : List Bool) where
   -- a verdict, by what it is: a first reason, a first class that is refused, or a wave
   data Kind (verdicts : List Verdict) (c : ℕ) : Verdict → Type 0 where
     own : {r : Reason} → IsFirstReason P forced c r → Kind verdicts c (Refused r)
-    dependent : {e : ℕ} → NoneHolds P forced c → IsFirstRefused P verdicts c e
+    dependent : {e : ℕ} → NoneHolds P forced c → IsFirstRefused P (IsAccepted verdicts) c e
         → Kind verdicts c (Refused (reasons.DependsOn e))
-    accepted : {n : ℕ} → NoneHolds P forced c → IsWave P verdicts c n → Kind verdicts c (Wave n)
+    accepted : {n : ℕ} → NoneHolds P forced c → IsWave P (HasWave verdicts) c n → Kind verdicts c (Wave n)
 
   kind_of : (verdicts : List Verdict) (c : ℕ) (v : Verdict) → IsVerdict P forced verdicts c v → Kind verdicts c v
   kind_of verdicts c (Wave n) (none, wave) = accepted none wave
@@ -104,7 +89,7 @@ module _ (P : Tables) (forced : List Bool) where
     wave_step : (n c : ℕ) → ((e m : ℕ) → m < n → HasWave vs e m → HasWave ws e m) → HasWave vs c n → HasWave ws c n
     wave_step n c lower at = by (there c (Wave n) at)
       where
-        mine : NoneHolds P forced c × IsWave P vs c n
+        mine : NoneHolds P forced c × IsWave P (HasWave vs) c n
         mine = are.each c (Wave n) at
 
         -- what it uses has its wave there
@@ -112,7 +97,7 @@ module _ (P : Tables) (forced : List Bool) where
         used e uses = (let (m, here, less) = mine.1.above e uses in
             (m, here, lower e m less here, less))
 
-        above : (k : ℕ) → IsWave P ws c k → n ≤ k
+        above : (k : ℕ) → IsWave P (HasWave ws) c k → n ≤ k
         above k wave = elim mine.1.least [
           | inl none ↦ omega arith
           | inr (e, uses, m, here, is) ↦ (let (l, at_l, less) = wave.above e uses in
@@ -120,7 +105,7 @@ module _ (P : Tables) (forced : List Bool) where
               omega (arith, same_wave vs e m x here here_x, same_wave ws e l x at_l there_x))
         ]
 
-        below : (k : ℕ) → IsWave P ws c k → k ≤ n
+        below : (k : ℕ) → IsWave P (HasWave ws) c k → k ≤ n
         below k wave = elim wave.least [
           | inl none ↦ omega arith
           | inr (e, uses, m, here, is) ↦ (let (x, here_x, there_x, low_x) = used e uses in

@@ -60,20 +60,20 @@ HasWave verdicts c n = slice_get verdicts c ≡ Some (Wave n)
 abbrev pub IsAccepted : List Verdict → ℕ → Type 0
 IsAccepted verdicts c = (n : ℕ) × HasWave verdicts c n
 
--- the first class that a class uses and that is not accepted
-abbrev pub IsFirstRefused : Tables → List Verdict → ℕ → ℕ → Type 0
-IsFirstRefused P verdicts c e = IsUse P c e × (¬ IsAccepted verdicts e)
-    × ((d : ℕ) → IsUse P c d → (¬ IsAccepted verdicts d) → e ≤ d)
+-- the first class that a class uses and that is not accepted, where these are
+abbrev pub IsFirstRefused : Tables → (ℕ → Type 0) → ℕ → ℕ → Type 0
+IsFirstRefused P Accepted c e = IsUse P c e × (¬ Accepted e) × ((d : ℕ) → IsUse P c d → (¬ Accepted d) → e ≤ d)
 
--- A wave is above those of all that the class uses, and by no more than it must.
-pub record IsWave (P : Tables) (verdicts : List Verdict) (c n : ℕ) : Type 0 where
-  pub above : (e : ℕ) → IsUse P c e → (m : ℕ) × HasWave verdicts e m × (m < n)
-  pub least : (n ≡ 0) ⊎ ((e : ℕ) × IsUse P c e × (m : ℕ) × HasWave verdicts e m × (n ≡ m + 1))
+-- A wave is above those of all that the class uses, and by no more than it must, where classes have these waves.
+pub record IsWave (P : Tables) (Has : ℕ → ℕ → Type 0) (c n : ℕ) : Type 0 where
+  pub above : (e : ℕ) → IsUse P c e → (m : ℕ) × Has e m × (m < n)
+  pub least : (n ≡ 0) ⊎ ((e : ℕ) × IsUse P c e × (m : ℕ) × Has e m × (n ≡ m + 1))
 
 -- What a class's verdict is, where these are the verdicts of all.
 abbrev pub IsVerdict : Tables → List Bool → List Verdict → ℕ → Verdict → Type 0
-IsVerdict P forced verdicts c (Wave n) = NoneHolds P forced c × IsWave P verdicts c n
-IsVerdict P forced verdicts c (Refused (reasons.DependsOn e)) = NoneHolds P forced c × IsFirstRefused P verdicts c e
+IsVerdict P forced verdicts c (Wave n) = NoneHolds P forced c × IsWave P (HasWave verdicts) c n
+IsVerdict P forced verdicts c (Refused (reasons.DependsOn e)) =
+    NoneHolds P forced c × IsFirstRefused P (IsAccepted verdicts) c e
 IsVerdict P forced verdicts c (Refused reason) = IsFirstReason P forced c reason
 
 -- The verdicts of all given classes, by their numbers.

@@ -24,35 +24,10 @@ use use_graph::{UseGraph, start_of};
 fn label_of(feature: Feature, mark: Mark) -> Option<u32>
     ensures { (l : ℕ) → (result ≡ Some l) ↔ IsLabel feature mark l }
 {
-    match feature {
-        Feature::Prints => match mark {
-            Mark::Prints => Some(0),
-            _ => None,
-        },
-        Feature::Throws => match mark {
-            Mark::Throws => Some(0),
-            _ => None,
-        },
-        Feature::Locks => match mark {
-            Mark::Monitors => Some(0),
-            _ => None,
-        },
-        Feature::Writes(class) => match mark {
-            Mark::ForeignWrite => Some(class),
-            _ => None,
-        },
-        Feature::Reads(class) => match mark {
-            Mark::ForeignRead => Some(class),
-            _ => None,
-        },
-        Feature::LeftOut => match mark {
-            Mark::Unsupported => Some(0),
-            _ => None,
-        },
-        Feature::Misses => match mark {
-            Mark::Missing => Some(0),
-            _ => None,
-        },
+    if feature.mark() == mark {
+        Some(feature.field_class().unwrap_or(0))
+    } else {
+        None
     }
 }
 

@@ -1,5 +1,6 @@
 -- Lines of journals, cut at a space and at byte 0A.
-use Rattle.std.proofs.Common.{◌≡◌, ◌≢◌, ℕ, ◌<◌, ◌≤◌, ◌^◌, ◌++◌, List, [], ◌∷◌, length, get_or, take, drop, refl, sym, ap, subst, ◌∙◌, arith, append_assoc, length-append}
+use Rattle.std.proofs.Common.{◌≡◌, ◌≢◌, ℕ, ◌<◌, ◌≤◌, ◌^◌, ◌++◌, List, [], ◌∷◌, length, get_or, take, drop, refl, sym}
+use Rattle.std.proofs.Common.{ap, subst, ◌∙◌, arith, append_assoc, length-append}
 use Rattle.std.specs.List.{All}
 use Rattle.std.specs.Fmt.{decimal}
 use Rattle.std.specs.Str.Parse.{AllDigits, digits_value}
@@ -24,7 +25,8 @@ one_cut m [] b [] d p q e = (refl, tails m m b d e)
 one_cut m [] b (y ∷ c) d p q e = absurd (All-head (λ z. z ≢ m) y c q (sym (heads m y b (c ++ m ∷ d) e)))
 one_cut m (x ∷ a) b [] d p q e = absurd (All-head (λ z. z ≢ m) x a p (heads x m (a ++ m ∷ b) d e))
 one_cut m (x ∷ a) b (y ∷ c) d p q e =
-    let r = one_cut m a b c d (All-tail (λ z. z ≢ m) x a p) (All-tail (λ z. z ≢ m) y c q) (tails x y (a ++ m ∷ b) (c ++ m ∷ d) e) in
+    let r = one_cut m a b c d (All-tail (λ z. z ≢ m) x a p) (All-tail (λ z. z ≢ m) y c q)
+    (tails x y (a ++ m ∷ b) (c ++ m ∷ d) e) in
     let h = heads x y (a ++ m ∷ b) (c ++ m ∷ d) e in
     (ap (λ z. z ∷ a) h ∙ ap (λ r. y ∷ r) r.0, r.1)
 
@@ -44,7 +46,8 @@ digits_only m n small is =
 line_then : (r : ℕ × ℕ) (tail : List ℕ) → line_of r ++ tail ≡ decimal r.0 ++ 32 ∷ (decimal r.1 ++ 10 ∷ tail)
 line_then r tail =
     let e : (decimal r.1 ++ 10 ∷ []) ++ tail ≡ decimal r.1 ++ 10 ∷ tail = append_assoc (decimal r.1) (10 ∷ []) tail in
-    let f : (decimal r.0 ++ 32 ∷ (decimal r.1 ++ 10 ∷ [])) ++ tail ≡ decimal r.0 ++ 32 ∷ ((decimal r.1 ++ 10 ∷ []) ++ tail) =
+    let f : (decimal r.0 ++ 32 ∷ (decimal r.1 ++ 10 ∷ [])) ++ tail ≡ decimal r.0
+    ++ 32 ∷ ((decimal r.1 ++ 10 ∷ []) ++ tail) =
     append_assoc (decimal r.0) (32 ∷ (decimal r.1 ++ 10 ∷ [])) tail in
     f ∙ ap (λ xs. decimal r.0 ++ 32 ∷ xs) e
 

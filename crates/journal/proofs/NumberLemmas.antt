@@ -1,10 +1,12 @@
 -- Numbers in decimal, read.
-use Rattle.std.proofs.Common.{zero, suc, ◌≡◌, ◌≢◌, ℕ, ◌<◌, ◌≤◌, ◌^◌, List, [], ◌∷◌, length, get_or, refl, sym, ap, subst, ◌∙◌, arith, Ok, Err, rules}
+use Rattle.std.proofs.Common.{zero, suc, ◌≡◌, ◌≢◌, ℕ, ◌<◌, ◌≤◌, ◌^◌, List, [], ◌∷◌, length, get_or, refl, sym, ap}
+use Rattle.std.proofs.Common.{subst, ◌∙◌, arith, Ok, Err, rules}
 use Rattle.std.specs.declared.result.Result.{Result}
 use Rattle.std.specs.Fmt.{decimal}
 use Rattle.std.specs.Str.{IsUtf8}
 use Rattle.std.specs.Str.Parse.{ParsesUnsigned, AllDigits, digits_value}
-use Rattle.std.proofs.lemmas.Fmt.{decimal-digits_value, decimal_nonempty, first_decimal, decimal_digit, parse-decimal, IsAscii-decimal, digits_decimal}
+use Rattle.std.proofs.lemmas.Fmt.{decimal-digits_value, decimal_nonempty, first_decimal, decimal_digit, parse-decimal}
+use Rattle.std.proofs.lemmas.Fmt.{IsAscii-decimal, digits_decimal}
 use Rattle.std.proofs.lemmas.Str.{IsUtf8-from_ascii}
 use Rattle.std.proofs.lemmas.Str.Parse.{IsNumeralModel, numerals_by_value, tells_digits, digit_at, parse_plain}
 use Rattle.journal.specs.steps.Numbers.{StartsPlainly}
@@ -29,7 +31,8 @@ plain n small =
 pub not_plain : (bs : List ℕ) → ¬ StartsPlainly bs → (n : ℕ) → n < 2 ^ 64 → bs ≢ decimal n
 not_plain bs h n small e = h (subst StartsPlainly (sym e) (plain n small))
 
-pub number_read : (bs : List ℕ) (n : ℕ) → StartsPlainly bs → ParsesUnsigned {E = Unit {0}} 64 10 bs (Ok n) → bs ≡ decimal n
+pub number_read : (bs : List ℕ) (n : ℕ) → StartsPlainly bs → ParsesUnsigned {E = Unit {0}} 64 10 bs (Ok n)
+    → bs ≡ decimal n
 number_read bs n h parsed =
     let got = parse_plain own {E = Unit {0}} 64 bs (Ok n) parsed h.unsigned in
     sym (decimal-digits_value own bs got.0.0 h.some h.zero got.0.2) ∙ ap decimal (sym got.1)
@@ -37,7 +40,8 @@ number_read bs n h parsed =
 not_ok : (e : Unit {0}) (n : ℕ) → Result.Err e ≡ Result.Ok n → ⊥
 not_ok e n h = cc
 
-pub number_unread : (bs : List ℕ) → ParsesUnsigned {E = Unit {0}} 64 10 bs (Err tt) → (n : ℕ) → n < 2 ^ 64 → bs ≢ decimal n
+pub number_unread : (bs : List ℕ) → ParsesUnsigned {E = Unit {0}} 64 10 bs (Err tt) → (n : ℕ) → n < 2 ^ 64
+    → bs ≢ decimal n
 number_unread bs parsed n small is = not_ok tt n (parse-decimal 64 n bs (Err tt) small small is parsed)
 
 pub not_utf8 : (bs : List ℕ) → ¬ IsUtf8 bs → (n : ℕ) → n < 2 ^ 64 → bs ≢ decimal n

@@ -1,12 +1,14 @@
 -- Journals, read line by line.
-use Rattle.std.proofs.Common.{◌≡◌, ◌≢◌, ℕ, ◌+◌, ◌<◌, ◌≤◌, ◌^◌, ◌++◌, List, [], ◌∷◌, length, replicate, take, get_or, refl, sym, ap, subst, ◌∙◌, arith, length-append, append_assoc, append-nil, ◌⊎◌, inl, inr}
+use Rattle.std.proofs.Common.{◌≡◌, ◌≢◌, ℕ, ◌+◌, ◌<◌, ◌≤◌, ◌^◌, ◌++◌, List, [], ◌∷◌, length, replicate, take, get_or}
+use Rattle.std.proofs.Common.{refl, sym, ap, subst, ◌∙◌, arith, length-append, append_assoc, append-nil, ◌⊎◌, inl, inr}
 use Rattle.std.proofs.lemmas.List.{take_more}
 use Rattle.init_engine.specs.Schedules.{schedule_of, AreRuns}
 use Rattle.init_engine.proofs.ScheduleLemmas.{schedule_of-more}
 use Rattle.journal.specs.declared.fault.JournalFault.{JournalFault}
 use Rattle.journal.specs.declared.fault.JournalFault.TheVariants.{Memory, Text}
 use Rattle.journal.specs.Journals.JournalFails.{line as fails}
-use Rattle.journal.specs.Journals.{JournalFails, AreLines, IsFirstFault, IsJournalOf, IsRun, MayFollow, in_row, last_in_row, line_of, lines_of}
+use Rattle.journal.specs.Journals.{JournalFails, AreLines, IsFirstFault, IsJournalOf, IsRun, MayFollow, in_row}
+use Rattle.journal.specs.Journals.{last_in_row, line_of, lines_of}
 use Rattle.journal.specs.Journals.AreLines.{none, more}
 use Rattle.journal.specs.steps.Adding.{Extends, IsAdded, IsReadSo}
 use Rattle.journal.proofs.LineLemmas.{same_run, some_bytes}
@@ -58,7 +60,13 @@ read_more text rest tail line now new r so is added =
 pub read_whole : (text rest : List ℕ) (line : ℕ) (now : List (ℕ × ℕ)) → IsReadSo text rest line now → length rest ≡ 0
     → IsJournalOf text now
 read_whole text [] line now so e =
-    record { read = so.before; lines = so.lines; written = so.whole ∙ append-nil (lines_of so.before); schedule = so.schedule }
+    record {
+      read = so.before;
+      lines = so.lines;
+      written = so.whole
+          ∙ append-nil (lines_of so.before);
+      schedule = so.schedule;
+    }
 read_whole text (x ∷ rest) line now so e = absurd (omega (arith, e))
 
 pub no_line : (text rest : List ℕ) (line : ℕ) (now : List (ℕ × ℕ)) → IsReadSo text rest line now → 0 < length rest
@@ -84,7 +92,8 @@ no_room text rest tail line now r so is run wrong = record {
   counted = so.counted;
   fault = λ s end e follows.
       let same = same_run r s tail end run follows.0 (sym is ∙ e) in
-      wrong (subst (λ k. k < 2 ^ 64) (ap (λ k. last_in_row k so.before + s.1) (sym same.0) ∙ (ap (λ k. last_in_row r.0 so.before + k) (sym same.1) ∙ ap (λ k. k + r.1) (sym (so.last r.0)))) follows.1);
+      wrong (subst (λ k. k < 2 ^ 64) (ap (λ k. last_in_row k so.before + s.1) (sym same.0)
+      ∙ (ap (λ k. last_in_row r.0 so.before + k) (sym same.1) ∙ ap (λ k. k + r.1) (sym (so.last r.0)))) follows.1);
 }
 
 count_small : (xs : List (ℕ × ℕ)) → length xs ≤ length (lines_of xs)

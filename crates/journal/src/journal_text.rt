@@ -34,7 +34,8 @@ fn add_line(runs: &mut Vec<(u32, u64)>, run: (u32, u64), line: usize) -> Result<
     requires some { IsRun run }
     requires runs { AreRuns runs.old.items }
     ensures ok { OnOk result (IsAdded runs.old.items run runs.new.items) }
-    ensures err { IfErr result (λ fault. (fault ≡ Memory) ⊎ ((fault ≡ Text line) × ¬ (last_in_row run.0 runs.old.items + run.1 < 2 ^ 64))) }
+    ensures err { IfErr result (λ fault. (fault ≡ Memory)
+        ⊎ ((fault ≡ Text line) × ¬ (last_in_row run.0 runs.old.items + run.1 < 2 ^ 64))) }
 {
     runs.reserve(1)?;
     if add_steps(runs, run.0, run.1) {

@@ -45,9 +45,9 @@ fn given_or_built_in(family: &Family, name: &[u8]) -> Option<Superclass>
         (((c : ℕ) → name_in family.now c ≢ Some name.now) × ((b : Class) → name_of_built_in b ≢ name.now))
         (λ class. superclass_name family.now class ≡ Some name.now) }
 {
-    match family.number_of(name) {
-        Some(number) => Some(Superclass::Given(number)),
-        None => BuiltIn::named(name).map(Superclass::BuiltIn),
+    match BuiltIn::named(name) {
+        Some(class) => Some(Superclass::BuiltIn(class)),
+        None => family.number_of(name).map(Superclass::Given),
     }
 }
 

@@ -68,10 +68,10 @@ fn class_among(files: &[ClassFile], name: &[u8]) -> Option<Superclass>
     requires ascending { Ascend files.now }
     ensures { MatchOption result (IsUnknown files.now name.now) (λ class. name_among files.now class ≡ Some name.now) }
 {
-    match number_among(files, name) {
-        Some(number) => Some(Superclass::Given(number)),
-        None => match BuiltIn::named(name) {
-            Some(class) => Some(Superclass::BuiltIn(class)),
+    match BuiltIn::named(name) {
+        Some(class) => Some(Superclass::BuiltIn(class)),
+        None => match number_among(files, name) {
+            Some(number) => Some(Superclass::Given(number)),
             None => None,
         },
     }

@@ -3,6 +3,7 @@ pub mod PrintingLemmas
 pub mod ObjectPartsLemmas
 pub mod ObjectsLemmas
 pub mod MonitorsLemmas
+pub mod AnyRowsLemmas
 pub mod PlainRowsLemmas
 pub mod WaitingLemmas
 pub mod FailuresLemmas

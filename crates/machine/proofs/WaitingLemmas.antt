@@ -22,8 +22,8 @@ use Rattle.built_in.specs.declared.class_id.ClassId.TheVariants.{Given, BuiltIn}
 use Rattle.semantics.specs.Lawful.{IsPlain}
 use Rattle.semantics.specs.Moves.{advanced, with_operands}
 use Rattle.semantics.specs.Rows.{Row, Ends, UseClass, ReadStatic, WriteStatic, AskClass, LookInto, Change, Make}
-use Rattle.semantics.specs.Rows.{UseMonitor, Print as PrintText, Result, Moved, Needs, Waits, on_usable, on_lock}
-use Rattle.semantics.specs.Rows.{Next, Returns, Halt, Blocked, Answered, enter_again, left_once, lock_monitor, run_row}
+use Rattle.semantics.specs.Rows.{UseMonitor, Print as PrintText, Result, Moved, Needs, Waits, on_usable, on_lock, Next}
+use Rattle.semantics.specs.Rows.{Returns, Halt, Blocked, Answered, enter_again, left_once, lock_monitor, run_row}
 use Rattle.program.specs.declared.runtime_constant.FieldKind.{FieldKind}
 use Rattle.program.specs.declared.signature.ReturnKind.{ReturnKind}
 use Rattle.program.specs.declared.signature.ReturnKind.TheVariants as returns
@@ -57,9 +57,9 @@ use Rattle.machine.specs.Table.{fetched, active_row, row}
 use Rattle.machine.specs.steps.Triggers.{is_busy, is_owned_by_other, is_held, object_trigger, call_trigger}
 use Rattle.machine.specs.steps.Triggers.{named_trigger, monitor_trigger, operation_trigger, fetched_trigger}
 use Rattle.machine.specs.steps.Triggers.{active_trigger, trigger_of}
-use Rattle.machine.proofs.PlainRowsLemmas.{array_plain, new_plain, cast_plain, instance_plain, throw_plain}
-use Rattle.machine.proofs.PlainRowsLemmas.{got_plain, put_plain, static_plain, instance_call_plain, print_plain}
-use Rattle.machine.proofs.PlainRowsLemmas.{line_plain, main_plain, pushed_plain}
+use Rattle.machine.proofs.PlainRowsLemmas.{array_plain, given_plain, built_in_plain, cast_plain, instance_plain}
+use Rattle.machine.proofs.PlainRowsLemmas.{throw_plain, got_plain, put_plain, static_plain, instance_call_plain}
+use Rattle.machine.proofs.PlainRowsLemmas.{print_plain, line_plain, main_plain, pushed_plain}
 
 module _ (t : ℕ) (maker : Maker) where
   -- a row that needs no class and no monitor
@@ -210,8 +210,8 @@ module _ (t : ℕ) (maker : Maker) where
         → waits (run_row t maker sh (object_row P o f)) ≡ is_held (object_trigger o f) t sh
     object_waits (objects.NewGiven c) =
         class_waits c (new_object (Given c) (map zero_of (slots_of P.family c)) f)
-        (new_plain (Given c) (map zero_of (slots_of P.family c)) f)
-    object_waits (objects.NewBuiltIn b) = plain_steps (new_object (BuiltIn b) [] f) sh (new_plain (BuiltIn b) [] f)
+        (given_plain c (map zero_of (slots_of P.family c)) f)
+    object_waits (objects.NewBuiltIn b) = plain_steps (new_object (BuiltIn b) [] f) sh (built_in_plain b [] f)
     object_waits (objects.CheckCast class) = plain_steps (check_cast P class f) sh (cast_plain P class f)
     object_waits (objects.InstanceOf class) = plain_steps (instance_of P class f) sh (instance_plain P class f)
     object_waits objects.Throw = plain_steps (throw_row P f) sh (throw_plain P f)

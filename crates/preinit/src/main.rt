@@ -2,25 +2,46 @@
 //! `preinit --help` says what it does.
 #![tactic(auto)]
 
-use cli::{FileFault, Files, Refusal, Status, command};
-use std::io::{self, ErrorKind, Write};
+use cli::{End, FileFault, Files, Refusal, Status, command_holding};
+use std::alloc::Global;
+use std::io::{self, ErrorKind, Read, Write};
 use std::process::ExitCode;
-use std::{env, fs, rt};
+use std::{env, fs, mem, rt};
+
+/// How many bytes are read at once: most class files have fewer.
+const PIECE: usize = 16_384;
 
 /// The files of the system, by their paths.
 #[derive(Drop)]
 struct Disk<'a, R> {
     rt: &'a R,
+    /// What each read fills anew.
+    piece: [u8; PIECE],
 }
 
 impl<R: rt::Files + AllocGlobal> Files for Disk<'_, R> {
     fn get(&mut self, name: &str) -> Result<Vec<u8>, FileFault> {
-        fs::read(self.rt, name).map_err(file_fault)
+        let mut file = fs::open(self.rt, name).map_err(file_fault)?;
+        read_all(self.rt.alloc(), &mut file, &mut self.piece).map_err(file_fault)
     }
 
     fn put(&mut self, name: &str, bytes: &[u8]) -> Result<(), FileFault> {
         fs::write(self.rt, name, bytes).map_err(file_fault)
     }
+}
+
+/// What is left of a file, read piece by piece.
+fn read_all<F: Read>(alloc: Global, file: &mut F, piece: &mut [u8]) -> io::Result<Vec<u8>> {
+    let mut bytes = Vec::new(alloc);
+    for _ in 0..u64::MAX {
+        match file.read(piece) {
+            Ok(0) => break,
+            Ok(count) => bytes.extend_from_slice(&piece[..count])?,
+            Err(error) if error.kind() == ErrorKind::Interrupted => {}
+            Err(error) => return Err(error),
+        }
+    }
+    Ok(bytes)
 }
 
 fn file_fault(error: io::Error) -> FileFault {
@@ -78,7 +99,17 @@ where
         .map(|text| text.as_str())
         .collect(alloc)
         .map_err(|_| Stop::Memory)?;
-    let (status, _out) = command(alloc, words.as_slice(), &mut Disk { rt }, out, errors);
+    let mut disk = Disk {
+        rt,
+        piece: [0; PIECE],
+    };
+    let End {
+        status,
+        out: _,
+        held,
+    } = command_holding(alloc, words.as_slice(), &mut disk, out, errors);
+    // The process ends with it.
+    mem::forget(held);
     Ok(status)
 }
 

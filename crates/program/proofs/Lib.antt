@@ -6,6 +6,7 @@ pub mod SignatureLemmas
 pub mod StringsLemmas
 pub mod PoolFieldsLemmas
 pub mod NamedClassesLemmas
+pub mod NotedLemmas
 pub mod AheadLemmas
 pub mod SlotsLemmas
 pub mod FieldSlotsLemmas

@@ -1,16 +1,17 @@
 //! The members that a class file refers to, resolved one class after another (JVMS 5.4.3).
 
-ghost use Rattle.std.specs.Prelude.{◌≡◌, ◌==◌, ℕ, Some, None, IfOk, OnOk, if◌then◌else◌};
+ghost use Rattle.std.specs.Prelude.{◌≡◌, ℕ, Some, None, IfOk, IfSome, OnOk, slice_get, slice_set};
 ghost use Rattle.program.specs.steps.Ahead.{ahead_at, AreAhead};
+ghost use Rattle.program.specs.steps.ResolvedConstants.{IsResolved};
 
-use crate::equal_entries::{are_equal, member_named};
+use crate::equal_entries::{member_named, stands_at};
 use crate::resolver::Resolver;
 use crate::runtime_constant::RuntimeConstant;
 use classfile::{ClassFile, Constant};
 use hierarchy::member_resolver::MemberResolver;
 use std::alloc::{AllocError, Global};
 use std::cmp::Ordering;
-use std::collections::BTreeMap;
+use std::marker::Model;
 
 /// A reference to a member: the class that it names, its name and type, and where it stands, by their indices.
 #[derive(Clone, Copy)]
@@ -37,8 +38,9 @@ fn by_class(a: &Reference, b: &Reference) -> Ordering {
 
 /// The references to members of a class file, those to one class together.
 fn references_by_class(alloc: Global, file: &ClassFile) -> Result<Vec<Reference>, AllocError> {
-    let mut references = Vec::new(alloc);
-    for (index, constant) in file.constants().iter().enumerate() {
+    let constants = file.constants();
+    let mut references = Vec::with_capacity(alloc, constants.len())?;
+    for (index, constant) in constants.iter().enumerate() {
         if let Some(reference) = reference_of(constant, index as u16) {
             references.push(reference)?;
         }
@@ -49,7 +51,66 @@ fn references_by_class(alloc: Global, file: &ClassFile) -> Result<Vec<Reference>
 
 /// What references to members of a class file stand for, by their indices, found before its other entries are looked
 /// at.
-pub(crate) type MembersAhead = BTreeMap<u16, RuntimeConstant>;
+#[derive(Drop)]
+pub(crate) struct MembersAhead {
+    held: Vec<Option<RuntimeConstant>>,
+}
+
+impl Model for MembersAhead {
+    ghost use Rattle.std.specs.Prelude.{List, Option};
+    ghost use Rattle.program.specs.declared.runtime_constant.RuntimeConstant.{RuntimeConstant as Held};
+
+    ghost Value = { List (Option Held) };
+
+    ghost view = { λ s. s.held.items };
+}
+
+impl MembersAhead {
+    /// Nothing resolved yet, with a place for each of so many entries.
+    fn new(alloc: Global, count: usize) -> Result<Self, AllocError>
+        ensures { IfOk result (λ ahead. (index : ℕ) → ahead_at ahead index ≡ None) }
+    {
+        let held = vec![in alloc; None; count]?;
+        Ok(MembersAhead { held })
+    }
+
+    /// What the reference at an index stands for, if it was found.
+    pub(crate) fn at(&self, index: u16) -> Option<RuntimeConstant>
+        ensures { result ≡ ahead_at self.now index }
+    {
+        match self.held.get(usize::from(index)) {
+            Some(held) => *held,
+            None => None,
+        }
+    }
+
+    /// Notes what an entry stands for, if it has a place.
+    fn set(&mut self, index: u16, held: RuntimeConstant)
+        ensures { self.new ≡ slice_set self.old index (Some held) }
+    {
+        let place = usize::from(index);
+        if place < self.held.len() {
+            self.held[place] = Some(held);
+        }
+    }
+}
+
+/// What an entry stands for that is equal to one before, which was found.
+fn equal_before(
+    file: &ClassFile,
+    before: Option<u16>,
+    constant: &Constant,
+    ahead: &MembersAhead,
+) -> Option<RuntimeConstant>
+    ensures { IfSome result (λ held. (i : ℕ) × (slice_get file.now.constants i ≡ Some constant.now)
+        × (ahead_at ahead.now i ≡ Some held)) }
+{
+    let before = before?;
+    if !stands_at(file, before, constant) {
+        return None;
+    }
+    ahead.at(before)
+}
 
 impl Resolver<'_> {
     /// The members that the class file refers to. Those of one class are resolved one after the other, so that what
@@ -64,7 +125,7 @@ impl Resolver<'_> {
         ensures kept { members.new ≡ members.old }
     {
         let references = references_by_class(alloc, self.file)?;
-        let mut ahead = empty(alloc);
+        let mut ahead = MembersAhead::new(alloc, self.file.constants().len())?;
         self.resolve_all(members, &references, &mut ahead)?;
         Ok(ahead)
     }
@@ -89,7 +150,7 @@ impl Resolver<'_> {
         Ok(())
     }
 
-    /// Resolves one more reference, if it is not equal to the one before.
+    /// Notes what one more reference stands for, which is not resolved again if it is equal to the one before.
     fn resolve_ahead(
         &self,
         members: &mut MemberResolver<'_>,
@@ -105,40 +166,29 @@ impl Resolver<'_> {
         let Some(constant) = self.file.constant(index) else {
             return Ok(());
         };
-        if are_equal(self.file, before, constant) {
-            return Ok(());
-        }
-        let held = self.resolved_now(members, index, constant)?;
-        insert(ahead, index, held)?;
+        let held = self.resolved_once(members, before, index, constant, ahead)?;
+        ahead.set(index, held);
         Ok(())
     }
-}
 
-/// Nothing resolved yet.
-#[tactic(auto, unfolding(crate::specs::steps::Ahead::ahead_at))]
-fn empty(alloc: Global) -> MembersAhead
-    ensures { (index : ℕ) → ahead_at result index ≡ None }
-{
-    BTreeMap::new(alloc)
-}
-
-/// Notes what an entry stands for.
-#[tactic(auto, unfolding(crate::specs::steps::Ahead::ahead_at))]
-fn insert(ahead: &mut MembersAhead, index: u16, held: RuntimeConstant) -> Result<(), AllocError>
-    ensures { OnOk result ((key : ℕ)
-        → ahead_at ahead.new key ≡ (if index == key then Some held else ahead_at ahead.old key)) }
-{
-    ahead.insert(index, held)?;
-    Ok(())
-}
-
-/// What the reference at an index stands for, if it was found.
-#[tactic(auto, unfolding(crate::specs::steps::Ahead::ahead_at))]
-pub(crate) fn found_ahead(ahead: &MembersAhead, index: u16) -> Option<RuntimeConstant>
-    ensures { result ≡ ahead_at ahead.now index }
-{
-    match ahead.get(&index) {
-        Some(held) => Some(*held),
-        None => None,
+    /// What a reference stands for: the same as the one before, if they are equal.
+    fn resolved_once(
+        &self,
+        members: &mut MemberResolver<'_>,
+        before: Option<u16>,
+        index: u16,
+        constant: &Constant,
+        ahead: &MembersAhead,
+    ) -> Result<RuntimeConstant, AllocError>
+        requires members { members.old ≡ self.now.hierarchy.now }
+        requires ahead { AreAhead self.now.hierarchy.now.family self.now.file.now ahead.now }
+        requires here { slice_get self.now.file.now.constants index ≡ Some constant.now }
+        ensures held { IfOk result (IsResolved self.now.hierarchy.now.family self.now.file.now index constant.now) }
+        ensures kept { members.new ≡ members.old }
+    {
+        match equal_before(self.file, before, constant, ahead) {
+            Some(held) => Ok(held),
+            None => self.resolved_now(members, index, constant),
+        }
     }
 }

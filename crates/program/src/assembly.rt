@@ -267,7 +267,7 @@ fn classes_with(
     ensures grows { OnOk result (Grows strings.old strings.new) }
     ensures adds { OnOk result (Adds strings.old (all_strings linker.now.hierarchy.now.family) strings.new) }
 {
-    let mut classes = Vec::new(alloc);
+    let mut classes = Vec::with_capacity(alloc, linker.hierarchy.family().classes().len())?;
     add_classes(alloc, linker, members, strings, &mut classes)?;
     Ok(classes)
 }
@@ -333,7 +333,7 @@ fn static_numbers_of(
 ) -> Result<Vec<StaticNumbers>, AllocError>
     ensures { IfOk result (λ numbers. AreStaticNumbersOf classes.now numbers.items) }
 {
-    let mut numbers = Vec::new(alloc);
+    let mut numbers = Vec::with_capacity(alloc, classes.len())?;
     for given in classes {
         numbers.push(StaticNumbers::of_class(alloc, &given.file)?)?;
     }
@@ -386,7 +386,7 @@ fn runtime_pool_of(
     ensures adds { OnOk result (Adds strings.old (strings_of file.now) strings.new) }
     ensures kept { members.new ≡ members.old }
 {
-    let named = NamedClasses::of_file(alloc, linker.hierarchy.family(), file)?;
+    let named = NamedClasses::of_file(alloc, linker.hierarchy.family(), number, file)?;
     let resolver = Resolver {
         hierarchy: linker.hierarchy,
         numbers: linker.numbers,

@@ -1,63 +1,48 @@
-//! Equal entries of a constant pool, so that each is resolved once (JVMS 4.4.1, 4.4.2, 4.4.3).
+//! Equal entries of a constant pool, so that each is resolved once (JVMS 4.4.2, 4.4.3).
 
 ghost use Rattle.std.specs.Prelude.{◌≡◌, ℕ, Some, IsTrue, IfSome, slice_get};
 
 use crate::runtime_constant::RuntimeConstant;
 use classfile::{ClassFile, Constant};
 use std::alloc::{AllocError, Global};
-use std::collections::BTreeMap;
 
-/// Where entries that name a class, a string, or a member by its class and its name and type, stood last.
-pub(crate) struct Earlier {
-    classes: BTreeMap<u16, u16>,
-    strings: BTreeMap<u16, u16>,
-    members: BTreeMap<(u16, u16), u16>,
+/// By the index of a text: where a String of this text stood last.
+#[derive(Drop)]
+pub(crate) struct EarlierStrings {
+    indices: Vec<Option<u16>>,
 }
 
-// By hand, since a derived one is proved anew wherever they are let go.
-impl Drop for Earlier {
-    fn drop(self) {
-        let Earlier {
-            classes: _,
-            strings: _,
-            members: _,
-        } = self;
-    }
-}
-
-impl Earlier {
-    /// No entries.
+impl EarlierStrings {
+    /// None.
     pub(crate) fn new(alloc: Global) -> Self {
-        Earlier {
-            classes: BTreeMap::new(alloc),
-            strings: BTreeMap::new(alloc),
-            members: BTreeMap::new(alloc),
+        EarlierStrings {
+            indices: Vec::new(alloc),
         }
     }
 
-    /// The index of an earlier entry that names the same.
+    /// The index of an earlier String of the same text.
     fn index(&self, constant: &Constant) -> Option<u16> {
         match constant {
-            Constant::Class { name } => self.classes.get(name).copied(),
-            Constant::String { text } => self.strings.get(text).copied(),
-            _ => self.members.get(&member_named(constant)?).copied(),
+            Constant::String { text } => *self.indices.get(usize::from(*text))?,
+            _ => None,
         }
     }
 
-    /// Notes where an entry stands, if it names a class, a string or a member.
-    pub(crate) fn note(&mut self, constant: &Constant, index: u16) -> Result<(), AllocError> {
-        match constant {
-            Constant::Class { name } => {
-                self.classes.insert(*name, index)?;
-            }
-            Constant::String { text } => {
-                self.strings.insert(*text, index)?;
-            }
-            _ => {
-                if let Some(member) = member_named(constant) {
-                    self.members.insert(member, index)?;
-                }
-            }
+    /// Notes where an entry of so many stands, if it is a String.
+    pub(crate) fn note(
+        &mut self,
+        constant: &Constant,
+        index: u16,
+        count: usize,
+    ) -> Result<(), AllocError> {
+        let Constant::String { text } = constant else {
+            return Ok(());
+        };
+        if self.indices.is_empty() {
+            self.indices.resize(count, None)?;
+        }
+        if let Some(place) = self.indices.get_mut(usize::from(*text)) {
+            *place = Some(index);
         }
         Ok(())
     }
@@ -102,16 +87,8 @@ pub(crate) fn member_named(constant: &Constant) -> Option<(u16, u16)> {
     }
 }
 
-/// Whether the entry at an index, if there is one, names the same as another.
-pub(crate) fn are_equal(file: &ClassFile, index: Option<u16>, other: &Constant) -> bool {
-    match index {
-        Some(index) => stands_at(file, index, other),
-        None => false,
-    }
-}
-
 /// Whether an equal entry stands at an index.
-fn stands_at(file: &ClassFile, index: u16, other: &Constant) -> bool
+pub(crate) fn stands_at(file: &ClassFile, index: u16, other: &Constant) -> bool
     ensures { IsTrue result → slice_get file.now.constants index ≡ Some other.now }
 {
     match file.constant(index) {
@@ -120,12 +97,11 @@ fn stands_at(file: &ClassFile, index: u16, other: &Constant) -> bool
     }
 }
 
-/// Whether two entries name the same class or string, or are references of one kind to the same member.
+/// Whether two entries are Strings of the same text, or references of one kind to the same member.
 fn is_equal(constant: &Constant, other: &Constant) -> bool
     ensures { IsTrue result → constant.now ≡ other.now }
 {
     match (constant, other) {
-        (Constant::Class { name }, Constant::Class { name: same }) => name == same,
         (Constant::String { text }, Constant::String { text: same }) => text == same,
         (
             Constant::Fieldref {

@@ -126,8 +126,8 @@ pub(crate) fn methods_of(alloc: Global, linked: &LinkedFile<'_>) -> Result<Metho
     ensures { IfOk result
         (AllZip (IsImplementation linked.now.family.now linked.now.file.now) linked.now.file.now.methods) }
 {
-    let mut implementations = Vec::new(alloc);
     let methods = linked.file.methods();
+    let mut implementations = Vec::with_capacity(alloc, methods.len())?;
     for method in methods {
         implementations.push(implementation_of(alloc, linked, method)?)?;
     }

@@ -1,6 +1,7 @@
 //! The classes that a class file names, each looked up once (JVMS 4.4.1, 5.4.3.1).
 
-ghost use Rattle.std.specs.Prelude.{◌≡◌, ◌==◌, ℕ, Some, IfOk, OnOk, if◌then◌else◌};
+ghost use Rattle.std.specs.Prelude.{◌≡◌, Some, IfOk, slice_set};
+ghost use Rattle.loading.specs.Families.{file_in};
 ghost use Rattle.loading.specs.ClassIds.{StandsFor};
 ghost use Rattle.loading.specs.Names.{class_name_at};
 ghost use Rattle.program.specs.steps.NamedClasses.{found, AreNamed};
@@ -11,15 +12,14 @@ use loading::class_named;
 use loading::family::Family;
 use loading::names::{class_name_at, text_at};
 use std::alloc::{AllocError, Global};
-use std::collections::BTreeMap;
 use std::marker::Model;
 
 /// The classes that the Class entries of a class file name. A name is looked up once, however many entries have it.
 pub(crate) struct NamedClasses<'a> {
     family: &'a Family,
     file: &'a ClassFile,
-    /// By the index of a name: the class that it stands for.
-    classes: BTreeMap<u16, Option<ClassId>>,
+    /// By the index of a name: the class that it stands for, if it was looked up.
+    classes: Vec<Option<Option<ClassId>>>,
 }
 
 impl<'a> Model for NamedClasses<'a> {
@@ -29,7 +29,7 @@ impl<'a> Model for NamedClasses<'a> {
 
     ghost view = { λ s. record { family = s.family.now; file = s.file.now } };
 
-    ghost invariant = { λ s. AreNamed s.family.now s.file.now s.classes };
+    ghost invariant = { λ s. AreNamed s.family.now s.file.now s.classes.items };
 }
 
 // By hand, since a derived one is proved anew wherever they are let go.
@@ -44,15 +44,17 @@ impl<'a> Drop for NamedClasses<'a> {
 }
 
 impl<'a> NamedClasses<'a> {
-    /// Those of a class file.
+    /// Those of the class file of a class.
     pub(crate) fn of_file(
         alloc: Global,
         family: &'a Family,
+        number: u32,
         file: &'a ClassFile,
     ) -> Result<Self, AllocError>
+        requires { file_in family.now number ≡ Some file.now }
         ensures { IfOk result (λ named. named ≡ record { family = family.now; file = file.now }) }
     {
-        let classes = classes_of(alloc, family, file)?;
+        let classes = classes_of(alloc, family, number, file)?;
         Ok(NamedClasses {
             family,
             file,
@@ -69,63 +71,77 @@ impl<'a> NamedClasses<'a> {
 }
 
 /// The classes that a class file names, by the indices of their names.
-#[tactic(auto, unfolding(crate::specs::steps::NamedClasses::found))]
 fn classes_of(
     alloc: Global,
     family: &Family,
+    number: u32,
     file: &ClassFile,
-) -> Result<BTreeMap<u16, Option<ClassId>>, AllocError>
-    ensures { IfOk result (AreNamed family.now file.now) }
+) -> Result<Vec<Option<Option<ClassId>>>, AllocError>
+    requires { file_in family.now number ≡ Some file.now }
+    ensures { IfOk result (λ classes. AreNamed family.now file.now classes.items) }
 {
-    let mut classes = BTreeMap::new(alloc);
-    for constant in file.constants() {
-        note(&mut classes, family, file, constant)?;
+    let constants = file.constants();
+    let mut classes = vec![in alloc; None; constants.len()]?;
+    note_own(&mut classes, family, number, file);
+    for constant in constants {
+        note(&mut classes, family, file, constant);
     }
     Ok(classes)
 }
 
+/// Notes the class's own name, which need not be looked up.
+fn note_own(
+    classes: &mut Vec<Option<Option<ClassId>>>,
+    family: &Family,
+    number: u32,
+    file: &ClassFile,
+)
+    requires number { file_in family.now number ≡ Some file.now }
+    requires named { AreNamed family.now file.now classes.old.items }
+    ensures { AreNamed family.now file.now classes.new.items }
+{
+    let Some(Constant::Class { name }) = file.constant(file.this_class()) else {
+        return;
+    };
+    set(classes, *name, Some(ClassId::Given(number)));
+}
+
 /// Looks up the name of an entry, if it is a Class whose name was not looked up.
 fn note(
-    classes: &mut BTreeMap<u16, Option<ClassId>>,
+    classes: &mut Vec<Option<Option<ClassId>>>,
     family: &Family,
     file: &ClassFile,
     constant: &Constant,
-) -> Result<(), AllocError>
-    requires { AreNamed family.now file.now classes.old }
-    ensures { OnOk result (AreNamed family.now file.now classes.new) }
+)
+    requires { AreNamed family.now file.now classes.old.items }
+    ensures { AreNamed family.now file.now classes.new.items }
 {
     let Constant::Class { name } = constant else {
-        return Ok(());
+        return;
     };
-    if classes.get(name).is_some() {
-        return Ok(());
+    if noted(classes, *name).is_some() {
+        return;
     }
     let class = class_named(family, text_at(file, *name));
-    insert(classes, *name, class)?;
-    Ok(())
+    set(classes, *name, class);
 }
 
-/// Notes the class of a name.
-#[tactic(auto, unfolding(crate::specs::steps::NamedClasses::found))]
-fn insert(
-    classes: &mut BTreeMap<u16, Option<ClassId>>,
-    name: u16,
-    class: Option<ClassId>,
-) -> Result<(), AllocError>
-    ensures { OnOk result ((key : ℕ)
-        → found classes.new key ≡ (if name == key then Some class else found classes.old key)) }
+/// Notes the class of a name, if it has a place.
+fn set(classes: &mut Vec<Option<Option<ClassId>>>, name: u16, class: Option<ClassId>)
+    ensures { classes.new.items ≡ slice_set classes.old.items name (Some class) }
 {
-    classes.insert(name, class)?;
-    Ok(())
+    let place = usize::from(name);
+    if place < classes.len() {
+        classes[place] = Some(class);
+    }
 }
 
 /// What was noted for a name.
-#[tactic(auto, unfolding(crate::specs::steps::NamedClasses::found))]
-fn noted(classes: &BTreeMap<u16, Option<ClassId>>, name: u16) -> Option<Option<ClassId>>
+fn noted(classes: &[Option<Option<ClassId>>], name: u16) -> Option<Option<ClassId>>
     ensures { result ≡ found classes.now name }
 {
-    match classes.get(&name) {
-        Some(class) => Some(*class),
+    match classes.get(usize::from(name)) {
+        Some(class) => *class,
         None => None,
     }
 }
@@ -134,7 +150,7 @@ fn noted(classes: &BTreeMap<u16, Option<ClassId>>, name: u16) -> Option<Option<C
 fn named_at(
     family: &Family,
     file: &ClassFile,
-    classes: &BTreeMap<u16, Option<ClassId>>,
+    classes: &[Option<Option<ClassId>>],
     index: u16,
 ) -> Option<ClassId>
     requires { AreNamed family.now file.now classes.now }

@@ -18,9 +18,9 @@ ghost use Rattle.program.specs.steps.Ahead.{AreAhead};
 ghost use Rattle.program.specs.Strings.{string_of, strings_of};
 ghost use Rattle.program.specs.steps.GrowingStrings.{Adds};
 
-use crate::ahead::{MembersAhead, found_ahead};
+use crate::ahead::MembersAhead;
 use crate::class::RuntimePool;
-use crate::equal_entries::Earlier;
+use crate::equal_entries::EarlierStrings;
 use crate::field_slots::FieldSlots;
 use crate::references::descriptor_at;
 use crate::resolver::Resolver;
@@ -234,7 +234,7 @@ impl Resolver<'_> {
             self.now.file.now index constant.now) }
         ensures kept { members.new ≡ members.old }
     {
-        match found_ahead(ahead, index) {
+        match ahead.at(index) {
             Some(held) => Ok(held),
             None => self.resolved_now(members, index, constant),
         }
@@ -282,7 +282,7 @@ impl Resolver<'_> {
     {
         let ahead = self.members_ahead(alloc, members)?;
         let mut pool = Vec::with_capacity(alloc, self.file.constants().len())?;
-        let mut earlier = Earlier::new(alloc);
+        let mut earlier = EarlierStrings::new(alloc);
         self.add_constants(alloc, members, strings, &ahead, &mut earlier, &mut pool)?;
         Ok(RuntimePool { constants: pool })
     }
@@ -294,7 +294,7 @@ impl Resolver<'_> {
         members: &mut MemberResolver<'_>,
         strings: &mut Texts,
         ahead: &MembersAhead,
-        earlier: &mut Earlier,
+        earlier: &mut EarlierStrings,
         pool: &mut Vec<RuntimeConstant>,
     ) -> Result<(), AllocError>
         requires members { members.old ≡ self.now.hierarchy.now }
@@ -331,7 +331,7 @@ impl Resolver<'_> {
         ahead: &MembersAhead,
         index: u16,
         constant: &Constant,
-        earlier: &mut Earlier,
+        earlier: &mut EarlierStrings,
         pool: &mut Vec<RuntimeConstant>,
     ) -> Result<(), AllocError>
         requires members { members.old ≡ self.now.hierarchy.now }
@@ -352,7 +352,7 @@ impl Resolver<'_> {
             return Ok(());
         }
         let held = self.runtime_constant_of(alloc, members, strings, ahead, index, constant)?;
-        earlier.note(constant, index)?;
+        earlier.note(constant, index, self.file.constants().len())?;
         pool.push(held)?;
         Ok(())
     }

@@ -27,9 +27,9 @@ impl StaticNumbers {
     pub(crate) fn of_class(alloc: Global, file: &ClassFile) -> Result<StaticNumbers, AllocError>
         ensures { IfOk result (AreStaticNumbers file.now) }
     {
-        let mut numbers = Vec::new(alloc);
-        let mut before = 0;
         let fields = file.fields();
+        let mut numbers = Vec::with_capacity(alloc, fields.len())?;
+        let mut before = 0;
         for field in fields {
             numbers.push(before)?;
             if is_static_field(file, field) {

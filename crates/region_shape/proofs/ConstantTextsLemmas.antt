@@ -51,21 +51,17 @@ use Rattle.machine.specs.Operations.{returns_so, return_of, new_of_references, a
 use Rattle.machine.specs.Operations.{resolved_operation, local_or, operation_of, operation_at}
 use Rattle.machine.proofs.ListLemmas.{left_of_pair}
 use Rattle.machine.proofs.LawsStaticLemmas.{IsClassIn}
-use Rattle.region_shape.proofs.OperationLemmas.{source}
+use Rattle.region_shape.proofs.OperationLemmas.{string_named, operation_typed}
 use Rattle.machine.proofs.TableLawLemmas.{HoldsOfConstants}
 use Rattle.region_shape.specs.Texts.{HasText}
 
--- what is asked of an operation: that the string it pushes is the program's
-abbrev IsTyped : Tables → Operation → Type 0
-IsTyped P (PushText s) = HasText P (values.Text s)
-IsTyped P operation = Unit {0}
-
-abbrev IsConstantTyped : Tables → Option RuntimeConstant → Type 0
-IsConstantTyped P (Some (runtime.String n)) = HasText P (values.Text n)
-IsConstantTyped P constant = Unit {0}
+-- a string that a run-time constant is
+abbrev IsConstantText : Tables → Option RuntimeConstant → Type 0
+IsConstantText P (Some (runtime.String n)) = HasText P (values.Text n)
+IsConstantText P constant = Unit {0}
 
 -- a value that a constant gives
-constant_has : (P : Tables) (kind : FieldKind) (o : Option RuntimeConstant) (v : Value) → IsConstantTyped P o
+constant_has : (P : Tables) (kind : FieldKind) (o : Option RuntimeConstant) (v : Value) → IsConstantText P o
     → value_of_constant kind o ≡ Some v → HasText P v
 constant_has P kind (Some (runtime.Int n)) v h e = subst (HasText P) (same_Some _ v e) tt
 constant_has P kind (Some (runtime.Long n)) v h e = subst (HasText P) (same_Some _ v e) tt
@@ -85,164 +81,21 @@ zero_has P kinds.Double = tt
 zero_has P kinds.Reference = tt
 
 module _ (P : Tables) (is : IsProgram P) where
-  -- a string of a run-time constant
-  string_named : {f : ClassFile} {index : ℕ} {constant : Constant} {held : RuntimeConstant} (n : ℕ)
-      → held ≡ runtime.String n → IsRuntimeConstant P.family P.strings f index constant held → n < length P.strings
-  string_named n e (IsRuntimeConstant.string {n = k} h) =
-      let same : k ≡ n = cc in
-      subst (λ (j : ℕ). j < length P.strings) same (slice_get_within P.strings k _ h)
-  string_named n e IsRuntimeConstant.int = absurd cc
-  string_named n e IsRuntimeConstant.long = absurd cc
-  string_named n e IsRuntimeConstant.float = absurd cc
-  string_named n e IsRuntimeConstant.double = absurd cc
-  string_named n e (IsRuntimeConstant.class h) = absurd cc
-  string_named n e (IsRuntimeConstant.field r h) = absurd cc
-  string_named n e (IsRuntimeConstant.method h) = absurd cc
-  string_named n e (IsRuntimeConstant.interface_method h) = absurd cc
-  string_named n e IsRuntimeConstant.utf8 = absurd cc
-  string_named n e IsRuntimeConstant.unusable = absurd cc
-  string_named n e IsRuntimeConstant.name_and_type = absurd cc
-  string_named n e IsRuntimeConstant.method_handle = absurd cc
-  string_named n e IsRuntimeConstant.method_type = absurd cc
-  string_named n e IsRuntimeConstant.invoke_dynamic = absurd cc
-
-  constant_typed : (d index : ℕ) → IsConstantTyped P (constant_at P d index)
-  constant_typed d index = by (constant_at P d index) refl
-    where
-      by : (o : Option RuntimeConstant) → constant_at P d index ≡ o → IsConstantTyped P o
-      by (Some (runtime.String n)) e = let from = source P is d index (runtime.String n) e in string_named n refl from.2
-      by other e = tt
-
-  -- ---- operations
-
-  int_typed : (e : Option RuntimeConstant) → IsConstantTyped P e → IsTyped P (int_constant e)
-  int_typed (Some (runtime.Int n)) h = tt
-  int_typed (Some (runtime.String n)) h = h
-  int_typed (Some runtime.Float) h = tt
-  int_typed (Some (runtime.Class x)) h = tt
-  int_typed (Some runtime.MethodHandle) h = tt
-  int_typed (Some runtime.MethodType) h = tt
-  int_typed other h = tt
-
-  long_typed : (e : Option RuntimeConstant) → IsTyped P (long_constant e)
-  long_typed (Some (runtime.Long n)) = tt
-  long_typed (Some runtime.Double) = tt
-  long_typed other = tt
-
-  valued : (kind : FieldKind) (o : Operation) → IsTyped P o → IsTyped P (if_valued kind o)
-  valued kinds.Boolean o h = h
-  valued kinds.Byte o h = h
-  valued kinds.Char o h = h
-  valued kinds.Short o h = h
-  valued kinds.Int o h = h
-  valued kinds.Long o h = h
-  valued kinds.Float o h = tt
-  valued kinds.Double o h = tt
-  valued kinds.Reference o h = h
-
-  get_typed : (e : Option RuntimeConstant) → IsTyped P (getstatic_of e)
-  get_typed (Some (runtime.Field kind target)) = valued kind (get_target target) (by target)
-    where
-      by : (t : Result FieldTarget Unresolved) → IsTyped P (get_target t)
-      by (Ok (targets.Static d j final place)) = tt
-      by (Ok (targets.Instance d j slot)) = tt
-      by (Ok targets.Out) = tt
-      by (Err unresolved.Missing) = tt
-      by (Err unresolved.NoReference) = tt
-      by (Err unresolved.Incompatible) = tt
-  get_typed other = tt
-
-  put_typed : (d m : ℕ) (e : Option RuntimeConstant) → IsTyped P (putstatic_of P d m e)
-  put_typed d m (Some (runtime.Field kind target)) = valued kind (put_target P d m kind target) (by target)
-    where
-      written : (b : Bool) (x j : ℕ) → IsTyped P (cond b (PutStatic kind x j) (Refused Fault))
-      written true x j = tt
-      written false x j = tt
-
-      by : (t : Result FieldTarget Unresolved) → IsTyped P (put_target P d m kind t)
-      by (Ok (targets.Static x j final place)) = written (may_write P d m x final) x j
-      by (Ok (targets.Instance x j slot)) = tt
-      by (Ok targets.Out) = tt
-      by (Err unresolved.Missing) = tt
-      by (Err unresolved.NoReference) = tt
-      by (Err unresolved.Incompatible) = tt
-  put_typed d m other = tt
-
-  call_typed : (r : Result CallOperation FaultKind) → IsTyped P (on_call r)
-  call_typed (Ok operation) = tt
-  call_typed (Err kind) = tt
-
-  object_typed : (r : Result ObjectOperation FaultKind) → IsTyped P (on_object r)
-  object_typed (Ok operation) = tt
-  object_typed (Err kind) = tt
-
-  return_typed : (operand : Option OperandKind) (o : Option Implementation) → IsTyped P (return_of operand o)
-  return_typed operand (Some (implementations.Code code)) = by (returns_so operand code.returns)
-    where
-      by : (b : Bool) → IsTyped P (cond b (Return code.returns) (Refused Fault))
-      by true = tt
-      by false = tt
-  return_typed operand other = tt
-
-  anewarray_typed : (e : Option RuntimeConstant) → IsTyped P (anewarray_of P e)
-  anewarray_typed (Some (runtime.Class None)) = tt
-  anewarray_typed (Some (runtime.Class (Some class))) = by (array_of P.family class)
-    where
-      by : (o : Option ArrayType) → IsTyped P (new_of_references o)
-      by None = tt
-      by (Some a) = tt
-  anewarray_typed other = tt
-
-  resolved_typed : (d m : ℕ) (i : Instruction) → IsTyped P (resolved_operation P d m i)
-  resolved_typed d m (instructions.LoadConstant index) = int_typed (constant_at P d index) (constant_typed d index)
-  resolved_typed d m (instructions.LoadWideConstant index) = long_typed (constant_at P d index)
-  resolved_typed d m (instructions.GetStatic index) = get_typed (constant_at P d index)
-  resolved_typed d m (instructions.PutStatic index) = put_typed d m (constant_at P d index)
-  resolved_typed d m (instructions.InvokeVirtual index) = call_typed (invokevirtual_of P d (constant_at P d index))
-  resolved_typed d m (instructions.InvokeInterface index) = call_typed (invokeinterface_of P d (constant_at P d index))
-  resolved_typed d m (instructions.InvokeSpecial index) = call_typed (invokespecial_of P d (constant_at P d index))
-  resolved_typed d m (instructions.InvokeStatic index) = call_typed (invokestatic_of P d (constant_at P d index))
-  resolved_typed d m instructions.Return = return_typed None (implementation_at P d m)
-  resolved_typed d m instructions.ReturnInt = return_typed (Some operands.Int) (implementation_at P d m)
-  resolved_typed d m instructions.ReturnLong = return_typed (Some operands.Long) (implementation_at P d m)
-  resolved_typed d m instructions.ReturnReference = return_typed (Some operands.Reference) (implementation_at P d m)
-  resolved_typed d m (instructions.NewReferenceArray index) = anewarray_typed (constant_at P d index)
-  resolved_typed d m (instructions.New index) = object_typed (new_of P (constant_at P d index))
-  resolved_typed d m (instructions.CheckCast index) = object_typed (check_cast_of (constant_at P d index))
-  resolved_typed d m (instructions.InstanceOf index) = object_typed (instance_of_of (constant_at P d index))
-  resolved_typed d m instructions.Throw = tt
-  resolved_typed d m (instructions.GetField index) = object_typed (get_field_of (constant_at P d index))
-  resolved_typed d m (instructions.PutField index) = object_typed (put_field_of (constant_at P d index))
-  resolved_typed d m instructions.MonitorEnter = tt
-  resolved_typed d m instructions.MonitorExit = tt
-  resolved_typed d m other = tt
-
-  local_typed : (l : Option LocalOperation) (o : Operation) → IsTyped P o → IsTyped P (local_or l o)
-  local_typed None o h = h
-  local_typed (Some l) o h = tt
-
   pub constants_have : HoldsOfConstants P (HasText P)
-  unfolding operation_at
-  constants_have d m place s e = by (instruction_at P d m place) e
-    where
-      by : (i : Option Instruction) → operation_of P d m i ≡ Some (PushText s) → HasText P (values.Text s)
-      by None h = absurd cc
-      by (Some i) h =
-          let same : local_or (local_of i) (resolved_operation P d m i) ≡ PushText s = cc in
-          subst (IsTyped P) same (local_typed (local_of i) (resolved_operation P d m i) (resolved_typed d m i))
+  constants_have d m place s e = operation_typed P is d m place (PushText s) e
 
   -- ---- what a field begins as
 
-  pool_typed : (f : ClassFile) (pool : List RuntimeConstant) → IsRuntimePool P.family P.strings f pool → (index : ℕ)
-      → IsConstantTyped P (slice_get pool index)
-  pool_typed f pool of index = by (slice_get pool index) refl
+  pool_texts : (f : ClassFile) (pool : List RuntimeConstant) → IsRuntimePool P.family P.strings f pool → (index : ℕ)
+      → IsConstantText P (slice_get pool index)
+  pool_texts f pool of index = by (slice_get pool index) refl
     where
-      by : (o : Option RuntimeConstant) → slice_get pool index ≡ o → IsConstantTyped P o
+      by : (o : Option RuntimeConstant) → slice_get pool index ≡ o → IsConstantText P o
       by (Some (runtime.String n)) e =
           let within : index < length f.constants =
           omega (arith, slice_get_within pool index (runtime.String n) e, of.count) in
           let constant = get_or f.constants index constants.Unusable in
-          string_named n refl (of.each index constant (runtime.String n)
+          string_named P is n refl (of.each index constant (runtime.String n)
           (slice_get-get_or f.constants index constants.Unusable within) e)
       by other e = tt
 
@@ -252,7 +105,7 @@ module _ (P : Tables) (is : IsProgram P) where
     where
       by_index : (v : Value) (o : Option ℕ) → constant_value_at pool kind o ≡ Some v → HasText P v
       by_index v None e = absurd cc
-      by_index v (Some index) e = constant_has P kind (slice_get pool index) v (pool_typed f pool of index) e
+      by_index v (Some index) e = constant_has P kind (slice_get pool index) v (pool_texts f pool of index) e
 
       by_flag : (v : Value) (b : Bool)
           → cond b (constant_value_at pool kind (value_among m.attributes)) None ≡ Some v → HasText P v

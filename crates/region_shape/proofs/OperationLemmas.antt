@@ -1,5 +1,5 @@
 -- What the instructions of a linked program name is typed: the field of a putstatic or putfield has the instruction's
--- kind, and of a class that new or anewarray name there are objects.
+-- kind, of a class that new or anewarray name there are objects, and a string is one of the program's.
 use Rattle.std.proofs.Common.{◌≡◌, ℕ, ◌+◌, ◌<◌, ◌≤◌, Bool, true, false, cond, List, length, get_or}
 use Rattle.std.proofs.Common.{Option, Some, None, Ok, Err, slice_get, inl, refl, sym, ap, ◌∙◌, subst, arith, nat_lt}
 use Rattle.std.specs.declared.result.Result.{Result}
@@ -21,6 +21,7 @@ use Rattle.built_in.specs.declared.class_id.ClassId.{ClassId}
 use Rattle.built_in.specs.declared.class_id.ClassId.TheVariants as classes
 use Rattle.vm_state.specs.declared.ends.FaultKind.{FaultKind}
 use Rattle.vm_state.specs.declared.ends.FaultKind.TheVariants.{Fault}
+use Rattle.vm_state.specs.declared.value.Value.TheVariants as values
 use Rattle.loading.specs.Families.{Family, file_in}
 use Rattle.loading.specs.ClassIds.{IsNamed, StandsFor}
 use Rattle.loading.specs.Names.{class_name_at}
@@ -64,7 +65,7 @@ use Rattle.machine.specs.ObjectReferences.{named_class, new_built_in, new_class,
 use Rattle.machine.specs.ObjectReferences.{check_cast_of, instance_of_named, instance_of_of, instance_field}
 use Rattle.machine.specs.ObjectReferences.{of_valued_kind, named_instance_field, get_field_by, get_field_of}
 use Rattle.machine.specs.ObjectReferences.{put_field_by, put_field_of}
-use Rattle.machine.specs.Operations.{Operation, PutStatic, OnArray, OnObject, Return, Refused, int_constant}
+use Rattle.machine.specs.Operations.{Operation, PushText, PutStatic, OnArray, OnObject, Return, Refused, int_constant}
 use Rattle.machine.specs.Operations.{long_constant}
 use Rattle.machine.specs.Operations.{may_write, if_valued, get_target, getstatic_of, put_target, putstatic_of, on_call}
 use Rattle.machine.specs.Operations.{returns_so, return_of, new_of_references, anewarray_of, on_object}
@@ -72,10 +73,12 @@ use Rattle.machine.specs.Operations.{resolved_operation, local_or, operation_of,
 use Rattle.machine.proofs.ListLemmas.{left_of_pair, kept_place, first_passes}
 use Rattle.machine.proofs.LawsStaticLemmas.{IsClassIn}
 use Rattle.machine.proofs.LawsFinalLemmas.{static_target, finds_field, descriptor_is, constant_at_put}
+use Rattle.region_shape.specs.Texts.{HasText}
 use Rattle.region_shape.proofs.ArrayRowsLemmas.{IsArrayTyped}
 use Rattle.region_shape.proofs.ObjectRowsLemmas.{IsObjectTyped}
 
 abbrev pub IsTyped : Tables → Operation → Type 0
+IsTyped P (PushText s) = HasText P (values.Text s)
 IsTyped P (PutStatic kind c k) = slice_get (static_kinds P.family c) k ≡ Some kind
 IsTyped P (OnArray operation) = IsArrayTyped P operation
 IsTyped P (OnObject operation) = IsObjectTyped P operation
@@ -96,6 +99,7 @@ IsNamedClass class = Unit {0}
 abbrev IsConstantTyped : Tables → Option RuntimeConstant → Type 0
 IsConstantTyped P (Some (runtime.Field kind target)) = has_value kind ≡ true → IsTarget P kind target
 IsConstantTyped P (Some (runtime.Class class)) = IsNamedClass class
+IsConstantTyped P (Some (runtime.String n)) = HasText P (values.Text n)
 IsConstantTyped P constant = Unit {0}
 
 -- ---- the field of a Fieldref
@@ -189,14 +193,14 @@ module _ (P : Tables) (is : IsProgram P) where
       by (Err unresolved.Incompatible) at = tt
   put_typed d m other h = tt
 
-  int_typed : (e : Option RuntimeConstant) → IsTyped P (int_constant e)
-  int_typed (Some (runtime.Int n)) = tt
-  int_typed (Some (runtime.String n)) = tt
-  int_typed (Some runtime.Float) = tt
-  int_typed (Some (runtime.Class x)) = tt
-  int_typed (Some runtime.MethodHandle) = tt
-  int_typed (Some runtime.MethodType) = tt
-  int_typed other = tt
+  int_typed : (e : Option RuntimeConstant) → IsConstantTyped P e → IsTyped P (int_constant e)
+  int_typed (Some (runtime.Int n)) h = tt
+  int_typed (Some (runtime.String n)) h = h
+  int_typed (Some runtime.Float) h = tt
+  int_typed (Some (runtime.Class x)) h = tt
+  int_typed (Some runtime.MethodHandle) h = tt
+  int_typed (Some runtime.MethodType) h = tt
+  int_typed other h = tt
 
   long_typed : (e : Option RuntimeConstant) → IsTyped P (long_constant e)
   long_typed (Some (runtime.Long n)) = tt
@@ -359,6 +363,27 @@ module _ (P : Tables) (is : IsProgram P) where
   array_named a e IsRuntimeConstant.method_type = absurd cc
   array_named a e IsRuntimeConstant.invoke_dynamic = absurd cc
 
+  -- a string of a run-time constant
+  pub string_named : {f : ClassFile} {index : ℕ} {constant : Constant} {held : RuntimeConstant} (n : ℕ)
+      → held ≡ runtime.String n → IsRuntimeConstant P.family P.strings f index constant held → n < length P.strings
+  string_named n e (IsRuntimeConstant.string {n = k} h) =
+      let same : k ≡ n = cc in
+      subst (λ (j : ℕ). j < length P.strings) same (slice_get_within P.strings k _ h)
+  string_named n e IsRuntimeConstant.int = absurd cc
+  string_named n e IsRuntimeConstant.long = absurd cc
+  string_named n e IsRuntimeConstant.float = absurd cc
+  string_named n e IsRuntimeConstant.double = absurd cc
+  string_named n e (IsRuntimeConstant.class h) = absurd cc
+  string_named n e (IsRuntimeConstant.field r h) = absurd cc
+  string_named n e (IsRuntimeConstant.method h) = absurd cc
+  string_named n e (IsRuntimeConstant.interface_method h) = absurd cc
+  string_named n e IsRuntimeConstant.utf8 = absurd cc
+  string_named n e IsRuntimeConstant.unusable = absurd cc
+  string_named n e IsRuntimeConstant.name_and_type = absurd cc
+  string_named n e IsRuntimeConstant.method_handle = absurd cc
+  string_named n e IsRuntimeConstant.method_type = absurd cc
+  string_named n e IsRuntimeConstant.invoke_dynamic = absurd cc
+
   static_typed : (d index c k place : ℕ) (kind : FieldKind) (final : Bool)
       → constant_at P d index ≡ Some (runtime.Field kind (Ok (targets.Static c k final place)))
       → has_value kind ≡ true → slice_get (static_kinds P.family c) k ≡ Some kind
@@ -421,12 +446,13 @@ module _ (P : Tables) (is : IsProgram P) where
       by (Some (runtime.Class (Some (classes.Given c)))) e = tt
       by (Some (runtime.Class (Some (classes.BuiltIn b)))) e = tt
       by (Some (runtime.Class None)) e = tt
+      by (Some (runtime.String n)) e = let from = source d index (runtime.String n) e in string_named n refl from.2
       by other e = tt
 
   -- ---- all instructions
 
   resolved_typed : (d m : ℕ) (i : Instruction) → IsTyped P (resolved_operation P d m i)
-  resolved_typed d m (instructions.LoadConstant index) = int_typed (constant_at P d index)
+  resolved_typed d m (instructions.LoadConstant index) = int_typed (constant_at P d index) (constant_typed d index)
   resolved_typed d m (instructions.LoadWideConstant index) = long_typed (constant_at P d index)
   resolved_typed d m (instructions.GetStatic index) = get_typed (constant_at P d index)
   resolved_typed d m (instructions.PutStatic index) = put_typed d m (constant_at P d index) (constant_typed d index)

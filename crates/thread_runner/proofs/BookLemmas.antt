@@ -1,5 +1,7 @@
 -- A book grows by the steps of a commit.
-use Rattle.std.proofs.Common.{◌≡◌, ◌≢◌, ℕ, zero, suc, ◌+◌, ◌<◌, ◌≤◌, ◌++◌, List, [], ◌∷◌, Option, Some, None, refl, sym, ap, subst, ◌∙◌, arith, slice_get, slice_set, replicate, length, length-append, option_and_then, Bool, Ok, Err}
+use Rattle.std.proofs.Common.{◌≡◌, ◌≢◌, ℕ, zero, suc, ◌+◌, ◌<◌, ◌≤◌, ◌++◌, List, [], ◌∷◌, Option, Some, None, refl, sym}
+use Rattle.std.proofs.Common.{ap, subst, ◌∙◌, arith, slice_get, slice_set, replicate, length, length-append}
+use Rattle.std.proofs.Common.{option_and_then, Bool, Ok, Err}
 use Rattle.std.specs.Prelude.{IfOk}
 use Rattle.std.specs.declared.result.Result.{Result}
 use Rattle.std.proofs.lemmas.List.{length-replicate}
@@ -14,7 +16,7 @@ use Rattle.program.specs.Tables.{Tables}
 use Rattle.machine.specs.Effects.{going}
 use Rattle.machine.specs.Linked.{program_of}
 use Rattle.init_engine.specs.Schedules.{schedule_of, AreRuns}
-use Rattle.thread_runner.specs.Stacks.{AreFrames, IsStackOf, with_thread}
+use Rattle.init_engine.specs.Stacks.{AreFrames, IsStackOf, with_thread}
 use Rattle.init_engine.specs.Turns.{Goes, IsTurn}
 use Rattle.init_engine.specs.declared.world.Turn.{Turn}
 use Rattle.init_engine.specs.declared.world.Turn.TheVariants as turns
@@ -82,7 +84,15 @@ keeps P start b w j n t kept runs is apart below short = record {
   runs = subst (λ s. Run (program_of P) start s w) (sym is)
       (runs_join_lem (program_of P) start b.world w (schedule_of b.journal) (replicate n t) kept.runs runs);
   apart = apart;
-  room = omega (arith, ap length is, length-append (schedule_of b.journal) (replicate n t), length-replicate n t, below, short);
+  room = omega (
+    arith,
+    ap length is,
+    length-append (schedule_of b.journal)
+        (replicate n t),
+    length-replicate n t,
+    below,
+    short,
+  );
   limit = kept.limit;
 }
 
@@ -127,7 +137,8 @@ there_after w t s zero = refl
 there_after w t s (suc n) = refl
 
 pub turn_run : (P : Tables) (w v : World) (t : ℕ) (s : Reach) (turn : Turn) (more : ℕ) → Fits w t s → IsLocalRun P s
-    → IsFar P w t s.to s.count turn v → (turn ≡ turns.Moved → more ≡ s.count + 1) → (turn ≢ turns.Moved → more ≡ s.count)
+    → IsFar P w t s.to s.count turn v → (turn ≡ turns.Moved → more ≡ s.count + 1)
+    → (turn ≢ turns.Moved → more ≡ s.count)
     → Run (program_of P) w (replicate more t) v
 turn_run P w v t s turns.Moved more fits run far moved stood =
     let h : more ≡ s.count + 1 = moved refl in

@@ -1,5 +1,6 @@
 -- Runs, step by step, and schedules that have none.
-use Rattle.std.proofs.Common.{◌≡◌, ℕ, zero, suc, ◌+◌, ◌-◌, ◌<◌, ◌≤◌, ◌++◌, List, [], ◌∷◌, Option, Some, None, refl, sym, ap, subst, ◌∙◌, arith, slice_get, replicate, length, map, get_or, take, append_assoc}
+use Rattle.std.proofs.Common.{◌≡◌, ℕ, zero, suc, ◌+◌, ◌-◌, ◌<◌, ◌≤◌, ◌++◌, List, [], ◌∷◌, Option, Some, None, refl, sym}
+use Rattle.std.proofs.Common.{ap, subst, ◌∙◌, arith, slice_get, replicate, length, map, get_or, take, append_assoc}
 use Rattle.std.proofs.lemmas.List.{take_more}
 use Rattle.std.proofs.lemmas.Option.{slice_get-get_or}
 use Rattle.init_engine.specs.Schedules.{schedule_of, AreRuns}
@@ -42,7 +43,8 @@ no_more P w m n t steps run none short last whole =
     let e : replicate steps t ≡ replicate n t ++ replicate (suc (steps - (n + 1))) t =
     ap (λ i. replicate i t) (sym k) ∙ sym (replicate-append-replicate n (suc (steps - (n + 1))) t) in
     first_none P m last t (replicate (steps - (n + 1)) t) none
-    (run_rest P w m last (replicate n t) (replicate (suc (steps - (n + 1))) t) run (subst (λ s. Run P w s last) e whole))
+    (run_rest P w m last (replicate n t) (replicate (suc (steps - (n + 1))) t) run
+    (subst (λ s. Run P w s last) e whole))
 
 -- there is no such thread
 past_end : {X : Type 0} (xs : List X) (t : ℕ) → length xs ≤ t → slice_get xs t ≡ None
@@ -50,7 +52,8 @@ past_end [] t h = refl
 past_end (x ∷ xs) zero h = absurd (omega (arith, h))
 past_end (x ∷ xs) (suc t) h = past_end xs t (omega (arith, h))
 
-pub no_thread : (P : Program) (w : World) (t steps : ℕ) → length w.threads ≤ t → 0 < steps → NoRun P w (replicate steps t)
+pub no_thread : (P : Program) (w : World) (t steps : ℕ) → length w.threads ≤ t → 0 < steps
+    → NoRun P w (replicate steps t)
 no_thread P w t steps past some =
     no_more P w w 0 t steps refl (ap (step_of P w t) (past_end w.threads t past)) some
 
@@ -87,7 +90,8 @@ turn_fault P w m xs i d within before none = turn (record {
 parted : (xs : List (ℕ × ℕ)) (i : ℕ) (r : ℕ × ℕ) → slice_get xs i ≡ Some r
     → (rest : List ℕ) × (schedule_of xs ≡ schedule_of (take i xs) ++ (replicate r.1 r.0 ++ rest))
 parted [] i r h = absurd cc
-parted (x ∷ xs) zero r h = let e : x ≡ r = cc in (schedule_of xs, ap (λ (y : ℕ × ℕ). replicate y.1 y.0 ++ schedule_of xs) e)
+parted (x ∷ xs) zero r h = let e : x ≡ r = cc in
+    (schedule_of xs, ap (λ (y : ℕ × ℕ). replicate y.1 y.0 ++ schedule_of xs) e)
 parted (x ∷ xs) (suc i) r h =
     let (rest, e) = parted xs i r h in (
       rest,

@@ -2,7 +2,7 @@
 use Rattle.semantics.specs.Worlds.{World}
 use Rattle.std.specs.Prelude.{ℕ, zero, suc}
 use Rattle.machine.specs.Effects.{going}
-use Rattle.thread_runner.specs.Stacks.{AreFrames, with_thread}
+use Rattle.init_engine.specs.Stacks.{AreFrames, with_thread}
 use Rattle.thread_runner.specs.Local.{AreDone}
 use Rattle.thread_runner.specs.Stretches.{Reach}
 

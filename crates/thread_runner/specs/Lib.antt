@@ -1,5 +1,4 @@
 pub mod Local
-pub mod Stacks
 pub mod Stretches
 pub mod Kept
 pub mod Replays

@@ -8,7 +8,7 @@ ghost use Rattle.semantics.specs.Steps.{Going};
 ghost use Rattle.machine.specs.Effects.{going};
 ghost use Rattle.machine.specs.Linked.{program_of};
 ghost use Rattle.init_engine.specs.Turns.{IsTurn};
-ghost use Rattle.thread_runner.specs.Stacks.{AreFrames, with_thread};
+ghost use Rattle.init_engine.specs.Stacks.{AreFrames, with_thread};
 
 use init_engine::Turn;
 use program::Program;
@@ -50,7 +50,8 @@ pub trait Stacks {
     /// `AllocError` where memory is refused; the world stays as it was.
     fn step(&mut self, alloc: Global, program: &Program, thread: u32) -> Result<Turn, AllocError>
         requires { thread < length (world self.old).threads }
-        ensures ok { IfOk result (λ turn. IsTurn (program_of program.now) (world self.old) thread turn (world self.new)) }
+        ensures ok { IfOk result (λ turn.
+            IsTurn (program_of program.now) (world self.old) thread turn (world self.new)) }
         ensures threads { length (world self.new).threads ≡ length (world self.old).threads }
         ensures err { OnErr result (world self.new ≡ world self.old) };
 }

@@ -16,38 +16,38 @@ use Rattle.hierarchy.specs.Selectable.{IsNamedLike}
 use Rattle.program.specs.Tables.{Tables}
 
 module _ (old : Rows) (from to : ℕ) (h : from < length old) where
-  abbrev with_edge : Rows
+  abbrev pub with_edge : Rows
   with_edge = slice_set old from (successors_of old from ++ to ∷ [])
 
-  here : successors_of with_edge from ≡ successors_of old from ++ to ∷ []
-  here = grind (arith, common_steps)
+  pub row_here : successors_of with_edge from ≡ successors_of old from ++ to ∷ []
+  row_here = grind (arith, common_steps)
 
-  beside : (n : ℕ) → (n ≡ from → ⊥) → successors_of with_edge n ≡ successors_of old n
-  beside n other = grind (arith, common_steps)
+  pub row_beside : (n : ℕ) → (n ≡ from → ⊥) → successors_of with_edge n ≡ successors_of old n
+  row_beside n other = grind (arith, common_steps)
 
   decide : (n : ℕ) → (n ≡ from) ⊎ (n ≡ from → ⊥)
   decide n = grind arith
 
   pub edge_there : Contains (successors_of with_edge from) to
-  edge_there = subst (λ (l : List ℕ). Contains l to) (sym here) (Contains-push (successors_of old from) to)
+  edge_there = subst (λ (l : List ℕ). Contains l to) (sym row_here) (Contains-push (successors_of old from) to)
 
   pub edge_added : Extends old with_edge from (λ t. t ≡ to)
   edge_added = record {
     keeps = λ n t p. elim (decide n) [
       | inl same ↦ subst (λ (x : ℕ). Contains (successors_of with_edge x) t) (sym same)
-          (subst (λ (l : List ℕ). Contains l t) (sym here)
+          (subst (λ (l : List ℕ). Contains l t) (sym row_here)
           (Contains-append_left (successors_of old from) (to ∷ []) t
           (subst (λ (x : ℕ). Contains (successors_of old x) t) same p)))
-      | inr other ↦ subst (λ (l : List ℕ). Contains l t) (sym (beside n other)) p
+      | inr other ↦ subst (λ (l : List ℕ). Contains l t) (sym (row_beside n other)) p
     ];
     only = λ n t p. elim (decide n) [
       | inl same ↦ elim (Contains-push_cases (successors_of old from) to t
-          (subst (λ (l : List ℕ). Contains l t) here
+          (subst (λ (l : List ℕ). Contains l t) row_here
           (subst (λ (x : ℕ). Contains (successors_of with_edge x) t) same p))) [
             | inl was ↦ inl (subst (λ (x : ℕ). Contains (successors_of old x) t) (sym same) was)
             | inr is ↦ inr (same, sym is)
           ]
-      | inr other ↦ inl (subst (λ (l : List ℕ). Contains l t) (beside n other) p)
+      | inr other ↦ inl (subst (λ (l : List ℕ). Contains l t) (row_beside n other) p)
     ];
   }
 

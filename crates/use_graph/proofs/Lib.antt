@@ -1,3 +1,4 @@
+pub mod ListLemmas
 pub mod NumbersLemmas
 pub mod EdgesLemmas
 pub mod PartsLemmas

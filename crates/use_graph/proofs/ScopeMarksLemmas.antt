@@ -409,6 +409,12 @@ module _ (P : Tables) (is : IsProgram P) (c : ℕ) (none : (mark : Mark) → IsB
     | inr other ↦ absurd (h (λ same. (let clash : false ≡ true = sym other ∙ eq-eqb e d same in cc)))
   ]
 
+  no_class : (e : ℕ) → None ≢ Some e
+  no_class e h = cc
+
+  not_some : (e d : ℕ) → e ≢ d → Some e ≢ Some d
+  not_some e d apart h = apart cc
+
   abbrev IsCleanScope : bounds.Scope → Type 0
   IsCleanScope scope =
       (scope.prints ≡ false) × (scope.locks ≡ false) × ((e : ℕ) → scope.writes ≡ Some e → e ≡ c)
@@ -420,12 +426,12 @@ module _ (P : Tables) (is : IsProgram P) (c : ℕ) (none : (mark : Mark) → IsB
   clean_if d k place run (Some o) at =
       let tell = told_at P is d k place o at in
       let no = untold d k place run in (
-        not_true (prints_by o) (λ h. no features.Prints marks.Prints Prints refl (tell.prints h)),
-        not_true (locks_by o) (λ h. no features.Locks marks.Monitors Monitors refl (tell.locks h)),
+        not_true (prints_by o) (λ h. no features.Prints marks.Prints Prints (refl, no_class c) (tell.prints h)),
+        not_true (locks_by o) (λ h. no features.Locks marks.Monitors Monitors (refl, no_class c) (tell.locks h)),
         λ e h. same_class c e (λ apart.
-            no (features.Writes e) marks.ForeignWrite ForeignWrite (apart, refl) (tell.writes e h)),
+            no (features.Writes e) marks.ForeignWrite ForeignWrite (refl, not_some e c apart) (tell.writes e h)),
         λ e h. same_class c e (λ apart.
-            no (features.Reads e) marks.ForeignRead ForeignRead (apart, refl) (tell.reads e h)),
+            no (features.Reads e) marks.ForeignRead ForeignRead (refl, not_some e c apart) (tell.reads e h)),
       )
 
   clean_at : (a : Activity) (place : ℕ) → bounds.MayRun (program_of P) (bounds_of P) c a

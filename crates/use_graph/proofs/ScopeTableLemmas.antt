@@ -54,8 +54,9 @@ use Rattle.machine.specs.Linked.{program_of}
 use Rattle.machine.proofs.TableLemmas.{if_usable_any, unless_null_any, chosen_any, called_any}
 use Rattle.use_graph.specs.Code.{chosen_callee, found_callee}
 use Rattle.use_graph.specs.Scopes.{if_declared, activity_of, called_by, scope_of, scope_if, start_scope, bounds_of}
-use Rattle.use_graph.proofs.ScopeRowsLemmas as Rows
-use Rattle.use_graph.proofs.ScopeRowsLemmas.{halted, raised, either, need, push_in}
+use Rattle.machine.proofs.AnyRowsLemmas.{class_any, array_any, given_any, built_in_any, cast_any, instance_any}
+use Rattle.machine.proofs.AnyRowsLemmas.{throw_any, got_any, put_any, member_any}
+use Rattle.use_graph.proofs.ScopeRowsLemmas.{halted, raised, either, need, push_in, up, monitor_in, entered_in, left_in}
 
 -- where what is called is the same for all classes
 abbrev any_class : ClassId
@@ -93,7 +94,7 @@ module _ (P : Tables) (scope : Scope) (f : Frame) where
       → ((c m : ℕ) → o ≡ Some (methods.Given c m) → MayReach c m) → Suits (runs P count v f o)
   runs_in count v None may = tt
   runs_in count v (Some (methods.Given c m)) may = reached_in c m count (may c m refl)
-  runs_in count v (Some (methods.BuiltIn member)) may = Rows.member_in P scope f member count v
+  runs_in count v (Some (methods.BuiltIn member)) may = member_any _ _ (up P scope) P member count v f tt
 
   -- what is chosen is in scope
   abbrev Covers : Choice → Type 0
@@ -102,7 +103,7 @@ module _ (P : Tables) (scope : Scope) (f : Frame) where
 
   chosen_in : (choice : Choice) (count : ℕ) (v : Value) → Covers choice → Suits (runs_chosen P choice count f v)
   chosen_in (Selected m) count v covers =
-      Rows.ask_class_in P scope v (λ o. needing o (λ class. runs P count v f (selected P.family class m)))
+      class_any _ _ (up P scope) v (λ o. needing o (λ class. runs P count v f (selected P.family class m)))
       (λ o. need P scope o (λ class. runs P count v f (selected P.family class m)) (λ class.
       runs_in count v (selected P.family class m) (λ c k e there.
       covers class (Method c k) (ap (activity_of P) e ∙ declared_here P c k there))))
@@ -158,21 +159,25 @@ object_in P f (objects.NewGiven c) =
     let scope = scope_of P (OnObject (objects.NewGiven c)) in (
       refl,
       λ b. if_usable_any (Suits P scope f) (halted P scope) (raised P scope) _ b
-          (Rows.new_in P scope (Given c) (map zero_of (slots_of P.family c)) f),
+          (given_any _ _ (up P scope) c (map zero_of (slots_of P.family c)) f),
     )
-object_in P f (objects.NewBuiltIn b) = Rows.new_in P (scope_of P (OnObject (objects.NewBuiltIn b))) (BuiltIn b) [] f
-object_in P f (objects.CheckCast class) = Rows.check_cast_in P (scope_of P (OnObject (objects.CheckCast class))) class f
+object_in P f (objects.NewBuiltIn b) =
+    built_in_any _ _ (up P (scope_of P (OnObject (objects.NewBuiltIn b)))) b [] f
+object_in P f (objects.CheckCast class) =
+    cast_any _ _ (up P (scope_of P (OnObject (objects.CheckCast class)))) P class f
 object_in P f (objects.InstanceOf class) =
-    Rows.instance_of_in P (scope_of P (OnObject (objects.InstanceOf class))) class f
-object_in P f objects.Throw = Rows.throw_in P (scope_of P (OnObject objects.Throw)) f
-object_in P f (objects.GetField field) = Rows.get_in P (scope_of P (OnObject (objects.GetField field))) field f
-object_in P f (objects.PutField field) = Rows.put_in P (scope_of P (OnObject (objects.PutField field))) field f
+    instance_any _ _ (up P (scope_of P (OnObject (objects.InstanceOf class)))) P class f
+object_in P f objects.Throw = throw_any _ _ (up P (scope_of P (OnObject objects.Throw))) P f
+object_in P f (objects.GetField field) =
+    got_any _ _ (up P (scope_of P (OnObject (objects.GetField field)))) P field f
+object_in P f (objects.PutField field) =
+    put_any _ _ (up P (scope_of P (OnObject (objects.PutField field)))) P field f
 object_in P f objects.EnterMonitor =
     let scope = scope_of P (OnObject objects.EnterMonitor) in
-    Rows.monitor_in P scope true f (entered f) refl (Rows.entered_in P scope f)
+    monitor_in P scope true f (entered f) refl (entered_in P scope f)
 object_in P f objects.ExitMonitor =
     let scope = scope_of P (OnObject objects.ExitMonitor) in
-    Rows.monitor_in P scope false f (left f) refl (Rows.left_in P scope f)
+    monitor_in P scope false f (left f) refl (left_in P scope f)
 
 local_in : (P : Tables) (scope : Scope) (r : Result Frame Trap) → IsInScope (program_of P) scope (local_row r)
 local_in P scope (Ok g) = tt
@@ -196,7 +201,7 @@ operation_in P f (PutStatic kind c k) =
           (need P scope (top_stored kind f.operands) _ (λ v. (refl, refl, tt))),
     )
 operation_in P f GetOut = push_in P (scope_of P GetOut) values.Out f
-operation_in P f (OnArray operation) = Rows.array_in P (scope_of P (OnArray operation)) f operation
+operation_in P f (OnArray operation) = array_any _ _ (up P (scope_of P (OnArray operation))) P operation f
 operation_in P f (OnCall call) = call_in P f call
 operation_in P f (Return returns.Nothing) = tt
 operation_in P f (Return (returns.Value kind)) =

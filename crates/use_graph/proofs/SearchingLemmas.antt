@@ -17,10 +17,7 @@ use Rattle.use_graph.specs.steps.Numbers.{HasNumber, AreMethods}
 use Rattle.use_graph.specs.steps.Searching.{StartsAt, AreReached, IsAmong, IsClassBelow, IsNeededAt, IsNeededIn}
 use Rattle.use_graph.specs.steps.Searching.{Unmarked, IsFound}
 use Rattle.use_graph.proofs.DeedsLemmas.{pc_of_told}
-
-one_of : {A : Type 0} (xs : List A) (n : ℕ) → n < length xs → (x : A) × (slice_get xs n ≡ Some x)
-one_of [] n low = absurd (omega arith)
-one_of (x ∷ xs) n low = (get_or (x ∷ xs) n x, slice_get-get_or (x ∷ xs) n x low)
+use Rattle.use_graph.proofs.ListLemmas.{one_of}
 
 -- what two sets were added to nothing
 pub both_added : (P Q : ℕ → Type 0) (none first used : List ℕ) → none ≡ []

@@ -51,15 +51,25 @@ IsUse P c e = (e < length P.classes) × (e ≢ c) × (Contains (order_in P c) e 
 
 -- ---- marks
 
--- what is told of an instruction is a mark, for the initializer of a class
+-- the mark that it is to be told so of an instruction
+abbrev pub mark_of : Feature → Mark
+mark_of features.Prints = marks.Prints
+mark_of features.Throws = marks.Throws
+mark_of features.Locks = marks.Monitors
+mark_of (features.Writes e) = marks.ForeignWrite
+mark_of (features.Reads e) = marks.ForeignRead
+mark_of features.LeftOut = marks.Unsupported
+mark_of features.Misses = marks.Missing
+
+-- the class whose field is written or read
+abbrev pub field_class : Feature → Option ℕ
+field_class (features.Writes e) = Some e
+field_class (features.Reads e) = Some e
+field_class _ = None
+
+-- What is told of an instruction is a mark, for the initializer of a class: what is done to its own fields is none.
 abbrev pub Means : ℕ → Feature → Mark → Type 0
-Means c features.Prints mark = mark ≡ marks.Prints
-Means c features.Throws mark = mark ≡ marks.Throws
-Means c features.Locks mark = mark ≡ marks.Monitors
-Means c (features.Writes e) mark = (e ≢ c) × (mark ≡ marks.ForeignWrite)
-Means c (features.Reads e) mark = (e ≢ c) × (mark ≡ marks.ForeignRead)
-Means c features.LeftOut mark = mark ≡ marks.Unsupported
-Means c features.Misses mark = mark ≡ marks.Missing
+Means c feature mark = (mark ≡ mark_of feature) × (field_class feature ≢ Some c)
 
 -- a native or synchronized method
 abbrev pub IsLeftOut : Tables → ℕ → ℕ → Type 0

@@ -6,7 +6,7 @@ ghost use Rattle.use_graph.specs.Uses.{Means};
 use crate::feature::Feature;
 
 /// What keeps a class from being initialized at build time, by its code alone. The least comes first.
-#[derive(Clone, Copy)]
+#[derive(Clone, Copy, PartialEq, Eq)]
 pub enum Mark {
     /// A call that resolves to a method of `java.io.PrintStream`.
     Prints,
@@ -39,13 +39,5 @@ pub struct Evidence {
 pub fn means(class: u32, feature: Feature, mark: Mark) -> bool
     ensures { IsTrue result ↔ Means class feature mark }
 {
-    match feature {
-        Feature::Prints => matches!(mark, Mark::Prints),
-        Feature::Throws => matches!(mark, Mark::Throws),
-        Feature::Locks => matches!(mark, Mark::Monitors),
-        Feature::Writes(written) => written != class && matches!(mark, Mark::ForeignWrite),
-        Feature::Reads(read) => read != class && matches!(mark, Mark::ForeignRead),
-        Feature::LeftOut => matches!(mark, Mark::Unsupported),
-        Feature::Misses => matches!(mark, Mark::Missing),
-    }
+    feature.mark() == mark && feature.field_class() != Some(class)
 }

@@ -23,8 +23,9 @@ use Rattle.initializer_analysis.specs.declared.verdict.Reason.TheVariants as rea
 use Rattle.initializer_analysis.specs.declared.verdict.Verdict.{Verdict}
 use Rattle.initializer_analysis.specs.declared.verdict.Verdict.TheVariants as verdicts
 use Rattle.initializer_analysis.specs.Verdicts as before
+use Rattle.initializer_analysis.specs.Verdicts.{IsFirstRefused}
 use Rattle.wave_scheduler.specs.Settled.{Outcome, Wave, Refused, Stopped, Settled, HasWave, IsAccepted, region_in}
-use Rattle.wave_scheduler.specs.Settled.{if_below, below, IsFirstRefused, LeavesRegion}
+use Rattle.wave_scheduler.specs.Settled.{if_below, below, LeavesRegion}
 use Rattle.wave_scheduler.specs.Laws.{AreSettledBelow, HasSettled}
 use Rattle.wave_scheduler.specs.steps.Judged.{UsesAccepted, IsTried, Follows, FollowVerdicts, HasFollower}
 use Rattle.wave_scheduler.proofs.ReachesLemmas.{Decided, decided_both, decided_same, one_of}
@@ -394,7 +395,7 @@ module _ (P : Tables) (forced : List Bool) (budget : ℕ) (judged : List Verdict
   -- ---- each class
 
   -- a use that is not accepted makes a class depend on the first such
-  depends : (c e : ℕ) → IsUse P c e → last e ≡ None → IsFirstRefused P S c (first P budget judged c)
+  depends : (c e : ℕ) → IsUse P c e → last e ≡ None → IsFirstRefused P (IsAccepted S) c (first P budget judged c)
   unfolding first
   depends c e used none = by (first_missing P budget last c)
     where
@@ -409,7 +410,7 @@ module _ (P : Tables) (forced : List Bool) (budget : ℕ) (judged : List Verdict
       ]
 
       by : (found : ((d : ℕ) × IsLeast (IsMissing P budget last c) d) ⊎ AreAtHand P budget last c)
-          → IsFirstRefused P S c (number_of P budget judged found)
+          → IsFirstRefused P (IsAccepted S) c (number_of P budget judged found)
       by (inl (d, ((uses, nothing), least))) =
           (uses, lacks d nothing, λ k uses_k never. least k (uses_k, nothing_of k never))
       by (inr all) = absurd (let there = all e used in let clash = ap is_some (sym none) ∙ there in cc)

@@ -7,7 +7,8 @@ use Rattle.initializer_analysis.specs.declared.verdict.Reason.TheVariants as rea
 use Rattle.initializer_analysis.specs.declared.verdict.Verdict.{Verdict}
 use Rattle.initializer_analysis.specs.declared.verdict.Verdict.TheVariants as verdicts
 use Rattle.initializer_analysis.specs.Verdicts as before
-use Rattle.wave_scheduler.specs.Settled.{Outcome, Wave, Refused, Stopped, Settled, HasWave, IsWave}
+use Rattle.initializer_analysis.specs.Verdicts.{IsWave}
+use Rattle.wave_scheduler.specs.Settled.{Outcome, Wave, Refused, Stopped, Settled, HasWave}
 use Rattle.wave_scheduler.specs.Settled.{IsOutcome, AreSettled}
 use Rattle.wave_scheduler.specs.steps.Judged.{UsesAccepted, IsTried, Follows, FollowVerdicts, FollowersAreSettled}
 use Rattle.wave_scheduler.proofs.ReachesLemmas.{one_of}
@@ -19,7 +20,7 @@ module _ (P : Tables) (forced : List Bool) (budget : ℕ) (judged : List Verdict
   kept_wave c m k at here =
       here ∙ ap (λ (x : ℕ). Some (Wave x)) (follow.each c (verdicts.Wave m) (Wave k) at here).0
 
-  wave_there : (c n : ℕ) → before.IsWave P judged c n → UsesAccepted P S c → IsWave P S c n
+  wave_there : (c n : ℕ) → IsWave P (before.HasWave judged) c n → UsesAccepted P S c → IsWave P (HasWave S) c n
   wave_there c n wave accepted = record {
     above = λ e used.
         let (m, at, less) = wave.above e used in
@@ -32,7 +33,7 @@ module _ (P : Tables) (forced : List Bool) (budget : ℕ) (judged : List Verdict
     ];
   }
 
-  by_wave : (c n : ℕ) (o : Outcome) → before.NoneHolds P forced c → before.IsWave P judged c n
+  by_wave : (c n : ℕ) (o : Outcome) → before.NoneHolds P forced c → IsWave P (before.HasWave judged) c n
       → IsTried P budget S c n o → IsOutcome P forced budget S c o
   by_wave c n (Wave k) none wave (same, accepted, region, there, leaves) =
       subst (λ (x : ℕ). IsOutcome P forced budget S c (Wave x)) (sym same)

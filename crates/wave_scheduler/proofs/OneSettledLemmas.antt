@@ -17,10 +17,10 @@ use Rattle.machine.specs.Linked.{program_of}
 use Rattle.use_graph.specs.Uses.{IsUse}
 use Rattle.initializer_analysis.specs.declared.verdict.Reason.{Reason}
 use Rattle.initializer_analysis.specs.declared.verdict.Reason.TheVariants as reasons
-use Rattle.initializer_analysis.specs.Verdicts.{NoneHolds, IsFirstReason}
+use Rattle.initializer_analysis.specs.Verdicts.{NoneHolds, IsFirstReason, IsFirstRefused, IsWave}
 use Rattle.initializer_analysis.proofs.VerdictsLemmas.{same_first}
-use Rattle.wave_scheduler.specs.Settled.{Outcome, Wave, Refused, Stopped, Settled, HasWave, region_in, below}
-use Rattle.wave_scheduler.specs.Settled.{IsFirstRefused, IsWave, LeavesRegion, IsOutcome, AreSettled}
+use Rattle.wave_scheduler.specs.Settled.{Outcome, Wave, Refused, Stopped, Settled, HasWave, IsAccepted, region_in}
+use Rattle.wave_scheduler.specs.Settled.{below, LeavesRegion, IsOutcome, AreSettled}
 use Rattle.wave_scheduler.specs.Laws.{OneSettled}
 use Rattle.wave_scheduler.proofs.ReachesLemmas.{one_of, same_lists, same_by_places}
 use Rattle.wave_scheduler.proofs.SettledLemmas.{same_wave, below_there, from_below}
@@ -42,10 +42,11 @@ module _ (P : Tables) (forced : List Bool) (budget : ℕ) where
   -- what becomes of a class, by its kind
   data Kind (S : Settled) (c : ℕ) : Outcome → Type 0 where
     own : {r : Reason} → IsFirstReason P forced c r → Kind S c (Refused r)
-    dependent : {e : ℕ} → NoneHolds P forced c → IsFirstRefused P S c e → Kind S c (Refused (reasons.DependsOn e))
-    accepted : {n : ℕ} {r : Region} → NoneHolds P forced c → IsWave P S c n → region_in S c ≡ Some r
+    dependent : {e : ℕ} → NoneHolds P forced c → IsFirstRefused P (IsAccepted S) c e
+        → Kind S c (Refused (reasons.DependsOn e))
+    accepted : {n : ℕ} {r : Region} → NoneHolds P forced c → IsWave P (HasWave S) c n → region_in S c ≡ Some r
         → LeavesRegion P budget S c n r → Kind S c (Wave n)
-    stopped : {n : ℕ} {why : Refusal} → NoneHolds P forced c → IsWave P S c n
+    stopped : {n : ℕ} {why : Refusal} → NoneHolds P forced c → IsWave P (HasWave S) c n
         → StoppedBy (program_of P) (below S n) c budget (quiet.Refused why) → Kind S c (Stopped why)
 
   kind_of : (S : Settled) (c : ℕ) (o : Outcome) → IsOutcome P forced budget S c o → Kind S c o
@@ -58,7 +59,8 @@ module _ (P : Tables) (forced : List Bool) (budget : ℕ) where
   abbrev AreUsedIn : Settled → Settled → ℕ → Type 0
   AreUsedIn S R c = (e : ℕ) → IsUse P c e → (m : ℕ) × HasWave S e m × HasWave R e m
 
-  no_higher : (S R : Settled) (c n k : ℕ) → AreUsedIn S R c → IsWave P S c n → IsWave P R c k → n ≤ k
+  no_higher : (S R : Settled) (c n k : ℕ) → AreUsedIn S R c → IsWave P (HasWave S) c n
+      → IsWave P (HasWave R) c k → n ≤ k
   no_higher S R c n k both first second = elim first.least [
     | inl none ↦ omega arith
     | inr (e, used, m, here, is) ↦ (let (x, one, two) = both e used in
@@ -66,7 +68,8 @@ module _ (P : Tables) (forced : List Bool) (budget : ℕ) where
         omega (arith, same_wave S e m x here one, same_wave R e l x there two))
   ]
 
-  one_wave : (S R : Settled) (c n k : ℕ) → AreUsedIn S R c → IsWave P S c n → IsWave P R c k → n ≡ k
+  one_wave : (S R : Settled) (c n k : ℕ) → AreUsedIn S R c → IsWave P (HasWave S) c n
+      → IsWave P (HasWave R) c k → n ≡ k
   one_wave S R c n k both first second =
       let up = no_higher S R c n k both first second in
       let down = no_higher R S c k n (λ e used. (let (m, one, two) = both e used in (m, two, one))) second first in
@@ -83,7 +86,7 @@ module _ (P : Tables) (forced : List Bool) (budget : ℕ) where
 
     module _ (n c : ℕ) (r : Region)
         (lower : (e m : ℕ) (s : Region) → m < n → HasWave S e m → region_in S e ≡ Some s → Is e m s)
-        (none : NoneHolds P forced c) (wave : IsWave P S c n) where
+        (none : NoneHolds P forced c) (wave : IsWave P (HasWave S) c n) where
       used_in : AreUsedIn S R c
       used_in e used =
           let (m, here, less) = wave.above e used in

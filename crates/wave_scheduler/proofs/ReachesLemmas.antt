@@ -3,7 +3,7 @@ use Rattle.std.proofs.Common.{◌≡◌, ◌⊎◌, ◌↔◌, inl, inr, ℕ, ze
 use Rattle.std.proofs.Common.{Option, Some, None, arith}
 use Rattle.std.specs.List.{Contains}
 use Rattle.std.proofs.Common.{slice_get, slice_index_or, get_or, ap, ◌∙◌}
-use Rattle.std.proofs.lemmas.Option.{slice_get-get_or}
+pub use Rattle.use_graph.proofs.ListLemmas.{one_of, same_lists, same_by_places}
 
 -- ---- what can be decided
 
@@ -180,28 +180,3 @@ module _ {V : Type 0} (Edge : V → V → Type 0) where
   along Q each [] a b edge q = each a b edge q
   along Q each (v ∷ vs) a b (inl way) q = along Q each vs a b way q
   along Q each (v ∷ vs) a b (inr ways) q = along Q each vs v b ways.1 (along Q each vs a v ways.0 q)
-
-pub one_of : {A : Type 0} (xs : List A) (n : ℕ) → n < length xs → (x : A) × (slice_get xs n ≡ Some x)
-one_of [] n low = absurd (omega arith)
-one_of (x ∷ xs) n low = (get_or (x ∷ xs) n x, slice_get-get_or (x ∷ xs) n x low)
-
--- ---- lists that agree at each place
-
-module _ {A : Type 0} where
-  pub same_lists : (xs ys : List A) → length xs ≡ length ys
-      → ((n : ℕ) (x y : A) → slice_get xs n ≡ Some x → slice_get ys n ≡ Some y → x ≡ y) → xs ≡ ys
-  same_lists [] [] count agree = refl
-  same_lists [] (y ∷ ys) count agree = absurd (omega arith)
-  same_lists (x ∷ xs) [] count agree = absurd (omega arith)
-  same_lists (x ∷ xs) (y ∷ ys) count agree =
-      ap (λ (z : A). z ∷ xs) (agree 0 x y refl refl)
-      ∙ ap (λ (l : List A). y ∷ l) (same_lists xs ys (omega arith) (λ n p q. agree (suc n) p q))
-
-  pub same_by_places : (xs ys : List A) (d : A) → length xs ≡ length ys
-      → ((n : ℕ) → slice_index_or xs n d ≡ slice_index_or ys n d) → xs ≡ ys
-  same_by_places [] [] d count agree = refl
-  same_by_places [] (y ∷ ys) d count agree = absurd (omega arith)
-  same_by_places (x ∷ xs) [] d count agree = absurd (omega arith)
-  same_by_places (x ∷ xs) (y ∷ ys) d count agree =
-      ap (λ (z : A). z ∷ xs) (agree 0)
-      ∙ ap (λ (l : List A). y ∷ l) (same_by_places xs ys d (omega arith) (λ n. agree (suc n)))

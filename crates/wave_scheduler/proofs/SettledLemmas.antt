@@ -10,8 +10,9 @@ use Rattle.vm_state.specs.SharedState.{Region}
 use Rattle.semantics.specs.Acceptance.{Analysis, above, Over}
 use Rattle.semantics.specs.Acceptance as acceptance
 use Rattle.program.specs.Tables.{Tables}
+use Rattle.initializer_analysis.specs.Verdicts.{IsWave}
 use Rattle.wave_scheduler.specs.Settled.{Outcome, Wave, Refused, Stopped, Settled, HasWave, region_in, if_below, below}
-use Rattle.wave_scheduler.specs.Settled.{IsWave, AreSettled}
+use Rattle.wave_scheduler.specs.Settled.{AreSettled}
 use Rattle.wave_scheduler.specs.Laws.{IsAnalysis}
 use Rattle.wave_scheduler.proofs.ReachesLemmas.{in_none, in_rest, first_or_rest}
 
@@ -78,7 +79,7 @@ module _ (P : Tables) (forced : List Bool) (budget : ℕ) (S : Settled) (A : Ana
   pub is_class : (c n : ℕ) → HasWave S c n → c < length P.classes
   is_class c n at = (let low = slice_get_within S.outcomes c (Wave n) at in omega (arith, are.count))
 
-  same_above : (c n : ℕ) → c < length P.classes → IsWave P S c n → above (wave_in S) (A.uses c) ≡ n
+  same_above : (c n : ℕ) → c < length P.classes → IsWave P (HasWave S) c n → above (wave_in S) (A.uses c) ≡ n
   same_above c n low wave = elim wave.least [
     | inl none ↦ (let most = above_least (wave_in S) (A.uses c) n under in omega arith)
     | inr (e, used, m, at, is_next) ↦ (let most = above_least (wave_in S) (A.uses c) n under in
@@ -89,7 +90,8 @@ module _ (P : Tables) (forced : List Bool) (budget : ℕ) (S : Settled) (A : Ana
       under : (d : ℕ) → Contains (A.uses c) d → wave_in S d < n
       under d at = (let (m, here, less) = wave.above d ((is.uses c d low).0 at) in omega (arith, wave_in-is S d m here))
 
-  wave_below : (limit c n : ℕ) → n < limit → c < length P.classes → IsWave P S c n → acceptance.IsWave A.uses c n
+  wave_below : (limit c n : ℕ) → n < limit → c < length P.classes → IsWave P (HasWave S) c n
+      → acceptance.IsWave A.uses c n
   wave_below zero c n small low wave = absurd (omega arith)
   wave_below (suc limit) c n small low wave =
       subst (acceptance.IsWave A.uses c) (same_above c n low wave)
@@ -98,7 +100,7 @@ module _ (P : Tables) (forced : List Bool) (budget : ℕ) (S : Settled) (A : Ana
       (wave_below limit d m (omega arith) (is_class d m here) (are.each d (Wave m) here).1))))
 
   -- The wave of a class is that which its uses give it.
-  pub wave_is : (c n : ℕ) → c < length P.classes → IsWave P S c n → acceptance.IsWave A.uses c n
+  pub wave_is : (c n : ℕ) → c < length P.classes → IsWave P (HasWave S) c n → acceptance.IsWave A.uses c n
   wave_is c n low wave = wave_below (suc n) c n (omega arith) low wave
 
   pub accepted_wave : (c n : ℕ) → HasWave S c n → acceptance.IsWave A.uses c n

@@ -29,7 +29,7 @@ use Rattle.initializer_analysis.specs.Verdicts.{rank_of}
 use Rattle.initializer_analysis.proofs.VerdictsLemmas.{same_mark}
 use Rattle.use_graph.specs.Code.{needed_by, callee_of, MayRunFor, feature_of, feature_at}
 use Rattle.use_graph.specs.Uses.{Calls, IsDeclared, MayRun, initializer, called, Needs, MayNeed, IsUse, Means}
-use Rattle.use_graph.specs.Uses.{IsLeftOut}
+use Rattle.use_graph.specs.Uses.{mark_of, field_class, IsLeftOut}
 use Rattle.use_graph.specs.Uses.{CallsLeftOut, IsTold, itself, calling, Bears, HasMark}
 use Rattle.wave_scheduler.proofs.ReachesLemmas.{Decided, decided_as, decided_both, decided_either, decided_not}
 use Rattle.wave_scheduler.proofs.ReachesLemmas.{decided_same, decided_less, decided_same_some, decided_below, in_first}
@@ -277,15 +277,8 @@ module _ (P : Tables) where
       decided_as (λ same. same_mark m n same) (λ same. ap rank_of same) (decided_same (rank_of m) (rank_of n))
 
   decided_means : (c : ℕ) (t : Feature) (mark : Mark) → Decided (Means c t mark)
-  decided_means c features.Prints mark = decided_mark_is mark marks.Prints
-  decided_means c features.Throws mark = decided_mark_is mark marks.Throws
-  decided_means c features.Locks mark = decided_mark_is mark marks.Monitors
-  decided_means c (features.Writes e) mark =
-      decided_both (decided_not (decided_same e c)) (decided_mark_is mark marks.ForeignWrite)
-  decided_means c (features.Reads e) mark =
-      decided_both (decided_not (decided_same e c)) (decided_mark_is mark marks.ForeignRead)
-  decided_means c features.LeftOut mark = decided_mark_is mark marks.Unsupported
-  decided_means c features.Misses mark = decided_mark_is mark marks.Missing
+  decided_means c t mark =
+      decided_both (decided_mark_is mark (mark_of t)) (decided_not (decided_same_some (field_class t) c))
 
   -- an instruction bears a mark by itself, or by what it calls
   abbrev BearsSo : ℕ → ℕ → ℕ → Mark → ℕ → Type 0

@@ -17,10 +17,11 @@ use Rattle.initializer_analysis.specs.declared.verdict.Reason.TheVariants as rea
 use Rattle.initializer_analysis.specs.declared.verdict.Verdict.{Verdict}
 use Rattle.initializer_analysis.specs.declared.verdict.Verdict.TheVariants as verdicts
 use Rattle.initializer_analysis.specs.Verdicts as before
+use Rattle.initializer_analysis.specs.Verdicts.{IsFirstRefused}
 use Rattle.initializer_analysis.specs.Least.{IsFirst}
 use Rattle.initializer_analysis.specs.RefusedUses.{IsRefusedUse, AreFirstRefused}
 use Rattle.wave_scheduler.specs.Settled.{Outcome, Wave, Refused, Stopped, Settled, IsAccepted, region_in}
-use Rattle.wave_scheduler.specs.Settled.{if_below, below, IsFirstRefused}
+use Rattle.wave_scheduler.specs.Settled.{if_below, below}
 use Rattle.wave_scheduler.specs.steps.Judged.{IsTried, Follows, FollowVerdicts}
 use Rattle.wave_scheduler.specs.steps.Waves.{IsTriedIn, StaysRefused, AreTriedBelow, AreRefusedIn, dependent, ToldFirst}
 use Rattle.wave_scheduler.proofs.ReachesLemmas.{one_of}
@@ -115,14 +116,14 @@ module _ (P : Tables) (forced : List Bool) (budget : ℕ) (judged : List Verdict
   -- ---- the first refused use
 
   first_told : (c d : ℕ) → c < length P.classes → IsUse P c d → (¬ IsAccepted S d)
-      → (e : ℕ) × (slice_index_or first c None ≡ Some e) × IsFirstRefused P T c e
+      → (e : ℕ) × (slice_index_or first c None ≡ Some e) × IsFirstRefused P (IsAccepted T) c e
   first_told c d low used never = by (slice_index_or first c None) refl (firsts.each c low)
     where
       marked : (e : ℕ) → IsUse P c e → (¬ IsAccepted S e) → IsRefusedUse P marks c e
       marked e uses lacks = (uses, (refused.each e uses.0).1 lacks)
 
       by : (o : Option ℕ) → slice_index_or first c None ≡ o → IsFirst (IsRefusedUse P marks c) o
-          → (e : ℕ) × (slice_index_or first c None ≡ Some e) × IsFirstRefused P T c e
+          → (e : ℕ) × (slice_index_or first c None ≡ Some e) × IsFirstRefused P (IsAccepted T) c e
       by None at none = absurd (none d (marked d used never))
       by (Some e) at ((uses, mark), least) = (
         e,
@@ -138,7 +139,7 @@ module _ (P : Tables) (forced : List Bool) (budget : ℕ) (judged : List Verdict
 
   depends : (c d e : ℕ) (o : Outcome) → c < length P.classes → IsUse P c d → (¬ IsAccepted S d)
       → dependent (slice_index_or first c None) (Refused (reasons.DependsOn e)) ≡ o
-      → (l : ℕ) × (o ≡ Refused (reasons.DependsOn l)) × IsFirstRefused P T c l
+      → (l : ℕ) × (o ≡ Refused (reasons.DependsOn l)) × IsFirstRefused P (IsAccepted T) c l
   depends c d e o low used never is =
       let (l, at, one) = first_told c d low used never in
       (l, sym is ∙ ap (λ (f : Option ℕ). dependent f (Refused (reasons.DependsOn e))) at, one)

@@ -1,5 +1,5 @@
 -- Which classes are initialized at build time and with which regions, in the end: after their initializers were run.
-use Rattle.std.specs.Prelude.{◌≡◌, ◌⊎◌, ℕ, ◌+◌, ◌<◌, ◌≤◌, Bool, List, length, Option, Some, None, slice_get}
+use Rattle.std.specs.Prelude.{◌≡◌, ℕ, ◌≤◌, Bool, List, length, Option, Some, None, slice_get}
 use Rattle.std.specs.Prelude.{slice_index_or, nat_lt, if◌then◌else◌}
 use Rattle.vm_state.specs.SharedState.{Region}
 use Rattle.semantics.specs.Quiet.{Environment, Refusal}
@@ -7,14 +7,14 @@ use Rattle.semantics.specs.Quiet as quiet
 use Rattle.semantics.specs.Settling.{Settles, StoppedBy}
 use Rattle.program.specs.Tables.{Tables}
 use Rattle.machine.specs.Linked.{program_of}
-use Rattle.use_graph.specs.Uses.{IsUse}
 use Rattle.initializer_analysis.specs.declared.verdict.Reason.{Reason}
 use Rattle.initializer_analysis.specs.declared.verdict.Reason.TheVariants as reasons
-use Rattle.initializer_analysis.specs.Verdicts.{NoneHolds, IsFirstReason}
+use Rattle.initializer_analysis.specs.Verdicts.{NoneHolds, IsFirstReason, IsFirstRefused, IsWave}
 
 -- ---- what became of classes
 
--- What becomes of a class in the end.
+-- What becomes of a class in the end. A verdict says it by reasons alone; here what came of a run of the initializer
+-- stands apart, as the evaluator tells it, from what is known before any runs.
 pub data Outcome : Type 0 where
   -- it is accepted, after all classes of lower waves
   Wave : (n : ℕ) → Outcome
@@ -51,16 +51,6 @@ below S n d = if_below n (slice_get S.outcomes d) (region_in S d)
 
 -- ---- what becomes of each class
 
--- the first class that a class uses and that is not accepted
-abbrev pub IsFirstRefused : Tables → Settled → ℕ → ℕ → Type 0
-IsFirstRefused P S c e = IsUse P c e × (¬ IsAccepted S e)
-    × ((d : ℕ) → IsUse P c d → (¬ IsAccepted S d) → e ≤ d)
-
--- All that a class uses is accepted, and this is its wave: above those of its uses, and by no more than it must.
-pub record IsWave (P : Tables) (S : Settled) (c n : ℕ) : Type 0 where
-  pub above : (e : ℕ) → IsUse P c e → (m : ℕ) × HasWave S e m × (m < n)
-  pub least : (n ≡ 0) ⊎ ((e : ℕ) × IsUse P c e × (m : ℕ) × HasWave S e m × (n ≡ m + 1))
-
 -- its initializer leaves this region within the budget, in this wave
 abbrev pub LeavesRegion : Tables → ℕ → Settled → ℕ → ℕ → Region → Type 0
 LeavesRegion P budget S c n region =
@@ -69,12 +59,13 @@ LeavesRegion P budget S c n region =
 -- What becomes of a class, where this is what becomes of all.
 abbrev pub IsOutcome : Tables → List Bool → ℕ → Settled → ℕ → Outcome → Type 0
 IsOutcome P forced budget S c (Wave n) =
-    NoneHolds P forced c × IsWave P S c n
+    NoneHolds P forced c × IsWave P (HasWave S) c n
     × (region : Region) × (region_in S c ≡ Some region) × LeavesRegion P budget S c n region
 IsOutcome P forced budget S c (Stopped why) =
-    NoneHolds P forced c × (n : ℕ) × IsWave P S c n
+    NoneHolds P forced c × (n : ℕ) × IsWave P (HasWave S) c n
     × StoppedBy (program_of P) (below S n) c budget (quiet.Refused why)
-IsOutcome P forced budget S c (Refused (reasons.DependsOn e)) = NoneHolds P forced c × IsFirstRefused P S c e
+IsOutcome P forced budget S c (Refused (reasons.DependsOn e)) =
+    NoneHolds P forced c × IsFirstRefused P (IsAccepted S) c e
 IsOutcome P forced budget S c (Refused reason) = IsFirstReason P forced c reason
 
 -- What becomes of all given classes, by their numbers: an equation that the whole lists meet.

@@ -12,6 +12,7 @@ use Rattle.std.specs.BTreeSet.{BTreeSet, contains}
 use Rattle.classfile.specs.declared.constant.Constant.{Constant}
 use Rattle.classfile.specs.declared.member.Member.{Member}
 use Rattle.classfile.specs.declared.earlier.Earlier.{Earlier}
+use Rattle.classfile.specs.declared.earlier.SignatureIndex.{SignatureIndex}
 use Rattle.classfile.specs.Lookup.{utf8_of}
 
 -- a number of a text, which most often tells it from others
@@ -76,5 +77,13 @@ pub record FindsMembers (pool : List Constant) (firsts : List (Option ℕ)) (by_
   pub each : (name descriptor : ℕ)
       → contains pair_cmp pairs (name, descriptor) ≡ list_any (has_firsts firsts name descriptor) members
 
+abbrev pub FindsIn : List Constant → SignatureIndex → List Member → Type 0
+FindsIn pool index members = FindsMembers pool index.firsts.items index.by_utf8 index.pairs members
+
+-- where there is an index
+abbrev pub FindsBy : List Constant → Option SignatureIndex → List Member → Type 0
+FindsBy pool None members = Unit {0}
+FindsBy pool (Some index) members = FindsIn pool index members
+
 abbrev pub Finds : List Constant → Earlier → List Member → Type 0
-Finds pool earlier members = FindsMembers pool earlier.firsts.items earlier.by_utf8 earlier.pairs members
+Finds pool earlier members = FindsBy pool earlier.index members

@@ -12,11 +12,11 @@ pub record AncestorList : Type 0 where
   pub class : Option ℕ
   pub items : List ℕ
 
--- There is room for the classes of any family, and the place of each class that was found is noted.
+-- There is room for so many classes, and the place of each class that was found is noted.
 pub record HasRoom (walk : Walk) (places : List ℕ) : Type 0 where
-  pub entered : walk.entered.limit ≡ 65535
-  pub left : walk.left.limit ≡ 65535
-  pub count : length places ≡ 65535
+  pub entered : walk.entered.limit ≡ length places
+  pub left : walk.left.limit ≡ length places
+  pub few : length places ≤ 65535
   pub noted : ArePlaces walk.entered.items places
 
 -- They stand above that class in the order of searches.

@@ -1,6 +1,5 @@
 -- What is initialized of some interfaces and those above them (JVMS 5.5, step 7).
-use Rattle.std.specs.Prelude.{◌≡◌, ℕ, ◌<◌, Bool, false, List, [], ◌∷◌, ◌++◌, Option, None, Some, length}
-use Rattle.std.specs.Prelude.{slice_index_or}
+use Rattle.std.specs.Prelude.{◌≡◌, ℕ, ◌<◌, Bool, false, List, [], ◌∷◌, ◌++◌, Option, None, Some, length, slice_index_or}
 use Rattle.std.specs.List.{All, filter}
 use Rattle.loading.specs.Families.{Family}
 use Rattle.hierarchy.specs.Search.{SuperinterfacesFirst, firsts}

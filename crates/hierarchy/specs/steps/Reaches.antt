@@ -1,7 +1,6 @@
 -- How far the nearest class that declares a member reaches, along classes that stand depth first.
 use Rattle.std.specs.Prelude.{◌≡◌, ℕ, zero, suc, ◌<◌, ◌≤◌, ◌⊎◌, ◌∷◌, ◌++◌, [], List, Option, Some, None, length}
-use Rattle.std.specs.Prelude.{slice_get, slice_index_or}
-use Rattle.std.specs.Prelude.{fold, nat_lt, if◌then◌else◌}
+use Rattle.std.specs.Prelude.{slice_get, slice_index_or, fold, nat_lt, if◌then◌else◌}
 use Rattle.std.specs.declared.vec.Vec.{Vec}
 use Rattle.std.specs.declared.alloc.Global.{Global}
 use Rattle.indexmap.specs.IndexMap.{get}

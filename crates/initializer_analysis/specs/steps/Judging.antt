@@ -45,15 +45,15 @@ pub record AreFirstThere (uses : UseGraph) (least : List Least) (limit : ℕ) (t
       → slice_index_or there c false ≡ is_some (slice_index_or least (vertex_of uses c) no_labels).first
 
 -- a class depends on one that is refused for a reason of its own
-abbrev pub ReachesRefused : UseGraph → Rows → List (Option Reason) → ℕ → Type 0
-ReachesRefused uses graph own c =
+abbrev pub DependsOnRefused : UseGraph → Rows → List (Option Reason) → ℕ → Type 0
+DependsOnRefused uses graph own c =
     (e : ℕ) × Reaches graph (vertex_of uses c) (vertex_of uses e) × IsSome (own_reason own e)
 
 pub record AreRefused (P : Tables) (uses : UseGraph) (graph : Rows) (own : List (Option Reason)) (refused : List Bool) :
     Type 0 where
   pub count : length refused ≡ length P.classes
   pub each : (c : ℕ) → c < length P.classes
-      → IsTrue (slice_index_or refused c false) ↔ ReachesRefused uses graph own c
+      → IsTrue (slice_index_or refused c false) ↔ DependsOnRefused uses graph own c
 
 -- ---- waves
 

@@ -1,13 +1,13 @@
 -- Marks as labels of vertices of the calls: those of fields by the class whose field it is, the others by 0.
-use Rattle.std.specs.Prelude.{◌≡◌, ℕ, ◌<◌, List, Option, Some, None, length, slice_get, slice_index_or}
+use Rattle.std.specs.Prelude.{◌≡◌, ℕ, ◌<◌, List, Option, Some, None, length, slice_get, slice_index_or, unwrap_or}
 use Rattle.graph.specs.Reaches.{Reaches}
 use Rattle.use_graph.specs.declared.body.Told.{Told}
 use Rattle.use_graph.specs.declared.body.BodyUses.{BodyUses}
 use Rattle.use_graph.specs.declared.feature.Feature.{Feature}
-use Rattle.use_graph.specs.declared.feature.Feature.TheVariants as features
 use Rattle.use_graph.specs.declared.mark.Mark.{Mark}
 use Rattle.use_graph.specs.declared.mark.Mark.TheVariants as marks
 use Rattle.use_graph.specs.declared.whole_program.UseGraph.{UseGraph}
+use Rattle.use_graph.specs.Uses.{mark_of, field_class}
 use Rattle.use_graph.specs.steps.Deeds.{HoldsOfOne}
 use Rattle.initializer_analysis.specs.declared.labels.Least.{Least}
 use Rattle.initializer_analysis.specs.Least.{AreLeast}
@@ -15,13 +15,7 @@ use Rattle.initializer_analysis.specs.steps.LeastReached.{no_labels}
 
 -- the label of what is told of an instruction, where it is this mark for some class
 abbrev pub IsLabel : Feature → Mark → ℕ → Type 0
-IsLabel features.Prints mark l = (l ≡ 0) × (mark ≡ marks.Prints)
-IsLabel features.Throws mark l = (l ≡ 0) × (mark ≡ marks.Throws)
-IsLabel features.Locks mark l = (l ≡ 0) × (mark ≡ marks.Monitors)
-IsLabel (features.Writes e) mark l = (l ≡ e) × (mark ≡ marks.ForeignWrite)
-IsLabel (features.Reads e) mark l = (l ≡ e) × (mark ≡ marks.ForeignRead)
-IsLabel features.LeftOut mark l = (l ≡ 0) × (mark ≡ marks.Unsupported)
-IsLabel features.Misses mark l = (l ≡ 0) × (mark ≡ marks.Missing)
+IsLabel feature mark l = (mark ≡ mark_of feature) × (l ≡ unwrap_or (field_class feature) 0)
 
 -- the label that is no mark of a class: that of its own fields
 abbrev pub ignored : Mark → ℕ → Option ℕ

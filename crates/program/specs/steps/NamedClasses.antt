@@ -1,7 +1,5 @@
 -- The classes that the texts of a class file stand for, as they are looked up.
-use Rattle.std.specs.Prelude.{◌≡◌, ℕ, Option, Some}
-use Rattle.std.specs.Ordering.{nat_cmp}
-use Rattle.std.specs.BTreeMap.{BTreeMap, get}
+use Rattle.std.specs.Prelude.{◌≡◌, ℕ, List, Option, Some, None, slice_index_or}
 use Rattle.classfile.specs.ClassFile.{ClassFile}
 use Rattle.built_in.specs.declared.class_id.ClassId.{ClassId}
 use Rattle.loading.specs.ClassIds.{StandsFor}
@@ -13,14 +11,11 @@ pub record NamingFile : Type 0 where
   pub family : Family
   pub file : ClassFile
 
-abbrev pub ClassMap : Type 0
-ClassMap = BTreeMap ℕ (Option ClassId)
-
 -- what the text at an index was found to stand for
-unfoldable pub found : ClassMap → ℕ → Option (Option ClassId)
-found classes name = get nat_cmp classes name
+abbrev pub found : List (Option (Option ClassId)) → ℕ → Option (Option ClassId)
+found classes name = slice_index_or classes name None
 
 -- each is what its text stands for
-abbrev pub AreNamed : Family → ClassFile → ClassMap → Type 0
+abbrev pub AreNamed : Family → ClassFile → List (Option (Option ClassId)) → Type 0
 AreNamed family f classes = (name : ℕ) (x : Option ClassId) → found classes name ≡ Some x
     → StandsFor family (text_at f name) x

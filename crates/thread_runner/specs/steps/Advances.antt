@@ -6,7 +6,7 @@ use Rattle.program.specs.Tables.{Tables}
 use Rattle.machine.specs.Effects.{going}
 use Rattle.machine.specs.Linked.{program_of}
 use Rattle.init_engine.specs.declared.world.Turn.{Turn}
-use Rattle.thread_runner.specs.Stacks.{with_thread}
+use Rattle.init_engine.specs.Stacks.{with_thread}
 use Rattle.init_engine.specs.Turns.{IsTurn}
 
 -- the world with these frames of thread t, where they are those after a step

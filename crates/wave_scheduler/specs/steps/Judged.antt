@@ -12,8 +12,9 @@ use Rattle.initializer_analysis.specs.declared.verdict.Reason.TheVariants as rea
 use Rattle.initializer_analysis.specs.declared.verdict.Verdict.{Verdict}
 use Rattle.initializer_analysis.specs.declared.verdict.Verdict.TheVariants as verdicts
 use Rattle.initializer_analysis.specs.Verdicts as before
+use Rattle.initializer_analysis.specs.Verdicts.{IsFirstRefused}
 use Rattle.wave_scheduler.specs.Settled.{Outcome, Wave, Refused, Stopped, Settled, IsAccepted, region_in, below}
-use Rattle.wave_scheduler.specs.Settled.{IsFirstRefused, LeavesRegion, AreSettled}
+use Rattle.wave_scheduler.specs.Settled.{LeavesRegion, AreSettled}
 
 -- all that a class uses is accepted
 abbrev pub UsesAccepted : Tables → Settled → ℕ → Type 0
@@ -26,7 +27,7 @@ IsTried P budget S c n (Wave k) =
     × (region : Region) × (region_in S c ≡ Some region) × LeavesRegion P budget S c n region
 IsTried P budget S c n (Stopped why) =
     UsesAccepted P S c × StoppedBy (program_of P) (below S n) c budget (quiet.Refused why)
-IsTried P budget S c n (Refused (reasons.DependsOn e)) = IsFirstRefused P S c e
+IsTried P budget S c n (Refused (reasons.DependsOn e)) = IsFirstRefused P (IsAccepted S) c e
 IsTried P budget S c n (Refused reason) = ⊥
 
 -- What becomes of a class of a verdict. One that is refused stays so: it is told anew which of its uses is the first
@@ -34,7 +35,7 @@ IsTried P budget S c n (Refused reason) = ⊥
 abbrev pub Follows : Tables → ℕ → Settled → ℕ → Verdict → Outcome → Type 0
 Follows P budget S c (verdicts.Wave n) outcome = IsTried P budget S c n outcome
 Follows P budget S c (verdicts.Refused (reasons.DependsOn d)) outcome =
-    (e : ℕ) × (outcome ≡ Refused (reasons.DependsOn e)) × IsFirstRefused P S c e
+    (e : ℕ) × (outcome ≡ Refused (reasons.DependsOn e)) × IsFirstRefused P (IsAccepted S) c e
 Follows P budget S c (verdicts.Refused reason) outcome = outcome ≡ Refused reason
 
 -- each class's outcome follows its verdict

@@ -7,16 +7,16 @@ use Rattle.cli.specs.Runs.{texts_of}
 use Rattle.cli.proofs.ImageBuildLemmas.{are_short}
 use Rattle.cli.proofs.image_build.build_image.Goals as goal
 
-pub image_bytes-requires : goal.image_bytes-requires
-image_bytes-requires c =
+pub image_text-requires : goal.image_text-requires
+image_text-requires c =
     are_short (texts_of c.args.files.now) 4294967295 c.in-Ok.built.image.program (lit< tt) c.requires
     c.in-Ok.ensures.program
 
-pub returns-in-Ok-image_bytes-clause-image : goal.returns-in-Ok-image_bytes-clause-image
-returns-in-Ok-image_bytes-clause-image c =
+pub returns-in-Ok-image_text-clause-image : goal.returns-in-Ok-image_text-clause-image
+returns-in-Ok-image_text-clause-image c =
     let built = c.in-Ok.built in
     let of = c.in-Ok.ensures.program in
-    let text = c.image_bytes.ensures.image (family_links of.files built.image.program.family of.links of.family) in
+    let text = c.image_text.ensures.image (family_links of.files built.image.program.family of.links of.family) in
     record {
       image = built.image;
       of = record {
@@ -29,11 +29,11 @@ returns-in-Ok-image_bytes-clause-image c =
       };
       text =
           subst (λ (bytes : List ℕ). ImageText bytes built.image.program.family (told_of built.image))
-          (sym c.in-Ok-image_bytes.ensures.text) text;
+          (sym c.in-Ok-image_text.ensures.text) text;
       own_strings = record {
         program = of.program;
         own_strings = of.own_strings;
-        whole = c.image_bytes.ensures.whole;
-        small = c.image_bytes.ensures.small;
+        whole = c.region-region.ensures.whole;
+        small = c.region-region.ensures.small;
       };
     }

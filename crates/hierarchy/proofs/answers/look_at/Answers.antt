@@ -1,5 +1,4 @@
-use Rattle.std.proofs.Common.{◌≡◌, ◌<◌, ◌+◌, ℕ, ◌∷◌, [], Option, Some, IfSome, slice_get}
-use Rattle.std.proofs.Common.{sym, subst, ◌∙◌, bit_and}
+use Rattle.std.proofs.Common.{◌≡◌, ◌<◌, ◌+◌, ℕ, ◌∷◌, [], Option, Some, IfSome, slice_get, sym, subst, ◌∙◌, bit_and}
 use Rattle.hierarchy.specs.steps.DeclarationBits.{Has, Knows}
 use Rattle.hierarchy.specs.steps.Declarations.{AreDeclared}
 use Rattle.hierarchy.specs.steps.HierarchyTables.{wanted_in}
@@ -12,8 +11,8 @@ use Rattle.hierarchy.proofs.AnswersLemmas.{first_there, nothing_there, default_b
 use Rattle.hierarchy.proofs.DefaultsLemmas.{some_by}
 use Rattle.hierarchy.proofs.WordLemmas.{both}
 use Rattle.hierarchy.proofs.answers.look_at.Goals as goal
-use Rattle.hierarchy.proofs.answers.look_at.Goals.{in-Some, in-None, then-answer, else-answer}
-use Rattle.hierarchy.proofs.answers.look_at.Goals.{in-InterfaceMethod, in_default}
+use Rattle.hierarchy.proofs.answers.look_at.Goals.{in-Some, in-None, then-answer, else-answer, in-InterfaceMethod}
+use Rattle.hierarchy.proofs.answers.look_at.Goals.{in_default}
 
 pub returns : goal.returns
 returns c =

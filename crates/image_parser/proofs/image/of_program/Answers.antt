@@ -3,7 +3,8 @@ use Rattle.image_parser.proofs.image.of_program.Goals as goal
 
 pub returns-in-Ok-clause-text : goal.returns-in-Ok-clause-text
 returns-in-Ok-clause-text c =
-    parts_text c.args.parts.now c.args.program.family c.args.rest.now c.in-Ok.regions c.requires.linked c.in-Ok.ensures.text
+    parts_text c.args.parts.now c.args.program.family c.args.rest.now c.in-Ok.regions c.requires.linked
+    c.in-Ok.ensures.text
 
 pub returns-in-Err-clause-fault : goal.returns-in-Err-clause-fault
 returns-in-Err-clause-fault c =

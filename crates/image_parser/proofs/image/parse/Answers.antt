@@ -7,7 +7,8 @@ use Rattle.image_parser.proofs.image.parse.Goals as goal
 pub returns-clause-only_text : goal.returns-clause-only_text
 returns-clause-only_text c =
     let fits : IsBytes c.args.bytes.now = λ i. omega (arith, c.type_inv.bytes i) in
-    only_image (λ (p : Parsed). (p.program.family, p.regions)) c.args.bytes.now c.of_bytes.result fits c.of_bytes.ensures.text
+    only_image (λ (p : Parsed). (p.program.family, p.regions)) c.args.bytes.now c.of_bytes.result fits
+    c.of_bytes.ensures.text
     c.of_bytes.ensures.fault
 
 pub returns-clause-only_fault : goal.returns-clause-only_fault

@@ -9,7 +9,8 @@ returns-clause-text c =
 
 pub returns-clause-only_text : goal.returns-clause-only_text
 returns-clause-only_text c =
-    marks_only_text c.args.program.now.family (rw (← c.family.ensures) c.classes-classes.ensures.fits) _ _ c.args.bytes.now
+    marks_only_text c.args.program.now.family (rw (← c.family.ensures) c.classes-classes.ensures.fits) _ _
+    c.args.bytes.now
     c.marks_at.ensures
 
 pub returns-clause-fault : goal.returns-clause-fault
@@ -19,5 +20,6 @@ returns-clause-fault c =
 
 pub returns-clause-only_fault : goal.returns-clause-only_fault
 returns-clause-only_fault c =
-    marks_only_fault c.args.program.now.family (rw (← c.family.ensures) c.classes-classes.ensures.fits) _ _ c.args.bytes.now
+    marks_only_fault c.args.program.now.family (rw (← c.family.ensures) c.classes-classes.ensures.fits) _ _
+    c.args.bytes.now
     (λ i. omega (arith, c.type_inv.bytes i)) c.marks_at.ensures

@@ -1,15 +1,16 @@
 use Rattle.std.proofs.Common.{◌≡◌, false, arith}
-use Rattle.initializer_analysis.proofs.OthersLemmas.{Tells, holds_none, holds_more}
+use Rattle.initializer_analysis.proofs.OthersLemmas.{TellsOther, holds_none, holds_more}
 use Rattle.initializer_analysis.proofs.cycles.cycles_by.Goals as goal
 
 pub loop-class-init : goal.loop-class-init
 loop-class-init c =
-    holds_none (Tells c.args.uses.now c.args.components.now.numbers c.args.limit) false c.in_ok-on_cycle.on_cycle.items
+    holds_none (TellsOther c.args.uses.now c.args.components.now.numbers c.args.limit) false
+    c.in_ok-on_cycle.on_cycle.items
     c.in_ok-on_cycle.ensures.items
 
 pub loop-class-preserved : goal.loop-class-preserved
 loop-class-preserved c =
-    holds_more (Tells c.args.uses.now c.args.components.now.numbers c.args.limit) false c.loop-class.class
+    holds_more (TellsOther c.args.uses.now c.args.components.now.numbers c.args.limit) false c.loop-class.class
     c.loop-class.on_cycle.items c.push.new.self.items c.has_other.result c.loop-class.invariant
     c.in_ok-push.ensures.items c.has_other.ensures
 

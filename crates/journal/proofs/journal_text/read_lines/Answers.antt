@@ -8,7 +8,8 @@ loop-rest-init c = read_none c.args.text.now c.args.runs.now.items c.requires
 
 pub returns-in_default-clause-err : goal.returns-in_default-clause-err
 returns-in_default-clause-err c =
-    inr (line (no_line c.args.text.now c.loop-rest.rest.now c.loop-rest.line c.loop-rest.runs.items c.loop-rest.invariant
+    inr (line (no_line c.args.text.now c.loop-rest.rest.now c.loop-rest.line c.loop-rest.runs.items
+    c.loop-rest.invariant
     (omega (arith, c.loop-rest-test.true)) c.in_default.ensures.none))
 
 pub returns-in-Err-clause-err : goal.returns-in-Err-clause-err
@@ -19,7 +20,11 @@ returns-in-Err-clause-err c =
 
 pub overflow_add-line : goal.overflow_add-line
 overflow_add-line c =
-    omega (arith, line_small c.args.text.now c.loop-rest.rest.now c.loop-rest.line c.loop-rest.runs.items c.loop-rest.invariant)
+    omega (
+      arith,
+      line_small c.args.text.now c.loop-rest.rest.now c.loop-rest.line c.loop-rest.runs.items
+          c.loop-rest.invariant,
+    )
 
 pub loop-rest-preserved : goal.loop-rest-preserved
 loop-rest-preserved c =

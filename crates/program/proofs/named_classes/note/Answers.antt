@@ -5,8 +5,7 @@ use Rattle.program.proofs.named_classes.note.Goals as goal
 
 pub returns : goal.returns
 returns c =
-    named_more c.args.family.now c.args.file.now c.args.classes.now c.insert.new.classes c.in-Class.name
+    rw c.set.ensures (named_more c.args.family.now c.args.file.now c.args.classes.now.items c.in-Class.name
     c.class_named-class.result c.requires
     (subst (λ n. StandsFor c.args.family.now n c.class_named-class.result) c.text_at.ensures
-    c.class_named-class.ensures)
-    c.in_ok-insert.ensures
+    c.class_named-class.ensures))

@@ -2,7 +2,7 @@ use Rattle.std.proofs.Common.{◌≡◌, ◌<◌, Some, ap, ◌∙◌, arith, sl
 use Rattle.vm_state.specs.Stacks.{segment_of, levels_of}
 use Rattle.semantics.specs.Steps.{Going}
 use Rattle.machine.specs.Effects.{going}
-use Rattle.thread_runner.specs.Stacks.{with_thread}
+use Rattle.init_engine.specs.Stacks.{with_thread}
 use Rattle.thread_runner.proofs.BookLemmas.{exchanged_back, far_here_if, gone, stands_there}
 use Rattle.thread_runner.proofs.advance.advance.Goals as goal
 

@@ -9,7 +9,8 @@ use Rattle.thread_runner.proofs.local_end.run_end.Goals as goal
 
 pub returns-in-Ok : goal.returns-in-Ok
 returns-in-Ok c =
-    let e : c.args.choice ≡ Found (Some (Given c.in-Found-Some-Given.class c.in-Found-Some-Given.index)) = search rules in
+    let e : c.args.choice ≡ Found (Some (Given c.in-Found-Some-Given.class c.in-Found-Some-Given.index)) =
+    search rules in
     λ done v. ends_as (local_end done (runs_chosen c.args.program.now c.args.choice c.args.count c.args.frame.now v))
     (local_end done (concluded c.in-Ok.conclusion c.args.frame.now)) c.args.frame.now c.args.frame.now c.end_of.result
     (ap (λ x. local_end done (runs_chosen c.args.program.now x c.args.count c.args.frame.now v)) e

@@ -1,5 +1,4 @@
-use Rattle.std.proofs.Common.{ℕ, ◌++◌, List, Option, sym, subst, ◌∙◌}
-use Rattle.std.proofs.Common.{append-nil, MatchOption}
+use Rattle.std.proofs.Common.{ℕ, ◌++◌, List, Option, sym, subst, ◌∙◌, append-nil, MatchOption}
 use Rattle.loading.specs.Families.{Family, parents_in}
 use Rattle.graph.specs.steps.Adds.{Adds}
 use Rattle.hierarchy.specs.steps.Defaults.{Among, HasMethod, AreParentsOf, classes_of}

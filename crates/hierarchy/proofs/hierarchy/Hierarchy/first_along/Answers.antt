@@ -2,8 +2,7 @@ use Rattle.std.proofs.Common.{◌≡◌, ◌≤◌, ℕ, List, None, [], ◌∷�
 use Rattle.std.proofs.lemmas.Bool.{cases_lt}
 use Rattle.std.proofs.lemmas.Option.{slice_get_past}
 use Rattle.built_in.specs.Keys.{NameAndType}
-use Rattle.loading.specs.Families.{Family, IsFamily, IsParentsFirst, superclasses_in, given_superclass}
-use Rattle.loading.specs.Families.{superclass_if}
+use Rattle.loading.specs.Families.{Family, IsFamily, IsParentsFirst, superclasses_in, given_superclass, superclass_if}
 use Rattle.hierarchy.specs.MemberLookup.{field_in}
 use Rattle.hierarchy.specs.Search.{Search}
 use Rattle.hierarchy.specs.declared.member.DeclaredMember.{DeclaredMember}

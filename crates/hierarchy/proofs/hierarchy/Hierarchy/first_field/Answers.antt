@@ -1,4 +1,3 @@
-use Rattle.std.proofs.Common.{}
 use Rattle.hierarchy.proofs.hierarchy.Hierarchy.first_field.Goals as goal
 
 pub returns-then-is_undeclared-clause-found : goal.returns-then-is_undeclared-clause-found

@@ -1,13 +1,12 @@
 use Rattle.std.proofs.Common.{◌≡◌, ◌↔◌, ℕ, true, false, Some, None, subst, sym, ap, ◌∙◌}
 use Rattle.built_in.specs.Keys.{NameAndType}
-use Rattle.hierarchy.specs.MemberLookup.{flags_in, is_private, key_in}
+use Rattle.hierarchy.specs.MemberLookup.{flags_in, is_private, key_in, is_inherited}
 use Rattle.hierarchy.specs.Resolution.{instance_method_in}
 use Rattle.hierarchy.specs.Selectable.{IsSelectable, IsAmong}
 use Rattle.hierarchy.specs.declared.member.Method.{Method}
 use Rattle.hierarchy.specs.declared.member.Method.TheVariants as method
 use Rattle.hierarchy.specs.declared.selectable.Selectable.{Selectable}
 use Rattle.hierarchy.specs.declared.selectable.Selectable.TheVariants as selectable
-use Rattle.hierarchy.specs.MemberLookup.{is_inherited}
 use Rattle.hierarchy.specs.Selection.{found_from}
 use Rattle.hierarchy.specs.steps.Sought.{sought_name}
 use Rattle.built_in.specs.declared.class_id.ClassId.TheVariants as class_ids

@@ -1,5 +1,4 @@
-use Rattle.std.proofs.Common.{ℕ, ◌++◌, List, Option, None, sym, subst}
-use Rattle.std.proofs.Common.{append-nil}
+use Rattle.std.proofs.Common.{ℕ, ◌++◌, List, Option, None, sym, subst, append-nil}
 use Rattle.hierarchy.specs.steps.Defaults.{AreFound, Among, IsFree, classes_of}
 use Rattle.hierarchy.specs.steps.Reaches.{class_noted}
 use Rattle.hierarchy.specs.declared.member.DeclaredMember.{DeclaredMember}

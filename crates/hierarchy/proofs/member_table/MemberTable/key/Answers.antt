@@ -1,4 +1,3 @@
-use Rattle.std.proofs.Common.{}
 use Rattle.hierarchy.proofs.MemberTablesLemmas.{numbers_there, numbers_nowhere}
 use Rattle.hierarchy.proofs.member_table.MemberTable.key.Goals as goal
 

@@ -16,14 +16,14 @@ loop-member-preserved c =
     let classes : List ℕ = take c.args.place c.args.self.now.order.now in
     let old = c.args.rows.now in
     let mid = c.loop-member.rows in
-    let new = c.note_member.new.rows in
+    let new = c.note.new.rows in
     let before = c.loop-member.invariant in
     let k = c.loop-member.member-index in
     let ms = c.args.members.now in
     let item = c.member-item.result in
     let named : ClassFile → Member → NameAndType =
     λ f m. record { name = text_at f m.name; descriptor = text_at f m.descriptor } in
-    let e = c.in_ok-note_member.ensures in
+    let e = c.in_ok-note.ensures in
     record {
       rows = e.rows;
       go = all_go_then s classes c.args.class old mid new before.go e.go;
@@ -35,7 +35,8 @@ loop-member-preserved c =
             let both : Some item ≡ Some m = sym there ∙ ap (slice_get ms) (sym place) ∙ at in
             let same : item ≡ m = cc in
             then_noted s classes c.args.class old mid new (named f m) before.go
-            (subst (λ (x : Member). IsNoted s classes c.args.class mid new (named f x)) same (e.noted f numbers)))
+            (subst (λ (x : Member). IsNoted s classes c.args.class mid new (named f x)) same
+            (e.noted (named f item) (c.key-key.ensures c.args.self.now.table.now.texts f numbers))))
       ];
     }
 

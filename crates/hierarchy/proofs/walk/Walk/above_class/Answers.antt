@@ -1,7 +1,6 @@
-use Rattle.std.proofs.Common.{reverse}
+use Rattle.std.proofs.Common.{reverse, ◌<◌, [], length}
 use Rattle.std.proofs.lemmas.Result.{on_ok_weaker}
 use Rattle.loading.specs.Families.{parents_in}
-use Rattle.std.proofs.Common.{◌<◌, [], length}
 use Rattle.std.proofs.lemmas.List.Elements.{All-nil}
 use Rattle.hierarchy.specs.steps.Walks.{class_of}
 use Rattle.hierarchy.proofs.WalksLemmas.{planned_within, walk_start, walk_postorder, walk_search}

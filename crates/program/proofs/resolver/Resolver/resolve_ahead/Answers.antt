@@ -4,6 +4,6 @@ use Rattle.program.proofs.resolver.Resolver.resolve_ahead.Goals as goal
 
 pub returns-clause-ahead : goal.returns-clause-ahead
 returns-clause-ahead c =
-    ahead_more c.args.self.now.hierarchy.now.family c.args.self.now.file.now c.args.ahead.now c.insert.new.ahead
+    rw c.set.ensures (ahead_more c.args.self.now.hierarchy.now.family c.args.self.now.file.now c.args.ahead.now
     c.args.index c.in-Some.constant.now c.in_ok-held.held c.requires.ahead (sym c.in-Some.ensures)
-    c.in_ok-held.ensures.held c.in_ok-insert.ensures
+    c.in_ok-held.ensures.held)
