@@ -51,7 +51,8 @@ objects_from : (S : List (List ℕ)) (at : ℕ → Option Object) (a n : ℕ)
     → ((k : ℕ) → k < n → is_some (at (a + k)) ≡ true) → (k : ℕ) → k < n
     → slice_get (flat_map (told_if S) (map at (range_with_len a n))) k ≡ option_map (told_object S) (at (a + k))
 objects_from S at a zero held k low = absurd (omega (arith, low))
-objects_from S at a (suc n) held k low = by (at a) refl (subst (λ (m : ℕ). is_some (at m) ≡ true) (add-zero a) (held 0 (omega arith)))
+objects_from S at a (suc n) held k low =
+    by (at a) refl (subst (λ (m : ℕ). is_some (at m) ≡ true) (add-zero a) (held 0 (omega arith)))
   where
     more : List ImageObject
     more = flat_map (told_if S) (map at (range_with_len (a + 1) n))
@@ -68,7 +69,8 @@ objects_from S at a (suc n) held k low = by (at a) refl (subst (λ (m : ℕ). is
         ∙ ap (λ (m : ℕ). option_map (told_object S) (at m)) next
 
     by : (o : Option Object) → at a ≡ o → is_some o ≡ true
-        → slice_get (flat_map (told_if S) (map at (range_with_len a (suc n)))) k ≡ option_map (told_object S) (at (a + k))
+        → slice_get (flat_map (told_if S) (map at (range_with_len a (suc n)))) k
+        ≡ option_map (told_object S) (at (a + k))
     by None is some = absurd cc
     by (Some o) is some = rw is (rest o is k low)
 
@@ -96,7 +98,8 @@ module _ (P : Tables) (has : HasFiles P) where
     value_again machine.Null text known = refl
     value_again (machine.Text s) text known = text_again s text
     value_again (machine.OfClass d n) text known = refl
-    value_again (machine.OfThread t n) text known = absurd (let less : n < 0 = ltb-true n 0 known in omega (arith, less))
+    value_again (machine.OfThread t n) text known =
+        let less : n < 0 = ltb-true n 0 known in absurd (omega (arith, less))
     value_again machine.Out text known = refl
 
     values_again : (vs : List Value) → AllByRecursion (HasText P) vs → KnowsAll (is_there env c own) vs

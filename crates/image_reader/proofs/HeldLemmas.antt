@@ -60,7 +60,8 @@ adds_more P Q R first second = record {
 
 -- ---- what is held stays held
 
-at_front : {X : Type 0} (xs more : List X) (i : ℕ) (x : X) → slice_get xs i ≡ Some x → slice_get (xs ++ more) i ≡ Some x
+pub at_front : {X : Type 0} (xs more : List X) (i : ℕ) (x : X) → slice_get xs i ≡ Some x
+    → slice_get (xs ++ more) i ≡ Some x
 at_front [] more i x at = absurd cc
 at_front (y ∷ ys) more zero x at = at
 at_front (y ∷ ys) more (suc i) x at = at_front ys more i x at
@@ -191,7 +192,7 @@ all_fields S (t ∷ told) (v ∷ vs) holds (suc k) = all_fields S told vs holds.
 
 -- ---- objects
 
-last_at : {X : Type 0} (xs : List X) (x : X) → slice_get (xs ++ x ∷ []) (length xs) ≡ Some x
+pub last_at : {X : Type 0} (xs : List X) (x : X) → slice_get (xs ++ x ∷ []) (length xs) ≡ Some x
 last_at [] x = refl
 last_at (y ∷ ys) x = last_at ys x
 
@@ -227,8 +228,8 @@ next_object S told t pool class slots objects named holds = record {
 pub no_regions : (S : List (List ℕ)) → HoldsRegions S [] (environment_of [])
 no_regions S c = refl
 
-pub next_region : (S : List (List ℕ)) (told : List (Option ImageRegion)) (t : Option ImageRegion) (old new : Environment)
-    (n : ℕ) → length told ≡ n → HoldsRegions S told old → HoldsClass S t (new n)
+pub next_region : (S : List (List ℕ)) (told : List (Option ImageRegion)) (t : Option ImageRegion)
+    (old new : Environment) (n : ℕ) → length told ≡ n → HoldsRegions S told old → HoldsClass S t (new n)
     → ((c : ℕ) → c ≢ n → new c ≡ old c) → HoldsRegions S (told ++ t ∷ []) new
 next_region S told t old new n count holds here others c = by (tested (c == n))
   where

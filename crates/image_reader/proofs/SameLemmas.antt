@@ -30,6 +30,7 @@ use Rattle.image_format.specs.Images.{region_in}
 use Rattle.image_reader.specs.steps.Held.{HoldsValue, HoldsValues, HoldsField, HoldsFields, HoldsType}
 use Rattle.image_reader.specs.steps.Held.{HoldsObject, HoldsNumber, HoldsObjects, HoldsRegion, HoldsClass}
 use Rattle.image_reader.specs.steps.Held.{HoldsArray, HoldsElement, HoldsRegions}
+use Rattle.image_reader.proofs.HeldLemmas.{at_front, last_at}
 
 -- ---- a string that is there
 
@@ -45,15 +46,6 @@ same_tables P Q family orders classes strings =
     ∙ ap (λ (x : List Class). tables P.family P.orders x Q.strings) classes
     ∙ ap (λ (x : List (List ℕ)). tables P.family P.orders P.classes x) strings
 
-front : {X : Type 0} (xs more : List X) (i : ℕ) (x : X) → slice_get xs i ≡ Some x → slice_get (xs ++ more) i ≡ Some x
-front [] more i x at = absurd cc
-front (y ∷ ys) more zero x at = at
-front (y ∷ ys) more (suc i) x at = front ys more i x at
-
-last : {X : Type 0} (xs : List X) (x : X) → slice_get (xs ++ x ∷ []) (length xs) ≡ Some x
-last [] x = refl
-last (y ∷ ys) x = last ys x
-
 -- a string that is there is not added
 pub stays : (P Q : Tables) (text : List ℕ) (n : ℕ) → slice_get P.strings n ≡ Some text → IsProgram Q
     → (Q.strings ≡ P.strings) ⊎ (Q.strings ≡ P.strings ++ text ∷ []) → Q.family ≡ P.family → Q.orders ≡ P.orders
@@ -63,7 +55,7 @@ stays P Q text n at is strings family orders classes = elim strings [
   | inr more ↦ absurd (
       let distinct : AreDistinct (P.strings ++ text ∷ []) = subst AreDistinct more is.distinct in
       let twice : n ≡ length P.strings =
-      distinct n (length P.strings) text (front P.strings (text ∷ []) n text at) (last P.strings text) in
+      distinct n (length P.strings) text (at_front P.strings (text ∷ []) n text at) (last_at P.strings text) in
       omega (arith, twice, slice_get_within P.strings n text at))
 ]
 

@@ -67,7 +67,8 @@ module _ (S : List (List ℕ)) where
       fill_by_all (λ k. told_value S (fields k)) told n values.Null count (λ k low.
       let within : k < length told = omega (arith, low, count) in
       let holds_it : HoldsValue S (get_or told k values.Null) (fields k) =
-      subst (λ (o : Option ImageValue). HoldsField S o (fields k)) (slice_get-get_or told k values.Null within) (holds k) in
+      subst (λ (o : Option ImageValue). HoldsField S o (fields k)) (slice_get-get_or told k values.Null within)
+      (holds k) in
       sym (value_told (get_or told k values.Null) (fields k)
       (All-get_or HasUnits told k values.Null within units) holds_it))
 
@@ -81,7 +82,8 @@ module _ (S : List (List ℕ)) where
   array_told family a (elements.Unknown n) some = absurd cc
   array_told family a element some = refl
 
-  known_told : (family : Family) (class : ClassId) → KnownHasObjects family class → told_class S class ≡ image.Known class
+  known_told : (family : Family) (class : ClassId) → KnownHasObjects family class
+      → told_class S class ≡ image.Known class
   known_told family (classes.Array a) has = array_told family a a.element has.element
   known_told family (classes.Given c) has = refl
   known_told family (classes.BuiltIn b) has = refl

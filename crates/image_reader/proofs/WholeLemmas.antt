@@ -269,7 +269,8 @@ module _ (P : Tables) where
   type_has : (told : ImageClass) (class : ClassId) → HasObjects P.family told
       → length (name_of_class P.family told) < 2 ^ 16 → HoldsType P.strings told class → HasInstances P class
   type_has (image.Known told) class has short holds = subst (HasInstances P) (sym holds) (known_has told has short)
-  type_has (image.UnknownArray dimensions name) class has short holds = unknown_has dimensions name class has short holds
+  type_has (image.UnknownArray dimensions name) class has short holds =
+      unknown_has dimensions name class has short holds
 
   known_slots : (class : ClassId) (told : List ImageValue) (vs : List Value) → KnownHasObjects P.family class
       → AreKnownSlots P.family class told → HoldsValues P.strings told vs → HaveSlots P class vs
@@ -496,7 +497,12 @@ module _ (P : Tables) (told : List (Option ImageRegion)) (env : Environment) (fi
   pub regions_small : length P.classes ≡ length P.family → AreSmall P env
   regions_small count = record {
     classes = λ c r here.
-        omega (arith, slice_get_within told c (Some (told_of c r here).region) (told_of c r here).at, fits.count, count);
+        omega (
+          arith,
+          slice_get_within told c (Some (told_of c r here).region) (told_of c r here).at,
+          fits.count,
+          count,
+        );
     objects = λ c r here.
         let t = told_of c r here in
         omega (arith, (fits.shapes c t.region t.at).count, t.held.objects.count);

@@ -85,7 +85,8 @@ fn add_object(
     ensures holds { (objects : List ToldObject) → HoldsObjects program.old.strings objects (pool_by row.old)
         → OnOk result (HoldsObjects program.new.strings (objects ++ object.now ∷ []) (pool_by row.new)) }
     ensures adds { OnOk result (AddsStrings program.old program.new) }
-    ensures same { (o : Object) → HoldsObject program.old.strings object.now o → OnOk result (program.new ≡ program.old) }
+    ensures same { (o : Object) → HoldsObject program.old.strings object.now o
+        → OnOk result (program.new ≡ program.old) }
 {
     let class = held_type(alloc, program, &object.class)?;
     let values = held_values(alloc, program, object.slots.as_slice())?;
@@ -104,7 +105,8 @@ fn add_objects(
     requires shape { All (ObjectHasShape program.old.family) objects.now }
     ensures holds { OnOk result (HoldsObjects program.new.strings objects.now (pool_by row.new)) }
     ensures adds { OnOk result (AddsStrings program.old program.new) }
-    ensures same { (pool : Pool) → HoldsObjects program.old.strings objects.now pool → OnOk result (program.new ≡ program.old) }
+    ensures same { (pool : Pool) → HoldsObjects program.old.strings objects.now pool
+        → OnOk result (program.new ≡ program.old) }
 {
     for object in objects {
         add_object(alloc, program, object, row)?;
@@ -121,7 +123,8 @@ fn held_objects(
     requires { All (ObjectHasShape program.old.family) objects.now }
     ensures holds { IfOk result (λ row. HoldsObjects program.new.strings objects.now (pool_by row)) }
     ensures adds { OnOk result (AddsStrings program.old program.new) }
-    ensures same { (pool : Pool) → HoldsObjects program.old.strings objects.now pool → OnOk result (program.new ≡ program.old) }
+    ensures same { (pool : Pool) → HoldsObjects program.old.strings objects.now pool
+        → OnOk result (program.new ≡ program.old) }
 {
     let mut row = Row::new(alloc);
     match add_objects(alloc, program, objects, &mut row) {
@@ -161,7 +164,8 @@ fn add_region(
         → HoldsRegions program.old.strings lower (environment_of held.old)
         → OnOk result (HoldsRegions program.new.strings (lower ++ region.now ∷ []) (environment_of held.new)) }
     ensures adds { OnOk result (AddsStrings program.old program.new) }
-    ensures same { (r : Option Held) → HoldsClass program.old.strings region.now r → OnOk result (program.new ≡ program.old) }
+    ensures same { (r : Option Held) → HoldsClass program.old.strings region.now r
+        → OnOk result (program.new ≡ program.old) }
 {
     match region {
         Some(region) => held.put(class, held_region(alloc, program, class, region)?),

@@ -5,6 +5,8 @@ use Rattle.image_reader.specs.steps.Held.{AddsStrings, HoldsRegions}
 use Rattle.image_reader.proofs.held_regions.add_regions.Given as goal
 
 abbrev pub invariant-loop-class : goal.invariant-loop-class
-invariant-loop-class l =
-    HoldsRegions l.program.strings (take l.class l.regions) (environment_of l.held) × AddsStrings l.fn.program l.program
-    × ((env : Environment) → HoldsRegions l.fn.program.strings l.regions env → l.program ≡ l.fn.program)
+invariant-loop-class l = record {
+  held : HoldsRegions l.program.strings (take l.class l.regions) (environment_of l.held);
+  adds : AddsStrings l.fn.program l.program;
+  same : (env : Environment) → HoldsRegions l.fn.program.strings l.regions env → l.program ≡ l.fn.program;
+}

@@ -1,6 +1,7 @@
-use Rattle.std.proofs.Common.{◌≡◌, length, ap, arith}
+use Rattle.std.proofs.Common.{◌≡◌, ◌∙◌, length, ap, arith}
 use Rattle.classfile.specs.Units.{units_text}
 use Rattle.image_reader.proofs.HeldLemmas.{units_short}
+use Rattle.image_reader.proofs.SameLemmas.{stays}
 use Rattle.image_reader.proofs.held_regions.unknown_element.Goals as goal
 
 pub add_string-requires : goal.add_string-requires
@@ -15,3 +16,11 @@ add_string-requires c =
       ap length c.as_slice.ensures,
       c.requires.few,
     )
+
+pub returns-in-Ok-clause-same : goal.returns-in-Ok-clause-same
+returns-in-Ok-clause-same c element holds =
+    let added = c.in_ok-number.ensures in
+    let spelled : units_text c.in_ok-name.name ≡ c.args.name.now =
+    c.in_ok-name.ensures (rw c.as_slice.ensures c.requires.modified) ∙ c.as_slice.ensures in
+    stays c.args.program.now c.add_string.new.self (units_text c.units.result.now) holds.number
+    (rw (c.units.ensures, spelled) holds.named) added.program added.strings added.family added.orders added.classes

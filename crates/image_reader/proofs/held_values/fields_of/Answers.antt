@@ -8,7 +8,7 @@ use Rattle.image_reader.proofs.held_values.fields_of.Goals as goal
 pub loop-field-preserved : goal.loop-field-preserved
 loop-field-preserved c =
     let within : c.loop-field.field < length c.args.values.now = search rules in
+    let value = get_or c.args.values.now c.loop-field.field (Int (pos 0)) in
     c.in_ok-set.ensures.ok
-    ∙ ap (λ (fields : ℕ → Value). with_value fields c.loop-field.field (get_or c.args.values.now c.loop-field.field (Int (pos 0))))
-    c.loop-field.invariant
+    ∙ ap (λ (fields : ℕ → Value). with_value fields c.loop-field.field value) c.loop-field.invariant
     ∙ next_field c.args.values.now c.loop-field.field (Int (pos 0)) within

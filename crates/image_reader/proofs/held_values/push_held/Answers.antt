@@ -9,10 +9,11 @@ loop-value-preserved c =
     let R = c.held_value.new.program in
     let so_far = c.loop-value.invariant in
     let held = next_held P Q R c.args.values.now c.loop-value.value-index c.value-item.result _ _
-    c.in_ok-held_value.field-0 c.loop-value-test.true c.value-item.is (so_far.0, so_far.1.0)
-    c.in_ok-held_value.ensures.adds c.in_ok-held_value.ensures.holds c.in_ok-push.ensures.items in (
-      held.0,
-      held.1,
-      λ vs holds. next_value P Q R (so_far.1.1 vs holds) c.args.values.now vs c.loop-value.value-index
-          c.value-item.result c.loop-value-test.true c.value-item.is holds c.in_ok-held_value.ensures.same,
-    )
+    c.in_ok-held_value.field-0 c.loop-value-test.true c.value-item.is (so_far.held, so_far.adds)
+    c.in_ok-held_value.ensures.adds c.in_ok-held_value.ensures.holds c.in_ok-push.ensures.items in
+    record {
+      held = held.0;
+      adds = held.1;
+      same = λ vs holds. next_value P Q R (so_far.same vs holds) c.args.values.now vs c.loop-value.value-index
+          c.value-item.result c.loop-value-test.true c.value-item.is holds c.in_ok-held_value.ensures.same;
+    }

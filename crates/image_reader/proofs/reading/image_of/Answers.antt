@@ -15,15 +15,15 @@ held_regions-requires-clause-shape c =
 
 pub gather-requires-clause-whole : goal.gather-requires-clause-whole
 gather-requires-clause-whole c =
-    whole c.args.parsed.program c.args.parsed.regions c.requires c.held_regions.new.program c.classes-classes.ensures.fits
-    (rw c.reseed_strings.ensures at c.in_ok-held.ensures.adds) (environment_of c.in_ok-held.held)
-    (rw c.as_slice.ensures at c.in_ok-held.ensures.holds)
+    whole c.args.parsed.program c.args.parsed.regions c.requires c.held_regions.new.program
+    c.classes-classes.ensures.fits (rw c.reseed_strings.ensures at c.in_ok-held.ensures.adds)
+    (environment_of c.in_ok-held.held) (rw c.as_slice.ensures at c.in_ok-held.ensures.holds)
 
 pub gather-requires-clause-small : goal.gather-requires-clause-small
 gather-requires-clause-small c =
-    small c.args.parsed.program c.args.parsed.regions c.requires c.held_regions.new.program c.classes-classes.ensures.fits
-    (rw c.reseed_strings.ensures at c.in_ok-held.ensures.adds) (environment_of c.in_ok-held.held)
-    (rw c.as_slice.ensures at c.in_ok-held.ensures.holds)
+    small c.args.parsed.program c.args.parsed.regions c.requires c.held_regions.new.program
+    c.classes-classes.ensures.fits (rw c.reseed_strings.ensures at c.in_ok-held.ensures.adds)
+    (environment_of c.in_ok-held.held) (rw c.as_slice.ensures at c.in_ok-held.ensures.holds)
 
 pub returns-clause-told : goal.returns-clause-told
 returns-clause-told c =

@@ -22,8 +22,8 @@ returns-in-Ok-image_of-clause-only_fault c x fails =
 
 pub returns-in-Ok-image_of-clause-same : goal.returns-in-Ok-image_of-clause-same
 returns-in-Ok-image_of-clause-same c I own text =
-    let told = c.in-Ok.ensures.only_text I.program.family (told_of I) text in
+    let parsed = c.in-Ok.ensures in
+    let told = parsed.only_text I.program.family (told_of I) text in
     let image = c.in-Ok-image_of.ensures in
     read_again I c.in-Ok.parsed.program c.in-Ok.parsed.regions c.in-Ok-image_of.image own text.files
-    c.in-Ok.ensures.text.classes c.in-Ok.ensures.program c.in-Ok.ensures.own_strings told.0 told.1 image.program image.holds
-    image.same
+    parsed.text.classes parsed.program parsed.own_strings told.0 told.1 image.program image.holds image.same
