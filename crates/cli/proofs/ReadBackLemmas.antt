@@ -94,7 +94,8 @@ module _ (I J : ImageTables) (same : IsSameImage I J) where
         );
       };
       shows = record {
-        to_image = λ names lazy image s first second. of.shows.to_image names lazy image s first (back names image second);
+        to_image = λ names lazy image s first second.
+            of.shows.to_image names lazy image s first (back names image second);
         to_class_files = λ names lazy image s first second.
             of.shows.to_class_files names lazy image s first (back names image second);
       };

@@ -37,7 +37,8 @@ pub fn run_image(
     ensures image { IfOk result (λ run. IsTextOf bytes.now run.image) }
     ensures shown { IfOk result (λ run. IsShownFromImage run.image entries.now limit run.shown) }
     // The text of an image that is built of class files is run as such an image. So the headline holds of it: what it
-    // shows these class files show under some schedule of the lazy procedure, and conversely, for every list of entries.
+    // shows, these class files show under some schedule of the lazy procedure, and conversely, for every list of
+    // entries.
     ensures built { (texts : List (List ℕ)) (run_time build_time : Option (List ℕ)) (budget : ℕ)
         → IsBuiltText texts run_time build_time budget bytes.now
         → IfOk result (λ run. IsImageOf texts run_time build_time budget run.image) }

@@ -1,6 +1,6 @@
 -- An image holds what its text tells of it, under the strings of its program.
 use Rattle.std.proofs.Common.{◌≡◌, ◌∙◌, inl, inr, ℕ, zero, suc, ◌+◌, ◌<◌, ◌≤◌, true, leb}
-use Rattle.std.proofs.Common.{List, [], ◌∷◌, length, map, get_or}
+use Rattle.std.proofs.Common.{List, [], ◌∷◌, ◌++◌, length, map, get_or}
 use Rattle.std.proofs.Common.{Option, Some, None, is_some, slice_get, option_map, refl, sym, ap, subst, arith, add-zero}
 use Rattle.std.specs.List.{AllByRecursion, flat_map, range_with_len}
 use Rattle.std.proofs.lemmas.Bool.{cases_lt, ltb-true}
@@ -72,7 +72,10 @@ objects_from S at a (suc n) held k low =
         → slice_get (flat_map (told_if S) (map at (range_with_len a (suc n)))) k
         ≡ option_map (told_object S) (at (a + k))
     by None is some = absurd cc
-    by (Some o) is some = rw is (rest o is k low)
+    by (Some o) is some =
+        subst
+        (λ (x : Option Object). slice_get (told_if S x ++ more) k ≡ option_map (told_object S) (at (a + k)))
+        (sym is) (rest o is k low)
 
 module _ (P : Tables) (has : HasFiles P) where
   abbrev S : List (List ℕ)

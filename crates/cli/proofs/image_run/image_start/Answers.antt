@@ -14,5 +14,5 @@ returns-in-Err-clause-refusal c =
 
 pub returns-in-Ok-world-clause-built : goal.returns-in-Ok-world-clause-built
 returns-in-Ok-world-clause-built c texts run_time build_time budget is =
-    read_back is.image c.in-Ok.image (c.in-Ok.ensures.same is.image is.own_strings is.text) texts run_time build_time budget
-    is.of
+    let same = c.in-Ok.ensures.same is.image is.own_strings is.text in
+    read_back is.image c.in-Ok.image same texts run_time build_time budget is.of
