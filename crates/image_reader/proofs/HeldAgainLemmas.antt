@@ -46,36 +46,41 @@ use Rattle.image_reader.specs.steps.Held.{HoldsValue, HoldsValues, HoldsField, H
 use Rattle.image_reader.specs.steps.Held.{HoldsArray, HoldsObject, HoldsNumber, HoldsObjects, HoldsRegion, HoldsClass}
 use Rattle.image_reader.specs.steps.Held.{HoldsRegions}
 
+-- one that is held comes before those of higher numbers
+object_before : (S : List (List ℕ)) (at : ℕ → Option Object) (a n : ℕ) (o : Object) → at a ≡ Some o
+    → ((k : ℕ) → k < n → slice_get (flat_map (told_if S) (map at (range_with_len (a + 1) n))) k
+    ≡ option_map (told_object S) (at (a + 1 + k)))
+    → (k : ℕ) → k < suc n → slice_get (flat_map (told_if S) (map at (range_with_len a (suc n)))) k
+    ≡ option_map (told_object S) (at (a + k))
+object_before S at a n o is higher k low =
+    subst (λ (x : Option Object). slice_get (told_if S x ++ more) k ≡ option_map (told_object S) (at (a + k))) (sym is)
+    (by k low)
+  where
+    more : List ImageObject
+    more = flat_map (told_if S) (map at (range_with_len (a + 1) n))
+
+    by : (k : ℕ) → k < suc n → slice_get (told_object S o ∷ more) k ≡ option_map (told_object S) (at (a + k))
+    by zero low = sym (ap (option_map (told_object S)) (ap at (add-zero a) ∙ is))
+    by (suc k) low =
+        let next : a + 1 + k ≡ a + suc k = omega arith in
+        higher k (omega (arith, low)) ∙ ap (λ (m : ℕ). option_map (told_object S) (at m)) next
+
+one_held : (o : Option Object) → is_some o ≡ true → (object : Object) × (o ≡ Some object)
+one_held None held = absurd cc
+one_held (Some object) held = (object, refl)
+
 -- the objects of each number from one on, where all are held
 objects_from : (S : List (List ℕ)) (at : ℕ → Option Object) (a n : ℕ)
     → ((k : ℕ) → k < n → is_some (at (a + k)) ≡ true) → (k : ℕ) → k < n
     → slice_get (flat_map (told_if S) (map at (range_with_len a n))) k ≡ option_map (told_object S) (at (a + k))
 objects_from S at a zero held k low = absurd (omega (arith, low))
 objects_from S at a (suc n) held k low =
-    by (at a) refl (subst (λ (m : ℕ). is_some (at m) ≡ true) (add-zero a) (held 0 (omega arith)))
-  where
-    more : List ImageObject
-    more = flat_map (told_if S) (map at (range_with_len (a + 1) n))
-
-    rest : (o : Object) → at a ≡ Some o → (k : ℕ) → k < suc n
-        → slice_get (told_object S o ∷ more) k ≡ option_map (told_object S) (at (a + k))
-    rest o is zero low = sym (ap (option_map (told_object S)) (ap at (add-zero a) ∙ is))
-    rest o is (suc k) low =
-        let next : a + 1 + k ≡ a + suc k = omega arith in
-        objects_from S at (a + 1) n
-        (λ j less. let step : a + suc j ≡ a + 1 + j = omega arith in
-        subst (λ (m : ℕ). is_some (at m) ≡ true) step (held (suc j) (omega (arith, less))))
-        k (omega (arith, low))
-        ∙ ap (λ (m : ℕ). option_map (told_object S) (at m)) next
-
-    by : (o : Option Object) → at a ≡ o → is_some o ≡ true
-        → slice_get (flat_map (told_if S) (map at (range_with_len a (suc n)))) k
-        ≡ option_map (told_object S) (at (a + k))
-    by None is some = absurd cc
-    by (Some o) is some =
-        subst
-        (λ (x : Option Object). slice_get (told_if S x ++ more) k ≡ option_map (told_object S) (at (a + k)))
-        (sym is) (rest o is k low)
+    let here = one_held (at a) (subst (λ (m : ℕ). is_some (at m) ≡ true) (add-zero a) (held 0 (omega arith))) in
+    object_before S at a n here.0 here.1
+    (objects_from S at (a + 1) n (λ j less.
+    let step : a + suc j ≡ a + 1 + j = omega arith in
+    subst (λ (m : ℕ). is_some (at m) ≡ true) step (held (suc j) (omega (arith, less)))))
+    k low
 
 module _ (P : Tables) (has : HasFiles P) where
   abbrev S : List (List ℕ)

@@ -143,6 +143,10 @@ module _ (S T added : List (List ℕ)) (grown : T ≡ S ++ added) where
 
 -- ---- values in order
 
+pub taken : {X : Type 0} (told : List X) (i : ℕ) (t : X) → i < length told → t ≡ get_or told i t
+    → take (i + 1) told ≡ take i told ++ t ∷ []
+taken {X = X} told i t within item = take_more told i t within ∙ ap (λ (x : X). take i told ++ x ∷ []) (sym item)
+
 -- the step of a loop over values
 pub next_held : (P Q R : Tables) (told : List ImageValue) (i : ℕ) (t : ImageValue) (vs more : List Value) (v : Value)
     → i < length told → t ≡ get_or told i t → HoldsValues Q.strings (take i told) vs × AddsStrings P Q
@@ -151,9 +155,7 @@ pub next_held : (P Q R : Tables) (told : List ImageValue) (i : ℕ) (t : ImageVa
 next_held P Q R told i t vs more v within item held adds holds grown =
     let kept = values_kept Q.strings R.strings adds.added adds.strings (take i told) vs held.0 in
     let pushed = all_zipped_more (HoldsValue R.strings) (take i told) vs t v kept holds in
-    let all : take (i + 1) told ≡ take i told ++ t ∷ [] =
-    take_more told i t within ∙ ap (λ (x : ImageValue). take i told ++ x ∷ []) (sym item) in
-    (rw (grown, all) pushed, adds_more P Q R held.1 adds)
+    (rw (grown, taken told i t within item) pushed, adds_more P Q R held.1 adds)
 
 -- ---- static fields
 
