@@ -18,7 +18,7 @@ use Rattle.loading.specs.ClassIds.{element_text}
 use Rattle.vm_state.specs.declared.object.Object.{Object}
 use Rattle.vm_state.specs.declared.value.Value.{Value}
 use Rattle.vm_state.specs.declared.value.Value.TheVariants as machine
-use Rattle.vm_state.specs.SharedState.{Pool, Region, slots_at}
+use Rattle.vm_state.specs.SharedState.{Region}
 use Rattle.semantics.specs.Lawful.{HoldsOfSlots, Knows, KnowsAll, KnowsSlots}
 use Rattle.semantics.specs.Quiet.{Environment}
 use Rattle.program.specs.declared.runtime_constant.FieldKind.{FieldKind}
@@ -43,7 +43,7 @@ use Rattle.image_writer.proofs.FilesLemmas.{text_fits, units_are}
 use Rattle.image_writer.proofs.ProgramsLemmas.{class_count, static_count}
 use Rattle.image_writer.proofs.SizesLemmas.{told_count}
 use Rattle.image_reader.specs.steps.Held.{HoldsValue, HoldsValues, HoldsField, HoldsFields, HoldsText, HoldsType}
-use Rattle.image_reader.specs.steps.Held.{HoldsArray, HoldsObject, HoldsNumber, HoldsObjects, HoldsRegion, HoldsClass}
+use Rattle.image_reader.specs.steps.Held.{HoldsObject, HoldsNumber, HoldsObjects, HoldsRegion, HoldsClass}
 use Rattle.image_reader.specs.steps.Held.{HoldsRegions}
 
 -- one that is held comes before those of higher numbers
