@@ -10,3 +10,4 @@ pub mod ImageRunLemmas
 pub mod EntriesLemmas
 pub mod HeadlineLemmas
 pub mod BeginsLemmas
+pub mod ReadBackLemmas

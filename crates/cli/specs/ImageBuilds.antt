@@ -4,6 +4,7 @@ use Rattle.std.specs.List.{All}
 use Rattle.wave_scheduler.specs.Settled.{Outcome}
 use Rattle.object_graph.specs.Images.{ImageTables}
 use Rattle.building.specs.Builds.{HoldsAccepted, IsBuilt}
+use Rattle.image_reader.specs.Readings.{IsOfOwnStrings}
 use Rattle.cli.specs.Headline.{ShowsTheSame, TakesTheSameEntries}
 use Rattle.cli.specs.ImageRuns.{IsTextOf}
 use Rattle.cli.specs.Runs.{IsProgramOf}
@@ -23,9 +24,11 @@ pub record IsImageOf (texts : List (List ℕ)) (run_time build_time : Option (Li
   pub shows : ShowsTheSame I
   pub entries : TakesTheSameEntries I
 
--- The bytes are the text of such an image, as which they are read back.
+-- The bytes are the text of such an image, as which they are read back: its regions tell no strings but those of the
+-- class files.
 pub record IsBuiltText (texts : List (List ℕ)) (run_time build_time : Option (List ℕ)) (budget : ℕ) (bytes : List ℕ)
     : Type 0 where
   pub image : ImageTables
   pub of : IsImageOf texts run_time build_time budget image
   pub text : IsTextOf bytes image
+  pub own_strings : IsOfOwnStrings image

@@ -36,10 +36,13 @@ pub fn build_image(
         (list_of options.now.run_time) (list_of options.now.build_time) options.now.budget fault) }
 {
     match build_here(alloc, files, options) {
-        Ok(built) => match image_text(alloc, &built.image) {
-            Ok(bytes) => Ok(bytes),
-            Err(_) => Err(BuildFault::Memory),
-        },
+        Ok(built) => {
+            let _region = built.image.region(0);
+            match image_text(alloc, &built.image) {
+                Ok(bytes) => Ok(bytes),
+                Err(_) => Err(BuildFault::Memory),
+            }
+        }
         Err(fault) => Err(fault),
     }
 }

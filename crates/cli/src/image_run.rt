@@ -1,8 +1,9 @@
 //! From an image's bytes to what a run of it by turns shows, and the start of the command `run`.
-ghost use Rattle.std.specs.Prelude.{◌≡◌, ◌⊎◌, IfErr, IfOk};
+ghost use Rattle.std.specs.Prelude.{◌≡◌, ◌⊎◌, ℕ, List, Option, IfErr, IfOk};
 ghost use Rattle.init_engine.specs.Turns.{world_of};
 ghost use Rattle.image_reader.specs.Starts.{IsImageStart};
 ghost use Rattle.cli.specs.Begins.{IsBegunFromImage};
+ghost use Rattle.cli.specs.ImageBuilds.{IsBuiltText, IsImageOf};
 ghost use Rattle.cli.specs.ImageRuns.{IsNoRun, IsShownFromImage, IsTextOf};
 ghost use Rattle.cli.specs.declared.fault.Refusal.TheVariants.{Memory};
 
@@ -36,6 +37,12 @@ pub fn run_image(
     // turns of its start.
     ensures image { IfOk result (λ run. IsTextOf bytes.now run.image) }
     ensures shown { IfOk result (λ run. IsShownFromImage run.image entries.now limit run.shown) }
+    // The text of an image that is built of class files is run as such an image. So the headline holds of it: what it
+    // shows, these class files show under some schedule of the lazy procedure, and conversely, for every list of
+    // entries.
+    ensures built { (texts : List (List ℕ)) (run_time build_time : Option (List ℕ)) (budget : ℕ)
+        → IsBuiltText texts run_time build_time budget bytes.now
+        → IfOk result (λ run. IsImageOf texts run_time build_time budget run.image) }
 
     // What is answered otherwise is the first that is wrong, or that memory ran out.
     ensures refusal { IfErr result (λ refusal. (refusal ≡ Memory) ⊎ IsNoRun bytes.now entries.now refusal) }
@@ -60,6 +67,9 @@ pub(crate) struct ImageStart {
 fn image_start(alloc: Global, bytes: &[u8], entries: &[ClassName]) -> Result<ImageStart, Refusal>
     ensures image { IfOk result (λ start. IsTextOf bytes.now start.image) }
     ensures start { IfOk result (λ start. IsImageStart start.image entries.now (world_of start.world)) }
+    ensures built { (texts : List (List ℕ)) (run_time build_time : Option (List ℕ)) (budget : ℕ)
+        → IsBuiltText texts run_time build_time budget bytes.now
+        → IfOk result (λ start. IsImageOf texts run_time build_time budget start.image) }
     ensures refusal { IfErr result (λ refusal. (refusal ≡ Memory) ⊎ IsNoRun bytes.now entries.now refusal) }
 {
     match read(alloc, bytes) {

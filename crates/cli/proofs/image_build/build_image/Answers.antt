@@ -30,4 +30,10 @@ returns-in-Ok-image_text-clause-image c =
       text =
           subst (λ (bytes : List ℕ). ImageText bytes built.image.program.family (told_of built.image))
           (sym c.in-Ok-image_text.ensures.text) text;
+      own_strings = record {
+        program = of.program;
+        own_strings = of.own_strings;
+        whole = c.region-region.ensures.whole;
+        small = c.region-region.ensures.small;
+      };
     }

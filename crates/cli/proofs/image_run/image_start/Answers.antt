@@ -1,4 +1,5 @@
 use Rattle.cli.proofs.ImageRunLemmas.{refused_image, refused_entry_of}
+use Rattle.cli.proofs.ReadBackLemmas.{read_back}
 use Rattle.cli.proofs.image_run.image_start.Goals as goal
 
 pub returns-in-Err-world-clause-refusal : goal.returns-in-Err-world-clause-refusal
@@ -10,3 +11,8 @@ pub returns-in-Err-clause-refusal : goal.returns-in-Err-clause-refusal
 returns-in-Err-clause-refusal c =
     refused_image c.args.bytes.now c.args.entries.now c.in-Err.fault c.of_image.result c.in-Err.ensures.fault
     c.of_image.ensures.memory c.of_image.ensures.other
+
+pub returns-in-Ok-world-clause-built : goal.returns-in-Ok-world-clause-built
+returns-in-Ok-world-clause-built c texts run_time build_time budget is =
+    let same = c.in-Ok.ensures.same is.image is.own_strings is.text in
+    read_back is.image c.in-Ok.image same texts run_time build_time budget is.of

@@ -1,0 +1,110 @@
+-- What holds of an image that is built holds of one that is read of its text.
+use Rattle.std.proofs.Common.{◌≡◌, ◌∙◌, inl, inr, ℕ, List, Option, Some, is_some, refl, sym, ap, subst}
+use Rattle.vm_state.specs.SharedState.{Region}
+use Rattle.semantics.specs.Images.{Image as Start, image_start}
+use Rattle.semantics.specs.Quiet.{Environment}
+use Rattle.semantics.specs.Settling.{constant_region}
+use Rattle.semantics.specs.Worlds.{World}
+use Rattle.program.specs.Tables.{Tables}
+use Rattle.evaluator.specs.Regions.{environment_of}
+use Rattle.machine.specs.Linked.{program_of}
+use Rattle.object_graph.specs.Images.{ImageTables, region_or, start_image}
+use Rattle.image_reader.specs.Readings.{IsSameImage}
+use Rattle.image_reader.specs.Starts.{IsImageStart}
+use Rattle.cli.specs.Headline.{BothStart, NeitherStarts, TakesTheSameEntries}
+use Rattle.cli.specs.ImageBuilds.{IsImageOf}
+
+module _ (I J : ImageTables) (same : IsSameImage I J) where
+  -- the regions of the one, over the program of the other
+  abbrev between : ImageTables
+  between = record { program = J.program; regions = I.regions }
+
+  abbrev start_of : Environment → Start
+  start_of env = record {
+    holds = λ c. is_some (env c);
+    region = λ c. region_or (constant_region (program_of J.program) c) (env c);
+  }
+
+  starts : start_image J ≡ start_image between
+  starts = ap start_of same.regions
+
+  abbrev world : List ℕ → Start → World
+  world classes start = image_start (program_of J.program) start classes
+
+  back : (names : List (List ℕ)) (w : World) → IsImageStart J names w → IsImageStart between names w
+  back names w is = record {
+    classes = is.classes;
+    entries = is.entries;
+    start = is.start ∙ ap (world is.classes) starts;
+  }
+
+  there : (names : List (List ℕ)) (w : World) → IsImageStart between names w → IsImageStart J names w
+  there names w is = record {
+    classes = is.classes;
+    entries = is.entries;
+    start = is.start ∙ sym (ap (world is.classes) starts);
+  }
+
+  both_start : (names : List (List ℕ)) → BothStart between names → BothStart J names
+  both_start names both = record {
+    lazy = both.lazy;
+    image = both.image;
+    lazily = both.lazily;
+    from_image = λ w.
+        (λ is. (both.from_image w).0 (back names w is), λ is. there names w ((both.from_image w).1 is));
+    no_fault = both.no_fault;
+  }
+
+  neither_starts : (names : List (List ℕ)) → NeitherStarts between names → NeitherStarts J names
+  neither_starts names neither = record {
+    fault = neither.fault;
+    one_fault = neither.one_fault;
+    lazily = neither.lazily;
+    from_image = λ w is. neither.from_image w (back names w is);
+  }
+
+  same_entries : TakesTheSameEntries between → TakesTheSameEntries J
+  same_entries takes names = elim (takes names) [
+    | inl both ↦ inl (both_start names both)
+    | inr neither ↦ inr (neither_starts names neither)
+  ]
+
+  at_class : (c : ℕ) → environment_of J.regions c ≡ environment_of I.regions c
+  at_class c = ap (λ (env : Environment). env c) same.regions
+
+  module _ (texts : List (List ℕ)) (run_time build_time : Option (List ℕ)) (budget : ℕ) where
+    of_same : IsImageOf texts run_time build_time budget between → IsImageOf texts run_time build_time budget J
+    of_same of = record {
+      program = of.program;
+      outcomes = of.outcomes;
+      built = record {
+        settled = of.built.settled;
+        by = of.built.by;
+        regions = λ c. at_class c ∙ of.built.regions c;
+        told = of.built.told;
+      };
+      exact = record {
+        forced = of.exact.forced;
+        are = of.exact.are;
+        analysis = of.exact.analysis;
+        is = of.exact.is;
+        exactly = λ c r. (
+          λ here. (of.exact.exactly c r).0 (sym (at_class c) ∙ here),
+          λ accepted. at_class c ∙ (of.exact.exactly c r).1 accepted,
+        );
+      };
+      shows = record {
+        to_image = λ names lazy image s first second.
+            of.shows.to_image names lazy image s first (back names image second);
+        to_class_files = λ names lazy image s first second.
+            of.shows.to_class_files names lazy image s first (back names image second);
+      };
+      entries = same_entries of.entries;
+    }
+
+    -- an image that is the same is built as well
+    pub read_back : IsImageOf texts run_time build_time budget I → IsImageOf texts run_time build_time budget J
+    read_back of =
+        of_same (subst
+        (λ (P : Tables). IsImageOf texts run_time build_time budget (record { program = P; regions = I.regions }))
+        (sym same.program) of)
