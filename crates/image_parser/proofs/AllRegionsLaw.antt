@@ -4,6 +4,7 @@ use Rattle.std.proofs.Common.{Result, Ok, Err, refl, sym, ap, subst, ◌∙◌, 
 use Rattle.std.proofs.lemmas.Bool.{cases_lt}
 use Rattle.std.proofs.lemmas.List.{append-nil, get_or-take, length-take}
 use Rattle.std.proofs.lemmas.Option.{slice_get_within, slice_get-get_or, same_Some}
+use Rattle.classfile.specs.Faults.{IsBytes}
 use Rattle.loading.specs.Families.{Family, IsFamily}
 use Rattle.image_format.specs.declared.value.ImageValue.{ImageValue}
 use Rattle.image_format.specs.declared.value.ImageValue.TheVariants as values
@@ -12,7 +13,6 @@ use Rattle.image_format.specs.Images.{count_of, region_in, IsThere}
 use Rattle.image_parser.specs.declared.fault.MarksFault.{MarksFault}
 use Rattle.image_parser.specs.declared.fault.RegionsFault.{RegionsFault}
 use Rattle.image_parser.specs.declared.fault.RegionsFault.TheVariants as faults
-use Rattle.image_parser.specs.FirstFailing.{IsBytes}
 use Rattle.image_parser.specs.Inside.{among_regions}
 use Rattle.image_parser.specs.Regions.{Begins}
 use Rattle.image_parser.specs.MarkFaults.{AreMarks}

@@ -2,10 +2,10 @@
 use Rattle.std.proofs.Common.{◌≡◌, ℕ, List, [], ◌∷◌, ◌++◌, Result, refl, sym, subst, ◌∙◌, append_assoc}
 use Rattle.std.specs.List.{flat_map, AllZip}
 use Rattle.std.proofs.lemmas.List.{append-nil}
+use Rattle.classfile.proofs.Lawful.{Lawful, Both, Is, pure_lawful, restated, then_lawful}
+use Rattle.classfile.proofs.RuleLawful.{append_equal}
 use Rattle.image_parser.specs.FirstFailing.{EachFails}
 use Rattle.image_parser.specs.reading.Results.{each_at}
-use Rattle.image_parser.proofs.Lawful.{Lawful, Both, Is, pure_lawful, restated, then_lawful}
-use Rattle.image_parser.proofs.RuleLawful.{append_equal}
 
 -- the text of what fits there
 abbrev pub Spelled : {K X : Type 0} → (X → List ℕ) → (K → X → Type 0) → K → X → List ℕ → Type 0

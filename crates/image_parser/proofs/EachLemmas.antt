@@ -2,10 +2,11 @@
 use Rattle.std.proofs.Common.{◌≡◌, ℕ, suc, ◌-◌, ◌+◌, ◌≤◌, ◌<◌, List, [], ◌∷◌, ◌++◌, length, get_or, drop, Result, Ok}
 use Rattle.std.proofs.Common.{Err, refl, sym, ap, ◌∙◌, arith, drop-cons}
 use Rattle.std.proofs.lemmas.List.{drop_all}
+use Rattle.classfile.specs.reading.Numbers.{◌>>=◌}
 use Rattle.image_parser.specs.declared.fault.RegionFault.{RegionFault}
 use Rattle.image_parser.specs.declared.fault.RegionFault.TheVariants as faults
 use Rattle.image_parser.specs.FirstFailing.{times}
-use Rattle.image_parser.specs.reading.Results.{◌>>=◌, Fails, each_at}
+use Rattle.image_parser.specs.reading.Results.{Fails, each_at}
 
 abbrev pub EachReader : Type 0 → Type 0 → Type 0
 EachReader K X = K → List ℕ → Result (X × List ℕ) RegionFault

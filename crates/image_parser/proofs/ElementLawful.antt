@@ -5,6 +5,8 @@ use Rattle.std.specs.Prelude.{FitsSigned, int_le}
 use Rattle.std.specs.Int.{Width, w8, w16, w32, w64, to_be_bytes, cast_signed, cast_unsigned}
 use Rattle.std.proofs.lemmas.Bool.{and_parts, and_from, cases_lt, lt-ltb, le-ltb, le-leb, leb-true}
 use Rattle.std.proofs.lemmas.Int.{of_z-to_z}
+use Rattle.classfile.specs.Faults.{Number, limit_of}
+use Rattle.classfile.proofs.Lawful.{Lawful, IsWide, wide8, wide16, wide32, map_lawful, restated}
 use mir.ValLaws.{to_z-of_z, of_z_fits, to_z-Fits}
 use Rattle.program.specs.declared.runtime_constant.FieldKind.{FieldKind}
 use Rattle.program.specs.declared.runtime_constant.FieldKind.TheVariants as kinds
@@ -12,13 +14,11 @@ use Rattle.image_format.specs.declared.value.ImageValue.{ImageValue}
 use Rattle.image_format.specs.declared.value.ImageValue.TheVariants as values
 use Rattle.image_format.specs.Shapes.{is_in_range, IsIntOf, Suits}
 use Rattle.image_format.specs.Texts.{element_text}
-use Rattle.image_parser.specs.FirstFailing.{Number, limit_of}
 use Rattle.image_parser.specs.RegionFaults.{CutNumber, ElementFails, IsElement}
 use Rattle.image_parser.specs.reading.Results.{number_at}
 use Rattle.image_parser.specs.reading.Values.{made_at, byte_of_bits, char_of_bits, short_of_bits, int_of_bits}
 use Rattle.image_parser.specs.reading.Values.{long_of_bits, element_at}
-use Rattle.image_parser.proofs.Lawful.{Lawful, IsWide, wide8, wide16, wide32, wide64, number_lawful, map_lawful}
-use Rattle.image_parser.proofs.Lawful.{restated}
+use Rattle.image_parser.proofs.NumberLawful.{wide64, number_lawful}
 use Rattle.image_parser.proofs.ValueLawful.{value_lawful}
 
 -- ---- what a number of some bits makes

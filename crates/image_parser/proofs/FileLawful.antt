@@ -17,7 +17,12 @@ use Rattle.classfile.specs.ClassFile.{ClassFile}
 use Rattle.classfile.specs.Spelling.{u4}
 use Rattle.classfile.specs.Text.{class_text}
 use Rattle.classfile.specs.reading.Class.{class_of}
+use Rattle.classfile.specs.Faults.{Either, Number, Run, IsBytes}
+use Rattle.classfile.specs.reading.Numbers.{◌>>=◌}
 use Rattle.classfile.proofs.ClassLawful.{class_is_text, text_is_class, fault_is_first, first_is_fault}
+use Rattle.classfile.proofs.Lawful.{Lawful, Both, Is, Mapped, IsBytes-back, fits_as, bind_ok, bind_err, ok_is, wide32}
+use Rattle.classfile.proofs.Lawful.{pure_lawful, map_lawful, then_lawful, restated}
+use Rattle.classfile.proofs.RuleLawful.{append_equal, IsBytes-front, good_ok}
 use Rattle.loading.specs.Names.{name_of}
 use Rattle.image_format.specs.Texts.{file_text}
 use Rattle.image_parser.specs.declared.fault.RegionFault.{RegionFault}
@@ -27,16 +32,12 @@ use Rattle.image_parser.specs.declared.fault.FilesFault.TheVariants as faults
 use Rattle.image_parser.specs.FileFaults.{IsSized, SizedFails, IsAfter, IsFileAfter, of_class, RunFails, FileFails}
 use Rattle.image_parser.specs.FileFaults.{FilesFailFrom, AreFilesAfter, AreFiles, FilesFail, FailsFile, GivesFile}
 use Rattle.image_parser.specs.FileFaults.RunFails.{class, order}
-use Rattle.image_parser.specs.FirstFailing.{Either, Number, Run, IsBytes}
 use Rattle.image_parser.specs.RegionFaults.{Cut, CutNumber}
 use Rattle.image_parser.specs.Regions.{Begins}
-use Rattle.image_parser.specs.reading.Results.{◌>>=◌, number_at, run_at}
+use Rattle.image_parser.specs.reading.Results.{number_at, run_at}
 use Rattle.image_parser.specs.reading.Files.{of_run, outside, counted_at, sized_at, is_after, in_class, in_order}
 use Rattle.image_parser.specs.reading.Files.{class_in, file_at, files_at}
-use Rattle.image_parser.proofs.Lawful.{Lawful, Both, Is, Mapped, IsBytes-back, fits_as, bind_ok, bind_err, ok_is}
-use Rattle.image_parser.proofs.Lawful.{wide32, number_lawful, run_lawful}
-use Rattle.image_parser.proofs.Lawful.{pure_lawful, map_lawful, then_lawful, restated}
-use Rattle.image_parser.proofs.RuleLawful.{append_equal, IsBytes-front, good_ok}
+use Rattle.image_parser.proofs.NumberLawful.{number_lawful, run_lawful}
 
 -- ---- the same faults in other words
 

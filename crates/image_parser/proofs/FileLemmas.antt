@@ -12,6 +12,7 @@ use Rattle.classfile.specs.Faults.{IsBytes}
 use Rattle.classfile.specs.FirstFault.{FirstFault}
 use Rattle.classfile.specs.Gives.{Gives as GivesClass, Fails as FailsClass}
 use Rattle.classfile.specs.reading.Class.{class_of}
+use Rattle.classfile.specs.reading.Numbers.{◌>>=◌}
 use Rattle.classfile.proofs.ClassLawful.{class_is_text, fault_is_first}
 use Rattle.loading.specs.Names.{name_of}
 use Rattle.image_parser.specs.declared.fault.RegionFault.{RegionFault}
@@ -21,7 +22,7 @@ use Rattle.image_parser.specs.declared.fault.FilesFault.TheVariants as faults
 use Rattle.image_parser.specs.FileFaults.{of_class, FailsFile, GivesFile}
 use Rattle.image_parser.specs.reading.Files.{of_run, outside, last_name, in_class, in_order, class_in, file_at}
 use Rattle.image_parser.specs.reading.Files.{files_at, after_files}
-use Rattle.image_parser.specs.reading.Results.{◌>>=◌, Fails}
+use Rattle.image_parser.specs.reading.Results.{Fails}
 
 -- a fault of a run of bytes is that of the class file
 pub outside_fails : {X : Type 0} (e : RegionFault) (r : Result X RegionFault) → Fails e r

@@ -13,6 +13,9 @@ use Rattle.sha2.proofs.Facts256.{length-sha256}
 use Rattle.classfile.specs.Class.{IsClassFile}
 use Rattle.classfile.specs.ClassFile.{ClassFile}
 use Rattle.classfile.specs.Spelling.{u2, u4}
+use Rattle.classfile.specs.Faults.{IsBytes}
+use Rattle.classfile.proofs.Lawful.{IsBytes-back, fits_as, wide32}
+use Rattle.classfile.proofs.RuleLawful.{IsBytes-front}
 use Rattle.loading.specs.Families.{Family, IsFamilyOf}
 use Rattle.loading.specs.Files.{LinkFails}
 use Rattle.loading.proofs.FilesFaultLemmas.{not_both as link_not_both, one_fault as one_link_fault}
@@ -26,7 +29,6 @@ use Rattle.image_parser.specs.declared.image_fault.ImageFault.{ImageFault}
 use Rattle.image_parser.specs.declared.image_fault.ImageFault.TheVariants as faults
 use Rattle.image_parser.specs.AllRegions.{RegionsText, RegionsFail}
 use Rattle.image_parser.specs.FileFaults.{FilesFail}
-use Rattle.image_parser.specs.FirstFailing.{IsBytes}
 use Rattle.image_parser.specs.HeaderFaults.{IsFramed}
 use Rattle.image_parser.specs.ImageFaults.{of_header, of_files, of_link, of_regions, HasFiles, IsLinked, PartsText}
 use Rattle.image_parser.specs.ImageFaults.{PartsFail, ImageParts, IsImage, ImageFails}
@@ -35,8 +37,7 @@ use Rattle.image_parser.specs.ImageFaults.ImageFails.{frame, within}
 use Rattle.image_parser.specs.TextOrFault.{TextOrFault}
 use Rattle.image_parser.specs.reading.Files.{files_at}
 use Rattle.image_parser.specs.reading.Results.{number_at}
-use Rattle.image_parser.proofs.Lawful.{IsBytes-back, fits_as, wide32, number_lawful}
-use Rattle.image_parser.proofs.RuleLawful.{IsBytes-front}
+use Rattle.image_parser.proofs.NumberLawful.{number_lawful}
 use Rattle.image_parser.proofs.FileLawful.{files_lawful}
 use Rattle.image_parser.proofs.FamilyOrderLemmas.{family_text, family_ascending, files_ascend, IsShort}
 use Rattle.image_parser.proofs.ImageLemmas.{long_enough, has_files, parts_text, image_text}

@@ -13,7 +13,10 @@ use Rattle.classfile.specs.ClassFile.{ClassFile}
 use Rattle.classfile.specs.Printing.{units_of}
 use Rattle.classfile.specs.Spelling.{u2, u4}
 use Rattle.classfile.specs.Units.{units_text, IsModifiedUtf8}
+use Rattle.classfile.specs.Faults.{IsBytes}
 use Rattle.classfile.proofs.PrintingLemmas.{units_text-units_of}
+use Rattle.classfile.proofs.Lawful.{fits_as}
+use Rattle.classfile.proofs.RuleLawful.{IsBytes-front}
 use Rattle.loading.specs.declared.fault.LinkFault.{LinkFault}
 use Rattle.loading.specs.declared.fault.LinkFault.TheVariants as link_faults
 use Rattle.loading.specs.Families.{Family}
@@ -30,15 +33,12 @@ use Rattle.image_parser.specs.declared.image_fault.ImageFault.{ImageFault}
 use Rattle.image_parser.specs.declared.image_fault.ImageFault.TheVariants as faults
 use Rattle.image_parser.specs.AllRegions.{RegionsText, RegionsFail}
 use Rattle.image_parser.specs.FileFaults.{AreFiles, FilesFail}
-use Rattle.image_parser.specs.FirstFailing.{IsBytes}
 use Rattle.image_parser.specs.HeaderFaults.{IsFramed}
 use Rattle.image_parser.specs.ImageFaults.{of_files, of_link, of_regions, HasFiles, IsLinked, PartsText, PartsFail}
 use Rattle.image_parser.specs.ImageFaults.{ImageParts, ImageFails}
 use Rattle.image_parser.specs.ImageFaults.PartsFail.{files, link, regions}
 use Rattle.image_parser.specs.ImageFaults.ImageFails.{within}
 use Rattle.image_parser.specs.Regions.{Begins}
-use Rattle.image_parser.proofs.Lawful.{fits_as}
-use Rattle.image_parser.proofs.RuleLawful.{IsBytes-front}
 use Rattle.image_parser.proofs.FamilyOrderLemmas.{same_files, family_text, family_each, IsShort}
 
 -- ---- the count

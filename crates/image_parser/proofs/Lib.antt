@@ -1,6 +1,5 @@
 pub mod EachLemmas
-pub mod Lawful
-pub mod RuleLawful
+pub mod NumberLawful
 pub mod EachLawful
 pub mod ValueLawful
 pub mod ClassNameLemmas

@@ -4,12 +4,13 @@ use Rattle.std.proofs.Common.{subst, ◌∙◌, arith}
 use Rattle.std.specs.Prelude.{IfOk, IfErr}
 use Rattle.std.specs.Int.{w8}
 use Rattle.classfile.specs.Spelling.{u1}
+use Rattle.classfile.specs.Faults.{Number, IsBytes}
+use Rattle.classfile.proofs.Lawful.{Lawful, Both, Is, Mapped, wide8, pure_lawful, map_lawful, then_lawful, restated}
 use Rattle.loading.specs.Families.{Family, IsFamily}
 use Rattle.image_format.specs.Texts.{mark_text, region_text}
 use Rattle.image_parser.specs.declared.fault.RegionFault.{RegionFault}
 use Rattle.image_parser.specs.declared.fault.MarksFault.{MarksFault}
 use Rattle.image_parser.specs.declared.fault.MarksFault.TheVariants as marks
-use Rattle.image_parser.specs.FirstFailing.{Number, IsBytes}
 use Rattle.image_parser.specs.RegionFaults.{IsRegion, RegionFails}
 use Rattle.image_parser.specs.Regions.{Begins}
 use Rattle.image_parser.specs.Inside.{inside}
@@ -18,8 +19,7 @@ use Rattle.image_parser.specs.MarkFaults.{AreMarks, IsMarksFault, FailsIn, Gives
 use Rattle.image_parser.specs.reading.Results.{number_at}
 use Rattle.image_parser.specs.reading.Objects.{region_at}
 use Rattle.image_parser.specs.reading.Marks.{Mark, marked, marked_at, mark_at, inside_at, mark_in, marks_at}
-use Rattle.image_parser.proofs.Lawful.{Lawful, Both, Is, Mapped, wide8, number_lawful, pure_lawful, map_lawful}
-use Rattle.image_parser.proofs.Lawful.{then_lawful, restated}
+use Rattle.image_parser.proofs.NumberLawful.{number_lawful}
 use Rattle.image_parser.proofs.EachLawful.{each_lawful}
 use Rattle.image_parser.proofs.ValueLawful.{shape_lawful}
 use Rattle.image_parser.proofs.ObjectLawful.{region_lawful}

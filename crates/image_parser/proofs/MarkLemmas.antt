@@ -1,13 +1,14 @@
 -- Reading the marks of classes in turn, as a loop does.
 use Rattle.std.proofs.Common.{◌≡◌, ℕ, suc, ◌-◌, ◌+◌, ◌≤◌, ◌<◌, List, [], ◌∷◌, ◌++◌, Result, Ok, Err, refl, sym, ap, ◌∙◌}
 use Rattle.std.proofs.Common.{arith}
+use Rattle.classfile.specs.reading.Numbers.{◌>>=◌}
 use Rattle.image_parser.specs.declared.fault.RegionFault.{RegionFault}
 use Rattle.image_parser.specs.declared.fault.RegionFault.TheVariants as faults
 use Rattle.image_parser.specs.declared.fault.MarksFault.{MarksFault}
 use Rattle.image_parser.specs.declared.fault.MarksFault.TheVariants as marks
 use Rattle.image_parser.specs.Inside.{inside}
 use Rattle.image_parser.specs.MarkFaults.{numbers, FailsIn}
-use Rattle.image_parser.specs.reading.Results.{◌>>=◌, Fails, each_at}
+use Rattle.image_parser.specs.reading.Results.{Fails, each_at}
 use Rattle.image_parser.specs.reading.Marks.{inside_at}
 
 -- a fault of a class's mark is that of the class

@@ -9,6 +9,12 @@ use Rattle.classfile.specs.Spelling.{u1, u2, u4}
 use Rattle.built_in.specs.declared.class_id.ClassId.{ClassId}
 use Rattle.built_in.specs.declared.class_id.ClassId.TheVariants as classes
 use Rattle.classfile.specs.ClassFile.{ClassFile}
+use Rattle.classfile.specs.Faults.{Either, Number, Run}
+use Rattle.classfile.specs.FirstFault.{Ruled, RuleFails}
+use Rattle.classfile.specs.reading.Numbers.{◌>>=◌}
+use Rattle.classfile.proofs.Lawful.{Lawful, Both, Is, Mapped, wide8, wide16, wide32, pure_lawful, ok_is, restated}
+use Rattle.classfile.proofs.Lawful.{then_lawful, map_lawful}
+use Rattle.classfile.proofs.RuleLawful.{append_equal, good_ok, ruled_lawful, Makes, made_lawful}
 use Rattle.loading.specs.Names.{name_of}
 use Rattle.loading.specs.Families.{Family, IsFamily, file_in, passes}
 use Rattle.loading.specs.ClassIds.IsNamed.{given, built_in, array}
@@ -30,12 +36,12 @@ use Rattle.image_format.specs.Texts.{value_text, element_text, object_text, regi
 use Rattle.image_format.specs.Texts.{array_text}
 use Rattle.image_parser.specs.declared.fault.RegionFault.{RegionFault}
 use Rattle.image_parser.specs.declared.fault.RegionFault.TheVariants as faults
-use Rattle.image_parser.specs.FirstFailing.{Either, Number, Run, Ruled, RuleFails, EachFails, times}
+use Rattle.image_parser.specs.FirstFailing.{EachFails, times}
 use Rattle.image_parser.specs.RegionFaults.{CutNumber, IsValue, ValueFails, ElementFails, ElementsFail, known_form}
 use Rattle.image_parser.specs.RegionFaults.{form_of, NameFails, IsName, NamesClass, IsClass, ClassFails, ArrayFails}
 use Rattle.image_parser.specs.RegionFaults.{SlotsFail, ObjectFails, IsObject, ObjectsFail, AreStatics, RegionFails}
 use Rattle.image_parser.specs.RegionFaults.{IsRegion}
-use Rattle.image_parser.specs.reading.Results.{◌>>=◌, number_at, run_at, each_at}
+use Rattle.image_parser.specs.reading.Results.{number_at, run_at, each_at}
 use Rattle.image_parser.specs.reading.Values.{value_at, element_at}
 use Rattle.image_parser.specs.reading.ClassNames.{class_of}
 use Rattle.image_parser.specs.reading.Unknown.{unknown_of}
@@ -43,9 +49,7 @@ use Rattle.image_parser.specs.reading.Objects.{is_form, may_be, good_class, unkn
 use Rattle.image_parser.specs.reading.Objects.{class_at, elements_at, count_at, array_at, slots_at, formed_at, form_at}
 use Rattle.image_parser.specs.reading.Objects.{object_at, object_of, region_of, objects_at, counted_region_at}
 use Rattle.image_parser.specs.reading.Objects.{region_at}
-use Rattle.image_parser.proofs.Lawful.{Lawful, Both, Is, Mapped, wide8, wide16, wide32, number_lawful, run_lawful}
-use Rattle.image_parser.proofs.Lawful.{pure_lawful, ok_is, restated, then_lawful, map_lawful}
-use Rattle.image_parser.proofs.RuleLawful.{append_equal, good_ok, ruled_lawful, Makes, made_lawful}
+use Rattle.image_parser.proofs.NumberLawful.{number_lawful, run_lawful}
 use Rattle.image_parser.proofs.EachLawful.{AllSpelled, each_lawful}
 use Rattle.image_parser.proofs.ValueLawful.{value_lawful, times_all, all_times}
 use Rattle.image_parser.proofs.ElementLawful.{element_lawful}
@@ -58,15 +62,15 @@ pub below_decides : (n limit : ℕ) → Decides (ltb n limit) (n < limit)
 below_decides n limit = (λ e. ltb-true n limit e, λ lt. lt-ltb n limit lt)
 
 form_lawful : Lawful form_at (Ruled (Number w8) (λ form. form < 2))
-    (RuleFails (Number w8) (CutNumber w8) (λ form. form < 2) faults.Shape)
+    (RuleFails (Number w8) (CutNumber w8) (λ form. form < 2) (λ form. faults.Shape))
 unfolding form_at
-form_lawful = ruled_lawful (number_at w8) (λ form. ltb form 2) (λ form. form < 2) faults.Shape
+form_lawful = ruled_lawful (number_at w8) (λ form. ltb form 2) (λ form. form < 2) (λ bytes form. faults.Shape)
     (λ form. below_decides form 2) (number_lawful w8 wide8)
 
 count_lawful : Lawful count_at (Ruled (Number w32) (λ n. n < 2 ^ 31))
-    (RuleFails (Number w32) (CutNumber w32) (λ n. n < 2 ^ 31) faults.Shape)
+    (RuleFails (Number w32) (CutNumber w32) (λ n. n < 2 ^ 31) (λ n. faults.Shape))
 unfolding count_at
-count_lawful = ruled_lawful (number_at w32) (λ n. ltb n 2147483648) (λ n. n < 2 ^ 31) faults.Shape
+count_lawful = ruled_lawful (number_at w32) (λ n. ltb n 2147483648) (λ n. n < 2 ^ 31) (λ bytes n. faults.Shape)
     (λ n. below_decides n 2147483648) (number_lawful w32 wide32)
 
 -- ---- names
@@ -239,7 +243,7 @@ module _ (family : Family) (fits : IsFamily family) where
   unfolding class_at
   class_lawful form = made_lawful (IsClass family form) (NamesClass family form) name_at
       (λ bytes. class_for family form)
-      faults.Shape name_lawful (λ bytes. class_makes form)
+      (λ bytes. faults.Shape) name_lawful (λ bytes. class_makes form)
 
 -- ---- slots
 

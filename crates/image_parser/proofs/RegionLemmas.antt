@@ -1,16 +1,16 @@
 -- What a lawful reader answers, unless memory runs out.
 use Rattle.std.proofs.Common.{◌≡◌, ℕ, ◌⊎◌, List, ◌++◌, Result, Ok, Err, refl, ap, subst, ◌∙◌, inl, inr}
 use Rattle.std.specs.Prelude.{IfOk, IfErr}
+use Rattle.classfile.specs.Faults.{IsBytes}
+use Rattle.classfile.proofs.Lawful.{Lawful}
 use Rattle.loading.specs.Families.{Family, IsFamily}
 use Rattle.image_format.specs.declared.region.ImageRegion.{ImageRegion}
 use Rattle.image_parser.specs.declared.fault.RegionFault.{RegionFault}
 use Rattle.image_parser.specs.declared.fault.RegionFault.TheVariants as faults
-use Rattle.image_parser.specs.FirstFailing.{IsBytes}
 use Rattle.image_parser.specs.RegionFaults.{IsRegion, RegionFails}
 use Rattle.image_parser.specs.Regions.{Begins, IsFault, ExactlyOne}
 use Rattle.image_parser.specs.reading.Results.{Gives, Fails}
 use Rattle.image_parser.specs.reading.Objects.{region_at}
-use Rattle.image_parser.proofs.Lawful.{Lawful}
 use Rattle.image_parser.proofs.ObjectLawful.{region_lawful}
 
 begins : {X : Type 0} (r : List ℕ → Result (X × List ℕ) RegionFault) (S : X → List ℕ → Type 0)

@@ -9,6 +9,12 @@ use Rattle.std.proofs.lemmas.List.Elements.{All-nil, All-cons, All-tail}
 use Rattle.std.proofs.lemmas.Int.{of_z-to_z}
 use mir.ValLaws.{to_z-of_z, of_z_fits, to_z-Fits}
 use Rattle.classfile.specs.Spelling.{u1, u2, u4}
+use Rattle.classfile.specs.Faults.{Either, Number}
+use Rattle.classfile.specs.FirstFault.{Ruled}
+use Rattle.classfile.specs.reading.Numbers.{◌>>=◌}
+use Rattle.classfile.proofs.Lawful.{Lawful, Both, Is, Mapped, wide8, wide16, wide32, pure_lawful, restated, then_lawful}
+use Rattle.classfile.proofs.Lawful.{map_lawful}
+use Rattle.classfile.proofs.RuleLawful.{Refuses, append_equal, kept_lawful, guarded_lawful}
 use Rattle.program.specs.declared.runtime_constant.FieldKind.{FieldKind}
 use Rattle.program.specs.declared.runtime_constant.FieldKind.TheVariants as kinds
 use Rattle.image_format.specs.declared.value.ImageValue.{ImageValue}
@@ -18,15 +24,13 @@ use Rattle.image_format.specs.Texts.{u8, units_text, value_text}
 use Rattle.image_parser.specs.declared.fault.RegionFault.TheVariants as faults
 use Rattle.image_parser.specs.declared.tag.Tag.{Tag}
 use Rattle.image_parser.specs.declared.tag.Tag.TheVariants as tags
-use Rattle.image_parser.specs.FirstFailing.{Either, Number, Ruled, times}
+use Rattle.image_parser.specs.FirstFailing.{times}
 use Rattle.image_parser.specs.Tags.{tag_of, may_have, is_int, is_long, is_reference}
 use Rattle.image_parser.specs.RegionFaults.{CutNumber, BodyFails, TaggedFails, ValueFails, IsValue, UnitsFail}
-use Rattle.image_parser.specs.reading.Results.{◌>>=◌, number_at}
+use Rattle.image_parser.specs.reading.Results.{number_at}
 use Rattle.image_parser.specs.reading.Values.{unit_at, units_at, counted_units_at, int_of_bits, long_of_bits, int_at}
 use Rattle.image_parser.specs.reading.Values.{text_at, reference_at, body_at, tagged_at, value_at}
-use Rattle.image_parser.proofs.Lawful.{Lawful, Both, Is, Mapped, wide8, wide16, wide32, wide64, number_lawful}
-use Rattle.image_parser.proofs.Lawful.{pure_lawful, restated, then_lawful, map_lawful}
-use Rattle.image_parser.proofs.RuleLawful.{Refuses, append_equal, kept_lawful, guarded_lawful}
+use Rattle.image_parser.proofs.NumberLawful.{wide64, number_lawful}
 use Rattle.image_parser.proofs.EachLawful.{AllSpelled, each_lawful}
 
 pub refuses_not : (b : Bool) → Refuses (not b) (b ≡ true)

@@ -10,11 +10,11 @@ use Rattle.classfile.specs.ClassFile.{ClassFile}
 use Rattle.classfile.specs.FirstFault.{FirstFault}
 use Rattle.classfile.specs.Spelling.{u4}
 use Rattle.classfile.specs.Text.{class_text}
+use Rattle.classfile.specs.Faults.{Either, Number}
 use Rattle.loading.specs.Names.{name_of, Precedes}
 use Rattle.image_format.specs.Texts.{file_text}
 use Rattle.image_parser.specs.declared.fault.FilesFault.{FilesFault}
 use Rattle.image_parser.specs.declared.fault.FilesFault.TheVariants as faults
-use Rattle.image_parser.specs.FirstFailing.{Either, Number}
 
 -- ---- one class file
 

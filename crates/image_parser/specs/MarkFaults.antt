@@ -2,6 +2,7 @@
 use Rattle.std.specs.Prelude.{◌≡◌, ℕ, zero, suc, ◌+◌, List, [], ◌∷◌, length, Option, Some, None, Result, Ok, Err}
 use Rattle.std.specs.List.{AllZip, flat_map}
 use Rattle.std.specs.Int.{w8}
+use Rattle.classfile.specs.Faults.{Either, Number}
 use Rattle.loading.specs.Families.{Family}
 use Rattle.image_format.specs.declared.region.ImageRegion.{ImageRegion}
 use Rattle.image_format.specs.Shapes.{HasShape}
@@ -10,7 +11,7 @@ use Rattle.image_parser.specs.declared.fault.RegionFault.{RegionFault}
 use Rattle.image_parser.specs.declared.fault.RegionFault.TheVariants as faults
 use Rattle.image_parser.specs.declared.fault.MarksFault.{MarksFault}
 use Rattle.image_parser.specs.declared.fault.MarksFault.TheVariants as marks
-use Rattle.image_parser.specs.FirstFailing.{Either, Number, EachFails}
+use Rattle.image_parser.specs.FirstFailing.{EachFails}
 use Rattle.image_parser.specs.RegionFaults.{CutNumber, RegionFails}
 use Rattle.image_parser.specs.Inside.{inside}
 

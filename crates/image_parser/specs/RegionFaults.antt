@@ -2,6 +2,8 @@
 use Rattle.std.specs.Prelude.{◌≡◌, ℕ, ◌<◌, ◌^◌, true, List, length, Option, Some, None}
 use Rattle.std.specs.List.{AllZip, flat_map}
 use Rattle.std.specs.Int.{Width, w8, w16, w32, w64, byte_len, cast_signed}
+use Rattle.classfile.specs.Faults.{Either, Number}
+use Rattle.classfile.specs.FirstFault.{BreaksOr, Ruled, RuleFails}
 use Rattle.built_in.specs.declared.class_id.ClassId.{ClassId}
 use Rattle.built_in.specs.declared.class_id.ClassId.TheVariants as classes
 use Rattle.loading.specs.Families.{Family}
@@ -21,7 +23,7 @@ use Rattle.image_parser.specs.declared.fault.RegionFault.{RegionFault}
 use Rattle.image_parser.specs.declared.fault.RegionFault.TheVariants as faults
 use Rattle.image_parser.specs.declared.tag.Tag.{Tag}
 use Rattle.image_parser.specs.declared.tag.Tag.TheVariants as tags
-use Rattle.image_parser.specs.FirstFailing.{Either, BreaksOr, Ruled, RuleFails, Number, EachFails, times}
+use Rattle.image_parser.specs.FirstFailing.{EachFails, times}
 use Rattle.image_parser.specs.Tags.{tag_of, may_have}
 
 abbrev pub Cut : ℕ → List ℕ → RegionFault → Type 0
@@ -43,7 +45,8 @@ UnitsFail count = EachFails IsUnit (λ (one : Unit {0}). CutNumber w16) (times c
 abbrev pub BodyFails : FieldKind → Tag → List ℕ → RegionFault → Type 0
 BodyFails kind tags.Null = λ bytes fault. ⊥
 BodyFails kind tags.Int =
-    RuleFails (Number w32) (CutNumber w32) (λ bits. is_in_range kind (cast_signed w32 bits) ≡ true) faults.Shape
+    RuleFails (Number w32) (CutNumber w32) (λ bits. is_in_range kind (cast_signed w32 bits) ≡ true)
+    (λ bits. faults.Shape)
 BodyFails kind tags.Long = CutNumber w64
 BodyFails kind tags.Text = Either (Number w16) (CutNumber w16) UnitsFail
 BodyFails kind tags.Object = Either (Number w32) (CutNumber w32) (λ class. CutNumber w32)
@@ -111,12 +114,12 @@ pub record IsClass (family : Family) (form : ℕ) (class : ImageClass) (text : L
   pub spelled : text ≡ named_text (name_of_class family class)
 
 abbrev pub ClassFails : Family → ℕ → List ℕ → RegionFault → Type 0
-ClassFails family form = RuleFails IsName NameFails (NamesClass family form) faults.Shape
+ClassFails family form = RuleFails IsName NameFails (NamesClass family form) (λ name. faults.Shape)
 
 -- the count of the elements of an array, and these
 abbrev pub ArrayFails : FieldKind → List ℕ → RegionFault → Type 0
 ArrayFails kind = Either (Ruled (Number w32) (λ n. n < 2 ^ 31))
-    (RuleFails (Number w32) (CutNumber w32) (λ n. n < 2 ^ 31) faults.Shape)
+    (RuleFails (Number w32) (CutNumber w32) (λ n. n < 2 ^ 31) (λ n. faults.Shape))
     (ElementsFail kind)
 
 abbrev pub KnownSlotsFail : Family → ClassId → List ℕ → RegionFault → Type 0
@@ -132,7 +135,7 @@ SlotsFail family (image.UnknownArray dimensions name) = ArrayFails kinds.Referen
 -- the form, which is 0 or 1, the class, and its slots
 abbrev pub ObjectFails : Family → List ℕ → RegionFault → Type 0
 ObjectFails family = Either (Ruled (Number w8) (λ form. form < 2))
-    (RuleFails (Number w8) (CutNumber w8) (λ form. form < 2) faults.Shape)
+    (RuleFails (Number w8) (CutNumber w8) (λ form. form < 2) (λ form. faults.Shape))
     (λ form. Either (IsClass family form) (ClassFails family form) (SlotsFail family))
 
 abbrev pub IsObject : Family → ImageObject → List ℕ → Type 0

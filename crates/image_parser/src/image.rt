@@ -2,13 +2,13 @@
 
 ghost use Rattle.std.specs.Prelude.{◌≡◌, ◌≤◌, ◌⊎◌, List, Option, ℕ, length, take, drop, IfOk, IfErr, MatchResult};
 ghost use Rattle.std.specs.Int.{w32, from_be_bytes};
+ghost use Rattle.classfile.specs.Faults.{IsBytes};
 ghost use Rattle.loading.specs.Families.{Family as Classes};
 ghost use Rattle.program.specs.Programs.{HasOwnStrings, IsProgram};
 ghost use Rattle.image_format.specs.declared.region.ImageRegion.{ImageRegion as Held};
 ghost use Rattle.image_format.specs.Images.{ImageText};
 ghost use Rattle.image_parser.specs.declared.image_fault.ImageFault.{ImageFault as Fault};
 ghost use Rattle.image_parser.specs.declared.image_fault.ImageFault.TheVariants.{Memory};
-ghost use Rattle.image_parser.specs.FirstFailing.{IsBytes};
 ghost use Rattle.image_parser.specs.ImageFaults.{HasFiles, IsLinked, PartsText, PartsFail, IsImage, ImageFails};
 ghost use Rattle.image_parser.specs.ImageFaults.{Answers};
 ghost use Rattle.image_parser.specs.TextOrFault.{TextOrFault};

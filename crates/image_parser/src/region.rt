@@ -1,10 +1,10 @@
 //! Regions.
 
 ghost use Rattle.std.specs.Prelude.{◌≡◌, ◌++◌, ℕ, List, Ok, Err, IfOk, IfErr};
+ghost use Rattle.classfile.specs.Faults.{IsBytes};
 ghost use Rattle.loading.specs.Families.{Family as Classes, IsFamily};
 ghost use Rattle.image_format.specs.declared.region.ImageRegion.{ImageRegion as Held};
 ghost use Rattle.image_parser.specs.declared.fault.RegionFault.{RegionFault as Fault};
-ghost use Rattle.image_parser.specs.FirstFailing.{IsBytes};
 ghost use Rattle.image_parser.specs.RegionFaults.{IsRegion, RegionFails};
 ghost use Rattle.image_parser.specs.Regions.{Begins, IsFault, ExactlyOne};
 ghost use Rattle.image_parser.specs.reading.Results.{Gives};

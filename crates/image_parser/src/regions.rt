@@ -2,11 +2,11 @@
 
 ghost use Rattle.std.specs.Prelude.{◌≡◌, ◌≤◌, ◌⊎◌, [], ℕ, List, Option, Ok, Err, length, IfOk, IfErr};
 ghost use Rattle.std.specs.Bool.{Decides};
+ghost use Rattle.classfile.specs.Faults.{IsBytes};
 ghost use Rattle.loading.specs.Families.{Family as Classes, IsFamily};
 ghost use Rattle.image_format.specs.declared.region.ImageRegion.{ImageRegion as Held};
 ghost use Rattle.image_parser.specs.declared.fault.RegionsFault.{RegionsFault as Fault};
 ghost use Rattle.image_parser.specs.declared.fault.RegionsFault.TheVariants.{Memory};
-ghost use Rattle.image_parser.specs.FirstFailing.{IsBytes};
 ghost use Rattle.image_parser.specs.Regions.{Begins};
 ghost use Rattle.image_parser.specs.MarkFaults.{AreMarks};
 ghost use Rattle.image_parser.specs.AllRegions.{RegionsText, RegionsFail};

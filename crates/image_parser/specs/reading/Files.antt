@@ -7,13 +7,14 @@ use Rattle.std.specs.Ordering.{is_lt, nat_cmp}
 use Rattle.classfile.specs.declared.fault.ClassFault.{ClassFault}
 use Rattle.classfile.specs.ClassFile.{ClassFile}
 use Rattle.classfile.specs.reading.Class.{class_of}
+use Rattle.classfile.specs.reading.Numbers.{◌>>=◌}
 use Rattle.loading.specs.Names.{name_of}
 use Rattle.image_parser.specs.declared.fault.RegionFault.{RegionFault}
 use Rattle.image_parser.specs.declared.fault.RegionFault.TheVariants as parts
 use Rattle.image_parser.specs.declared.fault.FilesFault.{FilesFault}
 use Rattle.image_parser.specs.declared.fault.FilesFault.TheVariants as faults
 use Rattle.image_parser.specs.FileFaults.{of_class}
-use Rattle.image_parser.specs.reading.Results.{◌>>=◌, number_at, run_at}
+use Rattle.image_parser.specs.reading.Results.{number_at, run_at}
 
 -- a fault of a run of bytes among those of class files
 abbrev pub of_run : RegionFault → FilesFault

@@ -1,6 +1,7 @@
 -- Readers of marks.
 use Rattle.std.specs.Prelude.{ℕ, zero, suc, List, [], length, Option, Some, None, Result, Ok, Err}
 use Rattle.std.specs.Int.{w8}
+use Rattle.classfile.specs.reading.Numbers.{◌>>=◌}
 use Rattle.loading.specs.Families.{Family}
 use Rattle.image_format.specs.declared.region.ImageRegion.{ImageRegion}
 use Rattle.image_parser.specs.declared.fault.RegionFault.{RegionFault}
@@ -8,7 +9,7 @@ use Rattle.image_parser.specs.declared.fault.RegionFault.TheVariants as faults
 use Rattle.image_parser.specs.declared.fault.MarksFault.{MarksFault}
 use Rattle.image_parser.specs.Inside.{inside}
 use Rattle.image_parser.specs.MarkFaults.{numbers}
-use Rattle.image_parser.specs.reading.Results.{◌>>=◌, number_at, each_at}
+use Rattle.image_parser.specs.reading.Results.{number_at, each_at}
 use Rattle.image_parser.specs.reading.Objects.{region_at}
 
 abbrev pub Mark : Type 0

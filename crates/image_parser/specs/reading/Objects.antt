@@ -2,6 +2,7 @@
 use Rattle.std.specs.Prelude.{ℕ, Bool, ◌&&◌, nat_lt, nat_eq, List, [], Option, Some, None, Result, Ok, Err}
 use Rattle.std.specs.Prelude.{cond}
 use Rattle.std.specs.Int.{w8, w16, w32}
+use Rattle.classfile.specs.reading.Numbers.{◌>>=◌}
 use Rattle.built_in.specs.declared.class_id.ClassId.{ClassId}
 use Rattle.built_in.specs.declared.class_id.ClassId.TheVariants as classes
 use Rattle.loading.specs.Families.{Family}
@@ -18,7 +19,7 @@ use Rattle.image_format.specs.Shapes.{has_objects, has_values}
 use Rattle.image_parser.specs.declared.fault.RegionFault.{RegionFault}
 use Rattle.image_parser.specs.declared.fault.RegionFault.TheVariants as faults
 use Rattle.image_parser.specs.FirstFailing.{times}
-use Rattle.image_parser.specs.reading.Results.{◌>>=◌, number_at, run_at, each_at}
+use Rattle.image_parser.specs.reading.Results.{number_at, run_at, each_at}
 use Rattle.image_parser.specs.reading.Values.{value_at, element_at}
 use Rattle.image_parser.specs.reading.ClassNames.{class_of}
 use Rattle.image_parser.specs.reading.Unknown.{unknown_of}

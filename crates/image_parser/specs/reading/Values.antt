@@ -1,6 +1,7 @@
 -- Readers of values and elements.
 use Rattle.std.specs.Prelude.{ℕ, pos, List, [], Option, Some, None, Result, Ok, Err, cond, not}
 use Rattle.std.specs.Int.{w8, w16, w32, w64, cast_signed}
+use Rattle.classfile.specs.reading.Numbers.{◌>>=◌}
 use Rattle.program.specs.declared.runtime_constant.FieldKind.{FieldKind}
 use Rattle.program.specs.declared.runtime_constant.FieldKind.TheVariants as kinds
 use Rattle.image_format.specs.declared.value.ImageValue.{ImageValue}
@@ -12,7 +13,7 @@ use Rattle.image_parser.specs.declared.tag.Tag.{Tag}
 use Rattle.image_parser.specs.declared.tag.Tag.TheVariants as tags
 use Rattle.image_parser.specs.FirstFailing.{times}
 use Rattle.image_parser.specs.Tags.{tag_of, may_have}
-use Rattle.image_parser.specs.reading.Results.{◌>>=◌, number_at, each_at}
+use Rattle.image_parser.specs.reading.Results.{number_at, each_at}
 
 abbrev pub Reader : Type 0
 Reader = List ℕ → Result (ImageValue × List ℕ) RegionFault

@@ -1,5 +1,5 @@
 use Rattle.std.proofs.Common.{◌<◌, ◌^◌, arith}
-use Rattle.image_parser.specs.FirstFailing.{IsBytes}
+use Rattle.classfile.specs.Faults.{IsBytes}
 use Rattle.image_parser.proofs.ImageLemmas.{counted, has_files, files_fail}
 use Rattle.image_parser.proofs.image.of_parts.Goals as goal
 

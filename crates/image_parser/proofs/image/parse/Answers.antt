@@ -1,6 +1,6 @@
 use Rattle.std.proofs.Common.{arith}
+use Rattle.classfile.specs.Faults.{IsBytes}
 use Rattle.image_parser.specs.declared.image.Parsed.{Parsed}
-use Rattle.image_parser.specs.FirstFailing.{IsBytes}
 use Rattle.image_parser.proofs.ImageLaw.{only_image, only_image_fault}
 use Rattle.image_parser.proofs.image.parse.Goals as goal
 
