@@ -87,11 +87,7 @@ pub(crate) struct LazyStart {
 }
 
 /// The lazy start of the program of class files.
-fn lazy_start(
-    alloc: Global,
-    files: &[Vec<u8>],
-    entries: &[ClassName],
-) -> Result<LazyStart, Refusal>
+fn lazy_start(alloc: Global, files: &[Vec<u8>], entries: &[ClassName]) -> Result<LazyStart, Refusal>
     ensures program { IfOk result (λ start. IsProgramOf (texts_of files.now) start.program) }
     ensures start { IfOk result (λ start. IsStart start.program entries.now (world_of start.world)) }
     ensures refusal { IfErr result
