@@ -440,6 +440,111 @@ def virtual_calls(count):
             for number in range(count)]
 
 
+def number_of(value):
+    """The instruction that pushes a number of 16 bits."""
+    return bytes([17]) + struct.pack(">h", value)
+
+
+def class_with(name, fields, methods, above=OBJECT, flags=0x21):
+    """A class with fields (flags, name, descriptor) and methods (flags, name, descriptor, what makes its code)."""
+    def members(pool):
+        made = [member(flags, pool.text(field), pool.text(kind)) for flags, field, kind in fields]
+        return made, [method(pool, flags, other, kind, code(pool)) for flags, other, kind, code in methods]
+    return class_file(name, above, (), flags, members)
+
+
+def counting(step, rounds):
+    """A loop over local variable 0, from 0, of a step so many times; `rounds` pushes how many."""
+    head = bytes([26]) + rounds  # iload_0
+    test = bytes([162]) + struct.pack(">h", 9 + len(step))  # if_icmpge, past the end
+    back = bytes([132, 0, 1, 167]) + struct.pack(">h", -(len(head) + 6 + len(step)))  # iinc, goto
+    return bytes([3, 59]) + head + test + step + back
+
+
+def routes(name, size):
+    """Two tables of so many numbers, filled by a loop."""
+    def code(pool):
+        made = b"".join(number_of(size) + bytes([188, 10]) + instruction(pool, 179, name, field, "[I")
+                        for field in ("keys", "values"))
+        step = (instruction(pool, 178, name, "keys", "[I") + bytes([26, 26]) + number_of(31) + bytes([104, 79])
+                + instruction(pool, 178, name, "values", "[I") + bytes([26, 26, 79]))
+        return made + counting(step, number_of(size)) + RETURN
+    return class_with(name, [(0x18, "keys", "[I"), (0x18, "values", "[I")], [(0x8, "<clinit>", "()V", code)])
+
+
+def enum(name, size):
+    """So many constants, and the array of all."""
+    own = "L%s;" % name
+
+    def made(pool):
+        above = instruction(pool, 183, "java/lang/Enum", "<init>", "(Ljava/lang/String;I)V")
+        return bytes([42, 43, 28]) + above + RETURN
+
+    def code(pool):
+        body = b""
+        for number in range(size):
+            text = pool.add(struct.pack(">BH", 8, pool.text("CONSTANT%d" % number)))
+            body += bytes([187]) + struct.pack(">H", pool.named(7, name)) + bytes([89, 19]) + struct.pack(">H", text)
+            body += number_of(number) + instruction(pool, 183, name, "<init>", "(Ljava/lang/String;I)V")
+            body += instruction(pool, 179, name, "CONSTANT%d" % number, own)
+        body += number_of(size) + bytes([189]) + struct.pack(">H", pool.named(7, name))
+        for number in range(size):
+            body += (bytes([89]) + number_of(number) + instruction(pool, 178, name, "CONSTANT%d" % number, own)
+                     + bytes([83]))
+        return body + instruction(pool, 179, name, "$VALUES", "[" + own) + RETURN
+    fields = [(0x4019, "CONSTANT%d" % number, own) for number in range(size)] + [(0x101A, "$VALUES", "[" + own)]
+    return class_with(name, fields, [(0x2, "<init>", "(Ljava/lang/String;I)V", made), (0x8, "<clinit>", "()V", code)],
+                      "java/lang/Enum", 0x4031)
+
+
+def constants(name, earlier):
+    """Eight numbers, the first of which is one more than that of another class, if one is named."""
+    def code(pool):
+        first = instruction(pool, 178, earlier, "k0", "I") if earlier else bytes([3])
+        body = first + bytes([4, 96]) + instruction(pool, 179, name, "k0", "I")
+        for number in range(1, 8):
+            before = instruction(pool, 178, name, "k%d" % (number - 1), "I")
+            body += before + number_of(number) + bytes([104]) + instruction(pool, 179, name, "k%d" % number, "I")
+        return body + RETURN
+    return class_with(name, [(0x18, "k%d" % number, "I") for number in range(8)], [(0x8, "<clinit>", "()V", code)])
+
+
+def logging(name):
+    """It prints."""
+    def code(pool):
+        return bytes([1, 4]) + instruction(pool, 182, "java/io/PrintStream", "println", "(I)V") + RETURN
+    return class_with(name, [], [(0x8, "<clinit>", "()V", code)])
+
+
+def service(count):
+    """Like a service: of twenty classes, one has tables of routes, four are enums, six have constants that rest on those
+    of earlier classes, one prints, and eight have no initializer."""
+    files = []
+    for number in range(count):
+        name = "org/example/service/C%05d" % number
+        kind = number % 20
+        if kind == 0:
+            files.append(routes(name, 200))
+        elif kind < 5:
+            files.append(enum(name, 4 + number % 7))
+        elif kind < 11:
+            before = number // 40 * 20 + kind
+            files.append(constants(name, "org/example/service/C%05d" % before if before < number else None))
+        elif kind == 11:
+            files.append(logging(name))
+        else:
+            files.append(small_class(number, OBJECT, []))
+    return files
+
+
+def long_initializers(count):
+    """So many classes, the initializer of each of which runs a million instructions."""
+    def code(pool):
+        times = pool.add(struct.pack(">Bi", 3, 166666))
+        return counting(bytes([0]), bytes([19]) + struct.pack(">H", times)) + RETURN
+    return [class_with("C%05d" % number, [], [(0x8, "<clinit>", "()V", code)]) for number in range(count)]
+
+
 def deep_names(count):
     """Classes in one package 500 deep, so that their names of 1,005 bytes differ at their ends alone."""
     return [class_file("a/" * 500 + "%05d" % number) for number in range(count)]
@@ -456,7 +561,8 @@ KINDS = {kind.__name__: kind for kind in (small, chain, chain_of_references, int
                                          below_interfaces, many_below, own_methods_below, two_chains_below, wide_below,
                                          conflicts_below, initialized_on_top, many_on_top,
                                          alternating, long_orders, initializers, waves, apart, one_cycle,
-                                         refused_below, stopped_below, stopped_apart, virtual_calls, deep_names)}
+                                         refused_below, stopped_below, stopped_apart, virtual_calls, deep_names,
+                                         service, long_initializers)}
 
 
 def main():

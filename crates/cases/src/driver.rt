@@ -8,11 +8,19 @@
 use crate::repeated::repeated;
 use std::alloc::{AllocError, Global};
 use std::io::{self, Write};
+use std::sync::Wait;
+use std::thread::Threads;
 
 /// What the cases of a file are about.
 pub trait Subject {
     /// What is found when this is asked of what is given. Faults are answers too.
-    fn answer(&self, alloc: Global, given: &str, asked: &str) -> Result<String, AllocError>;
+    fn answer<R: Threads + Wait + Sync>(
+        &self,
+        rt: &R,
+        alloc: Global,
+        given: &str,
+        asked: &str,
+    ) -> Result<String, AllocError>;
 }
 
 /// How many questions there were, and how many had another answer than is wanted.
@@ -23,7 +31,8 @@ pub struct Tally {
 }
 
 /// Asks the questions of a file. Writes each that has another answer, and a line with the counts.
-pub fn run_cases<S: Subject, W: Write>(
+pub fn run_cases<R: Threads + Wait + Sync, S: Subject, W: Write>(
+    rt: &R,
     alloc: Global,
     out: &mut W,
     subject: &S,
@@ -33,7 +42,7 @@ pub fn run_cases<S: Subject, W: Write>(
     let mut tally = Tally::default();
     let (before, parts) = text.split_once("\n# ").unwrap_or((text, ""));
     for part in parts.split("\n# ") {
-        run_part(alloc, out, subject, name, before, part, &mut tally)?;
+        run_part(rt, alloc, out, subject, name, before, part, &mut tally)?;
     }
     let Tally { questions, others } = tally;
     writeln!(out, "{name}: {questions} questions, {others} otherwise")?;
@@ -41,7 +50,8 @@ pub fn run_cases<S: Subject, W: Write>(
 }
 
 /// Asks the questions of a part of a file, which begins with its heading.
-fn run_part<S: Subject, W: Write>(
+fn run_part<R: Threads + Wait + Sync, S: Subject, W: Write>(
+    rt: &R,
     alloc: Global,
     out: &mut W,
     subject: &S,
@@ -58,7 +68,7 @@ fn run_part<S: Subject, W: Write>(
         given: &given,
         lines,
     };
-    run_case(alloc, out, subject, case, tally)
+    run_case(rt, alloc, out, subject, case, tally)
 }
 
 /// A case: where it stands, what it gives, and its other lines.
@@ -71,7 +81,8 @@ struct Case<'a> {
 }
 
 /// Asks the questions of a case.
-fn run_case<S: Subject, W: Write>(
+fn run_case<R: Threads + Wait + Sync, S: Subject, W: Write>(
+    rt: &R,
     alloc: Global,
     out: &mut W,
     subject: &S,
@@ -81,7 +92,7 @@ fn run_case<S: Subject, W: Write>(
     for line in case.lines.lines() {
         if let Some((asked, wanted)) = line.split_once(" => ") {
             tally.questions = tally.questions.saturating_add(1);
-            if !ask(alloc, out, subject, case, asked, wanted)? {
+            if !ask(rt, alloc, out, subject, case, asked, wanted)? {
                 tally.others = tally.others.saturating_add(1);
             }
         }
@@ -90,7 +101,8 @@ fn run_case<S: Subject, W: Write>(
 }
 
 /// Asks a question, and answers whether the answer is as it is wanted.
-fn ask<S: Subject, W: Write>(
+fn ask<R: Threads + Wait + Sync, S: Subject, W: Write>(
+    rt: &R,
     alloc: Global,
     out: &mut W,
     subject: &S,
@@ -98,7 +110,7 @@ fn ask<S: Subject, W: Write>(
     asked: &str,
     wanted: &str,
 ) -> io::Result<bool> {
-    let Some(found) = found_otherwise(alloc, subject, case.given, asked, wanted)? else {
+    let Some(found) = found_otherwise(rt, alloc, subject, case.given, asked, wanted)? else {
         return Ok(true);
     };
     let Case { name, heading, .. } = case;
@@ -107,14 +119,15 @@ fn ask<S: Subject, W: Write>(
 }
 
 /// What is found, where it is not as it is wanted.
-fn found_otherwise<S: Subject>(
+fn found_otherwise<R: Threads + Wait + Sync, S: Subject>(
+    rt: &R,
     alloc: Global,
     subject: &S,
     given: &str,
     asked: &str,
     wanted: &str,
 ) -> Result<Option<String>, AllocError> {
-    let found = found(alloc, subject, given, asked)?;
+    let found = found(rt, alloc, subject, given, asked)?;
     let wanted = repeated(alloc, wanted, " ")?;
     if found.as_str() == wanted.as_str() {
         return Ok(None);
@@ -142,13 +155,14 @@ fn add_given(alloc: Global, given: &mut String, lines: &str) -> Result<(), Alloc
 }
 
 /// What is found, with the end of a line as `;`, and U+0000 and U+007F as a class file's text form has them.
-fn found<S: Subject>(
+fn found<R: Threads + Wait + Sync, S: Subject>(
+    rt: &R,
     alloc: Global,
     subject: &S,
     given: &str,
     asked: &str,
 ) -> Result<String, AllocError> {
-    let found = subject.answer(alloc, given, asked)?;
+    let found = subject.answer(rt, alloc, given, asked)?;
     let mut text = String::new(alloc);
     for character in found.chars() {
         match character {

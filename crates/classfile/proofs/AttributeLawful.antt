@@ -8,7 +8,7 @@ use Rattle.std.specs.Prelude.{IsSomeAnd}
 use Rattle.std.specs.Int.{w16, from_be_bytes}
 use Rattle.std.specs.List.{All, Contains, list_any}
 use Rattle.std.specs.Str.{bytes_eq}
-use Rattle.std.proofs.lemmas.Bool.{eqb-true}
+use Rattle.std.proofs.lemmas.Bool.{eqb-true, and_parts, or_cases, or_parts, cases_Bool}
 use Rattle.std.proofs.lemmas.List.Folds.{list_any_at, list_any_none}
 use Rattle.std.proofs.lemmas.Slice.Eq.{bytes_eq-Decides}
 use Rattle.classfile.specs.declared.fault.ClassFault.{ClassFault}
@@ -43,11 +43,10 @@ use Rattle.classfile.specs.FirstFault.{NotBoth}
 use Rattle.classfile.proofs.Lawful.{Lawful, IsBytes-back, wide16, bind_ok}
 use Rattle.classfile.proofs.RuleLawful.{Makes, good_ok, bad_ok, made_lawful}
 use Rattle.classfile.proofs.TableLawful.{table_lawful}
-use Rattle.classfile.proofs.BoolLemmas.{both_true, or_cases, both_false, true_or_false, and_false_second}
-use Rattle.classfile.proofs.BoolLemmas.{and_false_where}
 use Rattle.classfile.proofs.LookupTestsLemmas.{text_decides, within}
 use Rattle.classfile.proofs.CodeLawful.{frame_lawful, unread_is, frame_of_unread, whole_code_is, whole_code_again}
 use Rattle.classfile.proofs.MemoryLemmas.{whole_code_never}
+use Rattle.classfile.proofs.BoolLemmas.{and_false_second, and_false_where}
 
 -- ---- texts at indices
 
@@ -106,7 +105,7 @@ other_bytes a b e same = let hit : bytes_eq a b ≡ true = (bytes_eq-Decides a b
 
 unequal_bytes : (a b : List ℕ) → a ≢ b → bytes_eq a b ≡ false
 unequal_bytes a b other =
-    elim (true_or_false (bytes_eq a b)) [ inl hit ↦ absurd (other (equal_bytes a b hit)) | inr miss ↦ miss ]
+    elim (cases_Bool (bytes_eq a b)) [ inl hit ↦ absurd (other (equal_bytes a b hit)) | inr miss ↦ miss ]
 
 -- ---- at most one
 
@@ -114,7 +113,7 @@ pub none_passes : {X : Type 0} (p : X → Bool) (items : List X) → list_any p 
     → k < length items
     → p (get_or items k d) ≡ false
 none_passes p items e k d lt =
-    elim (true_or_false (p (get_or items k d))) [
+    elim (cases_Bool (p (get_or items k d))) [
       | inl hit ↦ let any = list_any_at p items k d lt hit in absurd cc
       | inr miss ↦ miss
     ]
@@ -127,7 +126,7 @@ single_if test earlier x none = λ k d lt hit. let miss = none_passes test earli
 none_if : (test : Attribute → Bool) (earlier : List Attribute) → All (λ e. test e ≡ true → true ≡ false) earlier
     → list_any test earlier ≡ false
 none_if test earlier single =
-    list_any_none test earlier (λ k d lt. elim (true_or_false (test (get_or earlier k d))) [
+    list_any_none test earlier (λ k d lt. elim (cases_Bool (test (get_or earlier k d))) [
       | inl hit ↦ let absurdly = single k d lt hit in
           absurd cc
       | inr miss ↦ miss
@@ -271,7 +270,7 @@ code_is pool at flags name earlier content attribute small fits short e =
     let make : Code → Result Attribute ClassFault = λ code. Ok (attributes.Code name code) in
     let b = bad_ok (has_no_body flags || list_any is_code earlier) (faults.Attribute at)
     (inside at (whole_code pool content) >>= make) attribute e in
-    let n = both_false (has_no_body flags) (list_any is_code earlier) b.0 in
+    let n = or_parts (has_no_body flags) (list_any is_code earlier) b.0 in
     let m = bind_ok (inside at (whole_code pool content)) make attribute b.1 in
     let c = whole_code_is pool content m.0 small fits short (inside_ok at (whole_code pool content) m.0 m.1) in
     record {
@@ -383,7 +382,7 @@ field_made : (pool : List Constant) (flags descriptor at : ℕ) (earlier : List 
     ≡ Ok attribute
     → IsAttributeText pool (owners.Field flags descriptor) earlier attribute text
 field_made pool flags descriptor at earlier name content text attribute fits frame t known true is e =
-    let hits = both_true (has_flag flags 8) (bytes_eq t constant_value_name) is in
+    let hits = and_parts (has_flag flags 8) (bytes_eq t constant_value_name) is in
     let is_named =
     known_text (λ t. t ≡ constant_value_name) pool name t known (equal_bytes t constant_value_name hits.1) in
     let v = value_is pool at descriptor name earlier content attribute fits e in

@@ -4,6 +4,7 @@ use Rattle.std.proofs.Common.{◌∙◌, arith, inl, inr}
 use Rattle.std.specs.Bool.{Decides}
 use Rattle.std.specs.Int.{w16, w32}
 use Rattle.std.proofs.lemmas.Bool.Decides.{Decides-eqb}
+use Rattle.std.proofs.lemmas.Bool.{and_parts, and_from}
 use Rattle.classfile.specs.declared.fault.ClassFault.{ClassFault}
 use Rattle.classfile.specs.declared.fault.ClassFault.TheVariants as faults
 use Rattle.classfile.specs.declared.constant.Constant.{Constant}
@@ -37,7 +38,6 @@ use Rattle.classfile.proofs.RuleLawful.{append_equal, ruled_lawful, whole_takes,
 use Rattle.classfile.proofs.RuleLawful.{whole_blamed}
 use Rattle.classfile.proofs.Lawful.{restated, then_lawful}
 use Rattle.classfile.proofs.TableLawful.{table_lawful}
-use Rattle.classfile.proofs.BoolLemmas.{both_true, and_true}
 use Rattle.classfile.proofs.LookupTestsLemmas.{class_decides, class_or_none_decides, plain_class_decides, within}
 use Rattle.classfile.proofs.PoolLawful.{pool_lawful}
 use Rattle.classfile.proofs.CodeLawful.{index_lawful, super_below}
@@ -88,8 +88,8 @@ two_lawful total =
 
 supported_decides : (v : ℕ × ℕ) → Decides (is_version v) (IsSupported v)
 supported_decides v = (
-  λ e. let b = both_true (eqb v.0 0) (eqb v.1 52) e in ((Decides-eqb v.0 0).0 b.0, (Decides-eqb v.1 52).0 b.1),
-  λ h. and_true (eqb v.0 0) (eqb v.1 52) ((Decides-eqb v.0 0).1 h.0) ((Decides-eqb v.1 52).1 h.1),
+  λ e. let b = and_parts (eqb v.0 0) (eqb v.1 52) e in ((Decides-eqb v.0 0).0 b.0, (Decides-eqb v.1 52).0 b.1),
+  λ h. and_from (eqb v.0 0) (eqb v.1 52) ((Decides-eqb v.0 0).1 h.0) ((Decides-eqb v.1 52).1 h.1),
 )
 
 version_lawful : (total : ℕ) → Lawful (version_at total) IsVersion (VersionFails total)

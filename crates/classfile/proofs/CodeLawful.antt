@@ -3,7 +3,7 @@ use Rattle.std.proofs.Common.{◌≡◌, ℕ, ◌<◌, ◌^◌, Bool, ◌&&◌, 
 use Rattle.std.proofs.Common.{arith, inl, inr}
 use Rattle.std.specs.Bool.{Decides}
 use Rattle.std.specs.Int.{w16, w32}
-use Rattle.std.proofs.lemmas.Bool.{ltb-true, leb-true, lt-ltb, le-leb}
+use Rattle.std.proofs.lemmas.Bool.{ltb-true, leb-true, lt-ltb, le-leb, and_parts, and_from}
 use Rattle.classfile.specs.declared.fault.ClassFault.{ClassFault}
 use Rattle.classfile.specs.declared.fault.ClassFault.TheVariants as faults
 use Rattle.classfile.specs.declared.constant.Constant.{Constant}
@@ -30,7 +30,6 @@ use Rattle.classfile.proofs.Lawful.{Lawful, Both, Mapped, wide16, wide32, number
 use Rattle.classfile.proofs.RuleLawful.{append_equal, ruled_lawful, whole_takes, whole_again}
 use Rattle.classfile.proofs.Lawful.{restated, then_lawful}
 use Rattle.classfile.proofs.TableLawful.{table_lawful}
-use Rattle.classfile.proofs.BoolLemmas.{both_true, and_true}
 use Rattle.classfile.proofs.LookupTestsLemmas.{utf8_decides, class_or_none_decides, within}
 
 -- ---- indices
@@ -255,10 +254,10 @@ handler_decides : (pool : List Constant) (n : ℕ) (h : ExceptionHandler)
     → Decides (is_handler pool n h) (IsHandler pool n h)
 handler_decides pool n h = (
   λ e.
-      let c = both_true (ltb h.start_pc h.end_pc && leb h.end_pc n && ltb h.handler_pc n)
+      let c = and_parts (ltb h.start_pc h.end_pc && leb h.end_pc n && ltb h.handler_pc n)
       (is_class_or_none pool h.catch_type) e in
-      let t = both_true (ltb h.start_pc h.end_pc && leb h.end_pc n) (ltb h.handler_pc n) c.0 in
-      let r = both_true (ltb h.start_pc h.end_pc) (leb h.end_pc n) t.0 in
+      let t = and_parts (ltb h.start_pc h.end_pc && leb h.end_pc n) (ltb h.handler_pc n) c.0 in
+      let r = and_parts (ltb h.start_pc h.end_pc) (leb h.end_pc n) t.0 in
       record {
         range = ltb-true _ _ r.0;
         range_end = leb-true _ _ r.1;
@@ -267,9 +266,9 @@ handler_decides pool n h = (
             (class_or_none_decides pool h.catch_type).0 c.1;
       },
   λ f.
-      let r = and_true (ltb h.start_pc h.end_pc) (leb h.end_pc n) (lt-ltb _ _ f.range) (le-leb _ _ f.range_end) in
-      let t = and_true (ltb h.start_pc h.end_pc && leb h.end_pc n) (ltb h.handler_pc n) r (lt-ltb _ _ f.target) in
-      and_true (ltb h.start_pc h.end_pc && leb h.end_pc n && ltb h.handler_pc n) (is_class_or_none pool h.catch_type) t
+      let r = and_from (ltb h.start_pc h.end_pc) (leb h.end_pc n) (lt-ltb _ _ f.range) (le-leb _ _ f.range_end) in
+      let t = and_from (ltb h.start_pc h.end_pc && leb h.end_pc n) (ltb h.handler_pc n) r (lt-ltb _ _ f.target) in
+      and_from (ltb h.start_pc h.end_pc && leb h.end_pc n && ltb h.handler_pc n) (is_class_or_none pool h.catch_type) t
       ((class_or_none_decides pool h.catch_type).1 f.type),
 )
 
@@ -333,8 +332,8 @@ IsLength n = (0 < n) × (n < 65536)
 
 length_decides : (n : ℕ) → Decides (is_code_length n) (IsLength n)
 length_decides n = (
-  λ e. let b = both_true (ltb 0 n) (ltb n 65536) e in (ltb-true _ _ b.0, ltb-true _ _ b.1),
-  λ h. and_true (ltb 0 n) (ltb n 65536) (lt-ltb _ _ h.0) (lt-ltb _ _ h.1),
+  λ e. let b = and_parts (ltb 0 n) (ltb n 65536) e in (ltb-true _ _ b.0, ltb-true _ _ b.1),
+  λ h. and_from (ltb 0 n) (ltb n 65536) (lt-ltb _ _ h.0) (lt-ltb _ _ h.1),
 )
 
 abbrev LengthFails : ℕ → List ℕ → ClassFault → Type 0

@@ -20,11 +20,11 @@ use Rattle.classfile.specs.reading.Constants.{one_at, two_at, utf8_at, constant_
 use Rattle.classfile.specs.Spelling.{u1, u2, u4, constant_text, Fits}
 use Rattle.classfile.specs.Faults.{Number, Run, CutNumber, TwoFail, Utf8Fails, BodyFails, TaggedFails, IsTagged}
 use Rattle.classfile.specs.Faults.{IsBytes}
-use Rattle.classfile.proofs.BoolLemmas.{cond_cases}
 use Rattle.classfile.proofs.Lawful.{ok_is, Lawful, Both, Mapped, IsWide, wide8, wide16, wide32, number_lawful}
 use Rattle.classfile.proofs.Lawful.{run_lawful, then_lawful}
 use Rattle.classfile.proofs.Lawful.{map_lawful, restated}
 use Rattle.classfile.proofs.UnitsLemmas.{modified_is, modified_passes}
+use Rattle.classfile.proofs.BoolLemmas.{cond_cases}
 
 abbrev One : Width → (ℕ → Constant) → Constant → List ℕ → Type 0
 One w make = Mapped make (Number w)

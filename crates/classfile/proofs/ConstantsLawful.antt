@@ -1,7 +1,7 @@
 -- The constants are lawful.
 use Rattle.std.proofs.Common.{◌≡◌, ℕ, zero, suc, ◌+◌, ◌-◌, ◌<◌, Bool, true, false, ◌&&◌, eqb, List, [], ◌∷◌, length, Ok}
 use Rattle.std.proofs.Common.{refl, subst, ◌∙◌, arith}
-use Rattle.std.proofs.lemmas.Bool.{eq-eqb, ne_eqb}
+use Rattle.std.proofs.lemmas.Bool.{eq-eqb, ne_eqb, and_right}
 use Rattle.classfile.specs.declared.fault.ClassFault.TheVariants as faults
 use Rattle.classfile.specs.declared.constant.Constant.{Constant}
 use Rattle.classfile.specs.declared.constant.Constant.TheVariants as constants
@@ -12,10 +12,10 @@ use Rattle.classfile.specs.reading.Constants.{tagged_at, constant_at, constants_
 use Rattle.classfile.specs.Spelling.{constant_text, AreConstants, constants_text}
 use Rattle.classfile.specs.Faults.{TaggedFails, IsTagged, IsConstant, ConstantFails, ConstantsFailFrom, IsConstantsText}
 use Rattle.classfile.specs.Faults.{ConstantsFail}
-use Rattle.classfile.proofs.BoolLemmas.{and_false, and_false_first}
 use Rattle.classfile.proofs.Lawful.{Lawful, Both, Mapped, Tested, Is, map_lawful, pure_lawful, restated, then_lawful}
 use Rattle.classfile.proofs.Lawful.{tested_lawful}
 use Rattle.classfile.proofs.ConstantLawful.{tagged_lawful}
+use Rattle.classfile.proofs.BoolLemmas.{and_false_first}
 
 constant_lawful : (after_wide is_last : Bool) (total index : ℕ)
     → Lawful (constant_at after_wide is_last total index) (IsConstant after_wide is_last)
@@ -88,7 +88,7 @@ last_fits : (n : ℕ) (count index : ℕ) (c : Constant) (cs : List Constant) �
     → AreConstants (is_wide c) cs → (is_wide c && eqb (index + 1) count) ≡ false
 last_fits n count index c [] len sum fit = rw fit refl
 last_fits n count index c (d ∷ cs) len sum fit =
-    and_false (is_wide c) (eqb (index + 1) count) (other_eqb (index + 1) count (omega (arith, len)))
+    and_right (is_wide c) (eqb (index + 1) count) (other_eqb (index + 1) count (omega (arith, len)))
 
 spelled_is_read : (n : ℕ) (after_wide : Bool) (count index : ℕ) (cs : List Constant) (text : List ℕ) → index + n ≡ count
     → SpelledConstants n after_wide cs text → AreRead n after_wide count index cs text

@@ -11,6 +11,7 @@ use Rattle.classfile.specs.declared.constant.Constant.{Constant}
 use Rattle.classfile.specs.declared.member.Member.{Member}
 use Rattle.std.specs.Prelude.{Result, Ok, Err, IfOk, if◌then◌else◌}
 use Rattle.std.specs.Int.{w16}
+use Rattle.std.proofs.lemmas.Bool.{and_parts}
 use Rattle.classfile.specs.declared.fault.ClassFault.{ClassFault}
 use Rattle.classfile.specs.declared.fault.ClassFault.TheVariants as faults
 use Rattle.classfile.specs.declared.attribute.Attribute.{Attribute}
@@ -24,7 +25,6 @@ use Rattle.classfile.specs.Members.{owner_of}
 use Rattle.classfile.specs.reading.Members.{lacks_code, member_of, member_body_at}
 use Rattle.classfile.specs.reading.Earlier.{Utf8Map, find_utf8, first_of, AreFirsts, Grows, is_first}
 use Rattle.classfile.specs.reading.Earlier.{has_firsts, was_asked, pair_cmp, FindsMembers}
-use Rattle.classfile.proofs.BoolLemmas.{both_true}
 use Rattle.classfile.proofs.EarlierUtf8Lemmas.{equal_numbers, same_first}
 
 -- ---- what was asked for stays so
@@ -38,7 +38,7 @@ first_stays old new index first (Some n) e asked grows = grows index n e ∙ sym
 member_stays : (old new : List (Option ℕ)) (m : Member) → was_asked old m ≡ true → Grows old new
     → (first_of new m.name ≡ first_of old m.name) × (first_of new m.descriptor ≡ first_of old m.descriptor)
 member_stays old new m asked grows =
-    let parts = both_true (is_some (first_of old m.name)) (is_some (first_of old m.descriptor)) asked in (
+    let parts = and_parts (is_some (first_of old m.name)) (is_some (first_of old m.descriptor)) asked in (
       first_stays old new m.name 0 (first_of old m.name) refl parts.0 grows,
       first_stays old new m.descriptor 0
           (first_of old m.descriptor) refl parts.1 grows,
@@ -49,7 +49,7 @@ pub asked_stays : (old new : List (Option ℕ)) (members : List Member) → Grow
     → list_all (was_asked new) members ≡ true
 asked_stays old new [] grows asked = refl
 asked_stays old new (m ∷ ms) grows asked =
-    let parts = both_true (was_asked old m) (list_all (was_asked old) ms) asked in
+    let parts = and_parts (was_asked old m) (list_all (was_asked old) ms) asked in
     let same = member_stays old new m parts.0 grows in
     let one : was_asked new m ≡ true = rw (same.0, same.1) parts.0 in
     let others : list_all (was_asked new) ms ≡ true = asked_stays old new ms grows parts.1 in
@@ -60,7 +60,7 @@ pub firsts_stay : (old new : List (Option ℕ)) (name descriptor : ℕ) (members
     → list_any (has_firsts old name descriptor) members ≡ list_any (has_firsts new name descriptor) members
 firsts_stay old new name descriptor [] grows asked = refl
 firsts_stay old new name descriptor (m ∷ ms) grows asked =
-    let parts = both_true (was_asked old m) (list_all (was_asked old) ms) asked in
+    let parts = and_parts (was_asked old m) (list_all (was_asked old) ms) asked in
     let same = member_stays old new m parts.0 grows in
     let one : has_firsts new name descriptor m ≡ has_firsts old name descriptor m = rw (same.0, same.1) refl in
     let others : list_any (has_firsts old name descriptor) ms
@@ -83,8 +83,8 @@ pub declared_by_firsts : (pool : List Constant) (firsts : List (Option ℕ)) (fi
 unfolding is_declared
 declared_by_firsts pool firsts find name descriptor a b [] kept asked en ed = refl
 declared_by_firsts pool firsts find name descriptor a b (m ∷ ms) kept asked en ed =
-    let parts = both_true (was_asked firsts m) (list_all (was_asked firsts) ms) asked in
-    let known = both_true (is_some (first_of firsts m.name)) (is_some (first_of firsts m.descriptor)) parts.0 in
+    let parts = and_parts (was_asked firsts m) (list_all (was_asked firsts) ms) asked in
+    let known = and_parts (is_some (first_of firsts m.name)) (is_some (first_of firsts m.descriptor)) parts.0 in
     let names : is_first a (first_of firsts m.name) ≡ same_utf8 pool m.name name =
     first_is_like pool firsts find m.name name a (first_of
     firsts m.name) kept refl known.0 en in

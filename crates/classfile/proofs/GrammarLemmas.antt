@@ -3,7 +3,7 @@ use Rattle.std.proofs.Common.{◌≡◌, ◌≢◌, ℕ, zero, suc, ◌+◌, ◌
 use Rattle.std.proofs.Common.{[], ◌∷◌, ◌++◌, replicate, refl, sym, ap, subst, ◌∙◌, append_assoc, add-one, arith, inl}
 use Rattle.std.proofs.Common.{inr}
 use Rattle.std.specs.List.{flat_map, All}
-use Rattle.std.proofs.lemmas.Bool.{eqb-true, ltb-true}
+use Rattle.std.proofs.lemmas.Bool.{eqb-true, ltb-true, or_cases}
 use Rattle.std.proofs.lemmas.List.Elements.{All-nil, All-cons}
 use Rattle.classfile.specs.declared.descriptor.Place.{Place}
 use Rattle.classfile.specs.declared.descriptor.Place.TheVariants as places
@@ -11,7 +11,6 @@ use Rattle.classfile.specs.reading.Descriptors.{is_base, step, scan, is_field, i
 use Rattle.classfile.specs.reading.Descriptors.{is_class_name}
 use Rattle.classfile.specs.Grammar.{IsBaseType, IsElementType, IsFieldDescriptor, IsReturnDescriptor}
 use Rattle.classfile.specs.Grammar.{IsMethodDescriptor, IsClassName}
-use Rattle.classfile.proofs.BoolLemmas.{or_cases}
 
 -- the parameters, the bracket after them, and what is returned
 record Ends (text : List ℕ) : Type 0 where

@@ -4,7 +4,7 @@ use Rattle.std.proofs.Common.{slice_get, is_some}
 use Rattle.std.proofs.Common.{refl, ap, inl, inr}
 use Rattle.std.specs.Bool.{Decides}
 use Rattle.std.specs.Prelude.{IsSomeAnd}
-use Rattle.std.proofs.lemmas.Bool.{eqb-true, eq-eqb, ne_eqb}
+use Rattle.std.proofs.lemmas.Bool.{eqb-true, eq-eqb, ne_eqb, or_cases, or_right, not-true}
 use Rattle.std.proofs.lemmas.Option.{slice_get_within}
 use Rattle.classfile.specs.declared.constant.Constant.{Constant}
 use Rattle.classfile.specs.declared.constant.Constant.TheVariants as constants
@@ -15,7 +15,6 @@ use Rattle.classfile.specs.reading.LookupTests.{is_member}
 use Rattle.classfile.specs.Pool.{IsIndexOf, IsUtf8, IsUtf8Where, IsClass, IsClassNamed, IsNameAndType, IsMemberref}
 use Rattle.classfile.specs.Class.{IsNoArray}
 use Rattle.classfile.specs.FirstFault.{IsThisClass, IsSuperClass}
-use Rattle.classfile.proofs.BoolLemmas.{or_cases, or_true, not_true}
 
 -- ---- what a test that passes says
 
@@ -63,7 +62,7 @@ no_array_is : (name : List ℕ) → is_no_array name ≡ true → IsNoArray name
 no_array_is [] e rest h = cc
 no_array_is (b ∷ bs) e rest h =
     let first : b ≡ 91 = cc in
-    let no : eqb b 91 ≡ false = not_true (eqb b 91) e in
+    let no : eqb b 91 ≡ false = not-true (eqb b 91) e in
     let yes' : eqb b 91 ≡ true = rw first refl in
     cc
 
@@ -137,7 +136,7 @@ class_or_none_by_rule : (pool : List Constant) (index : ℕ) → IsSuperClass po
     → (eqb index 0 || is_class pool index) ≡ true
 class_or_none_by_rule pool index (inl none) = rw (eq-eqb index 0 none) refl
 class_or_none_by_rule pool index (inr class) =
-    or_true (eqb index 0) (is_class pool index) ((class_decides pool index).1 class)
+    or_right (eqb index 0) (is_class pool index) ((class_decides pool index).1 class)
 
 pub class_or_none_decides : (pool : List Constant) (index : ℕ)
     → Decides (is_class_or_none pool index) (IsSuperClass pool index)

@@ -7,6 +7,7 @@ use Rattle.std.specs.Int.{w16}
 use Rattle.std.specs.List.{list_any}
 use Rattle.std.proofs.lemmas.List.Folds.{Any-from_list_any, list_any-from_Any, list_any_none}
 use Rattle.std.proofs.lemmas.Slice.Eq.{bytes_eq-Decides}
+use Rattle.std.proofs.lemmas.Bool.{and_parts, and_from, cases_Bool}
 use Rattle.classfile.specs.declared.fault.ClassFault.TheVariants as faults
 use Rattle.classfile.specs.declared.constant.Constant.{Constant}
 use Rattle.classfile.specs.declared.attribute.Attribute.{Attribute}
@@ -36,7 +37,6 @@ use Rattle.classfile.proofs.Lawful.{Lawful, Both, Mapped, wide16, number_lawful}
 use Rattle.classfile.proofs.RuleLawful.{Refuses, append_equal, ruled_lawful, kept_lawful, guarded_lawful}
 use Rattle.classfile.proofs.Lawful.{restated, then_lawful}
 use Rattle.classfile.proofs.TableLawful.{table_lawful}
-use Rattle.classfile.proofs.BoolLemmas.{both_true, and_true, true_or_false}
 use Rattle.classfile.proofs.LookupTestsLemmas.{text_decides, within}
 use Rattle.classfile.proofs.ScanLemmas.{field_decides, method_decides}
 use Rattle.classfile.proofs.CodeLawful.{utf8_index_lawful}
@@ -66,9 +66,9 @@ like_decides : (pool : List Constant) (name descriptor : ℕ) (m : Member)
     → Decides (is_like pool name descriptor m) (IsLike pool name descriptor m)
 like_decides pool name descriptor m = (
   λ e.
-      let b = both_true (same_utf8 pool m.name name) (same_utf8 pool m.descriptor descriptor) e in
+      let b = and_parts (same_utf8 pool m.name name) (same_utf8 pool m.descriptor descriptor) e in
       ((same_decides pool m.name name).0 b.0, (same_decides pool m.descriptor descriptor).0 b.1),
-  λ h. and_true (same_utf8 pool m.name name) (same_utf8 pool m.descriptor descriptor)
+  λ h. and_from (same_utf8 pool m.name name) (same_utf8 pool m.descriptor descriptor)
       ((same_decides pool m.name name).1 h.0)
       ((same_decides pool m.descriptor descriptor).1 h.1),
 )
@@ -82,7 +82,7 @@ declared_refuses pool name descriptor earlier =
           let hit = (like_decides pool name descriptor (get_or earlier k d)).1 same in
           let miss = none_passes test earlier none k d lt in
           absurd cc,
-      λ new. list_any_none test earlier (λ k d lt. elim (true_or_false (test (get_or earlier k d))) [
+      λ new. list_any_none test earlier (λ k d lt. elim (cases_Bool (test (get_or earlier k d))) [
         | inl hit ↦ absurd (new k d lt ((like_decides pool name descriptor (get_or earlier k d)).0 hit))
         | inr miss ↦ miss
       ]),

@@ -2,8 +2,8 @@
 use Rattle.std.proofs.Common.{◌≡◌, ℕ, ◌-◌, ◌≤◌, ◌<◌, true, false, ◌&&◌, List, [], ◌∷◌, length, get_or, take, drop, refl}
 use Rattle.std.proofs.Common.{arith}
 use Rattle.std.proofs.lemmas.List.{take_all, length-drop}
+use Rattle.std.proofs.lemmas.Bool.{and_parts}
 use Rattle.classfile.specs.reading.Modified.{is_one, is_two, is_three, all_one, is_modified}
-use Rattle.classfile.proofs.BoolLemmas.{both_true}
 
 pub all_after : (n : ℕ) (xs : List ℕ) → take (length xs - n) (drop n xs) ≡ drop n xs
 all_after n xs = take_all (length xs - n) (drop n xs) (omega (arith, length-drop n xs))
@@ -40,10 +40,10 @@ three_step (a ∷ b ∷ c ∷ rest) fits one two three = rw (← one, ← two, �
 pub of_plain : (bytes : List ℕ) → all_one bytes ≡ true → is_modified bytes ≡ true
 unfolding is_modified
 of_plain [] e = refl
-of_plain (a ∷ []) e = (both_true (is_one a) true e).0
+of_plain (a ∷ []) e = (and_parts (is_one a) true e).0
 of_plain (a ∷ b ∷ []) e =
-    let h = both_true (is_one a) (is_one b && true) e in
-    rw h.0 (both_true (is_one b) true h.1).0
+    let h = and_parts (is_one a) (is_one b && true) e in
+    rw h.0 (and_parts (is_one b) true h.1).0
 of_plain (a ∷ b ∷ c ∷ rest) e =
-    let h = both_true (is_one a) (is_one b && (is_one c && all_one rest)) e in
+    let h = and_parts (is_one a) (is_one b && (is_one c && all_one rest)) e in
     rw h.0 (of_plain (b ∷ c ∷ rest) h.1)

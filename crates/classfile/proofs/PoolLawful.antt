@@ -8,7 +8,7 @@ use Rattle.std.specs.Bool.{Decides}
 use Rattle.std.specs.Prelude.{IsSomeAnd}
 use Rattle.std.specs.Int.{w16}
 use Rattle.std.specs.List.{All, flat_map}
-use Rattle.std.proofs.lemmas.Bool.{ltb-true, lt-ltb, ne_eqb}
+use Rattle.std.proofs.lemmas.Bool.{ltb-true, lt-ltb, ne_eqb, and_parts, and_from, or_cases, or_right}
 use Rattle.std.proofs.lemmas.List.{length-append}
 use Rattle.std.proofs.lemmas.List.Elements.{All-nil, All-cons}
 use Rattle.classfile.specs.declared.fault.ClassFault.{ClassFault}
@@ -39,7 +39,6 @@ use Rattle.classfile.proofs.Lawful.{restated, then_lawful}
 use Rattle.classfile.proofs.LookupTestsLemmas.{text_decides, utf8_decides, class_decides, member_decides}
 use Rattle.classfile.proofs.LookupTestsLemmas.{name_and_type_decides}
 use Rattle.classfile.proofs.ScanLemmas.{field_decides, method_decides, class_name_decides}
-use Rattle.classfile.proofs.BoolLemmas.{both_true, and_true, or_cases, or_true}
 
 -- ---- checks
 
@@ -150,7 +149,7 @@ descriptor_decides t = (
   ],
   λ h. elim h [
     | inl field ↦ rw ((field_decides t).1 field) refl
-    | inr method ↦ or_true (is_field t) (is_method t)
+    | inr method ↦ or_right (is_field t) (is_method t)
         ((method_decides t).1 method)
   ],
 )
@@ -202,8 +201,8 @@ utf8_checks pool at index = holds_checks (has_utf8 pool index) (IsIndexOf IsUtf8
 
 kind_decides : (kind : ℕ) → Decides (ltb 0 kind && ltb kind 10) ((0 < kind) × (kind < 10))
 kind_decides kind = (
-  λ e. let b = both_true (ltb 0 kind) (ltb kind 10) e in (ltb-true 0 kind b.0, ltb-true kind 10 b.1),
-  λ h. and_true (ltb 0 kind) (ltb kind 10) (lt-ltb 0 kind h.0) (lt-ltb kind 10 h.1),
+  λ e. let b = and_parts (ltb 0 kind) (ltb kind 10) e in (ltb-true 0 kind b.0, ltb-true kind 10 b.1),
+  λ h. and_from (ltb 0 kind) (ltb kind 10) (lt-ltb 0 kind h.0) (lt-ltb kind 10 h.1),
 )
 
 handle_checks : (pool : List Constant) (at index kind reference : ℕ)

@@ -13,7 +13,7 @@ use Rattle.classfile.specs.Grammar.{IsObjectName}
 use Rattle.classfile.proofs.GrammarLemmas.{field_is, method_is, class_name_is}
 
 -- what holds of each letter holds of a base type
-by_letters : (P : ℕ → Type 0) → P 66 → P 67 → P 68 → P 70 → P 73 → P 74 → P 83 → P 90 → (b : ℕ) → IsBaseType b → P b
+pub by_letters : (P : ℕ → Type 0) → P 66 → P 67 → P 68 → P 70 → P 73 → P 74 → P 83 → P 90 → (b : ℕ) → IsBaseType b → P b
 by_letters P p0 p1 p2 p3 p4 p5 p6 p7 b (zero, lt, e) = subst P e p0
 by_letters P p0 p1 p2 p3 p4 p5 p6 p7 b (suc zero, lt, e) = subst P e p1
 by_letters P p0 p1 p2 p3 p4 p5 p6 p7 b (suc (suc zero), lt, e) = subst P e p2

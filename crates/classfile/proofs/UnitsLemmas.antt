@@ -3,17 +3,18 @@ use Rattle.std.proofs.Common.{◌≡◌, ℕ, zero, suc, ◌+◌, ◌-◌, ◌*�
 use Rattle.std.proofs.Common.{cond, eqb, ltb, List, [], ◌∷◌, ◌++◌, refl, sym, ap, ◌∙◌, arith, inl, inr}
 use Rattle.std.specs.List.{All}
 use Rattle.std.proofs.lemmas.Bool.{eqb-true, ne_eqb, ltb-true, lt-ltb, le-ltb, cases_lt}
+use Rattle.std.proofs.lemmas.Bool.{and_parts, or_cases, and_right, or_right}
 use Rattle.std.proofs.lemmas.List.Elements.{All-nil, All-cons, All-head, All-tail}
 use Rattle.classfile.specs.reading.Modified.{between, is_one, is_two, is_three, is_modified}
 use Rattle.classfile.specs.Units.{unit_text, units_text, IsModifiedUtf8}
-use Rattle.classfile.proofs.BoolLemmas.{both_true, or_cases, cond_cases, and_false, or_true}
 use Rattle.classfile.proofs.RuleLawful.{append_equal}
+use Rattle.classfile.proofs.BoolLemmas.{cond_cases}
 
 -- ---- what the tests mean
 
 pub between_is : (a b c : ℕ) → between a b c ≡ true → (a ≤ b) × (b < c)
 between_is a b c e =
-    let h = both_true (ltb a (b + 1)) (ltb b c) e in
+    let h = and_parts (ltb a (b + 1)) (ltb b c) e in
     let low : a < b + 1 = ltb-true a (b + 1) h.0 in
     (omega arith, ltb-true b c h.1)
 
@@ -25,7 +26,7 @@ is_between a b c low high =
 
 pub not_between : (a b c : ℕ) → (b < a) ⊎ (c ≤ b) → between a b c ≡ false
 not_between a b c (inl low) = let l : ltb a (b + 1) ≡ false = le-ltb a (b + 1) (omega arith) in rw l refl
-not_between a b c (inr high) = let h : ltb b c ≡ false = le-ltb b c high in and_false (ltb a (b + 1)) (ltb b c) h
+not_between a b c (inr high) = let h : ltb b c ≡ false = le-ltb b c high in and_right (ltb a (b + 1)) (ltb b c) h
 
 -- ---- spellings by their length
 
@@ -37,13 +38,13 @@ one_text u low high =
 
 pub two_text : (u : ℕ) → 128 ≤ u → u < 2048 → unit_text u ≡ (192 + u / 64) ∷ (128 + u % 64) ∷ []
 two_text u low high =
-    let l : (ltb 0 u && ltb u 128) ≡ false = and_false (ltb 0 u) (ltb u 128) (le-ltb u 128 low) in
+    let l : (ltb 0 u && ltb u 128) ≡ false = and_right (ltb 0 u) (ltb u 128) (le-ltb u 128 low) in
     let h : ltb u 2048 ≡ true = lt-ltb u 2048 high in
     rw (l, h) refl
 
 pub three_text : (u : ℕ) → 2048 ≤ u → unit_text u ≡ (224 + u / 4096) ∷ (128 + u / 64 % 64) ∷ (128 + u % 64) ∷ []
 three_text u low =
-    let l : (ltb 0 u && ltb u 128) ≡ false = and_false (ltb 0 u) (ltb u 128) (le-ltb u 128 (omega arith)) in
+    let l : (ltb 0 u && ltb u 128) ≡ false = and_right (ltb 0 u) (ltb u 128) (le-ltb u 128 (omega arith)) in
     let h : ltb u 2048 ≡ false = le-ltb u 2048 low in
     rw (l, h) refl
 
@@ -68,7 +69,7 @@ one_is a e = let h = between_is 1 a 128 e in
 two_is : (a b : ℕ) → is_two a b ≡ true → IsUnit (a ∷ b ∷ [])
 unfolding is_two
 two_is a b e =
-    let h = both_true (between 128 b 192) (between 194 a 224 || (eqb a 192 && eqb b 128)) e in
+    let h = and_parts (between 128 b 192) (between 194 a 224 || (eqb a 192 && eqb b 128)) e in
     let second = between_is 128 b 192 h.0 in
     elim (or_cases (between 194 a 224) (eqb a 192 && eqb b 128) h.1) [
       | inl wide ↦
@@ -87,7 +88,7 @@ two_is a b e =
                 ∙ sym (two_text ((a - 192) * 64 + (b - 128)) low high);
           }
       | inr null ↦
-          let n = both_true (eqb a 192) (eqb b 128) null in
+          let n = and_parts (eqb a 192) (eqb b 128) null in
           record {
             unit = 0;
             fits = omega arith;
@@ -115,9 +116,9 @@ three_by a b c a-low a-high b-low b-high c-low c-high big =
 three_is : (a b c : ℕ) → is_three a b c ≡ true → IsUnit (a ∷ b ∷ c ∷ [])
 unfolding is_three
 three_is a b c e =
-    let h = both_true (between 224 a 240 && between 128 b 192 && between 128 c 192) (ltb 224 a || ltb 159 b) e in
-    let g = both_true (between 224 a 240 && between 128 b 192) (between 128 c 192) h.0 in
-    let f = both_true (between 224 a 240) (between 128 b 192) g.0 in
+    let h = and_parts (between 224 a 240 && between 128 b 192 && between 128 c 192) (ltb 224 a || ltb 159 b) e in
+    let g = and_parts (between 224 a 240 && between 128 b 192) (between 128 c 192) h.0 in
+    let f = and_parts (between 224 a 240) (between 128 b 192) g.0 in
     let first = between_is 224 a 240 f.0 in
     let second = between_is 128 b 192 f.1 in
     let third = between_is 128 c 192 g.1 in
@@ -196,11 +197,11 @@ unfolding is_two
 not_two a b low =
     let wide = not_between 194 a 224 (inr low) in
     let null : eqb a 192 ≡ false = ne_eqb a 192 (λ e. omega arith) in
-    and_false (between 128 b 192) (between 194 a 224 || (eqb a 192 && eqb b 128)) (rw (wide, null) refl)
+    and_right (between 128 b 192) (between 194 a 224 || (eqb a 192 && eqb b 128)) (rw (wide, null) refl)
 
 large : (a b : ℕ) → (224 < a) ⊎ (159 < b) → (ltb 224 a || ltb 159 b) ≡ true
 large a b (inl x) = let t : ltb 224 a ≡ true = lt-ltb 224 a x in rw t refl
-large a b (inr x) = let t : ltb 159 b ≡ true = lt-ltb 159 b x in or_true (ltb 224 a) (ltb 159 b) t
+large a b (inr x) = let t : ltb 159 b ≡ true = lt-ltb 159 b x in or_right (ltb 224 a) (ltb 159 b) t
 
 three_wide : (a b c : ℕ) → 224 ≤ a → a < 240 → 128 ≤ b → b < 192 → 128 ≤ c → c < 192 → (224 < a) ⊎ (159 < b)
     → is_three a b c ≡ true

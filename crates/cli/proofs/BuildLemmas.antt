@@ -20,6 +20,8 @@ use Rattle.report.specs.Waves.{GiveWaves}
 use Rattle.options.specs.declared.fault.OptionFault.{OptionFault}
 use Rattle.building.specs.declared.build.BuildFault.TheVariants as faults
 use Rattle.building.specs.Refusals.{IsOption, option, OptionsFail}
+use Rattle.wave_scheduler.specs.Outcomes.{CanWork}
+use Rattle.wave_scheduler.specs.declared.outcome.WaveFault.TheVariants as waves
 use Rattle.cli.specs.declared.fault.Refusal.{Refusal}
 use Rattle.cli.specs.declared.fault.Refusal.TheVariants as refusals
 use Rattle.cli.specs.Builds.{BuildFails, IsBudget, class, link, options}
@@ -66,6 +68,15 @@ give_waves (Err fault) count each = tt
 
 -- ---- refusals
 
+-- memory, the number of workers, or such a fault
+abbrev pub IsOfWorkers : (BuildFault → Type 0) → BuildFault → Type 0
+IsOfWorkers Fails fault = (fault ≡ faults.Memory) ⊎ (fault ≡ faults.Wave waves.Workers) ⊎ Fails fault
+
+pub of_workers : (Fails : BuildFault → Type 0) (fault : BuildFault) → (fault ≡ faults.Memory) ⊎ Fails fault
+    → IsOfWorkers Fails fault
+of_workers Fails fault (inl memory) = inl memory
+of_workers Fails fault (inr fails) = inr (inr fails)
+
 module _ (texts : List (List ℕ)) (run build : Option (List ℕ)) (budget : ℕ) (range : IsBudget budget) where
   unlinked_build : {r : Refusal} → NotLinked texts r → BuildFails texts run build budget (fault_of r)
   unlinked_build (runs.class bad) = class range bad
@@ -80,6 +91,14 @@ module _ (texts : List (List ℕ)) (run build : Option (List ℕ)) (budget : ℕ
   option_build : {P : Tables} {fault : BuildFault} → IsProgramOf texts P
       → IsOption (OptionsFail P run build budget) fault → BuildFails texts run build budget fault
   option_build of (option fails) = options range of fails
+
+  -- the same by workers
+  pub not_built_by : (P : Tables) (fault : BuildFault) → IsProgramOf texts P
+      → (fault ≡ faults.Memory) ⊎ (fault ≡ faults.Wave waves.Workers) ⊎ IsOption (OptionsFail P run build budget) fault
+      → IsOfWorkers (BuildFails texts run build budget) fault
+  not_built_by P fault of (inl memory) = inl memory
+  not_built_by P fault of (inr (inl workers)) = inr (inl workers)
+  not_built_by P fault of (inr (inr wrong)) = inr (inr (option_build of wrong))
 
   pub not_built : (P : Tables) (fault : BuildFault) → IsProgramOf texts P
       → (fault ≡ faults.Memory) ⊎ IsOption (OptionsFail P run build budget) fault
@@ -115,3 +134,26 @@ pub refused_for_no_budget : (refusal : Refusal) (fault : BuildFault) (r : Result
 refused_for_no_budget refusal fault r is was told =
     let same : fault ≡ faults.Budget = cc in
     no_refusal_is_budget refusal (sym is ∙ same)
+
+-- ---- the number of workers
+
+pub no_workers_is_budget : (F : OptionFault → Type 0) (r : Result Built BuildFault)
+    → IfErr r (λ fault. IsOfWorkers (IsOption F) fault) → r ≢ Err faults.Budget
+no_workers_is_budget F (Ok built) wrong e = cc
+no_workers_is_budget F (Err fault) (inl memory) e = cc
+no_workers_is_budget F (Err fault) (inr (inl workers)) e = cc
+no_workers_is_budget F (Err fault) (inr (inr wrong)) e = no_budget_fault F fault wrong (cc)
+
+no_refusal_is_wave : (refusal : Refusal) → fault_of refusal ≢ faults.Wave waves.Workers
+no_refusal_is_wave (refusals.Class place fault) e = cc
+no_refusal_is_wave (refusals.Link fault) e = cc
+no_refusal_is_wave refusal e = cc
+
+pub refused_for_no_workers : (refusal : Refusal) (fault : BuildFault) (r : Result Built BuildFault)
+    → fault ≡ fault_of refusal → r ≡ Err fault → r ≢ Err (faults.Wave waves.Workers)
+refused_for_no_workers refusal fault r is was told =
+    let same : fault ≡ faults.Wave waves.Workers = cc in
+    no_refusal_is_wave refusal (sym is ∙ same)
+
+pub wrong_number : (workers : ℕ) (test : Bool) → (IsTrue test ↔ CanWork workers) → test ≡ false → ¬ CanWork workers
+wrong_number workers test says failed = λ good. (let clash : true ≡ false = sym (says.1 good) ∙ failed in cc)

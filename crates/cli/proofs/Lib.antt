@@ -11,3 +11,4 @@ pub mod EntriesLemmas
 pub mod HeadlineLemmas
 pub mod BeginsLemmas
 pub mod ReadBackLemmas
+pub mod JournaledLemmas

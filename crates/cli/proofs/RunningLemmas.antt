@@ -8,11 +8,12 @@ use Rattle.std.proofs.lemmas.List.{length-map, take-append-drop, take-append-le}
 use Rattle.std.specs.Io.KnownBytes.{Appends}
 use Rattle.vm_state.specs.Shares.{shared_of}
 use Rattle.vm_state.specs.declared.text.Line.{Line}
-use Rattle.semantics.specs.Worlds.{World}
+use Rattle.semantics.specs.Worlds.{World, Run, seen}
 use Rattle.program.specs.Tables.{Tables}
 use Rattle.machine.specs.Linked.{program_of}
+use Rattle.init_engine.specs.Rests.{IsRest}
 use Rattle.init_engine.specs.Rounds.{Turns}
-use Rattle.init_engine.specs.Schedules.{schedule_of}
+use Rattle.init_engine.specs.Schedules.{AreRuns, schedule_of}
 use Rattle.init_engine.specs.Standing.{Standing}
 use Rattle.init_engine.specs.Threads.{thread_of}
 use Rattle.init_engine.specs.Turnings.{Midway, IsUnderWay, HasTurned, IsSlice}
@@ -149,48 +150,116 @@ cut_in_sending P first limit sent t before now after Device under within got par
 -- the turns are over, and all went out
 pub run_ends : (P : Tables) (start : Standing) (limit : ℕ) (t : Midway) (before after : Option (List ℕ)) (ran : Ran)
     → HasTurned (program_of P) (world_of start) limit true t → length t.world.threads ≡ length start.threads →
-    IsStanding P (world_of t.world) ran → Appends before after (lines_text t.world.printed) →
-    HasRun P (world_of start) limit before after ran
+    IsStanding P (world_of t.world) ran → ran.schedule.items ≡ t.schedule → AreRuns ran.schedule.items →
+    Appends before after (lines_text t.world.printed) → HasRun P (world_of start) limit before after ran
 unfolding shared_of
-run_ends P start limit t before after ran turned threads stands sent =
+run_ends P start limit t before after ran turned threads stands schedule apart sent =
     let count : length t.world.threads ≡ length (world_of start).threads = threads ∙ sym (threads_counted start) in
     record {
-      schedule = schedule_of t.schedule;
       last = world_of t.world;
-      run = turned.run;
-      turns =
-          subst (λ k. Turns (program_of P) k limit (world_of start) (schedule_of t.schedule) (world_of t.world)) count
-          (turned.turns refl);
+      run = rw schedule turned.run;
+      turns = rw schedule
+          (subst (λ k. Turns (program_of P) k limit (world_of start) (schedule_of t.schedule) (world_of t.world)) count
+          (turned.turns refl));
+      apart = apart;
       stands = stands;
       sent = sent;
     }
 
+-- what is told of a world that is the one that turns led to
+pub stands_there : (P : Tables) (s t : Standing) (ran : Ran) → s ≡ t → ran.threads.items ≡ (seen (world_of s)).threads
+    → IsRest (program_of P) (world_of s) ran.rest → IsStanding P (world_of t) ran
+stands_there P s t ran same threads rest =
+    subst (λ (u : Standing). IsStanding P (world_of u) ran) same (record { threads = threads; rest = rest })
+
 -- ---- what went out where a command was refused
 
-pub of_cut : (P : Tables) (first : World) (before after : Option (List ℕ)) → IsCutShort P first before after Memory
-    → IsOfRun before after
-of_cut P first before after cut = record {
+-- the text of the first lines is the first bytes of the text
+first_bytes : (count : ℕ) (lines : List Line)
+    → take (length (lines_text (take count lines))) (lines_text lines) ≡ lines_text (take count lines)
+first_bytes count lines =
+    let a = lines_text (take count lines) in
+    let b = lines_text (drop count lines) in
+    ap (λ (text : List ℕ). take (length a) text) (sym (all_lines count lines))
+    ∙ take-append-le (length a) a b (omega arith)
+    ∙ take-length a
+
+no_more : (count : ℕ) (lines : List Line) → length (lines_text (take count lines)) ≤ length (lines_text lines)
+no_more count lines =
+    omega (
+      arith,
+      sym (ap length (all_lines count lines)),
+      length-append (lines_text (take count lines)) (lines_text (drop count lines)),
+    )
+
+-- lines that went out are first bytes that did
+pub lines_are_bytes : (P : Tables) (first : World) (before after : Option (List ℕ)) (fault : RunFault)
+    → IsCutShort P first before after fault → IsCutShort P first before after Device
+lines_are_bytes P first before after Memory cut =
+    let lines = cut.last.shared.printed in
+    record {
+      schedule = cut.schedule;
+      last = cut.last;
+      run = cut.run;
+      sent = (
+        length (lines_text (take cut.sent.0 lines)),
+        no_more cut.sent.0 lines,
+        subst (λ (text : List ℕ). Appends before after text) (sym (first_bytes cut.sent.0 lines)) cut.sent.2,
+      );
+    }
+lines_are_bytes P first before after Device cut = cut
+
+pub of_cut : (P : Tables) (first : World) (before after : Option (List ℕ)) (cut : RunFault)
+    → IsCutShort P first before after cut → IsOfRun cut before after
+of_cut P first before after cut is = record {
   program = P;
   first = first;
-  schedule = cut.schedule;
-  last = cut.last;
-  run = cut.run;
-  sent = cut.sent;
+  schedule = is.schedule;
+  last = is.last;
+  run = is.run;
+  sent = is.sent;
 }
 
-pub of_run : (P : Tables) (first : World) (limit : ℕ) (before after : Option (List ℕ)) (ran : Ran)
-    → HasRun P first limit before after ran → IsOfRun before after
-of_run P first limit before after ran run =
-    let lines = run.last.shared.printed in
+-- what has gone out by lines has by bytes
+pub by_bytes : (cut : RunFault) (before after : Option (List ℕ)) → IsOfRun cut before after
+    → IsOfRun Device before after
+by_bytes cut before after is =
+    let short : IsCutShort is.program is.first before after cut = record {
+      schedule = is.schedule;
+      last = is.last;
+      run = is.run;
+      sent = is.sent;
+    } in
+    of_cut is.program is.first before after Device (lines_are_bytes is.program is.first before after cut short)
+
+whole_lines : (P : Tables) (first : World) (schedule : List ℕ) (last : World) (before after : Option (List ℕ))
+    → Run (program_of P) first schedule last → Appends before after (lines_text last.shared.printed)
+    → IsOfRun Memory before after
+whole_lines P first schedule last before after run sent =
+    let lines = last.shared.printed in
     record {
       program = P;
       first = first;
-      schedule = run.schedule;
-      last = run.last;
-      run = run.run;
+      schedule = schedule;
+      last = last;
+      run = run;
       sent = (
         length lines,
         omega arith,
-        subst (λ (ls : List Line). Appends before after (lines_text ls)) (sym (take-length lines)) run.sent,
+        subst (λ (all : List Line). Appends before after (lines_text all)) (sym (take-length lines)) sent,
       );
     }
+
+-- a run all of whose text has gone out
+pub of_whole : (cut : RunFault) (P : Tables) (first : World) (schedule : List ℕ) (last : World)
+    (before after : Option (List ℕ)) → Run (program_of P) first schedule last
+    → Appends before after (lines_text last.shared.printed) → IsOfRun cut before after
+of_whole Memory P first schedule last before after run sent =
+    whole_lines P first schedule last before after run sent
+of_whole Device P first schedule last before after run sent =
+    by_bytes Memory before after (whole_lines P first schedule last before after run sent)
+
+pub of_run : (P : Tables) (first : World) (limit : ℕ) (before after : Option (List ℕ)) (ran : Ran)
+    → HasRun P first limit before after ran → IsOfRun Memory before after
+of_run P first limit before after ran run =
+    of_whole Memory P first (schedule_of ran.schedule.items) run.last before after run.run run.sent

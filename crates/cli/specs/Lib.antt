@@ -11,3 +11,4 @@ pub mod ImageBuilds
 pub mod ImageRuns
 pub mod Headline
 pub mod Begins
+pub mod Journaled

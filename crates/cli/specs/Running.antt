@@ -1,13 +1,16 @@
 -- What goes out while a world runs.
-use Rattle.std.specs.Prelude.{◌≡◌, ℕ, ◌≤◌, List, Option, Result, Ok, Err, length, take}
+use Rattle.std.specs.Prelude.{◌≡◌, ℕ, ◌≤◌, Bool, true, false, List, Option, Result, Ok, Err, length, take}
 use Rattle.std.specs.Io.KnownBytes.{Appends}
 use Rattle.std.specs.List.{flat_map}
 use Rattle.vm_state.specs.declared.text.Line.{Line}
-use Rattle.semantics.specs.Worlds.{World, Run, seen}
+use Rattle.semantics.specs.Worlds.{World, Run as Reaches, seen}
 use Rattle.program.specs.Tables.{Tables}
 use Rattle.machine.specs.Linked.{program_of}
 use Rattle.init_engine.specs.Rests.{IsRest}
 use Rattle.init_engine.specs.Rounds.{Turns}
+use Rattle.init_engine.specs.Schedules.{AreRuns, schedule_of}
+use Rattle.command_line.specs.declared.request.Request.{Request}
+use Rattle.command_line.specs.declared.request.Request.TheVariants.{Run}
 use Rattle.cli.specs.declared.running.Ran.{Ran}
 use Rattle.cli.specs.declared.running.RunFault.{RunFault}
 use Rattle.cli.specs.declared.running.RunFault.TheVariants.{Memory, Device}
@@ -23,10 +26,10 @@ pub record IsStanding (P : Tables) (w : World) (ran : Ran) : Type 0 where
 
 -- The turns of the threads of a world, of at most so many steps, came to a world whose text has gone out whole.
 pub record HasRun (P : Tables) (first : World) (limit : ℕ) (before after : Option (List ℕ)) (ran : Ran) : Type 0 where
-  pub schedule : List ℕ
   pub last : World
-  pub run : Run (program_of P) first schedule last
-  pub turns : Turns (program_of P) (length first.threads) limit first schedule last
+  pub run : Reaches (program_of P) first (schedule_of ran.schedule.items) last
+  pub turns : Turns (program_of P) (length first.threads) limit first (schedule_of ran.schedule.items) last
+  pub apart : AreRuns ran.schedule.items
   pub stands : IsStanding P last ran
   pub sent : Appends before after (lines_text last.shared.printed)
 
@@ -42,7 +45,7 @@ HaveGoneOut lines before after Device =
 pub record IsCutShort (P : Tables) (first : World) (before after : Option (List ℕ)) (fault : RunFault) : Type 0 where
   pub schedule : List ℕ
   pub last : World
-  pub run : Run (program_of P) first schedule last
+  pub run : Reaches (program_of P) first schedule last
   pub sent : HaveGoneOut last.shared.printed before after fault
 
 -- what a call sent of a text: all of it, nothing for want of memory, or its first bytes where the sink failed
@@ -51,11 +54,21 @@ SendsTo before after text (Ok _) = Appends before after text
 SendsTo before after text (Err Memory) = after ≡ before
 SendsTo before after text (Err Device) = (count : ℕ) × (count ≤ length text) × Appends before after (take count text)
 
--- lines that some run of a program printed have gone out
-pub record IsOfRun (before after : Option (List ℕ)) : Type 0 where
+-- what a refusal leaves of a run: whole lines by turns, and first bytes by threads
+abbrev pub cut_by : Bool → RunFault
+cut_by true = Memory
+cut_by false = Device
+
+-- so for a request: all runs but those by threads are by turns, or by a journal
+abbrev pub cut_of : Request → RunFault
+cut_of (Run words) = cut_by words.turns
+cut_of _ = Memory
+
+-- so much of what some run of a program printed has gone out
+pub record IsOfRun (cut : RunFault) (before after : Option (List ℕ)) : Type 0 where
   pub program : Tables
   pub first : World
   pub schedule : List ℕ
   pub last : World
-  pub run : Run (program_of program) first schedule last
-  pub sent : HaveGoneOut last.shared.printed before after Memory
+  pub run : Reaches (program_of program) first schedule last
+  pub sent : HaveGoneOut last.shared.printed before after cut

@@ -1,8 +1,8 @@
 -- Exit statuses.
 use Rattle.std.specs.Prelude.{ℕ, List, Bool, true, false, if◌then◌else◌, ⊤}
-use Rattle.std.specs.List.{list_all}
+use Rattle.std.specs.List.{list_all, list_any}
 use Rattle.vm_state.specs.declared.ends.Ending.{Ending}
-use Rattle.vm_state.specs.declared.ends.Ending.TheVariants.{Returned}
+use Rattle.vm_state.specs.declared.ends.Ending.TheVariants.{Going, Returned}
 use Rattle.init_engine.specs.declared.stuck.Rest.{Rest}
 use Rattle.init_engine.specs.declared.stuck.Rest.TheVariants as rests
 use Rattle.cli.specs.declared.status.Status.{Status}
@@ -28,6 +28,15 @@ abbrev pub run_status : List Ending → Rest → Status
 run_status threads rests.Ended = if list_all is_return threads then Done else Ended
 run_status threads rests.Stuck = Stuck
 run_status threads rests.Going = Limit
+
+-- the thread has not ended
+abbrev pub is_going : Ending → Bool
+is_going Going = true
+is_going _ = false
+
+-- a replay's status: where all threads have ended that of such a run, and else that of a limit
+abbrev pub replay_status : List Ending → Status
+replay_status threads = if list_any is_going threads then Limit else run_status threads rests.Ended
 
 -- the command was not refused, so standard output may have got something
 abbrev pub IsTold : Status → Type 0

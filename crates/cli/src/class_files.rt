@@ -28,6 +28,25 @@ pub fn linked_program(alloc: Global, files: &[Vec<u8>]) -> Result<Program, Refus
     }
 }
 
+/// The same of texts that are let go once they are read.
+pub(crate) fn program_of_texts(alloc: Global, files: Vec<Vec<u8>>) -> Result<Program, Refusal>
+    ensures program { IfOk result (λ program. IsProgramOf (texts_of files.items) program) }
+    ensures refusal { IfErr result (λ refusal. (refusal ≡ Memory) ⊎ NotLinked (texts_of files.items) refusal) }
+{
+    match class_files_of(alloc, files) {
+        Ok(classes) => linked(alloc, classes),
+        Err(refusal) => Err(refusal),
+    }
+}
+
+/// The class files that some texts are, which are let go.
+fn class_files_of(alloc: Global, files: Vec<Vec<u8>>) -> Result<Vec<ClassFile>, Refusal>
+    ensures files { IfOk result (λ classes. AreClassFiles (texts_of files.items) classes.items) }
+    ensures refusal { IfErr result (λ refusal. (refusal ≡ Memory) ⊎ IsNoClassFile (texts_of files.items) refusal) }
+{
+    class_files(alloc, files.as_slice())
+}
+
 /// The program of some class files.
 fn linked(alloc: Global, classes: Vec<ClassFile>) -> Result<Program, Refusal>
     ensures links { OnOk result (Links classes.items) }

@@ -7,9 +7,11 @@ use crate::{FileFault, Status};
 use classfile::ClassFault;
 use image_parser::ImageFault;
 use init_engine::EntryFault;
+use journal::JournalFault;
 use program::LinkFault;
 use std::alloc::{AllocError, Global};
 use thiserror::Error;
+use thread_runner::replay::ReplayFault;
 use wave_scheduler::outcome::WaveFault;
 
 /// Why a command was refused. Its text follows `preinit: ` on standard error.
@@ -42,6 +44,15 @@ pub enum Refusal {
     /// The file of this name, as given, was not read or written.
     #[error("File {0}")]
     File(String),
+    /// A line of a journal is none, from 1.
+    #[error("Text {0}")]
+    Text(usize),
+    /// The thread of a line of a journal is not there or has no step, from 1.
+    #[error("Turn {0}")]
+    Turn(usize),
+    /// A thread could not be started.
+    #[error("Spawn")]
+    Spawn,
     /// Standard output failed.
     #[error("Device")]
     Device,
@@ -114,6 +125,28 @@ impl Refusal {
                 Ok(name) => Refusal::File(name),
                 Err(_) => Refusal::Memory,
             },
+        }
+    }
+}
+
+impl Refusal {
+    /// The refusal of the text of a journal. To be out of memory is no fault of its.
+    pub(crate) fn of_journal(fault: JournalFault) -> Refusal
+        ensures { result ≢ Refusal.Device }
+    {
+        match fault {
+            JournalFault::Memory => Refusal::Memory,
+            JournalFault::Text(line) => Refusal::Text(line),
+        }
+    }
+
+    /// The refusal of a replay. To be out of memory is no fault of its journal.
+    pub(crate) fn of_replay(fault: ReplayFault) -> Refusal
+        ensures { result ≢ Refusal.Device }
+    {
+        match fault {
+            ReplayFault::Memory => Refusal::Memory,
+            ReplayFault::Turn(line) => Refusal::Turn(line),
         }
     }
 }

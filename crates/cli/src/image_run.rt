@@ -94,10 +94,15 @@ pub(crate) fn start<F: Files>(
     ensures { IfOk result (λ start. IsBegunFromImage start.image (world_of start.world)) }
 {
     match files.get(words.image) {
-        Ok(bytes) => {
-            let entries = entries_of(alloc, words.entries)?;
-            image_start(alloc, bytes.as_slice(), entries.as_slice())
-        }
+        Ok(bytes) => start_of(alloc, words.entries, bytes.as_slice()),
         Err(fault) => Err(Refusal::of_file(alloc, words.image, fault)),
     }
+}
+
+/// The start from an image of these bytes, of the entries of a list.
+pub(crate) fn start_of(alloc: Global, list: &str, bytes: &[u8]) -> Result<ImageStart, Refusal>
+    ensures { IfOk result (λ start. IsBegunFromImage start.image (world_of start.world)) }
+{
+    let entries = entries_of(alloc, list)?;
+    image_start(alloc, bytes, entries.as_slice())
 }

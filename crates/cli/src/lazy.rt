@@ -4,9 +4,10 @@ ghost use Rattle.init_engine.specs.Turns.{world_of};
 ghost use Rattle.init_engine.specs.Starts.{IsStart};
 ghost use Rattle.cli.specs.Begins.{IsBegun};
 ghost use Rattle.cli.specs.Runs.{IsProgramOf, IsRefused, IsShown, IsShownFrom, texts_of};
+ghost use Rattle.cli.specs.steps.Refusals.{IsRefusedEntry};
 ghost use Rattle.cli.specs.declared.fault.Refusal.TheVariants.{Memory};
 
-use crate::class_files::linked_program;
+use crate::class_files::{linked_program, program_of_texts};
 use crate::files::contents;
 use crate::{Files, Lazy, Refusal};
 use classfile::ClassName;
@@ -94,11 +95,20 @@ fn lazy_start(alloc: Global, files: &[Vec<u8>], entries: &[ClassName]) -> Result
         (λ refusal. (refusal ≡ Memory) ⊎ IsRefused (texts_of files.now) entries.now refusal) }
 {
     match linked_program(alloc, files) {
-        Ok(program) => match World::lazy(alloc, &program, entries) {
-            Ok(world) => Ok(LazyStart { program, world }),
-            Err(fault) => Err(Refusal::of_entry(fault)),
-        },
+        Ok(program) => started(alloc, program, entries),
         Err(refusal) => Err(refusal),
+    }
+}
+
+/// The lazy start of a program.
+fn started(alloc: Global, program: Program, entries: &[ClassName]) -> Result<LazyStart, Refusal>
+    ensures program { IfOk result (λ start. start.program ≡ program) }
+    ensures start { IfOk result (λ start. IsStart start.program entries.now (world_of start.world)) }
+    ensures refusal { IfErr result (λ refusal. (refusal ≡ Memory) ⊎ IsRefusedEntry program entries.now refusal) }
+{
+    match World::lazy(alloc, &program, entries) {
+        Ok(world) => Ok(LazyStart { program, world }),
+        Err(fault) => Err(Refusal::of_entry(fault)),
     }
 }
 
@@ -116,7 +126,10 @@ pub(crate) fn begin<F: Files>(
 {
     let texts = contents(alloc, words.files.as_slice(), files, usize::MAX)?;
     let entries = entries_of(alloc, words.entries)?;
-    lazy_start(alloc, texts.as_slice(), entries.as_slice())
+    match program_of_texts(alloc, texts) {
+        Ok(program) => started(alloc, program, entries.as_slice()),
+        Err(refusal) => Err(refusal),
+    }
 }
 
 /// The class names of a list: cut at commas, with slashes for dots.

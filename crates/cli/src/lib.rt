@@ -7,7 +7,8 @@
 #![tactic(auto)]
 
 pub mod any_order;
-mod build;
+mod builds;
+mod by_threads;
 mod class_files;
 mod fault;
 mod files;
@@ -22,10 +23,10 @@ mod running;
 mod status;
 mod threads;
 
-pub use build::build_here;
 pub use building::{BuildFault, BuildOptions, Built};
+pub use builds::{build, build_here};
 pub use class_files::linked_program;
-pub use command_line::{Build, Building, Lazy, Request, Run, WordsFault, request_of};
+pub use command_line::{Build, Building, Lazy, Replay, Request, Run, WordsFault, request_of};
 pub use fault::Refusal;
 pub use files::{FileFault, Files};
 pub use image_build::{GREATEST_LENGTH, build_image};

@@ -3,13 +3,13 @@ ghost use Rattle.std.specs.Prelude.{◌≡◌, IfOk};
 ghost use Rattle.report.specs.Texts.{report_text};
 ghost use Rattle.report.specs.Waves.{GiveWaves};
 
-use crate::build::build_here;
+use crate::builds::build_here;
 use crate::files::contents;
 use crate::requested::{options_of, refusal_of};
 use crate::{Building, Files, Refusal};
 use building::Built;
-use image_writer::sink::Out;
 use report::render;
+use sinks::Out;
 use std::alloc::{AllocError, Global};
 
 /// Reads the class files, builds an image, and answers its report, as the words say.

@@ -2,11 +2,12 @@
 
 ghost use Rattle.std.specs.Prelude.{◌≡◌, ◌≤◌, length, drop, take, true, IfOk, IfErr};
 ghost use Rattle.std.specs.Io.KnownBytes.{Appends};
+ghost use Rattle.init_engine.specs.Schedules.{AreRuns};
 ghost use Rattle.init_engine.specs.Turns.{world_of};
 ghost use Rattle.cli.specs.declared.running.RunFault.TheVariants.{Memory};
 ghost use Rattle.cli.specs.Running.{HasRun, IsCutShort, IsStanding, SendsTo, lines_text};
 
-use init_engine::{Ending, Line, Rest, Turning, World};
+use init_engine::{Ending, Line, Rest, Seen, Turning, World};
 use program::Program;
 use std::alloc::{AllocError, Global};
 use std::io::Write;
@@ -24,6 +25,8 @@ pub struct Ran {
     pub threads: Vec<Ending>,
     /// Whether all threads have ended, or none has a step, or one still has.
     pub rest: Rest,
+    /// The schedule by its runs: a thread, and how many steps it made in a row.
+    pub schedule: Vec<(u32, u64)>,
 }
 
 /// Why a run was cut short.
@@ -71,7 +74,7 @@ pub fn run_world<W: Write>(
             Err(fault) => return Err(fault),
         }
         if over {
-            return match what_is_left(alloc, program, turning.world()) {
+            return match what_is_left(alloc, program, turning) {
                 Ok(ran) => Ok(ran),
                 Err(_) => Err(RunFault::Memory),
             };
@@ -79,13 +82,20 @@ pub fn run_world<W: Write>(
     }
 }
 
-/// What is left to tell of a run that came to this world.
-fn what_is_left(alloc: Global, program: &Program, world: &World) -> Result<Ran, AllocError>
-    ensures { IfOk result (IsStanding program.now (world_of world.now)) }
+/// What is left to tell of turns that are over.
+fn what_is_left(alloc: Global, program: &Program, turning: Turning) -> Result<Ran, AllocError>
+    ensures stands { IfOk result (IsStanding program.now (world_of turning.world)) }
+    ensures schedule { IfOk result (λ ran. ran.schedule.items ≡ turning.schedule) }
+    ensures apart { IfOk result (λ ran. AreRuns ran.schedule.items) }
 {
+    let (world, schedule) = turning.into_parts()?;
     let threads = world.endings(alloc)?;
     let rest = world.rest(program);
-    Ok(Ran { threads, rest })
+    Ok(Ran {
+        threads,
+        rest,
+        schedule,
+    })
 }
 
 /// Sends the lines that are new after so many, and answers how many there are.
@@ -138,4 +148,14 @@ fn send_all<W: Write>(bytes: &[u8], out: &mut W) -> (usize, bool)
         }
     }
     (at, true)
+}
+
+/// Sends what was printed.
+pub(crate) fn send_seen<W: Write>(alloc: Global, seen: &Seen, out: &mut W) -> Result<(), RunFault>
+    ensures { SendsTo (W.contents out.old) (W.contents out.new) (lines_text seen.now.printed.items) result }
+{
+    match send_further(alloc, seen.printed.as_slice(), 0, out) {
+        Ok(_) => Ok(()),
+        Err(fault) => Err(fault),
+    }
 }

@@ -44,9 +44,9 @@ impl Status {
     }
 }
 
-/// The status of a run by turns, from how its threads ended and whether one still has a step.
+/// The status of a run, from how its threads ended and whether one still has a step.
 ///
-/// Turns end where no thread has a step, or at the limit. So a run with a thread that still has a step was ended by the
+/// A run ends where no thread has a step, or at its limit. So one with a thread that still has a step was ended by the
 /// limit.
 pub fn status_of(threads: &[Ending], rest: Rest) -> Status
     ensures status { result ≡ run_status threads.now rest }

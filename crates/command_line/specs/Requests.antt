@@ -1,5 +1,6 @@
 -- What the matches of a command line hold, by the names of its arguments.
-use Rattle.std.specs.Prelude.{◌≡◌, ℕ, List, [], Option, Some, None, Ok, map, option_map, unwrap_or, codes}
+use Rattle.std.specs.Prelude.{◌≡◌, ℕ, Bool, true, false, List, [], Option, Some, None, Ok, map, option_map, unwrap_or}
+use Rattle.std.specs.Prelude.{codes}
 use Rattle.std.specs.Borrow.{Bor}
 use Rattle.std.specs.Str.Parse.{ParsesUnsigned}
 use Rattle.std.specs.declared.num.ParseIntError.{ParseIntError}
@@ -12,6 +13,7 @@ use Rattle.clap.specs.declared.parser.matches.Found.{Found}
 use Rattle.command_line.specs.declared.request.Build.{Build}
 use Rattle.command_line.specs.declared.request.Building.{Building}
 use Rattle.command_line.specs.declared.request.Lazy.{Lazy}
+use Rattle.command_line.specs.declared.request.Replay.{Replay}
 use Rattle.command_line.specs.declared.request.Request.{Request}
 use Rattle.command_line.specs.declared.request.Request.TheVariants as requests
 use Rattle.command_line.specs.declared.request.Run.{Run}
@@ -24,10 +26,20 @@ texts words = map (λ (word : Bor (List ℕ)). word.now) words
 abbrev pub values_of : Found → List ℕ → List (List ℕ)
 values_of found id = unwrap_or (option_map raw_values (matched_of found id)) []
 
--- the value of an argument is a number of 64 bits, in decimal digits
+-- the value of an argument is a number of so many bits, in decimal digits
+abbrev pub HoldsBits : ℕ → Found → List ℕ → ℕ → Type 0
+HoldsBits bits found id n =
+    (text : List ℕ) × (one_text found id ≡ Some text) × ParsesUnsigned {E = ParseIntError} bits 10 text (Ok n)
+
+-- the value of an argument is a number of 64 bits
 abbrev pub HoldsNumber : Found → List ℕ → ℕ → Type 0
-HoldsNumber found id n =
-    (text : List ℕ) × (one_text found id ≡ Some text) × ParsesUnsigned {E = ParseIntError} 64 10 text (Ok n)
+HoldsNumber found id n = HoldsBits 64 found id n
+
+-- whether a flag was used
+pub record HoldsFlag (found : Found) (id : List ℕ) (used : Bool) : Type 0 where
+  pub none : one_text found id ≡ None → used ≡ false
+  pub yes : one_text found id ≡ Some (codes "true") → used ≡ true
+  pub no : one_text found id ≡ Some (codes "false") → used ≡ false
 
 -- what a build is asked for
 pub record HoldsBuilding (found : Found) (building : Building) : Type 0 where
@@ -39,6 +51,7 @@ pub record HoldsBuilding (found : Found) (building : Building) : Type 0 where
 pub record HoldsBuild (found : Found) (build : Build) : Type 0 where
   pub image : first_value found (codes "out") ≡ Some build.image.now
   pub building : HoldsBuilding found build.building
+  pub workers : HoldsBits 32 found (codes "workers") build.workers
 
 -- what a run is asked for
 pub record HoldsLazy (found : Found) (lazy : Lazy) : Type 0 where
@@ -49,12 +62,20 @@ pub record HoldsLazy (found : Found) (lazy : Lazy) : Type 0 where
 pub record HoldsRun (found : Found) (run : Run) : Type 0 where
   pub entries : first_value found (codes "entries") ≡ Some run.entries.now
   pub limit : HoldsNumber found (codes "limit") run.limit
+  pub turns : HoldsFlag found (codes "turns") run.turns
+  pub journal : option_map (λ (s : Bor (List ℕ)). s.now) run.journal ≡ first_value found (codes "journal")
   pub image : first_value found (codes "image") ≡ Some run.image.now
+
+pub record HoldsReplay (found : Found) (replay : Replay) : Type 0 where
+  pub entries : first_value found (codes "entries") ≡ Some replay.entries.now
+  pub journal : first_value found (codes "journal") ≡ Some replay.journal.now
+  pub image : first_value found (codes "image") ≡ Some replay.image.now
 
 -- The command of this name asks for this, by what was found of its arguments.
 abbrev pub Holds : List ℕ → Found → Request → Type 0
 Holds name found (requests.Build build) = (name ≡ codes "build") × HoldsBuild found build
 Holds name found (requests.Lazy lazy) = (name ≡ codes "lazy") × HoldsLazy found lazy
+Holds name found (requests.Replay replay) = (name ≡ codes "replay") × HoldsReplay found replay
 Holds name found (requests.Report building) = (name ≡ codes "report") × HoldsBuilding found building
 Holds name found (requests.Run run) = (name ≡ codes "run") × HoldsRun found run
 

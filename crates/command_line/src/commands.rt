@@ -1,8 +1,8 @@
 //! The commands of the program and their arguments.
 
 use crate::texts::{
-    BUILD_ABOUT, BUILD_LONG_ABOUT, LAZY_ABOUT, LAZY_LONG_ABOUT, PROGRAM_ABOUT, REPORT_ABOUT,
-    REPORT_LONG_ABOUT, RUN_ABOUT, RUN_LONG_ABOUT, STATUSES,
+    BUILD_ABOUT, BUILD_LONG_ABOUT, LAZY_ABOUT, LAZY_LONG_ABOUT, PROGRAM_ABOUT, REPLAY_ABOUT,
+    REPLAY_LONG_ABOUT, REPORT_ABOUT, REPORT_LONG_ABOUT, RUN_ABOUT, RUN_LONG_ABOUT, STATUSES,
 };
 use clap::{Arg, ArgAction, Command, value_parser};
 use std::alloc::{AllocError, Global};
@@ -36,7 +36,11 @@ fn with_commands_of_runs<'a>(
 ) -> Result<Command<'a>, AllocError> {
     let lazy = lazy_command(alloc)?;
     let run = run_command(alloc)?;
-    program.subcommand(lazy)?.subcommand(run)
+    let replay = replay_command(alloc)?;
+    program
+        .subcommand(lazy)?
+        .subcommand(run)?
+        .subcommand(replay)
 }
 
 /// The program without its commands.
@@ -50,7 +54,9 @@ fn described_program<'a>(alloc: Global) -> Command<'a> {
 }
 
 fn build_command<'a>(alloc: Global) -> Result<Command<'a>, AllocError> {
-    let build = described(alloc, "build", BUILD_ABOUT, BUILD_LONG_ABOUT).arg(out(alloc))?;
+    let build = described(alloc, "build", BUILD_ABOUT, BUILD_LONG_ABOUT)
+        .arg(out(alloc))?
+        .arg(workers(alloc))?;
     with_building(alloc, build)
 }
 
@@ -68,6 +74,15 @@ fn run_command<'a>(alloc: Global) -> Result<Command<'a>, AllocError> {
     let run = described(alloc, "run", RUN_ABOUT, RUN_LONG_ABOUT);
     with_entries(alloc, run)?
         .arg(turns(alloc))?
+        .arg(written_journal(alloc))?
+        .arg(image(alloc))
+}
+
+fn replay_command<'a>(alloc: Global) -> Result<Command<'a>, AllocError> {
+    let replay = described(alloc, "replay", REPLAY_ABOUT, REPLAY_LONG_ABOUT);
+    replay
+        .arg(entries(alloc))?
+        .arg(read_journal(alloc))?
         .arg(image(alloc))
 }
 
@@ -104,6 +119,15 @@ fn out<'a>(alloc: Global) -> Arg<'a> {
         .help("The file that gets the image")
 }
 
+fn workers<'a>(alloc: Global) -> Arg<'a> {
+    Arg::new(alloc, "workers")
+        .long("workers")
+        .value_name("N")
+        .default_value("1")
+        .value_parser(value_parser!(u32))
+        .help("How many threads run initializers, from 1 to 64")
+}
+
 fn entries<'a>(alloc: Global) -> Arg<'a> {
     Arg::new(alloc, "entries")
         .long("entries")
@@ -127,8 +151,22 @@ fn turns<'a>(alloc: Global) -> Arg<'a> {
     Arg::new(alloc, "turns")
         .long("turns")
         .action(ArgAction::SetTrue)
-        .required(true)
         .help("Runs by turns: in each round every thread takes one step")
+}
+
+fn written_journal<'a>(alloc: Global) -> Arg<'a> {
+    Arg::new(alloc, "journal")
+        .long("journal")
+        .value_name("FILE")
+        .help("The file that gets the journal, from which 'preinit replay' runs the same again")
+}
+
+fn read_journal<'a>(alloc: Global) -> Arg<'a> {
+    Arg::new(alloc, "journal")
+        .long("journal")
+        .value_name("FILE")
+        .required(true)
+        .help("The file that has the journal")
 }
 
 fn image<'a>(alloc: Global) -> Arg<'a> {

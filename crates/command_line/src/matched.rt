@@ -1,12 +1,12 @@
 //! What words ask for, by the matches of `clap`.
 ghost use Rattle.std.specs.Prelude.{◌≡◌, IfOk, IfSome, codes};
 ghost use Rattle.clap.specs.Matches.{found_of};
-ghost use Rattle.command_line.specs.Requests.{AsksFor, Holds, HoldsBuild, HoldsBuilding, HoldsLazy};
-ghost use Rattle.command_line.specs.Requests.{HoldsNumber, HoldsRun, IsLine, texts, values_of};
+ghost use Rattle.command_line.specs.Requests.{AsksFor, Holds, HoldsBits, HoldsBuild, HoldsBuilding, HoldsLazy};
+ghost use Rattle.command_line.specs.Requests.{HoldsFlag, HoldsNumber, HoldsReplay, HoldsRun, IsLine, texts, values_of};
 
 use crate::commands::program;
 use crate::parsed::fault_of;
-use crate::{Build, Building, Lazy, Request, Run, WordsFault};
+use crate::{Build, Building, Lazy, Replay, Request, Run, WordsFault};
 use clap::error::ErrorKind;
 use clap::{ArgMatches, Command};
 use std::alloc::{AllocError, Global};
@@ -66,6 +66,7 @@ fn asked_of<'a>(
     match name {
         "build" => Ok(build_of(alloc, arguments)?.map(Request::Build)),
         "lazy" => Ok(lazy_of(alloc, arguments)?.map(Request::Lazy)),
+        "replay" => Ok(replay_of(arguments).map(Request::Replay)),
         "report" => Ok(building_of(alloc, arguments)?.map(Request::Report)),
         "run" => Ok(run_of(arguments).map(Request::Run)),
         _ => Ok(None),
@@ -75,11 +76,13 @@ fn asked_of<'a>(
 fn build_of<'a>(alloc: Global, matches: &ArgMatches<'a>) -> Result<Option<Build<'a>>, AllocError>
     ensures { IfOk result (λ found. IfSome found (HoldsBuild (found_of matches.now))) }
 {
-    match matches.get_str("out") {
-        Some(image) => {
-            Ok(building_of(alloc, matches)?.map(|building| Build { image, building }))
-        }
-        None => Ok(None),
+    match (matches.get_str("out"), count_of(matches, "workers")) {
+        (Some(image), Some(workers)) => Ok(building_of(alloc, matches)?.map(|building| Build {
+            image,
+            building,
+            workers,
+        })),
+        _ => Ok(None),
     }
 }
 
@@ -125,8 +128,30 @@ fn run_of<'a>(matches: &ArgMatches<'a>) -> Option<Run<'a>>
     Some(Run {
         entries,
         limit,
+        turns: flag_of(matches, "turns"),
+        journal: matches.get_str("journal"),
         image,
     })
+}
+
+fn replay_of<'a>(matches: &ArgMatches<'a>) -> Option<Replay<'a>>
+    ensures { IfSome result (HoldsReplay (found_of matches.now)) }
+{
+    let entries = matches.get_str("entries")?;
+    let journal = matches.get_str("journal")?;
+    let image = matches.get_str("image")?;
+    Some(Replay {
+        entries,
+        journal,
+        image,
+    })
+}
+
+/// Whether a flag was used.
+fn flag_of(matches: &ArgMatches<'_>, id: &str) -> bool
+    ensures { HoldsFlag (found_of matches.now) id.now result }
+{
+    matches.get_flag(id)
 }
 
 /// The number that is the value of an argument.
@@ -134,6 +159,13 @@ fn number_of(matches: &ArgMatches<'_>, id: &str) -> Option<u64>
     ensures { IfSome result (HoldsNumber (found_of matches.now) id.now) }
 {
     matches.get_one::<u64>(id)
+}
+
+/// The number of 32 bits that is the value of an argument.
+fn count_of(matches: &ArgMatches<'_>, id: &str) -> Option<u32>
+    ensures { IfSome result (HoldsBits 32 (found_of matches.now) id.now) }
+{
+    matches.get_one::<u32>(id)
 }
 
 /// The names of the files, in the order given.

@@ -7,9 +7,11 @@ pub enum Request<'a> {
     Build(Build<'a>),
     /// `lazy`: run class files by turns.
     Lazy(Lazy<'a>),
+    /// `replay`: run an image by a journal.
+    Replay(Replay<'a>),
     /// `report`: tell which classes are initialized at build time.
     Report(Building<'a>),
-    /// `run`: run an image by turns.
+    /// `run`: run an image, by threads or by turns.
     Run(Run<'a>),
 }
 
@@ -20,6 +22,8 @@ pub struct Build<'a> {
     pub image: &'a str,
     /// What it is built of, and how.
     pub building: Building<'a>,
+    /// How many threads of the system run initializers.
+    pub workers: u32,
 }
 
 /// What the words of `build` and `report` ask for of a build.
@@ -53,6 +57,21 @@ pub struct Run<'a> {
     pub entries: &'a str,
     /// The greatest number of steps of the run, from 1 to 10^15.
     pub limit: u64,
+    /// Whether the threads take turns.
+    pub turns: bool,
+    /// The name of the file that gets the journal.
+    pub journal: Option<&'a str>,
+    /// The name of the image's file.
+    pub image: &'a str,
+}
+
+/// What the words of `replay` ask for.
+#[derive(Drop)]
+pub struct Replay<'a> {
+    /// The names of the entry classes, with commas between them.
+    pub entries: &'a str,
+    /// The name of the journal's file.
+    pub journal: &'a str,
     /// The name of the image's file.
     pub image: &'a str,
 }

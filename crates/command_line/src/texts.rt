@@ -24,8 +24,9 @@ Makes an image of class files: runs the initializer of each class that may be in
 alone and within a budget, and writes the classes and what these initializers left to a file. 'preinit report' tells
 which classes these are, and why the others are not. A run from the image shows what a run of the class files shows.
 
-Standard output gets nothing. The image is the same whatever the order of the class files. Where it can't be written,
-the file is named as it was given: 'preinit: File app.img'. So is a class file that is no shorter than 2^32 bytes.
+Standard output gets nothing. The image is the same whatever the order of the class files, and for any number of
+workers. Where it can't be written, the file is named as it was given: 'preinit: File app.img'. So is a class file that
+is no shorter than 2^32 bytes. Another number of workers than 1 to 64 is refused: 'preinit: Wave Workers'.
 
 For example: preinit build --out app.img app/Main.class app/Table.class";
 
@@ -69,16 +70,31 @@ asked for at both times, Demanded and a class that can't be initialized at build
 For example: preinit report --initialize-at-run-time app.log app/Main.class app/Table.class";
 
 pub(crate) const RUN_ABOUT: &str = "\
-Runs an image that 'preinit build' wrote, by turns";
+Runs an image that 'preinit build' wrote";
 
 pub(crate) const RUN_LONG_ABOUT: &str = "\
 Runs the main method of each entry class in a thread of its own, from an image: the classes that are initialized in it
 are so from the start, with what their initializers left. Any other class is initialized when a thread first needs it.
 What standard output and standard error get is as for 'preinit lazy'.
 
-By turns means: in each round every thread takes one step, in the order of the list. There is no other way yet.
+By turns means: in each round every thread takes one step, in the order of the list. Else the threads are threads of the
+system, in whatever order these come, and a run ends at most 1,023 steps behind its limit. The journal has a line for
+each time that another thread goes on: its number, and how many steps it makes.
 
 What is wrong with an image is told by its text: Truncated, Magic, Version, Digest, Class and a class file with its
 fault, Link, Order, Shape and Name with a class, and Extra.
 
-For example: preinit run --turns --entries app.Main app.img";
+For example: preinit run --journal app.journal --entries app.Main,app.Other app.img";
+
+pub(crate) const REPLAY_ABOUT: &str = "\
+Runs an image by a journal that 'preinit run' wrote";
+
+pub(crate) const REPLAY_LONG_ABOUT: &str = "\
+Runs the main method of each entry class in a thread of its own, from an image, in the order that a journal has. It
+shows what the run showed that wrote the journal. A line of a journal is the number of a thread, one space and the number
+of steps that it makes, in decimal without leading zeros.
+
+What is wrong with a journal is told by its text: Text and the first line at fault, or Turn and the line of a thread that
+is not there or has no step, from 1.
+
+For example: preinit replay --journal app.journal --entries app.Main,app.Other app.img";

@@ -1,7 +1,7 @@
 -- A class that can be settled by the regions that its initializer is lent does the same with all that are at hand.
-use Rattle.std.proofs.Common.{◌≡◌, ℕ, ◌≤◌, Bool, true, false, cond, ◌||◌, ◌==◌, nat_lt, inl, inr, Option, Some, None}
+use Rattle.std.proofs.Common.{◌≡◌, ℕ, ◌≤◌, Bool, true, false, cond, ◌==◌, nat_lt, inl, inr, Option, Some, None}
 use Rattle.std.proofs.Common.{is_some, option_map, refl, subst, eqb-true, arith}
-use Rattle.std.proofs.lemmas.Bool.{ltb-true}
+use Rattle.std.proofs.lemmas.Bool.{ltb-true, or_right}
 use Rattle.vm_state.specs.declared.value.Maker.{Maker}
 use Rattle.vm_state.specs.declared.value.Maker.TheVariants.{Class, Thread}
 use Rattle.vm_state.specs.SharedState.{Region}
@@ -30,10 +30,6 @@ some_counts : (o : Option Region) (n : ℕ) → nat_lt n (count_of (option_map (
 some_counts None n h = absurd (omega (arith, ltb-true n 0 h))
 some_counts (Some r) n h = refl
 
-or_true : (b c : Bool) → c ≡ true → (b || c) ≡ true
-or_true true c h = refl
-or_true false c h = h
-
 module _ (P : Tables) (linked : IsLinked P) (env : Environment) (c : ℕ) (can : IsSettleable P env c) where
   -- an object that there is was made by a class at hand
   there_at_hand : (d : ℕ) (r : Region) → can.lent d ≡ Some r
@@ -49,7 +45,7 @@ module _ (P : Tables) (linked : IsLinked P) (env : Environment) (c : ℕ) (can :
       by : (maker : Maker) → nat_lt x.number (count_of (pool_seen can.lent d r maker)) ≡ true
           → is_made_at_hand can.lent c maker ≡ true
       by (Thread t) h = absurd (omega (arith, ltb-true x.number 0 h))
-      by (Class e) h = or_true (e == c) (is_some (can.lent e)) (by_class (e == d) e refl h)
+      by (Class e) h = or_right (e == c) (is_some (can.lent e)) (by_class (e == d) e refl h)
 
   closed : IsClosed (program_of P) (IsUse P c) can.lent c
   closed d f r used at final =

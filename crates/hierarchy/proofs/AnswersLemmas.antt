@@ -30,8 +30,7 @@ use Rattle.hierarchy.specs.declared.member_index.MemberKey.{MemberKey}
 use Rattle.hierarchy.specs.declared.wanted.Wanted.TheVariants as kind
 use Rattle.hierarchy.proofs.AmongLemmas.{among_one, above_one}
 use Rattle.hierarchy.proofs.DefaultsLemmas.{one_more}
-use Rattle.hierarchy.proofs.MemberIndexesLemmas.{same_key_itself}
-use Rattle.hierarchy.proofs.MemberIndexesPlaceLemmas.{key_is}
+use Rattle.hierarchy.proofs.MemberIndexesLemmas.{key_is, same_key_itself}
 use Rattle.hierarchy.proofs.WordLemmas.{both}
 use Rattle.hierarchy.proofs.WalksOrderLemmas.{none_in_empty, in_front, in_rest}
 

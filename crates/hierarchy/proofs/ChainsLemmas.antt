@@ -1,6 +1,6 @@
 -- Numbers in chains: none, and one more.
 use Rattle.std.proofs.Common.{◌≡◌, ℕ, zero, suc, ◌<◌, ◌≤◌, ◌⊎◌, ◌%◌, Bool, true, false, eqb, List, [], ◌∷◌, ◌++◌}
-use Rattle.std.proofs.Common.{length, Some, None, get_or, slice_get, inl, inr, refl, sym, ap, ◌∙◌, subst, arith, set}
+use Rattle.std.proofs.Common.{length, get_or, slice_get, inl, inr, refl, sym, ap, ◌∙◌, subst, arith, set}
 use Rattle.std.proofs.lemmas.Bool.{eqb-true, eqb-false, cases_lt}
 use Rattle.std.proofs.lemmas.Option.{slice_get_within}
 use Rattle.std.proofs.lemmas.List.{length-set, get_or-set_same, get_or-set_other}
@@ -8,19 +8,6 @@ use Rattle.std.proofs.Math.ListN.{get_or-append}
 use Rattle.std.proofs.Math.Seq.{get_or-append_seam}
 use Rattle.loading.proofs.PlaceLemmas.{pushed_at, kept_at, last_at}
 use Rattle.hierarchy.specs.steps.Chains.{IsInBucket, AreChained}
-
-nothing_in : (buckets bucket n : ℕ) → ¬ IsInBucket [] buckets bucket n
-nothing_in buckets bucket n here = let clash : None ≡ Some here.0 = here.1 in absurd cc
-
-pub none_chained : (heads : List ℕ) → ((bucket : ℕ) → get_or heads bucket 0 ≡ 0) → AreChained [] heads []
-none_chained heads empty = record {
-  count = refl;
-  heads_in = λ bucket n e. let clash : 0 ≡ suc n = sym (empty bucket) ∙ e in absurd (omega (arith, clash));
-  heads_above = λ bucket n here. absurd (nothing_in (length heads) bucket n here);
-  next_in = λ bucket i n here e. absurd (nothing_in (length heads) bucket i here);
-  next_below = λ i. omega arith;
-  next_above = λ bucket i n less here there. absurd (nothing_in (length heads) bucket i here);
-}
 
 -- a number in a bucket is one of the codes'
 pub in_bucket_within : (codes : List ℕ) (buckets bucket n : ℕ) → IsInBucket codes buckets bucket n → n < length codes

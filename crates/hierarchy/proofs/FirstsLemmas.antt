@@ -3,6 +3,7 @@ use Rattle.std.proofs.Common.{◌≡◌, ℕ, Bool, true, false, not, cond, ◌&
 use Rattle.std.proofs.Common.{◌∙◌, subst, append-nil, ◌↔◌}
 use Rattle.std.specs.Bool.{Decides}
 use Rattle.std.specs.List.{Contains, filter, list_any}
+use Rattle.std.proofs.Math.Bool.{and-false, and-true}
 use Rattle.std.proofs.lemmas.Bool.{eqb-true, eq-eqb, false_from_ne_true}
 use Rattle.std.proofs.lemmas.Bool.Decides.{Decides-by_or, Decides-eqb, same_from_decides}
 use Rattle.std.proofs.lemmas.List.Elements.{Decides-contains, filter-append, filter_agree}
@@ -43,14 +44,6 @@ filter_whole (x ∷ xs) = ap (λ (ys : List ℕ). x ∷ ys) (filter_whole xs)
 
 -- ---- what a filter keeps
 
-and_false : (b : Bool) → (b && false) ≡ false
-and_false true = refl
-and_false false = refl
-
-and_true : (b : Bool) → (b && true) ≡ b
-and_true true = refl
-and_true false = refl
-
 has-filter : (p : ℕ → Bool) (x : ℕ) (ys : List ℕ) → has x (filter p ys) ≡ (has x ys && p x)
 has-filter p x [] = refl
 has-filter p x (y ∷ ys) = by_tests (p y) (eqb y x) refl refl (has-filter p x ys)
@@ -61,7 +54,7 @@ has-filter p x (y ∷ ys) = by_tests (p y) (eqb y x) refl refl (has-filter p x y
     by_tests true false e f rest = rw (e, f) rest
     by_tests false true e f rest =
         let at : p x ≡ false = sym (ap p (eqb-true y x f)) ∙ e in
-        rw (e, f) (rest ∙ ap (λ (b : Bool). has x ys && b) at ∙ and_false (has x ys) ∙ sym at)
+        rw (e, f) (rest ∙ ap (λ (b : Bool). has x ys && b) at ∙ and-false (has x ys) ∙ sym at)
     by_tests false false e f rest = rw (e, f) rest
 
 -- the first places have what the list has
@@ -72,7 +65,7 @@ has-firsts x (y ∷ ys) = by_test (eqb y x) refl (has-firsts x ys)
     by_test : (b : Bool) → eqb y x ≡ b → has x (firsts ys) ≡ has x ys → has x (firsts (y ∷ ys)) ≡ has x (y ∷ ys)
     by_test true e rest = rw e refl
     by_test false e rest = rw e (has-filter (λ z. not (eqb z y)) x (firsts ys)
-        ∙ ap (λ (b : Bool). has x (firsts ys) && not b) (eqb_turned x y ∙ e) ∙ and_true (has x (firsts ys)) ∙ rest)
+        ∙ ap (λ (b : Bool). has x (firsts ys) && not b) (eqb_turned x y ∙ e) ∙ and-true (has x (firsts ys)) ∙ rest)
 
 pub Contains-firsts : (xs : List ℕ) (x : ℕ) → Contains (firsts xs) x ↔ Contains xs x
 Contains-firsts xs x = (
@@ -118,10 +111,6 @@ firsts_joins false front old new x e (present, is) =
     let there : has x front ≡ true = (has_tells x front).1 (in_front present) in
     is ∙ e ∙ sym (firsts-append front (x ∷ []) ∙ ap (λ (b : Bool). firsts front ++ cond (not b) (x ∷ []) []) there
     ∙ append-nil (firsts front))
-
--- ---- lists that go on
-
--- ---- lists that are copied
 
 -- ---- the first of each number that passes a test
 

@@ -16,7 +16,7 @@ use Rattle.hierarchy.specs.declared.found_ahead.FoundAhead.{FoundAhead}
 use Rattle.hierarchy.specs.declared.member.DeclaredMember.{DeclaredMember}
 use Rattle.hierarchy.specs.declared.member_index.ClassMember.{ClassMember}
 use Rattle.hierarchy.specs.declared.member_index.MemberKey.{MemberKey}
-use Rattle.hierarchy.proofs.MemberIndexesPlaceLemmas.{member_is}
+use Rattle.hierarchy.proofs.MemberIndexesLemmas.{member_is}
 
 -- numbers are those of one name and descriptor
 pub one_name : (texts : List (List ℕ)) (a b : NameAndType) (key : MemberKey) → AreNumbers texts a key

@@ -16,7 +16,8 @@ use Rattle.loading.proofs.PlaceLemmas.{contains_at, place_in, pushed_at, kept_at
 use Rattle.hierarchy.specs.steps.Chains.{IsInBucket, AreChained}
 use Rattle.hierarchy.specs.steps.FoundTexts.{number_in, code_of, texts_of, AreLinked, AreSorted}
 use Rattle.hierarchy.specs.declared.chains.Chains.{Chains}
-use Rattle.hierarchy.proofs.TextsLemmas.{next_taken}
+use Rattle.std.proofs.lemmas.List.{take_more}
+use Rattle.std.proofs.lemmas.Option.{get_or_from_slice_get, slice_get_within}
 
 -- ---- texts as they are kept
 
@@ -61,7 +62,9 @@ in_its_bucket start texts buckets n text at = (code_of start text, mapped_at (co
 -- the texts up to the next one
 pub taken_next : (texts : List (List ℕ)) (n : ℕ) (text : List ℕ) → slice_get texts n ≡ Some text
     → take (n + 1) texts ≡ take n texts ++ text ∷ []
-taken_next texts n text at = sym (next_taken texts (take n texts) (take n texts ++ text ∷ []) n text at refl refl)
+taken_next texts n text at =
+    take_more texts n text (slice_get_within texts n text at)
+    ∙ ap (λ t. take n texts ++ t ∷ []) (get_or_from_slice_get texts n text text at)
 
 -- one more text is linked
 pub linked_with : (start : FoldHasher) (texts : List (List ℕ)) (text : List ℕ) (code : ℕ) (old new : Chains)

@@ -1,15 +1,13 @@
 -- Orders of initialization from lists of interfaces.
-use Rattle.std.proofs.Common.{◌≡◌, ℕ, ◌<◌, Bool, true, false, cond, List, [], ◌∷◌, ◌++◌, length, get_or, set, Option}
-use Rattle.std.proofs.Common.{None, Some, refl, sym, ap, ◌∙◌, subst, inl, inr, append_assoc}
-use Rattle.std.specs.List.{All, Contains, filter}
-use Rattle.std.proofs.lemmas.Bool.{cases_eq}
-use Rattle.std.proofs.lemmas.List.{length-set, get_or-set_same, get_or-set_other}
+use Rattle.std.proofs.Common.{◌≡◌, ℕ, Bool, true, false, cond, List, [], ◌∷◌, ◌++◌, get_or}
+use Rattle.std.proofs.Common.{refl, sym, ap, ◌∙◌, subst, append_assoc}
+use Rattle.std.specs.List.{Contains, filter}
 use Rattle.std.proofs.lemmas.List.Elements.{filter_agree}
 use Rattle.loading.specs.Families.{Family, IsFamily, is_interface_in, interfaces_in}
 use Rattle.hierarchy.specs.Search.{firsts}
 use Rattle.hierarchy.specs.Initialization.{is_initialized_first}
-use Rattle.hierarchy.specs.steps.InterfaceOrders.{AddsInterfaces, AreShort, Gathers, TellFirst}
-use Rattle.hierarchy.specs.steps.Walks.{ParentsBefore, IsPostorderOf, none, next}
+use Rattle.hierarchy.specs.steps.InterfaceOrders.{AddsInterfaces, Gathers, TellFirst}
+use Rattle.hierarchy.specs.steps.Walks.{ParentsBefore, none, next}
 use Rattle.hierarchy.proofs.AboveLemmas.{interface_parents}
 use Rattle.hierarchy.proofs.FirstsLemmas.{filter_again, kept_joined}
 use Rattle.hierarchy.proofs.InterfaceOrdersLemmas.{marks_tell, superinterfaces_first}
@@ -63,14 +61,6 @@ gathers_marked family is seen list marks tells before added = record {
       (λ i. marks_tell family marks i tells) seen) before.kept;
 }
 
--- what a walk left
-pub gathers_walk : (family : Family) (is left : List ℕ) → IsPostorderOf family is left → Gathers family is left
-gathers_walk family is left order = record {
-  all = order.all;
-  stand = order.stand;
-  kept = ap (filter (is_initialized_first family)) order.first;
-}
-
 pub marked_added : (family : Family) (is seen old new : List ℕ) (marks : List Bool) → IsFamily family
     → TellFirst family marks → ((i : ℕ) → Contains is i → is_interface_in family i ≡ true) → Gathers family is seen
     → new ≡ old ++ filter (λ c. get_or marks c false) seen
@@ -82,26 +72,3 @@ marked_added family is seen old new marks fits tells are gathered added = record
       (filter_agree (λ c. get_or marks c false) (is_initialized_first family)
       (λ i. marks_tell family marks i tells) seen ∙ gathered.kept);
 }
-
--- one more interface has its list, or has none
-pub short_next : (family : Family) (rows : List (Option (List ℕ))) (c : ℕ) (row : Option (List ℕ))
-    → c < length family → AreShort family rows
-    → ((list : List ℕ) → row ≡ Some list → Gathers family (c ∷ []) list)
-    → ((list : List ℕ) → row ≡ Some list → All (λ d. d < length family) list)
-    → AreShort family (set rows c row)
-short_next family rows c row small before gathered within = record {
-  count = length-set rows c row ∙ before.count;
-  gathered = λ i list. by_class (λ j list. Gathers family (j ∷ []) list) (before.gathered) gathered i list;
-  within = λ i list. by_class (λ j list. All (λ d. d < length family) list) (before.within) within i list;
-}
-  where
-    by_class : (P : ℕ → List ℕ → Type 0)
-        → ((i : ℕ) (list : List ℕ) → get_or rows i None ≡ Some list → P i list)
-        → ((list : List ℕ) → row ≡ Some list → P c list)
-        → (i : ℕ) (list : List ℕ) → get_or (set rows c row) i None ≡ Some list → P i list
-    by_class P others own i list is = elim (cases_eq i c) [
-      | inl same ↦ subst (λ (j : ℕ). P j list) (sym same) (own list
-          (sym (ap (λ (j : ℕ). get_or (set rows c row) j None) same
-          ∙ get_or-set_same rows c row None (subst (λ (n : ℕ). c < n) (sym before.count) small)) ∙ is))
-      | inr other ↦ others i list (sym (get_or-set_other rows c i row None other) ∙ is)
-    ]

@@ -14,7 +14,7 @@ use Rattle.loading.specs.Families.{passes, file_of}
 use Rattle.hierarchy.specs.Search.{SuperinterfacesFirst, none, next}
 use Rattle.hierarchy.specs.Initialization.{is_initialized_first, declares_default, IsInitializationOrder, class}
 use Rattle.hierarchy.specs.steps.InterfaceOrders.{AddsInterfaces, TellFirst}
-use Rattle.hierarchy.specs.steps.Walks.{ParentsBefore, IsPostorderOf, HasPostorder}
+use Rattle.hierarchy.specs.steps.Walks.{ParentsBefore}
 use Rattle.hierarchy.specs.steps.Walks as walks
 use Rattle.hierarchy.proofs.AboveLemmas.{interface_parents}
 use Rattle.hierarchy.proofs.WalksOrderLemmas.{in_front, in_rest}

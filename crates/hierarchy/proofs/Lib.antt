@@ -1,11 +1,9 @@
 pub mod TextsLemmas
 pub mod ChainsLemmas
 pub mod FoundTextsLemmas
-pub mod MemberIndexesPlaceLemmas
 pub mod MemberIndexesLemmas
 pub mod MemberTablesLemmas
 pub mod FamiliesChainLemmas
-pub mod SearchLemmas
 pub mod MemberLookupLemmas
 pub mod AboveLemmas
 pub mod AmongLemmas

@@ -59,14 +59,6 @@ pub record Climbing (family : Family) (from items : List ℕ) (next : ℕ) : Typ
   pub closed : (k : ℕ) → k < next → All (Contains items) (parents_in family (slice_index items k))
   pub up_to : next ≤ length items
 
-pub climbing_first : (family : Family) (from : List ℕ) → Climbing family from from 0
-climbing_first family from = record {
-  starts = λ x has. has;
-  sound = λ x has. inl has;
-  closed = λ k small. absurd (omega arith);
-  up_to = omega arith;
-}
-
 -- a parent of a class that is among some or above them is above them
 one_up : (family : Family) (from : List ℕ) (x y : ℕ) → IsAmongOrAbove family from x → Contains (parents_in family x) y
     → IsAmongOrAbove family from y

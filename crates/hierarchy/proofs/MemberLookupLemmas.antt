@@ -1,8 +1,8 @@
 -- Steps of a search from a class up, at a class that is known by an equation.
-use Rattle.std.proofs.Common.{◌≡◌, ◌≢◌, ◌<◌, ℕ, Option, Some, None, sym, subst}
+use Rattle.std.proofs.Common.{◌≡◌, ◌≢◌, ℕ, Option, Some, None, sym, subst}
 use Rattle.built_in.specs.declared.class_id.BuiltIn.{BuiltIn}
 use Rattle.built_in.specs.Keys.{NameAndType}
-use Rattle.loading.specs.Families.{Family, IsFamily, superclass_in}
+use Rattle.loading.specs.Families.{Family, superclass_in}
 use Rattle.built_in.specs.Methods.{HasMember, key_of_member}
 use Rattle.hierarchy.specs.MemberLookup.{UpClasses, here, up, beyond, member, no_member}
 use Rattle.built_in.specs.declared.method.BuiltInMethod.{BuiltInMethod}
@@ -10,13 +10,6 @@ use Rattle.hierarchy.specs.declared.member.Method.{Method}
 use Rattle.hierarchy.specs.declared.member.Method.TheVariants as method
 use Rattle.loading.specs.declared.given.Superclass.{Superclass}
 use Rattle.loading.specs.declared.given.Superclass.TheVariants as super
-use Rattle.hierarchy.proofs.FamiliesChainLemmas.{height_falls, height_at}
-
-pub found_here : (family : Family) (own : ℕ → Option ℕ) (key : NameAndType) (at : Superclass) (c k : ℕ)
-    → at ≡ super.Given c → own c ≡ Some k
-    → UpClasses family own key at (Some (method.Given c k))
-found_here family own key at c k is e = subst (λ (s : Superclass). UpClasses family own key s (Some (method.Given c k)))
-    (sym is) (here e)
 
 pub one_up : (family : Family) (own : ℕ → Option ℕ) (key : NameAndType) (at s : Superclass) (c : ℕ) (r : Option Method)
     → at ≡ super.Given c
@@ -45,9 +38,3 @@ pub no_built_in : (family : Family) (own : ℕ → Option ℕ) (key : NameAndTyp
 no_built_in family own key at b r is none nothing =
     subst (λ (t : Superclass). UpClasses family own key t r) (sym is)
     (subst (λ (o : Option Method). UpClasses family own key (super.BuiltIn b) o) (sym nothing) (no_member none))
-
-pub falls_at : (family : Family) (at s : Superclass) (c : ℕ) → at ≡ super.Given c → IsFamily family
-    → superclass_in family c ≡ Some s
-    → height_at family s < height_at family at
-falls_at family at s c is fits above = subst (λ (t : Superclass). height_at family s < height_at family t) (sym is)
-    (height_falls family c s fits above)

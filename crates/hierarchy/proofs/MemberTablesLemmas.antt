@@ -1,52 +1,23 @@
--- The table of members, class after class.
+-- The numbers of the texts of classes, class after class.
 use Rattle.std.proofs.Common.{◌≡◌, ℕ, Bool, true, false, cond, eqb, List, [], ◌∷◌, ◌++◌, length, Option, Some, None}
 use Rattle.std.proofs.Common.{zero, suc, slice_get, get_or, inl, inr, refl, sym, ap, ◌∙◌, subst, arith}
-use Rattle.std.specs.List.{position_from}
 use Rattle.std.proofs.lemmas.Bool.{eqb-true, eqb-false}
-use Rattle.std.proofs.lemmas.Option.{slice_get_past, slice_get_within}
+use Rattle.std.proofs.lemmas.Option.{slice_get_within}
 use Rattle.std.proofs.lemmas.List.{length-append}
 use Rattle.classfile.specs.ClassFile.{ClassFile}
-use Rattle.classfile.specs.declared.member.Member.{Member}
-use Rattle.built_in.specs.Keys.{NameAndType}
 use Rattle.loading.specs.Names.{text_at}
 use Rattle.loading.specs.Families.{Family, file_of, file_in}
 use Rattle.hierarchy.specs.MemberNames.{named_in}
 use Rattle.hierarchy.specs.declared.member_name.MemberName.{MemberName}
-use Rattle.hierarchy.specs.steps.MemberIndexes.{AreNumbers, place_of, IsIndex, first_some, declared_after}
-use Rattle.hierarchy.specs.MemberLookup.{is_named, field_in, method_in, field_of, method_of}
+use Rattle.hierarchy.specs.steps.MemberIndexes.{AreNumbers}
 use Rattle.hierarchy.specs.Texts.{AreDistinct}
 use Rattle.hierarchy.specs.steps.GrowingTexts.{KeepsNumbers}
 use Rattle.loading.specs.declared.given.GivenClass.{GivenClass}
-use Rattle.hierarchy.specs.declared.member_index.MemberIndex.{MemberIndex}
 use Rattle.hierarchy.specs.declared.member_index.MemberKey.{MemberKey}
 use Rattle.hierarchy.specs.declared.member_table.MemberTable.{MemberTable}
-use Rattle.hierarchy.specs.steps.MemberTables.{IsTableOf, HavePools, AreIndexed}
+use Rattle.hierarchy.specs.steps.MemberTables.{IsTableOf, HavePools}
 use Rattle.hierarchy.specs.steps.PoolTexts.{AreTextNumbers}
 use Rattle.loading.proofs.PlaceLemmas.{slice_get_push, pushed_at}
-use Rattle.hierarchy.proofs.MemberIndexesLemmas.{index_same}
-
--- what classes declare with one class more, for fields and for methods
-module _ (own : NameAndType → Option ClassFile → Option ℕ) (members : ClassFile → List Member)
-    (none : (q : NameAndType) → own q None ≡ None)
-    (some : (q : NameAndType) (f : ClassFile) → own q (Some f) ≡ position_from (is_named f q) 0 (members f))
-    (family : Family) (given : GivenClass) where
-  one_class : (c : ℕ) (q : NameAndType) → own q (file_of (slice_get (family ++ given ∷ []) c))
-      ≡ declared_after (λ i key. own key (file_of (slice_get family i))) (length family) given.file
-      (members given.file) c q
-  one_class c q = ap (λ o. own q (file_of o)) (slice_get_push family given c) ∙ by (eqb (length family) c) refl
-    where
-      by : (b : Bool) → eqb (length family) c ≡ b
-          → own q (file_of (cond (eqb (length family) c) (Some given) (slice_get family c)))
-          ≡ cond (eqb (length family) c)
-          (first_some (own q (file_of (slice_get family c)))
-          (position_from (is_named given.file q) 0 (members given.file)))
-          (own q (file_of (slice_get family c)))
-      by true e =
-          let past : slice_get family c ≡ None =
-          slice_get_past family c (omega (arith, eqb-true (length family) c e)) in
-          let gone : own q (file_of (slice_get family c)) ≡ None = ap (λ o. own q (file_of o)) past ∙ none q in
-          rw (e, gone) (some q given.file)
-      by false e = rw e refl
 
 -- the numbers of the texts of one class more
 pools_next : (old texts : List (List ℕ)) (family : Family) (given : GivenClass) (pools : List (List ℕ))
@@ -94,55 +65,7 @@ pools_with old texts family given pools new_pools numbers keeps distinct here pu
       have.pools c f n of (ap (λ l. slice_get l c) (sym pushed) ∙ there);
 }
 
--- the members of one class more are found
-pub indexed_with : (family : Family) (given : GivenClass) (texts : List (List ℕ)) (numbers : List ℕ)
-    (old_fields new_fields old_methods new_methods : MemberIndex) (fields methods : List Member)
-    → fields ≡ given.file.fields → methods ≡ given.file.methods
-    → AreDistinct texts → AreTextNumbers texts given.file numbers
-    → ((texts : List (List ℕ)) (f : ClassFile) (declared : ℕ → NameAndType → Option ℕ) → AreTextNumbers texts f numbers
-    → AreDistinct texts → IsIndex texts declared (place_of old_fields)
-    → IsIndex texts (declared_after declared (length family) f fields) (place_of new_fields))
-    → ((texts : List (List ℕ)) (f : ClassFile) (declared : ℕ → NameAndType → Option ℕ) → AreTextNumbers texts f numbers
-    → AreDistinct texts → IsIndex texts declared (place_of old_methods)
-    → IsIndex texts (declared_after declared (length family) f methods) (place_of new_methods))
-    → AreIndexed family texts old_fields old_methods
-    → AreIndexed (family ++ given ∷ []) texts new_fields new_methods
-indexed_with family given texts numbers old_fields new_fields old_methods new_methods fields methods fs ms distinct
-    here by_fields by_methods is =
-    record {
-      fields = index_same texts _ (λ c q. field_in (family ++ given ∷ []) q c) (place_of new_fields)
-          (one_class field_of (λ f. f.fields) (λ q. refl) (λ q f. refl) family given)
-          (subst (λ (l : List Member). IsIndex texts
-          (declared_after (λ c q. field_in family q c) (length family) given.file l) (place_of new_fields)) fs
-          (by_fields texts given.file _ here distinct is.fields));
-      methods = index_same texts _ (λ c q. method_in (family ++ given ∷ []) q c) (place_of new_methods)
-          (one_class method_of (λ f. f.methods) (λ q. refl) (λ q f. refl) family given)
-          (subst (λ (l : List Member). IsIndex texts
-          (declared_after (λ c q. method_in family q c) (length family) given.file l) (place_of new_methods)) ms
-          (by_methods texts given.file _ here distinct is.methods));
-    }
-
-pub table_from : (family : Family) (table : MemberTable) → HavePools family table.texts table.pools.items
-    → AreIndexed family table.texts table.fields table.methods → IsTableOf family table
-table_from family table have indexed = record {
-  distinct = have.distinct;
-  first = have.first;
-  count = have.count;
-  pools = have.pools;
-  fields = indexed.fields;
-  methods = indexed.methods;
-}
-
 -- ---- no classes
-
-none_found : (texts : List (List ℕ)) (declared : ℕ → NameAndType → Option ℕ) (index : MemberIndex)
-    → ((c : ℕ) (q : NameAndType) → declared c q ≡ None)
-    → ((c : ℕ) (q : MemberKey) → place_of index c q ≡ None) → IsIndex texts declared (place_of index)
-none_found texts declared index nothing empty = record {
-  numbered = λ c q k e. let clash : None ≡ Some k = sym (nothing c q) ∙ e in absurd cc;
-  known = λ c n k e. let clash : None ≡ Some k = sym (empty c n) ∙ e in absurd cc;
-  found = λ c q n are. empty c n ∙ sym (nothing c q);
-}
 
 pub no_pools : (texts pools : List (List ℕ)) → AreDistinct texts → slice_get texts 0 ≡ Some [] → pools ≡ []
     → HavePools [] texts pools
@@ -153,14 +76,6 @@ no_pools texts pools distinct first none = record {
   pools = λ c f n of there. let clash : None ≡ Some f = of in absurd cc;
 }
 
-pub none_indexed : (texts : List (List ℕ)) (fields methods : MemberIndex)
-    → ((c : ℕ) (q : MemberKey) → place_of fields c q ≡ None)
-    → ((c : ℕ) (q : MemberKey) → place_of methods c q ≡ None) → AreIndexed [] texts fields methods
-none_indexed texts fields methods no_fields no_methods = record {
-  fields = none_found texts _ fields (λ c q. refl) no_fields;
-  methods = none_found texts _ methods (λ c q. refl) no_methods;
-}
-
 -- ---- what members are called
 
 beside : {A B : Type 0} (xs : List A) (ys : List B) (i : ℕ) (x : A) → length xs ≡ length ys → slice_get xs i ≡ Some x
@@ -169,6 +84,19 @@ beside [] ys i x count at = absurd cc
 beside (z ∷ xs) [] i x count at = absurd (omega (arith, count))
 beside (z ∷ xs) (y ∷ ys) zero x count at = (y, refl)
 beside (z ∷ xs) (y ∷ ys) (suc i) x count at = beside xs ys i x (omega (arith, count)) at
+
+-- the texts of the file of a class have numbers
+pub numbers_of : (family : Family) (table : MemberTable) (c : ℕ) (f : ClassFile) → IsTableOf family table
+    → file_in family c ≡ Some f
+    → (numbers : List ℕ) × (slice_get table.pools.items c ≡ Some numbers) × AreTextNumbers table.texts f numbers
+numbers_of family table c f fits file = by (slice_get family c) refl
+  where
+    by : (o : Option GivenClass) → slice_get family c ≡ o
+        → (numbers : List ℕ) × (slice_get table.pools.items c ≡ Some numbers) × AreTextNumbers table.texts f numbers
+    by None at = let clash : None ≡ Some f = sym (ap file_of at) ∙ file in absurd cc
+    by (Some given) at =
+        let pool = beside family table.pools.items c given (sym fits.count) at in
+        (pool.0, pool.1, fits.pools c f pool.0 file pool.1)
 
 module _ (family : Family) (table : MemberTable) (m : MemberName) (fits : IsTableOf family table) where
   pub numbers_there : (numbers : List ℕ) (key : MemberKey) → Some numbers ≡ slice_get table.pools.items m.class

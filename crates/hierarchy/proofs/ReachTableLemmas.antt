@@ -10,7 +10,7 @@ use Rattle.hierarchy.specs.steps.Reaches.{reaches_in, row_at, reach_after, reach
 use Rattle.hierarchy.specs.declared.member_index.MemberKey.{MemberKey}
 use Rattle.hierarchy.specs.declared.member.DeclaredMember.{DeclaredMember}
 use Rattle.hierarchy.specs.declared.reach_table.Reach.{Reach}
-use Rattle.hierarchy.proofs.MemberIndexesPlaceLemmas.{key_is}
+use Rattle.hierarchy.proofs.MemberIndexesLemmas.{key_is}
 
 length-push : {A : Type 0} (xs : List A) (y : A) → length (xs ++ y ∷ []) ≡ suc (length xs)
 length-push [] y = refl

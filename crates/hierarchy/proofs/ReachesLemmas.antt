@@ -1,17 +1,17 @@
 -- Rows of reaches as classes come, depth first.
-use Rattle.std.proofs.Common.{◌≡◌, ℕ, suc, ◌<◌, ◌≤◌, Bool, true, false, cond, List, [], ◌∷◌, ◌++◌, length, Option, Some}
-use Rattle.std.proofs.Common.{None, slice_get, fold, ltb, refl, sym, ◌∙◌, subst, inl, inr, arith}
+use Rattle.std.proofs.Common.{◌≡◌, ℕ, suc, ◌-◌, ◌<◌, ◌≤◌, Bool, true, false, cond, List, [], ◌∷◌, ◌++◌, length, Option, Some}
+use Rattle.std.proofs.Common.{None, slice_get, fold, ltb, refl, sym, ap, ◌∙◌, subst, inl, inr, arith}
 use Rattle.std.proofs.lemmas.Bool.{ltb-true, lt-ltb}
 use Rattle.std.proofs.lemmas.List.{length-append}
 use Rattle.std.proofs.lemmas.Option.{slice_get_within}
 use Rattle.loading.specs.Families.{Family}
-use Rattle.loading.proofs.PlaceLemmas.{pushed_at, kept_at}
+use Rattle.loading.proofs.PlaceLemmas.{pushed_at, kept_at, last_at}
 use Rattle.hierarchy.specs.steps.MemberIndexes.{same_key}
-use Rattle.hierarchy.specs.steps.Reaches.{Nearest, Tells, TellsAlone, reaching, reach_after, GoUp, Goes}
 use Rattle.hierarchy.specs.declared.member_index.MemberKey.{MemberKey}
+use Rattle.hierarchy.proofs.MemberIndexesLemmas.{key_is, same_key_itself}
+use Rattle.hierarchy.specs.steps.Reaches.{EndsAt, Nearest, Tells, TellsAlone, TellsUpTo, reaching, reach_after, GoUp}
 use Rattle.hierarchy.specs.declared.member.DeclaredMember.{DeclaredMember}
 use Rattle.hierarchy.specs.declared.reach_table.Reach.{Reach}
-use Rattle.hierarchy.proofs.MemberIndexesPlaceLemmas.{key_is}
 
 fold_push : (row : List Reach) (place : ℕ) (before : Option DeclaredMember) (x : Reach)
     → fold (reach_after place) before (row ++ x ∷ []) ≡ reach_after place (fold (reach_after place) before row) x
@@ -29,6 +29,29 @@ reaching_at row place x same = fold_push row place None x ∙ by (ltb place x.fr
     by : (b : Bool) → ltb place x.from ≡ b → reach_after place (reaching row place) x ≡ x.nearest
     by true e = absurd (omega (arith, ltb-true place x.from e, same))
     by false e = rw e refl
+
+-- a row ends at the place of its last reach
+pub ends_pushed : (row : List Reach) (x : Reach) → EndsAt (row ++ x ∷ []) x.from
+ends_pushed row x =
+    let count : length (row ++ x ∷ []) - 1 ≡ length row = omega (arith, length-append row (x ∷ [])) in
+    (x, ap (slice_get (row ++ x ∷ [])) count ∙ last_at row x, refl)
+
+pub ends_by_key : (key k : MemberKey) (old new : List Reach) (x : Reach)
+    → new ≡ cond (same_key key k) (old ++ x ∷ []) old → EndsAt old x.from → EndsAt new x.from
+ends_by_key key k old new x is ends = by (same_key key k) refl
+  where
+    by : (b : Bool) → same_key key k ≡ b → EndsAt new x.from
+    by true e =
+        let pushed : new ≡ old ++ x ∷ [] = is ∙ rw e refl in
+        subst (λ (l : List Reach). EndsAt l x.from) (sym pushed) (ends_pushed old x)
+    by false e =
+        let kept : new ≡ old = is ∙ rw e refl in subst (λ (l : List Reach). EndsAt l x.from) (sym kept) ends
+
+pub ends_of_key : (key : MemberKey) (old new : List Reach) (x : Reach)
+    → new ≡ cond (same_key key key) (old ++ x ∷ []) old → EndsAt new x.from
+ends_of_key key old new x is =
+    let pushed : new ≡ old ++ x ∷ [] = is ∙ rw (same_key_itself key) refl in
+    subst (λ (l : List Reach). EndsAt l x.from) (sym pushed) (ends_pushed old x)
 
 module _ (family : Family) (own : ℕ → Option ℕ) (classes : List ℕ) where
   -- what tells of the classes so far tells of them and the next one when that is noted
@@ -82,44 +105,32 @@ module _ (family : Family) (own : ℕ → Option ℕ) (classes : List ℕ) where
     told = λ q d at. alone.tells.told q d (kept_at classes c d q at);
   }
 
-  pub goes_then : (c : ℕ) (old mid new : List Reach) → Goes family own classes c old mid
-      → Goes family own classes c mid new → Goes family own classes c old new
-  goes_then c old mid new (inl same) (inl other) = inl (other ∙ same)
-  goes_then c old mid new (inl same) (inr moves) = inr (λ tells. moves
-      (subst (Tells family own classes) (sym same) tells))
-  goes_then c old mid new (inr moves) (inl same) =
-      inr (λ tells. subst (TellsAlone family own (classes ++ c ∷ [])) (sym same) (moves tells))
-  goes_then c old mid new (inr moves) (inr further) =
-      inr (λ tells. further (tells_fewer c mid (moves tells)))
+  -- where a row ends at the place of the class that comes, it tells of that class too
+  pub told_at_end : (c : ℕ) (row : List Reach) (place : ℕ) → length classes ≡ place
+      → TellsUpTo family own classes c row → EndsAt row place → TellsAlone family own (classes ++ c ∷ []) row
+  told_at_end c row place count (inl alone) (a, at, from) =
+      absurd (omega (arith, alone.none_beyond (length row - 1) a at, from, count))
+  told_at_end c row place count (inr alone) ends = alone
 
-  -- a row that was noted stays so
-  pub noted_stays : (c : ℕ) (old mid new : List Reach)
-      → (Tells family own classes old → TellsAlone family own (classes ++ c ∷ []) mid)
-      → Goes family own classes c mid new
-      → Tells family own classes old → TellsAlone family own (classes ++ c ∷ []) new
-  noted_stays c old mid new noted (inl same) tells =
-      subst (TellsAlone family own (classes ++ c ∷ [])) (sym same) (noted tells)
-  noted_stays c old mid new noted (inr moves) tells = moves (tells_fewer c mid (noted tells))
-
-  pub noted_before : (c : ℕ) (old mid new : List Reach) → Goes family own classes c old mid
-      → (Tells family own classes mid → TellsAlone family own (classes ++ c ∷ []) new)
-      → Tells family own classes old → TellsAlone family own (classes ++ c ∷ []) new
-  noted_before c old mid new (inl same) noted tells = noted (subst (Tells family own classes) (sym same) tells)
-  noted_before c old mid new (inr moves) noted tells = noted (tells_fewer c mid (moves tells))
+  pub tells_so_far : (c : ℕ) (row : List Reach) → TellsUpTo family own classes c row → Tells family own classes row
+  tells_so_far c row (inl alone) = alone.tells
+  tells_so_far c row (inr alone) = tells_fewer c row alone
 
   -- one key is noted, and the others stay
-  pub goes_by_key : (c : ℕ) (key k : MemberKey) (old new : List Reach) (place : ℕ) (r : Option DeclaredMember)
+  pub tells_by_key : (c : ℕ) (key k : MemberKey) (old new : List Reach) (place : ℕ) (r : Option DeclaredMember)
       → length classes ≡ place
       → new ≡ cond (same_key key k) (old ++ record { from = place; nearest = r } ∷ []) old
-      → (key ≡ k → Tells family own classes old → Nearest family own c r) → Goes family own classes c old new
-  goes_by_key c key k old new place r count is near = by (same_key key k) refl
+      → (key ≡ k → Tells family own classes old → Nearest family own c r)
+      → TellsUpTo family own classes c old → TellsUpTo family own classes c new
+  tells_by_key c key k old new place r count is near before = by (same_key key k) refl
     where
-      by : (b : Bool) → same_key key k ≡ b → Goes family own classes c old new
-      by false e = inl (is ∙ rw e refl)
-      by true e = inr (λ tells.
+      by : (b : Bool) → same_key key k ≡ b → TellsUpTo family own classes c new
+      by false e = let kept : new ≡ old = is ∙ rw e refl in subst (TellsUpTo family own classes c) (sym kept) before
+      by true e =
+          let tells = tells_so_far c old before in
           let pushed : new ≡ old ++ record { from = place; nearest = r } ∷ [] = is ∙ rw e refl in
-          subst (TellsAlone family own (classes ++ c ∷ [])) (sym pushed)
-          (tell_next c old place r count tells (near (key_is key k e) tells)))
+          subst (TellsUpTo family own classes c) (sym pushed)
+          (inr (tell_next c old place r count tells (near (key_is key k e) tells)))
 
   -- the last class tells of the next one where both have the same nearest one
   pub tells_same : (v c : ℕ) (row : List Reach) (last : ℕ) → length classes ≡ suc last

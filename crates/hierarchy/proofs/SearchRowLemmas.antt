@@ -1,14 +1,12 @@
 -- Tables of lists by class, filled in an order in which each class stands after its parents.
-use Rattle.std.proofs.Common.{◌≡◌, ℕ, zero, suc, ◌+◌, ◌<◌, ◌≤◌, ◌^◌, List, [], length, take, get_or, set, replicate}
-use Rattle.std.proofs.Common.{refl, sym, ap, ◌∙◌, subst, inl, inr, arith}
+use Rattle.std.proofs.Common.{◌≡◌, ℕ, ◌+◌, ◌<◌, ◌≤◌, ◌^◌, List, [], length, take, get_or, set}
+use Rattle.std.proofs.Common.{sym, ap, ◌∙◌, subst, inl, inr, arith}
 use Rattle.std.specs.List.{All, Contains}
 use Rattle.std.proofs.lemmas.Bool.{cases_eq}
-use Rattle.std.proofs.lemmas.List.{take_more, take_all, length-set, get_or_default, get_or-set_same, get_or-set_other}
-use Rattle.std.proofs.lemmas.List.Elements.{All-contains, All-from_get_or, All-set, All-replicate, All-nil}
-use Rattle.std.proofs.lemmas.List.Elements.{Contains-append_left, Contains-push_cases}
-use Rattle.std.proofs.lemmas.Option.{slice_get_read}
+use Rattle.std.proofs.lemmas.List.{take_more, take_all, length-set, get_or-set_same, get_or-set_other}
+use Rattle.std.proofs.lemmas.List.Elements.{All-set, Contains-push_cases}
 use Rattle.graph.specs.Rows.{IsClosed}
-use Rattle.loading.specs.Families.{Family, IsParentsFirst, interfaces_in, superclasses_in}
+use Rattle.loading.specs.Families.{Family, IsParentsFirst}
 use Rattle.hierarchy.specs.Search.{row_in}
 
 pub closed_set : (rows : List (List ℕ)) (c : ℕ) (row : List ℕ) → IsClosed rows → All (λ v. v < length rows) row
@@ -45,28 +43,6 @@ pub rows_whole : (P : ℕ → List ℕ → Type 0) (family : Family) (order : Li
 rows_whole P family order rows k whole first before c small =
     before c (rw (take_all k order whole) (first.whole c small))
 
--- the direct superinterfaces of a class stand before it
-pub interfaces_before : (family : Family) (order : List ℕ) (k i : ℕ) → k < length order → IsParentsFirst family order
-    → Contains (interfaces_in family (get_or order k 0)) i → Contains (take k order) i
-interfaces_before family order k i small first h =
-    first.after k (get_or order k 0) i (slice_get_read order (length order) k (get_or order k 0) refl small
-    (get_or_default order k 0 (get_or order k 0) small))
-    (Contains-append_left (interfaces_in family (get_or order k 0)) (superclasses_in family (get_or order k 0)) i h)
-
--- there are no more classes than numbers of 32 bits
-pub few_classes : (family : Family) (order : List ℕ) → IsParentsFirst family order → All (λ c. c < 2 ^ 32) order
-    → length family ≤ 2 ^ 32
-few_classes family order first fits = by_length (length family) refl
-  where
-    by_length : (n : ℕ) → length family ≡ n → n ≤ 2 ^ 32
-    by_length zero e = omega arith
-    by_length (suc n) e = All-contains (λ c. c < 2 ^ 32) order n fits (first.whole n (omega arith))
-
-pub closed_empty : (rows : List (List ℕ)) (n : ℕ) → rows ≡ replicate n [] → IsClosed rows
-closed_empty rows n e =
-    let empty : List (List ℕ) = replicate n [] in
-    rw e (All-replicate (λ (row : List ℕ). All (λ v. v < length empty) row) n [] (All-nil (λ v. v < length empty)))
-
 none_before : (d : ℕ) → Contains [] d → ⊥
 none_before d (k, small, e) = omega arith
 
@@ -79,19 +55,6 @@ Filled P family limit order k rows = record {
   len : length rows ≡ length family;
   closed : IsClosed rows;
   lists : (c : ℕ) → Contains (take k order) c → P c (row_in rows c);
-}
-
-pub filled_first : (P : ℕ → List ℕ → Type 0) (family : Family) (limit : ℕ) (order : List ℕ) (rows : List (List ℕ))
-    → IsParentsFirst family order
-    → ((k : ℕ) → k < length order → get_or order k 0 < 2 ^ 32) → limit ≡ length family → length rows ≡ length family
-    → IsClosed rows
-    → Filled P family limit order 0 rows
-filled_first P family limit order rows first fits same len closed = record {
-  limit = same;
-  few = few_classes family order first (All-from_get_or (λ d. d < 2 ^ 32) order 0 fits);
-  len = len;
-  closed = closed;
-  lists = λ d h. absurd (none_before d h);
 }
 
 pub filled_next : (P : ℕ → List ℕ → Type 0) (family : Family) (limit new : ℕ) (order : List ℕ) (k : ℕ)

@@ -1,5 +1,5 @@
 -- Rows of reaches as the members of classes are noted.
-use Rattle.std.proofs.Common.{◌≡◌, ℕ, zero, suc, ◌+◌, ◌<◌, ◌⊎◌, Bool, true, false, cond, List, [], ◌∷◌, ◌++◌}
+use Rattle.std.proofs.Common.{◌≡◌, ℕ, zero, suc, ◌+◌, ◌<◌, ◌⊎◌, Bool, true, false, cond, eqb, List, [], ◌∷◌, ◌++◌}
 use Rattle.std.proofs.Common.{Option, Some, None, slice_get, refl, sym, ap, ◌∙◌, subst, inl, inr, arith, option_to_list}
 use Rattle.std.specs.List.{position_from}
 use Rattle.std.specs.Str.{bytes_eq}
@@ -8,47 +8,21 @@ use Rattle.classfile.specs.ClassFile.{ClassFile}
 use Rattle.classfile.specs.declared.member.Member.{Member}
 use Rattle.built_in.specs.Keys.{NameAndType}
 use Rattle.loading.specs.Names.{text_at, is_interface}
-use Rattle.loading.specs.Families.{Family, file_in, is_interface_in, superclass_in, superclasses_in, given_superclass}
-use Rattle.loading.specs.Families.{IsFamily, passes}
+use Rattle.loading.specs.Families.{Family, file_in, superclass_in, superclasses_in, given_superclass, IsFamily, passes}
 use Rattle.loading.specs.declared.given.Superclass.{Superclass}
 use Rattle.loading.specs.declared.given.Superclass.TheVariants as super
-use Rattle.hierarchy.specs.MemberLookup.{is_named, keep_if, is_inherited, flags_in}
-use Rattle.hierarchy.specs.MemberLookup.{field_in, field_of, method_in, method_of}
+use Rattle.hierarchy.specs.MemberLookup.{is_named, keep_if, is_inherited, flags_of, member_flags, field_of, method_of}
 use Rattle.hierarchy.specs.steps.HierarchyTables.{wanted_in}
-use Rattle.hierarchy.specs.steps.MemberIndexes.{AreNumbers}
-use Rattle.hierarchy.specs.steps.Reaches.{Members, AllGo, IsNoted, reaches_of, Nearest, here, above, nowhere}
-use Rattle.hierarchy.specs.steps.Reaches.{NearestFrom, NearestAbove, IsLast, TellsAlone, Goes}
-use Rattle.hierarchy.specs.steps.Sweeps.{members_in}
-use Rattle.hierarchy.specs.declared.reach_table.ReachTable.{ReachTable}
-use Rattle.hierarchy.specs.declared.member_index.MemberKey.{MemberKey}
+use Rattle.hierarchy.specs.steps.Reaches.{Nearest, here, above, nowhere, NearestFrom, NearestAbove, IsLast, TellsAlone}
+use Rattle.hierarchy.specs.steps.Sweeps.{counted, members_in, members_of_file}
 use Rattle.hierarchy.specs.declared.member.DeclaredMember.{DeclaredMember}
 use Rattle.hierarchy.specs.declared.wanted.Wanted.{Wanted}
 use Rattle.hierarchy.specs.declared.wanted.Wanted.TheVariants as wanted
-use Rattle.hierarchy.proofs.MemberIndexesPlaceLemmas.{both_true}
+use Rattle.std.proofs.lemmas.Bool.{and_parts, eqb-true, eqb-false}
 use Rattle.hierarchy.specs.declared.reach_table.Reach.{Reach}
 use Rattle.hierarchy.specs.steps.DepthFirst.{MayFollow, root, below, IsAtOrAbove, same, up}
 use Rattle.hierarchy.proofs.FamiliesChainLemmas.{height, falls_given}
-use Rattle.hierarchy.proofs.ReachesLemmas.{goes_then, noted_stays, noted_before, tells_same}
-
--- ---- one step after another
-
-module _ (m : Members) (classes : List ℕ) (c : ℕ) (old mid new : ReachTable) where
-  pub all_go_then : AllGo m classes c old mid → AllGo m classes c mid new → AllGo m classes c old new
-  all_go_then first second k name are =
-      goes_then m.family (m.own name) classes c (reaches_of old k) (reaches_of mid k) (reaches_of new k)
-      (first k name are) (second k name are)
-
-  pub noted_then : (name : NameAndType) → IsNoted m classes c old mid name → AllGo m classes c mid new
-      → IsNoted m classes c old new name
-  noted_then name noted go k are =
-      noted_stays m.family (m.own name) classes c (reaches_of old k) (reaches_of mid k) (reaches_of new k)
-      (noted k are) (go k name are)
-
-  pub then_noted : (name : NameAndType) → AllGo m classes c old mid → IsNoted m classes c mid new name
-      → IsNoted m classes c old new name
-  then_noted name go noted k are =
-      noted_before m.family (m.own name) classes c (reaches_of old k) (reaches_of mid k) (reaches_of new k)
-      (go k name are) (noted k are)
+use Rattle.hierarchy.proofs.ReachesLemmas.{tells_same}
 
 -- ---- what a class declares
 
@@ -69,7 +43,7 @@ named_by f m = record { name = text_at f m.name; descriptor = text_at f m.descri
 
 pub name_is : (f : ClassFile) (name : NameAndType) (m : Member) → is_named f name m ≡ true → named_by f m ≡ name
 name_is f name m e =
-    let parts = both_true (bytes_eq (text_at f m.name) name.name)
+    let parts = and_parts (bytes_eq (text_at f m.name) name.name)
     (bytes_eq (text_at f m.descriptor) name.descriptor) e in
     let n = (bytes_eq-Decides (text_at f m.name) name.name).0 parts.0 in
     let d = (bytes_eq-Decides (text_at f m.descriptor) name.descriptor).0 parts.1 in
@@ -80,70 +54,169 @@ abbrev pub Declares : Wanted → Family → NameAndType → ℕ → Type 0
 Declares kind family name d = (f : ClassFile) × (i : ℕ) × (m : Member) × (file_in family d ≡ Some f)
     × (slice_get (members_in kind family d) i ≡ Some m) × (named_by f m ≡ name)
 
-module _ (family : Family) (name : NameAndType) (d k : ℕ) where
-  -- found among some members of its file
-  among : (kind : Wanted) (members : ClassFile → List Member) (f : ClassFile) → file_in family d ≡ Some f
-      → members_in kind family d ≡ members f → position_from (is_named f name) 0 (members f) ≡ Some k
-      → Declares kind family name d
-  among kind members f at are found =
-      let member = first_passing (is_named f name) 0 (members f) k found in (
-        f,
-        member.0,
-        member.1,
-        at,
-        rw are member.2,
-        name_is f name member.1 member.3,
-      )
+-- the place of the first of a name and descriptor among some members, if it counts
+abbrev place_by : Wanted → List Member → Option ℕ → Option ℕ
+place_by kind ms None = None
+place_by kind ms (Some k) = counted kind (member_flags (slice_get ms k)) k
 
-  of_field : (kind : Wanted) → ((f : ClassFile) → file_in family d ≡ Some f → members_in kind family d ≡ f.fields)
-      → field_in family name d ≡ Some k → Declares kind family name d
-  of_field kind are found = by (file_in family d) refl found
-    where
-      by : (o : Option ClassFile) → file_in family d ≡ o → field_of name o ≡ Some k → Declares kind family name d
-      by None at e = absurd cc
-      by (Some f) at e = among kind (λ f. f.fields) f at (are f at) e
+abbrev first_in : Wanted → NameAndType → Option ClassFile → Option ℕ
+first_in kind name None = None
+first_in kind name (Some f) =
+    place_by kind (members_of_file kind (Some f))
+    (position_from (is_named f name) 0 (members_of_file kind (Some f)))
 
-  of_method : (kind : Wanted) → ((f : ClassFile) → file_in family d ≡ Some f → members_in kind family d ≡ f.methods)
-      → method_in family name d ≡ Some k → Declares kind family name d
-  of_method kind are found = by (file_in family d) refl found
-    where
-      by : (o : Option ClassFile) → file_in family d ≡ o → method_of name o ≡ Some k → Declares kind family name d
-      by None at e = absurd cc
-      by (Some f) at e = among kind (λ f. f.methods) f at (are f at) e
+every_place : (kind : Wanted) → ((flags k : ℕ) → counted kind flags k ≡ Some k) → (ms : List Member) (p : Option ℕ)
+    → p ≡ place_by kind ms p
+every_place kind every ms None = refl
+every_place kind every ms (Some k) = sym (every (member_flags (slice_get ms k)) k)
 
-if_some : (b : Bool) (o : Option ℕ) (k : ℕ) → cond b o None ≡ Some k → (b ≡ true) × (o ≡ Some k)
-if_some true o k e = (refl, e)
-if_some false o k e = absurd cc
+kept_place : (kind : Wanted) → ((flags k : ℕ) → counted kind flags k ≡ cond (is_inherited flags) (Some k) None)
+    → (f : ClassFile) (p : Option ℕ) → keep_if is_inherited (flags_of (Some f)) p ≡ place_by kind f.methods p
+kept_place kind keeps f None = refl
+kept_place kind keeps f (Some k) = sym (keeps (member_flags (slice_get f.methods k)) k)
 
-kept : (test : ℕ → Bool) (flags : ℕ → ℕ) (o : Option ℕ) (k : ℕ) → keep_if test flags o ≡ Some k
-    → (j : ℕ) × (o ≡ Some j)
-kept test flags None k e = absurd cc
-kept test flags (Some j) k e = (j, refl)
+if_interface : (kind : Wanted) (test : Member → Bool) (ms : List Member) (o : Option ℕ) (b : Bool)
+    → o ≡ place_by kind ms (position_from test 0 ms)
+    → cond b o None ≡ place_by kind (cond b ms []) (position_from test 0 (cond b ms []))
+if_interface kind test ms o true is = is
+if_interface kind test ms o false is = refl
 
--- the members of an interface
-if_interface : {A : Type 0} (family : Family) (d : ℕ) (f : ClassFile) (xs ys : List A) → is_interface_in family d ≡ true
-    → file_in family d ≡ Some f → cond (is_interface f) xs ys ≡ xs
-if_interface family d f xs ys is at =
-    let here : is_interface f ≡ true = sym (ap (passes is_interface) at) ∙ is in
-    rw here refl
+first_is : (kind : Wanted) (family : Family) (name : NameAndType) (d : ℕ)
+    → wanted_in kind family name d ≡ first_in kind name (file_in family d)
+first_is wanted.Field family name d = by (file_in family d)
+  where
+    by : (o : Option ClassFile) → field_of name o ≡ first_in wanted.Field name o
+    by None = refl
+    by (Some f) = every_place wanted.Field (λ _ _. refl) f.fields (field_of name (Some f))
+first_is wanted.InterfaceField family name d = by (file_in family d)
+  where
+    by : (o : Option ClassFile) → cond (passes is_interface o) (field_of name o) None
+        ≡ first_in wanted.InterfaceField name o
+    by None = refl
+    by (Some f) =
+        if_interface wanted.InterfaceField (is_named f name) f.fields (field_of name (Some f)) (is_interface f)
+        (every_place wanted.InterfaceField (λ _ _. refl) f.fields (field_of name (Some f)))
+first_is wanted.Method family name d = by (file_in family d)
+  where
+    by : (o : Option ClassFile) → method_of name o ≡ first_in wanted.Method name o
+    by None = refl
+    by (Some f) = every_place wanted.Method (λ _ _. refl) f.methods (method_of name (Some f))
+first_is wanted.InstanceMethod family name d = by (file_in family d)
+  where
+    by : (o : Option ClassFile) → keep_if is_inherited (flags_of o) (method_of name o)
+        ≡ first_in wanted.InstanceMethod name o
+    by None = refl
+    by (Some f) = kept_place wanted.InstanceMethod (λ _ _. refl) f (method_of name (Some f))
+first_is wanted.InterfaceMethod family name d = by (file_in family d)
+  where
+    by : (o : Option ClassFile)
+        → cond (passes is_interface o) (keep_if is_inherited (flags_of o) (method_of name o)) None
+        ≡ first_in wanted.InterfaceMethod name o
+    by None = refl
+    by (Some f) =
+        if_interface wanted.InterfaceMethod (is_named f name) f.methods
+        (keep_if is_inherited (flags_of (Some f)) (method_of name (Some f))) (is_interface f)
+        (kept_place wanted.InterfaceMethod (λ _ _. refl) f (method_of name (Some f)))
 
 pub declares : (kind : Wanted) (family : Family) (name : NameAndType) (d k : ℕ) → wanted_in kind family name d ≡ Some k
     → Declares kind family name d
-declares wanted.Field family name d k e = of_field family name d k wanted.Field (λ f at. rw at refl) e
-declares wanted.InterfaceField family name d k e =
-    let parts = if_some (is_interface_in family d) (field_in family name d) k e in
-    of_field family name d k wanted.InterfaceField
-    (λ f at. rw at (if_interface family d f f.fields [] parts.0 at)) parts.1
-declares wanted.Method family name d k e = of_method family name d k wanted.Method (λ f at. rw at refl) e
-declares wanted.InstanceMethod family name d k e =
-    let there = kept is_inherited (flags_in family d) (method_in family name d) k e in
-    of_method family name d there.0 wanted.InstanceMethod (λ f at. rw at refl) there.1
-declares wanted.InterfaceMethod family name d k e =
-    let parts = if_some (is_interface_in family d)
-    (keep_if is_inherited (flags_in family d) (method_in family name d)) k e in
-    let there = kept is_inherited (flags_in family d) (method_in family name d) k parts.1 in
-    of_method family name d there.0 wanted.InterfaceMethod
-    (λ f at. rw at (if_interface family d f f.methods [] parts.0 at)) there.1
+declares kind family name d k e = by (file_in family d) refl (sym (first_is kind family name d) ∙ e)
+  where
+    by : (o : Option ClassFile) → file_in family d ≡ o → first_in kind name o ≡ Some k → Declares kind family name d
+    by None is there = let clash : None ≡ Some k = there in absurd cc
+    by (Some f) is there = among (position_from (is_named f name) 0 (members_of_file kind (Some f))) refl there
+      where
+        among : (p : Option ℕ) → position_from (is_named f name) 0 (members_of_file kind (Some f)) ≡ p
+            → place_by kind (members_of_file kind (Some f)) p ≡ Some k → Declares kind family name d
+        among None first counts = let clash : None ≡ Some k = counts in absurd cc
+        among (Some j) first counts =
+            let member = first_passing (is_named f name) 0 (members_of_file kind (Some f)) j first in (
+              f,
+              member.0,
+              member.1,
+              is,
+              ap (λ o. slice_get (members_of_file kind o) member.0) is ∙ member.2,
+              name_is f name member.1 member.3,
+            )
+
+-- the first of the members that pass a test, or one before it passes
+first_or_before : (test : Member → Bool) (i : ℕ) (ms : List Member) (k : ℕ) (m : Member) → slice_get ms k ≡ Some m
+    → test m ≡ true
+    → (position_from test i ms ≡ Some (i + k))
+    ⊎ ((j : ℕ) × (x : Member) × (j < k) × (slice_get ms j ≡ Some x) × (test x ≡ true))
+first_or_before test i [] k m at holds = absurd cc
+first_or_before test i (x ∷ xs) zero m at holds =
+    let is : x ≡ m = cc in inl (rw (ap test is ∙ holds) (ap (λ n. Some n) (let n : i ≡ i + 0 = omega arith in n)))
+first_or_before test i (x ∷ xs) (suc k) m at holds =
+    by (test x) refl (first_or_before test (i + 1) xs k m at holds)
+  where
+    by : (b : Bool) → test x ≡ b
+        → (position_from test (i + 1) xs ≡ Some (i + 1 + k))
+        ⊎ ((j : ℕ) × (y : Member) × (j < k) × (slice_get xs j ≡ Some y) × (test y ≡ true))
+        → (cond (test x) (Some i) (position_from test (i + 1) xs) ≡ Some (i + suc k))
+        ⊎ ((j : ℕ) × (y : Member) × (j < suc k) × (slice_get (x ∷ xs) j ≡ Some y) × (test y ≡ true))
+    by true passed rest = inr (zero, x, omega arith, refl, passed)
+    by false fails (inl first) =
+        inl (rw fails (first ∙ ap (λ n. Some n) (let n : i + 1 + k ≡ i + suc k = omega arith in n)))
+    by false fails (inr before) = inr (suc before.0, before.1, omega (arith, before.2), before.3, before.4)
+
+is_named_itself : (f : ClassFile) (m : Member) → is_named f (named_by f m) m ≡ true
+is_named_itself f m = rw (
+  (bytes_eq-Decides (text_at f m.name) (text_at f m.name)).1 refl,
+  (bytes_eq-Decides (text_at f m.descriptor) (text_at f m.descriptor)).1 refl,
+) refl
+
+-- a class of which a member is known has a file
+pub has_file : (kind : Wanted) (family : Family) (d i : ℕ) (m : Member)
+    → slice_get (members_in kind family d) i ≡ Some m → (f : ClassFile) × (file_in family d ≡ Some f)
+has_file kind family d i m at = by (file_in family d) refl
+  where
+    by : (o : Option ClassFile) → file_in family d ≡ o → (f : ClassFile) × (file_in family d ≡ Some f)
+    by (Some f) is = (f, is)
+    by None is =
+        let gone : slice_get (members_of_file kind None) i ≡ Some m =
+        sym (ap (λ o. slice_get (members_of_file kind o) i) is) ∙ at in
+        let clash : None ≡ Some m = gone in absurd cc
+
+-- the first of its name and descriptor is what a class declares, if its flags are those of the kind that counts
+first_counts : (kind : Wanted) (family : Family) (name : NameAndType) (d k : ℕ) (f : ClassFile) (m : Member)
+    → file_in family d ≡ Some f → slice_get (members_of_file kind (Some f)) k ≡ Some m
+    → position_from (is_named f name) 0 (members_of_file kind (Some f)) ≡ Some k
+    → wanted_in kind family name d ≡ counted kind m.access_flags k
+first_counts kind family name d k f m is at first =
+    first_is kind family name d ∙ ap (first_in kind name) is
+    ∙ ap (place_by kind (members_of_file kind (Some f))) first ∙ ap (λ o. counted kind (member_flags o) k) at
+
+-- a member counts, unless one before it has its name and descriptor
+pub counts_or_before : (kind : Wanted) (family : Family) (d k : ℕ) (f : ClassFile) (m : Member)
+    → file_in family d ≡ Some f → slice_get (members_in kind family d) k ≡ Some m
+    → (wanted_in kind family (named_by f m) d ≡ counted kind m.access_flags k)
+    ⊎ ((j : ℕ) × (x : Member) × (j < k) × (slice_get (members_in kind family d) j ≡ Some x)
+    × (named_by f x ≡ named_by f m))
+counts_or_before kind family d k f m is at =
+    let name = named_by f m in
+    let ms = members_of_file kind (Some f) in
+    let equal : members_in kind family d ≡ ms = ap (members_of_file kind) is in
+    let read : slice_get ms k ≡ Some m = sym (ap (λ l. slice_get l k) equal) ∙ at in
+    elim (first_or_before (is_named f name) 0 ms k m read (is_named_itself f m)) [
+      | inl first ↦ inl (first_counts kind family name d k f m is read
+          (first ∙ ap (λ n. Some n) (let n : 0 + k ≡ k = omega arith in n)))
+      | inr before ↦ inr (
+        before.0,
+        before.1,
+        before.2,
+        ap (λ l. slice_get l before.0) equal ∙ before.3,
+        name_is f name before.1 before.4,
+      )
+    ]
+
+-- whether a class declares it itself
+pub own_or_other : (d c : ℕ) → ((d ≡ c) × (eqb d c ≡ true)) ⊎ ((¬ (d ≡ c)) × (eqb d c ≡ false))
+own_or_other d c = by (eqb d c) refl
+  where
+    by : (b : Bool) → eqb d c ≡ b → ((d ≡ c) × (eqb d c ≡ true)) ⊎ ((¬ (d ≡ c)) × (eqb d c ≡ false))
+    by true e = inl (eqb-true d c e, e)
+    by false e = inr (eqb-false d c e, e)
 
 -- ---- from one class to the next
 
@@ -269,31 +342,6 @@ left_at_end family own c at r none stands near = (
       let clash : None ≡ Some there.0 = sym none ∙ there.1 in absurd cc,
   λ has. subst (λ (o : Option ℕ). NearestFrom family own o r) none near,
 )
-
--- ---- a class was entered
-
-pub entered : (m : Members) (classes : List ℕ) (before : Option ℕ) (c : ℕ) (old mid new : ReachTable)
-    → IsLast classes before → MayFollow m.family before c → (name : NameAndType) (k : MemberKey)
-    → AreNumbers m.texts name k → AllGo m classes c old mid → AllGo m classes c mid new
-    → IsNoted m classes c old mid name
-    ⊎ ((r : Option DeclaredMember) → NearestFrom m.family (m.own name) before r
-    → NearestAbove m.family (m.own name) c r)
-    → IsNoted m classes c mid new name ⊎ (m.own name c ≡ None)
-    → TellsAlone m.family (m.own name) classes (reaches_of old k)
-    → TellsAlone m.family (m.own name) (classes ++ c ∷ []) (reaches_of new k)
-entered m classes before c old mid new last may name k are first second (inl noted) other alone =
-    noted_then m classes c old mid new name noted second k are alone.tells
-entered m classes before c old mid new last may name k are first second (inr pass) (inl noted) alone =
-    then_noted m classes c old mid new name first noted k are alone.tells
-entered m classes before c old mid new last may name k are first second (inr pass) (inr none) alone =
-    by (all_go_then m classes c old mid new first second k name are)
-  where
-    by : Goes m.family (m.own name) classes c (reaches_of old k) (reaches_of new k)
-        → TellsAlone m.family (m.own name) (classes ++ c ∷ []) (reaches_of new k)
-    by (inl equal) =
-        subst (TellsAlone m.family (m.own name) (classes ++ c ∷ [])) (sym equal)
-        (tells_next m.family (m.own name) classes before c (reaches_of old k) last may none pass alone)
-    by (inr moves) = moves alone.tells
 
 pub only_one : (o : Option ℕ) (v : ℕ) → option_to_list o ≡ v ∷ [] → o ≡ Some v
 only_one None v e = absurd cc

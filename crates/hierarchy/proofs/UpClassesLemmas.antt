@@ -1,6 +1,6 @@
 -- Methods along superclasses, by the nearest class that declares one.
 use Rattle.std.proofs.Common.{◌≡◌, ℕ, zero, suc, ◌<◌, ◌≤◌, [], ◌∷◌, length, Option, Some, None, refl, sym, ap, ◌∙◌}
-use Rattle.std.proofs.Common.{subst, arith, IsSome, inl, inr, Bool, true, false, cond, List, slice_index_or}
+use Rattle.std.proofs.Common.{subst, arith, IsSome, inl, inr, Bool, true, false, cond, eqb, List, slice_index_or}
 use Rattle.built_in.specs.Keys.{NameAndType}
 use Rattle.built_in.specs.declared.class_id.BuiltIn.{BuiltIn}
 use Rattle.loading.specs.Families.{Family, superclass_in, superclasses_in, given_superclass, IsFamily, superclass_if}
@@ -24,11 +24,14 @@ use Rattle.hierarchy.specs.declared.member_index.MemberKey.{MemberKey}
 use Rattle.hierarchy.specs.declared.nearest.NearestMembers.{NearestMembers}
 use Rattle.hierarchy.specs.declared.reach_table.Reach.{Reach}
 use Rattle.hierarchy.specs.steps.MemberIndexes.{AreNumbers}
-use Rattle.hierarchy.specs.steps.NearestMembers.{AreNearest, AllAreTold, rows_of}
+use Rattle.hierarchy.specs.steps.NearestMembers.{AreNearest, AllAreTold, own_part, rows_of}
 use Rattle.hierarchy.specs.steps.Sweeps.{members_by}
 use Rattle.hierarchy.specs.declared.nearest.Reaches.{Reaches}
-use Rattle.std.proofs.lemmas.Bool.{cases_lt}
+use Rattle.std.proofs.lemmas.Bool.{cases_lt, eq-eqb, eqb-true}
+use Rattle.loading.proofs.PlaceLemmas.{contains_at}
 use Rattle.hierarchy.proofs.FamiliesChainLemmas.{height, falls_given}
+use Rattle.hierarchy.proofs.MemberTablesLemmas.{numbers_of}
+use Rattle.hierarchy.proofs.SweepsLemmas.{declares}
 use Rattle.hierarchy.specs.steps.Tops.{IsTop, direct, further}
 
 module _ (family : Family) (own : ℕ → Option ℕ) (key : NameAndType) where
@@ -102,14 +105,19 @@ no_member family wanted.InterfaceMethod name c field method =
 pub none_declared : (family : Family) (table : MemberTable) (kind : Wanted) (name : NameAndType)
     → IsTableOf family table → ¬ (Contains table.texts name.name × Contains table.texts name.descriptor) → (c : ℕ)
     → wanted_in kind family name c ≡ None
-none_declared family table kind name fits lacks c =
-    no_member family kind name c (by (field_in family name c) refl (fits.fields.numbered c name))
-    (by (method_in family name c) refl (fits.methods.numbered c name))
+none_declared family table kind name fits lacks c = by (wanted_in kind family name c) refl
   where
-    by : {o : Option ℕ} (p : Option ℕ) → o ≡ p
-        → ((k : ℕ) → o ≡ Some k → Contains table.texts name.name × Contains table.texts name.descriptor) → o ≡ None
-    by None at numbered = at
-    by (Some k) at numbered = absurd (lacks (numbered k at))
+    by : (o : Option ℕ) → wanted_in kind family name c ≡ o → wanted_in kind family name c ≡ None
+    by None at = at
+    by (Some k) at =
+        let d = declares kind family name c k at in
+        let numbers = numbers_of family table c d.0 fits d.3 in
+        absurd (lacks (
+          contains_at table.texts (slice_index_or numbers.0 d.2.name 0) name.name
+              (numbers.2 d.2.name ∙ ap (λ (n : NameAndType). Some n.name) d.5),
+          contains_at table.texts (slice_index_or numbers.0 d.2.descriptor 0) name.descriptor
+              (numbers.2 d.2.descriptor ∙ ap (λ (n : NameAndType). Some n.descriptor) d.5),
+        ))
 
 pub no_class_declares : (family : Family) (kind : Wanted) (name : NameAndType) (c : ℕ) → length family ≤ c
     → wanted_in kind family name c ≡ None
@@ -120,6 +128,37 @@ no_class_declares family kind name c past =
 lacks_own : {family : Family} {own : ℕ → Option ℕ} {c : ℕ} → Nearest family own c None → own c ≡ None
 lacks_own (above none is rest) = none
 lacks_own (nowhere none is) = none
+
+-- ---- what a class declares itself
+
+declared_there : {family : Family} {own : ℕ → Option ℕ} {c : ℕ} {m : DeclaredMember} → Nearest family own c (Some m)
+    → own m.class ≡ Some m.index
+declared_there (here e) = e
+declared_there (above none is rest) = declared_there rest
+
+lacks_other : {family : Family} {own : ℕ → Option ℕ} {c : ℕ} {m : DeclaredMember} → Nearest family own c (Some m)
+    → eqb m.class c ≡ false → own c ≡ None
+lacks_other {c = c} (here e) other = let clash : true ≡ false = sym (eq-eqb c c refl) ∙ other in absurd cc
+lacks_other (above none is rest) other = none
+
+own_is : {family : Family} {own : ℕ → Option ℕ} {c : ℕ} (r : Option DeclaredMember) → Nearest family own c r
+    → own_part c r ≡ own c
+own_is None near = sym (lacks_own near)
+own_is {own = own} {c = c} (Some m) near = by (eqb m.class c) refl
+  where
+    by : (b : Bool) → eqb m.class c ≡ b → cond (eqb m.class c) (Some m.index) None ≡ own c
+    by true e = rw e (sym (declared_there near) ∙ ap own (eqb-true m.class c e))
+    by false e = rw e (sym (lacks_other near e))
+
+pub own_told : (family : Family) (table : MemberTable) (nearest : NearestMembers) (kind : Wanted) (name : NameAndType)
+    (c : ℕ) (r : Option DeclaredMember) → AreNearest family table nearest
+    → (c < length family → Nearest family (wanted_in kind family name) c r)
+    → (length nearest.places.items ≤ c → r ≡ None) → own_part c r ≡ wanted_in kind family name c
+own_told family table nearest kind name c r are near gone = elim (cases_lt c (length family)) [
+  | inl small ↦ own_is r (near small)
+  | inr past ↦ ap (own_part c) (gone (omega (arith, are.count, past)))
+      ∙ sym (no_class_declares family kind name c (omega (arith, past)))
+]
 
 -- what has no reaches is declared by no class
 pub nothing_told : (family : Family) (table : MemberTable) (nearest : NearestMembers) (kind : Wanted)

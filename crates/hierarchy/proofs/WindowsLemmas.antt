@@ -74,24 +74,6 @@ module _ (rows : List Own) (class here same : ℕ) where
             (ap (λ (o : Own). o.same) at) (λ x other. ap (λ (o : Own). o.same) (own_other rows class row x other)) c n;
       }
 
-  pub notes_past : length rows ≤ class → Notes rows rows class here same
-  notes_past large = record {
-    here = λ c n small. (
-      λ has. inl has,
-      λ has. elim has [
-        | inl before ↦ before
-        | inr this ↦ absurd (omega (arith, small, large, this.0))
-      ],
-    );
-    same = λ c n small. (
-      λ has. inl has,
-      λ has. elim has [
-        | inl before ↦ before
-        | inr this ↦ absurd (omega (arith, small, large, this.0))
-      ],
-    );
-  }
-
 -- ---- one more declaration
 
 module _ (declared : List Declaration) (start : ℕ) where

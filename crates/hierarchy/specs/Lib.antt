@@ -4,7 +4,6 @@ pub mod MemberNames
 pub mod Resolution
 pub mod Initialization
 pub mod Texts
-pub mod Seeds
 pub mod Hierarchies
 pub mod Subclasses
 pub mod Subtypes

@@ -6,7 +6,7 @@ ghost use Rattle.built_in.specs.Keys.{NameAndType};
 ghost use Rattle.hierarchy.specs.MemberLookup.{flags_in, is_abstract};
 ghost use Rattle.hierarchy.specs.declared.wanted.Wanted.TheVariants as kind;
 ghost use Rattle.hierarchy.specs.declared.declarations.Declaration.{Declaration as Declared};
-ghost use Rattle.hierarchy.specs.steps.Declarations.{AreDeclared, IsListed, IsWhole, Goes};
+ghost use Rattle.hierarchy.specs.steps.Declarations.{AreDeclared, IsListed, IsWhole, Grows};
 ghost use Rattle.hierarchy.specs.steps.HierarchyTables.{wanted_in};
 ghost use Rattle.hierarchy.specs.steps.MemberIndexes.{AreNumbers};
 ghost use Rattle.hierarchy.specs.steps.Reaches.{class_noted};
@@ -37,7 +37,7 @@ impl Hierarchy {
         declared: &mut Vec<Declaration>,
     ) -> Result<(), AllocError>
         requires { AreDeclared self.now wanted declared.old.items }
-        ensures goes { OnOk result (Goes self.now wanted key declared.old.items declared.new.items) }
+        ensures goes { OnOk result (Grows self.now wanted key declared.old.items declared.new.items) }
         ensures whole { OnOk result (IsWhole self.now wanted declared.new.items key) }
     {
         let row = self.noted(wanted, Some(key));
@@ -56,7 +56,7 @@ impl Hierarchy {
         declared: &mut Vec<Declaration>,
     ) -> Result<(), AllocError>
         requires { AreDeclared self.now wanted declared.old.items }
-        ensures goes { OnOk result (Goes self.now wanted key declared.old.items declared.new.items) }
+        ensures goes { OnOk result (Grows self.now wanted key declared.old.items declared.new.items) }
         ensures there { OnOk result ((name : NameAndType) (class k : ℕ) → AreNumbers self.now.texts name key
             → wanted_in wanted self.now.family name class ≡ Some k → Contains (class_noted reach.now.nearest) class
             → IsListed declared.new.items key class) }

@@ -85,12 +85,14 @@ fn sorted_of(alloc: Global, texts: &[Vec<u8>]) -> Result<BTreeMap<Vec<u8>, usize
 }
 
 impl Finder {
-    /// Finds no texts. Their codes begin as a hasher does.
-    pub(crate) fn new(alloc: Global, start: FoldHasher) -> Self
+    /// Finds no texts.
+    pub(crate) fn new(alloc: Global) -> Self
         ensures { Finds [] result }
     {
-        let chains = Chains::new(alloc);
-        Finder::Hashed { start, chains }
+        Finder::Hashed {
+            start: FoldHasher::default(),
+            chains: Chains::new(alloc),
+        }
     }
 
     /// The number of a text.

@@ -7,14 +7,13 @@ ghost use Rattle.hierarchy.specs.steps.MemberIndexes.{same_member};
 
 use crate::member::DeclaredMember;
 use crate::member_index::{ClassMember, MemberKey};
-use crate::seed::NumberSeed;
-use indexmap::IndexMap;
 use std::alloc::{AllocError, Global};
+use std::collections::BTreeMap;
 
 /// By the class that a reference names, and the numbers of its name and descriptor: the member that it resolves to, or
 /// that there is none.
 pub(crate) struct FoundAhead {
-    found: IndexMap<ClassMember, Option<DeclaredMember>, NumberSeed>,
+    found: BTreeMap<ClassMember, Option<DeclaredMember>>,
 }
 
 // By hand, since a derived one is proved anew wherever one is let go.
@@ -26,11 +25,11 @@ impl Drop for FoundAhead {
 
 impl FoundAhead {
     /// Nothing found.
-    pub(crate) fn new(alloc: Global, seed: NumberSeed) -> Self
+    pub(crate) fn new(alloc: Global) -> Self
         ensures { (class : ℕ) (key : Key) → found_in result class key ≡ None }
     {
         FoundAhead {
-            found: IndexMap::with_hasher(alloc, seed),
+            found: BTreeMap::new(alloc),
         }
     }
 

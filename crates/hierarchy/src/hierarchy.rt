@@ -23,7 +23,6 @@ use crate::member_name::MemberName;
 use crate::member_table::MemberTable;
 use crate::nearest::NearestMembers;
 use crate::reach_table::Reach;
-use crate::seed::Seed;
 use crate::wanted::Wanted;
 use built_in::class_id::BuiltIn;
 use classfile::ClassFile;
@@ -86,11 +85,6 @@ impl Hierarchy {
         ensures { result.now ≡ self.now.family }
     {
         &self.family
-    }
-
-    /// Where the codes of texts begin that stand in its class files.
-    pub fn seed(&self) -> Seed {
-        Seed::plain()
     }
 
     /// The numbers of a name and a descriptor. Without numbers no given class has such a member.
@@ -211,7 +205,8 @@ impl Hierarchy {
         ensures { (name : NameAndType) → IsLookup self.now.texts name key
             → result ≡ wanted_in wanted self.now.family name class }
     {
-        find(&self.family, &self.table, wanted, class, key)
+        let nearest = &self.nearest;
+        nearest.own(wanted, class, key?)
     }
 }
 
@@ -223,47 +218,6 @@ fn tables_of(alloc: Global, family: &Family) -> Result<(MemberTable, NearestMemb
     let table = MemberTable::of_classes(alloc, family.classes())?;
     let nearest = NearestMembers::of_family(alloc, family, &table)?;
     Ok((table, nearest))
-}
-
-/// The place of a class's member of some kind.
-pub(crate) fn find(
-    family: &Family,
-    table: &MemberTable,
-    wanted: Wanted,
-    class: u32,
-    key: Option<MemberKey>,
-) -> Option<u16>
-    requires { IsTableOf family.now table.now }
-    ensures { (name : NameAndType) → IsLookup table.now.texts name key
-        → result ≡ wanted_in wanted family.now name class }
-{
-    match wanted {
-        Wanted::Field => table.field(class, key),
-        Wanted::InterfaceField if family.is_interface(class) => table.field(class, key),
-        Wanted::Method => table.method(class, key),
-        Wanted::InstanceMethod => instance_method(family, table, class, key),
-        Wanted::InterfaceMethod if family.is_interface(class) => {
-            instance_method(family, table, class, key)
-        }
-        Wanted::InterfaceField | Wanted::InterfaceMethod => None,
-    }
-}
-
-/// The place of a class's method that is neither private nor static.
-fn instance_method(
-    family: &Family,
-    table: &MemberTable,
-    class: u32,
-    key: Option<MemberKey>,
-) -> Option<u16>
-    requires { IsTableOf family.now table.now }
-    ensures { (name : NameAndType) → IsLookup table.now.texts name key
-        → result ≡ instance_method_in family.now name class }
-{
-    match table.method(class, key) {
-        Some(index) if is_inherited(flags_in(family, class, index)) => Some(index),
-        _ => None,
-    }
 }
 
 /// The access flags of the method at a place of a class, or no flags.
@@ -287,7 +241,7 @@ fn flags_at(file: &ClassFile, index: u16) -> u16
 }
 
 /// Whether a method of these flags is neither private nor static.
-fn is_inherited(flags: u16) -> bool
+pub(crate) fn is_inherited(flags: u16) -> bool
     ensures { result ≡ is_inherited flags }
 {
     !(has_flag(flags, PRIVATE) || has_flag(flags, STATIC))

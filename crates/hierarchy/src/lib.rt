@@ -34,7 +34,6 @@ mod resolve_ahead;
 mod resolve_field;
 mod resolve_method;
 mod search;
-pub mod seed;
 mod select;
 pub mod selectable;
 mod settled;

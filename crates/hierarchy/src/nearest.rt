@@ -1,25 +1,24 @@
 //! The nearest members along superclasses, found by numbers (JVMS 5.4.3.2, 5.4.3.3; 6.5, invokevirtual).
 
-ghost use Rattle.std.specs.Prelude.{◌≡◌, ◌<◌, ℕ, None, Some, IsTrue, length, slice_get, IfOk, OnOk};
+ghost use Rattle.std.specs.Prelude.{◌≡◌, ◌<◌, ◌≤◌, ℕ, None, Some, IsTrue, length, slice_get, IfOk, OnOk};
 ghost use Rattle.built_in.specs.Keys.{NameAndType};
 ghost use Rattle.hierarchy.specs.steps.MemberIndexes.{AreNumbers};
 ghost use Rattle.hierarchy.specs.steps.MemberTables.{IsTableOf};
 ghost use Rattle.loading.specs.Families.{Family as Classes};
 ghost use Rattle.hierarchy.specs.declared.member_table.MemberTable.{MemberTable as Table};
 ghost use Rattle.hierarchy.specs.steps.HierarchyTables.{wanted_in};
-ghost use Rattle.hierarchy.specs.steps.DepthFirst.{IsWholeOrder, ArePlaces};
+ghost use Rattle.hierarchy.specs.steps.Sweeps.{IsClassOrder};
 ghost use Rattle.std.specs.List.{Contains};
 ghost use Rattle.hierarchy.specs.steps.Reaches.{Nearest, classes_noted};
 ghost use Rattle.hierarchy.specs.declared.wanted.Wanted.{Wanted as Kind};
-ghost use Rattle.hierarchy.specs.steps.NearestMembers.{AreNearest, AllAreTold, IsEmpty, rows_of};
+ghost use Rattle.hierarchy.specs.steps.NearestMembers.{AreNearest, AllAreTold, IsEmpty, own_part, rows_of};
 
 use crate::depth_first::{depth_first, places_in};
 use crate::member::DeclaredMember;
 use crate::member_index::MemberKey;
 use crate::member_table::MemberTable;
 use crate::reach_table::{Reach, ReachTable};
-use crate::reaches::note_reaches;
-use crate::seed::NumberSeed;
+use crate::sweep::ClassOrder;
 use crate::tops::{top_in, tops_of};
 use crate::wanted::Wanted;
 use built_in::class_id::BuiltIn;
@@ -85,7 +84,13 @@ impl NearestMembers {
         let order = order.as_slice();
         let places = places_in(alloc, order, family.classes().len())?;
         let tops = tops_of(alloc, family)?;
-        let reaches = Reaches::along(alloc, family, table, order, &places)?;
+        let classes = ClassOrder {
+            family,
+            table,
+            order,
+            places: &places,
+        };
+        let reaches = Reaches::along(alloc, &classes)?;
         Ok(NearestMembers {
             places,
             tops,
@@ -95,99 +100,42 @@ impl NearestMembers {
 }
 
 impl Reaches {
-    /// Those of a family's classes in an order.
-    fn along(
-        alloc: Global,
-        family: &Family,
-        table: &MemberTable,
-        order: &[u32],
-        places: &[usize],
-    ) -> Result<Self, AllocError>
-        requires fits { IsTableOf family.now table.now }
-        requires order { IsWholeOrder family.now order.now }
-        requires places { ArePlaces order.now places.now }
-        ensures { IfOk result (AllAreTold family.now table.now order.now) }
+    /// Those of classes in an order.
+    fn along(alloc: Global, classes: &ClassOrder) -> Result<Self, AllocError>
+        requires { IsClassOrder classes.now }
+        ensures { IfOk result (AllAreTold classes.now.family.now classes.now.table.now classes.now.order.now) }
     {
-        let mut reaches = Reaches::nowhere(alloc, table.seed());
-        match reaches.note(alloc, family, table, order, places) {
+        let mut reaches = Reaches::nowhere(alloc);
+        match reaches.note(alloc, classes) {
             Ok(()) => Ok(reaches),
             Err(error) => Err(error),
         }
     }
 
     /// No class is noted yet.
-    fn nowhere(alloc: Global, seed: NumberSeed) -> Self
+    fn nowhere(alloc: Global) -> Self
         ensures { (kind : Kind) → IsEmpty (rows_of kind result) }
     {
         Reaches {
-            fields: ReachTable::new(alloc, seed),
-            interface_fields: ReachTable::new(alloc, seed),
-            methods: ReachTable::new(alloc, seed),
-            instance_methods: ReachTable::new(alloc, seed),
-            interface_methods: ReachTable::new(alloc, seed),
+            fields: ReachTable::new(alloc),
+            interface_fields: ReachTable::new(alloc),
+            methods: ReachTable::new(alloc),
+            instance_methods: ReachTable::new(alloc),
+            interface_methods: ReachTable::new(alloc),
         }
     }
 
     /// Notes those of each kind.
-    fn note(
-        &mut self,
-        alloc: Global,
-        family: &Family,
-        table: &MemberTable,
-        order: &[u32],
-        places: &[usize],
-    ) -> Result<(), AllocError>
-        requires fits { IsTableOf family.now table.now }
-        requires order { IsWholeOrder family.now order.now }
-        requires places { ArePlaces order.now places.now }
+    fn note(&mut self, alloc: Global, classes: &ClassOrder) -> Result<(), AllocError>
+        requires order { IsClassOrder classes.now }
         requires empty { (kind : Kind) → IsEmpty (rows_of kind self.old) }
-        ensures { OnOk result (AllAreTold family.now table.now order.now self.new) }
+        ensures { OnOk result (AllAreTold classes.now.family.now classes.now.table.now classes.now.order.now self.new) }
     {
-        note_reaches(
-            alloc,
-            family,
-            table,
-            Wanted::Field,
-            order,
-            places,
-            &mut self.fields,
-        )?;
-        note_reaches(
-            alloc,
-            family,
-            table,
-            Wanted::InterfaceField,
-            order,
-            places,
-            &mut self.interface_fields,
-        )?;
-        note_reaches(
-            alloc,
-            family,
-            table,
-            Wanted::Method,
-            order,
-            places,
-            &mut self.methods,
-        )?;
-        note_reaches(
-            alloc,
-            family,
-            table,
-            Wanted::InstanceMethod,
-            order,
-            places,
-            &mut self.instance_methods,
-        )?;
-        note_reaches(
-            alloc,
-            family,
-            table,
-            Wanted::InterfaceMethod,
-            order,
-            places,
-            &mut self.interface_methods,
-        )?;
+        classes.note(alloc, Wanted::Field, &mut self.fields)?;
+        classes.note(alloc, Wanted::InterfaceField, &mut self.interface_fields)?;
+        classes.note(alloc, Wanted::Method, &mut self.methods)?;
+        classes.note(alloc, Wanted::InstanceMethod, &mut self.instance_methods)?;
+        classes.note(alloc, Wanted::InterfaceMethod, &mut self.interface_methods)?;
         Ok(())
     }
 
@@ -231,12 +179,21 @@ impl NearestMembers {
         class: u32,
         key: MemberKey,
     ) -> Option<DeclaredMember>
-        ensures { (family : Classes) (table : Table) (name : NameAndType) → AreNearest family table self.now
+        ensures nearest { (family : Classes) (table : Table) (name : NameAndType) → AreNearest family table self.now
             → AreNumbers table.texts name key → class < length family
             → Nearest family (wanted_in wanted family name) class result }
+        ensures past { length self.now.places.items ≤ class → result ≡ None }
     {
         let place = *self.places.get(class as usize)?;
         self.reaches.rows(wanted).reaching(key, place)
+    }
+
+    /// The place of a class's member of a kind.
+    pub(crate) fn own(&self, wanted: Wanted, class: u32, key: MemberKey) -> Option<u16>
+        ensures { (family : Classes) (table : Table) (name : NameAndType) → AreNearest family table self.now
+            → AreNumbers table.texts name key → result ≡ wanted_in wanted family name class }
+    {
+        own_of(class, self.nearest(wanted, class, key))
     }
 
     /// The built-in class above a class.
@@ -244,5 +201,15 @@ impl NearestMembers {
         ensures { result ≡ slice_get self.now.tops.items class }
     {
         top_in(&self.tops, class)
+    }
+}
+
+/// The place of a member, if a class declares it itself.
+fn own_of(class: u32, nearest: Option<DeclaredMember>) -> Option<u16>
+    ensures { result ≡ own_part class nearest }
+{
+    match nearest {
+        Some(member) if member.class == class => Some(member.index),
+        _ => None,
     }
 }

@@ -1,15 +1,14 @@
 //! Rows of reaches by name and descriptor.
 
-ghost use Rattle.std.specs.Prelude.{◌≡◌, ◌++◌, ◌∷◌, [], Some, IsTrue, IfOk, OnOk, if◌then◌else◌};
+ghost use Rattle.std.specs.Prelude.{◌≡◌, ◌↔◌, ◌++◌, ◌∷◌, [], Some, IsTrue, IfOk, OnOk, if◌then◌else◌};
 ghost use Rattle.hierarchy.specs.declared.member_index.MemberKey.{MemberKey as Key};
 ghost use Rattle.hierarchy.specs.steps.MemberIndexes.{same_key};
-ghost use Rattle.hierarchy.specs.steps.Reaches.{reaches_of, number_in, IsReachTable, GoUp, reaching, last_nearest};
+ghost use Rattle.hierarchy.specs.steps.Reaches.{reaches_of, number_in, EndsAt, IsReachTable, GoUp, reaching, last_nearest};
 
 use crate::member::DeclaredMember;
 use crate::member_index::MemberKey;
-use crate::seed::NumberSeed;
-use indexmap::IndexMap;
 use std::alloc::{AllocError, Global};
+use std::collections::BTreeMap;
 
 /// From which place on what member is the nearest, among classes that stand depth first.
 #[derive(Clone, Copy)]
@@ -20,7 +19,7 @@ pub(crate) struct Reach {
 
 /// For each name and descriptor its reaches, in the order of their places.
 pub(crate) struct ReachTable {
-    numbers: IndexMap<MemberKey, usize, NumberSeed>,
+    numbers: BTreeMap<MemberKey, usize>,
     rows: Vec<Vec<Reach>>,
 }
 
@@ -36,12 +35,12 @@ impl Drop for ReachTable {
 
 impl ReachTable {
     /// No reaches.
-    pub(crate) fn new(alloc: Global, seed: NumberSeed) -> Self
+    pub(crate) fn new(alloc: Global) -> Self
         ensures table { IsReachTable result }
         ensures empty { (key : Key) → reaches_of result key ≡ [] }
     {
         ReachTable {
-            numbers: IndexMap::with_hasher(alloc, seed),
+            numbers: BTreeMap::new(alloc),
             rows: Vec::new(alloc),
         }
     }
@@ -90,6 +89,16 @@ impl ReachTable {
         let number = self.number_of(alloc, key)?;
         self.rows[number].push(reach)?;
         Ok(())
+    }
+
+    /// Whether the last reach of a key is from a place.
+    pub(crate) fn ends_at(&self, key: MemberKey, place: usize) -> bool
+        ensures { IsTrue result ↔ EndsAt (reaches_of self.now key) place }
+    {
+        match self.row(key).last() {
+            Some(reach) => reach.from == place,
+            None => false,
+        }
     }
 
     /// Whether a key has no reaches.

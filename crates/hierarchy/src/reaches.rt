@@ -4,52 +4,49 @@
 //! descriptor, where the nearest class that declares such a member changes: at a class that declares one, and where
 //! the classes below one end.
 
-ghost use Rattle.std.specs.Prelude.{◌≡◌, ◌⊎◌, ◌↔◌, IsTrue, ℕ, ◌<◌, ◌++◌, ◌∷◌, [], List, Option, Some, None, take};
-ghost use Rattle.std.specs.Prelude.{OnOk, slice_get, slice_index_or};
-ghost use Rattle.std.specs.List.{Contains};
-ghost use Rattle.classfile.specs.ClassFile.{ClassFile as File};
-ghost use Rattle.classfile.specs.declared.member.Member.{Member as Declared};
+ghost use Rattle.std.specs.Prelude.{◌≡◌, ◌⊎◌, ◌↔◌, IsTrue, ℕ, ◌<◌, ◌^◌, ◌++◌, ◌∷◌, [], List, Option, Some, None, length};
+ghost use Rattle.std.specs.Prelude.{OnOk, ◌==◌, slice_index_or, if◌then◌else◌};
 ghost use Rattle.built_in.specs.Keys.{NameAndType};
-ghost use Rattle.loading.specs.Names.{text_at};
-ghost use Rattle.hierarchy.specs.steps.PoolTexts.{AreTextNumbers};
 ghost use Rattle.hierarchy.specs.declared.member_index.MemberKey.{MemberKey as Key};
 ghost use Rattle.hierarchy.specs.steps.MemberIndexes.{AreNumbers};
-ghost use Rattle.hierarchy.specs.steps.Reaches.{Nearest, NearestFrom, NearestAbove, IsLast};
-ghost use Rattle.hierarchy.specs.steps.Reaches.{Tells, StandsBehind, AllGo, AllTell, IsNoted, IsReachTable, reaches_of};
-ghost use Rattle.hierarchy.specs.steps.DepthFirst.{MayFollow, IsDepthFirst, IsWholeOrder, ArePlaces, StandOnce};
+ghost use Rattle.hierarchy.specs.steps.Reaches.{AllTell, EndsAt, IsLast, IsReachTable, Nearest, NearestAbove, NearestFrom};
+ghost use Rattle.hierarchy.specs.steps.Reaches.{StandsBehind, Tells, reaches_of};
+ghost use Rattle.hierarchy.specs.steps.DepthFirst.{MayFollow, IsDepthFirst, ArePlaces, StandOnce};
 ghost use Rattle.loading.specs.Families.{IsFamily};
 ghost use Rattle.hierarchy.specs.declared.member.DeclaredMember.{DeclaredMember as Found};
-ghost use Rattle.hierarchy.specs.steps.HierarchyTables.{wanted_in};
 ghost use Rattle.hierarchy.specs.steps.NearestMembers.{IsEmpty};
 ghost use Rattle.hierarchy.specs.steps.MemberTables.{IsTableOf};
-ghost use Rattle.hierarchy.specs.steps.Sweeps.{members_of, members_of_file, members_in, members_by};
+ghost use Rattle.hierarchy.specs.steps.Sweeps.{AreNoted, Comes, IsClassOrder, IsNoted, KeepsEnds, came, counted, own_in};
+ghost use Rattle.hierarchy.specs.steps.Sweeps.{members_by, members_in, members_of, members_of_file};
 
 use crate::depth_first::given_superclass;
-use crate::hierarchy::find;
+use crate::hierarchy::is_inherited;
 use crate::member::DeclaredMember;
 use crate::member_index::MemberKey;
-use crate::member_table::MemberTable;
-use crate::pool_texts::PoolTexts;
 use crate::reach_table::{Reach, ReachTable};
-use crate::sweep::Sweep;
+use crate::sweep::{ClassOrder, Sweep};
 use crate::wanted::Wanted;
 use classfile::{ClassFile, Member};
-use loading::family::Family;
 use loading::names::is_interface;
 use std::alloc::{AllocError, Global};
 
 impl Sweep<'_> {
-    /// The nearest class that declares a member, from a class on that comes next.
-    fn nearest(&self, rows: &ReachTable, key: MemberKey, class: u32) -> Option<DeclaredMember>
-        requires { IsTableOf self.now.family.now self.now.table.now }
+    /// The nearest class that declares a member, from a class on that comes next and that has a place of its own or
+    /// none.
+    fn nearest(
+        &self,
+        rows: &ReachTable,
+        key: MemberKey,
+        class: u32,
+        own: Option<u16>,
+    ) -> Option<DeclaredMember>
         ensures { (name : NameAndType) (classes : List ℕ) (place : ℕ)
-            → AreNumbers self.now.table.now.texts name key
             → StandsBehind self.now.family.now self.now.places.now classes class place
-            → Tells self.now.family.now (wanted_in self.now.wanted self.now.family.now name) classes
-            (reaches_of rows.now key)
-            → Nearest self.now.family.now (wanted_in self.now.wanted self.now.family.now name) class result }
+            → Tells self.now.family.now (own_in self.now name) classes (reaches_of rows.now key)
+            → own_in self.now name class ≡ own
+            → Nearest self.now.family.now (own_in self.now name) class result }
     {
-        if let Some(index) = find(self.family, self.table, self.wanted, class, Some(key)) {
+        if let Some(index) = own {
             return Some(DeclaredMember { class, index });
         }
         let above = given_superclass(self.family, class)?;
@@ -63,7 +60,8 @@ impl Sweep<'_> {
         self.places.get(class as usize).copied().unwrap_or(0)
     }
 
-    /// Notes what is the nearest from a class on that comes next.
+    /// Notes what is the nearest from a class on that comes next, unless it was noted there. The class has a place of
+    /// its own or none.
     fn note(
         &self,
         alloc: Global,
@@ -71,17 +69,19 @@ impl Sweep<'_> {
         key: MemberKey,
         class: u32,
         place: usize,
+        own: Option<u16>,
     ) -> Result<(), AllocError>
-        requires fits { IsTableOf self.now.family.now self.now.table.now }
-        requires rows { IsReachTable rows.old }
-        requires stands { StandsBehind self.now.family.now self.now.places.now
-            (take place self.now.order.now) class place }
-        ensures rows { OnOk result (IsReachTable rows.new) }
-        ensures go { OnOk result (AllGo (members_of self.now) (take place self.now.order.now) class rows.old rows.new) }
-        ensures noted { OnOk result ((name : NameAndType) → AreNumbers self.now.table.now.texts name key
-            → IsNoted (members_of self.now) (take place self.now.order.now) class rows.old rows.new name) }
+        requires comes { Comes self.now rows.old class place }
+        requires own { (name : NameAndType) → AreNumbers self.now.table.now.texts name key
+            → IsNoted self.now place rows.old name ⊎ (own_in self.now name class ≡ own) }
+        ensures comes { OnOk result (Comes self.now rows.new class place) }
+        ensures keeps { OnOk result (KeepsEnds place rows.old rows.new) }
+        ensures noted { OnOk result (EndsAt (reaches_of rows.new key) place) }
     {
-        let nearest = self.nearest(rows, key, class);
+        if rows.ends_at(key, place) {
+            return Ok(());
+        }
+        let nearest = self.nearest(rows, key, class, own);
         let reach = Reach {
             from: place,
             nearest,
@@ -93,7 +93,8 @@ impl Sweep<'_> {
 
 /// The members of a class file of the kind that counts.
 fn members_of_file(wanted: Wanted, file: &ClassFile) -> &[Member]
-    ensures { result.now ≡ members_of_file wanted (Some file.now) }
+    ensures value { result.now ≡ members_of_file wanted (Some file.now) }
+    ensures count { length result.now < 2 ^ 16 }
 {
     match wanted {
         Wanted::Field => file.fields(),
@@ -104,10 +105,25 @@ fn members_of_file(wanted: Wanted, file: &ClassFile) -> &[Member]
     }
 }
 
+/// The place of a member that a class itself declares, if its flags are those of the kind that counts.
+fn own_place(wanted: Wanted, declaring: u32, class: u32, flags: u16, index: u16) -> Option<u16>
+    ensures { result ≡ (if declaring == class then counted wanted flags index else None) }
+{
+    if declaring != class {
+        return None;
+    }
+    match wanted {
+        Wanted::Field | Wanted::InterfaceField | Wanted::Method => Some(index),
+        Wanted::InstanceMethod | Wanted::InterfaceMethod if is_inherited(flags) => Some(index),
+        Wanted::InstanceMethod | Wanted::InterfaceMethod => None,
+    }
+}
+
 impl Sweep<'_> {
     /// The members of a class of the kind that counts.
     fn members(&self, class: u32) -> &[Member]
-        ensures { result.now ≡ members_in self.now.wanted self.now.family.now class }
+        ensures value { result.now ≡ members_in self.now.wanted self.now.family.now class }
+        ensures count { length result.now < 2 ^ 16 }
     {
         match self.family.file(class) {
             Some(file) => members_of_file(self.wanted, file),
@@ -115,36 +131,8 @@ impl Sweep<'_> {
         }
     }
 
-    /// Notes all members that a class declares.
-    fn note_members(
-        &self,
-        alloc: Global,
-        rows: &mut ReachTable,
-        pool: &PoolTexts,
-        members: &[Member],
-        class: u32,
-        place: usize,
-    ) -> Result<(), AllocError>
-        requires fits { IsTableOf self.now.family.now self.now.table.now }
-        requires rows { IsReachTable rows.old }
-        requires stands { StandsBehind self.now.family.now self.now.places.now
-            (take place self.now.order.now) class place }
-        ensures rows { OnOk result (IsReachTable rows.new) }
-        ensures go { OnOk result (AllGo (members_of self.now) (take place self.now.order.now) class rows.old rows.new) }
-        ensures noted { OnOk result ((f : File) (i : ℕ) (m : Declared)
-            → AreTextNumbers self.now.table.now.texts f pool.now
-            → slice_get members.now i ≡ Some m
-            → IsNoted (members_of self.now) (take place self.now.order.now) class rows.old rows.new
-            (record { name = text_at f m.name; descriptor = text_at f m.descriptor })) }
-    {
-        for member in members {
-            let key = pool.key(member.name, member.descriptor);
-            self.note(alloc, rows, key, class, place)?;
-        }
-        Ok(())
-    }
-
-    /// Notes the members that a class or one that was left declares.
+    /// Notes the members that a class declares, or one that was left. The class's own come first, and where two are
+    /// alike, the first.
     fn note_class(
         &self,
         alloc: Global,
@@ -153,20 +141,22 @@ impl Sweep<'_> {
         class: u32,
         place: usize,
     ) -> Result<(), AllocError>
-        requires fits { IsTableOf self.now.family.now self.now.table.now }
-        requires rows { IsReachTable rows.old }
-        requires stands { StandsBehind self.now.family.now self.now.places.now
-            (take place self.now.order.now) class place }
-        ensures rows { OnOk result (IsReachTable rows.new) }
-        ensures go { OnOk result (AllGo (members_of self.now) (take place self.now.order.now) class rows.old rows.new) }
-        ensures noted { OnOk result ((name : NameAndType)
-            → IsNoted (members_of self.now) (take place self.now.order.now) class rows.old rows.new name
-            ⊎ (wanted_in self.now.wanted self.now.family.now name declaring ≡ None)) }
+        requires comes { Comes self.now rows.old class place }
+        requires own { (declaring ≡ class) ⊎ AreNoted self.now place rows.old class }
+        ensures comes { OnOk result (Comes self.now rows.new class place) }
+        ensures keeps { OnOk result (KeepsEnds place rows.old rows.new) }
+        ensures noted { OnOk result (AreNoted self.now place rows.new declaring) }
     {
         let Some(pool) = self.table.pool(declaring) else {
             return Ok(());
         };
-        self.note_members(alloc, rows, pool, self.members(declaring), class, place)?;
+        let members = self.members(declaring);
+        for (index, member) in members.iter().enumerate() {
+            let key = pool.key(member.name, member.descriptor);
+            let flags = member.access_flags;
+            let own = own_place(self.wanted, declaring, class, flags, index as u16);
+            self.note(alloc, rows, key, class, place, own)?;
+        }
         Ok(())
     }
 
@@ -180,18 +170,14 @@ impl Sweep<'_> {
         place: usize,
     ) -> Result<(), AllocError>
         requires family { IsFamily self.now.family.now }
-        requires fits { IsTableOf self.now.family.now self.now.table.now }
-        requires rows { IsReachTable rows.old }
-        requires stands { StandsBehind self.now.family.now self.now.places.now
-            (take place self.now.order.now) class place }
+        requires comes { Comes self.now rows.old class place }
         requires may { MayFollow self.now.family.now before class }
-        ensures rows { OnOk result (IsReachTable rows.new) }
-        ensures go { OnOk result (AllGo (members_of self.now) (take place self.now.order.now) class rows.old rows.new) }
-        ensures left { OnOk result ((name : NameAndType)
-            → IsNoted (members_of self.now) (take place self.now.order.now) class rows.old rows.new name
-            ⊎ ((r : Option Found)
-            → NearestFrom self.now.family.now (wanted_in self.now.wanted self.now.family.now name) before r
-            → NearestAbove self.now.family.now (wanted_in self.now.wanted self.now.family.now name) class r)) }
+        requires own { AreNoted self.now place rows.old class }
+        ensures comes { OnOk result (Comes self.now rows.new class place) }
+        ensures keeps { OnOk result (KeepsEnds place rows.old rows.new) }
+        ensures left { OnOk result ((name : NameAndType) → IsNoted self.now place rows.new name
+            ⊎ ((r : Option Found) → NearestFrom self.now.family.now (own_in self.now name) before r
+            → NearestAbove self.now.family.now (own_in self.now name) class r)) }
     {
         let to = given_superclass(self.family, class);
         let mut at = before;
@@ -217,18 +203,14 @@ impl Sweep<'_> {
         place: usize,
     ) -> Result<(), AllocError>
         requires family { IsFamily self.now.family.now }
-        requires fits { IsTableOf self.now.family.now self.now.table.now }
-        requires rows { IsReachTable rows.old }
-        requires stands { StandsBehind self.now.family.now self.now.places.now
-            (take place self.now.order.now) class place }
+        requires comes { Comes self.now rows.old class place }
         requires may { MayFollow self.now.family.now before class }
-        requires last { IsLast (take place self.now.order.now) before }
+        requires last { IsLast (came self.now place) before }
         ensures rows { OnOk result (IsReachTable rows.new) }
-        ensures tell { OnOk result (AllTell (members_of self.now) (take place self.now.order.now) rows.old
-            → AllTell (members_of self.now) (take place self.now.order.now ++ class ∷ []) rows.new) }
+        ensures tell { OnOk result (AllTell (members_of self.now) (came self.now place ++ class ∷ []) rows.new) }
     {
-        self.leave(alloc, rows, before, class, place)?;
         self.note_class(alloc, rows, class, class, place)?;
+        self.leave(alloc, rows, before, class, place)?;
         Ok(())
     }
 }
@@ -264,29 +246,27 @@ impl Sweep<'_> {
     }
 }
 
-/// Notes the nearest classes that declare members of a kind, along all classes of a family.
-pub(crate) fn note_reaches(
-    alloc: Global,
-    family: &Family,
-    table: &MemberTable,
-    wanted: Wanted,
-    order: &[u32],
-    places: &[usize],
-    rows: &mut ReachTable,
-) -> Result<(), AllocError>
-    requires fits { IsTableOf family.now table.now }
-    requires order { IsWholeOrder family.now order.now }
-    requires places { ArePlaces order.now places.now }
-    requires empty { IsEmpty rows.old }
-    ensures { OnOk result (AllTell (members_by wanted family.now table.now) order.now rows.new) }
-{
-    let _classes = family.classes();
-    let sweep = Sweep {
-        family,
-        table,
-        wanted,
-        order,
-        places,
-    };
-    sweep.note_order(alloc, rows)
+impl ClassOrder<'_> {
+    /// Notes the nearest classes that declare members of a kind, along all classes of a family.
+    pub(crate) fn note(
+        &self,
+        alloc: Global,
+        wanted: Wanted,
+        rows: &mut ReachTable,
+    ) -> Result<(), AllocError>
+        requires order { IsClassOrder self.now }
+        requires empty { IsEmpty rows.old }
+        ensures { OnOk result (AllTell (members_by wanted self.now.family.now self.now.table.now) self.now.order.now
+            rows.new) }
+    {
+        let _classes = self.family.classes();
+        let sweep = Sweep {
+            family: self.family,
+            table: self.table,
+            wanted,
+            order: self.order,
+            places: self.places,
+        };
+        sweep.note_order(alloc, rows)
+    }
 }

@@ -23,7 +23,6 @@ use crate::found_ahead::FoundAhead;
 use crate::hierarchy::Hierarchy;
 use crate::member_index::MemberKey;
 use crate::parents_first::ParentsFirst;
-use crate::seed::NumberSeed;
 use crate::wanted::Wanted;
 use crate::ways::fill;
 use crate::windows::note;
@@ -206,7 +205,7 @@ impl Hierarchy {
     ) -> Result<FoundAhead, AllocError>
         ensures { IfOk result (AreAhead kind self.now) }
     {
-        let mut found = FoundAhead::new(alloc, NumberSeed::of_references(asked));
+        let mut found = FoundAhead::new(alloc);
         match self.add_asked_ahead(alloc, kind, asked, &mut found) {
             Ok(()) => Ok(found),
             Err(error) => Err(error),

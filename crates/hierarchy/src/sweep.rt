@@ -14,3 +14,13 @@ pub(crate) struct Sweep<'a> {
     /// By class: its place in the order.
     pub(crate) places: &'a [usize],
 }
+
+/// Classes in an order in which those below a class stand together, with the table of their members.
+#[derive(Drop)]
+pub(crate) struct ClassOrder<'a> {
+    pub(crate) family: &'a Family,
+    pub(crate) table: &'a MemberTable,
+    pub(crate) order: &'a [u32],
+    /// By class: its place in the order.
+    pub(crate) places: &'a [usize],
+}

@@ -1,13 +1,12 @@
 //! Texts by number.
 
 ghost use Rattle.std.specs.Prelude.{◌+◌, ◌++◌, ◌∷◌, ◌≡◌, [], Some, IfOk, OnErr, OnOk, MatchOption, option_map};
-ghost use Rattle.std.specs.Prelude.{slice_get, take};
+ghost use Rattle.std.specs.Prelude.{slice_get};
 ghost use Rattle.std.specs.List.{Contains};
 ghost use Rattle.hierarchy.specs.Texts.{AreDistinct};
 ghost use Rattle.hierarchy.specs.steps.GrowingTexts.{KeepsNumbers};
 
 use crate::finder::Finder;
-use crate::seed::Seed;
 use std::alloc::{AllocError, Global};
 use std::marker::Model;
 
@@ -30,13 +29,13 @@ impl Model for Texts {
 }
 
 impl Texts {
-    /// No texts. Their codes begin at a seed.
-    pub fn new(alloc: Global, seed: Seed) -> Self
+    /// No texts.
+    pub fn new(alloc: Global) -> Self
         ensures { result ≡ [] }
     {
         Texts {
             texts: Vec::new(alloc),
-            finder: Finder::new(alloc, seed.of_codes()),
+            finder: Finder::new(alloc),
         }
     }
 
@@ -44,26 +43,12 @@ impl Texts {
     ///
     /// # Errors
     /// Where memory runs out.
-    pub(crate) fn with_empty(alloc: Global, seed: Seed) -> Result<Self, AllocError>
+    pub(crate) fn with_empty(alloc: Global) -> Result<Self, AllocError>
         ensures first { IfOk result (λ texts. slice_get texts 0 ≡ Some []) }
         ensures distinct { IfOk result AreDistinct }
     {
-        let mut texts = Texts::new(alloc, seed);
+        let mut texts = Texts::new(alloc);
         texts.push(alloc, &[])?;
-        Ok(texts)
-    }
-
-    /// The same texts, with codes that begin at another seed.
-    ///
-    /// # Errors
-    /// Where memory runs out.
-    pub fn reseeded(&self, alloc: Global, seed: Seed) -> Result<Self, AllocError>
-        ensures { IfOk result (λ texts. texts ≡ self.now) }
-    {
-        let mut texts = Texts::new(alloc, seed);
-        for number in 0..self.texts.len() {
-            texts.push_next(alloc, self, number)?;
-        }
         Ok(texts)
     }
 
@@ -117,17 +102,5 @@ impl Texts {
         let number = self.texts.len();
         self.texts.push_reserved(copy);
         Ok(number)
-    }
-
-    /// Adds the text of a number among others, where those before it are there.
-    fn push_next(&mut self, alloc: Global, all: &Texts, number: usize) -> Result<(), AllocError>
-        requires before { self.old ≡ take number all.now }
-        requires distinct { AreDistinct all.now }
-        ensures { OnOk result (self.new ≡ take (number + 1) all.now) }
-    {
-        if let Some(text) = all.text(number) {
-            self.push(alloc, text)?;
-        }
-        Ok(())
     }
 }

@@ -41,7 +41,7 @@ use Rattle.loading.proofs.LinkingPlaceLemmas.{NoneBefore, none_more, member_at}
 use Rattle.loading.proofs.OwnNamesLemmas.{own_name}
 use Rattle.hierarchy.proofs.WalksOrderLemmas.{none_in_empty, in_front, in_rest, cons_cases}
 use Rattle.image_format.proofs.NamesLemmas.{name_fits}
-use Rattle.image_parser.specs.reading.ClassNames.{all_built_in}
+use Rattle.loading.specs.steps.BuiltIns.{all_built_in}
 use Rattle.image_parser.proofs.AncestorLemmas.{Known, first_on_cycle}
 use Rattle.image_parser.proofs.ClassNameLemmas.{Member, built_member}
 use Rattle.image_parser.proofs.OneOfLemmas.{all_or_first}

@@ -1,5 +1,5 @@
 -- Readers of objects and regions are lawful.
-use Rattle.std.proofs.Common.{◌≡◌, ℕ, ◌<◌, ◌^◌, Bool, true, false, ◌&&◌, ltb, eqb, option_map, replicate, cond, List}
+use Rattle.std.proofs.Common.{◌≡◌, ℕ, ◌<◌, ◌^◌, Bool, true, false, ltb, eqb, option_map, replicate, cond, List}
 use Rattle.std.proofs.Common.{[], ◌++◌, length, Option, Some, None, is_some, Ok, Err, refl, sym, ap, subst, ◌∙◌, arith}
 use Rattle.std.specs.Bool.{Decides}
 use Rattle.std.specs.List.{flat_map}
@@ -38,7 +38,8 @@ use Rattle.image_parser.specs.declared.fault.RegionFault.{RegionFault}
 use Rattle.image_parser.specs.declared.fault.RegionFault.TheVariants as faults
 use Rattle.image_parser.specs.FirstFailing.{EachFails, times}
 use Rattle.image_parser.specs.RegionFaults.{CutNumber, IsValue, ValueFails, ElementFails, ElementsFail, known_form}
-use Rattle.image_parser.specs.RegionFaults.{form_of, NameFails, IsName, NamesClass, IsClass, ClassFails, ArrayFails}
+use Rattle.image_parser.specs.RegionFaults.{form_of, NameFails, IsName, NamesClass, IsObjectClass, ClassFails}
+use Rattle.image_parser.specs.RegionFaults.{ArrayFails}
 use Rattle.image_parser.specs.RegionFaults.{SlotsFail, ObjectFails, IsObject, ObjectsFail, AreStatics, RegionFails}
 use Rattle.image_parser.specs.RegionFaults.{IsRegion}
 use Rattle.image_parser.specs.reading.Results.{number_at, run_at, each_at}
@@ -185,7 +186,7 @@ same_name a b text s t =
 
 -- a class that has this name
 named_class : (family : Family) (form : ℕ) (class : ImageClass) (name text : List ℕ) → HasObjects family class
-    → form_of class ≡ form → name_of_class family class ≡ name → IsName name text → IsClass family form class text
+    → form_of class ≡ form → name_of_class family class ≡ name → IsName name text → IsObjectClass family form class text
 named_class family form class name text has of_form is s = record {
   has = has;
   of_form = of_form;
@@ -195,18 +196,18 @@ named_class family form class name text has of_form is s = record {
 
 module _ (family : Family) (fits : IsFamily family) where
   made_by : (form : ℕ) (name text : List ℕ) (y : ImageClass) → IsName name text → (o : Option ClassId)
-      → class_of family name ≡ o → class_if family form name o ≡ Ok y → IsClass family form y text
+      → class_of family name ≡ o → class_if family form name o ≡ Ok y → IsObjectClass family form y text
   made_by form name text y s (Some class) is e =
       let a = good_ok (good_class family form class) faults.Shape (image.Known class) y e in
       let named : IsNamed family name class = subst (StandsFor family name) is (stands family name) in
       let g = and_parts (is_form form class) (may_be family class) a.0 in
-      let P : ImageClass → Type 0 = λ z. IsClass family form z text in
+      let P : ImageClass → Type 0 = λ z. IsObjectClass family form z text in
       subst P a.1 (named_class family form (image.Known class) name text (has_of family name class named g.1)
       (form_is form class g.0) (name_is family name class named) s)
   made_by form name text y s None is e =
       let a = unknown_answered form (unknown_of name) y e in
       let u = unknown_is family name a.0 is a.1.0 in
-      let P : ImageClass → Type 0 = λ z. IsClass family form z text in
+      let P : ImageClass → Type 0 = λ z. IsObjectClass family form z text in
       subst P a.1.1.1 (named_class family form (image.UnknownArray a.0.0 a.0.1) name text u.0
       (one_form form a.1.1.0) (sym u.1) s)
 
@@ -228,7 +229,7 @@ module _ (family : Family) (fits : IsFamily family) where
       ∙ ap (λ (b : Bool). cond b (Ok (image.UnknownArray d class)) (Err faults.Shape)) good
 
   class_makes : (form : ℕ)
-      → Makes IsName (IsClass family form) (NamesClass family form) (class_for family form) faults.Shape
+      → Makes IsName (IsObjectClass family form) (NamesClass family form) (class_for family form) faults.Shape
   class_makes form = record {
     made = λ x text y bytes s e. made_by form x text y s (class_of family x) refl e;
     again = λ y text t.
@@ -239,9 +240,9 @@ module _ (family : Family) (fits : IsFamily family) where
     by_rule = λ x text s r. (r.0, named_class family form r.0 x text r.1.0 r.1.1.0 (sym r.1.1.1) s);
   }
 
-  class_lawful : (form : ℕ) → Lawful (class_at family form) (IsClass family form) (ClassFails family form)
+  class_lawful : (form : ℕ) → Lawful (class_at family form) (IsObjectClass family form) (ClassFails family form)
   unfolding class_at
-  class_lawful form = made_lawful (IsClass family form) (NamesClass family form) name_at
+  class_lawful form = made_lawful (IsObjectClass family form) (NamesClass family form) name_at
       (λ bytes. class_for family form)
       (λ bytes. faults.Shape) name_lawful (λ bytes. class_makes form)
 
@@ -336,13 +337,13 @@ slots_back family (image.UnknownArray d class) name vs h = record {
 -- ---- objects
 
 abbrev Formed : Family → ℕ → ImageObject → List ℕ → Type 0
-Formed family form = Both (IsClass family form) (λ class. Mapped (object_of class) (Slots family class))
+Formed family form = Both (IsObjectClass family form) (λ class. Mapped (object_of class) (Slots family class))
 
 abbrev Object : Family → ImageObject → List ℕ → Type 0
 Object family = Both (Ruled (Number w8) (λ form. form < 2)) (Formed family)
 
 formed_lawful : (family : Family) → IsFamily family → (form : ℕ) → Lawful (formed_at family form) (Formed family form)
-    (Either (IsClass family form) (ClassFails family form) (SlotsFail family))
+    (Either (IsObjectClass family form) (ClassFails family form) (SlotsFail family))
 unfolding formed_at
 formed_lawful family fits form =
     then_lawful (class_at family form) (λ bytes class. slots_at family class.0 class.1

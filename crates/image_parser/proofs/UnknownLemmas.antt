@@ -5,7 +5,7 @@ use Rattle.std.proofs.Common.{refl, sym, ap, subst, ◌∙◌, arith, cond}
 use Rattle.std.specs.Prelude.{◌||◌}
 use Rattle.std.specs.Bool.{Decides}
 use Rattle.std.specs.List.{All, list_any}
-use Rattle.std.proofs.lemmas.Bool.{and_parts, ltb-true, lt-ltb, eqb-true}
+use Rattle.std.proofs.lemmas.Bool.{and_parts, ltb-true, lt-ltb, eqb-true, not-true}
 use Rattle.std.proofs.lemmas.List.{take_all, take_more, length-append, append_cancel_right}
 use Rattle.std.proofs.lemmas.List.Elements.{All-nil, All-cons, All-head, All-tail}
 use Rattle.std.proofs.lemmas.Option.{same_Some}
@@ -177,10 +177,6 @@ lacks_back (b ∷ bs) all =
     by true e more differs = absurd (differs (eqb-true b 59 e))
     by false e more differs = ap (λ (t : Bool). t || semicolon_in bs) e ∙ more
 
-not_false : (t : Bool) → not t ≡ true → t ≡ false
-not_false true e = absurd cc
-not_false false e = refl
-
 abbrev IsGood : List ℕ → Type 0
 IsGood name = IsObjectName name × IsModifiedUtf8 name
 
@@ -191,7 +187,7 @@ good_is name e =
     let some = ltb-true 0 (length name) p.0 in (
       record {
         not_empty = λ is. (let none : length name ≡ 0 = ap length is in omega (arith, none, some));
-        no_semicolon = lacks name (not_false (semicolon_in name) q.0);
+        no_semicolon = lacks name (not-true (semicolon_in name) q.0);
       },
       modified_is name q.1,
     )

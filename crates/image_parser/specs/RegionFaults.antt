@@ -107,7 +107,7 @@ NamesClass family form name =
     (class : ImageClass) × (HasObjects family class × ((form_of class ≡ form) × (name ≡ name_of_class family class)))
 
 -- such a class, by its name
-pub record IsClass (family : Family) (form : ℕ) (class : ImageClass) (text : List ℕ) : Type 0 where
+pub record IsObjectClass (family : Family) (form : ℕ) (class : ImageClass) (text : List ℕ) : Type 0 where
   pub has : HasObjects family class
   pub of_form : form_of class ≡ form
   pub count : length (name_of_class family class) < 2 ^ 16
@@ -136,7 +136,7 @@ SlotsFail family (image.UnknownArray dimensions name) = ArrayFails kinds.Referen
 abbrev pub ObjectFails : Family → List ℕ → RegionFault → Type 0
 ObjectFails family = Either (Ruled (Number w8) (λ form. form < 2))
     (RuleFails (Number w8) (CutNumber w8) (λ form. form < 2) (λ form. faults.Shape))
-    (λ form. Either (IsClass family form) (ClassFails family form) (SlotsFail family))
+    (λ form. Either (IsObjectClass family form) (ClassFails family form) (SlotsFail family))
 
 abbrev pub IsObject : Family → ImageObject → List ℕ → Type 0
 IsObject family object text = ObjectHasShape family object × (text ≡ object_text family object)

@@ -1,16 +1,15 @@
 -- What the machine holds stays held as strings come in, and grows value by value.
-use Rattle.std.proofs.Common.{◌≡◌, ◌≢◌, ◌∙◌, ◌⊎◌, inl, inr, ℕ, zero, suc, ◌+◌, ◌/◌, ◌%◌, ◌<◌, ◌≤◌, ◌==◌}
-use Rattle.std.proofs.Common.{Bool, true, false, ◌&&◌, nat_lt, if◌then◌else◌}
+use Rattle.std.proofs.Common.{◌≡◌, ◌≢◌, ◌∙◌, ◌⊎◌, inl, inr, ℕ, zero, suc, ◌+◌, ◌<◌, ◌==◌}
+use Rattle.std.proofs.Common.{true, false}
 use Rattle.std.proofs.Common.{List, [], ◌∷◌, ◌++◌, length, take, get_or, Option, Some, None, slice_get, option_map}
 use Rattle.std.proofs.Common.{refl, sym, ap, subst, arith, append_assoc, append-nil, length-append, eqb-true, eq-eqb}
 use Rattle.std.proofs.Math.Path.{fun_ext}
 use Rattle.std.proofs.Math.Seq.{get_or-append_seam}
 use Rattle.std.specs.List.{All, AllZip}
 use Rattle.std.proofs.lemmas.List.{take_more, length-take-le, get_or_past}
-use Rattle.std.proofs.lemmas.List.Concat.{flat_map-cons}
 use Rattle.std.proofs.lemmas.List.Elements.{All-nil, All-cons, All-weaker}
 use Rattle.std.proofs.lemmas.Slice.Zip.{all_zipped_more}
-use Rattle.classfile.specs.Units.{unit_text, units_text}
+use Rattle.classfile.specs.Units.{units_text}
 use Rattle.vm_state.specs.declared.object.Object.{Object}
 use Rattle.vm_state.specs.declared.value.Value.{Value}
 use Rattle.vm_state.specs.declared.value.Value.TheVariants as machine
@@ -312,26 +311,3 @@ pub slots_units : (family : Family) (class : ImageClass) (told : List ImageValue
 slots_units family (image.Known class) told slots = known_units family class told slots
 slots_units family (image.UnknownArray dimensions name) told slots =
     All-weaker (Suits kinds.Reference) HasUnits (value_units kinds.Reference) told slots.1
-
--- a text has no more units than bytes
-
-unit_long : (u : ℕ) → 1 ≤ length (unit_text u)
-unit_long u = by (nat_lt 0 u && nat_lt u 128) (nat_lt u 2048)
-  where
-    by : (ascii wide : Bool) → 1 ≤ length (if ascii then u ∷ [] else
-        (if wide then (192 + u / 64) ∷ (128 + u % 64) ∷ [] else
-        (224 + u / 4096) ∷ (128 + u / 64 % 64) ∷ (128 + u % 64) ∷ []))
-    by true wide = omega arith
-    by false true = omega arith
-    by false false = omega arith
-
-pub units_short : (units : List ℕ) → length units ≤ length (units_text units)
-units_short [] = omega arith
-units_short (u ∷ us) =
-    omega (
-      arith,
-      ap length (flat_map-cons unit_text u us),
-      length-append (unit_text u) (units_text us),
-      unit_long u,
-      units_short us,
-    )

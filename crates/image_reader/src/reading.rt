@@ -45,7 +45,7 @@ pub fn read(alloc: Global, bytes: &[u8]) -> Result<Image, ImageFault>
     ensures only_fault { (x : Fault) → ImageFails bytes.now x → Answers result x }
 {
     match parse(alloc, bytes) {
-        Ok(parsed) => match image_of(alloc, parsed, digest_of(bytes)) {
+        Ok(parsed) => match image_of(alloc, parsed) {
             Ok(image) => Ok(image),
             Err(_) => Err(ImageFault::Memory),
         },
@@ -53,13 +53,8 @@ pub fn read(alloc: Global, bytes: &[u8]) -> Result<Image, ImageFault>
     }
 }
 
-/// The last 32 bytes, which are the digest where there are so many.
-fn digest_of(bytes: &[u8]) -> &[u8] {
-    &bytes[bytes.len().saturating_sub(32)..]
-}
-
-/// The image that a text with this digest says.
-fn image_of(alloc: Global, parsed: Parsed, digest: &[u8]) -> Result<Image, AllocError>
+/// The image that a text says.
+fn image_of(alloc: Global, parsed: Parsed) -> Result<Image, AllocError>
     requires { AreRegions parsed.program.family parsed.regions }
     ensures family { IfOk result (λ image. image.program.family ≡ parsed.program.family) }
     ensures told { IfOk result (λ image. told_of image ≡ parsed.regions) }
@@ -75,7 +70,6 @@ fn image_of(alloc: Global, parsed: Parsed, digest: &[u8]) -> Result<Image, Alloc
         regions,
     } = parsed;
     let _linked = program.classes();
-    program.reseed_strings(alloc, digest)?;
     let held = held_regions(alloc, &mut program, regions.as_slice())?;
     let _classes = program.classes();
     gather(program, held)

@@ -1,4 +1,3 @@
-pub mod AppendsLemmas
 pub mod TextLemmas
 pub mod FilesLemmas
 pub mod SizesLemmas

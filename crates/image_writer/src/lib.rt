@@ -6,7 +6,6 @@ mod fitting;
 mod numbers;
 mod objects;
 mod sending;
-pub mod sink;
 mod text;
 mod values;
 mod writing;

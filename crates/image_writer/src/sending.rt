@@ -1,10 +1,10 @@
 //! Sends bytes to a sink.
 
-ghost use Rattle.std.specs.Prelude.{◌≡◌, ◌≢◌, ◌≤◌, length, take, true, false, OnOk, IfErr};
+ghost use Rattle.std.specs.Prelude.{◌≡◌, OnOk, IfErr};
 ghost use Rattle.std.specs.Io.KnownBytes.{Appends};
 ghost use Rattle.image_writer.specs.Sendings.{IsBegun, HasFailed};
 
-use crate::sink::{Sink, SinkFault};
+use sinks::{Sink, put_all};
 
 /// Why a text did not go out whole: its first `sent` bytes did, and nothing else.
 #[derive(Clone, Copy, Debug)]
@@ -13,26 +13,6 @@ pub enum WriteFault {
     Memory { sent: usize },
     /// The sink failed.
     Device { sent: usize },
-}
-
-/// Sends bytes, and answers how many went out before the sink failed, and whether all did.
-fn put_all<S: Sink>(bytes: &[u8], sink: &mut S) -> (usize, bool)
-    ensures within { result.0 ≤ length bytes.now }
-    ensures got { Appends (S.got sink.old) (S.got sink.new) (take result.0 bytes.now) }
-    ensures all { result.1 ≡ true → result.0 ≡ length bytes.now }
-    ensures failed { result.1 ≡ false → S.failures sink.new ≢ S.failures sink.old }
-    ensures well { result.1 ≡ true → S.failures sink.new ≡ S.failures sink.old }
-{
-    let mut at = 0;
-    while at < bytes.len() {
-        let (_, rest) = bytes.split_at(at);
-        match sink.put(rest) {
-            Err(SinkFault) => return (at, false),
-            Ok(0) => return (at, false),
-            Ok(n) => at += n,
-        }
-    }
-    (at, true)
 }
 
 /// Sends bytes to a sink.

@@ -8,9 +8,9 @@ ghost use Rattle.image_writer.specs.ImageTexts.{text_of, told_of};
 ghost use Rattle.image_writer.specs.Sendings.{IsBegun, HasFailed};
 
 use crate::sending::{WriteFault, send};
-use crate::sink::Sink;
 use crate::text::image_text;
 use object_graph::Image;
+use sinks::Sink;
 use std::alloc::Global;
 
 /// Writes an image whose class files are shorter than 2^32 bytes: its text goes out to a sink.

@@ -1,4 +1,7 @@
 //! Which classes may be initialized at build time, as if no run of an initializer were refused.
+//!
+//! Each function makes one part and hands it to the next at once: one that held several parts where a call can fail
+//! would be dear to prove.
 
 ghost use Rattle.std.specs.Prelude.{◌≡◌, ◌≤◌, ◌*◌, ◌+◌, ℕ, length, IfOk};
 ghost use Rattle.graph.specs.Components.{AreComponents};

@@ -6,29 +6,20 @@ use Rattle.std.proofs.lemmas.Option.{same_Some}
 use Rattle.built_in.specs.declared.class_id.BuiltIn.{BuiltIn}
 use Rattle.built_in.specs.declared.class_id.BuiltIn.TheVariants as builtins
 use Rattle.built_in.specs.ClassNames.{name_of_built_in}
-
-abbrev classes : List BuiltIn
-classes =
-    builtins.Object ∷ builtins.String ∷ builtins.System ∷ builtins.Enum ∷ builtins.Throwable
-    ∷ builtins.Exception ∷ builtins.RuntimeException ∷ builtins.ArithmeticException
-    ∷ builtins.NullPointerException ∷ builtins.ClassCastException ∷ builtins.ArrayStoreException
-    ∷ builtins.NegativeArraySizeException ∷ builtins.IllegalMonitorStateException
-    ∷ builtins.IndexOutOfBoundsException ∷ builtins.ArrayIndexOutOfBoundsException ∷ builtins.Error
-    ∷ builtins.LinkageError ∷ builtins.ExceptionInInitializerError ∷ builtins.NoClassDefFoundError
-    ∷ builtins.PrintStream ∷ []
+use Rattle.loading.specs.steps.BuiltIns.{all_built_in}
 
 -- the first of some classes that has a name
 abbrev first_with : List ℕ → List BuiltIn → Option BuiltIn
 first_with name [] = None
 first_with name (b ∷ bs) = if bytes_eq (name_of_built_in b) name then Some b else first_with name bs
 
-is_first : (b : BuiltIn) → first_with (name_of_built_in b) classes ≡ Some b
+is_first : (b : BuiltIn) → first_with (name_of_built_in b) all_built_in ≡ Some b
 is_first builtins.Object = refl
 is_first _ = refl
 
 pub same_built_in : (a b : BuiltIn) → name_of_built_in a ≡ name_of_built_in b → a ≡ b
 same_built_in a b same =
-    same_Some a b (sym (is_first a) ∙ ap (λ (name : List ℕ). first_with name classes) same ∙ is_first b)
+    same_Some a b (sym (is_first a) ∙ ap (λ (name : List ℕ). first_with name all_built_in) same ∙ is_first b)
 
 -- each begins with `j`
 begins : (b : BuiltIn) → slice_get (name_of_built_in b) 0 ≡ Some 106

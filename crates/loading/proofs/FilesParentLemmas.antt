@@ -7,6 +7,7 @@ use Rattle.std.specs.Str.{bytes_eq}
 use Rattle.std.proofs.lemmas.Option.{same_Some}
 use Rattle.std.proofs.lemmas.List.{length-map, get_or-map}
 use Rattle.std.proofs.lemmas.List.Elements.{All-contains, Contains-get_or}
+use Rattle.std.proofs.lemmas.Bool.{not-true}
 use Rattle.classfile.specs.ClassFile.{ClassFile}
 use Rattle.built_in.specs.declared.class_id.BuiltIn.{BuiltIn}
 use Rattle.built_in.specs.declared.class_id.BuiltIn.TheVariants as builtins
@@ -122,11 +123,7 @@ good_to_extend : (files : List ClassFile) → AreNamed files → (class : Superc
     → name_among files class ≡ Some name
     → may_be_extended files class ≡ true → IsGivenInterface files name ⊎ IsClosed name → ⊥
 good_to_extend files n (super.Given d) name e y (inl interface) =
-    not_both files n.ascending name interface (class_file files d name e (not_true (is_interface_at files d) y))
-  where
-    not_true : (b : Bool) → not b ≡ true → b ≡ false
-    not_true true h = absurd cc
-    not_true false h = refl
+    not_both files n.ascending name interface (class_file files d name e (not-true (is_interface_at files d) y))
 good_to_extend files n (super.Given d) name e y (inr closed) =
     n.free name (named_given files d name e, closed_built_in name closed)
   where

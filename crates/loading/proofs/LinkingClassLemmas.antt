@@ -1,11 +1,12 @@
 -- Classes made of files and their parents.
-use Rattle.std.proofs.Common.{◌≡◌, ℕ, zero, suc, ◌<◌, inl, inr, Bool, true, false, not, List, [], ◌∷◌, ◌++◌, length}
+use Rattle.std.proofs.Common.{◌≡◌, ℕ, zero, suc, ◌<◌, inl, inr, true, false, List, [], ◌∷◌, ◌++◌, length}
 use Rattle.std.proofs.Common.{get_or, map, Option, Some, None, refl, sym, ap, subst, ◌∙◌, arith}
 use Rattle.std.specs.List.{AllZip, Contains, slice_get, zip}
 use Rattle.std.specs.Option.{option_map}
 use Rattle.std.proofs.lemmas.List.{length-map}
 use Rattle.std.proofs.lemmas.List.Elements.{All-contains, Contains-append_cases}
 use Rattle.std.proofs.lemmas.Option.{slice_get-map, slice_get_within, slice_get-get_or}
+use Rattle.std.proofs.lemmas.Bool.{not-true}
 use Rattle.classfile.specs.ClassFile.{ClassFile}
 use Rattle.classfile.specs.Class.{IsNoArray}
 use Rattle.built_in.specs.declared.class_id.BuiltIn.{BuiltIn}
@@ -130,13 +131,9 @@ object_is (super.BuiltIn builtins.Object) e = refl
 object_is (super.BuiltIn class) e = absurd cc
 object_is (super.Given d) e = absurd cc
 
-not_true : (b : Bool) → not b ≡ true → b ≡ false
-not_true true h = absurd cc
-not_true false h = refl
-
 superclass_kind : (files : List ClassFile) (s : Superclass) (d : ℕ) → s ≡ super.Given d → may_be_extended files s ≡ true
     → is_interface_at files d ≡ false
-superclass_kind files s d is open' = not_true (is_interface_at files d) (ap (may_be_extended files) (sym is) ∙ open')
+superclass_kind files s d is open' = not-true (is_interface_at files d) (ap (may_be_extended files) (sym is) ∙ open')
 
 within_files : (files : List ClassFile) (d : ℕ) (name : List ℕ) → name_at files d ≡ Some name → d < length files
 within_files files d name e = (let h = file_at files d name e in slice_get_within files d h.file h.at)

@@ -1,3 +1,4 @@
+pub mod BuiltIns
 pub mod Linking
 pub mod FoundNames
 pub mod InterfaceFaults

@@ -65,7 +65,8 @@ use Rattle.machine.specs.declared.object_operation.ObjectOperation.{ObjectOperat
 use Rattle.machine.specs.ObjectReferences.{new_of, check_cast_of, instance_test_of, get_field_of, put_field_of}
 use Rattle.machine.specs.Operations.{resolved_operation, operation_of, operation_at}
 use Rattle.machine.specs.Linked.{program_of}
-use Rattle.machine.proofs.ListLemmas.{left_of_pair, right_of_pair, first_passes, kept_place}
+use Rattle.program.proofs.SlotLawsLemmas.{kept_place}
+use Rattle.machine.proofs.ListLemmas.{left_of_pair, right_of_pair, first_passes}
 use Rattle.loading.proofs.PlaceLemmas.{mapped_at}
 use Rattle.machine.proofs.LinkedLemmas.{method_is}
 use Rattle.machine.proofs.LawsStaticLemmas.{IsClassIn}

@@ -23,7 +23,7 @@ use Rattle.loading.specs.Names.{text_at}
 use Rattle.program.specs.Fields.{field_kind, statics_of}
 use Rattle.program.specs.Programs.{zero_of, value_of_constant, constant_value_at}
 use Rattle.program.specs.Programs.{constant_value_of, static_field, is_main, main_of, is_initializer}
-use Rattle.program.specs.Programs.{initializer_of, IsClass, IsProgram}
+use Rattle.program.specs.Programs.{initializer_of, IsLinkedClass, IsProgram}
 use Rattle.program.specs.Tables.{Tables, statics_if, statics_in, main_if, main_in, initializer_if, initializer_in}
 use Rattle.std.specs.Option.{is_some}
 use Rattle.machine.proofs.ListLemmas.{left_of_pair, first_passes, second_of_three, third_of_four}
@@ -72,7 +72,7 @@ all_plain f pool (m ∷ ms) = (
 
 -- what a class of a linked program is made of
 abbrev pub IsClassIn : Tables → GivenClass → Class → Type 0
-IsClassIn P given class = IsClass P.family P.strings given.file class
+IsClassIn P given class = IsLinkedClass P.family P.strings given.file class
 
 pub plain_statics : (P : Tables) → IsProgram P → (c : ℕ) → AllByRecursion HoldsNoName (statics_in P c)
 plain_statics P is c = by (slice_get P.classes c) refl

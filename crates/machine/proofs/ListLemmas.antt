@@ -1,9 +1,8 @@
--- Places in lists: of elements in pairs, of the first element that passes, and among those that pass.
-use Rattle.std.proofs.Common.{◌≡◌, ℕ, zero, suc, ◌+◌, Bool, true, false, cond, ◌&&◌, List, [], ◌∷◌, take, count_by}
+-- Places in lists: of elements in pairs, and of the first element that passes.
+use Rattle.std.proofs.Common.{◌≡◌, ℕ, zero, suc, ◌+◌, Bool, true, false, ◌&&◌, List, [], ◌∷◌}
 use Rattle.std.proofs.Common.{Some, slice_get, refl}
-use Rattle.std.proofs.Common.{ap, ◌∙◌, subst, arith}
-use Rattle.std.specs.List.{AllZip, filter, position_from}
-use Rattle.std.proofs.lemmas.List.Sums.{sum_by-cons}
+use Rattle.std.proofs.Common.{subst, arith}
+use Rattle.std.specs.List.{AllZip, position_from}
 
 pub left_of_pair : {A B : Type 0} (R : A → B → Type 0) (xs : List A) (ys : List B) (i : ℕ) (y : B) → AllZip R xs ys
     → slice_get ys i ≡ Some y
@@ -57,31 +56,6 @@ first_passes p xs m e =
     let found = passes_from p xs 0 m e in
     let same : found.place ≡ m = omega (arith, found.far) in
     (found.item, subst (λ (n : ℕ). slice_get xs n ≡ Some found.item) same found.stands, found.passes)
-
-abbrev as_number : Bool → ℕ
-as_number b = cond b 1 0
-
--- an element that passes has as many before it among those that pass as pass before it
-pub kept_place : {X : Type 0} (p : X → Bool) (xs : List X) (j : ℕ) (x : X) → slice_get xs j ≡ Some x → p x ≡ true
-    → slice_get (filter p xs) (count_by p (take j xs)) ≡ Some x
-kept_place p [] j x h passed = absurd cc
-kept_place p (y ∷ ys) zero x h passed = let same : y ≡ x = cc in let here : p y ≡ true = ap p same ∙ passed in
-    rw here (ap Some same)
-kept_place {X = X} p (y ∷ ys) (suc j) x h passed = by (p y) refl (kept_place p ys j x h passed)
-  where
-    count : count_by p (y ∷ take j ys) ≡ as_number (p y) + count_by p (take j ys)
-    count = sum_by-cons (λ (z : X). cond (p z) 1 0) y (take j ys)
-
-    by : (b : Bool) → p y ≡ b → slice_get (filter p ys) (count_by p (take j ys)) ≡ Some x
-        → slice_get (filter p (y ∷ ys)) (count_by p (y ∷ take j ys)) ≡ Some x
-    by true here rest =
-        let one : as_number (p y) ≡ 1 = ap as_number here in
-        let more : count_by p (y ∷ take j ys) ≡ suc (count_by p (take j ys)) = omega (arith, count, one) in
-        rw (more, here) rest
-    by false here rest =
-        let none : as_number (p y) ≡ 0 = ap as_number here in
-        let more : count_by p (y ∷ take j ys) ≡ count_by p (take j ys) = omega (arith, count, none) in
-        rw (more, here) rest
 
 pub second_of_three : (a b c : Bool) → (a && b && c) ≡ true → b ≡ true
 second_of_three true true c e = refl

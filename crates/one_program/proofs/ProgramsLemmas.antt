@@ -8,7 +8,7 @@ use Rattle.hierarchy.proofs.UniquenessLemmas.{same_order}
 use Rattle.program.specs.declared.class.Class.{Class}
 use Rattle.program.specs.declared.runtime_constant.RuntimeConstant.{RuntimeConstant}
 use Rattle.program.specs.Fields.{statics_of}
-use Rattle.program.specs.Programs.{AreClasses, IsClass, IsImplementation, IsProgram, static_field}
+use Rattle.program.specs.Programs.{AreClasses, IsLinkedClass, IsImplementation, IsProgram, static_field}
 use Rattle.program.specs.Strings.{all_strings, AreFirsts}
 use Rattle.program.specs.Tables.{Tables}
 use Rattle.one_program.specs.Laws.{OneClass, OneProgram, OneProgramOfFiles, OneProgramOfStrings}
@@ -51,7 +51,7 @@ same_tables P orders classes strings fits count also p q texts =
     let made : AreClasses P.family P.strings classes =
     subst (λ (ts : List (List ℕ)). AreClasses P.family ts classes) (sym texts) q.classes in
     let all : P.classes ≡ classes =
-    same_partners (λ (given : GivenClass) (class : Class). IsClass P.family P.strings given.file class)
+    same_partners (λ (given : GivenClass) (class : Class). IsLinkedClass P.family P.strings given.file class)
     (λ given x y. one_class P.family P.strings given.file x y fits p.distinct) P.family P.classes classes p.classes
     made in
     λ i. record { family = P.family; orders = rows i; classes = all i; strings = texts i }

@@ -15,7 +15,7 @@ use Rattle.program.specs.declared.runtime_constant.RuntimeConstant.{RuntimeConst
 use Rattle.program.specs.declared.signature.ReturnKind.{ReturnKind}
 use Rattle.program.specs.declared.signature.Signature.{Signature}
 use Rattle.program.specs.Handlers.{IsHandler}
-use Rattle.program.specs.Programs.{HasOwnStrings, IsClass, IsImplementation, IsProgram}
+use Rattle.program.specs.Programs.{HasOwnStrings, IsLinkedClass, IsImplementation, IsProgram}
 use Rattle.program.specs.RuntimePool.{IsRuntimePool}
 use Rattle.program.specs.Signatures.{AreSignatures, IsReturnKindOf}
 use Rattle.program.specs.Strings.{AreFirsts}
@@ -71,7 +71,7 @@ OneImplementation = (family : Family) (f : ClassFile) (m : Member) (a b : Implem
 
 abbrev pub OneClass : Type 0
 OneClass = (family : Family) (strings : List (List ℕ)) (f : ClassFile) (a b : Class) → IsFamily family
-    → AreDistinct strings → IsClass family strings f a → IsClass family strings f b → a ≡ b
+    → AreDistinct strings → IsLinkedClass family strings f a → IsLinkedClass family strings f b → a ≡ b
 
 -- a family and strings have one program
 abbrev pub OneProgramOfStrings : Type 0

@@ -1,5 +1,5 @@
 -- Classes that are demanded and not accepted.
-use Rattle.std.proofs.Common.{◌≡◌, ℕ, ◌+◌, ◌<◌, ◌≤◌, ◌⊎◌, inl, inr, Bool, true, List, length, map, option_map, IsTrue}
+use Rattle.std.proofs.Common.{◌≡◌, ℕ, ◌+◌, ◌<◌, ◌⊎◌, inl, inr, Bool, List, length, option_map, IsTrue}
 use Rattle.std.proofs.Common.{Option, Some, None, slice_get, refl, sym, ap, ◌∙◌, subst, get_or, arith}
 use Rattle.std.proofs.lemmas.Bool.{cases_lt}
 use Rattle.std.proofs.lemmas.Option.{slice_get-map, slice_get_read}
@@ -8,7 +8,7 @@ use Rattle.loading.specs.declared.given.GivenClass.{GivenClass}
 use Rattle.loading.specs.Names.{name_of}
 use Rattle.loading.specs.Families.{Family, name_in, file_of}
 use Rattle.program.specs.Tables.{Tables}
-use Rattle.program.specs.Programs.{IsProgram, IsClass}
+use Rattle.program.specs.Programs.{IsProgram, IsLinkedClass}
 use Rattle.program.specs.declared.class.Class.{Class}
 use Rattle.std.proofs.lemmas.Slice.Zip.{AllZip-long}
 use Rattle.initializer_analysis.specs.Forced.{has_class}
@@ -19,7 +19,7 @@ use Rattle.wave_scheduler.specs.declared.outcome.Settled.{Settled as Answer}
 use Rattle.wave_scheduler.specs.Outcomes.{outcome_of, settled_of}
 use Rattle.wave_scheduler.specs.Settled.{Wave}
 use Rattle.wave_scheduler.proofs.FindingLemmas.{accepted_or, refused_or}
-use Rattle.options.specs.Demands.{AreMet, IsUnaccepted, IsFirstUnaccepted, IsUnmet, unmet}
+use Rattle.options.specs.Demands.{AreMet, IsUnmet, unmet}
 use Rattle.options.specs.steps.Unmet.{IsUnmetOf, NoneUnacceptedBelow, NamesUnmet, named}
 use Rattle.options.specs.declared.fault.OptionFault.{OptionFault}
 use Rattle.options.specs.declared.fault.OptionFault.TheVariants.{Memory, Demanded}
@@ -75,5 +75,6 @@ module _ (P : Tables) (demand : List Bool) (s : Answer) where
 
 pub as_many : (P : Tables) → IsProgram P → length P.classes ≡ length P.family
 as_many P is =
-    AllZip-long (λ (given : GivenClass) (class : Class). IsClass P.family P.strings given.file class) P.family P.classes
+    AllZip-long (λ (given : GivenClass) (class : Class). IsLinkedClass P.family P.strings given.file class)
+    P.family P.classes
     is.classes

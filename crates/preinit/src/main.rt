@@ -6,6 +6,8 @@ use cli::{End, FileFault, Files, Refusal, Status, command_holding};
 use std::alloc::Global;
 use std::io::{self, ErrorKind, Read, Write};
 use std::process::ExitCode;
+use std::sync::Wait;
+use std::thread::Threads;
 use std::{env, fs, mem, rt};
 
 /// How many bytes are read at once: most class files have fewer.
@@ -62,7 +64,7 @@ enum Stop {
 /// Does the command that the words of the process name.
 fn run<R, W, E>(rt: &R, out: W, errors: &mut E) -> Result<u8, Stop>
 where
-    R: rt::Env + rt::Files + AllocGlobal,
+    R: rt::Env + rt::Files + AllocGlobal + Threads + Wait + Sync,
     W: Write + Send + Drop,
     E: Write,
 {
@@ -88,7 +90,7 @@ fn stop_of(error: io::Error) -> Stop {
 /// Does the command that these words name, after the program's name.
 fn run_words<R, W, E>(rt: &R, texts: &[String], out: W, errors: &mut E) -> Result<u8, Stop>
 where
-    R: rt::Files + AllocGlobal,
+    R: rt::Files + AllocGlobal + Threads + Wait + Sync,
     W: Write + Send + Drop,
     E: Write,
 {
@@ -107,7 +109,7 @@ where
         status,
         out: _,
         held,
-    } = command_holding(alloc, words.as_slice(), &mut disk, out, errors);
+    } = command_holding(rt, alloc, words.as_slice(), &mut disk, out, errors);
     // The process ends with it.
     mem::forget(held);
     Ok(status)

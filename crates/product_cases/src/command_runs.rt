@@ -5,6 +5,8 @@ use crate::streams::Narrow;
 use cli::command;
 use std::alloc::{AllocError, Global};
 use std::str::from_utf8;
+use std::sync::Wait;
+use std::thread::Threads;
 
 /// The words of a text; `''` is an empty one.
 pub fn words_of<'a>(alloc: Global, text: &'a str) -> Result<Vec<&'a str>, AllocError> {
@@ -16,10 +18,15 @@ pub fn words_of<'a>(alloc: Global, text: &'a str) -> Result<Vec<&'a str>, AllocE
 }
 
 /// What a command answers: the status, and between brackets what standard output and what standard error got.
-pub fn answer(alloc: Global, shelf: &mut Shelf, text: &str) -> Result<String, AllocError> {
+pub fn answer<R: Threads + Wait + Sync>(
+    rt: &R,
+    alloc: Global,
+    shelf: &mut Shelf,
+    text: &str,
+) -> Result<String, AllocError> {
     let words = words_of(alloc, text)?;
     let mut errors = Vec::new(alloc);
-    let (status, out) = command(alloc, &words, shelf, Vec::new(alloc), &mut errors);
+    let (status, out) = command(rt, alloc, &words, shelf, Vec::new(alloc), &mut errors);
     told(alloc, status, &out, &errors)
 }
 
@@ -30,24 +37,57 @@ fn told(alloc: Global, status: u8, out: &[u8], errors: &[u8]) -> Result<String, 
 }
 
 /// Does a command, whatever it answers.
-pub fn done(alloc: Global, shelf: &mut Shelf, text: &str) -> Result<(), AllocError> {
+pub fn done<R: Threads + Wait + Sync>(
+    rt: &R,
+    alloc: Global,
+    shelf: &mut Shelf,
+    text: &str,
+) -> Result<(), AllocError> {
     let words = words_of(alloc, text)?;
     let mut errors = Vec::new(alloc);
-    let (_status, _out) = command(alloc, &words, shelf, Vec::new(alloc), &mut errors);
+    let (_status, _out) = command(rt, alloc, &words, shelf, Vec::new(alloc), &mut errors);
     Ok(())
 }
 
-/// What a command writes to standard output, or, where that is nothing, to standard error.
-pub fn output(alloc: Global, shelf: &mut Shelf, text: &str) -> Result<String, AllocError> {
+/// The status of a command whose standard output has so much room, and between brackets what the file of a name holds
+/// after it.
+pub fn file_after<R: Threads + Wait + Sync>(
+    rt: &R,
+    alloc: Global,
+    shelf: &mut Shelf,
+    name: &str,
+    room: usize,
+    text: &str,
+) -> Result<String, AllocError> {
     let words = words_of(alloc, text)?;
     let mut errors = Vec::new(alloc);
-    let (_status, out) = command(alloc, &words, shelf, Vec::new(alloc), &mut errors);
+    let (status, _out) = command(rt, alloc, &words, shelf, Narrow { room }, &mut errors);
+    match shelf.find(name) {
+        Some(bytes) => {
+            let held = from_utf8(bytes).unwrap_or("no text");
+            format!(in alloc; "{status} [{held}]")
+        }
+        None => format!(in alloc; "{status} no file"),
+    }
+}
+
+/// What a command writes to standard output, or, where that is nothing, to standard error.
+pub fn output<R: Threads + Wait + Sync>(
+    rt: &R,
+    alloc: Global,
+    shelf: &mut Shelf,
+    text: &str,
+) -> Result<String, AllocError> {
+    let words = words_of(alloc, text)?;
+    let mut errors = Vec::new(alloc);
+    let (_status, out) = command(rt, alloc, &words, shelf, Vec::new(alloc), &mut errors);
     let shown = if out.is_empty() { &errors } else { &out };
     String::from_str(alloc, from_utf8(shown).unwrap_or("no text"))
 }
 
 /// What a command answers whose standard output has so much room.
-pub fn with_output(
+pub fn with_output<R: Threads + Wait + Sync>(
+    rt: &R,
     alloc: Global,
     shelf: &mut Shelf,
     room: usize,
@@ -55,12 +95,13 @@ pub fn with_output(
 ) -> Result<String, AllocError> {
     let words = words_of(alloc, text)?;
     let mut errors = Vec::new(alloc);
-    let (status, _out) = command(alloc, &words, shelf, Narrow { room }, &mut errors);
+    let (status, _out) = command(rt, alloc, &words, shelf, Narrow { room }, &mut errors);
     told(alloc, status, &[], &errors)
 }
 
 /// What a command answers whose standard error has so much room.
-pub fn with_errors(
+pub fn with_errors<R: Threads + Wait + Sync>(
+    rt: &R,
     alloc: Global,
     shelf: &mut Shelf,
     room: usize,
@@ -68,12 +109,13 @@ pub fn with_errors(
 ) -> Result<String, AllocError> {
     let words = words_of(alloc, text)?;
     let mut errors = Narrow { room };
-    let (status, out) = command(alloc, &words, shelf, Vec::new(alloc), &mut errors);
+    let (status, out) = command(rt, alloc, &words, shelf, Vec::new(alloc), &mut errors);
     told(alloc, status, &out, &[])
 }
 
 /// The status of a command, and which of the two streams got a text where the other got nothing.
-pub fn whether_with(
+pub fn whether_with<R: Threads + Wait + Sync>(
+    rt: &R,
     alloc: Global,
     shelf: &mut Shelf,
     text: &str,
@@ -81,7 +123,7 @@ pub fn whether_with(
 ) -> Result<String, AllocError> {
     let words = words_of(alloc, words)?;
     let mut errors = Vec::new(alloc);
-    let (status, out) = command(alloc, &words, shelf, Vec::new(alloc), &mut errors);
+    let (status, out) = command(rt, alloc, &words, shelf, Vec::new(alloc), &mut errors);
     let stream = if errors.is_empty() && has(&out, text) {
         "output"
     } else if out.is_empty() && has(&errors, text) {

@@ -4,13 +4,15 @@ use crate::class_bytes::number;
 use crate::command_runs::{self, words_of};
 use crate::shelf::Shelf;
 use cli::{
-    Build, Building, Lazy, Refusal, Request, Rest, Run, Status, entries_of, linked_program,
+    Build, Building, Lazy, Refusal, Replay, Request, Rest, Run, Status, entries_of, linked_program,
     request_of, status_of, thread_lines,
 };
 use init_engine::Ending;
 use program::Program;
 use std::alloc::{AllocError, Global};
 use std::str::SplitWhitespace;
+use std::sync::Wait;
+use std::thread::Threads;
 use vm_state::ends::FaultKind;
 
 /// Given are files, each as its name, ` = ` and a class in its text form, or `image` and the bytes of an image before
@@ -20,12 +22,18 @@ use vm_state::ends::FaultKind;
 /// Before ` && ` may stand commands that are done first; where one of these has another status than 0 or writes to a
 /// stream, that is the answer. After the words may stand ` | ` and `begins LENGTH`, for that many bytes of the answer;
 /// `has TEXT`, for the status and which of the two has the text where the other has nothing; `output ROOM` or `errors
-/// ROOM`, for what is answered when that stream fails after so many bytes.
+/// ROOM`, for what is answered when that stream fails after so many bytes; `file NAME`, for the status and what a file
+/// holds then, and `file NAME ROOM` for that where standard output fails after so many bytes.
 ///
 /// `line WORDS` asks what the words ask for, and `entries LIST` for the names of a list. `program FILE ..` asks why
 /// files make no program, `lines ENDING ..` for the lines of threads, and `ended ENDING ..`, `stuck ENDING ..` and
 /// `limited ENDING ..` for the status of a run whose threads have all ended, none has a step, or one still has.
-pub fn answer(alloc: Global, given: &str, asked: &str) -> Result<String, AllocError> {
+pub fn answer<R: Threads + Wait + Sync>(
+    rt: &R,
+    alloc: Global,
+    given: &str,
+    asked: &str,
+) -> Result<String, AllocError> {
     let mut shelf = Shelf::new(alloc);
     let lines = given.replace(alloc, "\n  ", " ")?;
     let misspelled = shelf.add_lines(&lines)?;
@@ -33,43 +41,71 @@ pub fn answer(alloc: Global, given: &str, asked: &str) -> Result<String, AllocEr
         return format!(in alloc; "misspelled{misspelled}");
     }
     match asked.strip_prefix("preinit") {
-        Some(words) => of_commands(alloc, &mut shelf, words),
+        Some(words) => of_commands(rt, alloc, &mut shelf, words),
         None => of_part(alloc, &shelf, asked),
     }
 }
 
 /// What the last of some commands answers, or the first that does not end well in silence.
-fn of_commands(alloc: Global, shelf: &mut Shelf, asked: &str) -> Result<String, AllocError> {
+fn of_commands<R: Threads + Wait + Sync>(
+    rt: &R,
+    alloc: Global,
+    shelf: &mut Shelf,
+    asked: &str,
+) -> Result<String, AllocError> {
     let mut before = String::from_str(alloc, "0 [] []")?;
     for words in asked.split(" && preinit") {
         if before.as_str() == "0 [] []" {
-            before = of_command(alloc, shelf, words)?;
+            before = of_command(rt, alloc, shelf, words)?;
         }
     }
     Ok(before)
 }
 
-fn of_command(alloc: Global, shelf: &mut Shelf, asked: &str) -> Result<String, AllocError> {
+fn of_command<R: Threads + Wait + Sync>(
+    rt: &R,
+    alloc: Global,
+    shelf: &mut Shelf,
+    asked: &str,
+) -> Result<String, AllocError> {
     let Some((words, how)) = asked.split_once(" | ") else {
-        return command_runs::answer(alloc, shelf, asked);
+        return command_runs::answer(rt, alloc, shelf, asked);
     };
     match how.split_once(' ') {
-        Some(("output", room)) => command_runs::with_output(alloc, shelf, number(room), words),
-        Some(("errors", room)) => command_runs::with_errors(alloc, shelf, number(room), words),
-        Some(("begins", length)) => beginning(alloc, shelf, number(length), words),
-        Some(("has", text)) => command_runs::whether_with(alloc, shelf, text, words),
+        Some(("output", room)) => command_runs::with_output(rt, alloc, shelf, number(room), words),
+        Some(("errors", room)) => command_runs::with_errors(rt, alloc, shelf, number(room), words),
+        Some(("file", about)) => file_after(rt, alloc, shelf, about, words),
+        Some(("begins", length)) => beginning(rt, alloc, shelf, number(length), words),
+        Some(("has", text)) => command_runs::whether_with(rt, alloc, shelf, text, words),
         _ => String::from_str(alloc, "no question"),
     }
 }
 
+/// The status, and what a file holds then: its name, or its name and how much room standard output has.
+fn file_after<R: Threads + Wait + Sync>(
+    rt: &R,
+    alloc: Global,
+    shelf: &mut Shelf,
+    about: &str,
+    words: &str,
+) -> Result<String, AllocError> {
+    match about.split_once(' ') {
+        Some((name, room)) => {
+            command_runs::file_after(rt, alloc, shelf, name, number(room), words)
+        }
+        None => command_runs::file_after(rt, alloc, shelf, about, usize::MAX, words),
+    }
+}
+
 /// The first bytes of an answer.
-fn beginning(
+fn beginning<R: Threads + Wait + Sync>(
+    rt: &R,
     alloc: Global,
     shelf: &mut Shelf,
     length: usize,
     words: &str,
 ) -> Result<String, AllocError> {
-    let whole = command_runs::answer(alloc, shelf, words)?;
+    let whole = command_runs::answer(rt, alloc, shelf, words)?;
     match whole.as_str().get(..length) {
         Some(part) => String::from_str(alloc, part),
         None => Ok(whole),
@@ -97,6 +133,7 @@ fn request(alloc: Global, text: &str) -> Result<String, AllocError> {
         Ok(Request::Build(build)) => build_text(alloc, &build),
         Ok(Request::Lazy(lazy)) => lazy_text(alloc, &lazy),
         Ok(Request::Report(building)) => building_text(alloc, "report", &building),
+        Ok(Request::Replay(replay)) => replay_text(alloc, &replay),
         Ok(Request::Run(run)) => run_text(alloc, &run),
         Err(_) => String::from_str(alloc, "no command"),
     }
@@ -116,12 +153,29 @@ fn run_text(alloc: Global, run: &Run<'_>) -> Result<String, AllocError> {
     let entries = run.entries;
     let limit = run.limit;
     let image = run.image;
-    format!(in alloc; "run [{entries}] {limit} [{image}]")
+    let how = if run.turns { "run" } else { "run by threads" };
+    let mut text = format!(in alloc; "{how} [{entries}] {limit} [{image}]")?;
+    if let Some(journal) = run.journal {
+        write!(text, " journal [{journal}]")?;
+    }
+    Ok(text)
+}
+
+fn replay_text(alloc: Global, replay: &Replay<'_>) -> Result<String, AllocError> {
+    let entries = replay.entries;
+    let journal = replay.journal;
+    let image = replay.image;
+    format!(in alloc; "replay [{entries}] [{journal}] [{image}]")
 }
 
 fn build_text(alloc: Global, build: &Build<'_>) -> Result<String, AllocError> {
     let image = build.image;
-    let command = format!(in alloc; "build [{image}]")?;
+    let workers = build.workers;
+    let command = if workers == 1 {
+        format!(in alloc; "build [{image}]")?
+    } else {
+        format!(in alloc; "build by {workers} [{image}]")?
+    };
     building_text(alloc, &command, &build.building)
 }
 

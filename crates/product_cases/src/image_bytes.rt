@@ -5,6 +5,8 @@ use crate::command_runs::done;
 use crate::shelf::{Shelf, add_digest};
 use image_reader::read;
 use std::alloc::{AllocError, Global};
+use std::sync::Wait;
+use std::thread::Threads;
 
 /// How many bytes stand before the class files, and how many has the digest.
 const HEADER: usize = 10;
@@ -12,13 +14,27 @@ const HEADER: usize = 10;
 const DIGEST: usize = 32;
 
 /// The image of class files, by the command `build`; no bytes where it is refused.
-pub fn built(alloc: Global, files: &[Vec<u8>]) -> Result<Vec<u8>, AllocError> {
+pub fn built<R: Threads + Wait + Sync>(
+    rt: &R,
+    alloc: Global,
+    files: &[Vec<u8>],
+) -> Result<Vec<u8>, AllocError> {
+    built_by(rt, alloc, "build --out image", files)
+}
+
+/// The same by these words, which the names of the files follow.
+fn built_by<R: Threads + Wait + Sync>(
+    rt: &R,
+    alloc: Global,
+    command: &str,
+    files: &[Vec<u8>],
+) -> Result<Vec<u8>, AllocError> {
     let mut shelf = Shelf::new(alloc);
-    let mut words = String::from_str(alloc, "build --out image")?;
+    let mut words = String::from_str(alloc, command)?;
     for file in files {
         shelf.add_file(&mut words, file)?;
     }
-    done(alloc, &mut shelf, &words)?;
+    done(rt, alloc, &mut shelf, &words)?;
     Vec::from_slice(alloc, shelf.find("image").unwrap_or(&[]))
 }
 
@@ -26,19 +42,26 @@ pub fn built(alloc: Global, files: &[Vec<u8>]) -> Result<Vec<u8>, AllocError> {
 ///
 /// - `length`, how many bytes it has; `bytes OFFSET LENGTH`, those that stand there; `regions`, those between the class
 ///   files and the digest.
-/// - `orders`: `same` where the files in the opposite order give the same bytes.
+/// - `orders`: `same` where the files in the opposite order give the same bytes; `workers`: where they do in both orders
+///   by 1, 2 and 64 workers.
 /// - `whole`, `cuts`, `changes`: what reading it answers, reading its first bytes, by their number, and reading it with
 ///   one byte changed, by its offset. A number is told where the answer is another than that of the number before.
 /// - `swapped PLACE PLACE` and `then BYTE`, what reading it answers with two class files in each other's place, or with
 ///   a byte more before the digest. The digest is made anew.
-pub fn answer(alloc: Global, files: &[Vec<u8>], asked: &str) -> Result<String, AllocError> {
-    let bytes = built(alloc, files)?;
+pub fn answer<R: Threads + Wait + Sync>(
+    rt: &R,
+    alloc: Global,
+    files: &[Vec<u8>],
+    asked: &str,
+) -> Result<String, AllocError> {
+    let bytes = built(rt, alloc, files)?;
     let (word, about) = asked.split_once(' ').unwrap_or((asked, ""));
     match word {
         "length" => bytes.len().to_string(alloc),
         "bytes" => part(alloc, &bytes, about),
         "regions" => hexadecimal(alloc, after_files(files, &bytes)),
-        "orders" => orders(alloc, files, &bytes),
+        "orders" => orders(rt, alloc, files, &bytes),
+        "workers" => workers(rt, alloc, files, &bytes),
         "whole" => reading(alloc, &bytes),
         "cuts" => cuts(alloc, &bytes),
         "changes" => changes(alloc, &bytes),
@@ -70,12 +93,42 @@ fn after_files<'a>(files: &[Vec<u8>], bytes: &'a [u8]) -> &'a [u8] {
     body(bytes).get(offset..).unwrap_or(&[])
 }
 
-fn orders(alloc: Global, files: &[Vec<u8>], bytes: &[u8]) -> Result<String, AllocError> {
+/// The files in the opposite order.
+fn turned(alloc: Global, files: &[Vec<u8>]) -> Result<Vec<Vec<u8>>, AllocError> {
     let mut others = Vec::new(alloc);
     for file in files.iter().rev() {
         others.push(file.clone()?)?;
     }
-    let again = built(alloc, &others)?;
+    Ok(others)
+}
+
+/// `same` where 1, 2 and 64 workers give these bytes, in both orders of the files, or else the words that do not.
+fn workers<R: Threads + Wait + Sync>(
+    rt: &R,
+    alloc: Global,
+    files: &[Vec<u8>],
+    bytes: &[u8],
+) -> Result<String, AllocError> {
+    let others = turned(alloc, files)?;
+    for workers in ["1", "2", "64"] {
+        let words = format!(in alloc; "build --workers {workers} --out image")?;
+        let one = built_by(rt, alloc, &words, files)?;
+        let other = built_by(rt, alloc, &words, &others)?;
+        if one.as_slice() != bytes || other.as_slice() != bytes {
+            return Ok(words);
+        }
+    }
+    String::from_str(alloc, "same")
+}
+
+fn orders<R: Threads + Wait + Sync>(
+    rt: &R,
+    alloc: Global,
+    files: &[Vec<u8>],
+    bytes: &[u8],
+) -> Result<String, AllocError> {
+    let others = turned(alloc, files)?;
+    let again = built(rt, alloc, &others)?;
     let text = if again.as_slice() == bytes {
         "same"
     } else {

@@ -7,11 +7,18 @@ use classfile::ClassFile;
 use image_reader::{read, world};
 use object_graph::Image;
 use std::alloc::{AllocError, Global};
+use std::sync::Wait;
+use std::thread::Threads;
 
 /// Asked are `turns 'CLASS' ..`, a run by turns of these entries, and `schedule 'CLASS' .. | THREAD STEPS ..`, steps by
 /// a schedule. The answers are as for a run of the classes.
-pub fn answer(alloc: Global, files: &[Vec<u8>], asked: &str) -> Result<String, AllocError> {
-    let bytes = built(alloc, files)?;
+pub fn answer<R: Threads + Wait + Sync>(
+    rt: &R,
+    alloc: Global,
+    files: &[Vec<u8>],
+    asked: &str,
+) -> Result<String, AllocError> {
+    let bytes = built(rt, alloc, files)?;
     match read(alloc, &bytes) {
         Ok(image) => of_image(alloc, &image, asked),
         Err(fault) => format!(in alloc; "{fault:?}"),
@@ -39,7 +46,8 @@ pub struct ShownFromImage {
 }
 
 /// What a run by turns from an image of classes shows.
-pub fn shown(
+pub fn shown<R: Threads + Wait + Sync>(
+    rt: &R,
     alloc: Global,
     classes: &[ClassFile],
     entry: &str,
@@ -48,7 +56,7 @@ pub fn shown(
     for class in classes {
         files.push(classfile::write(alloc, class)?)?;
     }
-    let bytes = built(alloc, &files)?;
+    let bytes = built(rt, alloc, &files)?;
     match read(alloc, &bytes) {
         Ok(image) => shown_from(alloc, &image, entry),
         Err(fault) => Ok(ShownFromImage {

@@ -7,11 +7,18 @@ use cases::add_class_files;
 use cli::{BuildOptions, build_here};
 use object_graph::{Image, NameSet, reachable};
 use std::alloc::{AllocError, Global};
+use std::sync::Wait;
+use std::thread::Threads;
 
 /// Given are classes. Asked is `reached BUDGET`, for the objects that some static field of their image reaches, each as
 /// its class and its number, and how many objects the image has. Each initializer may cost so much. What is asked of
 /// the bytes of their image stands in `src/image_bytes.rt`, and of runs from it in `src/image_runs.rt`.
-pub fn answer(alloc: Global, given: &str, asked: &str) -> Result<String, AllocError> {
+pub fn answer<R: Threads + Wait + Sync>(
+    rt: &R,
+    alloc: Global,
+    given: &str,
+    asked: &str,
+) -> Result<String, AllocError> {
     let mut files = Vec::new(alloc);
     let misspelled = add_class_files(alloc, &mut files, given)?;
     if !misspelled.is_empty() {
@@ -19,8 +26,8 @@ pub fn answer(alloc: Global, given: &str, asked: &str) -> Result<String, AllocEr
     }
     match asked.split_once(' ') {
         Some(("reached", budget)) => reached(alloc, &files, budget.parse().unwrap_or(0)),
-        Some(("turns" | "schedule", _)) => image_runs::answer(alloc, &files, asked),
-        _ => image_bytes::answer(alloc, &files, asked),
+        Some(("turns" | "schedule", _)) => image_runs::answer(rt, alloc, &files, asked),
+        _ => image_bytes::answer(rt, alloc, &files, asked),
     }
 }
 

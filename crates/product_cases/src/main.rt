@@ -43,6 +43,8 @@ use rewriting::{add_class, rewritten};
 use std::alloc::{AllocError, Global};
 use std::io::{self, Write};
 use std::process::ExitCode;
+use std::sync::Wait;
+use std::thread::Threads;
 use std::{env, fs, mem, rt};
 
 /// What the cases of a folder are about.
@@ -67,14 +69,20 @@ enum About {
 }
 
 impl Subject for About {
-    fn answer(&self, alloc: Global, given: &str, asked: &str) -> Result<String, AllocError> {
+    fn answer<R: Threads + Wait + Sync>(
+        &self,
+        rt: &R,
+        alloc: Global,
+        given: &str,
+        asked: &str,
+    ) -> Result<String, AllocError> {
         match self {
             About::Codes => codes::answer(alloc, given, asked),
             About::ClassFiles => class_files::answer(alloc, given, asked),
             About::ClassBytes => class_bytes::answer(alloc, given, asked),
-            About::Commands => commands::answer(alloc, given, asked),
+            About::Commands => commands::answer(rt, alloc, given, asked),
             About::Graphs => graphs::answer(alloc, given, asked),
-            About::Images => images::answer(alloc, given, asked),
+            About::Images => images::answer(rt, alloc, given, asked),
             About::Options => patterns::answer(alloc, given, asked),
             About::Programs => programs::answer(alloc, given, asked),
         }
@@ -98,17 +106,17 @@ fn subject_of(name: &str) -> About {
 /// Does one word, and answers whether all is as it is wanted.
 fn do_word<R, W>(rt: &R, out: &mut W, word: &str, classes: &mut Vec<ClassFile>) -> io::Result<bool>
 where
-    R: rt::Files + AllocGlobal,
+    R: rt::Files + AllocGlobal + Threads + Wait + Sync,
     W: Write,
 {
     if let Some(("report", file)) = word.split_once('=') {
         let wanted = fs::read_to_string(rt, file)?;
-        return do_report(rt.alloc(), out, file, classes, &wanted);
+        return do_report(rt, out, file, classes, &wanted);
     }
     if let Some((entry, file)) = word.split_once('=') {
         let since = mem::replace(classes, Vec::new(rt.alloc()));
         let wanted = fs::read_to_string(rt, file)?;
-        return do_run(rt.alloc(), out, file, since, entry, &wanted);
+        return do_run(rt, out, file, since, entry, &wanted);
     }
     if word.ends_with('/') {
         let since = mem::replace(classes, Vec::new(rt.alloc()));
@@ -119,7 +127,7 @@ where
         return do_class_file(rt.alloc(), out, word, &bytes, classes);
     }
     let text = fs::read_to_string(rt, word)?;
-    let tally = run_cases(rt.alloc(), out, &subject_of(word), word, &text)?;
+    let tally = run_cases(rt, rt.alloc(), out, &subject_of(word), word, &text)?;
     Ok(tally.others == 0)
 }
 
@@ -151,16 +159,17 @@ fn do_folder<W: Write>(
 }
 
 /// Writes whether runs of class files and of their image show what is wanted, and what they show where they do not.
-fn do_run<W: Write>(
-    alloc: Global,
+fn do_run<R: AllocGlobal + Threads + Wait + Sync, W: Write>(
+    rt: &R,
     out: &mut W,
     name: &str,
     classes: Vec<ClassFile>,
     entry: &str,
     wanted: &str,
 ) -> io::Result<bool> {
+    let alloc = rt.alloc();
     let count = classes.len();
-    let from_image = image_runs::shown(alloc, &classes, entry)?;
+    let from_image = image_runs::shown(rt, alloc, &classes, entry)?;
     let shown = programs::shown(alloc, classes, entry)?;
     if shown.as_str() != wanted {
         writeln!(out, "{name}: {shown}")?;
@@ -179,15 +188,16 @@ fn do_run<W: Write>(
 }
 
 /// Writes whether the report of a build of class files is what is wanted, and the report where it is not.
-fn do_report<W: Write>(
-    alloc: Global,
+fn do_report<R: AllocGlobal + Threads + Wait + Sync, W: Write>(
+    rt: &R,
     out: &mut W,
     name: &str,
     classes: &[ClassFile],
     wanted: &str,
 ) -> io::Result<bool> {
+    let alloc = rt.alloc();
     let count = classes.len();
-    let text = reports::reported(alloc, classes)?;
+    let text = reports::reported(rt, alloc, classes)?;
     if text.as_str() == wanted {
         writeln!(out, "{name}: {count} reported as wanted")?;
         return Ok(true);
@@ -199,7 +209,7 @@ fn do_report<W: Write>(
 /// Does the words of the command line in order, and answers whether all is as it is wanted.
 fn run<R, W>(rt: &R, out: &mut W) -> io::Result<bool>
 where
-    R: rt::Env + rt::Files + AllocGlobal,
+    R: rt::Env + rt::Files + AllocGlobal + Threads + Wait + Sync,
     W: Write,
 {
     let mut all_well = true;

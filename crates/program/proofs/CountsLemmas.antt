@@ -6,7 +6,7 @@ use Rattle.classfile.specs.declared.member.Member.{Member}
 use Rattle.loading.specs.Families.{file_of, file_in}
 use Rattle.loading.specs.declared.given.GivenClass.{GivenClass}
 use Rattle.program.specs.declared.class.Class.{Class}
-use Rattle.program.specs.Programs.{IsClass, IsProgram, IsImplementation}
+use Rattle.program.specs.Programs.{IsLinkedClass, IsProgram, IsImplementation}
 use Rattle.program.specs.Tables.{Tables, implementations_of}
 use Rattle.program.proofs.PoolFieldsLemmas.{zip_none, zip_some}
 
@@ -29,11 +29,11 @@ methods_counted P fits c = by (slice_get P.family c) refl
         → length (methods_if (file_of (slice_get P.family c))) ≡ length (implementations_of (slice_get P.classes c))
     by None at = rw (
       at,
-      zip_none (λ (given : GivenClass) (class : Class). IsClass P.family P.strings given.file class)
+      zip_none (λ (given : GivenClass) (class : Class). IsLinkedClass P.family P.strings given.file class)
           P.family P.classes c fits.classes at,
     ) refl
     by (Some given) at =
-        let held = zip_some (λ (given : GivenClass) (class : Class). IsClass P.family P.strings given.file class)
+        let held = zip_some (λ (given : GivenClass) (class : Class). IsLinkedClass P.family P.strings given.file class)
         P.family P.classes c given fits.classes at in
         rw (at, held.1) (same_length (IsImplementation P.family given.file) given.file.methods held.0.methods
         held.2.methods)
@@ -41,5 +41,6 @@ methods_counted P fits c = by (slice_get P.family c) refl
 -- each class file has one class
 pub classes_counted : (P : Tables) → IsProgram P → length P.family ≡ length P.classes
 classes_counted P fits =
-    same_length (λ (given : GivenClass) (class : Class). IsClass P.family P.strings given.file class) P.family P.classes
+    same_length (λ (given : GivenClass) (class : Class). IsLinkedClass P.family P.strings given.file class)
+    P.family P.classes
     fits.classes

@@ -21,7 +21,7 @@ use Rattle.program.specs.declared.runtime_constant.FieldTarget.TheVariants as ta
 use Rattle.program.specs.Fields.{static_of, static_number_of, final_of}
 use Rattle.program.specs.FieldTargets.{target_in, targeted}
 use Rattle.program.specs.InstanceFields.{slot_of}
-use Rattle.program.specs.Programs.{IsClass, IsProgram}
+use Rattle.program.specs.Programs.{IsLinkedClass, IsProgram}
 use Rattle.program.specs.References.{FieldOfFile, MethodOfFile}
 use Rattle.program.specs.References.{ResolvesFieldAt, ResolvesMethodAt, ResolvesFieldOf, ResolvesMethodOf}
 use Rattle.program.specs.RuntimePool.{IsRuntimeConstant, IsRuntimePool}
@@ -147,7 +147,7 @@ module _ (family : Family) (strings : List (List ℕ)) (f : ClassFile) (index : 
 
 module _ (P : Tables) (fits : IsProgram P) (class index : ℕ) where
   abbrev are : GivenClass → Class → Type 0
-  are given c = IsClass P.family P.strings given.file c
+  are given c = IsLinkedClass P.family P.strings given.file c
 
   pub field_answered : ResolvesFieldOf P.family class index (pool_field (constant_at P class index))
   field_answered = by (slice_get P.family class) refl

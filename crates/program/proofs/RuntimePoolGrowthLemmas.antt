@@ -10,14 +10,7 @@ use Rattle.loading.specs.Families.{Family}
 use Rattle.loading.specs.Names.{text_at}
 use Rattle.hierarchy.specs.steps.GrowingTexts.{KeepsNumbers}
 use Rattle.program.specs.RuntimePool.{IsRuntimeConstant}
-use Rattle.program.specs.Programs.{IsClass}
-use Rattle.program.specs.steps.GrowingStrings.{Grows}
-
-pub grows_twice : {a b c : List (List ℕ)} → Grows a b → Grows b c → Grows a c
-grows_twice first second = record {
-  keeps = λ i text at. second.keeps i text (first.keeps i text at);
-  distinct = λ apart. second.distinct (first.distinct apart);
-}
+use Rattle.program.specs.Programs.{IsLinkedClass}
 
 pub constant_kept : {family : Family} {old new : List (List ℕ)} {f : ClassFile} {index : ℕ} {constant : Constant}
     {held : RuntimeConstant}
@@ -41,8 +34,8 @@ constant_kept keeps IsRuntimeConstant.method_type = IsRuntimeConstant.method_typ
 constant_kept keeps IsRuntimeConstant.invoke_dynamic = IsRuntimeConstant.invoke_dynamic
 
 pub class_kept : {family : Family} {old new : List (List ℕ)} {f : ClassFile} {class : Class} → KeepsNumbers old new
-    → IsClass family old f class
-    → IsClass family new f class
+    → IsLinkedClass family old f class
+    → IsLinkedClass family new f class
 class_kept keeps was = record {
   statics = was.statics;
   signatures = was.signatures;
@@ -58,8 +51,8 @@ class_kept keeps was = record {
 
 pub classes_kept : (family : Family) (old new : List (List ℕ)) → KeepsNumbers old new
     → (givens : List GivenClass) (classes : List Class)
-    → AllZip (λ (given : GivenClass) (class : Class). IsClass family old given.file class) givens classes
-    → AllZip (λ (given : GivenClass) (class : Class). IsClass family new given.file class) givens classes
+    → AllZip (λ (given : GivenClass) (class : Class). IsLinkedClass family old given.file class) givens classes
+    → AllZip (λ (given : GivenClass) (class : Class). IsLinkedClass family new given.file class) givens classes
 classes_kept family old new keeps [] [] all = tt
 classes_kept family old new keeps [] (class ∷ classes) all = absurd all
 classes_kept family old new keeps (given ∷ givens) [] all = absurd all

@@ -1,6 +1,6 @@
 -- Descriptors that begin with the types of parameters, read type by type.
 use Rattle.std.proofs.Common.{◌≡◌, ◌≢◌, ℕ, zero, suc, ◌+◌, ◌<◌, Bool, true, false, not, cond, eqb, ltb, List, [], ◌∷◌}
-use Rattle.std.proofs.Common.{◌++◌, length, take, drop, map, replicate, get_or, refl, sym, ap, subst, ◌∙◌, append_assoc}
+use Rattle.std.proofs.Common.{◌++◌, length, take, drop, map, replicate, get_or, refl, sym, ap, ◌∙◌, append_assoc}
 use Rattle.std.proofs.Common.{Option, Some, None, unwrap_or, slice_get, arith, inl, inr}
 use Rattle.std.specs.Prelude.{position}
 use Rattle.std.specs.List.{flat_map, All, AllZip, position_or_len}
@@ -8,10 +8,11 @@ use Rattle.std.proofs.lemmas.Bool.{lt-ltb, ne_eqb}
 use Rattle.std.proofs.lemmas.List.{length-append, length-replicate, append-nil}
 use Rattle.std.proofs.lemmas.Slice.Zip.{AllZip-long}
 use Rattle.std.proofs.Math.Seq.{drop-append_seam, take-append_seam}
-use Rattle.classfile.specs.Grammar.{IsBaseType, IsElementType, IsFieldDescriptor, IsMethodDescriptor}
+use Rattle.classfile.specs.Grammar.{IsElementType, IsFieldDescriptor, IsMethodDescriptor}
 use Rattle.classfile.specs.ClassFile.{ClassFile}
 use Rattle.classfile.specs.declared.constant.Constant.{Constant}
 use Rattle.classfile.specs.Lookup.{utf8_in, utf8_of}
+use Rattle.classfile.proofs.ScanLemmas.{by_letters}
 use Rattle.program.specs.declared.runtime_constant.FieldKind.{FieldKind}
 use Rattle.program.specs.declared.signature.ReturnKind.{ReturnKind}
 use Rattle.program.specs.declared.signature.Signature.{Signature}
@@ -38,19 +39,6 @@ place_of p front b rest free hit =
     let within : ltb (length front) (length (front ++ b ∷ rest)) ≡ true = lt-ltb _ _ (omega (arith, whole)) in
     ap (λ (n : ℕ). cond (ltb n (length (front ++ b ∷ rest))) (Some n) None) count
     ∙ ap (λ (t : Bool). cond t (Some (length front)) None) within
-
--- what holds of each letter holds of a base type
-by_letters : (P : ℕ → Type 0) → P 66 → P 67 → P 68 → P 70 → P 73 → P 74 → P 83 → P 90 → (b : ℕ) → IsBaseType b → P b
-by_letters P p0 p1 p2 p3 p4 p5 p6 p7 b (zero, lt, e) = subst P e p0
-by_letters P p0 p1 p2 p3 p4 p5 p6 p7 b (suc zero, lt, e) = subst P e p1
-by_letters P p0 p1 p2 p3 p4 p5 p6 p7 b (suc (suc zero), lt, e) = subst P e p2
-by_letters P p0 p1 p2 p3 p4 p5 p6 p7 b (suc (suc (suc zero)), lt, e) = subst P e p3
-by_letters P p0 p1 p2 p3 p4 p5 p6 p7 b (suc (suc (suc (suc zero))), lt, e) = subst P e p4
-by_letters P p0 p1 p2 p3 p4 p5 p6 p7 b (suc (suc (suc (suc (suc zero)))), lt, e) = subst P e p5
-by_letters P p0 p1 p2 p3 p4 p5 p6 p7 b (suc (suc (suc (suc (suc (suc zero))))), lt, e) = subst P e p6
-by_letters P p0 p1 p2 p3 p4 p5 p6 p7 b (suc (suc (suc (suc (suc (suc (suc zero)))))), lt, e) = subst P e p7
-by_letters P p0 p1 p2 p3 p4 p5 p6 p7 b (suc (suc (suc (suc (suc (suc (suc (suc k))))))), lt, e) =
-    absurd (omega (arith, lt))
 
 -- ---- types
 

@@ -18,7 +18,7 @@ abbrev as_number : Bool → ℕ
 as_number b = cond b 1 0
 
 -- an element that passes has as many before it among those that pass as pass before it
-kept_place : {X : Type 0} (p : X → Bool) (xs : List X) (j : ℕ) (x : X) → slice_get xs j ≡ Some x → p x ≡ true
+pub kept_place : {X : Type 0} (p : X → Bool) (xs : List X) (j : ℕ) (x : X) → slice_get xs j ≡ Some x → p x ≡ true
     → slice_get (filter p xs) (count_by p (take j xs)) ≡ Some x
 kept_place p [] j x h passed = absurd cc
 kept_place p (y ∷ ys) zero x h passed =

@@ -17,7 +17,7 @@ use Rattle.loading.proofs.PlaceLemmas.{contains_at}
 use Rattle.program.specs.declared.runtime_constant.RuntimeConstant.{RuntimeConstant}
 use Rattle.program.specs.RuntimePool.{IsRuntimeConstant}
 use Rattle.program.specs.Strings.{AreFirsts, string_of}
-use Rattle.program.specs.steps.GrowingStrings.{Adds}
+use Rattle.program.specs.steps.GrowingStrings.{Adds, Gains}
 
 pub has : List ℕ → List (List ℕ) → Bool
 has x = list_any (λ y. bytes_eq y x)
@@ -49,7 +49,7 @@ same_texts (AreFirsts.first {all = all} {texts = texts} {x = y} was fresh) x = (
   ],
 )
 
-pub adds_nothing : (old : List (List ℕ)) → Adds old [] old
+adds_nothing : (old : List (List ℕ)) → Adds old [] old
 adds_nothing old all was = subst (λ (xs : List (List ℕ)). AreFirsts xs old) (sym (append-nil all)) was
 
 pub adds_text : (old new : List (List ℕ)) (x : List ℕ) → (Contains old x → new ≡ old)
@@ -65,26 +65,39 @@ adds_text old new x same last all was = by (has x old) refl
         subst (AreFirsts (all ++ x ∷ [])) (sym (last fresh))
         (AreFirsts.first was (λ h. fresh ((same_texts was x).0 h)))
 
-pub adds_twice : (a b c m n : List (List ℕ)) → Adds a m b → Adds b n c → Adds a (m ++ n) c
+adds_twice : (a b c m n : List (List ℕ)) → Adds a m b → Adds b n c → Adds a (m ++ n) c
 adds_twice a b c m n first second all was =
     subst (λ (xs : List (List ℕ)). AreFirsts xs c) (append_assoc all m n) (second (all ++ m) (first all was))
 
+pub gains_nothing : (old : List (List ℕ)) → Gains old [] old
+gains_nothing old = record { keeps = λ i text at. at; distinct = λ apart. apart; adds = adds_nothing old }
+
 -- one more item adds its texts
-pub adds_next : {X : Type 0} (f : X → List (List ℕ)) (xs : List X) (i : ℕ) (x : X) (a b c : List (List ℕ))
-    → i < length xs → x ≡ get_or xs i x → Adds a (flat_map f (take i xs)) b → Adds b (f x) c
-    → Adds a (flat_map f (take (i + 1) xs)) c
-adds_next f xs i x a b c within is first second =
+pub gains_next : {X : Type 0} (f : X → List (List ℕ)) (xs : List X) (i : ℕ) (x : X) (a b c : List (List ℕ))
+    → i < length xs → x ≡ get_or xs i x → Gains a (flat_map f (take i xs)) b → Gains b (f x) c
+    → Gains a (flat_map f (take (i + 1) xs)) c
+gains_next f xs i x a b c within is first second =
     let here : flat_map f (get_or xs i x ∷ []) ≡ f x = append-nil (f (get_or xs i x)) ∙ ap f (sym is) in
     let more : flat_map f (take (i + 1) xs) ≡ flat_map f (take i xs) ++ f x =
     ap (flat_map f) (take_more xs i x within) ∙ flat_map-append f (take i xs) (get_or xs i x ∷ [])
     ∙ ap (λ (ys : List (List ℕ)). flat_map f (take i xs) ++ ys) here in
-    subst (λ (m : List (List ℕ)). Adds a m c) (sym more) (adds_twice a b c (flat_map f (take i xs)) (f x) first second)
+    record {
+      keeps = λ n text at. second.keeps n text (first.keeps n text at);
+      distinct = λ apart. second.distinct (first.distinct apart);
+      adds = subst (λ (m : List (List ℕ)). Adds a m c) (sym more)
+          (adds_twice a b c (flat_map f (take i xs)) (f x) first.adds second.adds);
+    }
 
 -- a constant that stands already adds no text
-pub adds_held : {family : Family} {strings : List (List ℕ)} {f : ClassFile} {index : ℕ} {constant : Constant}
+adds_held : {family : Family} {strings : List (List ℕ)} {f : ClassFile} {index : ℕ} {constant : Constant}
     {held : RuntimeConstant} → IsRuntimeConstant family strings f index constant held
     → Adds strings (string_of f constant) strings
 adds_held {strings = strings} {f = f} (IsRuntimeConstant.string {utf8 = utf8} {n = n} at) =
     adds_text strings strings (text_at f utf8) (λ among. refl)
     (λ fresh. absurd (fresh (contains_at strings n (text_at f utf8) at)))
 adds_held {strings = strings} is = adds_nothing strings
+
+pub gains_held : {family : Family} {strings : List (List ℕ)} {f : ClassFile} {index : ℕ} {constant : Constant}
+    {held : RuntimeConstant} → IsRuntimeConstant family strings f index constant held
+    → Gains strings (string_of f constant) strings
+gains_held is = record { keeps = λ i text at. at; distinct = λ apart. apart; adds = adds_held is }

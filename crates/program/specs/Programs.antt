@@ -113,7 +113,7 @@ pub data IsImplementation (family : Family) (f : ClassFile) (m : Member) : Imple
 
 -- ---- a whole class, and the program
 
-pub record IsClass (family : Family) (strings : List (List ℕ)) (f : ClassFile) (class : Class) : Type 0 where
+pub record IsLinkedClass (family : Family) (strings : List (List ℕ)) (f : ClassFile) (class : Class) : Type 0 where
   pub statics : class.statics ≡ map (static_field f class.runtime_pool) (statics_of f)
   pub signatures : AreSignatures f class.signatures
   pub methods : AllZip (IsImplementation family f) f.methods class.methods
@@ -124,10 +124,10 @@ pub record IsClass (family : Family) (strings : List (List ℕ)) (f : ClassFile)
 -- a class for each given one
 abbrev pub AreClasses : Family → List (List ℕ) → List Class → Type 0
 AreClasses family strings classes =
-    AllZip (λ (given : GivenClass) (class : Class). IsClass family strings given.file class) family classes
+    AllZip (λ (given : GivenClass) (class : Class). IsLinkedClass family strings given.file class) family classes
 
--- The tables are those of their family: an order and a class for each given one, and the strings of all, each once, with
--- those that came in besides behind them.
+-- The tables are those of their family: an order and a class for each given one, and the strings of all, each once,
+-- with those that came in besides behind them.
 pub record IsProgram (P : Tables) : Type 0 where
   pub order_count : length P.orders ≡ length P.family
   pub orders : (c : ℕ) → c < length P.family → IsInitializationOrder P.family c (order_in P c)

@@ -28,17 +28,4 @@ impl Program {
         let text = ModifiedUtf8::from_units(alloc, units)?;
         self.strings.add(alloc, text.bytes())
     }
-
-    /// Has strings found by a seed that has read a text besides the class files. Who writes the text, and strings in
-    /// it, cannot choose strings that are slow to find. A digest of the text serves as well.
-    ///
-    /// # Errors
-    /// Where memory runs out.
-    pub fn reseed_strings(&mut self, alloc: Global, text: &[u8]) -> Result<(), AllocError>
-        ensures { self.new ≡ self.old }
-    {
-        let seed = self.hierarchy.seed().with_text(text);
-        self.strings = self.strings.reseeded(alloc, seed)?;
-        Ok(())
-    }
 }

@@ -1,4 +1,7 @@
 //! Puts a program together from class files (JVMS 5.4).
+//!
+//! Each function makes one part and hands it to the next at once: one that held several parts where a call can fail
+//! would be dear to prove.
 
 ghost use Rattle.std.specs.Prelude.{◌≡◌, ◌⊎◌, [], ◌∷◌, ◌++◌, length, map, Some, Err, IfOk, IfErr, OnOk, IsOk};
 ghost use Rattle.std.specs.List.{AllZip};
@@ -13,11 +16,12 @@ ghost use Rattle.program.specs.steps.ResolvedConstants.{HoldsClasses};
 ghost use Rattle.program.specs.steps.Slots.{AreSlots};
 ghost use Rattle.program.specs.steps.StaticNumbers.{AreStaticNumbersOf};
 ghost use Rattle.hierarchy.specs.Initialization.{AreOrders};
-ghost use Rattle.program.specs.Programs.{AreClasses, HasOwnStrings, IsClass, IsProgram, IsImplementation, static_field};
+ghost use Rattle.program.specs.Programs.{AreClasses, HasOwnStrings, IsLinkedClass, IsProgram, IsImplementation};
+ghost use Rattle.program.specs.Programs.{static_field};
 ghost use Rattle.hierarchy.specs.Texts.{AreDistinct};
 ghost use Rattle.program.specs.RuntimePool.{IsRuntimePool};
 ghost use Rattle.program.specs.Strings.{strings_of, all_strings, AreFirsts};
-ghost use Rattle.program.specs.steps.GrowingStrings.{Adds, Grows};
+ghost use Rattle.program.specs.steps.GrowingStrings.{Gains};
 
 use crate::class::{Class, Methods, RuntimePool, StaticFields};
 use crate::field_slots::field_slots_of;
@@ -186,7 +190,7 @@ fn class_tables(
     ensures distinct { IfOk result (λ tables. AreDistinct tables.1) }
     ensures strings { IfOk result (λ tables. AreFirsts (all_strings hierarchy.now.family) tables.1) }
 {
-    let mut strings = Texts::new(alloc, hierarchy.seed());
+    let mut strings = Texts::new(alloc);
     match classes_of(alloc, hierarchy, slots, &mut strings) {
         Ok(classes) => Ok((classes, strings)),
         Err(error) => Err(error),
@@ -225,8 +229,7 @@ fn classes_of(
 ) -> Result<Vec<Class>, AllocError>
     requires { AreSlots hierarchy.now.family slots.now }
     ensures classes { IfOk result (λ classes. AreClasses hierarchy.now.family strings.new classes.items) }
-    ensures grows { OnOk result (Grows strings.old strings.new) }
-    ensures adds { OnOk result (Adds strings.old (all_strings hierarchy.now.family) strings.new) }
+    ensures gains { OnOk result (Gains strings.old (all_strings hierarchy.now.family) strings.new) }
 {
     let numbers = static_numbers_of(alloc, hierarchy.family().classes())?;
     let field_slots = field_slots_of(alloc, hierarchy.family(), slots)?;
@@ -245,8 +248,7 @@ fn linked_classes(
     strings: &mut Texts,
 ) -> Result<Vec<Class>, AllocError>
     ensures classes { IfOk result (λ classes. AreClasses linker.now.hierarchy.now.family strings.new classes.items) }
-    ensures grows { OnOk result (Grows strings.old strings.new) }
-    ensures adds { OnOk result (Adds strings.old (all_strings linker.now.hierarchy.now.family) strings.new) }
+    ensures gains { OnOk result (Gains strings.old (all_strings linker.now.hierarchy.now.family) strings.new) }
 {
     match MemberResolver::new(alloc, linker.hierarchy) {
         Ok(mut members) => classes_with(alloc, linker, &mut members, strings),
@@ -263,8 +265,7 @@ fn classes_with(
 ) -> Result<Vec<Class>, AllocError>
     requires { members.old ≡ linker.now.hierarchy.now }
     ensures classes { IfOk result (λ classes. AreClasses linker.now.hierarchy.now.family strings.new classes.items) }
-    ensures grows { OnOk result (Grows strings.old strings.new) }
-    ensures adds { OnOk result (Adds strings.old (all_strings linker.now.hierarchy.now.family) strings.new) }
+    ensures gains { OnOk result (Gains strings.old (all_strings linker.now.hierarchy.now.family) strings.new) }
 {
     let mut classes = Vec::with_capacity(alloc, linker.hierarchy.family().classes().len())?;
     add_classes(alloc, linker, members, strings, &mut classes)?;
@@ -282,8 +283,7 @@ fn add_classes(
     requires members { members.old ≡ linker.now.hierarchy.now }
     requires empty { classes.old.items ≡ [] }
     ensures classes { OnOk result (AreClasses linker.now.hierarchy.now.family strings.new classes.new.items) }
-    ensures grows { OnOk result (Grows strings.old strings.new) }
-    ensures adds { OnOk result (Adds strings.old (all_strings linker.now.hierarchy.now.family) strings.new) }
+    ensures gains { OnOk result (Gains strings.old (all_strings linker.now.hierarchy.now.family) strings.new) }
     ensures kept { members.new ≡ members.old }
 {
     let family = linker.hierarchy.family().classes();
@@ -314,10 +314,9 @@ fn add_class(
     requires members { members.old ≡ linker.now.hierarchy.now }
     requires file { file_in linker.now.hierarchy.now.family number ≡ Some file.now }
     ensures class { OnOk result
-        ((class : ClassTables) × IsClass linker.now.hierarchy.now.family strings.new file.now class
+        ((class : ClassTables) × IsLinkedClass linker.now.hierarchy.now.family strings.new file.now class
         × (classes.new.items ≡ classes.old.items ++ class ∷ [])) }
-    ensures grows { OnOk result (Grows strings.old strings.new) }
-    ensures adds { OnOk result (Adds strings.old (strings_of file.now) strings.new) }
+    ensures gains { OnOk result (Gains strings.old (strings_of file.now) strings.new) }
     ensures kept { members.new ≡ members.old }
 {
     let class = class_of(alloc, linker, members, strings, number, file)?;
@@ -350,9 +349,8 @@ fn class_of(
 ) -> Result<Class, AllocError>
     requires members { members.old ≡ linker.now.hierarchy.now }
     requires file { file_in linker.now.hierarchy.now.family number ≡ Some file.now }
-    ensures class { IfOk result (IsClass linker.now.hierarchy.now.family strings.new file.now) }
-    ensures grows { OnOk result (Grows strings.old strings.new) }
-    ensures adds { OnOk result (Adds strings.old (strings_of file.now) strings.new) }
+    ensures class { IfOk result (IsLinkedClass linker.now.hierarchy.now.family strings.new file.now) }
+    ensures gains { OnOk result (Gains strings.old (strings_of file.now) strings.new) }
     ensures kept { members.new ≡ members.old }
 {
     let runtime_pool = runtime_pool_of(alloc, linker, members, strings, number, file)?;
@@ -381,8 +379,7 @@ fn runtime_pool_of(
     requires members { members.old ≡ linker.now.hierarchy.now }
     requires file { file_in linker.now.hierarchy.now.family number ≡ Some file.now }
     ensures pool { IfOk result (IsRuntimePool linker.now.hierarchy.now.family strings.new file.now) }
-    ensures grows { OnOk result (Grows strings.old strings.new) }
-    ensures adds { OnOk result (Adds strings.old (strings_of file.now) strings.new) }
+    ensures gains { OnOk result (Gains strings.old (strings_of file.now) strings.new) }
     ensures kept { members.new ≡ members.old }
 {
     let named = NamedClasses::of_file(alloc, linker.hierarchy.family(), number, file)?;

@@ -1,6 +1,6 @@
 //! What the machine uses of a given class.
 
-ghost use Rattle.std.specs.Prelude.{◌≡◌, ◌<◌, ◌^◌, length, IfOk, slice_get};
+ghost use Rattle.std.specs.Prelude.{◌≡◌, ◌<◌, ◌++◌, ◌∷◌, [], length, IfOk, OnOk, slice_get};
 ghost use Rattle.program.specs.steps.NamedConstants.{held_in};
 
 use crate::handler::Handlers;
@@ -127,19 +127,21 @@ fn constant_at(constants: &[RuntimeConstant], place: u16) -> RuntimeConstant
 }
 
 impl RuntimePool {
-    /// The pool of these constants.
-    pub(crate) fn of_constants(
-        alloc: Global,
-        constants: &[RuntimeConstant],
-    ) -> Result<Self, AllocError>
-        requires { length constants.now < 2 ^ 16 }
-        ensures { IfOk result (λ pool. pool ≡ constants.now) }
+    /// No constants yet, with room for so many.
+    pub(crate) fn with_capacity(alloc: Global, count: usize) -> Result<Self, AllocError>
+        ensures { IfOk result (λ pool. pool ≡ []) }
     {
-        let mut entries = Sparse::with_capacity(alloc, constants.len())?;
-        for constant in constants {
-            entries.add(named(*constant))?;
-        }
-        Ok(RuntimePool { constants: entries })
+        let constants = Sparse::with_capacity(alloc, count)?;
+        Ok(RuntimePool { constants })
+    }
+
+    /// Adds the constant of the next index.
+    pub(crate) fn push(&mut self, constant: RuntimeConstant) -> Result<(), AllocError>
+        requires { length self.old < 65535 }
+        ensures { OnOk result (self.new ≡ self.old ++ constant ∷ []) }
+    {
+        self.constants.add(named(constant))?;
+        Ok(())
     }
 
     /// The constant at an index.

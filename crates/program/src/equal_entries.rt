@@ -2,6 +2,7 @@
 
 ghost use Rattle.std.specs.Prelude.{◌≡◌, ℕ, Some, IsTrue, IfSome, slice_get};
 
+use crate::class::RuntimePool;
 use crate::runtime_constant::RuntimeConstant;
 use classfile::{ClassFile, Constant};
 use std::alloc::{AllocError, Global};
@@ -52,7 +53,7 @@ impl EarlierStrings {
         &self,
         file: &ClassFile,
         constant: &Constant,
-        pool: &[RuntimeConstant],
+        pool: &RuntimePool,
     ) -> Option<RuntimeConstant>
         ensures { IfSome result (λ held. (i : ℕ) × (slice_get file.now.constants i ≡ Some constant.now)
             × (slice_get pool.now i ≡ Some held)) }
@@ -61,10 +62,8 @@ impl EarlierStrings {
         if !stands_at(file, index, constant) {
             return None;
         }
-        match pool.get(usize::from(index)) {
-            Some(held) => Some(*held),
-            None => None,
-        }
+        let held = pool.at(index)?;
+        Some(held)
     }
 }
 

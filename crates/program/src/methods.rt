@@ -65,7 +65,7 @@ pub(crate) fn main_of(file: &ClassFile) -> Option<u16>
 fn is_abstract(file: &ClassFile, method: &Member) -> bool
     ensures { result ≡ is_abstract_method file.now method.now }
 {
-    !is_initializer(file, method) && has_flag(method.access_flags, ABSTRACT)
+    has_flag(method.access_flags, ABSTRACT) && !is_initializer(file, method)
 }
 
 /// Whether it is native or synchronized. The flags of a class initialization method say nothing (JVMS 4.6).
@@ -73,9 +73,9 @@ fn is_left_out(file: &ClassFile, method: &Member) -> bool
     ensures { result ≡ is_left_out file.now method.now }
 {
     let flags = method.access_flags;
-    !is_initializer(file, method)
+    (has_flag(flags, NATIVE) || has_flag(flags, SYNCHRONIZED))
         && !has_flag(flags, ABSTRACT)
-        && (has_flag(flags, NATIVE) || has_flag(flags, SYNCHRONIZED))
+        && !is_initializer(file, method)
 }
 
 /// What a method with code runs.

@@ -1,6 +1,8 @@
 //! The run-time constant pool of a class (JVMS 5.1).
 
-ghost use Rattle.std.specs.Prelude.{◌≡◌, ◌<◌, [], ◌∷◌, ◌++◌, length, Some, IfOk, OnOk, slice_get, if◌then◌else◌};
+ghost use Rattle.std.specs.Prelude.{◌≡◌, ◌<◌, ℕ, List, [], ◌∷◌, ◌++◌, length, true, Some, IfOk, OnOk, slice_get};
+ghost use Rattle.std.specs.Prelude.{if◌then◌else◌};
+ghost use Rattle.classfile.specs.ClassFile.{ClassFile as File};
 ghost use Rattle.program.specs.RuntimePool.{int_of_bits, long_of_halves};
 ghost use Rattle.program.specs.Fields.{static_number_of, static_of, final_of};
 ghost use Rattle.program.specs.FieldTargets.{target_in, target_of, targeted};
@@ -8,14 +10,15 @@ ghost use Rattle.program.specs.InstanceFields.{slot_of};
 ghost use Rattle.program.specs.steps.Slots.{field_slot_in};
 ghost use Rattle.program.specs.steps.StaticNumbers.{static_number_in};
 ghost use Rattle.program.specs.declared.runtime_constant.RuntimeConstant.{RuntimeConstant as Held};
+ghost use Rattle.program.specs.declared.runtime_constant.RuntimeConstant.TheVariants.{Other};
 ghost use Rattle.program.specs.declared.runtime_constant.FieldTarget.TheVariants as targets;
-ghost use Rattle.loading.specs.Families.{file_in};
+ghost use Rattle.loading.specs.Families.{Family as Classes, file_in};
 ghost use Rattle.program.specs.RuntimePool.{IsRuntimeConstant, IsRuntimePool};
 ghost use Rattle.program.specs.steps.ResolvedConstants.{IsTargetAt, IsResolved, IsPlain, IsFieldConstant};
 ghost use Rattle.program.specs.steps.ResolvedConstants.{AreRuntimeConstants};
 ghost use Rattle.program.specs.steps.Ahead.{AreAhead};
 ghost use Rattle.program.specs.Strings.{string_of, strings_of};
-ghost use Rattle.program.specs.steps.GrowingStrings.{Adds, Grows};
+ghost use Rattle.program.specs.steps.GrowingStrings.{Gains};
 
 use crate::ahead::MembersAhead;
 use crate::class::RuntimePool;
@@ -46,6 +49,19 @@ pub(crate) fn long_of_halves(high: u32, low: u32) -> i64
 {
     let bits = u64::from(high) * 4_294_967_296 + u64::from(low);
     i64::from_be_bytes(bits.to_be_bytes())
+}
+
+/// Whether no instruction can name an entry: a text, a name and type, or none.
+fn is_unnamed(constant: &Constant) -> bool
+    ensures { result ≡ true → (family : Classes) (strings : List (List ℕ)) (f : File) (index : ℕ)
+        → IsRuntimeConstant family strings f index constant.now Other }
+{
+    match constant {
+        Constant::Utf8 { .. } => true,
+        Constant::NameAndType { .. } => true,
+        Constant::Unusable => true,
+        _ => false,
+    }
 }
 
 /// A field of a class file as instructions use it, from its number and its slot.
@@ -240,6 +256,7 @@ impl Resolver<'_> {
     }
 
     /// What an entry of a class file's constant pool stands for. A string gets a number if it had none.
+    #[tactic(auto, using(crate::proofs::StringsLemmas::gains_nothing))]
     fn runtime_constant_of(
         &self,
         alloc: Global,
@@ -254,8 +271,7 @@ impl Resolver<'_> {
         requires here { slice_get self.now.file.now.constants index ≡ Some constant.now }
         ensures held { IfOk result (IsRuntimeConstant self.now.hierarchy.now.family strings.new
             self.now.file.now index constant.now) }
-        ensures grows { OnOk result (Grows strings.old strings.new) }
-        ensures adds { OnOk result (Adds strings.old (string_of self.now.file.now constant.now) strings.new) }
+        ensures gains { OnOk result (Gains strings.old (string_of self.now.file.now constant.now) strings.new) }
         ensures kept { members.new ≡ members.old }
     {
         let Constant::String { text } = constant else {
@@ -275,15 +291,14 @@ impl Resolver<'_> {
     ) -> Result<RuntimePool, AllocError>
         requires members { members.old ≡ self.now.hierarchy.now }
         ensures pool { IfOk result (IsRuntimePool self.now.hierarchy.now.family strings.new self.now.file.now) }
-        ensures grows { OnOk result (Grows strings.old strings.new) }
-        ensures adds { OnOk result (Adds strings.old (strings_of self.now.file.now) strings.new) }
+        ensures gains { OnOk result (Gains strings.old (strings_of self.now.file.now) strings.new) }
         ensures kept { members.new ≡ members.old }
     {
         let ahead = self.members_ahead(alloc, members)?;
-        let mut pool = Vec::with_capacity(alloc, self.file.constants().len())?;
+        let mut pool = RuntimePool::with_capacity(alloc, self.file.constants().len())?;
         let mut earlier = EarlierStrings::new(alloc);
         self.add_constants(alloc, members, strings, &ahead, &mut earlier, &mut pool)?;
-        RuntimePool::of_constants(alloc, &pool)
+        Ok(pool)
     }
 
     /// Adds a constant for each entry of a class file's constant pool.
@@ -294,15 +309,14 @@ impl Resolver<'_> {
         strings: &mut Texts,
         ahead: &MembersAhead,
         earlier: &mut EarlierStrings,
-        pool: &mut Vec<RuntimeConstant>,
+        pool: &mut RuntimePool,
     ) -> Result<(), AllocError>
         requires members { members.old ≡ self.now.hierarchy.now }
         requires ahead { AreAhead self.now.hierarchy.now.family self.now.file.now ahead.now }
-        requires empty { pool.old.items ≡ [] }
+        requires empty { pool.old ≡ [] }
         ensures pool { OnOk result (IsRuntimePool self.now.hierarchy.now.family strings.new
-            self.now.file.now pool.new.items) }
-        ensures grows { OnOk result (Grows strings.old strings.new) }
-        ensures adds { OnOk result (Adds strings.old (strings_of self.now.file.now) strings.new) }
+            self.now.file.now pool.new) }
+        ensures gains { OnOk result (Gains strings.old (strings_of self.now.file.now) strings.new) }
         ensures kept { members.new ≡ members.old }
     {
         let constants = self.file.constants();
@@ -331,21 +345,25 @@ impl Resolver<'_> {
         index: u16,
         constant: &Constant,
         earlier: &mut EarlierStrings,
-        pool: &mut Vec<RuntimeConstant>,
+        pool: &mut RuntimePool,
     ) -> Result<(), AllocError>
         requires members { members.old ≡ self.now.hierarchy.now }
         requires ahead { AreAhead self.now.hierarchy.now.family self.now.file.now ahead.now }
         requires here { slice_get self.now.file.now.constants index ≡ Some constant.now }
         requires pool { AreRuntimeConstants self.now.hierarchy.now.family strings.old
-            self.now.file.now pool.old.items }
+            self.now.file.now pool.old }
+        requires few { length pool.old < 65535 }
         ensures held { OnOk result ((held : Held)
             × IsRuntimeConstant self.now.hierarchy.now.family strings.new
             self.now.file.now index constant.now held
-            × (pool.new.items ≡ pool.old.items ++ held ∷ [])) }
-        ensures grows { OnOk result (Grows strings.old strings.new) }
-        ensures adds { OnOk result (Adds strings.old (string_of self.now.file.now constant.now) strings.new) }
+            × (pool.new ≡ pool.old ++ held ∷ [])) }
+        ensures gains { OnOk result (Gains strings.old (string_of self.now.file.now constant.now) strings.new) }
         ensures kept { members.new ≡ members.old }
     {
+        if is_unnamed(constant) {
+            pool.push(RuntimeConstant::Other)?;
+            return Ok(());
+        }
         if let Some(held) = earlier.held(self.file, constant, pool) {
             pool.push(held)?;
             return Ok(());

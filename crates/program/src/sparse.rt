@@ -28,12 +28,12 @@ impl<T: Drop> Sparse<T> {
         })
     }
 
-    /// Adds an entry.
+    /// Adds an entry. Where memory is refused all stays as it was.
     #[tactic(auto, using(crate::proofs::SparseLemmas::nothing_entries))]
     pub(crate) fn add(&mut self, entry: Option<T>) -> Result<(), AllocError>
         requires places { ArePlaces self.old.places.items self.old.items.items }
         requires few { length self.old.places.items < 65535 }
-        ensures places { OnOk result (ArePlaces self.new.places.items self.new.items.items) }
+        ensures places { ArePlaces self.new.places.items self.new.items.items }
         ensures count { OnOk result (length self.new.places.items ≡ length self.old.places.items + 1) }
         ensures entries { OnOk result (entries self.new.places.items self.new.items.items
             ≡ entries self.old.places.items self.old.items.items ++ entry ∷ []) }
@@ -43,8 +43,9 @@ impl<T: Drop> Sparse<T> {
             return Ok(());
         };
         let place = self.items.as_slice().len() as u16;
+        self.places.reserve(1)?;
         self.items.push(item)?;
-        self.places.push(place)?;
+        self.places.push_reserved(place);
         Ok(())
     }
 

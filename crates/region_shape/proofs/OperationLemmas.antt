@@ -70,7 +70,8 @@ use Rattle.machine.specs.Operations.{long_constant}
 use Rattle.machine.specs.Operations.{may_write, if_valued, get_target, getstatic_of, put_target, putstatic_of, on_call}
 use Rattle.machine.specs.Operations.{returns_so, return_of, new_of_references, anewarray_of, on_object}
 use Rattle.machine.specs.Operations.{resolved_operation, local_or, operation_of, operation_at}
-use Rattle.machine.proofs.ListLemmas.{left_of_pair, kept_place, first_passes}
+use Rattle.machine.proofs.ListLemmas.{left_of_pair, first_passes}
+use Rattle.program.proofs.SlotLawsLemmas.{kept_place}
 use Rattle.machine.proofs.LawsStaticLemmas.{IsClassIn}
 use Rattle.machine.proofs.LawsFinalLemmas.{static_target, finds_field, descriptor_is, constant_at_put}
 use Rattle.region_shape.specs.Texts.{HasText}

@@ -1,8 +1,8 @@
 -- The slots of objects of a class and of those below it by superclasses, and those of enums.
-use Rattle.std.proofs.Common.{◌≡◌, ◌⊎◌, ℕ, zero, suc, ◌==◌, Bool, true, false, ◌||◌, List, [], ◌∷◌, ◌++◌, map, reverse}
+use Rattle.std.proofs.Common.{◌≡◌, ◌⊎◌, ℕ, zero, suc, ◌==◌, Bool, true, false, List, [], ◌∷◌, ◌++◌, map, reverse}
 use Rattle.std.proofs.Common.{not, cond}
 use Rattle.std.proofs.Common.{Option, Some, None, slice_get, refl, sym, ap, ◌∙◌, subst, inl, inr, eqb-true, eq-eqb}
-use Rattle.std.proofs.lemmas.Bool.{and_parts}
+use Rattle.std.proofs.lemmas.Bool.{and_parts, or_cases, or_left, or_right}
 use Rattle.std.specs.List.{list_any, filter, flat_map, AllByRecursion, AllZip}
 use Rattle.built_in.specs.declared.class_id.BuiltIn.{BuiltIn}
 use Rattle.built_in.specs.declared.class_id.BuiltIn.TheVariants as builtins
@@ -28,18 +28,6 @@ use Rattle.program.proofs.SlotsLemmas.{slots_whole}
 use Rattle.program.proofs.SlotLawsLemmas.{superclass_first}
 use Rattle.region_shape.specs.Suits.{suits}
 use Rattle.region_shape.proofs.SuitsLemmas.{zero_suits}
-
-either_true : (a b : Bool) → (a || b) ≡ true → (a ≡ true) ⊎ (b ≡ true)
-either_true true b h = inl refl
-either_true false b h = inr h
-
-first_true : (a b : Bool) → a ≡ true → (a || b) ≡ true
-first_true true b h = refl
-first_true false b h = absurd cc
-
-second_true : (a b : Bool) → b ≡ true → (a || b) ≡ true
-second_true true b h = refl
-second_true false b h = h
 
 front_kept : {A : Type 0} (xs ys : List A) (i : ℕ) (x : A) → slice_get xs i ≡ Some x → slice_get (xs ++ ys) i ≡ Some x
 front_kept [] ys i x h = absurd cc
@@ -71,14 +59,14 @@ module _ (family : Family) (fits : IsFamily family) (within : AreParentsWithin f
   along : {c : ℕ} {ds : List ℕ} → AreSuperclasses family c ds → (d : ℕ) → list_any (λ e. e == d) ds ≡ true → Keeps c d
   along (none h) d is i kind at = absurd cc
   along {c} (next {d = e} {ds = ds} up rest) d is i kind at =
-      one_up c e (given_above family c e up) i kind (elim (either_true (e == d) (list_any (λ x. x == d) ds) is) [
+      one_up c e (given_above family c e up) i kind (elim (or_cases (e == d) (list_any (λ x. x == d) ds) is) [
         | inl same ↦ subst (λ (x : ℕ). slice_get (slots_of family x) i ≡ Some kind) (sym (eqb-true e d same)) at
         | inr further ↦ along rest d further i kind at
       ])
 
   pub holder_keeps : (c d : ℕ) → has_fields_of family c d ≡ true → Keeps c d
   holder_keeps c d is i kind at =
-      elim (either_true (c == d) (list_any (λ e. e == d) (given_superclasses family c)) is) [
+      elim (or_cases (c == d) (list_any (λ e. e == d) (given_superclasses family c)) is) [
         | inl same ↦ subst (λ (x : ℕ). slice_get (slots_of family x) i ≡ Some kind) (sym (eqb-true c d same)) at
         | inr above ↦ along (superclasses_of family c fits within) d above i kind at
       ]
@@ -90,8 +78,8 @@ module _ (family : Family) (fits : IsFamily family) (within : AreParentsWithin f
   last_among c [] = inl refl
   last_among c (d ∷ ds) =
       inr (elim (last_among d ds) [
-        | inl same ↦ first_true (d == last_of d ds) _ (eq-eqb d (last_of d ds) (sym same))
-        | inr further ↦ second_true (d == last_of d ds) _ further
+        | inl same ↦ or_left (d == last_of d ds) _ (eq-eqb d (last_of d ds) (sym same))
+        | inr further ↦ or_right (d == last_of d ds) _ further
       ])
 
   is_enum_itself : (b : BuiltIn) → is_built_in_below b builtins.Enum ≡ true → is_enum b ≡ true

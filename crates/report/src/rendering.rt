@@ -7,10 +7,10 @@ ghost use Rattle.report.specs.Texts.{report_text};
 ghost use Rattle.report.specs.Waves.{GiveWaves};
 
 use crate::lines::report_text;
-use image_writer::sink::Sink;
 use image_writer::{WriteFault, send};
 use initializer_analysis::verdict::Verdicts;
 use object_graph::Image;
+use sinks::Sink;
 use std::alloc::Global;
 
 /// Writes the report of an image and the last verdicts on its classes: its text goes out to a sink.

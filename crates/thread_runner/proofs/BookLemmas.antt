@@ -29,7 +29,8 @@ use Rattle.thread_runner.specs.Commits.{Fits, IsCommit, IsSettled, MovedTo, afte
 use Rattle.thread_runner.specs.declared.history.Commit.{Commit}
 use Rattle.thread_runner.specs.declared.history.Commit.TheVariants as commits
 use Rattle.thread_runner.specs.steps.Advances.{answered, counted}
-use Rattle.thread_runner.proofs.LocalLemmas.{set_twice, set_same, get_set, local_run, replicate-more}
+use Rattle.init_engine.proofs.SetLemmas.{get_set, set_same}
+use Rattle.thread_runner.proofs.LocalLemmas.{set_twice, local_run, replicate-more}
 
 abbrev with_threads : World → List Thread → World
 with_threads w ts = record { shared = w.shared; threads = ts }

@@ -1,5 +1,7 @@
 pub mod EndLemmas
 pub mod LocalLemmas
+pub mod StepLemmas
+pub mod WalkLemmas
 pub mod BookLemmas
 pub mod MarkLemmas
 pub mod SendingLemmas

@@ -104,6 +104,11 @@ place_stays xs ys i n place =
 pub sent_stays : (xs ys : List Line) (i n : ℕ) → IsPlace xs i n → sent_of (xs ++ ys) i n ≡ sent_of xs i n
 sent_stays xs ys i n place = ap (λ (ls : List Line). length (text_of ls) + n) (stays xs ys i place.0)
 
+-- a place among lines of which more are printed
+pub place_grown : (old new more : List Line) (i n : ℕ) → new ≡ old ++ more → IsPlace old i n → IsPlace new i n
+place_grown old new more i n grown place =
+    subst (λ (ls : List Line). IsPlace ls i n) (sym grown) (place_stays old more i n place)
+
 pub text_stays : (xs ys : List Line) (n : ℕ) → n ≤ length (text_of xs)
     → take n (text_of (xs ++ ys)) ≡ take n (text_of xs)
 text_stays xs ys n h = ap (take n) (text_join xs ys) ∙ take-append-le n (text_of xs) (text_of ys) h
@@ -215,3 +220,24 @@ rest_sent ls i at n bytes rest before after h is cut here few sent =
     line_sent ls i at n before after h (subst (λ (t : List ℕ). at ≤ length t) (sym is) here)
     (subst (λ (t : List ℕ). n ≤ length t) back few)
     (subst (λ (t : List ℕ). Appends before after (take n t)) back sent)
+
+-- ---- what went out of lines that grow
+
+-- what went out of some lines, and then of those and more
+pub sent_on : (before got after : Option (List ℕ)) (old new more : List Line) (i n j m : ℕ) → new ≡ old ++ more
+    → IsPlace old i n → Appends before got (take (sent_of old i n) (text_of old))
+    → SendsOn (text_of new) (sent_of new i n) (sent_of new j m) got after
+    → Appends before after (take (sent_of new j m) (text_of new))
+sent_on before got after old new more i n j m grown place had sends =
+    let at : sent_of new i n ≡ sent_of old i n =
+    ap (λ (ls : List Line). sent_of ls i n) grown ∙ sent_stays old more i n place in
+    let same : take (sent_of new i n) (text_of new) ≡ take (sent_of old i n) (text_of old) =
+    ap (λ k. take k (text_of new)) at
+    ∙ (ap (λ (ls : List Line). take (sent_of old i n) (text_of ls)) grown
+    ∙ text_stays old more (sent_of old i n) (place_within old i n place)) in
+    subst (λ (t : List ℕ). Appends before after t) (sym sends.joins)
+    (appends_then before got after (take (sent_of new i n) (text_of new)) sends.piece
+    (subst (λ (t : List ℕ). Appends before got t) (sym same) had) sends.sent)
+
+pub nothing_sent : (got : Option (List ℕ)) → Appends got got []
+nothing_sent got = appends_none got

@@ -1,3 +1,4 @@
 pub mod Ends
 pub mod Advances
+pub mod Blanks
 pub mod Verdicts

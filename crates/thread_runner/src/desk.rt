@@ -9,13 +9,13 @@ ghost use Rattle.thread_runner.specs.Answers.{IsAnswer};
 ghost use Rattle.thread_runner.specs.Kept.{printed_text};
 ghost use Rattle.thread_runner.specs.steps.Verdicts.{IsVerdict};
 
-use crate::answer::{Ended, RunFault};
+use crate::answer::{Ended, RunFault, end_with};
 use crate::book::Book;
 use crate::done_set::DoneSet;
 use crate::history::Commit;
 use crate::origin::Origin;
 use crate::stretch::Stretch;
-use init_engine::{Rest, World};
+use init_engine::Rest;
 use journal::Journal;
 use program::Program;
 use sinks::{Sink, SinkFault};
@@ -272,17 +272,6 @@ fn front_of<O: Origin>(
             Ok(done) => Ok(Front { frames, done }),
             Err(error) => Err(error),
         },
-        Err(error) => Err(error),
-    }
-}
-
-/// A journal, and what is seen of a world.
-fn end_with(alloc: Global, world: &World, journal: Journal) -> Result<Ended, AllocError>
-    ensures journal { IfOk result (λ e. e.journal ≡ journal) }
-    ensures seen { IfOk result (λ e. IsObservation e.seen (seen (world_of world.now))) }
-{
-    match world.seen(alloc) {
-        Ok(seen) => Ok(Ended { journal, seen }),
         Err(error) => Err(error),
     }
 }

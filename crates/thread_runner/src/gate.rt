@@ -8,6 +8,11 @@ pub trait Gate: Sync {
 
     /// The stretch is made, and not yet committed.
     fn done(&self, who: u32, job: u64);
+
+    /// Whether it is always ready and nothing waits to be told, so that the only thread of a run need not ask.
+    fn is_open(&self) -> bool {
+        false
+    }
 }
 
 /// Always ready.
@@ -20,6 +25,10 @@ impl Gate for Open {
     }
 
     fn done(&self, _who: u32, _job: u64) {}
+
+    fn is_open(&self) -> bool {
+        true
+    }
 }
 
 /// How often a gate is asked at most.

@@ -2,6 +2,7 @@
 #![tactic(auto)]
 
 mod advance;
+mod alone;
 mod answer;
 mod book;
 mod desk;
@@ -17,6 +18,8 @@ mod run;
 pub mod running;
 mod sending;
 pub mod stretch;
+mod tools;
+mod walk;
 mod worker;
 
 pub use answer::{Ended, RunFault};

@@ -4,6 +4,7 @@ ghost use Rattle.std.specs.Prelude.{◌≡◌, ◌<◌, ◌≤◌, ◌^◌, leng
 ghost use Rattle.init_engine.specs.Turns.{world_of};
 ghost use Rattle.thread_runner.specs.Answers.{IsAnswer};
 
+use crate::alone::run_alone;
 use crate::answer::{Ended, RunFault};
 use crate::book::Book;
 use crate::desk::{Desk, Session};
@@ -87,7 +88,7 @@ fn run_session<O: Session + Send + Sync, S: Sink + Send + Drop, G: Gate, R: Thre
 }
 
 /// Runs each thread of a world in a thread of its own, up to a limit of steps. What is printed goes into the sink,
-/// which is given back.
+/// which is given back. Where there is one thread, and nobody asks the gate, it runs by turns on the caller's.
 ///
 /// # Errors
 /// `Limit` and `Stuck` with what the run came to; `Device` where the sink failed; `Memory` and `Spawn` where memory or
@@ -105,5 +106,10 @@ pub fn run_threads<S: Sink + Send + Drop, G: Gate, R: Threads + Wait + Sync>(
     ensures { IsAnswer program.now (world_of world) limit result.0 (S.got sink) (S.got result.1) (S.failures sink)
         (S.failures result.1) }
 {
+    if world.thread_count() == 1 && gate.is_open() {
+        let mut sink = sink;
+        let answer = run_alone(alloc, program, world, &mut sink, limit);
+        return (answer, sink);
+    }
     run_session::<Brand, S, G, R>(rt, alloc, program, world, gate, sink, limit)
 }

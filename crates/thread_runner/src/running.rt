@@ -8,6 +8,7 @@ ghost use Rattle.thread_runner.specs.Stretches.{Leads};
 use crate::done_set::DoneSet;
 use crate::origin::Origin;
 use crate::stretch::{Stretch, stretch_of};
+use crate::tools::Tools;
 use program::Program;
 use std::alloc::{AllocError, Global};
 use vm_state::initialization::Frames;
@@ -30,8 +31,28 @@ pub fn stretch<O: Origin>(
     // world with the frames where it ended.
     ensures leads { IfOk result (λ s. Leads O.program s) }
 {
+    let mut tools = Tools::<O>::new(alloc);
+    next_stretch(alloc, program, &mut tools, frames, done)
+}
+
+/// The same with what its thread keeps from stretch to stretch.
+///
+/// # Errors
+/// `AllocError` where memory is refused.
+pub(crate) fn next_stretch<O: Origin>(
+    alloc: Global,
+    program: &Program,
+    tools: &mut Tools<O>,
+    frames: Frames,
+    done: DoneSet,
+) -> Result<Stretch<O>, AllocError>
+    requires { program.now ≡ O.program }
+    ensures from { IfOk result (λ s. (s.from ≡ frames) × (s.done ≡ done)) }
+    ensures ends { IfOk result (λ s. (s.count ≡ 1023) ⊎ (local_step O.program s.done (going s.to) ≡ None)) }
+    ensures leads { IfOk result (λ s. Leads O.program s) }
+{
     match frames.copy(alloc) {
-        Ok(copy) => stretch_of(alloc, program, frames, copy, done),
+        Ok(copy) => stretch_of(alloc, program, tools, frames, copy, done),
         Err(error) => Err(error),
     }
 }

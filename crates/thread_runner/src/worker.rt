@@ -4,8 +4,9 @@ ghost use Rattle.std.specs.Prelude.{◌≡◌, ◌<◌, length};
 
 use crate::desk::{Desk, Front, Next, Session};
 use crate::gate::{Gate, ask};
-use crate::running::stretch;
+use crate::running::next_stretch;
 use crate::stretch::Stretch;
+use crate::tools::Tools;
 use program::Program;
 use sinks::Sink;
 use std::alloc::Global;
@@ -25,13 +26,14 @@ pub(crate) fn work<O: Session, S: Sink, G: Gate, R: Wait>(
     requires thread { thread < length O.start.threads }
 {
     let mut job = 0u64;
+    let mut tools = Tools::<O>::new(alloc);
     for _ in rt.forever() {
         let Some(front) = look(rt, alloc, program, desk, thread) else {
             moved.notify_all();
             return;
         };
         ask(gate, thread, job);
-        let made = stretch::<O>(alloc, program, front.frames, front.done);
+        let made = next_stretch(alloc, program, &mut tools, front.frames, front.done);
         gate.done(thread, job);
         let Ok(made) = made else {
             desk.lock(rt).end_for_memory();

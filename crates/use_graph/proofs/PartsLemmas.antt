@@ -1,6 +1,6 @@
 -- A graph of calls while it is made.
-use Rattle.std.proofs.Common.{◌≡◌, ℕ, ◌+◌, ◌<◌, Bool, true, false, not, List, [], ◌∷◌, ◌++◌, length, Some, slice_get}
-use Rattle.std.proofs.Common.{refl, sym, ap, subst, ◌∙◌, inl, inr, arith}
+use Rattle.std.proofs.Common.{◌≡◌, ℕ, ◌+◌, ◌<◌, Bool, true, false, List, [], ◌∷◌, ◌++◌, length, Some, slice_get}
+use Rattle.std.proofs.Common.{sym, ap, subst, ◌∙◌, inl, inr, arith}
 use Rattle.std.specs.List.{Contains}
 use Rattle.std.proofs.lemmas.Option.{slice_get_within}
 use Rattle.graph.specs.Seen.{Seen, Joins}
@@ -131,7 +131,3 @@ pub joined_at_end : (fresh : Bool) (old new : List ℕ) (m : ℕ) → fresh ≡ 
     → new ≡ old ++ m ∷ []
 joined_at_end true old new m is (absent, e) = e
 joined_at_end false old new m is j = absurd cc
-
-pub not_false : (b : Bool) → not b ≡ false → b ≡ true
-not_false true e = refl
-not_false false e = absurd cc

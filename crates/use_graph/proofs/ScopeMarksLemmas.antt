@@ -5,6 +5,7 @@ use Rattle.vm_state.proofs.ListLemmas.{tested}
 use Rattle.built_in.specs.declared.class_id.BuiltIn.TheVariants as builtins
 use Rattle.std.specs.declared.result.Result.{Result}
 use Rattle.std.specs.Option.{option_or}
+use Rattle.std.proofs.lemmas.Bool.{false_from_ne_true}
 use Rattle.built_in.specs.declared.class_id.ArrayType.{ArrayType}
 use Rattle.built_in.specs.declared.class_id.BuiltIn.{BuiltIn as BuiltInClass}
 use Rattle.built_in.specs.declared.class_id.ClassId.{ClassId}
@@ -399,10 +400,6 @@ module _ (P : Tables) (is : IsProgram P) (c : ℕ) (none : (mark : Mark) → IsB
   untold : (d k place : ℕ) → MayRun P c d k → IsUntold d k place
   untold d k place run t mark barring means at = none mark barring (d, k, place, run, (t, itself at, means))
 
-  not_true : (b : Bool) → (b ≡ true → ⊥) → b ≡ false
-  not_true true h = absurd (h refl)
-  not_true false h = refl
-
   same_class : (d e : ℕ) → (e ≢ d → ⊥) → e ≡ d
   same_class d e h = elim (tested (e == d)) [
     | inl same ↦ eqb-true e d same
@@ -426,8 +423,10 @@ module _ (P : Tables) (is : IsProgram P) (c : ℕ) (none : (mark : Mark) → IsB
   clean_if d k place run (Some o) at =
       let tell = told_at P is d k place o at in
       let no = untold d k place run in (
-        not_true (prints_by o) (λ h. no features.Prints marks.Prints Prints (refl, no_class c) (tell.prints h)),
-        not_true (locks_by o) (λ h. no features.Locks marks.Monitors Monitors (refl, no_class c) (tell.locks h)),
+        false_from_ne_true (prints_by o)
+            (λ h. no features.Prints marks.Prints Prints (refl, no_class c) (tell.prints h)),
+        false_from_ne_true (locks_by o)
+            (λ h. no features.Locks marks.Monitors Monitors (refl, no_class c) (tell.locks h)),
         λ e h. same_class c e (λ apart.
             no (features.Writes e) marks.ForeignWrite ForeignWrite (refl, not_some e c apart) (tell.writes e h)),
         λ e h. same_class c e (λ apart.

@@ -1,6 +1,10 @@
 -- The objects of each maker of a kind, as functions of their numbers.
-use Rattle.std.specs.Prelude.{ℕ, List, slice_index_or, ◌==◌, if◌then◌else◌}
-use Rattle.vm_state.specs.Objects.{ObjectRow, empty_row, object_in}
+use Rattle.std.specs.Prelude.{◌≡◌, ℕ, List, slice_index_or, ◌==◌, if◌then◌else◌}
+use Rattle.vm_state.specs.declared.heap.Heap.{Heap}
+use Rattle.vm_state.specs.declared.object.Object.{Object}
+use Rattle.vm_state.specs.declared.value.Maker.{Maker}
+use Rattle.vm_state.specs.declared.value.Maker.TheVariants.{Class, Thread}
+use Rattle.vm_state.specs.Objects.{AscendsFrom, ObjectRow, empty_row, object_in}
 use Rattle.vm_state.specs.SharedState.{Pool}
 
 abbrev pub pool_by : ObjectRow → Pool
@@ -16,3 +20,13 @@ pool_in rows m = pool_by (row_at rows m)
 -- one maker's objects changed
 abbrev pub with_pool : (ℕ → Pool) → ℕ → Pool → ℕ → Pool
 with_pool pools m p k = if m == k then p else pools k
+
+-- the objects of a maker
+abbrev pub pool_at : Heap → Maker → Pool
+pool_at h (Class c) = pool_in h.classes c
+pool_at h (Thread t) = pool_in h.threads t
+
+-- all objects of a pool, each once with its number, in the order of the numbers
+pub record IsRowOf (row : List (ℕ × Object)) (p : Pool) : Type 0 where
+  pub ascending : AscendsFrom 0 row p.count
+  pub all : object_in row ≡ p.at

@@ -7,10 +7,11 @@ ghost use Rattle.vm_state.specs.declared.object.Object.{Object};
 ghost use Rattle.vm_state.specs.Objects.{empty_row, row_of, object_in};
 ghost use Rattle.vm_state.specs.steps.Objects.{with_next, object_at_place};
 ghost use Rattle.vm_state.specs.SharedState.{with_new, with_slot, with_monitor};
-ghost use Rattle.vm_state.specs.Pools.{pool_by, pool_in, with_pool};
+ghost use Rattle.vm_state.specs.Objects.{AscendsFrom};
+ghost use Rattle.vm_state.specs.Pools.{IsRowOf, pool_at, pool_by, pool_in, with_pool};
 
 use crate::object::{Monitor, Object, Slots};
-use crate::value::Value;
+use crate::value::{Maker, Value};
 use built_in::class_id::ClassId;
 use std::alloc::{AllocError, Global};
 use std::marker::Model;
@@ -94,6 +95,14 @@ impl Row {
             }),
             Err(error) => Err(error),
         }
+    }
+
+    /// The objects with their numbers, in the order of the numbers, none left out.
+    fn objects(&self) -> &[(u64, Object)]
+        ensures all { result.now ≡ self.now.objects }
+        ensures ascending { AscendsFrom 0 result.now self.now.count }
+    {
+        self.objects.as_slice()
     }
 
     /// The object of a number, if it is held. Where no number was left out it stands at its number.
@@ -239,6 +248,16 @@ impl Rows {
         }
     }
 
+    /// The objects of a maker with their numbers, in the order of the numbers, none left out.
+    fn row(&self, maker: u32) -> &[(u64, Object)]
+        ensures { IsRowOf result.now (pool_in self.now maker) }
+    {
+        match self.rows.get(maker as usize) {
+            Some(row) => row.objects(),
+            None => &[],
+        }
+    }
+
     /// Puts a value into a slot of the object of a maker and a number. Where it is not held, or has no such slot,
     /// nothing changes.
     #[inline(always)]
@@ -316,6 +335,16 @@ impl Heap {
         Heap {
             classes: Rows::none(alloc),
             threads: Rows::none(alloc),
+        }
+    }
+
+    /// The objects of a maker with their numbers, in the order of the numbers, none left out. Takes no memory.
+    pub fn row(&self, maker: Maker) -> &[(u64, Object)]
+        ensures { IsRowOf result.now (pool_at self.now maker) }
+    {
+        match maker {
+            Maker::Class(class) => self.classes.row(class),
+            Maker::Thread(thread) => self.threads.row(thread),
         }
     }
 

@@ -7,6 +7,7 @@ ghost use Rattle.vm_state.specs.SharedState.{monitor_of, with_monitor};
 ghost use Rattle.vm_state.specs.Statics.{IsPlaced};
 ghost use Rattle.vm_state.specs.Shares.{shared_of, SharesTheSame, SetsField, SetsState, Begins, Makes, IsNextName};
 ghost use Rattle.vm_state.specs.Shares.{Initializes};
+ghost use Rattle.vm_state.specs.Pools.{IsRowOf};
 
 use crate::classes::{ClassState, Classes, Fields, NoPlace, StaticField};
 use crate::heap::{Heap, Row};
@@ -168,6 +169,14 @@ impl Shared {
             Maker::Class(class) => self.heap.classes.object(class, name.number),
             Maker::Thread(thread) => self.heap.threads.object(thread, name.number),
         }
+    }
+
+    /// The objects of a maker with their numbers, in the order of the numbers, none left out.
+    #[tactic(auto, unfolding(crate::specs::Shares::shared_of))]
+    pub fn row(&self, maker: Maker) -> &[(u64, Object)]
+        ensures { (p : List Line) → IsRowOf result.now (pool_of (shared_of self.now p) maker) }
+    {
+        self.heap.row(maker)
     }
 
     /// The class of the object of a name, if it is held.

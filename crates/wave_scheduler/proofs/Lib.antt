@@ -19,3 +19,4 @@ pub mod SpreadingLemmas
 pub mod TaintedLemmas
 pub mod WaveRowsLemmas
 pub mod TryingLemmas
+pub mod CrewsLemmas

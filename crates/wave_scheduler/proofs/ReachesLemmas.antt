@@ -1,8 +1,7 @@
 -- What can be decided, and what follows along the edges of a finite graph.
-use Rattle.std.proofs.Common.{◌≡◌, ◌⊎◌, ◌↔◌, inl, inr, ℕ, zero, suc, ◌<◌, List, [], ◌∷◌, length, refl, sym, subst}
+use Rattle.std.proofs.Common.{◌≡◌, ◌⊎◌, ◌↔◌, inl, inr, ℕ, zero, suc, ◌<◌, List, [], ◌∷◌, refl, sym, subst}
 use Rattle.std.proofs.Common.{Option, Some, None, arith}
 use Rattle.std.specs.List.{Contains}
-use Rattle.std.proofs.Common.{slice_get, slice_index_or, get_or, ap, ◌∙◌}
 pub use Rattle.use_graph.proofs.ListLemmas.{one_of, same_lists, same_by_places}
 
 -- ---- what can be decided

@@ -1,7 +1,7 @@
 -- A class that is tried is not barred: the regions at hand in a wave are closed, and all that its code may use is
 -- there.
-use Rattle.std.proofs.Common.{◌≡◌, ℕ, zero, suc, ◌<◌, Bool, true, false, ◌||◌, ◌==◌}
-use Rattle.std.proofs.Common.{Some, is_some, refl, arith}
+use Rattle.std.proofs.Common.{◌≡◌, ℕ, zero, suc, ◌<◌, true, ◌||◌, ◌==◌}
+use Rattle.std.proofs.Common.{Some, is_some, arith}
 use Rattle.std.proofs.Math.Bool.{or-true}
 use Rattle.vm_state.specs.SharedState.{Region}
 use Rattle.semantics.specs.Soundness.{names_at_hand, IsClosed}

@@ -1,5 +1,5 @@
 -- The classes of a wave, tried one after another.
-use Rattle.std.proofs.Common.{◌≡◌, ◌≢◌, ◌⊎◌, inl, inr, ℕ, zero, suc, ◌+◌, ◌<◌, Bool, List, [], ◌∷◌, ◌++◌, length}
+use Rattle.std.proofs.Common.{◌≡◌, ◌≢◌, inl, inr, ℕ, zero, suc, ◌+◌, ◌<◌, Bool, List, [], ◌∷◌, ◌++◌, length}
 use Rattle.std.proofs.Common.{take}
 use Rattle.std.proofs.Common.{Option, Some, None, slice_get, slice_index, refl, sym, subst, ◌∙◌, arith}
 use Rattle.std.proofs.lemmas.Bool.{cases_eq}
@@ -123,61 +123,72 @@ module _ (P : Tables) (forced : List Bool) (budget : ℕ) (judged : List Verdict
             ]
           ]
 
-      module _ (env : Environment) (same : (d : ℕ) → env d ≡ region_in cur d) where
-        decides : (¬ IsSeen t (vertex_in t c)) → Decides P budget old n c env
-        decides unseen =
-            tries_decide_lem P forced budget judged n old is fits within are tried c wave (none_refused unseen) env
-            (λ d r here. same d ∙ at_hand d r here)
+      decides : (env : Environment) → ((d : ℕ) (r : Region) → below old n d ≡ Some r → env d ≡ Some r)
+          → (¬ IsSeen t (vertex_in t c)) → Decides P budget old n c env
+      decides env has unseen =
+          tries_decide_lem P forced budget judged n old is fits within are tried c wave (none_refused unseen) env has
 
-        pub can_run : (¬ IsSeen t (vertex_in t c)) → StoppedBy (program_of P) env c budget quiet.Barred → ⊥
-        can_run unseen = (decides unseen).unbarred
+      has_now : (env : Environment) → ((d : ℕ) → env d ≡ region_in cur d) → (d : ℕ) (r : Region)
+          → below old n d ≡ Some r → env d ≡ Some r
+      has_now env same d r here = same d ∙ at_hand d r here
 
-        is_tried : (told : Option ℕ) (o : Outcome) (r : Option Region) → IsTold t c told
-            → IsFound (program_of P) env budget n c told o r → IsTriedIn P budget old c n o r
-        is_tried (Some e) o r seen (so, none) = let (d, used, never) = one_refused seen in rw so (d, used, never, none)
-        is_tried None o (Some region) unseen (so, cost, settles, small) =
-            rw so ((decides unseen).settles cost region settles small)
-        is_tried None o None unseen (why, so, stops) = rw so ((decides unseen).stops why stops)
+      pub can_run : (env : Environment) → ((d : ℕ) → env d ≡ region_in cur d) → (¬ IsSeen t (vertex_in t c))
+          → StoppedBy (program_of P) env c budget quiet.Barred → ⊥
+      can_run env same unseen = (decides env (has_now env same) unseen).unbarred
 
-        more_tried : (next : Settled) (o : Outcome) (r : Option Region) → IsTriedIn P budget old c n o r
-            → SetsClass c o r cur next → TriesThese P budget judged n (done ++ c ∷ []) old next
-        more_tried next outcome held found sets = record {
-          count = sets.count ∙ tries.count;
-          regions = sets.regions ∙ tries.regions;
-          wave = λ x there. elim (Contains-push_cases done c x there) [
-            | inl past ↦ tries.wave x past
-            | inr last ↦ subst (λ (y : ℕ). before.HasWave judged y n) last wave
-          ];
-          here = λ x o there at. elim (cases_eq x c) [
-            | inr other ↦ elim (Contains-push_cases done c x there) [
-              | inr last ↦ absurd (other (sym last))
-              | inl past ↦
-                  let (same_o, same_r) = sets.others x other in
-                  subst (IsTriedIn P budget old x n o) (sym same_r) (tries.here x o past (sym same_o ∙ at))
-            ]
-            | inl last ↦
-                let now : slice_get next.outcomes c ≡ Some o =
-                subst (λ (y : ℕ). slice_get next.outcomes y ≡ Some o) last at in
-                let one : outcome ≡ o = from_some (sym sets.here ∙ now) in
-                subst (λ (y : ℕ). IsTriedIn P budget old y n o (region_in next y)) (sym last)
-                (subst (IsTriedIn P budget old c n o) (sym sets.region)
-                (subst (λ (y : Outcome). IsTriedIn P budget old c n y held) one found))
-          ];
-          others = λ x never.
-              let other : x ≢ c = λ e. never (subst (Contains (done ++ c ∷ [])) (sym e) (Contains-push done c)) in
-              let unseen : ¬ Contains done x = λ past. never (Contains-append_left done (c ∷ []) x past) in
-              let (same_o, same_r) = sets.others x other in
-              let (was_o, was_r) = tries.others x unseen in
-              (same_o ∙ was_o, same_r ∙ was_r);
-        }
+      is_tried : (env : Environment) → ((d : ℕ) (r : Region) → below old n d ≡ Some r → env d ≡ Some r)
+          → (told : Option ℕ) (o : Outcome) (r : Option Region) → IsTold t c told
+          → IsFound (program_of P) env budget n c told o r → IsTriedIn P budget old c n o r
+      is_tried env has (Some e) o r seen (so, none) =
+          let (d, used, never) = one_refused seen in rw so (d, used, never, none)
+      is_tried env has None o (Some region) unseen (so, cost, settles, small) =
+          rw so ((decides env has unseen).settles cost region settles small)
+      is_tried env has None o None unseen (why, so, stops) = rw so ((decides env has unseen).stops why stops)
 
-        pub tries_more : (next : Settled) (more : Tainted) → TriesClass P env budget n c t cur more next
+      more_tried : (next : Settled) (o : Outcome) (r : Option Region) → IsTriedIn P budget old c n o r
+          → SetsClass c o r cur next → TriesThese P budget judged n (done ++ c ∷ []) old next
+      more_tried next outcome held found sets = record {
+        count = sets.count ∙ tries.count;
+        regions = sets.regions ∙ tries.regions;
+        wave = λ x there. elim (Contains-push_cases done c x there) [
+          | inl past ↦ tries.wave x past
+          | inr last ↦ subst (λ (y : ℕ). before.HasWave judged y n) last wave
+        ];
+        here = λ x o there at. elim (cases_eq x c) [
+          | inr other ↦ elim (Contains-push_cases done c x there) [
+            | inr last ↦ absurd (other (sym last))
+            | inl past ↦
+                let (same_o, same_r) = sets.others x other in
+                subst (IsTriedIn P budget old x n o) (sym same_r) (tries.here x o past (sym same_o ∙ at))
+          ]
+          | inl last ↦
+              let now : slice_get next.outcomes c ≡ Some o =
+              subst (λ (y : ℕ). slice_get next.outcomes y ≡ Some o) last at in
+              let one : outcome ≡ o = from_some (sym sets.here ∙ now) in
+              subst (λ (y : ℕ). IsTriedIn P budget old y n o (region_in next y)) (sym last)
+              (subst (IsTriedIn P budget old c n o) (sym sets.region)
+              (subst (λ (y : Outcome). IsTriedIn P budget old c n y held) one found))
+        ];
+        others = λ x never.
+            let other : x ≢ c = λ e. never (subst (Contains (done ++ c ∷ [])) (sym e) (Contains-push done c)) in
+            let unseen : ¬ Contains done x = λ past. never (Contains-append_left done (c ∷ []) x past) in
+            let (same_o, same_r) = sets.others x other in
+            let (was_o, was_r) = tries.others x unseen in
+            (same_o ∙ was_o, same_r ∙ was_r);
+      }
+
+      module _ (lent env : Environment) (had : (d : ℕ) (r : Region) → below old n d ≡ Some r → lent d ≡ Some r)
+          (same : (d : ℕ) → env d ≡ region_in cur d) where
+        pub tries_more : (next : Settled) (more : Tainted) → TriesClass P lent env budget n c t cur more next
             → TriesThese P budget judged n (done ++ c ∷ []) old next
         tries_more next more one =
             let (outcome, held, found, sets) = one.finds in
-            more_tried next outcome held (is_tried one.told outcome held one.so found) sets
+            more_tried next outcome held (elim found [
+              | inl theirs ↦ is_tried lent had one.told outcome held one.so theirs
+              | inr own ↦ is_tried env (has_now env same) one.told outcome held one.so own
+            ]) sets
 
-        pub taints_more : (next : Settled) (more : Tainted) → TriesClass P env budget n c t cur more next
+        pub taints_more : (next : Settled) (more : Tainted) → TriesClass P lent env budget n c t cur more next
             → AreTainted P next more
         taints_more next more one =
             let (outcome, held, found, sets) = one.finds in

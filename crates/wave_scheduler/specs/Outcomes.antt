@@ -1,5 +1,5 @@
 -- What is answered of all classes, as definitions see it.
-use Rattle.std.specs.Prelude.{List, Bool, map, option_map}
+use Rattle.std.specs.Prelude.{ℕ, ◌≤◌, List, Bool, map, option_map}
 use Rattle.semantics.specs.Quiet as quiet
 use Rattle.program.specs.Tables.{Tables}
 use Rattle.initializer_analysis.specs.declared.verdict.Reason.TheVariants as reasons
@@ -8,6 +8,8 @@ use Rattle.initializer_analysis.specs.declared.verdict.Verdict.TheVariants as ve
 use Rattle.initializer_analysis.specs.Verdicts.{AreVerdicts}
 use Rattle.evaluator.specs.Regions.{region_of}
 use Rattle.wave_scheduler.specs.declared.outcome.Settled.{Settled as Answer}
+use Rattle.wave_scheduler.specs.declared.outcome.WaveFault.{WaveFault}
+use Rattle.wave_scheduler.specs.declared.outcome.WaveFault.TheVariants as faults
 use Rattle.wave_scheduler.specs.Settled.{Outcome, Wave, Refused, Stopped, Settled}
 
 -- what becomes of a class of this verdict: the last four reasons are those of a run of its initializer
@@ -25,3 +27,12 @@ settled_of s = record { outcomes = map outcome_of s.verdicts; regions = map (opt
 -- these are the verdicts on all classes, for some forced ones
 abbrev pub AreJudged : Tables → List Verdict → Type 0
 AreJudged P judged = (forced : List Bool) × AreVerdicts P forced judged
+
+-- there may be so many workers
+abbrev pub CanWork : ℕ → Type 0
+CanWork workers = (1 ≤ workers) × (workers ≤ 64)
+
+-- Why classes were not settled by so many workers: if there may be so many, for want of memory alone.
+abbrev pub IsWaveFault : ℕ → WaveFault → Type 0
+IsWaveFault workers faults.Memory = CanWork workers
+IsWaveFault workers faults.Workers = ¬ CanWork workers

@@ -3,3 +3,5 @@ pub mod Waves
 pub mod Finding
 pub mod Tainting
 pub mod WaveRows
+pub mod Crews
+pub mod Plans

@@ -1,14 +1,17 @@
 //! What becomes of one class in its wave.
 
-ghost use Rattle.std.specs.Prelude.{◌≡◌, ◌<◌, length, slice_set, option_map, None, IfOk, OnOk};
+ghost use Rattle.std.specs.Prelude.{◌≡◌, ◌<◌, ◌⊎◌, length, slice_set, option_map, None, IfOk, OnOk};
 ghost use Rattle.machine.specs.Linked.{program_of};
 ghost use Rattle.evaluator.specs.Regions.{region_of, region_in, environment_of};
-ghost use Rattle.evaluator.specs.Outcomes.{reason_of as why_of};
+ghost use Rattle.evaluator.specs.Outcomes.{IsOutcome, IsUnbarred, reason_of as why_of};
 ghost use Rattle.wave_scheduler.specs.Settled.{Stopped};
 ghost use Rattle.wave_scheduler.specs.Outcomes.{outcome_of, settled_of};
-ghost use Rattle.wave_scheduler.specs.steps.Finding.{CanRun, HasRun, IsFound, SetsClass, FindsClass};
+ghost use Rattle.wave_scheduler.specs.steps.Finding.{CanRun, IsFoundOf, IsFoundIn, SetsClass, FindsClass};
 
+use crate::gate::{Collector, Gate};
+use crate::lent::Lent;
 use crate::outcome::Settled;
+use crate::results::Done;
 use evaluator::outcome::{Outcome, Refusal};
 use evaluator::regions::{Region, Regions};
 use evaluator::settling::settle;
@@ -36,34 +39,50 @@ fn reason_of(refusal: Refusal) -> Reason
     }
 }
 
-/// Runs the initializer of a class.
-fn run(
+/// What was found of a class of this outcome, in a wave.
+fn found_of(outcome: Outcome, wave: usize) -> Found
+    ensures { IsFoundOf wave outcome (outcome_of result.verdict) (option_map region_of result.region) }
+{
+    match outcome {
+        Outcome::Settled(region) => Found {
+            verdict: Verdict::Wave(wave),
+            region: Some(region),
+        },
+        Outcome::Refused(refusal) => Found {
+            verdict: Verdict::Refused(reason_of(refusal)),
+            region: None,
+        },
+    }
+}
+
+/// What came of a class, or else what its initializer does if it is run now.
+fn outcome_now<W: Lent, G: Gate>(
     alloc: Global,
     program: &Program,
     regions: &Regions,
     class: u32,
     budget: u64,
-    wave: usize,
-) -> Result<Found, AllocError>
-    requires { CanRun (program_of program.now) (environment_of regions.now) budget class None }
-    ensures { IfOk result (λ found. HasRun (program_of program.now) (environment_of regions.now) budget wave class
-        (outcome_of found.verdict) (option_map region_of found.region)) }
+    given: Option<Done<W>>,
+    collector: &Collector<'_, G>,
+) -> Result<Outcome, AllocError>
+    requires lent { program.now ≡ W.program }
+    requires budget { budget ≡ W.budget }
+    requires run { IsUnbarred (program_of program.now) (environment_of regions.now) class budget }
+    ensures { IfOk result (λ outcome. IsOutcome (program_of program.now) (environment_of W.regions) class budget outcome
+        ⊎ IsOutcome (program_of program.now) (environment_of regions.now) class budget outcome) }
 {
-    match settle(alloc, program, regions, class, budget) {
-        Ok(Outcome::Settled(region)) => Ok(Found {
-            verdict: Verdict::Wave(wave),
-            region: Some(region),
-        }),
-        Ok(Outcome::Refused(refusal)) => Ok(Found {
-            verdict: Verdict::Refused(reason_of(refusal)),
-            region: None,
-        }),
-        Err(error) => Err(error),
+    if let Some(done) = given {
+        if let Some(outcome) = done.outcome_of(class) {
+            return Ok(outcome);
+        }
     }
+    let outcome = settle(alloc, program, regions, class, budget)?;
+    collector.done(class);
+    Ok(outcome)
 }
 
 /// What becomes of a class in this wave, where it is told that it depends on a refused class, or nothing.
-fn find(
+fn find<W: Lent, G: Gate>(
     alloc: Global,
     program: &Program,
     regions: &Regions,
@@ -71,17 +90,27 @@ fn find(
     budget: u64,
     wave: usize,
     told: Option<u32>,
+    given: Option<Done<W>>,
+    collector: &Collector<'_, G>,
 ) -> Result<Found, AllocError>
-    requires { CanRun (program_of program.now) (environment_of regions.now) budget class told }
-    ensures { IfOk result (λ found. IsFound (program_of program.now) (environment_of regions.now) budget wave class
-        told (outcome_of found.verdict) (option_map region_of found.region)) }
+    requires lent { program.now ≡ W.program }
+    requires budget { budget ≡ W.budget }
+    requires run { CanRun (program_of program.now) (environment_of regions.now) budget class told }
+    ensures { IfOk result (λ found. IsFoundIn (program_of program.now) (environment_of W.regions)
+        (environment_of regions.now) budget wave class told (outcome_of found.verdict)
+        (option_map region_of found.region)) }
 {
     match told {
         Some(refused) => Ok(Found {
             verdict: Verdict::Refused(Reason::DependsOn(refused)),
             region: None,
         }),
-        None => run(alloc, program, regions, class, budget, wave),
+        None => match outcome_now::<W, G>(
+            alloc, program, regions, class, budget, given, collector,
+        ) {
+            Ok(outcome) => Ok(found_of(outcome, wave)),
+            Err(error) => Err(error),
+        },
     }
 }
 
@@ -110,23 +139,37 @@ fn put(settled: &mut Settled, class: u32, found: Found)
 }
 
 /// Finds what becomes of a class in this wave, where it is told that it depends on a refused class, or nothing.
-pub(crate) fn find_class(
+pub(crate) fn find_class<W: Lent, G: Gate>(
     alloc: Global,
     program: &Program,
     class: u32,
     budget: u64,
     wave: usize,
     told: Option<u32>,
+    given: Option<Done<W>>,
+    collector: &Collector<'_, G>,
     settled: &mut Settled,
 ) -> Result<(), AllocError>
+    requires lent { program.now ≡ W.program }
+    requires budget { budget ≡ W.budget }
     requires class { class < length settled.old.verdicts }
     requires place { class < length settled.old.regions }
     requires none { region_in settled.old.regions class ≡ None }
     requires run { CanRun (program_of program.now) (environment_of settled.old.regions) budget class told }
-    ensures { OnOk result (FindsClass (program_of program.now) (environment_of settled.old.regions) budget wave class
-        told (settled_of settled.old) (settled_of settled.new)) }
+    ensures { OnOk result (FindsClass (program_of program.now) (environment_of W.regions)
+        (environment_of settled.old.regions) budget wave class told (settled_of settled.old) (settled_of settled.new)) }
 {
-    match find(alloc, program, &settled.regions, class, budget, wave, told) {
+    match find(
+        alloc,
+        program,
+        &settled.regions,
+        class,
+        budget,
+        wave,
+        told,
+        given,
+        collector,
+    ) {
         Ok(found) => {
             put(settled, class, found);
             Ok(())

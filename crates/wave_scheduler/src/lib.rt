@@ -1,14 +1,20 @@
 //! Which classes are initialized at build time.
 #![tactic(auto)]
 
+mod crew;
 mod finding;
+mod gate;
 pub mod laws;
+mod lent;
 pub mod outcome;
+mod plan;
 mod refused;
+mod results;
 mod rows;
 mod settling;
 mod starting;
 mod tainted;
 mod waves;
 
-pub use settling::settle_all_here;
+pub use gate::{Gate, Open};
+pub use settling::{can_work, settle_all, settle_all_here};

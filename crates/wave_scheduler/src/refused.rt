@@ -1,11 +1,12 @@
 //! Which classes use one that is not accepted.
 
-ghost use Rattle.std.specs.Prelude.{◌≡◌, length, map, IfOk};
+ghost use Rattle.std.specs.Prelude.{◌≡◌, length, map, IfOk, OnOk};
 ghost use Rattle.graph.specs.Components.{AreComponents};
 ghost use Rattle.use_graph.specs.steps.Bodies.{IsUseGraph};
 ghost use Rattle.wave_scheduler.specs.Outcomes.{outcome_of, settled_of};
 ghost use Rattle.wave_scheduler.specs.steps.Waves.{dependent, ToldFirst};
 ghost use Rattle.wave_scheduler.specs.steps.Finding.{is_refused, AreFirstIn, TellsEach};
+ghost use Rattle.wave_scheduler.specs.steps.Plans.{TellsFirst};
 
 use crate::outcome::Settled;
 use graph::Components;
@@ -37,7 +38,7 @@ fn refused_marks(alloc: Global, verdicts: &[Verdict]) -> Result<Vec<bool>, Alloc
 }
 
 /// For each class the first that is not accepted of those that it uses, if there is one.
-pub(crate) fn first_in(
+fn first_in(
     alloc: Global,
     program: &Program,
     uses: &UseGraph,
@@ -79,10 +80,29 @@ fn tell_each(first: &[Option<u32>], count: u32, verdicts: &mut Verdicts)
 }
 
 /// The same, where all classes are settled.
-pub(crate) fn tell_first(first: &[Option<u32>], count: u32, settled: &mut Settled)
+fn tell_first(first: &[Option<u32>], count: u32, settled: &mut Settled)
     requires count { length settled.old.verdicts ≡ count }
     requires first { length first.now ≡ count }
     ensures { ToldFirst first.now (settled_of settled.old) (settled_of settled.new) }
 {
     tell_each(first, count, &mut settled.verdicts);
+}
+
+/// Tells each class that depends on refused ones the first such, once all waves are tried.
+pub(crate) fn tell_dependents(
+    alloc: Global,
+    program: &Program,
+    uses: &UseGraph,
+    calls: &Components,
+    settled: &mut Settled,
+) -> Result<(), AllocError>
+    requires uses { IsUseGraph program.now uses.now }
+    requires calls { AreComponents uses.now.calls calls.now }
+    requires count { length settled.old.verdicts ≡ length program.now.classes }
+    ensures { OnOk result (TellsFirst program.now (settled_of settled.old) (settled_of settled.new)) }
+{
+    let count = program.given_count();
+    let first = first_in(alloc, program, uses, calls, settled)?;
+    tell_first(first.as_slice(), count, settled);
+    Ok(())
 }

@@ -1,94 +1,28 @@
 //! What becomes of all classes, in the end.
+//!
+//! Each function makes one part and hands it to the next at once: one that held several parts where a call can fail
+//! would be dear to prove.
 
-ghost use Rattle.std.specs.Prelude.{◌≡◌, Bool, List, length, IfErr, IfOk, OnOk};
-ghost use Rattle.graph.specs.Components.{AreComponents};
-ghost use Rattle.use_graph.specs.steps.Bodies.{IsUseGraph};
+ghost use Rattle.std.specs.Prelude.{◌≡◌, ◌↔◌, Bool, List, length, IfErr, IfOk, IsTrue};
 ghost use Rattle.initializer_analysis.specs.Verdicts.{AreVerdicts};
 ghost use Rattle.wave_scheduler.specs.steps.Judged.{FollowVerdicts};
 ghost use Rattle.wave_scheduler.specs.Settled.{AreSettled};
-ghost use Rattle.wave_scheduler.specs.Outcomes.{settled_of, AreJudged};
+ghost use Rattle.wave_scheduler.specs.Outcomes.{settled_of, AreJudged, CanWork, IsWaveFault};
 ghost use Rattle.wave_scheduler.specs.declared.outcome.WaveFault.TheVariants.{Memory};
-ghost use Rattle.wave_scheduler.specs.steps.Waves.{StartsFrom};
 
+use crate::gate::{Collector, Gate};
 use crate::outcome::{Settled, WaveFault};
-use crate::refused::{first_in, tell_first};
-use crate::starting::start;
-use crate::waves::try_waves;
-use graph::{Components, components_of};
+use crate::plan::{Plan, plan_of};
+use crate::refused::tell_dependents;
+use crate::waves::{try_all, try_all_here};
 use initializer_analysis::verdict::{Verdict, Verdicts};
 use program::Program;
 use std::alloc::{AllocError, Global};
-use use_graph::UseGraph;
+use std::sync::Wait;
+use std::thread::Threads;
 
-/// Settles all classes, from what their verdicts say.
-fn settle_from(
-    alloc: Global,
-    program: &Program,
-    uses: &UseGraph,
-    calls: &Components,
-    verdicts: &[Verdict],
-    budget: u64,
-    settled: &mut Settled,
-) -> Result<(), AllocError>
-    requires uses { IsUseGraph program.now uses.now }
-    requires calls { AreComponents uses.now.calls calls.now }
-    requires judged { AreJudged program.now verdicts.now }
-    requires starts { StartsFrom verdicts.now (settled_of settled.old) }
-    ensures { OnOk result (FollowVerdicts program.now budget verdicts.now (settled_of settled.new)) }
-{
-    let count = program.given_count();
-    try_waves(alloc, program, uses, verdicts, budget, settled)?;
-    let first = first_in(alloc, program, uses, calls, settled)?;
-    tell_first(first.as_slice(), count, settled);
-    Ok(())
-}
-
-/// Settles all classes, where it is known what methods may call, and of which components that graph is.
-fn settle_over(
-    alloc: Global,
-    program: &Program,
-    uses: &UseGraph,
-    calls: &Components,
-    verdicts: &[Verdict],
-    budget: u64,
-) -> Result<Settled, AllocError>
-    requires uses { IsUseGraph program.now uses.now }
-    requires calls { AreComponents uses.now.calls calls.now }
-    requires judged { AreJudged program.now verdicts.now }
-    ensures { IfOk result (λ settled. FollowVerdicts program.now budget verdicts.now (settled_of settled)) }
-{
-    match start(alloc, verdicts) {
-        Ok(settled) => {
-            let mut settled = settled;
-            match settle_from(alloc, program, uses, calls, verdicts, budget, &mut settled) {
-                Ok(()) => Ok(settled),
-                Err(error) => Err(error),
-            }
-        }
-        Err(error) => Err(error),
-    }
-}
-
-/// Settles all classes, where it is known what methods may call.
-fn settle_by(
-    alloc: Global,
-    program: &Program,
-    uses: &UseGraph,
-    verdicts: &[Verdict],
-    budget: u64,
-) -> Result<Settled, AllocError>
-    requires uses { IsUseGraph program.now uses.now }
-    requires judged { AreJudged program.now verdicts.now }
-    ensures { IfOk result (λ settled. FollowVerdicts program.now budget verdicts.now (settled_of settled)) }
-{
-    match components_of(alloc, &uses.calls) {
-        Ok(calls) => settle_over(alloc, program, uses, &calls, verdicts, budget),
-        Err(error) => Err(error),
-    }
-}
-
-/// Settles all classes.
-fn settle_judged(
+/// Settles all classes on this thread.
+fn settle_judged_here(
     alloc: Global,
     program: &Program,
     verdicts: &[Verdict],
@@ -97,10 +31,60 @@ fn settle_judged(
     requires { AreJudged program.now verdicts.now }
     ensures { IfOk result (λ settled. FollowVerdicts program.now budget verdicts.now (settled_of settled)) }
 {
-    match UseGraph::of_program(alloc, program) {
-        Ok(uses) => settle_by(alloc, program, &uses, verdicts, budget),
-        Err(error) => Err(error),
-    }
+    let plan = plan_of(alloc, program, verdicts)?;
+    let Plan {
+        uses,
+        calls,
+        rows,
+        mut tainted,
+        mut settled,
+    } = plan;
+    try_all_here(
+        alloc,
+        program,
+        verdicts,
+        budget,
+        rows.as_slice(),
+        &mut tainted,
+        &mut settled,
+    )?;
+    tell_dependents(alloc, program, &uses, &calls, &mut settled)?;
+    Ok(settled)
+}
+
+/// Settles all classes by workers.
+fn settle_judged<G: Gate, R: Threads + Wait + Sync>(
+    rt: &R,
+    alloc: Global,
+    program: &Program,
+    verdicts: &[Verdict],
+    budget: u64,
+    collector: &Collector<'_, G>,
+) -> Result<Settled, AllocError>
+    requires { AreJudged program.now verdicts.now }
+    ensures { IfOk result (λ settled. FollowVerdicts program.now budget verdicts.now (settled_of settled)) }
+{
+    let plan = plan_of(alloc, program, verdicts)?;
+    let Plan {
+        uses,
+        calls,
+        rows,
+        mut tainted,
+        mut settled,
+    } = plan;
+    try_all(
+        rt,
+        alloc,
+        program,
+        verdicts,
+        budget,
+        rows.as_slice(),
+        collector,
+        &mut tainted,
+        &mut settled,
+    )?;
+    tell_dependents(alloc, program, &uses, &calls, &mut settled)?;
+    Ok(settled)
 }
 
 /// Settles all classes of a program on this thread, wave by wave, from their verdicts: runs the initializer of each
@@ -121,7 +105,50 @@ pub fn settle_all_here(
     ensures count { IfOk result (λ settled. length settled.verdicts ≡ length program.now.classes) }
     ensures fault { IfErr result (λ fault. fault ≡ Memory) }
 {
-    match settle_judged(alloc, program, verdicts.as_slice(), budget) {
+    match settle_judged_here(alloc, program, verdicts.as_slice(), budget) {
+        Ok(settled) => Ok(settled),
+        Err(AllocError) => Err(WaveFault::Memory),
+    }
+}
+
+/// The most workers.
+const MOST_WORKERS: u32 = 64;
+
+/// Whether there may be so many workers.
+pub fn can_work(workers: u32) -> bool
+    ensures { IsTrue result ↔ CanWork workers }
+{
+    1 <= workers && workers <= MOST_WORKERS
+}
+
+/// Settles all classes of a program on 1 to 64 workers, wave by wave, as `settle_all_here` does. Each worker asks the
+/// gate before a class and settles it by the gate. What no worker settled is settled by the caller. A wave has as many
+/// threads as workers, or as classes if these are fewer; a single worker works on the caller's thread.
+///
+/// # Errors
+/// `Workers` where there are none or more than 64. `Memory` where memory is refused.
+pub fn settle_all<G: Gate, R: Threads + Wait + Sync>(
+    rt: &R,
+    alloc: Global,
+    program: &Program,
+    verdicts: Verdicts,
+    budget: u64,
+    workers: u32,
+    gate: &G,
+) -> Result<Settled, WaveFault>
+    requires { AreJudged program.now verdicts }
+    ensures settled { IfOk result (λ settled. (forced : List Bool) → AreVerdicts program.now forced verdicts
+        → AreSettled program.now forced budget (settled_of settled)) }
+    // There is a verdict on each class.
+    ensures count { IfOk result (λ settled. length settled.verdicts ≡ length program.now.classes) }
+    ensures workers { IfOk result (λ settled. CanWork workers) }
+    ensures fault { IfErr result (λ fault. IsWaveFault workers fault) }
+{
+    if !can_work(workers) {
+        return Err(WaveFault::Workers);
+    }
+    let collector = Collector { gate, who: workers };
+    match settle_judged(rt, alloc, program, verdicts.as_slice(), budget, &collector) {
         Ok(settled) => Ok(settled),
         Err(AllocError) => Err(WaveFault::Memory),
     }

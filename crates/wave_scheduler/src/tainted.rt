@@ -5,7 +5,7 @@ ghost use Rattle.use_graph.specs.steps.Bodies.{IsUseGraph};
 ghost use Rattle.wave_scheduler.specs.Settled.{IsAccepted};
 ghost use Rattle.wave_scheduler.specs.Outcomes.{settled_of};
 ghost use Rattle.wave_scheduler.specs.steps.Tainting.{IsClosedIn, AddsReached, AreDependents, vertex_in, IsSeen};
-ghost use Rattle.wave_scheduler.specs.steps.Tainting.{IsSearched, Spreads, IsOver, SeesOver, AreTainted};
+ghost use Rattle.wave_scheduler.specs.steps.Tainting.{IsSearched, IsTold, Spreads, IsOver, SeesOver, AreTainted};
 
 use crate::outcome::Settled;
 use graph::{Graph, Visited, reversed, visit};
@@ -163,5 +163,17 @@ impl Tainted {
             }
             Err(error) => Err(error),
         }
+    }
+}
+
+/// What a class is told that depends on one that is not accepted: not yet which of its uses is the first such.
+pub(crate) fn told(tainted: &Tainted, class: u32) -> Option<u32>
+    requires { IsSearched tainted.now }
+    ensures { IsTold tainted.now class result }
+{
+    if tainted.has(class) {
+        Some(class)
+    } else {
+        None
     }
 }

@@ -6,43 +6,39 @@ ghost use Rattle.semantics.specs.Quiet as quiet;
 ghost use Rattle.semantics.specs.Settling.{StoppedBy};
 ghost use Rattle.machine.specs.Linked.{program_of};
 ghost use Rattle.evaluator.specs.Regions.{region_in, environment_of};
-ghost use Rattle.use_graph.specs.steps.Bodies.{IsUseGraph};
 ghost use Rattle.wave_scheduler.specs.Outcomes.{settled_of, AreJudged};
-ghost use Rattle.wave_scheduler.specs.steps.Waves.{StartsFrom, AreTriedBelow, AreAllTried};
+ghost use Rattle.wave_scheduler.specs.steps.Waves.{AreTriedBelow};
 ghost use Rattle.wave_scheduler.specs.steps.Tainting.{vertex_in, IsSeen, IsSearched, IsTold, TriesClass, AreTainted};
 ghost use Rattle.wave_scheduler.specs.steps.WaveRows.{IsRow, AreRows};
 
+use crate::crew::results_of;
 use crate::finding::find_class;
+use crate::gate::{Collector, Gate, Open};
+use crate::lent::Lent;
 use crate::outcome::Settled;
-use crate::rows::classes_by_wave;
-use crate::tainted::Tainted;
+use crate::results::{Done, Results};
+use crate::tainted::{Tainted, told};
 use initializer_analysis::verdict::Verdict;
 use program::Program;
 use std::alloc::{AllocError, Global};
-use use_graph::UseGraph;
+use std::marker::Brand;
+use std::sync::Wait;
+use std::thread::Threads;
 
-/// What a class is told that depends on one that is not accepted: not yet which of its uses is the first such.
-fn told(tainted: &Tainted, class: u32) -> Option<u32>
-    requires { IsSearched tainted.now }
-    ensures { IsTold tainted.now class result }
-{
-    if tainted.has(class) {
-        Some(class)
-    } else {
-        None
-    }
-}
-
-/// Tries a class of a wave.
-fn try_class(
+/// Tries a class of a wave, where this came of it, or maybe nothing.
+fn try_class<W: Lent, G: Gate>(
     alloc: Global,
     program: &Program,
     class: u32,
     budget: u64,
     wave: usize,
+    given: Option<Done<W>>,
+    collector: &Collector<'_, G>,
     tainted: &mut Tainted,
     settled: &mut Settled,
 ) -> Result<(), AllocError>
+    requires lent { program.now ≡ W.program }
+    requires budget { budget ≡ W.budget }
     requires searched { IsSearched tainted.old }
     requires vertex { vertex_in tainted.old class < length tainted.old.dependents }
     requires class { class < length settled.old.verdicts }
@@ -50,17 +46,85 @@ fn try_class(
     requires none { region_in settled.old.regions class ≡ None }
     requires run { (¬ IsSeen tainted.old (vertex_in tainted.old class)) → StoppedBy (program_of program.now)
         (environment_of settled.old.regions) class budget quiet.Barred → ⊥ }
-    ensures { OnOk result (TriesClass program.now (environment_of settled.old.regions) budget wave class tainted.old
-        (settled_of settled.old) tainted.new (settled_of settled.new)) }
+    ensures { OnOk result (TriesClass program.now (environment_of W.regions) (environment_of settled.old.regions) budget wave
+        class tainted.old (settled_of settled.old) tainted.new (settled_of settled.new)) }
 {
     let told = told(tainted, class);
-    find_class(alloc, program, class, budget, wave, told, settled)?;
+    find_class(
+        alloc, program, class, budget, wave, told, given, collector, settled,
+    )?;
     tainted.add_refused(settled, class)?;
     Ok(())
 }
 
-/// Tries the classes of a wave.
-fn try_wave(
+/// Tries the classes of a wave, with what came of some of them.
+fn collect<W: Lent, G: Gate>(
+    alloc: Global,
+    program: &Program,
+    verdicts: &[Verdict],
+    budget: u64,
+    wave: usize,
+    row: &[u32],
+    results: Results<W>,
+    collector: &Collector<'_, G>,
+    tainted: &mut Tainted,
+    settled: &mut Settled,
+) -> Result<(), AllocError>
+    requires lent { program.now ≡ W.program }
+    requires regions { settled.old.regions ≡ W.regions }
+    requires budget { budget ≡ W.budget }
+    requires judged { AreJudged program.now verdicts.now }
+    requires row { IsRow verdicts.now wave row.now }
+    requires tried { AreTriedBelow program.now budget verdicts.now wave (settled_of settled.old) }
+    requires tainted { AreTainted program.now (settled_of settled.old) tainted.old }
+    ensures tried { OnOk result (AreTriedBelow program.now budget verdicts.now (wave + 1) (settled_of settled.new)) }
+    ensures tainted { OnOk result (AreTainted program.now (settled_of settled.new) tainted.new) }
+{
+    let _given = program.family().classes();
+    let _tables = program.classes();
+    let mut results = results;
+    for class in row {
+        let given = results.take_next();
+        try_class(
+            alloc, program, *class, budget, wave, given, collector, tainted, settled,
+        )?;
+    }
+    Ok(())
+}
+
+/// Tries the classes of a wave, none of which is settled yet.
+fn run_wave_here<W: Lent>(
+    alloc: Global,
+    program: &Program,
+    verdicts: &[Verdict],
+    budget: u64,
+    wave: usize,
+    row: &[u32],
+    tainted: &mut Tainted,
+    settled: &mut Settled,
+) -> Result<(), AllocError>
+    requires lent { program.now ≡ W.program }
+    requires regions { settled.old.regions ≡ W.regions }
+    requires budget { budget ≡ W.budget }
+    requires judged { AreJudged program.now verdicts.now }
+    requires row { IsRow verdicts.now wave row.now }
+    requires tried { AreTriedBelow program.now budget verdicts.now wave (settled_of settled.old) }
+    requires tainted { AreTainted program.now (settled_of settled.old) tainted.old }
+    ensures tried { OnOk result (AreTriedBelow program.now budget verdicts.now (wave + 1) (settled_of settled.new)) }
+    ensures tainted { OnOk result (AreTainted program.now (settled_of settled.new) tainted.new) }
+{
+    let results = Results::none(alloc);
+    let collector = Collector {
+        gate: &Open,
+        who: 0,
+    };
+    collect::<W, Open>(
+        alloc, program, verdicts, budget, wave, row, results, &collector, tainted, settled,
+    )
+}
+
+/// Tries the classes of a wave on this thread.
+fn try_wave_here(
     alloc: Global,
     program: &Program,
     verdicts: &[Verdict],
@@ -77,16 +141,80 @@ fn try_wave(
     ensures tried { OnOk result (AreTriedBelow program.now budget verdicts.now (wave + 1) (settled_of settled.new)) }
     ensures tainted { OnOk result (AreTainted program.now (settled_of settled.new) tainted.new) }
 {
-    let _given = program.family().classes();
-    let _tables = program.classes();
-    for class in row {
-        try_class(alloc, program, *class, budget, wave, tainted, settled)?;
-    }
-    Ok(())
+    run_wave_here::<Brand>(
+        alloc, program, verdicts, budget, wave, row, tainted, settled,
+    )
 }
 
-/// Tries the classes of all waves.
-fn try_all(
+/// Tries the classes of a wave by workers, which are lent the regions that there are before.
+fn run_wave<W: Lent + Send + Sync, G: Gate, R: Threads + Wait + Sync>(
+    rt: &R,
+    alloc: Global,
+    program: &Program,
+    verdicts: &[Verdict],
+    budget: u64,
+    wave: usize,
+    row: &[u32],
+    collector: &Collector<'_, G>,
+    tainted: &mut Tainted,
+    settled: &mut Settled,
+) -> Result<(), AllocError>
+    requires lent { program.now ≡ W.program }
+    requires regions { settled.old.regions ≡ W.regions }
+    requires budget { budget ≡ W.budget }
+    requires judged { AreJudged program.now verdicts.now }
+    requires row { IsRow verdicts.now wave row.now }
+    requires tried { AreTriedBelow program.now budget verdicts.now wave (settled_of settled.old) }
+    requires tainted { AreTainted program.now (settled_of settled.old) tainted.old }
+    ensures tried { OnOk result (AreTriedBelow program.now budget verdicts.now (wave + 1) (settled_of settled.new)) }
+    ensures tainted { OnOk result (AreTainted program.now (settled_of settled.new) tainted.new) }
+{
+    let _given = program.family().classes();
+    let _tables = program.classes();
+    let (workers, gate) = (collector.who, collector.gate);
+    let results = results_of::<W, G, R>(
+        rt,
+        alloc,
+        program,
+        &settled.regions,
+        budget,
+        row,
+        tainted,
+        workers,
+        gate,
+    )?;
+    collect::<W, G>(
+        alloc, program, verdicts, budget, wave, row, results, collector, tainted, settled,
+    )
+}
+
+/// The same, of any wave.
+fn try_wave<G: Gate, R: Threads + Wait + Sync>(
+    rt: &R,
+    alloc: Global,
+    program: &Program,
+    verdicts: &[Verdict],
+    budget: u64,
+    wave: usize,
+    row: &[u32],
+    collector: &Collector<'_, G>,
+    tainted: &mut Tainted,
+    settled: &mut Settled,
+) -> Result<(), AllocError>
+    requires judged { AreJudged program.now verdicts.now }
+    requires row { IsRow verdicts.now wave row.now }
+    requires tried { AreTriedBelow program.now budget verdicts.now wave (settled_of settled.old) }
+    requires tainted { AreTainted program.now (settled_of settled.old) tainted.old }
+    ensures tried { OnOk result (AreTriedBelow program.now budget verdicts.now (wave + 1) (settled_of settled.new)) }
+    ensures tainted { OnOk result (AreTainted program.now (settled_of settled.new) tainted.new) }
+{
+    run_wave::<Brand, G, R>(
+        rt, alloc, program, verdicts, budget, wave, row, collector, tainted, settled,
+    )
+}
+
+/// Tries the classes of all waves on this thread.
+pub(crate) fn try_all_here(
     alloc: Global,
     program: &Program,
     verdicts: &[Verdict],
@@ -103,7 +231,7 @@ fn try_all(
         (AreTriedBelow program.now budget verdicts.now (length rows.now) (settled_of settled.new)) }
 {
     for wave in 0..rows.len() {
-        try_wave(
+        try_wave_here(
             alloc,
             program,
             verdicts,
@@ -117,64 +245,38 @@ fn try_all(
     Ok(())
 }
 
-/// Tries the classes of all waves, where those of each are known.
-fn try_rows(
+/// Tries the classes of all waves by workers.
+pub(crate) fn try_all<G: Gate, R: Threads + Wait + Sync>(
+    rt: &R,
     alloc: Global,
     program: &Program,
-    uses: &UseGraph,
     verdicts: &[Verdict],
     budget: u64,
     rows: &[Vec<u32>],
+    collector: &Collector<'_, G>,
+    tainted: &mut Tainted,
     settled: &mut Settled,
 ) -> Result<(), AllocError>
-    requires uses { IsUseGraph program.now uses.now }
     requires judged { AreJudged program.now verdicts.now }
     requires rows { AreRows verdicts.now (rows_of rows.now) }
-    requires starts { StartsFrom verdicts.now (settled_of settled.old) }
-    ensures { OnOk result (AreAllTried program.now budget verdicts.now (settled_of settled.new)) }
+    requires tried { AreTriedBelow program.now budget verdicts.now 0 (settled_of settled.old) }
+    requires tainted { AreTainted program.now (settled_of settled.old) tainted.old }
+    ensures { OnOk result
+        (AreTriedBelow program.now budget verdicts.now (length rows.now) (settled_of settled.new)) }
 {
-    match Tainted::of(alloc, program, uses, settled) {
-        Ok(tainted) => {
-            let mut tainted = tainted;
-            try_all(
-                alloc,
-                program,
-                verdicts,
-                budget,
-                rows,
-                &mut tainted,
-                settled,
-            )?;
-            Ok(())
-        }
-        Err(error) => Err(error),
-    }
-}
-
-/// Tries the classes of all waves that their verdicts name.
-pub(crate) fn try_waves(
-    alloc: Global,
-    program: &Program,
-    uses: &UseGraph,
-    verdicts: &[Verdict],
-    budget: u64,
-    settled: &mut Settled,
-) -> Result<(), AllocError>
-    requires uses { IsUseGraph program.now uses.now }
-    requires judged { AreJudged program.now verdicts.now }
-    requires starts { StartsFrom verdicts.now (settled_of settled.old) }
-    ensures { OnOk result (AreAllTried program.now budget verdicts.now (settled_of settled.new)) }
-{
-    match classes_by_wave(alloc, verdicts, program.given_count()) {
-        Ok(rows) => try_rows(
+    for wave in 0..rows.len() {
+        try_wave(
+            rt,
             alloc,
             program,
-            uses,
             verdicts,
             budget,
-            rows.as_slice(),
+            wave,
+            rows[wave].as_slice(),
+            collector,
+            tainted,
             settled,
-        ),
-        Err(error) => Err(error),
+        )?;
     }
+    Ok(())
 }

@@ -39,7 +39,7 @@ pub record AreBitsOf (Is : ℕ → ℕ → Type 0) (declared : List Declaration)
       → (k : ℕ) → ¬ Is e.member.class k
 
 -- What is known of a reference when so many declarations were looked at.
-pub record Tells (h : NumberedFamily) (wanted : Wanted) (name : NameAndType) (declared : List Declaration) (count : ℕ)
+pub record IsKnown (h : NumberedFamily) (wanted : Wanted) (name : NameAndType) (declared : List Declaration) (count : ℕ)
     (a : Answer) : Type 0 where
   pub first : (m : DeclaredMember) → a.first ≡ Some m
       → Search h.family (wanted_in wanted h.family name) (a.class ∷ []) (Some m)
@@ -52,7 +52,7 @@ pub record IsAnswer (h : NumberedFamily) (wanted : Wanted) (declared : List Decl
     Type 0 where
   pub within : a.class < length h.family
   pub whole : IsWhole h wanted declared a.key
-  pub tells : (name : NameAndType) → AreNumbers h.texts name a.key → Tells h wanted name declared count a
+  pub tells : (name : NameAndType) → AreNumbers h.texts name a.key → IsKnown h wanted name declared count a
 
 abbrev pub AreAnswers : NumberedFamily → Wanted → List Declaration → ℕ → List Answer → Type 0
 AreAnswers h wanted declared count answers = All (IsAnswer h wanted declared count) answers

@@ -36,7 +36,7 @@ abbrev pub AreWhole : NumberedFamily → Wanted → List Declaration → Type 0
 AreWhole h wanted declared = (e : Declaration) → Contains declared e → IsWhole h wanted declared e.key
 
 -- More of a name and descriptor were added.
-pub record Goes (h : NumberedFamily) (wanted : Wanted) (key : MemberKey) (old new : List Declaration) : Type 0 where
+pub record Grows (h : NumberedFamily) (wanted : Wanted) (key : MemberKey) (old new : List Declaration) : Type 0 where
   pub are : AreDeclared h wanted new
   pub keeps : (e : Declaration) → Contains old e → Contains new e
   pub only : (e : Declaration) → Contains new e → Contains old e ⊎ (e.key ≡ key)

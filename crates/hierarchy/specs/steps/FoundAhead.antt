@@ -1,11 +1,11 @@
 -- What was found for references before they are resolved (JVMS 5.4.3.2 to 5.4.3.4).
 use Rattle.std.specs.Prelude.{◌≡◌, ℕ, Option, Some, None}
-use Rattle.indexmap.specs.IndexMap.{get}
+use Rattle.std.specs.BTreeMap.{get}
 use Rattle.built_in.specs.declared.class_id.ClassId.TheVariants as class_ids
 use Rattle.hierarchy.specs.Hierarchies.{NumberedFamily}
 use Rattle.hierarchy.specs.Resolution.{ResolvesField, ResolvesMethod}
 use Rattle.built_in.specs.Keys.{NameAndType}
-use Rattle.hierarchy.specs.steps.MemberIndexes.{AreNumbers, same_member}
+use Rattle.hierarchy.specs.steps.MemberIndexes.{AreNumbers, member_order}
 use Rattle.hierarchy.specs.declared.asked.MemberKind.{MemberKind}
 use Rattle.hierarchy.specs.declared.asked.MemberKind.TheVariants as asked
 use Rattle.hierarchy.specs.declared.found_ahead.FoundAhead.{FoundAhead}
@@ -19,7 +19,7 @@ use Rattle.hierarchy.specs.declared.wanted.Wanted.{Wanted}
 use Rattle.hierarchy.specs.declared.wanted.Wanted.TheVariants as wanted
 
 abbrev pub found_in : FoundAhead → ℕ → MemberKey → Option (Option DeclaredMember)
-found_in ahead class key = get same_member ahead.found (record { class = class; key = key })
+found_in ahead class key = get member_order ahead.found (record { class = class; key = key })
 
 -- ---- as resolved
 

@@ -1,10 +1,11 @@
 -- What the nearest members along superclasses are found by.
-use Rattle.std.specs.Prelude.{◌≡◌, ℕ, List, [], length}
+use Rattle.std.specs.Prelude.{◌≡◌, ◌==◌, ℕ, List, [], Option, Some, None, length, if◌then◌else◌}
 use Rattle.loading.specs.Families.{Family}
 use Rattle.hierarchy.specs.steps.DepthFirst.{IsWholeOrder, ArePlaces}
 use Rattle.hierarchy.specs.steps.Reaches.{AllTell, IsReachTable, reaches_of}
 use Rattle.hierarchy.specs.steps.Sweeps.{members_by}
 use Rattle.hierarchy.specs.steps.Tops.{AreTops}
+use Rattle.hierarchy.specs.declared.member.DeclaredMember.{DeclaredMember}
 use Rattle.hierarchy.specs.declared.member_index.MemberKey.{MemberKey}
 use Rattle.hierarchy.specs.declared.member_table.MemberTable.{MemberTable}
 use Rattle.hierarchy.specs.declared.nearest.NearestMembers.{NearestMembers}
@@ -37,3 +38,8 @@ pub record AreNearest (family : Family) (table : MemberTable) (nearest : Nearest
   pub count : length nearest.places.items ≡ length family
   pub tops : AreTops family nearest.tops.items
   pub told : AllAreTold family table order nearest.reaches
+
+-- the place of a member, if a class declares it itself
+abbrev pub own_part : ℕ → Option DeclaredMember → Option ℕ
+own_part c None = None
+own_part c (Some m) = if m.class == c then Some m.index else None

@@ -1,12 +1,12 @@
 -- How far the nearest class that declares a member reaches, along classes that stand depth first.
-use Rattle.std.specs.Prelude.{◌≡◌, ℕ, zero, suc, ◌<◌, ◌≤◌, ◌⊎◌, ◌∷◌, ◌++◌, [], List, Option, Some, None, length}
+use Rattle.std.specs.Prelude.{◌≡◌, ℕ, zero, suc, ◌-◌, ◌<◌, ◌≤◌, ◌⊎◌, ◌∷◌, ◌++◌, [], List, Option, Some, None, length}
 use Rattle.std.specs.Prelude.{slice_get, slice_index_or, fold, nat_lt, if◌then◌else◌}
 use Rattle.std.specs.declared.vec.Vec.{Vec}
 use Rattle.std.specs.declared.alloc.Global.{Global}
-use Rattle.indexmap.specs.IndexMap.{get}
+use Rattle.std.specs.BTreeMap.{get}
 use Rattle.loading.specs.Families.{Family, superclasses_in}
 use Rattle.built_in.specs.Keys.{NameAndType}
-use Rattle.hierarchy.specs.steps.MemberIndexes.{same_key, AreNumbers}
+use Rattle.hierarchy.specs.steps.MemberIndexes.{key_order, AreNumbers}
 use Rattle.hierarchy.specs.declared.member_index.MemberKey.{MemberKey}
 use Rattle.hierarchy.specs.declared.member.DeclaredMember.{DeclaredMember}
 use Rattle.hierarchy.specs.declared.reach_table.Reach.{Reach}
@@ -30,7 +30,7 @@ row_at rows None = []
 row_at rows (Some n) = reaches_in (slice_get rows n)
 
 abbrev pub number_in : ReachTable → MemberKey → Option ℕ
-number_in table key = get same_key table.numbers key
+number_in table key = get key_order table.numbers key
 
 -- the reaches that were noted for a key
 abbrev pub reaches_of : ReachTable → MemberKey → List Reach
@@ -84,10 +84,14 @@ pub record TellsAlone (family : Family) (own : ℕ → Option ℕ) (classes : Li
   pub tells : Tells family own classes row
   pub none_beyond : (i : ℕ) (a : Reach) → slice_get row i ≡ Some a → a.from < length classes
 
--- Where one more class comes: a row stays as it is, or it tells of that class too.
-abbrev pub Goes : Family → (ℕ → Option ℕ) → List ℕ → ℕ → List Reach → List Reach → Type 0
-Goes family own classes c old new =
-    (new ≡ old) ⊎ (Tells family own classes old → TellsAlone family own (classes ++ c ∷ []) new)
+-- The last reach is from a place.
+abbrev pub EndsAt : List Reach → ℕ → Type 0
+EndsAt row place = (a : Reach) × (slice_get row (length row - 1) ≡ Some a) × (a.from ≡ place)
+
+-- Where one more class comes: a row tells of those before it alone, or of that class too.
+abbrev pub TellsUpTo : Family → (ℕ → Option ℕ) → List ℕ → ℕ → List Reach → Type 0
+TellsUpTo family own classes c row =
+    TellsAlone family own classes row ⊎ TellsAlone family own (classes ++ c ∷ []) row
 
 -- ---- along an order of classes
 
@@ -117,17 +121,6 @@ pub record Members : Type 0 where
   pub family : Family
   pub texts : List (List ℕ)
   pub own : NameAndType → ℕ → Option ℕ
-
--- each row goes on or stays when one more class comes
-abbrev pub AllGo : Members → List ℕ → ℕ → ReachTable → ReachTable → Type 0
-AllGo m classes c old new = (key : MemberKey) (name : NameAndType) → AreNumbers m.texts name key
-    → Goes m.family (m.own name) classes c (reaches_of old key) (reaches_of new key)
-
--- the row of a name and a descriptor goes on
-abbrev pub IsNoted : Members → List ℕ → ℕ → ReachTable → ReachTable → NameAndType → Type 0
-IsNoted m classes c old new name = (key : MemberKey) → AreNumbers m.texts name key
-    → Tells m.family (m.own name) classes (reaches_of old key)
-    → TellsAlone m.family (m.own name) (classes ++ c ∷ []) (reaches_of new key)
 
 -- each row tells of all classes
 abbrev pub AllTell : Members → List ℕ → ReachTable → Type 0

@@ -4,22 +4,14 @@ use Rattle.std.specs.Prelude.{if◌then◌else◌, zero, suc, nat_lt}
 use Rattle.std.specs.List.{flat_map}
 use Rattle.std.specs.Str.{bytes_eq}
 use Rattle.built_in.specs.declared.class_id.BuiltIn.{BuiltIn}
-use Rattle.built_in.specs.declared.class_id.BuiltIn.TheVariants as builtins
 use Rattle.built_in.specs.declared.class_id.ElementType.{ElementType}
 use Rattle.built_in.specs.declared.class_id.ElementType.TheVariants as elements
 use Rattle.built_in.specs.declared.class_id.ClassId.{ClassId}
 use Rattle.built_in.specs.declared.class_id.ClassId.TheVariants as classes
 use Rattle.loading.specs.ClassIds.{element_text as descriptor_of}
 use Rattle.loading.specs.Families.{Family, name_in}
+use Rattle.loading.specs.steps.BuiltIns.{all_built_in}
 use Rattle.image_format.specs.Names.{class_name}
-
-abbrev pub all_built_in : List BuiltIn
-all_built_in = builtins.Object ∷ builtins.String ∷ builtins.System ∷ builtins.Enum ∷ builtins.Throwable
-    ∷ builtins.Exception ∷ builtins.RuntimeException ∷ builtins.ArithmeticException ∷ builtins.NullPointerException
-    ∷ builtins.ClassCastException ∷ builtins.ArrayStoreException ∷ builtins.NegativeArraySizeException
-    ∷ builtins.IllegalMonitorStateException ∷ builtins.IndexOutOfBoundsException
-    ∷ builtins.ArrayIndexOutOfBoundsException ∷ builtins.Error ∷ builtins.LinkageError
-    ∷ builtins.ExceptionInInitializerError ∷ builtins.NoClassDefFoundError ∷ builtins.PrintStream ∷ []
 
 -- the numbers below a number
 abbrev pub below : ℕ → List ℕ

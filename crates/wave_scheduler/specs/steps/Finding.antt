@@ -1,5 +1,5 @@
 -- What is found of one class after another in a wave.
-use Rattle.std.specs.Prelude.{◌≡◌, ◌≢◌, ℕ, ◌<◌, ◌≤◌, Bool, true, false, List, length, Option, Some, None, slice_get}
+use Rattle.std.specs.Prelude.{◌≡◌, ◌≢◌, ◌⊎◌, ℕ, ◌<◌, ◌≤◌, Bool, true, false, List, length, Option, Some, None, slice_get}
 use Rattle.std.specs.Prelude.{slice_index_or}
 use Rattle.std.specs.List.{Contains}
 use Rattle.vm_state.specs.SharedState.{Region}
@@ -13,6 +13,10 @@ use Rattle.initializer_analysis.specs.declared.verdict.Verdict.{Verdict}
 use Rattle.initializer_analysis.specs.declared.verdict.Verdict.TheVariants as verdicts
 use Rattle.initializer_analysis.specs.Verdicts as before
 use Rattle.initializer_analysis.specs.RefusedUses.{AreFirstRefused}
+use Rattle.evaluator.specs.declared.outcome.Outcome.{Outcome as Found}
+use Rattle.evaluator.specs.declared.outcome.Outcome.TheVariants as found
+use Rattle.evaluator.specs.Outcomes.{reason_of}
+use Rattle.evaluator.specs.Regions.{region_of}
 use Rattle.wave_scheduler.specs.Settled.{Outcome, Wave, Refused, Stopped, Settled, region_in}
 use Rattle.wave_scheduler.specs.steps.Waves.{IsTriedIn, AreRefusedIn, dependent}
 
@@ -37,6 +41,16 @@ abbrev pub IsFound : Program → Environment → ℕ → ℕ → ℕ → Option 
 IsFound P env budget n c (Some e) outcome held = (outcome ≡ Refused (reasons.DependsOn e)) × (held ≡ None)
 IsFound P env budget n c None outcome held = HasRun P env budget n c outcome held
 
+-- the same, with the regions that were lent to workers at hand, or with those that there are now
+abbrev pub IsFoundIn : Program → Environment → Environment → ℕ → ℕ → ℕ → Option ℕ → Outcome → Option Region → Type 0
+IsFoundIn P lent env budget n c told outcome held =
+    IsFound P lent budget n c told outcome held ⊎ IsFound P env budget n c told outcome held
+
+-- this is what an outcome of the evaluator says in a wave
+abbrev pub IsFoundOf : ℕ → Found → Outcome → Option Region → Type 0
+IsFoundOf n (found.Settled region) outcome held = (outcome ≡ Wave n) × (held ≡ Some (region_of region))
+IsFoundOf n (found.Refused why) outcome held = (outcome ≡ Stopped (reason_of why)) × (held ≡ None)
+
 -- of one class another outcome and another region, or none, and of others the same
 pub record SetsClass (c : ℕ) (outcome : Outcome) (held : Option Region) (old new : Settled) : Type 0 where
   pub count : length new.outcomes ≡ length old.outcomes
@@ -47,9 +61,9 @@ pub record SetsClass (c : ℕ) (outcome : Outcome) (held : Option Region) (old n
       → (slice_get new.outcomes d ≡ slice_get old.outcomes d) × (region_in new d ≡ region_in old d)
 
 -- what was found of a class was put in its place
-abbrev pub FindsClass : Program → Environment → ℕ → ℕ → ℕ → Option ℕ → Settled → Settled → Type 0
-FindsClass P env budget n c first old new =
-    (outcome : Outcome) × (held : Option Region) × IsFound P env budget n c first outcome held
+abbrev pub FindsClass : Program → Environment → Environment → ℕ → ℕ → ℕ → Option ℕ → Settled → Settled → Type 0
+FindsClass P lent env budget n c told old new =
+    (outcome : Outcome) × (held : Option Region) × IsFoundIn P lent env budget n c told outcome held
     × SetsClass c outcome held old new
 
 -- these classes of a wave are tried

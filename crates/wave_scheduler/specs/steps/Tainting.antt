@@ -88,9 +88,9 @@ IsTold t c told = MatchOption told (¬ IsSeen t (vertex_in t c)) (λ e. IsSeen t
 
 -- A class is tried where it depends on no class that is not accepted. If it is then not accepted itself, what depends
 -- on it is seen.
-pub record TriesClass (P : Tables) (env : Environment) (budget n c : ℕ) (t : Tainted) (old : Settled) (more : Tainted)
-    (new : Settled) : Type 0 where
+pub record TriesClass (P : Tables) (lent env : Environment) (budget n c : ℕ) (t : Tainted) (old : Settled)
+    (more : Tainted) (new : Settled) : Type 0 where
   pub told : Option ℕ
   pub so : IsTold t c told
-  pub finds : FindsClass (program_of P) env budget n c told old new
+  pub finds : FindsClass (program_of P) lent env budget n c told old new
   pub spreads : Spreads c (¬ IsAccepted new c) t more

@@ -8,12 +8,12 @@ use Rattle.cli.proofs.ImageBuildLemmas.{are_short}
 use Rattle.cli.proofs.image_build.build_image.Goals as goal
 
 pub image_text-requires : goal.image_text-requires
-image_text-requires c =
+image_text-requires g c =
     are_short (texts_of c.args.files.now) 4294967295 c.in-Ok.built.image.program (lit< tt) c.requires
     c.in-Ok.ensures.program
 
 pub returns-in-Ok-image_text-clause-image : goal.returns-in-Ok-image_text-clause-image
-returns-in-Ok-image_text-clause-image c =
+returns-in-Ok-image_text-clause-image g c =
     let built = c.in-Ok.built in
     let of = c.in-Ok.ensures.program in
     let text = c.image_text.ensures.image (family_links of.files built.image.program.family of.links of.family) in

@@ -5,7 +5,6 @@ use Rattle.init_engine.specs.Turns.{world_of}
 use Rattle.cli.specs.Running.{SendsTo, lines_text}
 use Rattle.cli.proofs.RunningLemmas.{appends_nothing, still_sent, all_sent, cut_by_memory, cut_in_sending, run_ends}
 use Rattle.cli.proofs.running.run_world.Goals as goal
-use Rattle.cli.proofs.running.run_world.Goals.{in-Ok-what_is_left, in-Err-what_is_left}
 
 pub slices-init : goal.slices-init
 slices-init g c = record {
@@ -36,8 +35,8 @@ returns-in-Err-send_further-clause-cut g c =
     (lines_text (drop c.slices.sent lines)) (Err c.in-Err-send_further.fault)) c.printed.ensures
     c.in-Err-send_further.ensures.sends)
 
-pub returns-then-over-clause-ran : goal.returns-then-over-clause-ran
-returns-then-over-clause-ran g c =
+pub returns-in-Ok-what_is_left-clause-ran : goal.returns-in-Ok-what_is_left-clause-ran
+returns-in-Ok-what_is_left-clause-ran g c =
     let kept = c.slices.invariant in
     let before = g.W.Write.contents c.args.out.now in
     let now = g.W.Write.contents c.slices.out in
@@ -48,16 +47,12 @@ returns-then-over-clause-ran g c =
     let sent = all_sent c.slices.sent c.in-Ok-send_further.count c.go_on.new.self.world.printed before now after still.1
     (rw c.printed.ensures at c.in-Ok-send_further.ensures.sends)
     (rw c.printed.ensures at c.in-Ok-send_further.ensures.all) in
-    elim c.match-what_is_left.branch [
-      | in-Ok-what_is_left w ↦
-          rw w.result-is (run_ends c.args.program.now c.args.world c.args.limit c.go_on.new.self before after
-          w.in-Ok-what_is_left.ran (rw c.if-over.true at turned) (c.go_on.ensures.threads ∙ kept.threads)
-          (rw c.world.ensures at w.in-Ok-what_is_left.ensures) sent.2)
-      | in-Err-what_is_left w ↦ rw w.result-is tt
-    ]
+    let told = c.in-Ok-what_is_left.ensures in
+    run_ends c.args.program.now c.args.world c.args.limit c.go_on.new.self before after c.in-Ok-what_is_left.ran
+    (rw c.if-over.true at turned) (c.go_on.ensures.threads ∙ kept.threads) told.stands told.schedule told.apart sent.2
 
-pub returns-then-over-clause-cut : goal.returns-then-over-clause-cut
-returns-then-over-clause-cut g c =
+pub returns-in-Err-what_is_left-clause-cut : goal.returns-in-Err-what_is_left-clause-cut
+returns-in-Err-what_is_left-clause-cut g c =
     let kept = c.slices.invariant in
     let before = g.W.Write.contents c.args.out.now in
     let now = g.W.Write.contents c.slices.out in
@@ -68,12 +63,8 @@ returns-then-over-clause-cut g c =
     let sent = all_sent c.slices.sent c.in-Ok-send_further.count c.go_on.new.self.world.printed before now after still.1
     (rw c.printed.ensures at c.in-Ok-send_further.ensures.sends)
     (rw c.printed.ensures at c.in-Ok-send_further.ensures.all) in
-    elim c.match-what_is_left.branch [
-      | in-Ok-what_is_left w ↦ rw w.result-is tt
-      | in-Err-what_is_left w ↦
-          rw w.result-is (cut_by_memory c.args.program.now (world_of c.args.world) c.args.limit
-          c.in-Ok-send_further.count c.go_on.new.self before after turned.under_way sent.0 sent.1)
-    ]
+    cut_by_memory c.args.program.now (world_of c.args.world) c.args.limit c.in-Ok-send_further.count c.go_on.new.self
+    before after turned.under_way sent.0 sent.1
 
 pub slices-preserved : goal.slices-preserved
 slices-preserved g c =

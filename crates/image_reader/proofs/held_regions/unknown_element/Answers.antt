@@ -1,6 +1,6 @@
 use Rattle.std.proofs.Common.{◌≡◌, ◌∙◌, length, ap, arith}
 use Rattle.classfile.specs.Units.{units_text}
-use Rattle.image_reader.proofs.HeldLemmas.{units_short}
+use Rattle.image_writer.proofs.FilesLemmas.{units_short}
 use Rattle.image_reader.proofs.SameLemmas.{stays}
 use Rattle.image_reader.proofs.held_regions.unknown_element.Goals as goal
 

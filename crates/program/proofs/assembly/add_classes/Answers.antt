@@ -2,10 +2,10 @@ use Rattle.std.proofs.Common.{◌≡◌, ◌<◌, ◌≤◌, List, Some, length,
 use Rattle.std.proofs.lemmas.List.{take_all}
 use Rattle.program.specs.declared.class.Class.{Class}
 use Rattle.loading.specs.declared.given.GivenClass.{GivenClass}
-use Rattle.program.specs.Programs.{IsClass}
-use Rattle.program.proofs.RuntimePoolGrowthLemmas.{classes_kept, grows_twice}
+use Rattle.program.specs.Programs.{IsLinkedClass}
+use Rattle.program.proofs.RuntimePoolGrowthLemmas.{classes_kept}
 use Rattle.program.specs.Strings.{strings_of}
-use Rattle.program.proofs.StringsLemmas.{adds_next, adds_nothing}
+use Rattle.program.proofs.StringsLemmas.{gains_next, gains_nothing}
 use Rattle.loading.specs.Families.{file_of}
 use Rattle.program.proofs.ZipLemmas.{item_at, one_more}
 use Rattle.program.proofs.assembly.add_classes.Goals as goal
@@ -24,23 +24,21 @@ loop-number-preserved c =
     let added = c.in_ok-add_class.ensures.class in
     record {
       members = c.in_ok-add_class.ensures.kept ∙ c.loop-number.invariant.members;
-      classes = one_more (λ (given : GivenClass) (class : Class). IsClass family strings given.file class) family
+      classes = one_more (λ (given : GivenClass) (class : Class). IsLinkedClass family strings given.file class) family
           c.loop-number.classes.items
           c.add_class.new.classes.items i given added.0 within item
-          (classes_kept family c.loop-number.strings strings c.in_ok-add_class.ensures.grows.keeps
+          (classes_kept family c.loop-number.strings strings c.in_ok-add_class.ensures.gains.keeps
           (take i family) c.loop-number.classes.items c.loop-number.invariant.classes)
           added.1 added.2;
-      grows = grows_twice c.loop-number.invariant.grows c.in_ok-add_class.ensures.grows;
-      adds = adds_next (λ (given : GivenClass). strings_of given.file) family i given c.args.strings.now
-          c.loop-number.strings strings within item c.loop-number.invariant.adds c.in_ok-add_class.ensures.adds;
+      gains = gains_next (λ (given : GivenClass). strings_of given.file) family i given c.args.strings.now
+          c.loop-number.strings strings within item c.loop-number.invariant.gains c.in_ok-add_class.ensures.gains;
     }
 
 pub loop-number-init : goal.loop-number-init
 loop-number-init c = record {
   members = refl;
   classes = rw c.requires.empty tt;
-  grows = record { keeps = λ i text at. at; distinct = λ apart. apart };
-  adds = adds_nothing c.args.strings.now;
+  gains = gains_nothing c.args.strings.now;
 }
 
 pub returns-clause-classes : goal.returns-clause-classes
@@ -50,15 +48,12 @@ returns-clause-classes c =
     omega (arith, ap length (c.classes-family.ensures.value ∙ c.family.ensures)) in
     rw (take_all c.loop-number.number family whole) at c.loop-number.invariant.classes
 
-pub returns-clause-adds : goal.returns-clause-adds
-returns-clause-adds c =
+pub returns-clause-gains : goal.returns-clause-gains
+returns-clause-gains c =
     let family = c.args.linker.now.hierarchy.now.family in
     let whole : length family ≤ c.loop-number.number =
     omega (arith, ap length (c.classes-family.ensures.value ∙ c.family.ensures)) in
-    rw (take_all c.loop-number.number family whole) at c.loop-number.invariant.adds
-
-pub returns-clause-grows : goal.returns-clause-grows
-returns-clause-grows c = c.loop-number.invariant.grows
+    rw (take_all c.loop-number.number family whole) at c.loop-number.invariant.gains
 
 pub add_class-requires-clause-file : goal.add_class-requires-clause-file
 add_class-requires-clause-file c =

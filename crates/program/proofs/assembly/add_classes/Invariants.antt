@@ -2,17 +2,17 @@ use Rattle.std.proofs.Common.{◌≡◌, take}
 use Rattle.std.specs.List.{AllZip}
 use Rattle.program.specs.declared.class.Class.{Class}
 use Rattle.loading.specs.declared.given.GivenClass.{GivenClass}
-use Rattle.program.specs.Programs.{IsClass}
+use Rattle.program.specs.Programs.{IsLinkedClass}
 use Rattle.program.specs.Strings.{all_strings}
-use Rattle.program.specs.steps.GrowingStrings.{Adds, Grows}
+use Rattle.program.specs.steps.GrowingStrings.{Gains}
 use Rattle.program.proofs.assembly.add_classes.Given as goal
 
 abbrev pub invariant-loop-number : goal.invariant-loop-number
 invariant-loop-number l = record {
   members : l.members ≡ l.initial.members;
-  classes : AllZip (λ (given : GivenClass) (class : Class). IsClass l.linker.hierarchy.now.family l.strings given.file
-      class)
+  classes :
+      AllZip (λ (given : GivenClass) (class : Class).
+      IsLinkedClass l.linker.hierarchy.now.family l.strings given.file class)
       (take l.number l.linker.hierarchy.now.family) l.classes.items;
-  grows : Grows l.initial.strings l.strings;
-  adds : Adds l.initial.strings (all_strings (take l.number l.linker.hierarchy.now.family)) l.strings;
+  gains : Gains l.initial.strings (all_strings (take l.number l.linker.hierarchy.now.family)) l.strings;
 }

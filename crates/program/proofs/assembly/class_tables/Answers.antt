@@ -8,5 +8,5 @@ returns-in-Ok-clause-strings c =
     let all = all_strings c.args.hierarchy.now.family in
     let added : Adds [] all c.classes_of.new.strings =
     subst (λ (old : List (List ℕ)). Adds old all c.classes_of.new.strings) c.new-strings.ensures
-    c.in-Ok.ensures.adds in
+    c.in-Ok.ensures.gains.adds in
     added [] AreFirsts.none

@@ -4,8 +4,8 @@ use Rattle.thread_runner.specs.Local.{local_steps}
 use Rattle.thread_runner.proofs.stretch.run_local.Given as goal
 
 abbrev pub invariant-loop-count : goal.invariant-loop-count
-invariant-loop-count l = (local_steps l.program l.done l.count (going l.fn.frames) ≡ Some (going l.frames))
+invariant-loop-count g l = (local_steps l.program l.done l.count (going l.fn.frames) ≡ Some (going l.frames))
     × (l.frames.thread ≡ l.fn.frames.thread) × (l.count ≤ 1023)
 
 abbrev pub decreases-loop-count : goal.decreases-loop-count
-decreases-loop-count l = 1023 - l.count
+decreases-loop-count g l = 1023 - l.count

@@ -2,14 +2,15 @@ use Rattle.std.proofs.Common.{◌≡◌, ℕ, List, true, sym, subst, ◌∙◌,
 use Rattle.std.specs.List.{Contains}
 use Rattle.std.proofs.lemmas.List.Elements.{Contains-push}
 use Rattle.std.proofs.lemmas.Option.{slice_get_within}
-use Rattle.use_graph.proofs.PartsLemmas.{part_grouped, joined_at_end, not_false}
+use Rattle.std.proofs.lemmas.Bool.{not-false}
+use Rattle.use_graph.proofs.PartsLemmas.{part_grouped, joined_at_end}
 use Rattle.use_graph.proofs.call_graph.add_group.Goals as goal
 
 pub returns : goal.returns
 returns c =
     let growing = c.requires.growing in
     let added = c.in_ok-add_like.ensures in
-    let fresh : c.in_ok-add.field-0 ≡ true = search (rules, not_false) in
+    let fresh : c.in_ok-add.field-0 ≡ true = search (rules, not-false) in
     let joined = joined_at_end c.in_ok-add.field-0 c.args.groups.now.items c.add.new.self.items c.args.number fresh
     c.in_ok-add.ensures.ok in
     record {

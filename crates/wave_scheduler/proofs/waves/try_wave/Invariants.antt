@@ -1,12 +1,4 @@
-use Rattle.std.proofs.Common.{take}
-use Rattle.wave_scheduler.specs.Outcomes.{settled_of}
-use Rattle.wave_scheduler.specs.steps.Finding.{TriesThese}
-use Rattle.wave_scheduler.specs.steps.Tainting.{AreTainted}
 use Rattle.wave_scheduler.proofs.waves.try_wave.Given as goal
 
-abbrev pub invariant-loop-class : goal.invariant-loop-class
-invariant-loop-class l = record {
-  tries : TriesThese l.program l.budget l.verdicts l.wave (take l.class-index l.row) (settled_of l.initial.settled)
-      (settled_of l.settled);
-  tainted : AreTainted l.program (settled_of l.settled) l.tainted;
-}
+abbrev pub ghosts-run_wave : goal.ghosts-run_wave
+ghosts-run_wave g a = record { program = a.program.now; regions = a.settled.now.regions; budget = a.budget }

@@ -1,7 +1,7 @@
 use Rattle.std.proofs.Common.{◌≡◌, List, Option, [], refl, sym, subst, inl, inr}
 use Rattle.std.specs.List.{Contains}
 use Rattle.std.proofs.lemmas.List.Elements.{Contains-push, Contains-push_cases}
-use Rattle.hierarchy.specs.steps.Declarations.{Goes, IsListed}
+use Rattle.hierarchy.specs.steps.Declarations.{Grows, IsListed}
 use Rattle.hierarchy.specs.steps.Reaches.{class_noted}
 use Rattle.hierarchy.specs.declared.declarations.Declaration.{Declaration}
 use Rattle.hierarchy.specs.declared.member.DeclaredMember.{DeclaredMember}
@@ -19,7 +19,7 @@ returns-clause-goes c =
       member = record { class = c.in-Some.member.class; index = c.in-Some-find.index };
       coded = c.has_code.result;
     } in
-    subst (Goes h c.args.wanted c.args.key old) (sym c.in_ok-push.ensures.items)
+    subst (Grows h c.args.wanted c.args.key old) (sym c.in_ok-push.ensures.items)
     (goes_one h c.args.wanted c.args.key old e refl c.requires
     (record {
       there = λ name numbers. sym (c.in-Some-find.ensures name numbers);

@@ -4,8 +4,8 @@ use Rattle.hierarchy.specs.steps.Reaches.{GoUp, reaches_of, reaching}
 use Rattle.hierarchy.proofs.UpClassesLemmas.{nearest_told}
 use Rattle.hierarchy.proofs.nearest.NearestMembers.nearest.Goals as goal
 
-pub returns : goal.returns
-returns c = λ family table name are numbers small.
+pub returns-clause-nearest : goal.returns-clause-nearest
+returns-clause-nearest c = λ family table name are numbers small.
     let place = c.in_ok-place.field-0.now in
     let told = subst (λ (r : ReachTable). GoUp (reaches_of r c.args.key)
     → c.reaching.result ≡ reaching (reaches_of r c.args.key) place) c.rows.ensures c.reaching.ensures in

@@ -1,29 +1,33 @@
-use Rattle.std.proofs.Common.{rules, None, ◌≡◌}
-use Rattle.indexmap.specs.IndexMap.{get}
-use Rattle.hierarchy.specs.steps.MemberIndexes.{same_key}
+use Rattle.std.proofs.Common.{◌≡◌, Some, None, cond, ap, ◌∙◌, rules}
+use Rattle.std.specs.BTreeMap.{get}
+use Rattle.hierarchy.specs.steps.MemberIndexes.{key_order}
 use Rattle.hierarchy.specs.steps.Reaches.{number_in}
+use Rattle.hierarchy.specs.declared.member_index.MemberKey.{MemberKey}
+use Rattle.hierarchy.proofs.MemberIndexesLemmas.{key_by_order}
 use Rattle.hierarchy.proofs.ReachTableLemmas.{rows_kept, numbers_within, numbers_apart}
 use Rattle.hierarchy.proofs.reach_table.ReachTable.number_of.Goals as goal
 
 pub returns-clause-table : goal.returns-clause-table
 returns-clause-table c =
     let find = number_in c.args.self.now in
-    let after = get same_key c.insert.new.self in
+    let after = λ (q : MemberKey). get key_order c.insert.new.self q in
     let rows = c.args.self.now.rows.items in
     let none : find c.args.key ≡ None = search rules in
+    let updates = λ (q : MemberKey). c.in_ok-insert.ensures.updates.0 q
+    ∙ ap (λ b. cond b (Some c.len-number.result) (find q)) (key_by_order c.args.key q) in
     record {
       within = numbers_within find after rows c.push.new.self.items c.args.key c.new.result none
-          (search (rules, c.in_ok-insert.ensures.updates.0))
-          c.in_ok-push.ensures.items c.requires.within;
+          (search (rules, updates)) c.in_ok-push.ensures.items c.requires.within;
       apart = numbers_apart find after rows c.push.new.self.items c.args.key c.new.result none
-          (search (rules, c.in_ok-insert.ensures.updates.0))
-          c.in_ok-push.ensures.items c.requires.within c.requires.apart;
+          (search (rules, updates)) c.in_ok-push.ensures.items c.requires.within c.requires.apart;
     }
 
 pub returns-clause-kept : goal.returns-clause-kept
 returns-clause-kept c =
     let find = number_in c.args.self.now in
-    let after = get same_key c.insert.new.self in
+    let after = λ (q : MemberKey). get key_order c.insert.new.self q in
     let none : find c.args.key ≡ None = search rules in
+    let updates = λ (q : MemberKey). c.in_ok-insert.ensures.updates.0 q
+    ∙ ap (λ b. cond b (Some c.len-number.result) (find q)) (key_by_order c.args.key q) in
     rows_kept find after c.args.self.now.rows.items c.push.new.self.items c.args.key c.new.result none
-    (search (rules, c.in_ok-insert.ensures.updates.0)) c.in_ok-push.ensures.items c.requires.within c.new.ensures.items
+    (search (rules, updates)) c.in_ok-push.ensures.items c.requires.within c.new.ensures.items

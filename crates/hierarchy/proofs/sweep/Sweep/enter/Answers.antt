@@ -1,12 +1,32 @@
-use Rattle.std.proofs.Common.{take}
-use Rattle.hierarchy.specs.steps.Sweeps.{members_of}
-use Rattle.hierarchy.proofs.SweepsLemmas.{entered}
+use Rattle.std.proofs.Common.{inl, inr, refl}
+use Rattle.hierarchy.specs.steps.Reaches.{reaches_of}
+use Rattle.hierarchy.specs.steps.Sweeps.{came, own_in}
+use Rattle.hierarchy.proofs.ReachesLemmas.{told_at_end}
+use Rattle.hierarchy.proofs.SweepsLemmas.{tells_next}
 use Rattle.hierarchy.proofs.sweep.Sweep.enter.Goals as goal
 
+pub note_class-requires-clause-own : goal.note_class-requires-clause-own
+note_class-requires-clause-own c = inl refl
+
 pub returns-clause-tell : goal.returns-clause-tell
-returns-clause-tell c = λ all k name are.
+returns-clause-tell c = λ k name are.
     let s = c.args.self.now in
-    entered (members_of s) (take c.args.place s.order.now) c.args.before c.args.class c.args.rows.now c.leave.new.rows
-    c.note_class.new.rows c.requires.last c.requires.may name k are c.in_ok-leave.ensures.go
-    c.in_ok-note_class.ensures.go
-    (c.in_ok-leave.ensures.left name) (c.in_ok-note_class.ensures.noted name) (all k name are)
+    let family = s.family.now in
+    let own = own_in s name in
+    let class = c.args.class in
+    let classes = came s c.args.place in
+    let row = reaches_of c.leave.new.rows k in
+    let left = c.in_ok-leave.ensures in
+    let told = left.comes.tell k name are in
+    let at_end = told_at_end family own classes class row c.args.place c.requires.comes.stands.count told in
+    elim (c.in_ok-note_class.ensures.noted name) [
+      | inl noted ↦ at_end (left.keeps k (noted k are))
+      | inr none ↦ elim (left.left name) [
+        | inl noted ↦ at_end (noted k are)
+        | inr pass ↦ elim told [
+          | inl alone ↦ tells_next family own classes c.args.before class row c.requires.last c.requires.may none pass
+              alone
+          | inr alone ↦ alone
+        ]
+      ]
+    ]

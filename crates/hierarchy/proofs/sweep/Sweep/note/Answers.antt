@@ -1,39 +1,49 @@
-use Rattle.std.proofs.Common.{◌≡◌, ◌++◌, ◌∷◌, [], take, refl, sym, subst, ◌∙◌, List, ℕ}
-use Rattle.hierarchy.specs.steps.HierarchyTables.{wanted_in}
+use Rattle.std.proofs.Common.{◌≡◌, ℕ, List, inl, inr, sym, subst}
+use Rattle.built_in.specs.Keys.{NameAndType}
 use Rattle.hierarchy.specs.steps.MemberIndexes.{AreNumbers}
-use Rattle.hierarchy.specs.steps.Reaches.{reaches_of, Tells, TellsAlone}
+use Rattle.hierarchy.specs.steps.Reaches.{Tells, reaches_of}
+use Rattle.hierarchy.specs.steps.Sweeps.{came, own_in}
 use Rattle.hierarchy.specs.declared.member_index.MemberKey.{MemberKey}
 use Rattle.hierarchy.specs.declared.reach_table.Reach.{Reach}
-use Rattle.hierarchy.proofs.MemberIndexesLemmas.{one_number, same_key_itself}
-use Rattle.hierarchy.proofs.ReachesLemmas.{goes_by_key, tell_next}
+use Rattle.hierarchy.proofs.ReachesLemmas.{ends_by_key, ends_of_key, tells_by_key}
 use Rattle.hierarchy.proofs.sweep.Sweep.note.Goals as goal
 
-pub returns-clause-go : goal.returns-clause-go
-returns-clause-go c = λ k name are.
-    let s = c.args.self.now in
-    let classes : List ℕ = take c.args.place s.order.now in
-    let own = wanted_in s.wanted s.family.now name in
-    goes_by_key s.family.now own classes c.args.class c.args.key k
-    (reaches_of c.args.rows.now k) (reaches_of c.push.new.self k) c.args.place c.nearest-nearest.result
-    c.requires.stands.count (c.in_ok-push.ensures.rows k)
-    (λ same tells. c.nearest-nearest.ensures name classes c.args.place
-    (subst (λ (q : MemberKey). AreNumbers s.table.now.texts name q) (sym same) are) c.requires.stands
-    (subst (λ (q : MemberKey). Tells s.family.now own classes (reaches_of c.args.rows.now q)) (sym same) tells))
+pub returns-then-ends_at-clause-noted : goal.returns-then-ends_at-clause-noted
+returns-then-ends_at-clause-noted c = c.ends_at.ensures.0 c.if-ends_at.true
 
-pub returns-clause-noted : goal.returns-clause-noted
-returns-clause-noted c = λ name here k are.
+pub returns-clause-comes : goal.returns-clause-comes
+returns-clause-comes c =
     let s = c.args.self.now in
     let key = c.args.key in
-    let classes : List ℕ = take c.args.place s.order.now in
-    let own = wanted_in s.wanted s.family.now name in
     let old = c.args.rows.now in
-    let new = c.push.new.self in
+    let comes = c.requires.comes in
+    let classes : List ℕ = came s c.args.place in
+    let own = λ (name : NameAndType) (are : AreNumbers s.table.now.texts name key).
+    elim (c.requires.own name are) as (λ _. own_in s name c.args.class ≡ c.args.own) [
+      | inl noted ↦ absurd (let yes = c.ends_at.ensures.1 (noted key are) in cc (yes, c.if-ends_at.false))
+      | inr is ↦ is
+    ] in
+    record {
+      fits = comes.fits;
+      rows = c.in_ok-push.ensures.table;
+      stands = comes.stands;
+      tell = λ k name are. tells_by_key s.family.now (own_in s name) classes c.args.class key k (reaches_of old k)
+          (reaches_of c.push.new.self k) c.args.place c.nearest-nearest.result comes.stands.count
+          (c.in_ok-push.ensures.rows k)
+          (λ equal tells. c.nearest-nearest.ensures name classes c.args.place comes.stands
+          (subst (λ (q : MemberKey). Tells s.family.now (own_in s name) classes (reaches_of old q)) (sym equal) tells)
+          (own name (subst (λ (q : MemberKey). AreNumbers s.table.now.texts name q) (sym equal) are)))
+          (comes.tell k name are);
+    }
+
+pub returns-clause-keeps : goal.returns-clause-keeps
+returns-clause-keeps c = λ k ends.
     let reach : Reach = record { from = c.args.place; nearest = c.nearest-nearest.result } in
-    let same : key ≡ k = one_number s.table.now.texts name key k c.requires.fits.distinct here are in
-    let pushed : reaches_of new key ≡ reaches_of old key ++ reach ∷ [] =
-    c.in_ok-push.ensures.rows key ∙ rw (same_key_itself key) refl in
-    subst (λ (q : MemberKey). Tells s.family.now own classes (reaches_of old q)
-    → TellsAlone s.family.now own (classes ++ c.args.class ∷ []) (reaches_of new q)) same
-    (λ tells. subst (TellsAlone s.family.now own (classes ++ c.args.class ∷ [])) (sym pushed)
-    (tell_next s.family.now own classes c.args.class (reaches_of old key) c.args.place reach.nearest
-    c.requires.stands.count tells (c.nearest-nearest.ensures name classes c.args.place here c.requires.stands tells)))
+    ends_by_key c.args.key k (reaches_of c.args.rows.now k) (reaches_of c.push.new.self k) reach
+    (c.in_ok-push.ensures.rows k) ends
+
+pub returns-clause-noted : goal.returns-clause-noted
+returns-clause-noted c =
+    let reach : Reach = record { from = c.args.place; nearest = c.nearest-nearest.result } in
+    ends_of_key c.args.key (reaches_of c.args.rows.now c.args.key) (reaches_of c.push.new.self c.args.key) reach
+    (c.in_ok-push.ensures.rows c.args.key)

@@ -1,4 +1,4 @@
-use Rattle.std.proofs.Common.{◌≡◌, ℕ, ◌+◌, List, ◌++◌, ◌∷◌, [], take, get_or, sym, subst, arith}
+use Rattle.std.proofs.Common.{◌≡◌, ℕ, ◌+◌, List, ◌++◌, ◌∷◌, [], take, get_or, sym, subst, inl, arith}
 use Rattle.std.proofs.lemmas.List.{take_more, take_all}
 use Rattle.hierarchy.specs.steps.Reaches.{AllTell}
 use Rattle.hierarchy.specs.steps.Sweeps.{members_of}
@@ -10,14 +10,20 @@ enter-requires-clause-may c =
     (next_may c.args.self.now.family.now c.loop-place.before c.args.self.now.order.now c.loop-place.place (omega arith)
     c.loop-place.invariant.ordered).0
 
-pub enter-requires-clause-stands : goal.enter-requires-clause-stands
-enter-requires-clause-stands c =
+pub enter-requires-clause-comes : goal.enter-requires-clause-comes
+enter-requires-clause-comes c =
     let s = c.args.self.now in
     let may = next_may s.family.now c.loop-place.before s.order.now c.loop-place.place (omega arith)
     c.loop-place.invariant.ordered in
-    stands_behind s.family.now s.order.now s.places.now c.loop-place.place (get_or s.order.now c.loop-place.place 0)
-    c.loop-place.before (omega arith) c.requires.once c.requires.places c.loop-place.invariant.all may.0
-    c.loop-place.invariant.last
+    let stands = stands_behind s.family.now s.order.now s.places.now c.loop-place.place
+    (get_or s.order.now c.loop-place.place 0) c.loop-place.before (omega arith) c.requires.once c.requires.places
+    c.loop-place.invariant.all may.0 c.loop-place.invariant.last in
+    record {
+      fits = c.requires.fits;
+      rows = c.loop-place.invariant.rows;
+      stands = stands;
+      tell = λ k name are. inl (c.loop-place.invariant.tell k name are);
+    }
 
 pub loop-place-preserved : goal.loop-place-preserved
 loop-place-preserved c =
@@ -30,7 +36,7 @@ loop-place-preserved c =
     record {
       rows = c.in_ok-enter.ensures.rows;
       tell = subst (λ (l : List ℕ). AllTell (members_of s) l c.enter.new.rows) (sym is)
-          (c.in_ok-enter.ensures.tell before.tell);
+          c.in_ok-enter.ensures.tell;
       last = last_next s.order.now p (omega arith);
       all = subst (HasAllAbove s.family.now) (sym is)
           (all_above_next s.family.now (take p s.order.now) c.loop-place.before

@@ -5,7 +5,8 @@ use Rattle.program.proofs.class.RuntimePool.at.Goals as goal
 pub returns-in-Some : goal.returns-in-Some
 returns-in-Some c =
     let inside = c.self.inside.constants in
-    let found : slice_get inside.places.items c.args.index ≡ Some c.in-Some.place = sym c.place.ensures ∙ c.in-Some.is in
+    let found : slice_get inside.places.items c.args.index ≡ Some c.in-Some.place =
+    sym c.place.ensures ∙ c.in-Some.is in
     rw (
       ← c.self.view_is,
       kept_at inside.places.items inside.items.items c.args.index,

@@ -2,11 +2,10 @@ use Rattle.std.proofs.Common.{◌≡◌, ◌<◌, ◌≤◌, List, length, Some,
 use Rattle.std.proofs.lemmas.List.{length_push, take_all}
 use Rattle.std.specs.List.{flat_map}
 use Rattle.program.specs.Strings.{string_of}
-use Rattle.program.specs.steps.GrowingStrings.{Adds}
+use Rattle.program.specs.steps.GrowingStrings.{Gains}
 use Rattle.classfile.specs.declared.constant.Constant.{Constant}
-use Rattle.program.proofs.RuntimePoolGrowthLemmas.{grows_twice}
 use Rattle.program.proofs.RuntimePoolLemmas.{constants_next}
-use Rattle.program.proofs.StringsLemmas.{adds_next, adds_nothing}
+use Rattle.program.proofs.StringsLemmas.{gains_next, gains_nothing}
 use Rattle.program.proofs.ZipLemmas.{item_at}
 use Rattle.program.proofs.resolver.Resolver.add_constants.Goals as goal
 
@@ -15,7 +14,7 @@ loop-index-preserved c =
     let i = c.loop-index.index in
     let f = c.args.self.now.file.now in
     let constant = c.index-constants-index.result in
-    let pool = c.loop-index.pool.items in
+    let pool = c.loop-index.pool in
     let within : i < length c.constants-constants.result.now = omega arith in
     let here : slice_get f.constants i ≡ Some constant =
     subst (λ (xs : List Constant). slice_get xs i ≡ Some constant) c.constants-constants.ensures.value
@@ -25,13 +24,12 @@ loop-index-preserved c =
       members = c.in_ok-add_constant.ensures.kept ∙ c.loop-index.invariant.members;
       count = omega (arith, ap length added.2, length_push pool added.0);
       pool = constants_next c.args.self.now.hierarchy.now.family c.loop-index.strings
-          c.add_constant.new.strings f pool c.add_constant.new.pool.items i constant
-          added.0 c.loop-index.invariant.count c.in_ok-add_constant.ensures.grows.keeps here added.1
+          c.add_constant.new.strings f pool c.add_constant.new.pool i constant
+          added.0 c.loop-index.invariant.count c.in_ok-add_constant.ensures.gains.keeps here added.1
           c.loop-index.invariant.pool added.2;
-      grows = grows_twice c.loop-index.invariant.grows c.in_ok-add_constant.ensures.grows;
-      adds = adds_next (string_of f) c.constants-constants.result.now i constant c.args.strings.now c.loop-index.strings
-          c.add_constant.new.strings within c.index-constants-index.is c.loop-index.invariant.adds
-          c.in_ok-add_constant.ensures.adds;
+      gains = gains_next (string_of f) c.constants-constants.result.now i constant c.args.strings.now
+          c.loop-index.strings c.add_constant.new.strings within c.index-constants-index.is c.loop-index.invariant.gains
+          c.in_ok-add_constant.ensures.gains;
     }
 
 pub add_constant-requires-clause-here : goal.add_constant-requires-clause-here
@@ -46,8 +44,7 @@ loop-index-init c = record {
   members = refl;
   count = rw c.requires.empty refl;
   pool = rw c.requires.empty (λ index constant held at also. absurd cc);
-  grows = record { keeps = λ i text at. at; distinct = λ apart. apart };
-  adds = adds_nothing c.args.strings.now;
+  gains = gains_nothing c.args.strings.now;
 }
 
 pub returns-clause-pool : goal.returns-clause-pool
@@ -56,15 +53,12 @@ returns-clause-pool c = record {
   each = c.loop-index.invariant.pool;
 }
 
-pub returns-clause-adds : goal.returns-clause-adds
-returns-clause-adds c =
+pub returns-clause-gains : goal.returns-clause-gains
+returns-clause-gains c =
     let f = c.args.self.now.file.now in
     let constants = c.constants-constants.result.now in
     let whole : length constants ≤ c.loop-index.index = omega arith in
-    let all : Adds c.args.strings.now (flat_map (string_of f) constants) c.loop-index.strings =
-    rw (take_all c.loop-index.index constants whole) at c.loop-index.invariant.adds in
-    subst (λ (xs : List Constant). Adds c.args.strings.now (flat_map (string_of f) xs) c.loop-index.strings)
+    let all : Gains c.args.strings.now (flat_map (string_of f) constants) c.loop-index.strings =
+    rw (take_all c.loop-index.index constants whole) at c.loop-index.invariant.gains in
+    subst (λ (xs : List Constant). Gains c.args.strings.now (flat_map (string_of f) xs) c.loop-index.strings)
     c.constants-constants.ensures.value all
-
-pub returns-clause-grows : goal.returns-clause-grows
-returns-clause-grows c = c.loop-index.invariant.grows

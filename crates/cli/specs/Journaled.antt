@@ -1,0 +1,44 @@
+-- Runs whose text went out, with their journals, and replays.
+use Rattle.std.specs.Prelude.{◌≡◌, ℕ, List, Option, Result, Ok, Err}
+use Rattle.std.specs.Io.KnownBytes.{Appends}
+use Rattle.semantics.specs.Worlds.{World, Run, seen}
+use Rattle.program.specs.Tables.{Tables}
+use Rattle.machine.specs.Linked.{program_of}
+use Rattle.init_engine.specs.Rests.{IsRest}
+use Rattle.init_engine.specs.Schedules.{schedule_of}
+use Rattle.init_engine.specs.declared.stuck.Rest.{Rest}
+use Rattle.journal.specs.Journals.{IsJournalOf}
+use Rattle.thread_runner.specs.Replays.{IsReplay}
+use Rattle.cli.specs.declared.by_threads.ImageSeen.{ImageSeen}
+use Rattle.cli.specs.declared.by_threads.Journaled.{Journaled}
+use Rattle.cli.specs.declared.fault.Refusal.{Refusal}
+use Rattle.cli.specs.declared.running.RunFault.TheVariants.{Device}
+use Rattle.cli.specs.declared.status.Status.{Status}
+use Rattle.cli.specs.Begins.{IsBegunFromImage}
+use Rattle.cli.specs.Running.{IsCutShort, lines_text}
+use Rattle.cli.specs.Status.{replay_status, run_status}
+
+-- The journal's run leads from a world to the one that is told, whose text has gone out whole.
+pub record IsJournaled (P : Tables) (first : World) (before after : Option (List ℕ)) (ran : Journaled) : Type 0 where
+  pub last : World
+  pub run : Run (program_of P) first (schedule_of ran.journal) last
+  pub threads : ran.threads.items ≡ (seen last).threads
+  pub rest : Rest
+  pub stands : IsRest (program_of P) last rest
+  pub status : ran.status ≡ run_status ran.threads.items rest
+  pub sent : Appends before after (lines_text last.shared.printed)
+
+-- what a run comes to: it is told, or the first bytes of what some run printed have gone out
+abbrev pub IsOutcome : Tables → World → Option (List ℕ) → Option (List ℕ) → Result Journaled Refusal → Type 0
+IsOutcome P first before after (Ok ran) = IsJournaled P first before after ran
+IsOutcome P first before after (Err refusal) = IsCutShort P first before after Device
+
+-- The journal of some text, run from a start of an image of some bytes, leads to a world in which this is seen.
+pub record IsReplayed (replayed : ImageSeen) (status : Status) : Type 0 where
+  pub first : World
+  pub begun : IsBegunFromImage replayed.image first
+  pub text : List ℕ
+  pub runs : List (ℕ × ℕ)
+  pub journal : IsJournalOf text runs
+  pub shown : IsReplay (program_of replayed.image.program) first runs replayed.seen
+  pub status_is : status ≡ replay_status replayed.seen.threads.items

@@ -1,0 +1,143 @@
+use Rattle.std.proofs.Common.{◌≡◌, ℕ, ◌+◌, List, Bool, length, take, refl, sym, ap, subst, ◌∙◌, arith}
+use Rattle.std.proofs.Math.Seq.{take-length}
+use Rattle.std.specs.Io.KnownBytes.{Appends}
+use Rattle.vm_state.specs.declared.text.Line.{Line}
+use Rattle.machine.specs.Linked.{program_of}
+use Rattle.init_engine.specs.Schedules.{schedule_of}
+use Rattle.init_engine.specs.Turnings.{HasTurned}
+use Rattle.init_engine.specs.Turns.{world_of}
+use Rattle.thread_runner.specs.Answers.{IsBeginning}
+use Rattle.thread_runner.specs.Sendings.{IsPlace, SendsOn, sent_of, text_of}
+use Rattle.thread_runner.proofs.AnswerLemmas.{answer_of, midway}
+use Rattle.thread_runner.proofs.SendingLemmas.{nothing_sent, place_grown, place_within, sent_on}
+use Rattle.thread_runner.proofs.alone.run_alone.Goals as goal
+
+pub slices-init : goal.slices-init
+slices-init g c = record {
+  turns = c.new-turning.ensures.begun (program_of c.args.program.now);
+  ready = c.new-turning.ensures.ready c.args.program.now;
+  place = (omega arith, omega arith);
+  sent = nothing_sent (g.S.Sink.got c.args.sink.now);
+  well = refl;
+}
+
+pub returns-in_default : goal.returns-in_default
+returns-in_default g c =
+    let kept = c.slices.invariant in
+    let t = c.slices.turning in
+    let n = sent_of t.world.printed c.slices.line c.slices.within in (
+      n,
+      midway c.args.program.now (world_of c.args.world) c.most_steps-most.result n t (g.S.Sink.got c.args.sink.now)
+          (g.S.Sink.got c.slices.sink) kept.turns
+          (place_within t.world.printed c.slices.line c.slices.within kept.place) kept.sent,
+    )
+
+pub send_lines-lines-requires : goal.send_lines-lines-requires
+send_lines-lines-requires g c =
+    let slice = c.in-Ok.ensures.slice in
+    place_grown c.slices.turning.world.printed c.printed.result.now slice.printed c.slices.line c.slices.within
+    (c.printed.ensures ∙ slice.lines) c.slices.invariant.place
+
+pub returns-then-not-whole : goal.returns-then-not-whole
+returns-then-not-whole g c =
+    let P = c.args.program.now in
+    let start = world_of c.args.world in
+    let most = c.most_steps-most.result in
+    let before = g.S.Sink.got c.args.sink.now in
+    let got = g.S.Sink.got c.slices.sink in
+    let after = g.S.Sink.got c.send_lines-lines.new.sink in
+    let kept = c.slices.invariant in
+    let old = c.slices.turning in
+    let new = c.go_on.new.self in
+    let printed = new.world.printed in
+    let i = c.slices.line in
+    let n = c.slices.within in
+    let j = c.send_lines-lines.result.0 in
+    let m = c.send_lines-lines.result.1 in
+    let slice = c.in-Ok.ensures.slice in
+    let turned = c.in-Ok.ensures.turns start most kept.turns in
+    let place : IsPlace printed j m =
+    subst (λ (ls : List Line). IsPlace ls j m) c.printed.ensures c.send_lines-lines.ensures.place in
+    let sends : SendsOn (text_of printed) (sent_of printed i n) (sent_of printed j m) got after =
+    subst (λ (ls : List Line). SendsOn (text_of ls) (sent_of ls i n) (sent_of ls j m) got after) c.printed.ensures
+    c.send_lines-lines.ensures.sends in
+    let sent : Appends before after (take (sent_of printed j m) (text_of printed)) =
+    sent_on before got after old.world.printed printed slice.printed i n j m slice.lines kept.place kept.sent sends in
+    let is : c.text_length.result + m ≡ sent_of printed j m =
+    ap (λ k. k + m) (c.text_length.ensures.is
+    ∙ ap (λ (ls : List Line). length (text_of (take j ls))) c.printed-then-not-whole.ensures) in (
+      subst (λ k. IsBeginning P start k before after) (sym is)
+          (midway P start most (sent_of printed j m) new before after turned.under_way (place_within printed j m place)
+          sent),
+      λ same. c.send_lines-lines.ensures.failed c.if-not-whole.true (same ∙ sym kept.well),
+    )
+
+pub returns-then-over : goal.returns-then-over
+returns-then-over g c =
+    let P = c.args.program.now in
+    let start = world_of c.args.world in
+    let most = c.most_steps-most.result in
+    let before = g.S.Sink.got c.args.sink.now in
+    let got = g.S.Sink.got c.slices.sink in
+    let after = g.S.Sink.got c.send_lines-lines.new.sink in
+    let kept = c.slices.invariant in
+    let old = c.slices.turning in
+    let new = c.go_on.new.self in
+    let printed = new.world.printed in
+    let i = c.slices.line in
+    let n = c.slices.within in
+    let j = c.send_lines-lines.result.0 in
+    let m = c.send_lines-lines.result.1 in
+    let slice = c.in-Ok.ensures.slice in
+    let turned = c.in-Ok.ensures.turns start most kept.turns in
+    let place : IsPlace printed j m =
+    subst (λ (ls : List Line). IsPlace ls j m) c.printed.ensures c.send_lines-lines.ensures.place in
+    let sends : SendsOn (text_of printed) (sent_of printed i n) (sent_of printed j m) got after =
+    subst (λ (ls : List Line). SendsOn (text_of ls) (sent_of ls i n) (sent_of ls j m) got after) c.printed.ensures
+    c.send_lines-lines.ensures.sends in
+    let sent : Appends before after (take (sent_of printed j m) (text_of printed)) =
+    sent_on before got after old.world.printed printed slice.printed i n j m slice.lines kept.place kept.sent sends in
+    let all : sent_of printed j m ≡ length (text_of printed) =
+    subst (λ (ls : List Line). sent_of ls j m ≡ length (text_of ls)) c.printed.ensures
+    (c.send_lines-lines.ensures.all c.if-not-whole.false) in
+    let whole : Appends before after (text_of printed) =
+    subst (λ (t : List ℕ). Appends before after t)
+    (ap (λ k. take k (text_of printed)) all ∙ take-length (text_of printed)) sent in
+    answer_of P start c.args.limit (g.S.Sink.failures c.args.sink.now) (g.S.Sink.failures c.send_lines-lines.new.sink)
+    (schedule_of new.schedule) new.world c.end_of_turns.result before after turned.run whole
+    (c.end_of_turns.ensures start c.args.limit most
+    (subst (λ (b : Bool). HasTurned (program_of P) start most b new) c.if-over.true turned)
+    c.most_steps-most.ensures.least c.most_steps-most.ensures.most)
+
+pub slices-preserved : goal.slices-preserved
+slices-preserved g c =
+    let P = c.args.program.now in
+    let start = world_of c.args.world in
+    let most = c.most_steps-most.result in
+    let before = g.S.Sink.got c.args.sink.now in
+    let got = g.S.Sink.got c.slices.sink in
+    let after = g.S.Sink.got c.send_lines-lines.new.sink in
+    let kept = c.slices.invariant in
+    let old = c.slices.turning in
+    let new = c.go_on.new.self in
+    let printed = new.world.printed in
+    let i = c.slices.line in
+    let n = c.slices.within in
+    let j = c.send_lines-lines.result.0 in
+    let m = c.send_lines-lines.result.1 in
+    let slice = c.in-Ok.ensures.slice in
+    let turned = c.in-Ok.ensures.turns start most kept.turns in
+    let place : IsPlace printed j m =
+    subst (λ (ls : List Line). IsPlace ls j m) c.printed.ensures c.send_lines-lines.ensures.place in
+    let sends : SendsOn (text_of printed) (sent_of printed i n) (sent_of printed j m) got after =
+    subst (λ (ls : List Line). SendsOn (text_of ls) (sent_of ls i n) (sent_of ls j m) got after) c.printed.ensures
+    c.send_lines-lines.ensures.sends in
+    let sent : Appends before after (take (sent_of printed j m) (text_of printed)) =
+    sent_on before got after old.world.printed printed slice.printed i n j m slice.lines kept.place kept.sent sends in
+    record {
+      turns = turned.under_way;
+      ready = c.in-Ok.ensures.ready;
+      place = place;
+      sent = sent;
+      well = c.send_lines-lines.ensures.well c.if-not-whole.false ∙ kept.well;
+    }

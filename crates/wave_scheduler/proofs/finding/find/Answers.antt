@@ -1,0 +1,18 @@
+use Rattle.std.proofs.Common.{inl, inr, option_map}
+use Rattle.machine.specs.Linked.{program_of}
+use Rattle.evaluator.specs.Regions.{environment_of, region_of}
+use Rattle.wave_scheduler.specs.Outcomes.{outcome_of}
+use Rattle.wave_scheduler.proofs.CrewsLemmas.{run_by}
+use Rattle.wave_scheduler.proofs.finding.find.Goals as goal
+
+pub returns-in-Ok : goal.returns-in-Ok
+returns-in-Ok g c =
+    let P = program_of c.args.program.now in
+    let outcome = outcome_of c.found_of.result.verdict in
+    let held = option_map region_of c.found_of.result.region in
+    rw c.in-None.is (elim c.in-Ok.ensures [
+      | inl theirs ↦ inl (run_by P (environment_of g.W.Lent.regions) c.args.budget c.args.wave c.args.class
+          c.in-Ok.outcome outcome held theirs c.found_of.ensures)
+      | inr own ↦ inr (run_by P (environment_of c.args.regions.now) c.args.budget c.args.wave c.args.class
+          c.in-Ok.outcome outcome held own c.found_of.ensures)
+    ])

@@ -1,0 +1,26 @@
+use Rattle.std.proofs.Common.{sym, ◌∙◌}
+use Rattle.std.proofs.lemmas.List.{length-map}
+use Rattle.wave_scheduler.specs.Outcomes.{outcome_of, settled_of}
+use Rattle.wave_scheduler.proofs.TriesLemmas.{waves_start_lem}
+use Rattle.wave_scheduler.proofs.CrewsLemmas.{all_follow}
+use Rattle.wave_scheduler.proofs.settling.settle_judged.Goals as goal
+
+pub try_all-requires-clause-rows : goal.try_all-requires-clause-rows
+try_all-requires-clause-rows g c = λ κs alive. rw c.as_slice.ensures.value c.in_ok-plan.ensures.rows
+
+pub try_all-requires-clause-tried : goal.try_all-requires-clause-tried
+try_all-requires-clause-tried g c = λ κs alive.
+    let (forced, are) = c.requires in
+    waves_start_lem c.args.program.now forced c.args.budget c.args.verdicts.now
+    (settled_of c.in_ok-plan.plan.settled) are c.in_ok-plan.ensures.starts
+
+pub tell_dependents-requires-clause-count : goal.tell_dependents-requires-clause-count
+tell_dependents-requires-clause-count g c =
+    sym (length-map c.try_all.new.settled.verdicts outcome_of) ∙ c.in_ok-try_all.ensures.count
+
+pub returns : goal.returns
+returns g c =
+    all_follow c.args.program.now c.args.budget c.args.verdicts.now c.in_ok-plan.plan.rows.items
+    (settled_of c.try_all.new.settled) (settled_of c.tell_dependents.new.settled) c.requires
+    c.in_ok-plan.ensures.rows (rw c.as_slice.ensures.value at c.in_ok-try_all.ensures)
+    c.in_ok-tell_dependents.ensures

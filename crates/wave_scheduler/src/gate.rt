@@ -1,0 +1,80 @@
+//! What workers ask before a class, and by what they settle it.
+
+ghost use Rattle.std.specs.Prelude.{IfOk};
+ghost use Rattle.machine.specs.Linked.{program_of};
+ghost use Rattle.evaluator.specs.Regions.{environment_of};
+ghost use Rattle.evaluator.specs.Outcomes.{IsOutcome, IsUnbarred};
+
+use evaluator::outcome::Outcome;
+use evaluator::regions::Regions;
+use evaluator::settling::settle;
+use program::Program;
+use std::alloc::{AllocError, Global};
+
+/// Asked by each worker before and after each class that it settles. `who` is the worker, from 0, and `job` the number
+/// of the class.
+pub trait Gate: Sync {
+    /// Whether a worker may begin a class, asked for the `turn`th time, from 0.
+    fn ready(&self, who: u32, job: u32, turn: u32) -> bool;
+
+    /// Settles a class, as the evaluator does.
+    ///
+    /// # Errors
+    /// `AllocError` where memory is refused.
+    fn settle(
+        &self,
+        alloc: Global,
+        program: &Program,
+        regions: &Regions,
+        class: u32,
+        budget: u64,
+    ) -> Result<Outcome, AllocError>
+        requires { IsUnbarred (program_of program.now) (environment_of regions.now) class budget }
+        ensures { IfOk result (λ outcome. IsOutcome (program_of program.now) (environment_of regions.now) class budget
+            outcome) }
+    {
+        settle(alloc, program, regions, class, budget)
+    }
+
+    /// The class is settled. A `who` as high as the number of workers is the caller: no worker settled it.
+    fn done(&self, who: u32, job: u32);
+}
+
+/// Always ready.
+#[derive(Clone, Copy)]
+pub struct Open;
+
+impl Gate for Open {
+    fn ready(&self, _who: u32, _job: u32, _turn: u32) -> bool {
+        true
+    }
+
+    fn done(&self, _who: u32, _job: u32) {}
+}
+
+/// How often a gate is asked at most.
+const TURNS: u32 = 1_000_000;
+
+/// Asks until the gate is ready.
+pub(crate) fn ask<G: Gate>(gate: &G, who: u32, job: u32) {
+    for turn in 0..TURNS {
+        if gate.ready(who, job, turn) {
+            return;
+        }
+    }
+}
+
+/// Who settles at a gate what no worker did.
+#[derive(Drop)]
+pub(crate) struct Collector<'a, G: Gate> {
+    pub gate: &'a G,
+    /// The number of workers.
+    pub who: u32,
+}
+
+impl<'a, G: Gate> Collector<'a, G> {
+    /// Says that it has settled a class.
+    pub(crate) fn done(&self, class: u32) {
+        self.gate.done(self.who, class);
+    }
+}
