@@ -4,6 +4,10 @@
 //! answer that is wanted. A line that begins with `## ` is a remark. All other lines give what the questions of the
 //! case are about, and those before the first heading what all questions of the file are about. A file begins with
 //! one of these two.
+//!
+//! `answer` names what `R: Sync` says: of a trait's method it is known to an impl only where a clause has it.
+
+ghost use Rattle.std.specs.Thread.{IsSync};
 
 use crate::repeated::repeated;
 use std::alloc::{AllocError, Global};
@@ -20,7 +24,8 @@ pub trait Subject {
         alloc: Global,
         given: &str,
         asked: &str,
-    ) -> Result<String, AllocError>;
+    ) -> Result<String, AllocError>
+        requires { IsSync R.row };
 }
 
 /// How many questions there were, and how many had another answer than is wanted.
