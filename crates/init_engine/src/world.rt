@@ -352,11 +352,10 @@ fn run_top(
     ensures thread { frames.new.thread ≡ frames.old.thread }
 {
     let by = actor_of(frames);
-    let Some(segment) = frames.segment.take() else {
+    let Some(segment) = &mut frames.segment else {
         return Ok(0);
     };
-    let (left, count) = run_segment(alloc, program, table, by, segment, shared, most)?;
-    frames.segment = Some(left);
+    let count = run_segment(alloc, program, table, by, segment, shared, most)?;
     Ok(count)
 }
 
