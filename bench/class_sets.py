@@ -517,8 +517,8 @@ def logging(name):
 
 
 def service(count):
-    """Like a service: of twenty classes, one has tables of routes, four are enums, six have constants that rest on those
-    of earlier classes, one prints, and eight have no initializer."""
+    """Like a service: of twenty classes, one has tables of routes, four are enums, six have constants that rest on
+    those of earlier classes, one prints, and eight have no initializer."""
     files = []
     for number in range(count):
         name = "org/example/service/C%05d" % number
