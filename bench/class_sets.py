@@ -106,6 +106,26 @@ def references(pool, tag, owner, names, count):
         pool.add_again(entry)
 
 
+def declaring(number):
+    """The members of an interface that declares the method of this number."""
+    def members(pool):
+        return [], [method(pool, 0x401, "m%d" % number, "()V")]
+    return members
+
+
+def naming(name, number=0):
+    """The members of a class that names the method of this number of a class."""
+    def members(pool):
+        references(pool, 10, name, ["m%d" % number], 1)
+        return [], []
+    return members
+
+
+def naming_next(number, count, methods):
+    """The same of the class of a number, which names one of so many methods of the next class."""
+    return naming("C%d" % ((number + 1) % count), number * 7919 % methods)
+
+
 def many_defaults(count):
     """An interface below so many others, all with the same default method, and ten times as many equal references."""
     tops = ["I%d" % number for number in range(count)]
@@ -188,11 +208,6 @@ def below_interfaces(count):
     """A class below so many interfaces, with a reference to the method that each of them declares."""
     tops = ["I%d" % number for number in range(count)]
 
-    def declaring(number):
-        def members(pool):
-            return [], [method(pool, 0x401, "m%d" % number, "()V")]
-        return members
-
     def below(pool):
         references(pool, 10, "Main", ["m%d" % number for number in range(count)], count)
         return [], []
@@ -203,10 +218,6 @@ def below_interfaces(count):
 
 def bare_chain(count):
     """Abstract interfaces each below the one before, each with a method of its own."""
-    def declaring(number):
-        def members(pool):
-            return [], [method(pool, 0x401, "m%d" % number, "()V")]
-        return members
     return [class_file("I%d" % number, OBJECT, ["I%d" % (number - 1)] if number else (), 0x601, declaring(number))
             for number in range(count)]
 
@@ -214,12 +225,6 @@ def bare_chain(count):
 def many_below(count):
     """So many classes below the last of a chain of as many interfaces; a reference to the first's method names each."""
     top = "I%d" % (count - 1)
-
-    def naming(name):
-        def members(pool):
-            references(pool, 10, name, ["m0"], 1)
-            return [], []
-        return members
     return bare_chain(count) + [class_file("C%d" % number, OBJECT, [top], members=naming("C%d" % number))
                                 for number in range(count)]
 
@@ -227,13 +232,8 @@ def many_below(count):
 def own_methods_below(count):
     """The same, where each class is named by a reference of another one to a method of an interface of its own."""
     top = "I%d" % (count - 1)
-
-    def naming(number):
-        def members(pool):
-            references(pool, 10, "C%d" % ((number + 1) % count), ["m%d" % (number * 7919 % count)], 1)
-            return [], []
-        return members
-    below = [class_file("C%d" % number, OBJECT, [top], members=naming(number)) for number in range(count)]
+    below = [class_file("C%d" % number, OBJECT, [top], members=naming_next(number, count, count))
+             for number in range(count)]
     return bare_chain(count) + below
 
 
@@ -241,54 +241,27 @@ def two_chains_below(count):
     """The same below two chains by turns, half as long, whose interfaces declare the same methods."""
     half = count // 2
 
-    def declaring(number):
-        def members(pool):
-            return [], [method(pool, 0x401, "m%d" % number, "()V")]
-        return members
-
-    def naming(number):
-        def members(pool):
-            references(pool, 10, "C%d" % ((number + 1) % count), ["m%d" % (number * 7919 % half)], 1)
-            return [], []
-        return members
-
     def interface(side, number):
         above = ["%s%d" % (side, number - 1)] if number else ()
         return class_file("%s%d" % (side, number), OBJECT, above, 0x601, declaring(number))
     chains = [interface(side, number) for side in "IJ" for number in range(half)]
     tops = ["I%d" % (half - 1), "J%d" % (half - 1)]
-    return chains + [class_file("C%d" % number, OBJECT, tops if number % 2 else tops[::-1], members=naming(number))
-                     for number in range(count)]
+    return chains + [class_file("C%d" % number, OBJECT, tops if number % 2 else tops[::-1],
+                                members=naming_next(number, count, half)) for number in range(count)]
 
 
 def wide_below(count):
     """An interface below as many others with a method each, and as many classes below it, as `own_methods_below`."""
     tops = ["I%d" % number for number in range(count)]
-
-    def declaring(number):
-        def members(pool):
-            return [], [method(pool, 0x401, "m%d" % number, "()V")]
-        return members
-
-    def naming(number):
-        def members(pool):
-            references(pool, 10, "C%d" % ((number + 1) % count), ["m%d" % (number * 7919 % count)], 1)
-            return [], []
-        return members
     return ([class_file(top, OBJECT, (), 0x601, declaring(number)) for number, top in enumerate(tops)]
             + [class_file("Low", OBJECT, tops, 0x601)]
-            + [class_file("C%d" % number, OBJECT, ["Low"], members=naming(number)) for number in range(count)])
+            + [class_file("C%d" % number, OBJECT, ["Low"], members=naming_next(number, count, count))
+               for number in range(count)])
 
 
 def conflicts_below(count):
     """As `many_below`, where each class has besides an interface with a default method that is the first one's."""
     top = "I%d" % (count - 1)
-
-    def naming(name):
-        def members(pool):
-            references(pool, 10, name, ["m0"], 1)
-            return [], []
-        return members
 
     def other(pool):
         return [], [method(pool, 0x1, "m0", "()V", b"\xb1")]
@@ -517,8 +490,8 @@ def logging(name):
 
 
 def service(count):
-    """Like a service: of twenty classes, one has tables of routes, four are enums, six have constants that rest on those
-    of earlier classes, one prints, and eight have no initializer."""
+    """Like a service: of twenty classes, one has tables of routes, four are enums, six have constants that rest on
+    those of earlier classes, one prints, and eight have no initializer."""
     files = []
     for number in range(count):
         name = "org/example/service/C%05d" % number

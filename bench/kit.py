@@ -1,4 +1,4 @@
-"""What scripts here have in common about the kit that `rt` is of, and about edits."""
+"""What scripts here have in common about the kit that `rt` is of, about edits, and about bench/loops."""
 import glob
 import importlib.machinery
 import importlib.util
@@ -6,6 +6,11 @@ import os
 import subprocess
 
 ROOT = os.path.dirname(os.path.dirname(os.path.realpath(__file__)))
+
+# The loops, and the further class files of one.
+LOOPS = ("Sum", "Statics", "Mixed", "Longs", "Conversions", "Switches", "Arrays", "Fields", "Calls", "VirtualCalls",
+         "InterfaceCalls", "Objects", "Exceptions", "Prints", "Interpreter", "Sort", "Sieve", "Matrix", "Fib")
+MORE_FILES = {"InterfaceCalls": ["InterfaceCallsStep"]}
 
 
 def rt():
