@@ -1,6 +1,6 @@
 use Rattle.machine.specs.Linked.{program_of}
 use Rattle.init_engine.proofs.SliceLemmas.{runs_ahead}
-use Rattle.init_engine.proofs.rounds.World.run_alone.Goals as goal
+use Rattle.init_engine.proofs.world.World.run_alone.Goals as goal
 
 pub returns-clause-ahead : goal.returns-clause-ahead
 returns-clause-ahead c =
