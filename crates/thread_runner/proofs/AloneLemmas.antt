@@ -1,5 +1,6 @@
 -- A thread goes on alone in the world of a history.
-use Rattle.std.proofs.Common.{◌≡◌, ℕ, ◌+◌, ◌-◌, ◌<◌, ◌≤◌, ◌++◌, List, refl, sym, ap, subst, ◌∙◌, arith, length, replicate}
+use Rattle.std.proofs.Common.{◌≡◌, ℕ, ◌+◌, ◌-◌, ◌<◌, ◌≤◌, ◌++◌, List, refl, sym, ap, subst, ◌∙◌, arith, length}
+use Rattle.std.proofs.Common.{replicate}
 use Rattle.vm_state.specs.declared.text.Line.{Line}
 use Rattle.semantics.specs.Worlds.{World}
 use Rattle.program.specs.Tables.{Tables}

@@ -170,8 +170,8 @@ impl<O: Origin> Book<O> {
         self.history.room()
     }
 
-    /// Runs one thread on in the world itself, as long as it has a step, there were fewer than so many, and they printed
-    /// fewer than so many bytes. It answers how many there were.
+    /// Runs one thread on in the world itself, as long as it has a step, there were fewer than so many, and they
+    /// printed fewer than so many bytes. It answers how many there were.
     ///
     /// # Errors
     /// `AllocError` where memory is refused.

@@ -220,8 +220,8 @@ impl<O: Origin> History<O> {
         self.limit.saturating_sub(self.steps)
     }
 
-    /// Runs one thread on in the world itself, as long as it has a step, there were fewer than so many, and they printed
-    /// fewer than so many bytes. It answers how many there were.
+    /// Runs one thread on in the world itself, as long as it has a step, there were fewer than so many, and they
+    /// printed fewer than so many bytes. It answers how many there were.
     ///
     /// # Errors
     /// `AllocError` where memory is refused.

@@ -1,6 +1,5 @@
-use Rattle.std.proofs.Common.{◌≡◌, ap, subst, ◌∙◌}
+use Rattle.std.proofs.Common.{ap, ◌∙◌}
 use Rattle.thread_runner.specs.Kept.{Pages}
-use Rattle.thread_runner.specs.Sendings.{sent_of}
 use Rattle.thread_runner.proofs.AloneLemmas.{place_on, sent_as_before}
 use Rattle.thread_runner.proofs.book.Book.run_on.Goals as goal
 

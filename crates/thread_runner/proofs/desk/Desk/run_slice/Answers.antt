@@ -27,5 +27,5 @@ returns-in-Err-clause-memory g c =
 
 pub returns-in-Ok-clause-room : goal.returns-in-Ok-clause-room
 returns-in-Ok-clause-room g c =
-    room_on c.args.self.book.past c.in-Ok.book.past c.send-sent.new.self.book.past c.args.thread c.in-Ok.made c.args.most
-    c.in-Ok.ensures.on c.send-sent.ensures.book (omega (arith, c.in-Ok.ensures.most)) c.requires.room
+    room_on c.args.self.book.past c.in-Ok.book.past c.send-sent.new.self.book.past c.args.thread c.in-Ok.made
+    c.args.most c.in-Ok.ensures.on c.send-sent.ensures.book (omega (arith, c.in-Ok.ensures.most)) c.requires.room
