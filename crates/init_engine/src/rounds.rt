@@ -314,8 +314,9 @@ pub(crate) fn run_rounds(
 }
 
 impl World {
-    /// Runs steps of one thread alone, as long as it has one, there were fewer than so many, and they printed fewer than
-    /// so many bytes. It answers how many there were. The steps of the methods that run often enough are made and kept.
+    /// Runs steps of one thread alone, as long as it has one, there were fewer than so many, and they printed fewer
+    /// than so many bytes. It answers how many there were. The steps of the methods that run often enough are made and
+    /// kept.
     ///
     /// # Errors
     /// `AllocError` where memory is refused; the thread may have lost its frames then.

@@ -20,7 +20,8 @@ ahead-preserved c =
     let left = c.ahead.left in
     let within = c.ahead.invariant.within in
     let few = c.in_ok-count.ensures.most in
-    let walked = run_further P c.args.thread most left count first (world_of c.ahead.world) now within few c.ahead.invariant.run
+    let walked =
+    run_further P c.args.thread most left count first (world_of c.ahead.world) now within few c.ahead.invariant.run
     c.in_ok-count.ensures.run in
     let moved : step P now c.args.thread ≡ Some next = rw c.in-Moved.is at c.in_ok-step.ensures.turn in
     let inside : left - count ≤ most = omega (arith, within) in
@@ -55,13 +56,15 @@ returns-clause-run c =
           (world_of w.run_course.new.self) within w.in_ok-count.ensures.most run w.in_ok-count.ensures.run)
       | then-ahead-test+in_ok-count+else-left-eq0+in_ok-step+in-Waiting w ↦
           let none = rw w.in-Waiting.is at w.in_ok-step.ensures.turn in
-          let further = run_further P c.args.thread most left w.in_ok-count.count first now (world_of w.run_course.new.self) within
+          let further =
+          run_further P c.args.thread most left w.in_ok-count.count first now (world_of w.run_course.new.self) within
           w.in_ok-count.ensures.most run w.in_ok-count.ensures.run in
           rw (w.left-is, w.world-is)
           (subst (Run P first (replicate (most - (left - w.in_ok-count.count)) c.args.thread)) (sym none.2) further)
       | then-ahead-test+in_ok-count+else-left-eq0+in_ok-step+in-Ended w ↦
           let none = rw w.in-Ended.is at w.in_ok-step.ensures.turn in
-          let further = run_further P c.args.thread most left w.in_ok-count.count first now (world_of w.run_course.new.self) within
+          let further =
+          run_further P c.args.thread most left w.in_ok-count.count first now (world_of w.run_course.new.self) within
           w.in_ok-count.ensures.most run w.in_ok-count.ensures.run in
           rw (w.left-is, w.world-is)
           (subst (Run P first (replicate (most - (left - w.in_ok-count.count)) c.args.thread)) (sym none.2) further)
