@@ -314,15 +314,15 @@ pub one_ahead : (P : Program) (count most done : ℕ) (w now : World) (before af
 one_ahead P count most done w now before after one run recorded bounded =
     record { run = run; recorded = recorded; bounded = bounded; alone = inr one }
 
--- ---- the only thread, run ahead
+-- ---- one thread, run ahead
 
 -- a run of so many of the most left goes on for some
-pub run_further : (P : Program) (most left count : ℕ) (first now next : World) → left ≤ most → count ≤ left →
-    Run P first (replicate (most - left) 0) now → Run P now (replicate count 0) next →
-    Run P first (replicate (most - (left - count)) 0) next
-run_further P most left count first now next within few before more =
+pub run_further : (P : Program) (thread most left count : ℕ) (first now next : World) → left ≤ most → count ≤ left →
+    Run P first (replicate (most - left) thread) now → Run P now (replicate count thread) next →
+    Run P first (replicate (most - (left - count)) thread) next
+run_further P thread most left count first now next within few before more =
     let counted : most - left + count ≡ most - (left - count) = omega (arith, within, few) in
-    let joined : replicate (most - left) 0 ++ replicate count 0 ≡ replicate (most - (left - count)) 0 =
-    replicate-append-replicate (most - left) count 0 ∙ ap (λ k. replicate k 0) counted in
+    let joined : replicate (most - left) thread ++ replicate count thread ≡ replicate (most - (left - count)) thread =
+    replicate-append-replicate (most - left) count thread ∙ ap (λ k. replicate k thread) counted in
     subst (λ (s : List ℕ). Run P first s next) joined
-    (runs_join_lem P first now next (replicate (most - left) 0) (replicate count 0) before more)
+    (runs_join_lem P first now next (replicate (most - left) thread) (replicate count thread) before more)

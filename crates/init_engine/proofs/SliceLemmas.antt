@@ -1,16 +1,17 @@
 -- What the parts of a slice do, one after the other.
 use Rattle.std.proofs.Common.{◌≡◌, ℕ, zero, suc, Bool, true, false, Some, ◌+◌, ◌-◌, ◌<◌, ◌≤◌, ◌⊎◌, inl, inr, List}
 use Rattle.std.proofs.Common.{[], ◌∷◌, ◌++◌, length, slice_get, refl, sym, ap, subst, ◌∙◌, arith, append_assoc}
-use Rattle.std.proofs.Common.{append-nil, length-append}
+use Rattle.std.proofs.Common.{append-nil, length-append, replicate, None}
 use Rattle.std.proofs.Math.Seq.{get_or-append_seam}
 use Rattle.std.proofs.lemmas.Option.{slice_get-get_or}
 use Rattle.std.proofs.lemmas.List.Sums.{sum_by-append}
 use Rattle.vm_state.specs.declared.text.Line.{Line}
 use Rattle.semantics.specs.Programs.{Program}
-use Rattle.semantics.specs.Worlds.{World}
+use Rattle.semantics.specs.Worlds.{World, Run, step}
 use Rattle.init_engine.specs.Turns.{Prints, world_of}
 use Rattle.init_engine.specs.Schedules.{schedule_of}
-use Rattle.init_engine.specs.Turnings.{IsWithin, Midway, IsUnderWay, HasTurned, IsSlice, text_length}
+use Rattle.init_engine.specs.Standing.{Standing}
+use Rattle.init_engine.specs.Turnings.{IsWithin, Midway, IsUnderWay, HasTurned, IsSlice, RunsAhead, text_length}
 use Rattle.init_engine.specs.declared.world.Turn.{Turn}
 use Rattle.init_engine.specs.declared.world.Turn.TheVariants.{Moved, Waiting, Ended}
 use Rattle.init_engine.specs.declared.rounds.Place.{Place}
@@ -18,7 +19,7 @@ use Rattle.init_engine.specs.declared.rounds.Allowance.{Allowance}
 use Rattle.init_engine.specs.Rounds.{Turns, TurnsSoFar}
 use Rattle.init_engine.specs.steps.Rounds.{IsAsking, IsAskedSo, IsRunAhead}
 use Rattle.init_engine.specs.steps.Slices.{PrintsBy, Spends, AsksFurther, GoesOn, HasHalted, IsLast, IsSpent, IsPlace}
-use Rattle.init_engine.specs.steps.Slices.{steps_of}
+use Rattle.init_engine.specs.steps.Slices.{HasRunOut, steps_of}
 use Rattle.init_engine.proofs.RoundLemmas.{asked_moved, asked_waiting, asked_ended, asked_so_far, next_so_far}
 use Rattle.init_engine.proofs.RoundLemmas.{ahead_so_far, ahead_counts, turns_of_last, run_so_far}
 use Rattle.init_engine.proofs.RoundLemmas.{stop_of_turns}
@@ -378,4 +379,27 @@ is_slice steps bytes count over old new a s halted = record {
   whole = λ is. spent_whole (place_of old) (place_of new) (schedule_of old.schedule) (schedule_of new.schedule)
       old.world.printed new.world.printed (record { steps = steps; text = bytes }) a s
       (spent_of count over (place_of new) a halted is);
+}
+
+-- ---- one thread alone
+
+whole_ahead : (P : Program) (w : World) (thread steps bytes made left : ℕ) (lines : List Line)
+    → left ≡ bytes - text_length lines → HasRunOut P w thread steps made left
+    → (made ≡ steps) ⊎ (bytes ≤ text_length lines) ⊎ (step P w thread ≡ None)
+whole_ahead P w thread steps bytes made left lines counted (inl all) = inl all
+whole_ahead P w thread steps bytes made left lines counted (inr (inl none)) = inr (inl (omega (arith, counted, none)))
+whole_ahead P w thread steps bytes made left lines counted (inr (inr stands)) = inr (inr stands)
+
+pub runs_ahead : (P : Program) (thread steps bytes made left : ℕ) (old new : Standing)
+    → Run P (world_of old) (replicate made thread) (world_of new) → made ≤ steps
+    → PrintsBy made old.printed new.printed bytes left → HasRunOut P (world_of new) thread steps made left
+    → RunsAhead P thread steps bytes made old new
+runs_ahead P thread steps bytes made left old new run few prints whole = record {
+  run = run;
+  few = few;
+  printed = prints.lines;
+  lines = prints.are;
+  prompt = prints.prompt;
+  silent = prints.silent;
+  whole = whole_ahead P (world_of new) thread steps bytes made left prints.lines prints.counted whole;
 }

@@ -1,9 +1,9 @@
 -- Turns that go on by slices: where they stand between two of them, and what a slice promises.
 use Rattle.std.specs.Prelude.{◌≡◌, ℕ, ◌+◌, ◌-◌, ◌<◌, ◌≤◌, ◌^◌, ◌⊎◌, Bool, true, false, List, [], ◌∷◌, ◌++◌, length}
-use Rattle.std.specs.Prelude.{sum_by}
+use Rattle.std.specs.Prelude.{None, replicate, sum_by}
 use Rattle.vm_state.specs.declared.text.Line.{Line}
 use Rattle.semantics.specs.Programs.{Program}
-use Rattle.semantics.specs.Worlds.{World, Run}
+use Rattle.semantics.specs.Worlds.{World, Run, step}
 use Rattle.courses.specs.steps.StepTables.{Kept, KeepsSteps}
 use Rattle.program.specs.Tables.{Tables}
 use Rattle.init_engine.specs.Standing.{Standing}
@@ -70,6 +70,21 @@ pub record IsSlice (steps bytes : ℕ) (over : Bool) (old new : Midway) : Type 0
   pub prompt : IsWithin bytes printed
   pub silent : made ≡ 0 → printed ≡ []
   pub whole : over ≡ false → (made ≡ steps) ⊎ (bytes ≤ text_length printed)
+
+-- ---- one thread alone
+
+-- A thread made so many steps, at most so many as it might, and before its last line it printed fewer than so many
+-- bytes. Where it made fewer it printed that many bytes, or it has no step.
+pub record RunsAhead (P : Program) (thread steps bytes made : ℕ) (old new : Standing) : Type 0 where
+  pub run : Run P (world_of old) (replicate made thread) (world_of new)
+  pub few : made ≤ steps
+  pub printed : List Line
+  pub lines : new.printed ≡ old.printed ++ printed
+  pub prompt : IsWithin bytes printed
+  pub silent : made ≡ 0 → printed ≡ []
+  pub whole : (made ≡ steps) ⊎ (bytes ≤ text_length printed) ⊎ (step P (world_of new) thread ≡ None)
+
+-- ---- what turns did
 
 -- What the turns from a first world did: a run over the schedule leads to the world that they reached. If they are
 -- over, they are all the turns, and they ended at the limit or where no thread has a step.

@@ -10,7 +10,8 @@ ghost use Rattle.init_engine.specs.Turns.{IsTurn, world_of};
 ghost use Rattle.init_engine.specs.Schedules.{schedule_of};
 ghost use Rattle.init_engine.specs.steps.Rounds.{IsAsking, IsRunAhead};
 ghost use Rattle.init_engine.specs.steps.Slices.{AsksFurther, GoesOn, HasHalted, HasPaused, IsLast, IsPlace};
-ghost use Rattle.init_engine.specs.steps.Slices.{IsSpent, PrintsBy, Spends, steps_of, to_go_from};
+ghost use Rattle.init_engine.specs.steps.Slices.{HasRunOut, IsSpent, PrintsBy, Spends, steps_of, to_go_from};
+ghost use Rattle.init_engine.specs.Turnings.{RunsAhead};
 
 use crate::schedule::Schedule;
 use crate::world::{Turn, World};
@@ -197,34 +198,36 @@ fn round(
     Ok(place)
 }
 
-/// Runs the only thread ahead: instructions after each of which one of its frames goes on, and then one step, as
-/// long as it has one, there were fewer than so many, and they printed fewer than so many bytes. It answers how many
-/// there were.
+/// Runs one thread ahead: instructions after each of which one of its frames goes on, and then one step, as long as it
+/// has one, there were fewer than so many, and they printed fewer than so many bytes. It answers how many there were.
 fn run_alone(
     alloc: Global,
     program: &Program,
     world: &mut World,
     table: &mut StepTable,
+    thread: u32,
     text: &mut u64,
     most: u64,
 ) -> Result<u64, AllocError>
-    requires alone { length world.old.threads ≡ 1 }
+    requires thread { thread < length world.old.threads }
     requires steps { KeepsSteps program.now table.old }
     ensures steps { OnOk result (KeepsSteps program.now table.new) }
-    ensures run { IfOk result (λ done. Run (program_of program.now) (world_of world.old) (replicate done 0)
+    ensures run { IfOk result (λ done. Run (program_of program.now) (world_of world.old) (replicate done thread)
         (world_of world.new)) }
     ensures most { IfOk result (λ done. done ≤ most) }
     ensures prints { IfOk result (λ done. PrintsBy done world.old.printed world.new.printed text.old text.new) }
+    ensures whole { IfOk result (λ done. HasRunOut (program_of program.now) (world_of world.new) thread most done
+        text.new) }
     ensures threads { length world.new.threads ≡ length world.old.threads }
 {
     let mut left = most;
     'ahead: while *text > 0 {
-        let count = world.run_course(alloc, program, table, 0, left)?;
+        let count = world.run_course(alloc, program, table, thread, left)?;
         left -= count;
         if left == 0 {
             break;
         }
-        match step(alloc, program, world, text, 0)? {
+        match step(alloc, program, world, text, thread)? {
             Turn::Moved => left -= 1,
             Turn::Waiting => break,
             Turn::Ended => break,
@@ -254,7 +257,7 @@ fn run_ahead(
     if world.thread_count() != 1 {
         return Ok(0);
     }
-    let done = run_alone(alloc, program, world, table, text, most)?;
+    let done = run_alone(alloc, program, world, table, 0, text, most)?;
     if done > 0 {
         schedule.add(0, done)?;
     }
@@ -307,5 +310,34 @@ pub(crate) fn run_rounds(
             return Ok((place, false));
         }
         place = Place::begin(place.left - place.done);
+    }
+}
+
+impl World {
+    /// Runs steps of one thread alone, as long as it has one, there were fewer than so many, and they printed fewer
+    /// than so many bytes. It answers how many there were. The steps of the methods that run often enough are made and
+    /// kept.
+    ///
+    /// # Errors
+    /// `AllocError` where memory is refused; the thread may have lost its frames then.
+    pub fn run_alone(
+        &mut self,
+        alloc: Global,
+        program: &Program,
+        table: &mut StepTable,
+        thread: u32,
+        steps: u64,
+        bytes: u64,
+    ) -> Result<u64, AllocError>
+        requires thread { thread < length self.old.threads }
+        requires steps { KeepsSteps program.now table.old }
+        ensures steps { OnOk result (KeepsSteps program.now table.new) }
+        ensures ahead { IfOk result
+            (λ made. RunsAhead (program_of program.now) thread steps bytes made self.old self.new) }
+        ensures threads { length self.new.threads ≡ length self.old.threads }
+    {
+        let mut text = bytes;
+        let made = run_alone(alloc, program, self, table, thread, &mut text, steps)?;
+        Ok(made)
     }
 }

@@ -9,7 +9,7 @@ ghost use Rattle.semantics.specs.Steps.{Going as IsGoingOn};
 ghost use Rattle.machine.specs.Effects.{going};
 ghost use Rattle.init_engine.specs.Stacks.{IsStackOf, AreFrames, with_thread};
 ghost use Rattle.init_engine.specs.Threads.{thread_of, HasNumber};
-ghost use Rattle.init_engine.specs.Turns.{world_of};
+ghost use Rattle.init_engine.specs.Turns.{Goes, world_of};
 
 use crate::world::{Thread, World};
 use std::alloc::{AllocError, Global};
@@ -48,6 +48,14 @@ fn is_copy_of(number: u32, thread: &Thread, frames: &Frames) -> bool
     }
 }
 
+/// Whether a thread has not ended.
+fn goes(thread: &Thread) -> bool
+    ensures yes { result ≡ true → Goes (Some (thread_of thread.now)) }
+    ensures no { result ≡ false → ¬ Goes (Some (thread_of thread.now)) }
+{
+    matches!(thread, Thread::Going(_))
+}
+
 impl World {
     /// The frames of a thread; none where it has ended.
     ///
@@ -67,6 +75,15 @@ impl World {
         ensures no { result ≡ false → ¬ AreFrames (world_of self.now) thread frames.now }
     {
         is_copy_of(thread, &self.threads()[thread as usize], frames)
+    }
+
+    /// Whether a thread has not ended.
+    pub fn goes(&self, thread: u32) -> bool
+        requires { thread < length self.now.threads }
+        ensures yes { result ≡ true → Goes (slice_get (world_of self.now).threads thread) }
+        ensures no { result ≡ false → ¬ Goes (slice_get (world_of self.now).threads thread) }
+    {
+        goes(&self.threads()[thread as usize])
     }
 
     /// Whether a class is initialized.

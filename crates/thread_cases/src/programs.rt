@@ -24,6 +24,13 @@ pub const SPIN: &str =
 /// A main that never ends.
 pub const EVER: &str = "class Ever: main 8 8 again: goto >again";
 
+/// A main that prints 100 numbers.
+pub const LATE: &str =
+    "class Late: main 8 8 bipush 100 istore_1 again: out iload_1 println iinc 1 255 iload_1 ifne >again return";
+
+/// A main that prints for ever.
+pub const TELL: &str = "class Tell: main 8 8 again: out bipush 8 println goto >again";
+
 /// Classes of which each waits for the other where two threads begin them.
 pub const CIRCLE: &str =
     "class Ca: static final x:I, initializer 8 8 getstatic Cb.y:I putstatic Ca.x:I return

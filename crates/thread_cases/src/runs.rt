@@ -1,8 +1,9 @@
 //! Runs of threads, and how they end.
 
-use crate::programs::{EVER, M, SPIN, Tape, program_of, start_of};
+use crate::programs::{EVER, LATE, M, SPIN, TELL, Tape, program_of, start_of};
 use std::process::Abort;
 use std::test::*;
+use thread_runner::replay::replay;
 use thread_runner::{Open, RunFault, run_threads};
 
 #[test]
@@ -51,6 +52,79 @@ fn a_limit_ends_a_run(rt: HostRuntime) -> Result<(), Fail> {
         ended.journal.text(rt.alloc())?.as_slice(),
         b"0 5121\n".as_slice()
     );
+    Ok(())
+}
+
+/// How many steps a journal has.
+fn steps_in(runs: &[(u32, u64)]) -> u64 {
+    let mut sum = 0u64;
+    for run in runs {
+        sum = sum.wrapping_add(run.1);
+    }
+    sum
+}
+
+#[test]
+fn the_last_thread_goes_on_alone(rt: HostRuntime) -> Result<(), Fail> {
+    let text = format!(in rt.alloc(); "{LATE}\n{SPIN}\n{M}")?;
+    let program = program_of(rt.alloc(), &text)?;
+    let entries = ["M", "Late", "Spin"];
+    let world = start_of(rt.alloc(), &program, &entries)?;
+    let tape = Tape::new(rt.alloc(), 1_000);
+    let (answer, tape) = run_threads(&rt, rt.alloc(), &program, world, &Open, tape, 10_000);
+    let Ok(ended) = answer else {
+        return Err(Fail::new("no end"));
+    };
+    assert_eq!(rt; steps_in(ended.journal.runs()), 7 + 606 + 3_006);
+    let again = start_of(rt.alloc(), &program, &entries)?;
+    let Ok(seen) = replay(rt.alloc(), &program, again, &ended.journal) else {
+        return Err(Fail::new("no replay"));
+    };
+    assert_eq!(rt; seen.printed.len(), 101);
+    let mut printed = Vec::new(rt.alloc());
+    for line in &seen.printed {
+        printed.extend_from_slice(line.text.as_bytes())?;
+    }
+    assert_eq!(rt; tape.got.as_slice(), printed.as_slice());
+    Ok(())
+}
+
+#[test]
+fn a_limit_ends_the_last_thread(rt: HostRuntime) -> Result<(), Fail> {
+    let text = format!(in rt.alloc(); "{EVER}\n{M}")?;
+    let program = program_of(rt.alloc(), &text)?;
+    let world = start_of(rt.alloc(), &program, &["Ever", "M"])?;
+    let tape = Tape::new(rt.alloc(), 100);
+    let (answer, tape) = run_threads(&rt, rt.alloc(), &program, world, &Open, tape, 30_000);
+    let Err(RunFault::Limit(ended)) = answer else {
+        return Err(Fail::new("no limit"));
+    };
+    let steps = steps_in(ended.journal.runs());
+    assert!(rt; 30_000 <= steps && steps < 31_024);
+    assert_eq!(rt; tape.got.as_slice(), b"7\n".as_slice());
+    Ok(())
+}
+
+#[test]
+fn what_the_last_thread_prints_goes_out_while_it_runs(rt: HostRuntime) -> Result<(), Fail> {
+    let text = format!(in rt.alloc(); "{TELL}\n{M}")?;
+    let program = program_of(rt.alloc(), &text)?;
+    let world = start_of(rt.alloc(), &program, &["M", "Tell"])?;
+    let tape = Tape::new(rt.alloc(), 1_000);
+    let (answer, tape) = run_threads(
+        &rt,
+        rt.alloc(),
+        &program,
+        world,
+        &Open,
+        tape,
+        1_000_000_000_000,
+    );
+    let Err(RunFault::Device(sent)) = answer else {
+        return Err(Fail::new("no fault"));
+    };
+    assert_eq!(rt; sent, 1_000);
+    assert_eq!(rt; tape.got.len(), 1_000);
     Ok(())
 }
 

@@ -132,27 +132,32 @@ grows_by turns.Ended old new same = grows_none old new same
 
 -- ---- what a commit does
 
+-- how many steps a journal has after so many more
+pub longer : (xs ys : List (ℕ × ℕ)) (n t : ℕ) → schedule_of ys ≡ schedule_of xs ++ replicate n t
+    → length (schedule_of ys) ≡ length (schedule_of xs) + n
+longer xs ys n t is =
+    omega (arith, ap length is, length-append (schedule_of xs) (replicate n t), length-replicate n t)
+
 -- what is kept, after n more steps of t
-pub keeps : (P : Tables) (start : World) (h : Past) (v : Standing) (j : List (ℕ × ℕ)) (n t : ℕ) → IsKept P start h
-    → Run (program_of P) (world_of h.world) (replicate n t) (world_of v)
-    → schedule_of j ≡ schedule_of h.journal ++ replicate n t → AreRuns j → steps_of h < h.limit → n ≤ 1024
+pub keeps_more : (P : Tables) (start : World) (h : Past) (v : Standing) (j : List (ℕ × ℕ)) (n t : ℕ)
+    → IsKept P start h → Run (program_of P) (world_of h.world) (replicate n t) (world_of v)
+    → schedule_of j ≡ schedule_of h.journal ++ replicate n t → AreRuns j → steps_of h + n < h.limit + 1024
     → IsKept P start (record { world = v; journal = j; limit = h.limit })
-keeps P start h v j n t kept runs is apart below short = record {
+keeps_more P start h v j n t kept runs is apart room = record {
   runs = subst (λ s. Run (program_of P) start s (world_of v)) (sym is)
       (runs_join_lem (program_of P) start (world_of h.world) (world_of v) (schedule_of h.journal) (replicate n t)
       kept.runs runs);
   apart = apart;
-  room = omega (
-    arith,
-    ap length is,
-    length-append (schedule_of h.journal)
-        (replicate n t),
-    length-replicate n t,
-    below,
-    short,
-  );
+  room = omega (arith, longer h.journal j n t is, room);
   limit = kept.limit;
 }
+
+pub keeps : (P : Tables) (start : World) (h : Past) (v : Standing) (j : List (ℕ × ℕ)) (n t : ℕ) → IsKept P start h
+    → Run (program_of P) (world_of h.world) (replicate n t) (world_of v)
+    → schedule_of j ≡ schedule_of h.journal ++ replicate n t → AreRuns j → steps_of h < h.limit → n ≤ 1024
+    → IsKept P start (record { world = v; journal = j; limit = h.limit })
+keeps P start h v j n t kept runs is apart below short =
+    keeps_more P start h v j n t kept runs is apart (omega (arith, below, short))
 
 -- after a turn behind n steps there were so many
 pub turn_run : (P : Tables) (w there v : World) (t n : ℕ) (turn : Turn) → Run (program_of P) w (replicate n t) there

@@ -3,6 +3,7 @@ pub mod LocalLemmas
 pub mod StepLemmas
 pub mod WalkLemmas
 pub mod BookLemmas
+pub mod AloneLemmas
 pub mod MarkLemmas
 pub mod SendingLemmas
 pub mod AnswerLemmas

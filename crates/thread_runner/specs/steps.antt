@@ -1,4 +1,5 @@
 pub mod Ends
+pub mod Alone
 pub mod Advances
 pub mod Blanks
 pub mod Verdicts

@@ -19,10 +19,10 @@ use sinks::Sink;
 use std::alloc::Global;
 
 /// How many steps are made at most before what was printed goes out.
-const STEPS: u64 = 1_000_000;
+pub(crate) const STEPS: u64 = 1_000_000;
 
 /// After how many bytes of text these go out.
-const BYTES: u64 = 65_536;
+pub(crate) const BYTES: u64 = 65_536;
 
 /// Where a run ends that may have so many steps: after the start of its thread and 1,024 steps at a time, as commits
 /// of a loop are.

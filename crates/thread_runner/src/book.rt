@@ -8,13 +8,16 @@ ghost use Rattle.init_engine.specs.Turns.{world_of};
 ghost use Rattle.thread_runner.specs.Commits.{IsCommit, Same};
 ghost use Rattle.thread_runner.specs.Kept.{Grows, IsKept, printed_text, steps_of};
 ghost use Rattle.thread_runner.specs.Local.{AreDone, is_done};
+ghost use Rattle.courses.specs.steps.StepTables.{KeepsSteps};
 ghost use Rattle.thread_runner.specs.Sendings.{SendsOn};
+ghost use Rattle.thread_runner.specs.steps.Alone.{RunsOn};
 
 use crate::done_set::DoneSet;
 use crate::history::{Commit, History};
 use crate::origin::Origin;
 use crate::sending::{send_lines, text_length};
 use crate::stretch::Stretch;
+use courses::step_table::StepTable;
 use init_engine::World;
 use program::Program;
 use sinks::{Sink, SinkFault};
@@ -157,6 +160,55 @@ impl<O: Origin> Book<O> {
         self.lines = lines;
         self.bytes = bytes;
         if whole { Ok(()) } else { Err(SinkFault) }
+    }
+
+    /// How many steps the journal may still have.
+    pub(crate) fn room(&self) -> u64
+        ensures bounded { steps_of self.now.past + result < self.now.past.limit + 1024 }
+        ensures whole { self.now.past.limit ≤ steps_of self.now.past + result }
+    {
+        self.history.room()
+    }
+
+    /// Runs one thread on in the world itself, as long as it has a step, there were fewer than so many, and they
+    /// printed fewer than so many bytes. It answers how many there were.
+    ///
+    /// # Errors
+    /// `AllocError` where memory is refused.
+    pub(crate) fn run_on(
+        self,
+        alloc: Global,
+        program: &Program,
+        table: &mut StepTable,
+        thread: u32,
+        steps: u64,
+        bytes: u64,
+    ) -> Result<(Book<O>, u64), AllocError>
+        requires program { program.now ≡ O.program }
+        requires thread { thread < length self.past.world.threads }
+        requires keeps { KeepsSteps program.now table.old }
+        requires room { steps_of self.past + steps < self.past.limit + 1024 }
+        ensures keeps { OnOk result (KeepsSteps program.now table.new) }
+        ensures on { IfOk result (λ r. RunsOn thread self.past r.0.past r.1) }
+        ensures sent { IfOk result (λ r. r.0.sent ≡ self.sent) }
+        ensures most { IfOk result (λ r. r.1 ≤ steps) }
+    {
+        let Book {
+            history,
+            lines,
+            bytes: within,
+        } = self;
+        match history.run_on(alloc, program, table, thread, steps, bytes) {
+            Ok((history, made)) => Ok((
+                Book {
+                    history,
+                    lines,
+                    bytes: within,
+                },
+                made,
+            )),
+            Err(error) => Err(error),
+        }
     }
 }
 

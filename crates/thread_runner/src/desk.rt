@@ -68,12 +68,14 @@ pub(crate) struct Front {
 /// The book, the sink that got the first bytes of what was printed, and how the run stands.
 #[derive(Drop)]
 pub(crate) struct Desk<O: Session, S: Sink> {
-    book: Book<O>,
-    sink: S,
-    moves: u64,
-    over: bool,
-    memory: bool,
-    failed: bool,
+    pub(crate) book: Book<O>,
+    pub(crate) sink: S,
+    pub(crate) moves: u64,
+    /// The last thread goes on alone: nobody asks its gate.
+    pub(crate) open: bool,
+    pub(crate) over: bool,
+    pub(crate) memory: bool,
+    pub(crate) failed: bool,
     ghost sent: { (bs : List ℕ) → O.before ≡ Some bs
         → S.got sink ≡ Some (bs ++ take book.sent (printed_text book)) } by { Prim.hlevel props },
     ghost threads: { length book.past.world.threads ≡ length O.start.threads },
@@ -84,7 +86,7 @@ pub(crate) struct Desk<O: Session, S: Sink> {
 
 impl<O: Session, S: Sink> Desk<O, S> {
     /// Before the first step.
-    pub(crate) fn new(book: Book<O>, sink: S) -> Desk<O, S>
+    pub(crate) fn new(book: Book<O>, sink: S, open: bool) -> Desk<O, S>
         requires world { world_of book.past.world ≡ O.start }
         requires limit { book.past.limit ≡ O.limit }
         requires sent { book.sent ≡ 0 }
@@ -95,6 +97,7 @@ impl<O: Session, S: Sink> Desk<O, S> {
             book,
             sink,
             moves: 0,
+            open,
             over: false,
             memory: false,
             failed: false,
@@ -173,7 +176,7 @@ impl<O: Session, S: Sink> Desk<O, S> {
             Commit::Stale => Next::Again,
             Commit::Moved => {
                 self.moves = self.moves.wrapping_add(1);
-                if self.send() {
+                if self.send() && !self.leave_to_last() {
                     Next::Moved
                 } else {
                     Next::Leave
@@ -185,13 +188,14 @@ impl<O: Session, S: Sink> Desk<O, S> {
             }
             Commit::Ended => {
                 self.end_if_stuck(program);
+                let _left = self.leave_to_last();
                 Next::Leave
             }
         }
     }
 
     /// Sends what was printed, and answers whether it went out; else the run is over.
-    fn send(&mut self) -> bool
+    pub(crate) fn send(&mut self) -> bool
         requires { self.old.failed ≡ false }
         ensures book { self.new.book.past ≡ self.old.book.past }
         ensures all { result ≡ true → self.new.book.sent ≡ length (printed_text self.new.book) }
@@ -250,6 +254,7 @@ impl<O: Session, S: Sink> Desk<O, S> {
             book: _,
             sink,
             moves: _,
+            open: _,
             over: _,
             memory: _,
             failed: _,

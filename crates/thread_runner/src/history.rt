@@ -1,18 +1,22 @@
 //! The history of all threads, and the world that it leads to.
 
 ghost use Rattle.std.specs.Prelude.{◌≡◌, ◌+◌, ◌<◌, ◌≤◌, ◌^◌, ◌++◌, [], true, false, IfOk, OnErr, length, replicate};
-ghost use Rattle.std.specs.Prelude.{slice_get, vec_len, vec_capacity};
+ghost use Rattle.std.specs.Prelude.{slice_get, vec_len, vec_capacity, OnOk};
 ghost use Rattle.semantics.specs.Worlds.{Run};
 ghost use Rattle.machine.specs.Linked.{program_of};
 ghost use Rattle.init_engine.specs.Schedules.{schedule_of, AreRuns};
 ghost use Rattle.init_engine.specs.Turns.{Goes, world_of};
 ghost use Rattle.thread_runner.specs.Commits.{Fits, IsCommit, IsSettled, Same, there};
 ghost use Rattle.thread_runner.specs.Kept.{Grows, IsKept, steps_of};
+ghost use Rattle.courses.specs.steps.StepTables.{KeepsSteps};
 ghost use Rattle.thread_runner.specs.steps.Advances.{answered};
+ghost use Rattle.thread_runner.specs.steps.Alone.{RunsOn};
 
 use crate::advance::{advance, all_done, counted};
+use crate::last::run_in;
 use crate::origin::Origin;
 use crate::stretch::Stretch;
+use courses::step_table::StepTable;
 use init_engine::{Turn, World};
 use journal::runs::add_steps;
 use program::Program;
@@ -76,7 +80,7 @@ fn answer_of(turn: Turn, count: u64) -> Commit
 }
 
 /// Adds so many steps of a thread to runs that have room for one more, and nothing where there are none.
-fn add_some(runs: &mut Vec<(u32, u64)>, thread: u32, steps: u64)
+pub(crate) fn add_some(runs: &mut Vec<(u32, u64)>, thread: u32, steps: u64)
     requires room { vec_len runs.old < vec_capacity runs.old }
     requires runs { AreRuns runs.old.items }
     requires fits { length (schedule_of runs.old.items) + steps < 2 ^ 64 }
@@ -206,5 +210,68 @@ impl<O: Origin> History<O> {
         }
         let count = stretch.count();
         self.settle(alloc, program, thread, stretch.into_end(), count)
+    }
+
+    /// How many steps it may still have.
+    pub(crate) fn room(&self) -> u64
+        ensures bounded { steps_of self.now + result < self.now.limit + 1024 }
+        ensures whole { self.now.limit ≤ steps_of self.now + result }
+    {
+        self.limit.saturating_sub(self.steps)
+    }
+
+    /// Runs one thread on in the world itself, as long as it has a step, there were fewer than so many, and they
+    /// printed fewer than so many bytes. It answers how many there were.
+    ///
+    /// # Errors
+    /// `AllocError` where memory is refused.
+    pub(crate) fn run_on(
+        self,
+        alloc: Global,
+        program: &Program,
+        table: &mut StepTable,
+        thread: u32,
+        steps: u64,
+        bytes: u64,
+    ) -> Result<(History<O>, u64), AllocError>
+        requires program { program.now ≡ O.program }
+        requires thread { thread < length self.world.threads }
+        requires keeps { KeepsSteps program.now table.old }
+        requires room { steps_of self + steps < self.limit + 1024 }
+        ensures keeps { OnOk result (KeepsSteps program.now table.new) }
+        ensures on { IfOk result (λ r. RunsOn thread self r.0 r.1) }
+        ensures most { IfOk result (λ r. r.1 ≤ steps) }
+    {
+        let History {
+            world,
+            journal,
+            steps: before,
+            limit,
+            of: _,
+        } = self;
+        let mut world = world;
+        let mut journal = journal;
+        match run_in(
+            alloc,
+            program,
+            &mut world,
+            &mut journal,
+            table,
+            thread,
+            steps,
+            bytes,
+        ) {
+            Ok(made) => Ok((
+                History {
+                    world,
+                    journal,
+                    steps: before + made,
+                    limit,
+                    of: PhantomData,
+                },
+                made,
+            )),
+            Err(error) => Err(error),
+        }
     }
 }

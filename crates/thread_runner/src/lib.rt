@@ -9,6 +9,7 @@ mod desk;
 pub mod done_set;
 mod gate;
 mod history;
+mod last;
 pub mod laws;
 mod local_end;
 mod local_step;

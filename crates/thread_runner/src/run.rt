@@ -74,12 +74,15 @@ fn run_session<O: Session + Send + Sync, S: Sink + Send + Drop, G: Gate, R: Thre
     ensures { IsAnswer O.program O.start O.limit result.0 O.before (S.got result.1) O.failed (S.failures result.1) }
 {
     let count = world.thread_count();
-    let mut desk = Desk::<O, S>::new(Book::new(alloc, world, limit), sink);
+    let mut desk = Desk::<O, S>::new(Book::new(alloc, world, limit), sink, gate.is_open());
     let moved = Condvar::new();
     for _ in rt.forever() {
         let shared = Mutex::new(desk);
         let started = run_all(rt, alloc, program, &shared, &moved, gate, count);
-        desk = shared.into_inner();
+        desk = match shared.into_inner().go_on_alone(alloc, program, started) {
+            Ok(desk) => desk,
+            Err(sink) => return (Err(RunFault::Memory), sink),
+        };
         if let Some(answer) = desk.judge(alloc, program, started) {
             return (answer, desk.into_sink());
         }
@@ -88,7 +91,8 @@ fn run_session<O: Session + Send + Sync, S: Sink + Send + Drop, G: Gate, R: Thre
 }
 
 /// Runs each thread of a world in a thread of its own, up to a limit of steps. What is printed goes into the sink,
-/// which is given back. Where there is one thread, and nobody asks the gate, it runs by turns on the caller's.
+/// which is given back. Where there is one thread, or one alone is left, and nobody asks the gate, it runs on the
+/// caller's.
 ///
 /// # Errors
 /// `Limit` and `Stuck` with what the run came to; `Device` where the sink failed; `Memory` and `Spawn` where memory or

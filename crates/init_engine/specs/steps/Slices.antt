@@ -1,8 +1,8 @@
 -- What the parts of a slice do.
-use Rattle.std.specs.Prelude.{◌≡◌, ℕ, ◌+◌, ◌-◌, ◌≤◌, ◌⊎◌, Bool, true, false, List, [], ◌++◌, length}
+use Rattle.std.specs.Prelude.{◌≡◌, ℕ, ◌+◌, ◌-◌, ◌≤◌, ◌⊎◌, Bool, true, false, List, [], ◌++◌, None, length}
 use Rattle.vm_state.specs.declared.text.Line.{Line}
 use Rattle.semantics.specs.Programs.{Program}
-use Rattle.semantics.specs.Worlds.{World}
+use Rattle.semantics.specs.Worlds.{World, step}
 use Rattle.init_engine.specs.declared.world.Turn.{Turn}
 use Rattle.init_engine.specs.declared.world.Turn.TheVariants.{Moved, Waiting, Ended}
 use Rattle.init_engine.specs.declared.rounds.Place.{Place}
@@ -24,6 +24,10 @@ pub record PrintsBy (steps : ℕ) (before after : List Line) (had left : ℕ) : 
   pub counted : left ≡ had - text_length lines
   pub prompt : IsWithin had lines
   pub silent : steps ≡ 0 → lines ≡ []
+
+-- a thread ran ahead: it made so many steps as it might, or no more bytes may be printed, or it has no step
+abbrev pub HasRunOut : Program → World → ℕ → ℕ → ℕ → ℕ → Type 0
+HasRunOut P w thread most done left = (done ≡ most) ⊎ (left ≡ 0) ⊎ (step P w thread ≡ None)
 
 -- a place in a round of so many threads
 pub record IsPlace (count : ℕ) (p : Place) : Type 0 where

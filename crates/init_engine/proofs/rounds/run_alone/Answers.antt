@@ -1,5 +1,5 @@
-use Rattle.std.proofs.Common.{◌≡◌, ◌+◌, ◌-◌, ◌≤◌, Some, replicate, refl, arith, subst, sym, ◌∙◌}
-use Rattle.semantics.specs.Worlds.{Run, step}
+use Rattle.std.proofs.Common.{◌≡◌, ◌+◌, ◌-◌, ◌≤◌, Some, None, inl, inr, replicate, refl, arith, subst, sym, ◌∙◌}
+use Rattle.semantics.specs.Worlds.{Run, World, step}
 use Rattle.machine.specs.Linked.{program_of}
 use Rattle.init_engine.specs.Turns.{world_of}
 use Rattle.init_engine.proofs.RoundLemmas.{run_further}
@@ -20,9 +20,10 @@ ahead-preserved c =
     let left = c.ahead.left in
     let within = c.ahead.invariant.within in
     let few = c.in_ok-count.ensures.most in
-    let walked = run_further P most left count first (world_of c.ahead.world) now within few c.ahead.invariant.run
+    let walked =
+    run_further P c.args.thread most left count first (world_of c.ahead.world) now within few c.ahead.invariant.run
     c.in_ok-count.ensures.run in
-    let moved : step P now 0 ≡ Some next = rw c.in-Moved.is at c.in_ok-step.ensures.turn in
+    let moved : step P now c.args.thread ≡ Some next = rw c.in-Moved.is at c.in_ok-step.ensures.turn in
     let inside : left - count ≤ most = omega (arith, within) in
     let one : 1 ≤ left - count = omega (arith, c.if-left-eq0.false) in
     let before = quiet_further most left count c.args.text.now c.ahead.text c.args.world.now.printed
@@ -30,7 +31,7 @@ ahead-preserved c =
     c.ahead.invariant.prints in
     let further : most - (left - count - 1) ≡ most - (left - count) + 1 = omega (arith, inside, one) in
     record {
-      run = run_further P most (left - count) 1 first now next inside one walked (next, moved, refl);
+      run = run_further P c.args.thread most (left - count) 1 first now next inside one walked (next, moved, refl);
       within = omega (arith, within);
       threads = c.step.ensures.threads ∙ (c.run_course.ensures.threads ∙ c.ahead.invariant.threads);
       keeps = c.in_ok-count.ensures.steps;
@@ -51,20 +52,22 @@ returns-clause-run c =
     elim c.ahead-test.branch [
       | else-ahead-test w ↦ rw (w.left-is, w.world-is) run
       | then-ahead-test+in_ok-count+then-left-eq0 w ↦
-          rw (w.left-is, w.world-is) (run_further P most left w.in_ok-count.count first now
+          rw (w.left-is, w.world-is) (run_further P c.args.thread most left w.in_ok-count.count first now
           (world_of w.run_course.new.self) within w.in_ok-count.ensures.most run w.in_ok-count.ensures.run)
       | then-ahead-test+in_ok-count+else-left-eq0+in_ok-step+in-Waiting w ↦
           let none = rw w.in-Waiting.is at w.in_ok-step.ensures.turn in
-          let further = run_further P most left w.in_ok-count.count first now (world_of w.run_course.new.self) within
+          let further =
+          run_further P c.args.thread most left w.in_ok-count.count first now (world_of w.run_course.new.self) within
           w.in_ok-count.ensures.most run w.in_ok-count.ensures.run in
           rw (w.left-is, w.world-is)
-          (subst (Run P first (replicate (most - (left - w.in_ok-count.count)) 0)) (sym none.2) further)
+          (subst (Run P first (replicate (most - (left - w.in_ok-count.count)) c.args.thread)) (sym none.2) further)
       | then-ahead-test+in_ok-count+else-left-eq0+in_ok-step+in-Ended w ↦
           let none = rw w.in-Ended.is at w.in_ok-step.ensures.turn in
-          let further = run_further P most left w.in_ok-count.count first now (world_of w.run_course.new.self) within
+          let further =
+          run_further P c.args.thread most left w.in_ok-count.count first now (world_of w.run_course.new.self) within
           w.in_ok-count.ensures.most run w.in_ok-count.ensures.run in
           rw (w.left-is, w.world-is)
-          (subst (Run P first (replicate (most - (left - w.in_ok-count.count)) 0)) (sym none.2) further)
+          (subst (Run P first (replicate (most - (left - w.in_ok-count.count)) c.args.thread)) (sym none.2) further)
     ]
 
 pub returns-clause-prints : goal.returns-clause-prints
@@ -93,4 +96,23 @@ returns-clause-prints c =
           rw (w.left-is, w.world-is, w.text-is) (prints_no_more (most - (left - w.in_ok-count.count)) had c.ahead.text
           w.step.new.text before w.run_course.new.self.printed w.step.new.world.printed further
           (rw w.in-Ended.is at w.in_ok-step.ensures.prints))
+    ]
+
+pub returns-clause-whole : goal.returns-clause-whole
+returns-clause-whole c =
+    let P = program_of c.args.program.now in
+    let thread = c.args.thread in
+    elim c.ahead-test.branch [
+      | else-ahead-test w ↦
+          rw (w.left-is, w.world-is, w.text-is) (inr (inl (omega (arith, w.ahead-test.false))))
+      | then-ahead-test+in_ok-count+then-left-eq0 w ↦
+          rw (w.left-is, w.world-is, w.text-is) (inl (omega (arith, w.if-left-eq0.true)))
+      | then-ahead-test+in_ok-count+else-left-eq0+in_ok-step+in-Waiting w ↦
+          let none = rw w.in-Waiting.is at w.in_ok-step.ensures.turn in
+          rw (w.left-is, w.world-is, w.text-is)
+          (inr (inr (subst (λ (v : World). step P v thread ≡ None) (sym none.2) none.1)))
+      | then-ahead-test+in_ok-count+else-left-eq0+in_ok-step+in-Ended w ↦
+          let none = rw w.in-Ended.is at w.in_ok-step.ensures.turn in
+          rw (w.left-is, w.world-is, w.text-is)
+          (inr (inr (subst (λ (v : World). step P v thread ≡ None) (sym none.2) none.1)))
     ]

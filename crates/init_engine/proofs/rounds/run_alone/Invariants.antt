@@ -8,7 +8,7 @@ use Rattle.init_engine.proofs.rounds.run_alone.Given as goal
 
 abbrev pub invariant-ahead : goal.invariant-ahead
 invariant-ahead l = record {
-  run : Run (program_of l.program) (world_of l.fn.world) (replicate (l.most - l.left) 0) (world_of l.world);
+  run : Run (program_of l.program) (world_of l.fn.world) (replicate (l.most - l.left) l.thread) (world_of l.world);
   within : l.left ≤ l.most;
   threads : length l.world.threads ≡ length l.fn.world.threads;
   keeps : KeepsSteps l.program l.table;

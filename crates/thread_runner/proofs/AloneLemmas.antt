@@ -1,0 +1,52 @@
+-- A thread goes on alone in the world of a history.
+use Rattle.std.proofs.Common.{◌≡◌, ℕ, ◌+◌, ◌-◌, ◌<◌, ◌≤◌, ◌++◌, List, refl, sym, ap, subst, ◌∙◌, arith, length}
+use Rattle.std.proofs.Common.{replicate}
+use Rattle.vm_state.specs.declared.text.Line.{Line}
+use Rattle.semantics.specs.Worlds.{World}
+use Rattle.program.specs.Tables.{Tables}
+use Rattle.machine.specs.Linked.{program_of}
+use Rattle.init_engine.specs.Schedules.{schedule_of, AreRuns}
+use Rattle.init_engine.specs.Standing.{Standing}
+use Rattle.init_engine.specs.Turnings.{RunsAhead}
+use Rattle.thread_runner.specs.Kept.{Grows, IsKept, Past, steps_of}
+use Rattle.thread_runner.specs.Sendings.{IsPlace, sent_of}
+use Rattle.thread_runner.specs.steps.Alone.{RunsOn}
+use Rattle.thread_runner.proofs.BookLemmas.{keeps_more, longer}
+use Rattle.thread_runner.proofs.SendingLemmas.{place_grown, sent_stays}
+
+-- what a history keeps, after steps of a thread that ran ahead in its world
+pub kept_on : (P : Tables) (start : World) (h : Past) (v : Standing) (j : List (ℕ × ℕ)) (before t most bytes made : ℕ)
+    → (before ≡ steps_of h) × IsKept P start h → RunsAhead (program_of P) t most bytes made h.world v
+    → schedule_of j ≡ schedule_of h.journal ++ replicate made t → AreRuns j → steps_of h + most < h.limit + 1024
+    → (before + made ≡ length (schedule_of j)) × IsKept P start (record { world = v; journal = j; limit = h.limit })
+kept_on P start h v j before t most bytes made kept ahead is apart room = (
+  omega (arith, kept.0, longer h.journal j made t is),
+  keeps_more P start h v j made t kept.1 ahead.run is apart (omega (arith, ahead.few, room)),
+)
+
+pub runs_on : (P : Tables) (h : Past) (v : Standing) (j : List (ℕ × ℕ)) (t most bytes made : ℕ)
+    → RunsAhead (program_of P) t most bytes made h.world v
+    → schedule_of j ≡ schedule_of h.journal ++ replicate made t → length v.threads ≡ length h.world.threads
+    → RunsOn t h (record { world = v; journal = j; limit = h.limit }) made
+runs_on P h v j t most bytes made ahead is threads = record {
+  journal = is;
+  grows = (ahead.printed, ahead.lines);
+  threads = threads;
+  limit = refl;
+}
+
+-- a place among lines of which more are printed
+pub place_on : (old new : List Line) (i n : ℕ) → Grows old new → IsPlace old i n → IsPlace new i n
+place_on old new i n (more, grown) place = place_grown old new more i n grown place
+
+pub sent_as_before : (old new : List Line) (i n : ℕ) → Grows old new → IsPlace old i n
+    → sent_of new i n ≡ sent_of old i n
+sent_as_before old new i n (more, grown) place =
+    ap (λ (ls : List Line). sent_of ls i n) grown ∙ sent_stays old more i n place
+
+-- how many steps may still be made
+pub room_on : (old new now : Past) (t made most : ℕ) → RunsOn t old new made → now ≡ new → made ≤ most
+    → steps_of old + most < old.limit + 1024 → steps_of now + (most - made) < now.limit + 1024
+room_on old new now t made most on same few room =
+    subst (λ (h : Past). steps_of h + (most - made) < h.limit + 1024) (sym same)
+    (omega (arith, on.limit, longer old.journal new.journal made t on.journal, few, room))

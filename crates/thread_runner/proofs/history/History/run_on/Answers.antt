@@ -1,0 +1,47 @@
+use Rattle.std.proofs.Common.{◌+◌, ◌<◌, sym, subst, arith}
+use Rattle.program.specs.Tables.{Tables}
+use Rattle.machine.specs.Linked.{program_of}
+use Rattle.init_engine.specs.Turnings.{RunsAhead}
+use Rattle.thread_runner.specs.Kept.{Past, steps_of}
+use Rattle.thread_runner.specs.steps.Alone.{RunsOn}
+use Rattle.thread_runner.proofs.AloneLemmas.{kept_on, runs_on}
+use Rattle.thread_runner.proofs.history.History.run_on.Goals as goal
+
+pub run_in-requires-clause-fits : goal.run_in-requires-clause-fits
+run_in-requires-clause-fits g c =
+    let room = subst (λ (x : Past). steps_of x + c.args.steps < x.limit + 1024) (sym c.self.view_is) c.requires.room in
+    omega (arith, room, c.self.invariant.1.limit)
+
+pub invariant_of-result : goal.invariant_of-result
+invariant_of-result g c =
+    let P = g.O.Origin.program in
+    let h : Past = record {
+      world = c.self.inside.world;
+      journal = c.self.inside.journal.items;
+      limit = c.self.inside.limit;
+    } in
+    let room = subst (λ (x : Past). steps_of x + c.args.steps < x.limit + 1024) (sym c.self.view_is) c.requires.room in
+    let v = c.run_in.new.world in
+    let made = c.in-Ok.made in
+    let ahead =
+    subst (λ (Q : Tables). RunsAhead (program_of Q) c.args.thread c.args.steps c.args.bytes made h.world v)
+    c.requires.program c.in-Ok.ensures.ahead in
+    kept_on P g.O.Origin.start h v c.run_in.new.journal.items c.self.inside.steps c.args.thread c.args.steps
+    c.args.bytes made c.self.invariant ahead c.in-Ok.ensures.schedule c.in-Ok.ensures.runs room
+
+pub returns-in-Ok-clause-on : goal.returns-in-Ok-clause-on
+returns-in-Ok-clause-on g c =
+    let P = c.args.program.now in
+    let h : Past = record {
+      world = c.self.inside.world;
+      journal = c.self.inside.journal.items;
+      limit = c.self.inside.limit;
+    } in
+    let new : Past = record {
+      world = c.run_in.new.world;
+      journal = c.run_in.new.journal.items;
+      limit = c.self.inside.limit;
+    } in
+    subst (λ (x : Past). RunsOn c.args.thread x new c.in-Ok.made) c.self.view_is
+    (runs_on P h c.run_in.new.world c.run_in.new.journal.items c.args.thread c.args.steps c.args.bytes c.in-Ok.made
+    c.in-Ok.ensures.ahead c.in-Ok.ensures.schedule c.run_in.ensures.threads)

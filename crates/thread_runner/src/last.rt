@@ -1,0 +1,192 @@
+//! The last thread of a run: once all others have ended it goes on alone, on the caller's thread.
+
+ghost use Rattle.std.specs.Prelude.{◌≡◌, ◌+◌, ◌-◌, ◌<◌, ◌≤◌, ◌^◌, ◌++◌, ℕ, false, length, replicate};
+ghost use Rattle.std.specs.Prelude.{IfErr, IfOk, IfSome, OnOk};
+ghost use Rattle.machine.specs.Linked.{program_of};
+ghost use Rattle.courses.specs.steps.StepTables.{KeepsSteps};
+ghost use Rattle.init_engine.specs.Schedules.{schedule_of, AreRuns};
+ghost use Rattle.init_engine.specs.Turnings.{RunsAhead};
+ghost use Rattle.thread_runner.specs.Answers.{IsBeginning};
+ghost use Rattle.thread_runner.specs.Kept.{steps_of};
+
+use crate::alone::{BYTES, STEPS};
+use crate::desk::{Desk, Session};
+use crate::history::add_some;
+use courses::step_table::StepTable;
+use init_engine::World;
+use program::Program;
+use sinks::Sink;
+use std::alloc::{AllocError, Global};
+
+/// Runs one thread on in a world, as long as it has a step, there were fewer than so many, and they printed fewer than
+/// so many bytes, and writes them into a journal. It answers how many there were.
+///
+/// # Errors
+/// `AllocError` where memory is refused; the thread may have lost its frames then.
+pub(crate) fn run_in(
+    alloc: Global,
+    program: &Program,
+    world: &mut World,
+    journal: &mut Vec<(u32, u64)>,
+    table: &mut StepTable,
+    thread: u32,
+    steps: u64,
+    bytes: u64,
+) -> Result<u64, AllocError>
+    requires thread { thread < length world.old.threads }
+    requires keeps { KeepsSteps program.now table.old }
+    requires runs { AreRuns journal.old.items }
+    requires fits { length (schedule_of journal.old.items) + steps < 2 ^ 64 }
+    ensures keeps { OnOk result (KeepsSteps program.now table.new) }
+    ensures ahead { IfOk result
+        (λ made. RunsAhead (program_of program.now) thread steps bytes made world.old world.new) }
+    ensures runs { OnOk result (AreRuns journal.new.items) }
+    ensures schedule { IfOk result (λ made. schedule_of journal.new.items
+        ≡ schedule_of journal.old.items ++ replicate made thread) }
+    ensures threads { length world.new.threads ≡ length world.old.threads }
+{
+    journal.reserve(1)?;
+    let made = world.run_alone(alloc, program, table, thread, steps, bytes)?;
+    add_some(journal, thread, made);
+    Ok(made)
+}
+
+/// The only thread of a world that has not ended, if there is one alone.
+fn last_going(world: &World) -> Option<u32>
+    ensures { IfSome result (λ t. t < length world.now.threads) }
+{
+    let mut last = None;
+    for thread in 0..world.thread_count() {
+        if world.goes(thread) {
+            if last.is_some() {
+                return None;
+            }
+            last = Some(thread);
+        }
+    }
+    last
+}
+
+impl<O: Session, S: Sink> Desk<O, S> {
+    /// The thread that goes on alone, if nobody asks its gate and all others have ended.
+    fn last(&self) -> Option<u32>
+        ensures { IfSome result (λ t. t < length O.start.threads) }
+    {
+        if !self.open {
+            return None;
+        }
+        last_going(self.book.world())
+    }
+
+    /// Ends the run of the threads together where one alone is left, and answers whether it did.
+    pub(crate) fn leave_to_last(&mut self) -> bool
+        ensures { self.new.failed ≡ self.old.failed }
+    {
+        let left = self.last().is_some();
+        if left {
+            self.over = true;
+        }
+        left
+    }
+
+    /// Once the threads were joined: where one alone is left it goes on, and what it prints into the sink.
+    ///
+    /// # Errors
+    /// The sink, where memory is refused.
+    pub(crate) fn go_on_alone(
+        self,
+        alloc: Global,
+        program: &Program,
+        started: bool,
+    ) -> Result<Desk<O, S>, S>
+        requires { program.now ≡ O.program }
+        ensures { IfErr result (λ s. (n : ℕ) × IsBeginning O.program O.start n O.before (S.got s)) }
+    {
+        if self.failed || self.memory || !started {
+            return Ok(self);
+        }
+        match self.last() {
+            Some(thread) => self.run_last(alloc, program, thread),
+            None => Ok(self),
+        }
+    }
+
+    /// Runs one thread to its end, to the limit, or as far as the sink takes what is printed.
+    ///
+    /// # Errors
+    /// The sink, where memory is refused.
+    fn run_last(self, alloc: Global, program: &Program, thread: u32) -> Result<Desk<O, S>, S>
+        requires program { program.now ≡ O.program }
+        requires thread { thread < length O.start.threads }
+        requires failed { self.failed ≡ false }
+        ensures { IfErr result (λ s. (n : ℕ) × IsBeginning O.program O.start n O.before (S.got s)) }
+    {
+        let mut desk = self;
+        let mut table = StepTable::new(alloc);
+        let mut left = desk.book.room();
+        'slices: while left > 0 && !desk.failed {
+            match desk.run_slice(alloc, program, &mut table, thread, left) {
+                Ok((next, made)) => {
+                    desk = next;
+                    if made == 0 {
+                        return Ok(desk);
+                    }
+                    left -= made;
+                }
+                Err(sink) => return Err(sink),
+            }
+        }
+        Ok(desk)
+    }
+
+    /// A slice of the steps of a thread that goes on alone, at most so many, and what they printed into the sink. It
+    /// answers how many there were.
+    ///
+    /// # Errors
+    /// The sink, where memory is refused.
+    fn run_slice(
+        self,
+        alloc: Global,
+        program: &Program,
+        table: &mut StepTable,
+        thread: u32,
+        most: u64,
+    ) -> Result<(Desk<O, S>, u64), S>
+        requires program { program.now ≡ O.program }
+        requires thread { thread < length O.start.threads }
+        requires failed { self.failed ≡ false }
+        requires keeps { KeepsSteps program.now table.old }
+        requires room { steps_of self.book.past + most < self.book.past.limit + 1024 }
+        ensures keeps { OnOk result (KeepsSteps program.now table.new) }
+        ensures most { IfOk result (λ r. r.1 ≤ most) }
+        ensures room { IfOk result (λ r. steps_of r.0.book.past + (most - r.1) < r.0.book.past.limit + 1024) }
+        ensures memory { IfErr result (λ s. (n : ℕ) × IsBeginning O.program O.start n O.before (S.got s)) }
+    {
+        let _world = self.book.world();
+        let Desk {
+            book,
+            sink,
+            moves,
+            open,
+            over,
+            memory,
+            failed,
+        } = self;
+        match book.run_on(alloc, program, table, thread, most.min(STEPS), BYTES) {
+            Ok((book, made)) => {
+                let mut desk = Desk {
+                    book,
+                    sink,
+                    moves,
+                    open,
+                    over,
+                    memory,
+                    failed,
+                };
+                let _sent = desk.send();
+                Ok((desk, made))
+            }
+            Err(_) => Err(sink),
+        }
+    }
+}
