@@ -1,6 +1,5 @@
 -- What holds of an image that is built holds of one that is read of its text.
-use Rattle.std.proofs.Common.{◌≡◌, ◌∙◌, inl, inr, ℕ, List, Option, Some, is_some, refl, sym, ap, subst}
-use Rattle.vm_state.specs.SharedState.{Region}
+use Rattle.std.proofs.Common.{◌≡◌, ◌∙◌, inl, inr, ℕ, List, Option, is_some, sym, ap, subst}
 use Rattle.semantics.specs.Images.{Image as Start, image_start}
 use Rattle.semantics.specs.Quiet.{Environment}
 use Rattle.semantics.specs.Settling.{constant_region}

@@ -174,44 +174,9 @@ stands_there P s t ran same threads rest =
 
 -- ---- what went out where a command was refused
 
--- the text of the first lines is the first bytes of the text
-first_bytes : (count : ℕ) (lines : List Line)
-    → take (length (lines_text (take count lines))) (lines_text lines) ≡ lines_text (take count lines)
-first_bytes count lines =
-    let a = lines_text (take count lines) in
-    let b = lines_text (drop count lines) in
-    ap (λ (text : List ℕ). take (length a) text) (sym (all_lines count lines))
-    ∙ take-append-le (length a) a b (omega arith)
-    ∙ take-length a
-
-no_more : (count : ℕ) (lines : List Line) → length (lines_text (take count lines)) ≤ length (lines_text lines)
-no_more count lines =
-    omega (
-      arith,
-      sym (ap length (all_lines count lines)),
-      length-append (lines_text (take count lines)) (lines_text (drop count lines)),
-    )
-
--- lines that went out are first bytes that did
-pub lines_are_bytes : (P : Tables) (first : World) (before after : Option (List ℕ)) (fault : RunFault)
-    → IsCutShort P first before after fault → IsCutShort P first before after Device
-lines_are_bytes P first before after Memory cut =
-    let lines = cut.last.shared.printed in
-    record {
-      schedule = cut.schedule;
-      last = cut.last;
-      run = cut.run;
-      sent = (
-        length (lines_text (take cut.sent.0 lines)),
-        no_more cut.sent.0 lines,
-        subst (λ (text : List ℕ). Appends before after text) (sym (first_bytes cut.sent.0 lines)) cut.sent.2,
-      );
-    }
-lines_are_bytes P first before after Device cut = cut
-
-pub of_cut : (P : Tables) (first : World) (before after : Option (List ℕ)) (cut : RunFault)
-    → IsCutShort P first before after cut → IsOfRun cut before after
-of_cut P first before after cut is = record {
+pub of_cut : (P : Tables) (first : World) (before after : Option (List ℕ)) → IsCutShort P first before after Memory
+    → IsOfRun before after
+of_cut P first before after is = record {
   program = P;
   first = first;
   schedule = is.schedule;
@@ -220,22 +185,11 @@ of_cut P first before after cut is = record {
   sent = is.sent;
 }
 
--- what has gone out by lines has by bytes
-pub by_bytes : (cut : RunFault) (before after : Option (List ℕ)) → IsOfRun cut before after
-    → IsOfRun Device before after
-by_bytes cut before after is =
-    let short : IsCutShort is.program is.first before after cut = record {
-      schedule = is.schedule;
-      last = is.last;
-      run = is.run;
-      sent = is.sent;
-    } in
-    of_cut is.program is.first before after Device (lines_are_bytes is.program is.first before after cut short)
-
-whole_lines : (P : Tables) (first : World) (schedule : List ℕ) (last : World) (before after : Option (List ℕ))
+-- a run all of whose text has gone out
+pub of_whole : (P : Tables) (first : World) (schedule : List ℕ) (last : World) (before after : Option (List ℕ))
     → Run (program_of P) first schedule last → Appends before after (lines_text last.shared.printed)
-    → IsOfRun Memory before after
-whole_lines P first schedule last before after run sent =
+    → IsOfRun before after
+of_whole P first schedule last before after run sent =
     let lines = last.shared.printed in
     record {
       program = P;
@@ -250,16 +204,7 @@ whole_lines P first schedule last before after run sent =
       );
     }
 
--- a run all of whose text has gone out
-pub of_whole : (cut : RunFault) (P : Tables) (first : World) (schedule : List ℕ) (last : World)
-    (before after : Option (List ℕ)) → Run (program_of P) first schedule last
-    → Appends before after (lines_text last.shared.printed) → IsOfRun cut before after
-of_whole Memory P first schedule last before after run sent =
-    whole_lines P first schedule last before after run sent
-of_whole Device P first schedule last before after run sent =
-    by_bytes Memory before after (whole_lines P first schedule last before after run sent)
-
 pub of_run : (P : Tables) (first : World) (limit : ℕ) (before after : Option (List ℕ)) (ran : Ran)
-    → HasRun P first limit before after ran → IsOfRun Memory before after
+    → HasRun P first limit before after ran → IsOfRun before after
 of_run P first limit before after ran run =
-    of_whole Memory P first (schedule_of ran.schedule.items) run.last before after run.run run.sent
+    of_whole P first (schedule_of ran.schedule.items) run.last before after run.run run.sent

@@ -12,10 +12,10 @@ use Rattle.thread_runner.specs.Replays.{IsReplay}
 use Rattle.cli.specs.declared.by_threads.ImageSeen.{ImageSeen}
 use Rattle.cli.specs.declared.by_threads.Journaled.{Journaled}
 use Rattle.cli.specs.declared.fault.Refusal.{Refusal}
-use Rattle.cli.specs.declared.running.RunFault.TheVariants.{Device}
 use Rattle.cli.specs.declared.status.Status.{Status}
 use Rattle.cli.specs.Begins.{IsBegunFromImage}
-use Rattle.cli.specs.Running.{IsCutShort, lines_text}
+use Rattle.cli.specs.Refusal.{refusal_status}
+use Rattle.cli.specs.Running.{IsCutShort, cut_of, lines_text}
 use Rattle.cli.specs.Status.{replay_status, run_status}
 
 -- The journal's run leads from a world to the one that is told, whose text has gone out whole.
@@ -28,10 +28,11 @@ pub record IsJournaled (P : Tables) (first : World) (before after : Option (List
   pub status : ran.status ≡ run_status ran.threads.items rest
   pub sent : Appends before after (lines_text last.shared.printed)
 
--- what a run comes to: it is told, or the first bytes of what some run printed have gone out
+-- what a run comes to: it is told, or was cut short, where so much of what some run printed has gone out as its
+-- refusal says
 abbrev pub IsOutcome : Tables → World → Option (List ℕ) → Option (List ℕ) → Result Journaled Refusal → Type 0
 IsOutcome P first before after (Ok ran) = IsJournaled P first before after ran
-IsOutcome P first before after (Err refusal) = IsCutShort P first before after Device
+IsOutcome P first before after (Err refusal) = IsCutShort P first before after (cut_of (refusal_status refusal))
 
 -- The journal of some text, run from a start of an image of some bytes, leads to a world in which this is seen.
 pub record IsReplayed (replayed : ImageSeen) (status : Status) : Type 0 where

@@ -1,5 +1,5 @@
 -- What goes out while a world runs.
-use Rattle.std.specs.Prelude.{◌≡◌, ℕ, ◌≤◌, Bool, true, false, List, Option, Result, Ok, Err, length, take}
+use Rattle.std.specs.Prelude.{◌≡◌, ℕ, ◌≤◌, List, Option, Result, Ok, Err, length, take}
 use Rattle.std.specs.Io.KnownBytes.{Appends}
 use Rattle.std.specs.List.{flat_map}
 use Rattle.vm_state.specs.declared.text.Line.{Line}
@@ -9,11 +9,11 @@ use Rattle.machine.specs.Linked.{program_of}
 use Rattle.init_engine.specs.Rests.{IsRest}
 use Rattle.init_engine.specs.Rounds.{Turns}
 use Rattle.init_engine.specs.Schedules.{AreRuns, schedule_of}
-use Rattle.command_line.specs.declared.request.Request.{Request}
-use Rattle.command_line.specs.declared.request.Request.TheVariants.{Run}
 use Rattle.cli.specs.declared.running.Ran.{Ran}
 use Rattle.cli.specs.declared.running.RunFault.{RunFault}
 use Rattle.cli.specs.declared.running.RunFault.TheVariants.{Memory, Device}
+use Rattle.cli.specs.declared.status.Status.{Status}
+use Rattle.cli.specs.declared.status.Status.TheVariants.{Refused}
 
 -- the text of lines, one after the other
 abbrev pub lines_text : List Line → List ℕ
@@ -54,21 +54,16 @@ SendsTo before after text (Ok _) = Appends before after text
 SendsTo before after text (Err Memory) = after ≡ before
 SendsTo before after text (Err Device) = (count : ℕ) × (count ≤ length text) × Appends before after (take count text)
 
--- what a refusal leaves of a run: whole lines by turns, and first bytes by threads
-abbrev pub cut_by : Bool → RunFault
-cut_by true = Memory
-cut_by false = Device
+-- how a run was cut short that ends a command so: whole lines have gone out where it was refused, and else first bytes
+abbrev pub cut_of : Status → RunFault
+cut_of Refused = Memory
+cut_of _ = Device
 
--- so for a request: all runs but those by threads are by turns, or by a journal
-abbrev pub cut_of : Request → RunFault
-cut_of (Run words) = cut_by words.turns
-cut_of _ = Memory
-
--- so much of what some run of a program printed has gone out
-pub record IsOfRun (cut : RunFault) (before after : Option (List ℕ)) : Type 0 where
+-- the first lines of what some run of a program printed have gone out, whole
+pub record IsOfRun (before after : Option (List ℕ)) : Type 0 where
   pub program : Tables
   pub first : World
   pub schedule : List ℕ
   pub last : World
   pub run : Reaches (program_of program) first schedule last
-  pub sent : HaveGoneOut last.shared.printed before after cut
+  pub sent : HaveGoneOut last.shared.printed before after Memory

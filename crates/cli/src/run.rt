@@ -1,11 +1,10 @@
 //! One command, from its words to its exit status.
-ghost use Rattle.std.specs.Prelude.{◌≡◌, ◌≢◌, ◌≤◌, ◌⊎◌, IfErr};
+ghost use Rattle.std.specs.Prelude.{◌≡◌, ◌≢◌, ◌≤◌, ◌⊎◌};
 ghost use Rattle.init_engine.specs.Schedules.{AreRuns};
 ghost use Rattle.init_engine.specs.Turns.{world_of};
 ghost use Rattle.cli.specs.Journaled.{IsOutcome, IsReplayed};
 ghost use Rattle.cli.specs.Refusal.{refusal_status};
-ghost use Rattle.cli.specs.Running.{IsCutShort, IsOfRun, cut_by, cut_of};
-ghost use Rattle.cli.specs.declared.running.RunFault.TheVariants.{Memory, Device};
+ghost use Rattle.cli.specs.Running.{IsOfRun};
 ghost use Rattle.cli.specs.Status.{run_status};
 
 use crate::by_threads::{ImageSeen, Journaled, replayed, run_by_threads};
@@ -35,8 +34,8 @@ use std::thread::Threads;
 /// - 4: stuck; 5: the limit was reached with a thread that still has a step; 6: all threads ended,
 ///   and not all returned.
 ///
-/// With 2 nothing went to standard output, and with 1 nothing but what a run printed before memory or a thread was
-/// refused. While a run goes on it gets what is printed, and after it standard error a line for each
+/// With 2 nothing went to standard output, and with 1 nothing but whole lines that a run printed before memory or a
+/// thread was refused. While a run goes on it gets what is printed, and after it standard error a line for each
 /// thread, but none where standard output failed, which ends the run. With `report` it gets the report,
 /// and with `build` nothing: the image goes to its file. A failure of standard error is ignored.
 pub fn command<R: Threads + Wait + Sync, F: Files, W: Write + Send + Drop, E: Write>(
@@ -48,8 +47,8 @@ pub fn command<R: Threads + Wait + Sync, F: Files, W: Write + Send + Drop, E: Wr
     errors: &mut E,
 ) -> (u8, W)
     ensures range { result.0 ≤ 6 }
-    // Text that a run sent before memory or a thread was refused cannot be taken back.
-    ensures refused { result.0 ≡ 1 → (result.1 ≡ out) ⊎ IsOfRun Device (W.contents out) (W.contents result.1) }
+    // Lines that a run sent before memory or a thread was refused cannot be taken back.
+    ensures refused { result.0 ≡ 1 → (result.1 ≡ out) ⊎ IsOfRun (W.contents out) (W.contents result.1) }
     ensures words { result.0 ≡ 2 → result.1 ≡ out }
 {
     let End {
@@ -88,7 +87,7 @@ pub fn command_holding<R: Threads + Wait + Sync, F: Files, W: Write + Send + Dro
     errors: &mut E,
 ) -> End<W>
     ensures range { result.status ≤ 6 }
-    ensures refused { result.status ≡ 1 → (result.out ≡ out) ⊎ IsOfRun Device (W.contents out) (W.contents result.out) }
+    ensures refused { result.status ≡ 1 → (result.out ≡ out) ⊎ IsOfRun (W.contents out) (W.contents result.out) }
     ensures words { result.status ≡ 2 → result.out ≡ out }
 {
     let (status, held, out) = do_words(rt, alloc, words, files, out, errors);
@@ -109,7 +108,7 @@ fn do_words<R: Threads + Wait + Sync, F: Files, W: Write + Send + Drop, E: Write
     errors: &mut E,
 ) -> (Status, Held, W)
     ensures refused { result.0 ≡ Status.Refused
-        → (result.2 ≡ out) ⊎ IsOfRun Device (W.contents out) (W.contents result.2) }
+        → (result.2 ≡ out) ⊎ IsOfRun (W.contents out) (W.contents result.2) }
     ensures words { result.0 ≡ Status.Words → result.2 ≡ out }
 {
     match request_of(alloc, words) {
@@ -128,7 +127,7 @@ fn do_request<R: Threads + Wait + Sync, F: Files, W: Write + Send + Drop, E: Wri
     errors: &mut E,
 ) -> (Status, Held, W)
     ensures refused { result.0 ≡ Status.Refused
-        → (result.2 ≡ out) ⊎ IsOfRun (cut_of request.now) (W.contents out) (W.contents result.2) }
+        → (result.2 ≡ out) ⊎ IsOfRun (W.contents out) (W.contents result.2) }
     ensures words { result.0 ≢ Status.Words }
 {
     match request {
@@ -161,7 +160,7 @@ fn run_lazily<F: Files, W: Write, E: Write>(
     errors: &mut E,
 ) -> (Status, Held)
     ensures refused { result.0 ≡ Status.Refused
-        → (out.new ≡ out.old) ⊎ IsOfRun Memory (W.contents out.old) (W.contents out.new) }
+        → (out.new ≡ out.old) ⊎ IsOfRun (W.contents out.old) (W.contents out.new) }
     ensures words { result.0 ≢ Status.Words }
 {
     match lazy::begin(alloc, words, files) {
@@ -183,7 +182,7 @@ fn run_image<R: Threads + Wait + Sync, F: Files, W: Write + Send + Drop, E: Writ
     errors: &mut E,
 ) -> (Status, Held, W)
     ensures refused { result.0 ≡ Status.Refused
-        → (result.2 ≡ out) ⊎ IsOfRun (cut_by words.now.turns) (W.contents out) (W.contents result.2) }
+        → (result.2 ≡ out) ⊎ IsOfRun (W.contents out) (W.contents result.2) }
     ensures words { result.0 ≢ Status.Words }
 {
     match image_run::start(alloc, words, files) {
@@ -216,7 +215,7 @@ fn run_told<R: Threads + Wait + Sync, F: Files, W: Write + Send + Drop, E: Write
     errors: &mut E,
 ) -> (Status, W)
     ensures refused { result.0 ≡ Status.Refused
-        → IsOfRun (cut_by words.now.turns) (W.contents out) (W.contents result.1) }
+        → IsOfRun (W.contents out) (W.contents result.1) }
     ensures words { result.0 ≢ Status.Words }
 {
     let (outcome, out) = run_as_said(rt, alloc, program, world, words, out);
@@ -235,9 +234,7 @@ fn run_as_said<R: Threads + Wait + Sync, W: Write + Send + Drop>(
     words: &Run<'_>,
     mut out: W,
 ) -> (Result<Journaled, Refusal>, W)
-    ensures outcome { IsOutcome program.now (world_of world) (W.contents out) (W.contents result.1) result.0 }
-    ensures refused { IfErr result.0 (λ refusal. refusal_status refusal ≡ Status.Refused
-        → IsCutShort program.now (world_of world) (W.contents out) (W.contents result.1) (cut_by words.now.turns)) }
+    ensures { IsOutcome program.now (world_of world) (W.contents out) (W.contents result.1) result.0 }
 {
     if words.turns {
         let outcome = ran_by_turns(alloc, program, world, words.limit, &mut out);
@@ -254,9 +251,7 @@ fn ran_by_turns<W: Write>(
     limit: u64,
     out: &mut W,
 ) -> Result<Journaled, Refusal>
-    ensures outcome { IsOutcome program.now (world_of world) (W.contents out.old) (W.contents out.new) result }
-    ensures refused { IfErr result (λ refusal. refusal_status refusal ≡ Status.Refused
-        → IsCutShort program.now (world_of world) (W.contents out.old) (W.contents out.new) Memory) }
+    ensures { IsOutcome program.now (world_of world) (W.contents out.old) (W.contents out.new) result }
 {
     match run_world(alloc, program, world, limit, out) {
         Ok(ran) => Ok(journaled(ran)),
@@ -330,7 +325,7 @@ fn replay_image<F: Files, W: Write, E: Write>(
     errors: &mut E,
 ) -> (Status, Held)
     ensures refused { result.0 ≡ Status.Refused
-        → (out.new ≡ out.old) ⊎ IsOfRun Memory (W.contents out.old) (W.contents out.new) }
+        → (out.new ≡ out.old) ⊎ IsOfRun (W.contents out.old) (W.contents out.new) }
     ensures words { result.0 ≢ Status.Words }
 {
     match replayed(alloc, words, files) {
@@ -351,7 +346,7 @@ fn tell_replay<W: Write, E: Write>(
     errors: &mut E,
 ) -> Status
     requires { IsReplayed replayed.now status }
-    ensures refused { result ≡ Status.Refused → IsOfRun Memory (W.contents out.old) (W.contents out.new) }
+    ensures refused { result ≡ Status.Refused → IsOfRun (W.contents out.old) (W.contents out.new) }
     ensures words { result ≢ Status.Words }
 {
     let program = replayed.image.program();
@@ -399,7 +394,7 @@ fn run_from<W: Write, E: Write>(
     out: &mut W,
     errors: &mut E,
 ) -> Status
-    ensures refused { result ≡ Status.Refused → IsOfRun Memory (W.contents out.old) (W.contents out.new) }
+    ensures refused { result ≡ Status.Refused → IsOfRun (W.contents out.old) (W.contents out.new) }
     ensures words { result ≢ Status.Words }
 {
     match run_world(alloc, program, world, limit, out) {

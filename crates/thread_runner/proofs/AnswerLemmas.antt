@@ -22,14 +22,14 @@ use Rattle.std.proofs.lemmas.Bool.{cases_lt}
 use Rattle.std.proofs.lemmas.List.{length-map}
 use Rattle.std.proofs.lemmas.Option.{slice_get_past}
 use Rattle.init_engine.specs.Rests.{AllEnded, HasStep, IsStuck}
-use Rattle.thread_runner.specs.Answers.{HasEnded, IsAnswer, IsAtLimit, IsBeginning, IsEnd}
+use Rattle.thread_runner.specs.Answers.{HasEnded, HaveLinesGoneOut, IsAnswer, IsAtLimit, IsBeginning, IsEnd}
 use Rattle.thread_runner.specs.Kept.{Grows, IsKept, Past}
-use Rattle.thread_runner.specs.Sendings.{text_of}
+use Rattle.thread_runner.specs.Sendings.{AreOfLines, text_of}
 use Rattle.thread_runner.specs.declared.answer.Ended.{Ended}
 use Rattle.thread_runner.specs.declared.answer.RunFault.{RunFault}
 use Rattle.thread_runner.specs.declared.answer.RunFault.TheVariants.{Memory, Spawn, Device, Limit, Stuck}
 use Rattle.thread_runner.specs.steps.Verdicts.{IsVerdict}
-use Rattle.thread_runner.proofs.SendingLemmas.{Holds, holds_appends, text_stays}
+use Rattle.thread_runner.proofs.SendingLemmas.{Holds, holds_appends, lines_text, text_stays}
 
 -- the first bytes of what was printed
 pub beginning_of : (P : Tables) (start : World) (schedule : List ℕ) (s : Standing) (n : ℕ) (before got : Option (List ℕ))
@@ -52,6 +52,27 @@ beginning P start h n sent before got kept is within holds =
     beginning_of P start (schedule_of h.journal) h.world n before got kept.runs (omega (arith, is, within))
     (subst (λ k. Appends before got (take k text)) (sym is) (holds_appends before got (take sent text) holds))
 
+-- the first lines of what was printed
+lines_of : (P : Tables) (start : World) (schedule : List ℕ) (s : Standing) (n : ℕ) (before got : Option (List ℕ))
+    → Run (program_of P) start schedule (world_of s) → AreOfLines s.printed n
+    → Appends before got (take n (text_of s.printed)) → HaveLinesGoneOut P start before got
+unfolding shared_of
+lines_of P start schedule s n before got run (count, within, is) sent = record {
+  schedule = schedule;
+  last = world_of s;
+  run = run;
+  count = count;
+  within = within;
+  sent = subst (λ (t : List ℕ). Appends before got t) (lines_text s.printed count n is) sent;
+}
+
+pub lines_gone : (P : Tables) (start : World) (h : Past) (sent : ℕ) (before got : Option (List ℕ)) → IsKept P start h
+    → AreOfLines h.world.printed sent → Holds before got (take sent (text_of h.world.printed))
+    → HaveLinesGoneOut P start before got
+lines_gone P start h sent before got kept whole holds =
+    lines_of P start (schedule_of h.journal) h.world sent before got kept.runs whole
+    (holds_appends before got (take sent (text_of h.world.printed)) holds)
+
 -- all that was printed
 ended_so : (P : Tables) (start : World) (s : Standing) (e : Ended) (how : World → Type 0) (before got : Option (List ℕ))
     → Appends before got (text_of s.printed) → IsEnd P start e (world_of s)
@@ -66,11 +87,11 @@ pub answer_of : (P : Tables) (start : World) (limit failed failures : ℕ) (sche
 answer_of P start limit failed failures schedule s (Ok e) before got run sent v =
     ended_so P start s e AllEnded before got sent v.0 v.1
 answer_of P start limit failed failures schedule s (Err Memory) before got run sent v =
-    let text = text_of s.printed in (
-      length text,
-      beginning_of P start schedule s (length text) before got run (omega arith)
-          (subst (λ (t : List ℕ). Appends before got t) (sym (take-length text)) sent),
-    )
+    let text = text_of s.printed in
+    let all : length text ≡ length (text_of (take (length s.printed) s.printed)) =
+    ap (λ (ls : List Line). length (text_of ls)) (sym (take-length s.printed)) in
+    lines_of P start schedule s (length text) before got run (length s.printed, omega arith, all)
+    (subst (λ (t : List ℕ). Appends before got t) (sym (take-length text)) sent)
 answer_of P start limit failed failures schedule s (Err Spawn) before got run sent v = absurd v
 answer_of P start limit failed failures schedule s (Err (Device n)) before got run sent v = absurd v
 answer_of P start limit failed failures schedule s (Err (Limit e)) before got run sent v =
@@ -114,6 +135,14 @@ midway P start most n t before got under within sent =
     beginning_of P start (schedule_of t.schedule) t.world n before got
     (run_so_far (program_of P) (length t.world.threads) most t.left t.asked t.done start (world_of t.world)
     (schedule_of t.schedule) under) within sent
+
+pub lines_midway : (P : Tables) (start : World) (most n : ℕ) (t : Midway) (before got : Option (List ℕ))
+    → IsUnderWay (program_of P) start most t → AreOfLines t.world.printed n
+    → Appends before got (take n (text_of t.world.printed)) → HaveLinesGoneOut P start before got
+lines_midway P start most n t before got under whole sent =
+    lines_of P start (schedule_of t.schedule) t.world n before got
+    (run_so_far (program_of P) (length t.world.threads) most t.left t.asked t.done start (world_of t.world)
+    (schedule_of t.schedule) under) whole sent
 
 none_or_some : (o : Option World) → IsSome o → o ≡ None → ⊥
 none_or_some None some none = cc

@@ -4,11 +4,11 @@ use Rattle.std.proofs.Common.{subst, ◌∙◌, arith, slice_get, take, drop, le
 use Rattle.std.proofs.Common.{append-nil, ◌⊎◌, inl, inr, get_or}
 use Rattle.std.proofs.Math.Nat.{eq-or-lt_of_le}
 use Rattle.std.proofs.Math.Seq.{take-add, take-append-add, take-length}
-use Rattle.std.proofs.lemmas.List.{drop-append-le, take-append-le}
+use Rattle.std.proofs.lemmas.List.{drop-append-le, take-append-le, take-append-drop}
 use Rattle.std.proofs.lemmas.Option.{slice_get-get_or}
 use Rattle.std.specs.Io.KnownBytes.{Appends}
 use Rattle.vm_state.specs.declared.text.Line.{Line}
-use Rattle.thread_runner.specs.Sendings.{IsPlace, SendsOn, sent_of, text_in, text_of}
+use Rattle.thread_runner.specs.Sendings.{AreOfLines, IsPlace, SendsOn, sent_of, text_in, text_of}
 
 -- ---- the text of lines
 
@@ -48,6 +48,15 @@ past_none : (ls : List Line) (i : ℕ) → length ls ≤ i → text_in (slice_ge
 past_none [] i h = refl
 past_none (l ∷ ls) zero h = absurd (omega (arith, h))
 past_none (l ∷ ls) (suc i) h = past_none ls i (omega (arith, h))
+
+-- behind all lines no byte of one has gone out
+pub place_last : (ls : List Line) (i n : ℕ) → IsPlace ls i n → ¬ (i < length ls) → n ≡ 0
+place_last ls i n place past =
+    omega (arith, place.1, ap length (past_none ls i (omega (arith, past))))
+
+-- where no byte of the next line has gone out, whole lines have
+pub lines_sent : (ls : List Line) (i n : ℕ) → IsPlace ls i n → n ≡ 0 → AreOfLines ls (sent_of ls i n)
+lines_sent ls i n place none = (i, place.0, omega (arith, none))
 
 -- behind all lines
 pub place_end : (ls : List Line) (i n : ℕ) → IsPlace ls i n → ¬ (i < length ls)
@@ -112,6 +121,15 @@ place_grown old new more i n grown place =
 pub text_stays : (xs ys : List Line) (n : ℕ) → n ≤ length (text_of xs)
     → take n (text_of (xs ++ ys)) ≡ take n (text_of xs)
 text_stays xs ys n h = ap (take n) (text_join xs ys) ∙ take-append-le n (text_of xs) (text_of ys) h
+
+-- the text of whole lines
+pub lines_text : (ls : List Line) (count n : ℕ) → n ≡ length (text_of (take count ls))
+    → take n (text_of ls) ≡ text_of (take count ls)
+lines_text ls count n is =
+    let first = take count ls in
+    ap (λ (all : List Line). take n (text_of all)) (sym (take-append-drop count ls))
+    ∙ (text_stays first (drop count ls) n (omega (arith, is))
+    ∙ (ap (λ k. take k (text_of first)) is ∙ take-length (text_of first)))
 
 -- ---- what goes out
 

@@ -25,6 +25,15 @@ pub record IsBeginning (P : Tables) (start : World) (n : ℕ) (before after : Op
   pub within : n ≤ length (text_of last.shared.printed)
   pub sent : Appends before after (take n (text_of last.shared.printed))
 
+-- the first lines of what some run printed have gone out, each of them whole
+pub record HaveLinesGoneOut (P : Tables) (start : World) (before after : Option (List ℕ)) : Type 0 where
+  pub schedule : List ℕ
+  pub last : World
+  pub run : Run (program_of P) start schedule last
+  pub count : ℕ
+  pub within : count ≤ length last.shared.printed
+  pub sent : Appends before after (text_of (take count last.shared.printed))
+
 -- how many steps the journal of an end has
 abbrev pub steps_in : Ended → ℕ
 steps_in e = length (schedule_of e.journal)
@@ -42,8 +51,8 @@ pub record HasEnded (P : Tables) (start : World) (e : Ended) (how : World → Ty
   pub sent : Appends before after (text_of last.shared.printed)
 
 abbrev pub IsFault : Tables → World → ℕ → RunFault → Option (List ℕ) → Option (List ℕ) → ℕ → ℕ → Type 0
-IsFault P start limit Memory before after failed failures = (n : ℕ) × IsBeginning P start n before after
-IsFault P start limit Spawn before after failed failures = (n : ℕ) × IsBeginning P start n before after
+IsFault P start limit Memory before after failed failures = HaveLinesGoneOut P start before after
+IsFault P start limit Spawn before after failed failures = HaveLinesGoneOut P start before after
 IsFault P start limit (Device n) before after failed failures =
     IsBeginning P start n before after × (failures ≢ failed)
 IsFault P start limit (Limit e) before after failed failures =
@@ -51,7 +60,8 @@ IsFault P start limit (Limit e) before after failed failures =
 IsFault P start limit (Stuck e) before after failed failures = HasEnded P start e (IsStuck (program_of P)) before after
 
 -- Ok: all threads have ended. Limit: the journal has as many steps as it may, and a thread has a step. Stuck: no thread
--- has a step, and one has not ended. All that was printed has gone out then, and else the first bytes of it.
+-- has a step, and one has not ended. All that was printed has gone out then. Device: the first bytes of it. Memory and
+-- Spawn: the first lines of it.
 abbrev pub IsAnswer : Tables → World → ℕ → Result Ended RunFault → Option (List ℕ) → Option (List ℕ) → ℕ → ℕ → Type 0
 IsAnswer P start limit (Ok e) before after failed failures = HasEnded P start e AllEnded before after
 IsAnswer P start limit (Err fault) before after failed failures = IsFault P start limit fault before after failed failures

@@ -34,10 +34,12 @@ Grows old new = (lines : List Line) × (new ≡ old ++ lines)
 
 -- ---- a book
 
--- a book as contracts see it: its history, and how many bytes of what was printed have gone out
+-- a book as contracts see it: its history, how many bytes of what was printed have gone out, and how many of these are
+-- of a line that has not gone out whole
 pub record Pages : Type 0 where
   pub past : Past
   pub sent : ℕ
+  pub part : ℕ
 
 -- what was printed in the world of a book
 abbrev pub printed_text : Pages → List ℕ

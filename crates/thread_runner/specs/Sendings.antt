@@ -16,6 +16,10 @@ text_in (Some l) = l.text
 abbrev pub sent_of : List Line → ℕ → ℕ → ℕ
 sent_of printed lines bytes = length (text_of (take lines printed)) + bytes
 
+-- so many bytes are those of the first lines, each of them whole
+abbrev pub AreOfLines : List Line → ℕ → Type 0
+AreOfLines printed n = (count : ℕ) × (count ≤ length printed) × (n ≡ length (text_of (take count printed)))
+
 -- there are so many lines, and so many bytes of the next
 abbrev pub IsPlace : List Line → ℕ → ℕ → Type 0
 IsPlace printed lines bytes = (lines ≤ length printed) × (bytes ≤ length (text_in (slice_get printed lines)))

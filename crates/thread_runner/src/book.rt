@@ -9,7 +9,7 @@ ghost use Rattle.thread_runner.specs.Commits.{IsCommit, Same};
 ghost use Rattle.thread_runner.specs.Kept.{Grows, IsKept, printed_text, steps_of};
 ghost use Rattle.thread_runner.specs.Local.{AreDone, is_done};
 ghost use Rattle.courses.specs.steps.StepTables.{KeepsSteps};
-ghost use Rattle.thread_runner.specs.Sendings.{SendsOn};
+ghost use Rattle.thread_runner.specs.Sendings.{AreOfLines, SendsOn};
 ghost use Rattle.thread_runner.specs.steps.Alone.{RunsOn};
 
 use crate::done_set::DoneSet;
@@ -40,7 +40,11 @@ impl<O: Origin> Model for Book<O> {
 
     ghost Value = { Pages };
 
-    ghost view = { λ b. record { past = b.history; sent = sent_of b.history.world.printed b.lines b.bytes } };
+    ghost view = { λ b. record {
+      past = b.history;
+      sent = sent_of b.history.world.printed b.lines b.bytes;
+      part = b.bytes;
+    } };
 
     ghost invariant = { λ b. IsPlace b.history.world.printed b.lines b.bytes };
 }
@@ -52,6 +56,7 @@ impl<O: Origin> Book<O> {
         requires limit { limit ≤ 2 ^ 62 }
         ensures past { result.past ≡ record { world = world; journal = []; limit = limit } }
         ensures sent { result.sent ≡ 0 }
+        ensures part { result.part ≡ 0 }
     {
         Book {
             history: History::new(alloc, world, limit),
@@ -65,6 +70,8 @@ impl<O: Origin> Book<O> {
         ensures is { result.now ≡ self.now.past.world }
         ensures kept { IsKept O.program O.start self.now.past }
         ensures sent { self.now.sent ≤ length (printed_text self.now) }
+        // Where none of the bytes that have gone out are of a line that has not gone out whole.
+        ensures lines { self.now.part ≡ 0 → AreOfLines self.now.past.world.printed self.now.sent }
     {
         self.history.world()
     }
@@ -123,6 +130,7 @@ impl<O: Origin> Book<O> {
         requires thread { thread < length self.old.past.world.threads }
         ensures answer { IfOk result (λ a. IsCommit O.program self.old.past thread stretch a self.new.past) }
         ensures sent { self.new.sent ≡ self.old.sent }
+        ensures part { self.new.part ≡ self.old.part }
         ensures within { self.old.sent ≤ length (printed_text self.old) }
         ensures grows { Grows self.old.past.world.printed self.new.past.world.printed }
         ensures threads { length self.new.past.world.threads ≡ length self.old.past.world.threads }
@@ -148,6 +156,7 @@ impl<O: Origin> Book<O> {
         ensures past { self.new.past ≡ self.old.past }
         ensures sends { SendsOn (printed_text self.old) self.old.sent self.new.sent (S.got sink.old) (S.got sink.new) }
         ensures all { OnOk result (self.new.sent ≡ length (printed_text self.old)) }
+        ensures part { OnOk result (self.new.part ≡ 0) }
         ensures failed { OnErr result (S.failures sink.new ≢ S.failures sink.old) }
         ensures well { OnOk result (S.failures sink.new ≡ S.failures sink.old) }
     {

@@ -78,6 +78,7 @@ pub(crate) struct Desk<O: Session, S: Sink> {
     pub(crate) failed: bool,
     ghost sent: { (bs : List ℕ) → O.before ≡ Some bs
         → S.got sink ≡ Some (bs ++ take book.sent (printed_text book)) } by { Prim.hlevel props },
+    ghost part: { failed ≡ false → book.part ≡ 0 },
     ghost threads: { length book.past.world.threads ≡ length O.start.threads },
     ghost limit_is: { book.past.limit ≡ O.limit },
     ghost well: { failed ≡ false → S.failures sink ≡ O.failed },
@@ -90,6 +91,7 @@ impl<O: Session, S: Sink> Desk<O, S> {
         requires world { world_of book.past.world ≡ O.start }
         requires limit { book.past.limit ≡ O.limit }
         requires sent { book.sent ≡ 0 }
+        requires part { book.part ≡ 0 }
         requires before { S.got sink ≡ O.before }
         requires failed { S.failures sink ≡ O.failed }
     {

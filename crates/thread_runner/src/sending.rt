@@ -31,6 +31,7 @@ pub(crate) fn send_lines<S: Sink>(
     ensures sends { SendsOn (text_of lines.now) (sent_of lines.now from within) (sent_of lines.now result.0 result.1)
         (S.got sink.old) (S.got sink.new) }
     ensures all { result.2 ≡ true → sent_of lines.now result.0 result.1 ≡ length (text_of lines.now) }
+    ensures part { result.2 ≡ true → result.1 ≡ 0 }
     ensures failed { result.2 ≡ false → S.failures sink.new ≢ S.failures sink.old }
     ensures well { result.2 ≡ true → S.failures sink.new ≡ S.failures sink.old }
 {

@@ -17,6 +17,7 @@ use std::thread;
 use std::thread::Threads;
 use std::time::Duration;
 use vm_state::value::Value;
+use wave_scheduler::outcome::Settled;
 use wave_scheduler::{Gate, settle_all};
 
 /// How often a wait sleeps for a millisecond at most.
@@ -89,6 +90,18 @@ impl<'a, R: Clock + Sync> Gate for Meet<'a, R> {
     }
 }
 
+/// Each of the sixty-four classes is accepted, and has added one to its number.
+fn each_is_settled<R: Abort>(rt: &R, settled: &Settled) -> Result<(), Fail> {
+    for class in 0..64u32 {
+        assert_eq!(rt; wave_of(settled, class as usize), Some(0));
+        assert_eq!(rt;
+            value_of(settled, class, 1),
+            Some(Value::Int(class as i32 + 1))
+        );
+    }
+    Ok(())
+}
+
 fn workers_meet<R: Threads + Wait + Abort + Clock + AllocGlobal + Sync>(
     rt: &R,
     workers: u32,
@@ -99,13 +112,7 @@ fn workers_meet<R: Threads + Wait + Abort + Clock + AllocGlobal + Sync>(
     let Ok(settled) = settle_all(rt, rt.alloc(), &program, verdicts, BUDGET, workers, &gate) else {
         return Err(Fail::new("not settled"));
     };
-    for class in 0..64u32 {
-        assert_eq!(rt; wave_of(&settled, class as usize), Some(0));
-        assert_eq!(rt;
-            value_of(&settled, class, 1),
-            Some(Value::Int(class as i32 + 1))
-        );
-    }
+    each_is_settled(rt, &settled)?;
     assert_eq!(rt; gate.late.load(Ordering::SeqCst), 0);
     assert_eq!(rt; gate.by_workers.load(Ordering::SeqCst), 64);
     assert_eq!(rt; gate.by_caller.load(Ordering::SeqCst), 0);
@@ -120,4 +127,57 @@ fn two_workers_meet(rt: HostRuntime) -> Result<(), Fail> {
 #[test]
 fn sixty_four_workers_meet(rt: HostRuntime) -> Result<(), Fail> {
     workers_meet(&rt, 64)
+}
+
+/// How many workers `Poor` has.
+const POOR_WORKERS: u32 = 2;
+
+/// Refuses memory to each worker.
+#[derive(Drop)]
+struct Poor {
+    by_workers: AtomicU64,
+    by_caller: AtomicU64,
+}
+
+impl Gate for Poor {
+    fn ready(&self, _who: u32, _job: u32, _turn: u32) -> bool {
+        true
+    }
+
+    fn settle(
+        &self,
+        _alloc: Global,
+        _program: &Program,
+        _regions: &Regions,
+        _class: u32,
+        _budget: u64,
+    ) -> Result<Outcome, AllocError> {
+        Err(AllocError)
+    }
+
+    fn done(&self, who: u32, _job: u32) {
+        if who < POOR_WORKERS {
+            self.by_workers.fetch_add(1, Ordering::SeqCst);
+        } else {
+            self.by_caller.fetch_add(1, Ordering::SeqCst);
+        }
+    }
+}
+
+#[test]
+fn the_caller_settles_what_no_worker_did(rt: HostRuntime) -> Result<(), Fail> {
+    let program = program_of(rt.alloc(), &sixty_four(rt.alloc())?)?;
+    let verdicts = verdicts_of(rt.alloc(), &program)?;
+    let gate = Poor {
+        by_workers: AtomicU64::new(0),
+        by_caller: AtomicU64::new(0),
+    };
+    let workers = POOR_WORKERS;
+    let Ok(settled) = settle_all(&rt, rt.alloc(), &program, verdicts, BUDGET, workers, &gate) else {
+        return Err(Fail::new("not settled"));
+    };
+    each_is_settled(&rt, &settled)?;
+    assert_eq!(rt; gate.by_workers.load(Ordering::SeqCst), 0);
+    assert_eq!(rt; gate.by_caller.load(Ordering::SeqCst), 64);
+    Ok(())
 }

@@ -1,5 +1,4 @@
 use Rattle.init_engine.specs.Turns.{world_of}
-use Rattle.cli.specs.declared.running.RunFault.TheVariants.{Memory}
 use Rattle.cli.proofs.RunningLemmas.{of_cut, of_run}
 use Rattle.cli.proofs.run.run_from.Goals as goal
 
@@ -11,4 +10,4 @@ returns-in-Ok-clause-refused g c = λ refused.
 pub returns-in-Err-Memory-clause-refused : goal.returns-in-Err-Memory-clause-refused
 returns-in-Err-Memory-clause-refused g c = λ refused.
     of_cut c.args.program.now (world_of c.args.world) (g.W.Write.contents c.args.out.now)
-    (g.W.Write.contents c.run_world.new.out) Memory (rw c.in-Err-Memory.field-0-is at c.in-Err-Memory.ensures.cut)
+    (g.W.Write.contents c.run_world.new.out) (rw c.in-Err-Memory.field-0-is at c.in-Err-Memory.ensures.cut)

@@ -8,8 +8,8 @@ use Rattle.init_engine.specs.Turnings.{HasTurned}
 use Rattle.init_engine.specs.Turns.{world_of}
 use Rattle.thread_runner.specs.Answers.{IsBeginning}
 use Rattle.thread_runner.specs.Sendings.{IsPlace, SendsOn, sent_of, text_of}
-use Rattle.thread_runner.proofs.AnswerLemmas.{answer_of, midway}
-use Rattle.thread_runner.proofs.SendingLemmas.{nothing_sent, place_grown, place_within, sent_on}
+use Rattle.thread_runner.proofs.AnswerLemmas.{answer_of, lines_midway, midway}
+use Rattle.thread_runner.proofs.SendingLemmas.{lines_sent, nothing_sent, place_grown, place_within, sent_on}
 use Rattle.thread_runner.proofs.alone.run_alone.Goals as goal
 
 pub slices-init : goal.slices-init
@@ -18,6 +18,7 @@ slices-init g c = record {
   ready = c.new-turning.ensures.ready c.args.program.now;
   place = (omega arith, omega arith);
   sent = nothing_sent (g.S.Sink.got c.args.sink.now);
+  part = refl;
   well = refl;
 }
 
@@ -25,12 +26,10 @@ pub returns-in_default : goal.returns-in_default
 returns-in_default g c =
     let kept = c.slices.invariant in
     let t = c.slices.turning in
-    let n = sent_of t.world.printed c.slices.line c.slices.within in (
-      n,
-      midway c.args.program.now (world_of c.args.world) c.most_steps-most.result n t (g.S.Sink.got c.args.sink.now)
-          (g.S.Sink.got c.slices.sink) kept.turns
-          (place_within t.world.printed c.slices.line c.slices.within kept.place) kept.sent,
-    )
+    lines_midway c.args.program.now (world_of c.args.world) c.most_steps-most.result
+    (sent_of t.world.printed c.slices.line c.slices.within) t (g.S.Sink.got c.args.sink.now)
+    (g.S.Sink.got c.slices.sink) kept.turns
+    (lines_sent t.world.printed c.slices.line c.slices.within kept.place kept.part) kept.sent
 
 pub send_lines-lines-requires : goal.send_lines-lines-requires
 send_lines-lines-requires g c =
@@ -139,5 +138,6 @@ slices-preserved g c =
       ready = c.in-Ok.ensures.ready;
       place = place;
       sent = sent;
+      part = c.send_lines-lines.ensures.part c.if-not-whole.false;
       well = c.send_lines-lines.ensures.well c.if-not-whole.false ∙ kept.well;
     }

@@ -13,6 +13,7 @@ invariant-slices g l = record {
   place : IsPlace l.turning.world.printed l.line l.within;
   sent : Appends (g.S.Sink.got l.fn.sink) (g.S.Sink.got l.sink)
       (take (sent_of l.turning.world.printed l.line l.within) (text_of l.turning.world.printed));
+  part : l.within ≡ 0;
   well : g.S.Sink.failures l.sink ≡ g.S.Sink.failures l.fn.sink;
 }
 

@@ -1,11 +1,11 @@
-use Rattle.std.proofs.Common.{refl, subst, sym}
+use Rattle.std.proofs.Common.{subst, sym}
 use Rattle.std.specs.Prelude.{IfSome}
 use Rattle.init_engine.specs.Schedules.{schedule_of}
 use Rattle.init_engine.specs.Turns.{world_of}
 use Rattle.thread_runner.specs.Kept.{IsKept}
 use Rattle.thread_runner.specs.Sendings.{text_of}
 use Rattle.thread_runner.specs.steps.Verdicts.{IsVerdict}
-use Rattle.thread_runner.proofs.AnswerLemmas.{answers, beginning, holds_all}
+use Rattle.thread_runner.proofs.AnswerLemmas.{answers, beginning, holds_all, lines_gone}
 use Rattle.thread_runner.proofs.desk.Desk.judge.Goals as goal
 
 pub returns-then-self : goal.returns-then-self
@@ -18,19 +18,15 @@ returns-then-self g c =
 
 pub returns-then-self-2 : goal.returns-then-self-2
 returns-then-self-2 g c =
-    let d = c.args.self.now in (
-      d.book.sent,
-      beginning g.O.Origin.program g.O.Origin.start d.book.past d.book.sent d.book.sent g.O.Session.before
-          (g.S.Sink.got d.sink) c.world-world.ensures.kept refl c.world-world.ensures.sent d.sent,
-    )
+    let d = c.args.self.now in
+    lines_gone g.O.Origin.program g.O.Origin.start d.book.past d.book.sent g.O.Session.before (g.S.Sink.got d.sink)
+    c.world-world.ensures.kept (c.world-world.ensures.lines (d.part c.if-self.false)) d.sent
 
 pub returns-then-not-started : goal.returns-then-not-started
 returns-then-not-started g c =
-    let d = c.args.self.now in (
-      d.book.sent,
-      beginning g.O.Origin.program g.O.Origin.start d.book.past d.book.sent d.book.sent g.O.Session.before
-          (g.S.Sink.got d.sink) c.world-world.ensures.kept refl c.world-world.ensures.sent d.sent,
-    )
+    let d = c.args.self.now in
+    lines_gone g.O.Origin.program g.O.Origin.start d.book.past d.book.sent g.O.Session.before (g.S.Sink.got d.sink)
+    c.world-world.ensures.kept (c.world-world.ensures.lines (d.part c.if-self.false)) d.sent
 
 pub returns-then-not-send : goal.returns-then-not-send
 returns-then-not-send g c =
