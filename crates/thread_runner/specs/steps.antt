@@ -2,3 +2,5 @@ pub mod Ends
 pub mod Advances
 pub mod Blanks
 pub mod Verdicts
+pub mod Asked
+pub mod Landings

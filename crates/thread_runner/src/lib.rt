@@ -4,11 +4,15 @@
 mod advance;
 mod alone;
 mod answer;
+mod asked;
 mod book;
 mod desk;
 pub mod done_set;
+mod front;
 mod gate;
 mod history;
+mod known;
+mod landing;
 pub mod laws;
 mod local_end;
 mod local_step;
@@ -19,6 +23,7 @@ pub mod running;
 mod sending;
 pub mod stretch;
 mod tools;
+mod top;
 mod walk;
 mod worker;
 
