@@ -1,13 +1,8 @@
 //! The stacks of a world's threads, one by one.
 
-ghost use Rattle.std.specs.Prelude.{◌≡◌, ◌≢◌, ◌<◌, ℕ, List, true, false, Some, IfOk, length, slice_get};
-ghost use Rattle.vm_state.specs.declared.frame.Frame.{Frame};
-ghost use Rattle.vm_state.specs.declared.initialization.Level.{Level};
+ghost use Rattle.std.specs.Prelude.{◌≡◌, ◌≢◌, ◌<◌, true, false, Some, IfOk, length};
 ghost use Rattle.vm_state.specs.declared.classes.ClassState.TheVariants.{Initialized};
-ghost use Rattle.vm_state.specs.declared.text.Line.{Line};
-ghost use Rattle.semantics.specs.Steps.{Going as IsGoingOn};
-ghost use Rattle.machine.specs.Effects.{going};
-ghost use Rattle.init_engine.specs.Stacks.{IsStackOf, AreFrames, with_thread, front_of, innermost_of};
+ghost use Rattle.init_engine.specs.Stacks.{IsStackOf, AreFrames, front_of, innermost_of};
 ghost use Rattle.init_engine.specs.Threads.{thread_of, HasNumber};
 ghost use Rattle.init_engine.specs.Turns.{world_of};
 
@@ -16,7 +11,6 @@ use std::alloc::{AllocError, Global};
 use vm_state::classes::ClassState;
 use vm_state::frame::Frame;
 use vm_state::initialization::Frames;
-use vm_state::text::Line;
 
 /// The frames of a thread; none where it has ended.
 fn copy_of(alloc: Global, number: u32, thread: &Thread) -> Result<Frames, AllocError>

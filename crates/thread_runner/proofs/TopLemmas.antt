@@ -1,10 +1,15 @@
 -- Frames that are put on callers and taken off again.
 use Rattle.std.proofs.Common.{◌≡◌, ℕ, zero, suc, ◌+◌, ◌++◌, List, [], ◌∷◌, Option, Some, None, refl, sym, ap, ◌∙◌}
-use Rattle.std.proofs.Common.{arith, length, drop, append_assoc}
+use Rattle.std.proofs.Common.{arith, length, drop, append_assoc, slice_get, slice_set}
 use Rattle.std.specs.Prelude.{reverse}
 use Rattle.std.proofs.lemmas.List.{reverse-append}
 use Rattle.vm_state.specs.declared.frame.Frame.{Frame}
 use Rattle.vm_state.specs.Segments.{callers_of, first_frame}
+use Rattle.semantics.specs.Steps.{Thread}
+use Rattle.semantics.specs.Worlds.{World}
+use Rattle.init_engine.specs.Stacks.{with_thread}
+use Rattle.init_engine.proofs.SetLemmas.{get_set, set_same}
+use Rattle.thread_runner.proofs.LocalLemmas.{set_twice}
 
 pub callers_drop : (i : ℕ) (xs : List Frame) → callers_of (drop i xs) ≡ drop (i + 1) xs
 callers_drop zero [] = refl
@@ -28,3 +33,22 @@ turns_one f xs ys =
 
 pub drops_one : (n : ℕ) (f : Frame) (xs : List Frame) → drop (n + 1) (f ∷ xs) ≡ drop n xs
 drops_one n f xs = let e : n + 1 ≡ suc n = omega arith in ap (λ k. drop k (f ∷ xs)) e
+
+-- ---- the world with another stack of a thread, and with yet another
+
+module _ (w : World) (t : ℕ) (first : Thread) (at : slice_get w.threads t ≡ Some first) where
+  -- the world with this stack
+  abbrev pub Has : World → Thread → Type 0
+  Has v a = v ≡ with_thread w t a
+
+  pub stands_now : (v : World) (a : Thread) → Has v a → slice_get v.threads t ≡ Some a
+  stands_now v a has = ap (λ (x : World). slice_get x.threads t) has ∙ get_set w.threads t first a at
+
+  pub has_next : (v u : World) (a b : Thread) → Has v a → u ≡ with_thread v t b → Has u b
+  has_next v u a b has next =
+      next ∙ (ap (λ (x : World). with_thread x t b) has
+      ∙ ap (λ (ts : List Thread). record { shared = w.shared; threads = ts }) (set_twice w.threads t a b))
+
+  pub has_back : (u : World) → Has u first → u ≡ w
+  has_back u has =
+      has ∙ sym (ap (λ (ts : List Thread). record { shared = w.shared; threads = ts }) (set_same w.threads t first at))

@@ -1,6 +1,6 @@
 //! The history of all threads, and the world that it leads to.
 
-ghost use Rattle.std.specs.Prelude.{◌≡◌, ◌+◌, ◌<◌, ◌≤◌, ◌^◌, ◌++◌, [], true, false, Some, None, IfOk, OnErr, length, replicate};
+ghost use Rattle.std.specs.Prelude.{◌≡◌, ◌+◌, ◌<◌, ◌≤◌, ◌^◌, ◌++◌, [], true, false, Some, IfOk, OnErr, length, replicate};
 ghost use Rattle.std.specs.Prelude.{vec_len, vec_capacity};
 ghost use Rattle.semantics.specs.Worlds.{Run};
 ghost use Rattle.machine.specs.Linked.{program_of};
@@ -9,7 +9,6 @@ ghost use Rattle.init_engine.specs.Turns.{world_of};
 ghost use Rattle.thread_runner.specs.Commits.{Fits, IsCommit, IsSettled, Same};
 ghost use Rattle.thread_runner.specs.Fronts.{FitsFront, IsFrontCommit};
 ghost use Rattle.thread_runner.specs.Kept.{Grows, IsKept, steps_of};
-ghost use Rattle.thread_runner.specs.declared.landing.Landing.TheVariants.{Whole};
 ghost use Rattle.thread_runner.specs.steps.Advances.{answered};
 ghost use Rattle.thread_runner.specs.steps.Landings.{MayLand, landed};
 
@@ -95,17 +94,6 @@ fn add_some(runs: &mut Vec<(u32, u64)>, thread: u32, steps: u64)
     if !add_steps(runs, thread, steps) {
         unreachable!()
     }
-}
-
-/// Where a thread lands after no step.
-fn nowhere(thread: u32) -> Landing
-    ensures { result ≡ Whole (record { thread = thread; segment = None; levels = None }) }
-{
-    Landing::Whole(Frames {
-        thread,
-        segment: None,
-        levels: None,
-    })
 }
 
 impl<O: Origin> History<O> {
@@ -267,7 +255,14 @@ impl<O: Origin> History<O> {
                 let to = Landing::Top(stretch.into_top());
                 self.settle(alloc, program, thread, to, count)
             }
-            None => self.settle(alloc, program, thread, nowhere(thread), 0),
+            None => {
+                let none = Frames {
+                    thread,
+                    segment: None,
+                    levels: None,
+                };
+                self.settle(alloc, program, thread, Landing::Whole(none), 0)
+            }
         }
     }
 }
