@@ -1,15 +1,13 @@
 -- A local instruction is the same over each set that has the class that it asks for.
 use Rattle.std.proofs.Common.{Bool, true, false, Ok, Err, if◌then◌else◌, ◌≡◌, ℕ, List, ◌∷◌, Option, Some, None, refl}
 use Rattle.std.proofs.Common.{sym, ap, subst, ◌∙◌, length, replicate}
-use Rattle.std.specs.Prelude.{IfSome, ◌&&◌, not, ◌+◌}
+use Rattle.std.specs.Prelude.{◌&&◌, not, ◌+◌}
 use Rattle.std.specs.declared.result.Result.{Result}
 use Rattle.bytecode.specs.declared.instruction.Instruction.{Instruction}
 use Rattle.hierarchy.specs.declared.member.Method.{Method as Called}
 use Rattle.hierarchy.specs.declared.member.Method.TheVariants as methods
 use Rattle.built_in.specs.declared.method.BuiltInMethod.TheVariants as members
 use Rattle.vm_state.specs.declared.frame.Frame.{Frame}
-use Rattle.vm_state.specs.declared.frame.Activity.{Activity}
-use Rattle.vm_state.specs.declared.frame.Activity.TheVariants.{Method}
 use Rattle.vm_state.specs.declared.initialization.Level.{Level}
 use Rattle.vm_state.specs.declared.value.Value.{Value}
 use Rattle.vm_state.specs.declared.value.Value.TheVariants as values
@@ -44,9 +42,9 @@ use Rattle.machine.specs.Operations.{OnObject, Refused, local_or, operation_at, 
 use Rattle.machine.specs.RowParts.{goes_on, halts, needing}
 use Rattle.vm_state.specs.declared.ends.FaultKind.TheVariants as faults
 use Rattle.machine.specs.Table.{local_row, return_row}
-use Rattle.thread_runner.specs.Local.{active_end, fetched_end, frame_end, is_done, is_local_choice, is_local_method}
+use Rattle.thread_runner.specs.Local.{fetched_end, frame_end, is_done, is_local_choice, is_local_method}
 use Rattle.thread_runner.specs.Local.{is_special, local_end, method_end, moves_on, operation_end}
-use Rattle.thread_runner.specs.steps.Asked.{asked_by, asked_by_call}
+use Rattle.thread_runner.specs.steps.Asked.{HasAsked, asked_by, asked_by_call}
 use Rattle.thread_runner.proofs.EndLemmas.{static_done}
 
 -- ---- rows that ask for no class
@@ -136,9 +134,6 @@ right_of : (a b : Bool) → (a && b) ≡ true → b ≡ true
 right_of true b h = h
 right_of false b h = absurd cc
 
-abbrev pub HasAsked : List Bool → Option ℕ → Type 0
-HasAsked more asked = IfSome asked (λ c. is_done more c ≡ true)
-
 module _ (P : Tables) (done more : List Bool) (f : Frame) (o : Outcome) (special : Bool) where
   static_by : (k : StaticCall) (b : Bool) → (if b then local_end done (enter_static P k f) else None) ≡ Some o
       → local_end done (enter_static P k f) ≡ Some o
@@ -189,22 +184,20 @@ module _ (P : Tables) (done more : List Bool) (f : Frame) (o : Outcome) where
   abbrev at_place : List Bool → ℕ → ℕ → Option Instruction → Option Outcome
   at_place d c m i = fetched_end P d (is_special i) (operation_of P c m i) f
 
-  pub frame_widens : (c m : ℕ) (i : Instruction) → f.activity ≡ Method c m → instruction_at P c m f.place ≡ Some i
-      → HasAsked more (asked_by (resolved_operation P c m i)) → frame_end P done f ≡ Some o
-      → frame_end P more f ≡ Some o
-  unfolding frame_end operation_at
-  frame_widens c m i method stands has h =
-      let before = ap (λ (a : Activity). active_end P done a f) method ∙ ap (at_place done c m) stands in
-      let after = ap (λ (a : Activity). active_end P more a f) method ∙ ap (at_place more c m) stands in
-      after ∙ or_widens P done more f o (is_special (Some i)) (local_of i) (resolved_operation P c m i) has
-      (sym before ∙ h)
+  pub method_widens : (c m : ℕ) (i : Instruction) → instruction_at P c m f.place ≡ Some i
+      → HasAsked more (asked_by (resolved_operation P c m i)) → method_end P done c m f ≡ Some o
+      → method_end P more c m f ≡ Some o
+  unfolding operation_at
+  method_widens c m i stands has h =
+      ap (at_place more c m) stands
+      ∙ or_widens P done more f o (is_special (Some i)) (local_of i) (resolved_operation P c m i) has
+      (sym (ap (at_place done c m) stands) ∙ h)
 
-  pub none_there : (c m : ℕ) → f.activity ≡ Method c m → instruction_at P c m f.place ≡ None
-      → frame_end P done f ≡ Some o → frame_end P more f ≡ Some o
-  unfolding frame_end operation_at
-  none_there c m method stands h =
-      let none : None ≡ Some o =
-      sym (ap (λ (a : Activity). active_end P done a f) method ∙ ap (at_place done c m) stands) ∙ h in absurd cc
+  pub none_widens : (c m : ℕ) → instruction_at P c m f.place ≡ None → method_end P done c m f ≡ Some o
+      → method_end P more c m f ≡ Some o
+  unfolding operation_at
+  none_widens c m stands h =
+      let none : None ≡ Some o = sym (ap (at_place done c m) stands) ∙ h in absurd cc
 
 -- ---- steps
 

@@ -174,7 +174,7 @@ counted_small turns.Waiting n h = omega (arith, h)
 counted_small turns.Ended n h = omega (arith, h)
 
 -- no step leads to the same world
-abbrev NoneLeads : World → ℕ → World → Type 0
+abbrev pub NoneLeads : World → ℕ → World → Type 0
 NoneLeads w n there = n ≡ 0 → there ≡ w
 
 pub settled : (P : Tables) (old new : Past) (t n : ℕ) (far : World) (turn : Turn)

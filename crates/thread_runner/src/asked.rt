@@ -1,13 +1,13 @@
 //! Classes that local instructions ask for.
 
-ghost use Rattle.std.specs.Prelude.{◌≡◌, List, Bool, true, Some, IfSome, OnOk};
+ghost use Rattle.std.specs.Prelude.{◌≡◌, List, Bool, Some, OnOk};
 ghost use Rattle.semantics.specs.Rows.{Outcome};
 ghost use Rattle.semantics.specs.Steps.{Thread};
 ghost use Rattle.machine.specs.Effects.{going};
 ghost use Rattle.machine.specs.Operations.{meaning};
 ghost use Rattle.thread_runner.specs.Fronts.{AreMembers};
-ghost use Rattle.thread_runner.specs.Local.{frame_end, is_done, local_step};
-ghost use Rattle.thread_runner.specs.steps.Asked.{asked_by, asked_by_call};
+ghost use Rattle.thread_runner.specs.Local.{frame_end, local_step, method_end};
+ghost use Rattle.thread_runner.specs.steps.Asked.{HasAsked, asked_by, asked_by_call};
 
 use machine::call_operation::CallOperation;
 use machine::resolved::{Resolved, resolved_operation};
@@ -47,24 +47,34 @@ fn class_of(resolved: Resolved) -> Option<u32>
     }
 }
 
+/// The class that the next instruction of a method's frame asks for, where it is a local one.
+fn asked_at(program: &Program, frame: &Frame, class: u32, method: u16) -> Option<u32>
+    ensures { (done more : List Bool) (o : Outcome) → HasAsked more result
+        → method_end program.now done class method frame.now ≡ Some o
+        → method_end program.now more class method frame.now ≡ Some o }
+{
+    let Some(instruction) = program.instruction(class, method, frame.place) else {
+        return None;
+    };
+    class_of(resolved_operation(program, class, method, instruction))
+}
+
 /// The class that the next instruction of a frame asks for, where it is a local one.
+#[tactic(auto, unfolding(crate::specs::Local::frame_end))]
 fn asked_in(program: &Program, frame: &Frame) -> Option<u32>
-    ensures { (done more : List Bool) (o : Outcome) → IfSome result (λ c. is_done more c ≡ true)
+    ensures { (done more : List Bool) (o : Outcome) → HasAsked more result
         → frame_end program.now done frame.now ≡ Some o → frame_end program.now more frame.now ≡ Some o }
 {
-    let Activity::Method { class, index } = frame.activity else {
-        return None;
-    };
-    let Some(instruction) = program.instruction(class, index, frame.place) else {
-        return None;
-    };
-    class_of(resolved_operation(program, class, index, instruction))
+    match frame.activity {
+        Activity::Start(_) => None,
+        Activity::Method { class, index } => asked_at(program, frame, class, index),
+    }
 }
 
 /// The class that the next instruction of a thread asks for, where it is a local one: it is the same step over each set
 /// that has this class.
 pub(crate) fn asked_class(program: &Program, frames: &Frames) -> Option<u32>
-    ensures { (done more : List Bool) (b : Thread) → IfSome result (λ c. is_done more c ≡ true)
+    ensures { (done more : List Bool) (b : Thread) → HasAsked more result
         → local_step program.now done (going frames.now) ≡ Some b
         → local_step program.now more (going frames.now) ≡ Some b }
 {
@@ -80,7 +90,7 @@ pub(crate) fn asked_class(program: &Program, frames: &Frames) -> Option<u32>
 /// `AllocError` where memory is refused.
 pub(crate) fn note_class(asked: &mut Vec<u32>, class: Option<u32>) -> Result<(), AllocError>
     ensures has { OnOk result ((more : List Bool) → AreMembers asked.new.items more
-        → IfSome class (λ c. is_done more c ≡ true)) }
+        → HasAsked more class) }
     ensures grows { OnOk result ((more : List Bool) → AreMembers asked.new.items more
         → AreMembers asked.old.items more) }
 {
