@@ -15,7 +15,12 @@ use Rattle.vm_state.specs.Arguments.{passed, taken}
 use Rattle.vm_state.specs.Operands.{dropped, pushed}
 use Rattle.semantics.specs.Rows.{Row, Ends, Next, Calls, Outcome, Returns}
 use Rattle.semantics.specs.Moves.{advanced, with_operands}
-use Rattle.semantics.specs.Steps.{Thread}
+use Rattle.semantics.specs.Steps.{Thread, Going}
+use Rattle.vm_state.specs.declared.frame.Segment.{Segment}
+use Rattle.vm_state.specs.declared.initialization.Frames.{Frames}
+use Rattle.vm_state.specs.Segments.{frames_in}
+use Rattle.vm_state.specs.Stacks.{levels_of}
+use Rattle.machine.specs.Effects.{going}
 use Rattle.program.specs.Tables.{Tables, implementation_at, initializer_in, instruction_at}
 use Rattle.program.specs.declared.class.Implementation.{Implementation}
 use Rattle.program.specs.declared.class.Implementation.TheVariants as implementations
@@ -43,7 +48,7 @@ use Rattle.machine.specs.RowParts.{goes_on, halts, needing}
 use Rattle.vm_state.specs.declared.ends.FaultKind.TheVariants as faults
 use Rattle.machine.specs.Table.{local_row, return_row}
 use Rattle.thread_runner.specs.Local.{fetched_end, frame_end, is_done, is_local_choice, is_local_method}
-use Rattle.thread_runner.specs.Local.{is_special, local_end, method_end, moves_on, operation_end}
+use Rattle.thread_runner.specs.Local.{is_special, local_end, local_step, method_end, moves_on, operation_end}
 use Rattle.thread_runner.specs.steps.Asked.{HasAsked, asked_by, asked_by_call}
 use Rattle.thread_runner.proofs.EndLemmas.{static_done}
 
@@ -201,7 +206,7 @@ module _ (P : Tables) (done more : List Bool) (f : Frame) (o : Outcome) where
 
 -- ---- steps
 
-abbrev Widens : Tables → List Bool → List Bool → Frame → Type 0
+abbrev pub Widens : Tables → List Bool → List Bool → Frame → Type 0
 Widens P done more f = (o : Outcome) → frame_end P done f ≡ Some o → frame_end P more f ≡ Some o
 
 module _ (P : Tables) (done more : List Bool) (f : Frame) (wide : Widens P done more f) (fs : List Frame)
@@ -214,3 +219,13 @@ module _ (P : Tables) (done more : List Bool) (f : Frame) (wide : Widens P done 
   pub step_widens : moves_on (frame_end P done f) f fs ls ≡ Some b
       → moves_on (frame_end P more f) f fs ls ≡ Some b
   step_widens h = moves_widen (frame_end P done f) refl h
+
+module _ (P : Tables) (done more : List Bool) (s : Frames) (b : Thread) where
+  abbrev Steps : List Bool → Option Segment → Type 0
+  Steps d x = local_step P d (Going (frames_in x) (levels_of s)) ≡ Some b
+
+  pub thread_widens : (g : Segment) → s.segment ≡ Some g → Widens P done more g.innermost
+      → local_step P done (going s) ≡ Some b → local_step P more (going s) ≡ Some b
+  thread_widens g is wide h =
+      subst (Steps more) (sym is)
+      (step_widens P done more g.innermost wide g.callers (levels_of s) b (subst (Steps done) is h))

@@ -1,11 +1,14 @@
 -- Frames that are put on callers and taken off again.
 use Rattle.std.proofs.Common.{◌≡◌, ℕ, zero, suc, ◌+◌, ◌++◌, List, [], ◌∷◌, Option, Some, None, refl, sym, ap, ◌∙◌}
-use Rattle.std.proofs.Common.{arith, length, drop, append_assoc, slice_get, slice_set}
+use Rattle.std.proofs.Common.{arith, length, drop, append_assoc, slice_get, slice_set, Ok, Err}
 use Rattle.std.specs.Prelude.{reverse}
 use Rattle.std.proofs.lemmas.List.{reverse-append}
 use Rattle.vm_state.specs.declared.frame.Frame.{Frame}
 use Rattle.vm_state.specs.Segments.{callers_of, first_frame}
-use Rattle.semantics.specs.Steps.{Thread}
+use Rattle.std.specs.Prelude.{IfOk, OnErr}
+use Rattle.std.specs.declared.result.Result.{Result}
+use Rattle.vm_state.specs.declared.initialization.Level.{Level}
+use Rattle.semantics.specs.Steps.{Going, Thread}
 use Rattle.semantics.specs.Worlds.{World}
 use Rattle.init_engine.specs.Stacks.{with_thread}
 use Rattle.init_engine.proofs.SetLemmas.{get_set, set_same}
@@ -52,3 +55,26 @@ module _ (w : World) (t : ℕ) (first : Thread) (at : slice_get w.threads t ≡ 
   pub has_back : (u : World) → Has u first → u ≡ w
   has_back u has =
       has ∙ sym (ap (λ (ts : List Thread). record { shared = w.shared; threads = ts }) (set_same w.threads t first at))
+
+-- ---- frames of a thread that were taken out, changed, and put in again
+
+module _ (w m n : World) (t : ℕ) (f : Frame) (fs : List Frame) (ls : List Level)
+    (at : slice_get w.threads t ≡ Some (Going (f ∷ fs) ls)) (out : m ≡ with_thread w t (Going [] [])) where
+  pub empty_there : slice_get m.threads t ≡ Some (Going [] [])
+  empty_there = stands_now w t (Going (f ∷ fs) ls) at m (Going [] []) out
+
+  pub in_again : (b : Thread) → n ≡ with_thread m t b → n ≡ with_thread w t b
+  in_again b back = has_next w t (Going (f ∷ fs) ls) at m n (Going [] []) b out back
+
+  pub as_before : n ≡ with_thread m t (Going (f ∷ fs) ls) → n ≡ w
+  as_before back = has_back w t (Going (f ∷ fs) ls) at n (in_again (Going (f ∷ fs) ls) back)
+
+  pub put_if : {X E : Type 0} (r : Result X E) (top : List Frame) (b : Thread) → n ≡ with_thread m t b
+      → IfOk r (λ u. b ≡ Going (top ++ fs) ls) → IfOk r (λ u. n ≡ with_thread w t (Going (top ++ fs) ls))
+  put_if (Ok u) top b back is = in_again (Going (top ++ fs) ls) (back ∙ ap (with_thread m t) is)
+  put_if (Err e) top b back is = tt
+
+  pub same_if : {X E : Type 0} (r : Result X E) (b : Thread) → n ≡ with_thread m t b
+      → OnErr r (b ≡ Going (f ∷ fs) ls) → OnErr r (n ≡ w)
+  same_if (Ok u) b back is = tt
+  same_if (Err e) b back is = as_before (back ∙ ap (with_thread m t) is)

@@ -1,6 +1,6 @@
 //! One history of all threads, and how much of what was printed has gone out.
 
-ghost use Rattle.std.specs.Prelude.{◌≡◌, ◌≢◌, ◌+◌, ◌<◌, ◌≤◌, ◌^◌, ℕ, [], true, false, IfOk, OnOk, OnErr, length};
+ghost use Rattle.std.specs.Prelude.{◌≡◌, ◌≢◌, ◌+◌, ◌<◌, ◌≤◌, ◌^◌, ℕ, [], true, false, Some, None, IfOk, OnOk, OnErr, length};
 ghost use Rattle.vm_state.specs.declared.classes.ClassState.TheVariants.{Initialized};
 ghost use Rattle.init_engine.specs.Schedules.{AreRuns};
 ghost use Rattle.init_engine.specs.Stacks.{AreFrames, front_of};
@@ -143,7 +143,7 @@ impl<O: Origin> Book<O> {
         self.history.world().front(alloc, thread)
     }
 
-    /// The steps of a stretch on a front, if there is one, and one more where there is one.
+    /// The steps of a stretch on a front, and one more where there is one.
     ///
     /// # Errors
     /// `AllocError` where memory is refused; nothing has changed then.
@@ -152,11 +152,12 @@ impl<O: Origin> Book<O> {
         alloc: Global,
         program: &Program,
         thread: u32,
-        made: Option<FrontStretch<O>>,
+        stretch: FrontStretch<O>,
     ) -> Result<Commit, AllocError>
         requires program { program.now ≡ O.program }
         requires thread { thread < length self.old.past.world.threads }
-        ensures answer { IfOk result (λ a. IsFrontCommit O.program self.old.past thread made a self.new.past) }
+        ensures answer { IfOk result
+            (λ a. IsFrontCommit O.program self.old.past thread (Some stretch) a self.new.past) }
         ensures sent { self.new.sent ≡ self.old.sent }
         ensures within { self.old.sent ≤ length (printed_text self.old) }
         ensures grows { Grows self.old.past.world.printed self.new.past.world.printed }
@@ -164,7 +165,56 @@ impl<O: Origin> Book<O> {
         ensures limit { self.new.past.limit ≡ self.old.past.limit }
         ensures memory { OnErr result (Same self.old.past self.new.past) }
     {
-        self.history.commit_front(alloc, program, thread, made)
+        self.history.commit_front(alloc, program, thread, stretch)
+    }
+
+    /// One step of a thread, where there is one.
+    ///
+    /// # Errors
+    /// `AllocError` where memory is refused; nothing has changed then.
+    pub(crate) fn commit_none(
+        &mut self,
+        alloc: Global,
+        program: &Program,
+        thread: u32,
+    ) -> Result<Commit, AllocError>
+        requires program { program.now ≡ O.program }
+        requires thread { thread < length self.old.past.world.threads }
+        ensures answer { IfOk result (λ a. IsFrontCommit O.program self.old.past thread None a self.new.past) }
+        ensures sent { self.new.sent ≡ self.old.sent }
+        ensures within { self.old.sent ≤ length (printed_text self.old) }
+        ensures grows { Grows self.old.past.world.printed self.new.past.world.printed }
+        ensures threads { length self.new.past.world.threads ≡ length self.old.past.world.threads }
+        ensures limit { self.new.past.limit ≡ self.old.past.limit }
+        ensures memory { OnErr result (Same self.old.past self.new.past) }
+    {
+        self.history.commit_none(alloc, program, thread)
+    }
+
+    /// The steps of a stretch on a front, if there is one, and one more where there is one.
+    ///
+    /// # Errors
+    /// `AllocError` where memory is refused; nothing has changed then.
+    pub(crate) fn commit_made(
+        &mut self,
+        alloc: Global,
+        program: &Program,
+        thread: u32,
+        made: Option<FrontStretch<O>>,
+    ) -> Result<Commit, AllocError>
+        requires program { program.now ≡ O.program }
+        requires thread { thread < length self.old.past.world.threads }
+        ensures sent { self.new.sent ≡ self.old.sent }
+        ensures within { self.old.sent ≤ length (printed_text self.old) }
+        ensures grows { Grows self.old.past.world.printed self.new.past.world.printed }
+        ensures threads { length self.new.past.world.threads ≡ length self.old.past.world.threads }
+        ensures limit { self.new.past.limit ≡ self.old.past.limit }
+        ensures memory { OnErr result (Same self.old.past self.new.past) }
+    {
+        match made {
+            Some(stretch) => self.commit_front(alloc, program, thread, stretch),
+            None => self.commit_none(alloc, program, thread),
+        }
     }
 
     /// How many bytes of what was printed have gone out.

@@ -76,7 +76,12 @@ fn run_front<O: Origin>(
             if count == 0 {
                 return Ok(None);
             }
-            let Some(to) = frames.segment else {
+            let Frames {
+                thread: _,
+                segment,
+                levels: _,
+            } = frames;
+            let Some(to) = segment else {
                 unreachable!()
             };
             Ok(Some(FrontStretch {

@@ -1,6 +1,6 @@
 //! The history of all threads, and the world that it leads to.
 
-ghost use Rattle.std.specs.Prelude.{◌≡◌, ◌+◌, ◌<◌, ◌≤◌, ◌^◌, ◌++◌, [], true, false, Some, IfOk, OnErr, length, replicate};
+ghost use Rattle.std.specs.Prelude.{◌≡◌, ◌+◌, ◌<◌, ◌≤◌, ◌^◌, ◌++◌, [], true, false, Some, None, IfOk, OnErr, length, replicate};
 ghost use Rattle.std.specs.Prelude.{vec_len, vec_capacity};
 ghost use Rattle.semantics.specs.Worlds.{Run};
 ghost use Rattle.machine.specs.Linked.{program_of};
@@ -224,7 +224,7 @@ impl<O: Origin> History<O> {
         all_initialized(&self.world, stretch.asked())
     }
 
-    /// The steps of a stretch on a front, if there is one, and one more where there is one.
+    /// The steps of a stretch on a front, and one more where there is one.
     ///
     /// # Errors
     /// `AllocError` where memory is refused; nothing has changed then.
@@ -233,11 +233,11 @@ impl<O: Origin> History<O> {
         alloc: Global,
         program: &Program,
         thread: u32,
-        made: Option<FrontStretch<O>>,
+        stretch: FrontStretch<O>,
     ) -> Result<Commit, AllocError>
         requires program { program.now ≡ O.program }
         requires thread { thread < length self.old.world.threads }
-        ensures answer { IfOk result (λ a. IsFrontCommit O.program self.old thread made a self.new) }
+        ensures answer { IfOk result (λ a. IsFrontCommit O.program self.old thread (Some stretch) a self.new) }
         ensures grows { Grows self.old.world.printed self.new.world.printed }
         ensures threads { length self.new.world.threads ≡ length self.old.world.threads }
         ensures limit { self.new.limit ≡ self.old.limit }
@@ -246,23 +246,40 @@ impl<O: Origin> History<O> {
         if self.is_full() {
             return Ok(Commit::Full);
         }
-        match made {
-            Some(stretch) => {
-                if !self.fits_front(thread, &stretch) {
-                    return Ok(Commit::Stale);
-                }
-                let count = stretch.count();
-                let to = Landing::Top(stretch.into_top());
-                self.settle(alloc, program, thread, to, count)
-            }
-            None => {
-                let none = Frames {
-                    thread,
-                    segment: None,
-                    levels: None,
-                };
-                self.settle(alloc, program, thread, Landing::Whole(none), 0)
-            }
+        if !self.fits_front(thread, &stretch) {
+            return Ok(Commit::Stale);
         }
+        let count = stretch.count();
+        let to = Landing::Top(stretch.into_top());
+        self.settle(alloc, program, thread, to, count)
+    }
+
+    /// One step of a thread, where there is one.
+    ///
+    /// # Errors
+    /// `AllocError` where memory is refused; nothing has changed then.
+    pub(crate) fn commit_none(
+        &mut self,
+        alloc: Global,
+        program: &Program,
+        thread: u32,
+    ) -> Result<Commit, AllocError>
+        requires program { program.now ≡ O.program }
+        requires thread { thread < length self.old.world.threads }
+        ensures answer { IfOk result (λ a. IsFrontCommit O.program self.old thread None a self.new) }
+        ensures grows { Grows self.old.world.printed self.new.world.printed }
+        ensures threads { length self.new.world.threads ≡ length self.old.world.threads }
+        ensures limit { self.new.limit ≡ self.old.limit }
+        ensures memory { OnErr result (Same self.old self.new) }
+    {
+        if self.is_full() {
+            return Ok(Commit::Full);
+        }
+        let none = Frames {
+            thread,
+            segment: None,
+            levels: None,
+        };
+        self.settle(alloc, program, thread, Landing::Whole(none), 0)
     }
 }

@@ -1,14 +1,14 @@
 //! Frames in the place of a thread's innermost one.
 
 ghost use Rattle.std.specs.Prelude.{◌≡◌, ◌<◌, ◌+◌, ◌∷◌, ◌++◌, true, false, List, Some, IfOk, OnErr, length};
-ghost use Rattle.std.specs.Prelude.{reverse, drop, MatchOption};
+ghost use Rattle.std.specs.Prelude.{[], reverse, drop, slice_get, MatchOption};
 ghost use Rattle.vm_state.specs.declared.frame.Frame.{Frame as Held};
 ghost use Rattle.vm_state.specs.declared.initialization.Level.{Level};
 ghost use Rattle.vm_state.specs.Segments.{frames_of};
 ghost use Rattle.semantics.specs.Steps.{Going};
 ghost use Rattle.machine.specs.Effects.{going};
 ghost use Rattle.machine.specs.Linked.{program_of};
-ghost use Rattle.init_engine.specs.Stacks.{front_of};
+ghost use Rattle.init_engine.specs.Stacks.{front_of, with_thread};
 ghost use Rattle.init_engine.specs.Turns.{IsTurn, Prints, world_of};
 ghost use Rattle.thread_runner.specs.Fronts.{with_top};
 
@@ -145,6 +145,15 @@ fn put_top(alloc: Global, frames: &mut Frames, top: Segment) -> Result<Under, Al
 }
 
 /// Puts the frame back that others took the place of.
+fn take_segment(segment: &mut Segment, under: Under)
+    ensures { segment.new ≡ record { innermost = under.innermost; callers = drop under.above segment.old.callers } }
+{
+    let Under { innermost, above } = under;
+    drop_callers(&mut segment.callers, above);
+    segment.innermost = innermost;
+}
+
+/// Puts the frame back that others took the place of, where the thread has frames.
 fn take_top(frames: &mut Frames, under: Under)
     ensures back { (f : Held) (fs : List Held) (ls : List Level) → going frames.old ≡ Going (f ∷ fs) ls
         → going frames.new ≡ Going (under.innermost ∷ drop under.above fs) ls }
@@ -153,9 +162,62 @@ fn take_top(frames: &mut Frames, under: Under)
     let Some(segment) = &mut frames.segment else {
         return;
     };
-    let Under { innermost, above } = under;
-    drop_callers(&mut segment.callers, above);
-    segment.innermost = innermost;
+    take_segment(segment, under);
+}
+
+/// The stack of a thread without frames.
+fn no_frames(thread: u32) -> Frames
+    ensures going { going result ≡ Going [] [] }
+    ensures thread { result.thread ≡ thread }
+{
+    Frames {
+        thread,
+        segment: None,
+        levels: None,
+    }
+}
+
+/// Puts frames in the place of the innermost one of a thread.
+///
+/// # Errors
+/// `AllocError` where memory is refused; the world is as it was.
+fn put_in(
+    alloc: Global,
+    world: &mut World,
+    thread: u32,
+    top: Segment,
+) -> Result<Under, AllocError>
+    requires thread { thread < length world.old.threads }
+    requires front { (f : Held) × (front_of (world_of world.old) thread ≡ Some f) }
+    ensures put { (f : Held) (fs : List Held) (ls : List Level)
+        → slice_get (world_of world.old).threads thread ≡ Some (Going (f ∷ fs) ls) → IfOk result (λ u. world_of world.new
+        ≡ with_thread (world_of world.old) thread (Going (frames_of top ++ fs) ls)) }
+    ensures under { (f : Held) (fs : List Held) (ls : List Level)
+        → slice_get (world_of world.old).threads thread ≡ Some (Going (f ∷ fs) ls)
+        → IfOk result (λ u. u ≡ record { innermost = f; above = length top.callers }) }
+    ensures err { OnErr result (world_of world.new ≡ world_of world.old) }
+    ensures threads { length world.new.threads ≡ length world.old.threads }
+    ensures printed { world.new.printed ≡ world.old.printed }
+{
+    let mut frames = no_frames(thread);
+    world.exchange(thread, &mut frames);
+    let put = put_top(alloc, &mut frames, top);
+    world.exchange(thread, &mut frames);
+    put
+}
+
+/// Puts the frame of a thread back that others took the place of.
+fn take_in(world: &mut World, thread: u32, under: Under)
+    requires thread { thread < length world.old.threads }
+    ensures back { (f : Held) (fs : List Held) (ls : List Level)
+        → slice_get (world_of world.old).threads thread ≡ Some (Going (f ∷ fs) ls) → world_of world.new
+        ≡ with_thread (world_of world.old) thread (Going (under.innermost ∷ drop under.above fs) ls) }
+    ensures threads { length world.new.threads ≡ length world.old.threads }
+{
+    let mut frames = no_frames(thread);
+    world.exchange(thread, &mut frames);
+    take_top(&mut frames, under);
+    world.exchange(thread, &mut frames);
 }
 
 /// Makes a step of a thread, where there is one, with frames in the place of its innermost one.
@@ -177,28 +239,14 @@ pub(crate) fn advance_top(
     ensures prints { IfOk result (λ turn. Prints turn world.old.printed world.new.printed) }
     ensures memory { OnErr result (world_of world.new ≡ world_of world.old) }
 {
-    let mut frames = Frames {
-        thread,
-        segment: None,
-        levels: None,
-    };
-    world.exchange(thread, &mut frames);
-    match put_top(alloc, &mut frames, top) {
-        Ok(under) => {
-            world.exchange(thread, &mut frames);
-            match world.step(alloc, program, thread) {
-                Ok(turn) => Ok(turn),
-                Err(error) => {
-                    world.exchange(thread, &mut frames);
-                    take_top(&mut frames, under);
-                    world.exchange(thread, &mut frames);
-                    Err(error)
-                }
+    match put_in(alloc, world, thread, top) {
+        Ok(under) => match world.step(alloc, program, thread) {
+            Ok(turn) => Ok(turn),
+            Err(error) => {
+                take_in(world, thread, under);
+                Err(error)
             }
-        }
-        Err(error) => {
-            world.exchange(thread, &mut frames);
-            Err(error)
-        }
+        },
+        Err(error) => Err(error),
     }
 }

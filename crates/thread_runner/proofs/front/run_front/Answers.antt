@@ -1,4 +1,4 @@
-use Rattle.std.proofs.Common.{◌≡◌, ◌∷◌, [], None, Some, subst, arith, rules}
+use Rattle.std.proofs.Common.{◌≡◌, ◌∷◌, [], None, Some, subst, arith}
 use Rattle.vm_state.specs.Segments.{frames_of}
 use Rattle.semantics.specs.Steps.{Going}
 use Rattle.program.specs.Tables.{Tables}
@@ -16,4 +16,32 @@ returns-then-count-eq0 g c =
 pub unreachable-requires : goal.unreachable-requires
 unreachable-requires g c =
     has_segment c.args.program.now c.args.front c.in-Ok.count c.args.start c.run_local.new.frames c.requires.start
-    c.args.done.now c.in-Ok.ensures.steps ?
+    c.args.done.now c.in-Ok.ensures.steps c.in_default.is
+
+pub invariant_of-result : goal.invariant_of-result
+invariant_of-result g c =
+    let s : FrontReach = record {
+      from = c.args.front;
+      asked = c.run_local.new.asked.items;
+      count = c.in-Ok.count;
+      to = frames_of c.in-Some.to;
+    } in (
+      omega (arith, c.if-count-eq0.false),
+      c.in-Ok.ensures.most,
+      subst (λ (P : Tables). LeadsOn P s) c.requires.program
+          (leads_on c.args.program.now c.args.front c.in-Ok.count c.args.start c.run_local.new.frames
+          c.requires.start c.in-Some.to c.in-Some.is c.run_local.new.asked.items c.in-Ok.ensures.wide),
+    )
+
+pub returns-in-Some : goal.returns-in-Some
+returns-in-Some g c =
+    let s : FrontReach = record {
+      from = c.args.front;
+      asked = c.run_local.new.asked.items;
+      count = c.in-Ok.count;
+      to = frames_of c.in-Some.to;
+    } in
+    subst (λ (P : Tables). IsRunOf P c.args.done.now c.args.front s) c.requires.program
+    (is_run_of c.args.program.now c.args.front c.in-Ok.count c.args.start c.run_local.new.frames c.requires.start
+    c.in-Some.to c.in-Some.is c.run_local.new.asked.items c.args.done.now c.in-Ok.ensures.steps c.in-Ok.ensures.wide
+    c.in-Ok.ensures.ends)

@@ -7,10 +7,10 @@ invariant_of-self g c =
     let d = c.args.self.now in
     record {
       sent = holds_still g.O.Session.before (g.S.Sink.got d.sink) d.book.past.world.printed
-          c.commit_front.new.self.past.world.printed d.book.sent c.commit_front.new.self.sent c.commit_front.ensures.grows
-          c.commit_front.ensures.within c.commit_front.ensures.sent d.sent;
-      threads = c.commit_front.ensures.threads ∙ d.threads;
-      limit_is = c.commit_front.ensures.limit ∙ d.limit_is;
+          c.commit_made.new.self.past.world.printed d.book.sent c.commit_made.new.self.sent c.commit_made.ensures.grows
+          c.commit_made.ensures.within c.commit_made.ensures.sent d.sent;
+      threads = c.commit_made.ensures.threads ∙ d.threads;
+      limit_is = c.commit_made.ensures.limit ∙ d.limit_is;
       well = d.well;
       fault = d.fault;
     }

@@ -1,4 +1,4 @@
-use Rattle.std.proofs.Common.{◌<◌, sym, subst, replicate}
+use Rattle.std.proofs.Common.{◌<◌, ◌∙◌, sym, subst, replicate}
 use Rattle.vm_state.specs.declared.initialization.Frames.{Frames}
 use Rattle.semantics.specs.Worlds.{Run}
 use Rattle.machine.specs.Linked.{program_of}

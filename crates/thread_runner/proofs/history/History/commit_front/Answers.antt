@@ -1,4 +1,4 @@
-use Rattle.std.proofs.Common.{◌≡◌, Some, None, ap, sym, subst, refl, replicate, slice_get, List}
+use Rattle.std.proofs.Common.{◌≡◌, Some, ap, sym, subst, refl, replicate, slice_get, List}
 use Rattle.vm_state.specs.declared.frame.Frame.{Frame}
 use Rattle.vm_state.specs.Segments.{frames_of}
 use Rattle.semantics.specs.Worlds.{World, Run}
@@ -11,30 +11,24 @@ use Rattle.thread_runner.proofs.history.History.commit_front.Goals as goal
 
 pub settle-requires-clause-may : goal.settle-requires-clause-may
 settle-requires-clause-may g c =
-    (c.count-count.ensures.some, (c.in-Some.stretch.from, (c.fits_front.ensures.yes c.if-not-fits_front.false).0))
+    (c.count-count.ensures.some, (c.args.stretch.from, (c.fits_front.ensures.yes c.if-not-fits_front.false).0))
 
 pub settle-requires-clause-led : goal.settle-requires-clause-led
 settle-requires-clause-led g c =
     let P = g.O.Origin.program in
     let w = world_of c.args.self.now.world in
     let t = c.args.thread in
-    let s = c.in-Some.stretch in
+    let s = c.args.stretch in
     subst (λ (fs : List Frame). Run (program_of P) w (replicate c.count-count.result t) (with_top w t fs))
     (sym c.into_top.ensures.is)
     (subst (λ k. Run (program_of P) w (replicate k t) (with_top w t s.to)) (sym c.count-count.ensures.is)
     (front_led P w t s (c.fits_front.ensures.yes c.if-not-fits_front.false) c.into_top.ensures.leads))
 
-pub returns-in-Some-clause-answer : goal.returns-in-Some-clause-answer
-returns-in-Some-clause-answer g c =
+pub returns-clause-answer : goal.returns-clause-answer
+returns-clause-answer g c =
     let w = world_of c.args.self.now.world in
-    front_counts_if g.O.Origin.program c.args.self.now c.args.thread (Some c.in-Some.stretch) c.settle.result
+    front_counts_if g.O.Origin.program c.args.self.now c.args.thread (Some c.args.stretch) c.settle.result
     c.settle.new.self (with_top w c.args.thread (frames_of c.into_top.result)) c.count-count.result
     c.count-count.ensures.is (ap (with_top w c.args.thread) c.into_top.ensures.is)
     (c.is_full.ensures.no c.if-is_full.false) (c.fits_front.ensures.yes c.if-not-fits_front.false)
     c.settle.ensures.answer
-
-pub returns-in-None-clause-answer : goal.returns-in-None-clause-answer
-returns-in-None-clause-answer g c =
-    front_counts_if g.O.Origin.program c.args.self.now c.args.thread None c.settle-in-None.result
-    c.settle-in-None.new.self (world_of c.args.self.now.world) 0 refl refl (c.is_full.ensures.no c.if-is_full.false) tt
-    c.settle-in-None.ensures.answer
