@@ -1,5 +1,5 @@
 -- A local instruction is the same over each set that has the class that it asks for.
-use Rattle.std.proofs.Common.{Bool, true, false, Ok, Err, if◌then◌else◌, ◌≡◌, ℕ, List, ◌∷◌, Option, Some, None, refl}
+use Rattle.std.proofs.Common.{Bool, true, false, Ok, Err, if◌then◌else◌, ◌≡◌, ℕ, List, Option, Some, None, refl}
 use Rattle.std.proofs.Common.{sym, ap, subst, ◌∙◌, length, replicate}
 use Rattle.std.specs.Prelude.{◌&&◌, not, ◌+◌}
 use Rattle.std.specs.declared.result.Result.{Result}

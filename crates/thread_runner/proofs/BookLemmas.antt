@@ -189,8 +189,11 @@ settled P old new t n far turns.Moved same is grown none limit =
 settled P old new t zero far turns.Waiting same is grown none limit =
     let at = same refl in (
       subst (λ (w : World). Goes (slice_get w.threads t)) at is.0,
-      (refl, subst (λ (w : World). step (program_of P) w t ≡ None) at is.1,
-      record { world = is.2 ∙ at; journal = none refl; limit = limit }),
+      (
+        refl,
+        subst (λ (w : World). step (program_of P) w t ≡ None) at is.1,
+        record { world = is.2 ∙ at; journal = none refl; limit = limit },
+      ),
     )
 settled P old new t (suc n) far turns.Waiting same is grown none limit =
     subst (λ (o : Option World). MovedTo old t (suc n) far o new) (sym is.1)
@@ -198,8 +201,11 @@ settled P old new t (suc n) far turns.Waiting same is grown none limit =
 settled P old new t zero far turns.Ended same is grown none limit =
     let at = same refl in (
       subst (λ (w : World). IsOver (slice_get w.threads t)) at is.0,
-      (refl, subst (λ (w : World). step (program_of P) w t ≡ None) at is.1,
-      record { world = is.2 ∙ at; journal = none refl; limit = limit }),
+      (
+        refl,
+        subst (λ (w : World). step (program_of P) w t ≡ None) at is.1,
+        record { world = is.2 ∙ at; journal = none refl; limit = limit },
+      ),
     )
 settled P old new t (suc n) far turns.Ended same is grown none limit =
     subst (λ (o : Option World). MovedTo old t (suc n) far o new) (sym is.1)

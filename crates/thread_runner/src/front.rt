@@ -43,8 +43,11 @@ impl<O: Origin> Model for FrontStretch<O> {
 
 /// The frames of a thread that has this one alone.
 fn alone(alloc: Global, thread: u32, frame: Frame) -> Frames
-    ensures { result ≡ record { thread = thread; segment = Some (record { innermost = frame; callers = [] });
-        levels = None } }
+    ensures { result ≡ record {
+      thread = thread;
+      segment = Some (record { innermost = frame; callers = [] });
+      levels = None;
+    } }
 {
     Frames {
         thread,
@@ -81,9 +84,7 @@ fn run_front<O: Origin>(
                 segment,
                 levels: _,
             } = frames;
-            let Some(to) = segment else {
-                unreachable!()
-            };
+            let Some(to) = segment else { unreachable!() };
             Ok(Some(FrontStretch {
                 from: front,
                 asked,

@@ -181,12 +181,7 @@ fn no_frames(thread: u32) -> Frames
 ///
 /// # Errors
 /// `AllocError` where memory is refused; the world is as it was.
-fn put_in(
-    alloc: Global,
-    world: &mut World,
-    thread: u32,
-    top: Segment,
-) -> Result<Under, AllocError>
+fn put_in(alloc: Global, world: &mut World, thread: u32, top: Segment) -> Result<Under, AllocError>
     requires thread { thread < length world.old.threads }
     requires front { (f : Held) × (front_of (world_of world.old) thread ≡ Some f) }
     ensures put { (f : Held) (fs : List Held) (ls : List Level)

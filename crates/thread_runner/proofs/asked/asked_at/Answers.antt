@@ -1,6 +1,5 @@
-use Rattle.std.proofs.Common.{◌≡◌, Some, None, subst, ◌∙◌, rules, Option, ℕ}
-use Rattle.program.specs.Tables.{instruction_at}
-use Rattle.machine.specs.Operations.{Operation, meaning, resolved_operation}
+use Rattle.std.proofs.Common.{subst, rules, Option, ℕ}
+use Rattle.machine.specs.Operations.{Operation}
 use Rattle.thread_runner.specs.steps.Asked.{HasAsked, asked_by}
 use Rattle.thread_runner.proofs.AskedLemmas.{method_widens, none_widens}
 use Rattle.thread_runner.proofs.asked.asked_at.Goals as goal

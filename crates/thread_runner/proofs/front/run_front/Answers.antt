@@ -1,4 +1,4 @@
-use Rattle.std.proofs.Common.{◌≡◌, ◌∷◌, [], None, Some, subst, arith}
+use Rattle.std.proofs.Common.{◌≡◌, ◌∷◌, [], None, subst, arith}
 use Rattle.vm_state.specs.Segments.{frames_of}
 use Rattle.semantics.specs.Steps.{Going}
 use Rattle.program.specs.Tables.{Tables}

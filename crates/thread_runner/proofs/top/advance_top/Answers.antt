@@ -1,4 +1,4 @@
-use Rattle.std.proofs.Common.{◌≡◌, ◌∙◌, ◌∷◌, ◌++◌, ap, refl, slice_get, length, drop, List}
+use Rattle.std.proofs.Common.{◌∙◌, ◌∷◌, ◌++◌, ap, refl, slice_get, length, drop, List}
 use Rattle.std.proofs.lemmas.List.{drop_at}
 use Rattle.vm_state.specs.declared.frame.Frame.{Frame}
 use Rattle.vm_state.specs.Segments.{frames_of}

@@ -1,8 +1,6 @@
-use Rattle.std.proofs.Common.{◌≡◌, ◌∙◌, ◌∷◌, ◌++◌, [], ap, sym, subst, slice_get, length, drop, List, Some, Ok, Err}
-use Rattle.vm_state.specs.declared.frame.Frame.{Frame}
+use Rattle.std.proofs.Common.{◌≡◌, ◌∙◌, ◌∷◌, [], ap, subst, slice_get}
 use Rattle.vm_state.specs.Segments.{frames_of}
-use Rattle.semantics.specs.Steps.{Going, Thread}
-use Rattle.semantics.specs.Worlds.{World}
+use Rattle.semantics.specs.Steps.{Thread}
 use Rattle.machine.specs.Effects.{going}
 use Rattle.init_engine.specs.Stacks.{with_thread}
 use Rattle.init_engine.specs.Turns.{world_of}

@@ -1,9 +1,5 @@
-use Rattle.std.proofs.Common.{◌≡◌, ◌∙◌, ◌∷◌, ◌++◌, [], ap, sym, subst, slice_get, length, drop, List, Some, Ok, Err}
-use Rattle.vm_state.specs.declared.frame.Frame.{Frame}
-use Rattle.vm_state.specs.Segments.{frames_of}
-use Rattle.semantics.specs.Steps.{Going, Thread}
-use Rattle.semantics.specs.Worlds.{World}
-use Rattle.machine.specs.Effects.{going}
+use Rattle.std.proofs.Common.{◌∙◌, ◌∷◌, [], ap, drop}
+use Rattle.semantics.specs.Steps.{Going}
 use Rattle.init_engine.specs.Stacks.{with_thread}
 use Rattle.init_engine.specs.Turns.{world_of}
 use Rattle.thread_runner.proofs.TopLemmas.{empty_there, in_again}

@@ -11,9 +11,9 @@ pub settle-requires-clause-may : goal.settle-requires-clause-may
 settle-requires-clause-may g c = (
   c.into_end.ensures.thread ∙ (c.fits.ensures.yes c.if-not-fits.false).0.0,
   λ some.
-    has_gone g.O.Origin.program (world_of c.args.self.now.world) c.args.thread c.args.stretch
-    (c.fits.ensures.yes c.if-not-fits.false) c.into_end.ensures.run
-    (subst (λ k. 0 < k) c.count-count.ensures.is some),
+      has_gone g.O.Origin.program (world_of c.args.self.now.world) c.args.thread c.args.stretch
+      (c.fits.ensures.yes c.if-not-fits.false) c.into_end.ensures.run
+      (subst (λ k. 0 < k) c.count-count.ensures.is some),
 )
 
 pub settle-requires-clause-led : goal.settle-requires-clause-led

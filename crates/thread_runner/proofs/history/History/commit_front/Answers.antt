@@ -1,7 +1,7 @@
-use Rattle.std.proofs.Common.{◌≡◌, Some, ap, sym, subst, refl, replicate, slice_get, List}
+use Rattle.std.proofs.Common.{Some, ap, sym, subst, replicate, List}
 use Rattle.vm_state.specs.declared.frame.Frame.{Frame}
 use Rattle.vm_state.specs.Segments.{frames_of}
-use Rattle.semantics.specs.Worlds.{World, Run}
+use Rattle.semantics.specs.Worlds.{Run}
 use Rattle.machine.specs.Linked.{program_of}
 use Rattle.init_engine.specs.Turns.{world_of}
 use Rattle.thread_runner.specs.Fronts.{with_top}
