@@ -1,6 +1,7 @@
 //! One history of all threads, and how much of what was printed has gone out.
 
-ghost use Rattle.std.specs.Prelude.{◌≡◌, ◌≢◌, ◌+◌, ◌<◌, ◌≤◌, ◌^◌, ℕ, [], true, false, Some, None, IfOk, OnOk, OnErr, length};
+ghost use Rattle.std.specs.Prelude.{◌≡◌, ◌≢◌, ◌+◌, ◌<◌, ◌≤◌, ◌^◌, ℕ, [], true, false, Some, None, IfOk, OnOk, OnErr};
+ghost use Rattle.std.specs.Prelude.{length};
 ghost use Rattle.vm_state.specs.declared.classes.ClassState.TheVariants.{Initialized};
 ghost use Rattle.init_engine.specs.Schedules.{AreRuns};
 ghost use Rattle.init_engine.specs.Stacks.{AreFrames, front_of};

@@ -123,7 +123,8 @@ impl<O: Session, S: Sink> Desk<O, S> {
         self.over = true;
     }
 
-    /// The innermost frame of a thread, and the classes that are initialized, if it asks for them, while the run goes on.
+    /// The innermost frame of a thread, and the classes that are initialized, if it asks for them, while the run goes
+    /// on.
     pub(crate) fn look(
         &mut self,
         alloc: Global,

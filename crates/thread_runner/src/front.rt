@@ -17,7 +17,8 @@ use vm_state::frame::{Frame, FrameList, Segment};
 use vm_state::initialization::Frames;
 
 /// Local instructions that one thread did on its innermost frame and on the calls that it made from there. Contracts
-/// see that frame, the classes that it asked for, how many instructions it did, and the frames in the place of that one.
+/// see that frame, the classes that it asked for, how many instructions it did, and the frames in the place of that
+/// one.
 #[derive(Drop)]
 pub(crate) struct FrontStretch<O: Origin> {
     from: Frame,

@@ -1,6 +1,7 @@
 //! The history of all threads, and the world that it leads to.
 
-ghost use Rattle.std.specs.Prelude.{◌≡◌, ◌+◌, ◌<◌, ◌≤◌, ◌^◌, ◌++◌, [], true, false, Some, None, IfOk, OnErr, length, replicate};
+ghost use Rattle.std.specs.Prelude.{◌≡◌, ◌+◌, ◌<◌, ◌≤◌, ◌^◌, ◌++◌, [], true, false, Some, None, IfOk, OnErr, length};
+ghost use Rattle.std.specs.Prelude.{replicate};
 ghost use Rattle.std.specs.Prelude.{vec_len, vec_capacity};
 ghost use Rattle.semantics.specs.Worlds.{Run};
 ghost use Rattle.machine.specs.Linked.{program_of};
@@ -212,7 +213,8 @@ impl<O: Origin> History<O> {
         self.settle(alloc, program, thread, to, count)
     }
 
-    /// Whether a stretch begins at the innermost frame of its thread, and the classes that it asked for are initialized.
+    /// Whether a stretch begins at the innermost frame of its thread, and the classes that it asked for are
+    /// initialized.
     fn fits_front(&self, thread: u32, stretch: &FrontStretch<O>) -> bool
         requires { thread < length self.now.world.threads }
         ensures yes { result ≡ true → FitsFront (world_of self.now.world) thread (Some stretch.now) }

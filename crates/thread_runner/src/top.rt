@@ -185,7 +185,8 @@ fn put_in(alloc: Global, world: &mut World, thread: u32, top: Segment) -> Result
     requires thread { thread < length world.old.threads }
     requires front { (f : Held) × (front_of (world_of world.old) thread ≡ Some f) }
     ensures put { (f : Held) (fs : List Held) (ls : List Level)
-        → slice_get (world_of world.old).threads thread ≡ Some (Going (f ∷ fs) ls) → IfOk result (λ u. world_of world.new
+        → slice_get (world_of world.old).threads thread ≡ Some (Going (f ∷ fs) ls)
+        → IfOk result (λ u. world_of world.new
         ≡ with_thread (world_of world.old) thread (Going (frames_of top ++ fs) ls)) }
     ensures under { (f : Held) (fs : List Held) (ls : List Level)
         → slice_get (world_of world.old).threads thread ≡ Some (Going (f ∷ fs) ls)

@@ -66,8 +66,8 @@ fn look<O: Session, S: Sink, R: Wait>(
     desk.lock(rt).look(alloc, program, thread, asks)
 }
 
-/// Commits a stretch, if there is one. A thread that waits sleeps until another one has moved or the run is over, and whoever moves or
-/// ends it wakes all.
+/// Commits a stretch, if there is one. A thread that waits sleeps until another one has moved or the run is over, and
+/// whoever moves or ends it wakes all.
 fn settle<O: Session, S: Sink, R: Wait>(
     rt: &R,
     alloc: Global,

@@ -5,4 +5,5 @@ use Rattle.thread_runner.proofs.top.drop_callers.Goals as goal
 
 pub loop-dropped-preserved : goal.loop-dropped-preserved
 loop-dropped-preserved c =
-    c.pop.ensures.rest ∙ (ap callers_of c.loop-dropped.invariant ∙ callers_drop c.loop-dropped.dropped c.args.callers.now)
+    c.pop.ensures.rest
+    ∙ (ap callers_of c.loop-dropped.invariant ∙ callers_drop c.loop-dropped.dropped c.args.callers.now)
