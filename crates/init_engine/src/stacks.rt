@@ -1,21 +1,16 @@
 //! The stacks of a world's threads, one by one.
 
-ghost use Rattle.std.specs.Prelude.{◌≡◌, ◌<◌, ℕ, List, true, false, Some, IfOk, length, slice_get};
-ghost use Rattle.vm_state.specs.declared.frame.Frame.{Frame};
-ghost use Rattle.vm_state.specs.declared.initialization.Level.{Level};
+ghost use Rattle.std.specs.Prelude.{◌≡◌, ◌≢◌, ◌<◌, true, false, Some, IfOk, length};
 ghost use Rattle.vm_state.specs.declared.classes.ClassState.TheVariants.{Initialized};
-ghost use Rattle.vm_state.specs.declared.text.Line.{Line};
-ghost use Rattle.semantics.specs.Steps.{Going as IsGoingOn};
-ghost use Rattle.machine.specs.Effects.{going};
-ghost use Rattle.init_engine.specs.Stacks.{IsStackOf, AreFrames, with_thread};
+ghost use Rattle.init_engine.specs.Stacks.{IsStackOf, AreFrames, front_of, innermost_of};
 ghost use Rattle.init_engine.specs.Threads.{thread_of, HasNumber};
 ghost use Rattle.init_engine.specs.Turns.{Goes, world_of};
 
 use crate::world::{Thread, World};
 use std::alloc::{AllocError, Global};
 use vm_state::classes::ClassState;
+use vm_state::frame::Frame;
 use vm_state::initialization::Frames;
-use vm_state::text::Line;
 
 /// The frames of a thread; none where it has ended.
 fn copy_of(alloc: Global, number: u32, thread: &Thread) -> Result<Frames, AllocError>
@@ -56,7 +51,57 @@ fn goes(thread: &Thread) -> bool
     matches!(thread, Thread::Going(_))
 }
 
+/// The innermost frame of a thread above its highest initialization, if there is one.
+fn front_copy(alloc: Global, thread: &Thread) -> Result<Option<Frame>, AllocError>
+    ensures { IfOk result (λ f. f ≡ innermost_of (Some (thread_of thread.now))) }
+{
+    let Thread::Going(frames) = thread else {
+        return Ok(None);
+    };
+    let Some(segment) = &frames.segment else {
+        return Ok(None);
+    };
+    match segment.innermost.copy(alloc) {
+        Ok(frame) => Ok(Some(frame)),
+        Err(error) => Err(error),
+    }
+}
+
+/// Whether this is the innermost frame of a thread above its highest initialization.
+fn is_front_copy(thread: &Thread, front: &Frame) -> bool
+    ensures yes { result ≡ true → innermost_of (Some (thread_of thread.now)) ≡ Some front.now }
+    ensures no { result ≡ false → innermost_of (Some (thread_of thread.now)) ≢ Some front.now }
+{
+    let Thread::Going(frames) = thread else {
+        return false;
+    };
+    match &frames.segment {
+        Some(segment) => segment.innermost.is_same(front),
+        None => false,
+    }
+}
+
 impl World {
+    /// The innermost frame of a thread above its highest initialization, if there is one.
+    ///
+    /// # Errors
+    /// `AllocError` where memory is refused.
+    pub fn front(&self, alloc: Global, thread: u32) -> Result<Option<Frame>, AllocError>
+        requires { thread < length self.now.threads }
+        ensures { IfOk result (λ f. f ≡ front_of (world_of self.now) thread) }
+    {
+        front_copy(alloc, &self.threads()[thread as usize])
+    }
+
+    /// Whether this is the innermost frame of a thread above its highest initialization.
+    pub fn has_front(&self, thread: u32, front: &Frame) -> bool
+        requires { thread < length self.now.threads }
+        ensures yes { result ≡ true → front_of (world_of self.now) thread ≡ Some front.now }
+        ensures no { result ≡ false → front_of (world_of self.now) thread ≢ Some front.now }
+    {
+        is_front_copy(&self.threads()[thread as usize], front)
+    }
+
     /// The frames of a thread; none where it has ended.
     ///
     /// # Errors

@@ -11,7 +11,7 @@ use Rattle.vm_state.specs.declared.initialization.Level.{Level}
 use Rattle.vm_state.specs.declared.text.Line.{Line}
 use Rattle.vm_state.specs.Shares.{shared_of}
 use Rattle.semantics.specs.Steps.{Thread, Going, Ended}
-use Rattle.semantics.specs.Worlds.{World, Run}
+use Rattle.semantics.specs.Worlds.{World, Run, step}
 use Rattle.semantics.proofs.RunsLemmas.{runs_join_lem, run_more}
 use Rattle.program.specs.Tables.{Tables}
 use Rattle.machine.specs.Effects.{going}
@@ -19,16 +19,20 @@ use Rattle.machine.specs.Linked.{program_of}
 use Rattle.init_engine.specs.Schedules.{schedule_of, AreRuns}
 use Rattle.init_engine.specs.Stacks.{IsStackOf, with_thread}
 use Rattle.init_engine.specs.Standing.{Standing}
-use Rattle.init_engine.specs.Turns.{Goes, IsTurn, Prints, world_of}
+use Rattle.init_engine.specs.Turns.{Goes, IsOver, IsTurn, Prints, world_of}
 use Rattle.init_engine.specs.declared.world.Turn.{Turn}
 use Rattle.init_engine.specs.declared.world.Turn.TheVariants as turns
 use Rattle.thread_runner.specs.Local.{local_steps, local_step}
 use Rattle.thread_runner.specs.Stretches.{IsLocalRun, Reach}
 use Rattle.thread_runner.specs.Kept.{Grows, IsKept, Past, steps_of}
 use Rattle.thread_runner.specs.Commits.{Fits, IsCommit, IsSettled, MovedTo, after, there}
+use Rattle.thread_runner.specs.Fronts.{FitsFront, FrontReach, IsFrontCommit, after_front, front_count}
 use Rattle.thread_runner.specs.declared.history.Commit.{Commit}
 use Rattle.thread_runner.specs.declared.history.Commit.TheVariants as commits
+use Rattle.thread_runner.specs.declared.landing.Landing.{Landing}
+use Rattle.thread_runner.specs.declared.landing.Landing.TheVariants as landings
 use Rattle.thread_runner.specs.steps.Advances.{answered, counted}
+use Rattle.thread_runner.specs.steps.Landings.{MayLand, landed}
 use Rattle.init_engine.proofs.SetLemmas.{get_set, set_same}
 use Rattle.thread_runner.proofs.LocalLemmas.{set_twice, local_run, replicate-more}
 
@@ -174,24 +178,52 @@ counted_small turns.Moved n h = omega (arith, h)
 counted_small turns.Waiting n h = omega (arith, h)
 counted_small turns.Ended n h = omega (arith, h)
 
-pub settled : (P : Tables) (old new : Past) (t n : ℕ) (to : Frames) (turn : Turn)
-    → IsTurn (program_of P) (there (world_of old.world) t to n) t turn (world_of new.world)
+-- no step leads to the same world
+abbrev pub NoneLeads : World → ℕ → World → Type 0
+NoneLeads w n there = n ≡ 0 → there ≡ w
+
+pub settled : (P : Tables) (old new : Past) (t n : ℕ) (far : World) (turn : Turn)
+    → NoneLeads (world_of old.world) n far
+    → IsTurn (program_of P) far t turn (world_of new.world)
     → schedule_of new.journal ≡ schedule_of old.journal ++ replicate (counted turn n) t
     → (counted turn n ≡ 0 → new.journal ≡ old.journal) → new.limit ≡ old.limit
-    → IsSettled P old t n (there (world_of old.world) t to n) (answered turn n) new
-settled P old new t n to turns.Moved is grown none limit =
-    subst (λ (o : Option World). MovedTo old t n (there (world_of old.world) t to n) o new) (sym is)
+    → IsSettled P old t n far (answered turn n) new
+settled P old new t n far turns.Moved same is grown none limit =
+    subst (λ (o : Option World). MovedTo old t n far o new) (sym is)
     (record { world = refl; journal = grown; limit = limit })
-settled P old new t zero to turns.Waiting is grown none limit =
-    (is.0, (refl, is.1, record { world = is.2; journal = none refl; limit = limit }))
-settled P old new t (suc n) to turns.Waiting is grown none limit =
-    subst (λ (o : Option World). MovedTo old t (suc n) (there (world_of old.world) t to (suc n)) o new) (sym is.1)
+settled P old new t zero far turns.Waiting same is grown none limit =
+    let at = same refl in (
+      subst (λ (w : World). Goes (slice_get w.threads t)) at is.0,
+      (
+        refl,
+        subst (λ (w : World). step (program_of P) w t ≡ None) at is.1,
+        record { world = is.2 ∙ at; journal = none refl; limit = limit },
+      ),
+    )
+settled P old new t (suc n) far turns.Waiting same is grown none limit =
+    subst (λ (o : Option World). MovedTo old t (suc n) far o new) (sym is.1)
     (omega arith, record { world = is.2; journal = grown; limit = limit })
-settled P old new t zero to turns.Ended is grown none limit =
-    (is.0, (refl, is.1, record { world = is.2; journal = none refl; limit = limit }))
-settled P old new t (suc n) to turns.Ended is grown none limit =
-    subst (λ (o : Option World). MovedTo old t (suc n) (there (world_of old.world) t to (suc n)) o new) (sym is.1)
+settled P old new t zero far turns.Ended same is grown none limit =
+    let at = same refl in (
+      subst (λ (w : World). IsOver (slice_get w.threads t)) at is.0,
+      (
+        refl,
+        subst (λ (w : World). step (program_of P) w t ≡ None) at is.1,
+        record { world = is.2 ∙ at; journal = none refl; limit = limit },
+      ),
+    )
+settled P old new t (suc n) far turns.Ended same is grown none limit =
+    subst (λ (o : Option World). MovedTo old t (suc n) far o new) (sym is.1)
     (omega arith, record { world = is.2; journal = grown; limit = limit })
+
+none_there : (w : World) (t : ℕ) (to : Frames) (n : ℕ) → NoneLeads w n (there w t to n)
+none_there w t to zero is = refl
+none_there w t to (suc n) is = absurd (omega (arith, is))
+
+-- where a thread lands after no step
+pub lands_none : (w : World) (t : ℕ) (to : Landing) (n : ℕ) → MayLand w t to n → NoneLeads w n (landed w t to n)
+lands_none w t (landings.Whole to) n may = none_there w t to n
+lands_none w t (landings.Top top) n may = λ is. absurd (omega (arith, is, may.0))
 
 pub none_added : (schedule : List ℕ) (t n : ℕ) → n ≡ 0 → schedule ≡ schedule ++ replicate n t
 none_added schedule t zero is = sym (append-nil schedule)
@@ -216,3 +248,24 @@ counts_if P old t s to n (Ok a) new is at below fits h =
     (subst (λ (f : Frames). IsSettled P old t s.count (there (world_of old.world) t f s.count) a new) at
     (subst (λ k. IsSettled P old t k (there (world_of old.world) t to k) a new) is h))
 counts_if P old t s to n (Err e) new is at below fits h = tt
+
+-- ---- a commit of a front
+
+front_counts : (P : Tables) (old : Past) (t : ℕ) (s : Option FrontReach) (a : Commit) (new : Past)
+    → steps_of old < old.limit → FitsFront (world_of old.world) t s
+    → IsSettled P old t (front_count s) (after_front (world_of old.world) t s) a new → IsFrontCommit P old t s a new
+front_counts P old t s commits.Full new below fits h = absurd h
+front_counts P old t s commits.Stale new below fits h = absurd h
+front_counts P old t s commits.Moved new below fits h = (below, fits, h)
+front_counts P old t s commits.Waiting new below fits h = (below, fits, h)
+front_counts P old t s commits.Ended new below fits h = (below, fits, h)
+
+pub front_counts_if : {E : Type 0} (P : Tables) (old : Past) (t : ℕ) (s : Option FrontReach) (r : Result Commit E)
+    (new : Past) (far : World) (n : ℕ) → n ≡ front_count s → far ≡ after_front (world_of old.world) t s
+    → steps_of old < old.limit → FitsFront (world_of old.world) t s
+    → IfOk r (λ a. IsSettled P old t n far a new) → IfOk r (λ a. IsFrontCommit P old t s a new)
+front_counts_if P old t s (Ok a) new far n is at below fits h =
+    front_counts P old t s a new below fits
+    (subst (λ (w : World). IsSettled P old t (front_count s) w a new) at
+    (subst (λ k. IsSettled P old t k far a new) is h))
+front_counts_if P old t s (Err e) new far n is at below fits h = tt

@@ -8,3 +8,6 @@ pub mod MarkLemmas
 pub mod SendingLemmas
 pub mod AnswerLemmas
 pub mod ReplayLemmas
+pub mod AskedLemmas
+pub mod FrontLemmas
+pub mod TopLemmas

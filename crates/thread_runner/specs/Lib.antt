@@ -5,5 +5,6 @@ pub mod Kept
 pub mod Origins
 pub mod Replays
 pub mod Commits
+pub mod Fronts
 pub mod Answers
 pub mod steps

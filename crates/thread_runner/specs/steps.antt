@@ -3,3 +3,5 @@ pub mod Alone
 pub mod Advances
 pub mod Blanks
 pub mod Verdicts
+pub mod Asked
+pub mod Landings

@@ -4,6 +4,7 @@ ghost use Rattle.std.specs.Prelude.{◌≡◌, ◌+◌, ◌<◌, ◌≤◌, true
 ghost use Rattle.machine.specs.Linked.{program_of};
 ghost use Rattle.init_engine.specs.Turns.{Goes, IsTurn, Prints, world_of};
 ghost use Rattle.thread_runner.specs.Commits.{there};
+ghost use Rattle.thread_runner.specs.Fronts.{AreInitialized};
 ghost use Rattle.thread_runner.specs.Local.{AreDone};
 ghost use Rattle.thread_runner.specs.steps.Advances.{counted};
 
@@ -20,6 +21,19 @@ pub(crate) fn all_done(world: &World, done: &DoneSet) -> bool
 {
     for class in 0..done.len() {
         if done.has(class) && !world.is_initialized(class) {
+            return false;
+        }
+    }
+    true
+}
+
+/// Whether classes are initialized.
+pub(crate) fn all_initialized(world: &World, classes: &[u32]) -> bool
+    ensures yes { result ≡ true → AreInitialized classes.now (world_of world.now).shared }
+    ensures no { result ≡ false → ¬ AreInitialized classes.now (world_of world.now).shared }
+{
+    for class in classes {
+        if !world.is_initialized(*class) {
             return false;
         }
     }

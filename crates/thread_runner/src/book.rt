@@ -1,11 +1,13 @@
 //! One history of all threads, and how much of what was printed has gone out.
 
-ghost use Rattle.std.specs.Prelude.{◌≡◌, ◌≢◌, ◌+◌, ◌<◌, ◌≤◌, ◌^◌, ℕ, [], true, false, IfOk, OnOk, OnErr, length};
+ghost use Rattle.std.specs.Prelude.{◌≡◌, ◌≢◌, ◌+◌, ◌<◌, ◌≤◌, ◌^◌, ℕ, [], true, false, Some, None, IfOk, OnOk, OnErr};
+ghost use Rattle.std.specs.Prelude.{length};
 ghost use Rattle.vm_state.specs.declared.classes.ClassState.TheVariants.{Initialized};
 ghost use Rattle.init_engine.specs.Schedules.{AreRuns};
-ghost use Rattle.init_engine.specs.Stacks.{AreFrames};
+ghost use Rattle.init_engine.specs.Stacks.{AreFrames, front_of};
 ghost use Rattle.init_engine.specs.Turns.{world_of};
 ghost use Rattle.thread_runner.specs.Commits.{IsCommit, Same};
+ghost use Rattle.thread_runner.specs.Fronts.{IsFrontCommit};
 ghost use Rattle.thread_runner.specs.Kept.{Grows, IsKept, printed_text, steps_of};
 ghost use Rattle.thread_runner.specs.Local.{AreDone, is_done};
 ghost use Rattle.courses.specs.steps.StepTables.{KeepsSteps};
@@ -13,6 +15,7 @@ ghost use Rattle.thread_runner.specs.Sendings.{AreOfLines, SendsOn};
 ghost use Rattle.thread_runner.specs.steps.Alone.{RunsOn};
 
 use crate::done_set::DoneSet;
+use crate::front::FrontStretch;
 use crate::history::{Commit, History};
 use crate::origin::Origin;
 use crate::sending::{send_lines, text_length};
@@ -23,6 +26,7 @@ use program::Program;
 use sinks::{Sink, SinkFault};
 use std::alloc::{AllocError, Global};
 use std::marker::Model;
+use vm_state::frame::Frame;
 use vm_state::initialization::Frames;
 
 /// A world, the journal that leads to it from the start, and how much of what was printed has gone out.
@@ -140,6 +144,94 @@ impl<O: Origin> Book<O> {
         self.history.commit(alloc, program, thread, stretch)
     }
 
+    /// The innermost frame of a thread above its highest initialization, if there is one.
+    ///
+    /// # Errors
+    /// `AllocError` where memory is refused.
+    pub(crate) fn front(&self, alloc: Global, thread: u32) -> Result<Option<Frame>, AllocError>
+        requires { thread < length self.now.past.world.threads }
+        ensures { IfOk result (λ f. f ≡ front_of (world_of self.now.past.world) thread) }
+    {
+        self.history.world().front(alloc, thread)
+    }
+
+    /// The steps of a stretch on a front, and one more where there is one.
+    ///
+    /// # Errors
+    /// `AllocError` where memory is refused; nothing has changed then.
+    pub(crate) fn commit_front(
+        &mut self,
+        alloc: Global,
+        program: &Program,
+        thread: u32,
+        stretch: FrontStretch<O>,
+    ) -> Result<Commit, AllocError>
+        requires program { program.now ≡ O.program }
+        requires thread { thread < length self.old.past.world.threads }
+        ensures answer { IfOk result
+            (λ a. IsFrontCommit O.program self.old.past thread (Some stretch) a self.new.past) }
+        ensures sent { self.new.sent ≡ self.old.sent }
+        ensures part { self.new.part ≡ self.old.part }
+        ensures within { self.old.sent ≤ length (printed_text self.old) }
+        ensures grows { Grows self.old.past.world.printed self.new.past.world.printed }
+        ensures threads { length self.new.past.world.threads ≡ length self.old.past.world.threads }
+        ensures limit { self.new.past.limit ≡ self.old.past.limit }
+        ensures memory { OnErr result (Same self.old.past self.new.past) }
+    {
+        self.history.commit_front(alloc, program, thread, stretch)
+    }
+
+    /// One step of a thread, where there is one.
+    ///
+    /// # Errors
+    /// `AllocError` where memory is refused; nothing has changed then.
+    pub(crate) fn commit_none(
+        &mut self,
+        alloc: Global,
+        program: &Program,
+        thread: u32,
+    ) -> Result<Commit, AllocError>
+        requires program { program.now ≡ O.program }
+        requires thread { thread < length self.old.past.world.threads }
+        ensures answer { IfOk result (λ a. IsFrontCommit O.program self.old.past thread None a self.new.past) }
+        ensures sent { self.new.sent ≡ self.old.sent }
+        ensures part { self.new.part ≡ self.old.part }
+        ensures within { self.old.sent ≤ length (printed_text self.old) }
+        ensures grows { Grows self.old.past.world.printed self.new.past.world.printed }
+        ensures threads { length self.new.past.world.threads ≡ length self.old.past.world.threads }
+        ensures limit { self.new.past.limit ≡ self.old.past.limit }
+        ensures memory { OnErr result (Same self.old.past self.new.past) }
+    {
+        self.history.commit_none(alloc, program, thread)
+    }
+
+    /// The steps of a stretch on a front, if there is one, and one more where there is one.
+    ///
+    /// # Errors
+    /// `AllocError` where memory is refused; nothing has changed then.
+    pub(crate) fn commit_made(
+        &mut self,
+        alloc: Global,
+        program: &Program,
+        thread: u32,
+        made: Option<FrontStretch<O>>,
+    ) -> Result<Commit, AllocError>
+        requires program { program.now ≡ O.program }
+        requires thread { thread < length self.old.past.world.threads }
+        ensures sent { self.new.sent ≡ self.old.sent }
+        ensures part { self.new.part ≡ self.old.part }
+        ensures within { self.old.sent ≤ length (printed_text self.old) }
+        ensures grows { Grows self.old.past.world.printed self.new.past.world.printed }
+        ensures threads { length self.new.past.world.threads ≡ length self.old.past.world.threads }
+        ensures limit { self.new.past.limit ≡ self.old.past.limit }
+        ensures memory { OnErr result (Same self.old.past self.new.past) }
+    {
+        match made {
+            Some(stretch) => self.commit_front(alloc, program, thread, stretch),
+            None => self.commit_none(alloc, program, thread),
+        }
+    }
+
     /// How many bytes of what was printed have gone out.
     pub fn sent(&self) -> u128
         ensures is { result ≡ self.now.sent }
@@ -200,6 +292,7 @@ impl<O: Origin> Book<O> {
         ensures keeps { OnOk result (KeepsSteps program.now table.new) }
         ensures on { IfOk result (λ r. RunsOn thread self.past r.0.past r.1) }
         ensures sent { IfOk result (λ r. r.0.sent ≡ self.sent) }
+        ensures part { IfOk result (λ r. r.0.part ≡ self.part) }
         ensures most { IfOk result (λ r. r.1 ≤ steps) }
     {
         let Book {

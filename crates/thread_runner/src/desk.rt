@@ -12,16 +12,16 @@ ghost use Rattle.thread_runner.specs.steps.Verdicts.{IsVerdict};
 use crate::answer::{Ended, RunFault, end_with};
 use crate::book::Book;
 use crate::done_set::DoneSet;
+use crate::front::FrontStretch;
 use crate::history::Commit;
 use crate::origin::Origin;
-use crate::stretch::Stretch;
 use init_engine::Rest;
 use journal::Journal;
 use program::Program;
 use sinks::{Sink, SinkFault};
 use std::alloc::{AllocError, Global};
 use std::marker::Brand;
-use vm_state::initialization::Frames;
+use vm_state::frame::Frame;
 
 /// What the sink of a run had got before, how often it had failed, and the limit of steps. Each call of a run picks
 /// them.
@@ -58,11 +58,12 @@ pub(crate) enum Next {
     Leave,
 }
 
-/// What a thread takes along from under the lock.
+/// What a thread takes along from under the lock: its innermost frame, if there is one, and the classes that are
+/// initialized, if it asked for them.
 #[derive(Drop)]
 pub(crate) struct Front {
-    pub frames: Frames,
-    pub done: DoneSet,
+    pub frame: Option<Frame>,
+    pub done: Option<DoneSet>,
 }
 
 /// The book, the sink that got the first bytes of what was printed, and how the run stands.
@@ -127,14 +128,21 @@ impl<O: Session, S: Sink> Desk<O, S> {
         self.over = true;
     }
 
-    /// The frames of a thread and the classes that are initialized, while the run goes on.
-    pub(crate) fn look(&mut self, alloc: Global, program: &Program, thread: u32) -> Option<Front>
+    /// The innermost frame of a thread, and the classes that are initialized, if it asks for them, while the run goes
+    /// on.
+    pub(crate) fn look(
+        &mut self,
+        alloc: Global,
+        program: &Program,
+        thread: u32,
+        asks: bool,
+    ) -> Option<Front>
         requires { thread < length O.start.threads }
     {
         if self.over {
             return None;
         }
-        match front_of(alloc, program, &self.book, thread) {
+        match front_of(alloc, program, &self.book, thread, asks) {
             Ok(front) => Some(front),
             Err(_) => {
                 self.end_for_memory();
@@ -149,7 +157,7 @@ impl<O: Session, S: Sink> Desk<O, S> {
         alloc: Global,
         program: &Program,
         thread: u32,
-        stretch: Stretch<O>,
+        made: Option<FrontStretch<O>>,
     ) -> Next
         requires program { program.now ≡ O.program }
         requires thread { thread < length O.start.threads }
@@ -157,7 +165,7 @@ impl<O: Session, S: Sink> Desk<O, S> {
         if self.over || self.failed {
             return Next::Leave;
         }
-        match self.book.commit(alloc, program, thread, stretch) {
+        match self.book.commit_made(alloc, program, thread, made) {
             Ok(answer) => self.follow(program, answer),
             Err(_) => {
                 self.end_for_memory();
@@ -265,18 +273,35 @@ impl<O: Session, S: Sink> Desk<O, S> {
     }
 }
 
-/// The frames of a thread, and the classes that are initialized.
+/// The classes that are initialized, if they are asked for.
+fn done_in<O: Origin>(
+    alloc: Global,
+    program: &Program,
+    book: &Book<O>,
+    asks: bool,
+) -> Result<Option<DoneSet>, AllocError> {
+    if !asks {
+        return Ok(None);
+    }
+    match book.done(alloc, program) {
+        Ok(done) => Ok(Some(done)),
+        Err(error) => Err(error),
+    }
+}
+
+/// The innermost frame of a thread, and the classes that are initialized, if they are asked for.
 fn front_of<O: Origin>(
     alloc: Global,
     program: &Program,
     book: &Book<O>,
     thread: u32,
+    asks: bool,
 ) -> Result<Front, AllocError>
     requires { thread < length book.now.past.world.threads }
 {
-    match book.frames(alloc, thread) {
-        Ok(frames) => match book.done(alloc, program) {
-            Ok(done) => Ok(Front { frames, done }),
+    match book.front(alloc, thread) {
+        Ok(frame) => match done_in(alloc, program, book, asks) {
+            Ok(done) => Ok(Front { frame, done }),
             Err(error) => Err(error),
         },
         Err(error) => Err(error),

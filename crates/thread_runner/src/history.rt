@@ -1,18 +1,22 @@
 //! The history of all threads, and the world that it leads to.
 
-ghost use Rattle.std.specs.Prelude.{◌≡◌, ◌+◌, ◌<◌, ◌≤◌, ◌^◌, ◌++◌, [], true, false, IfOk, OnErr, length, replicate};
-ghost use Rattle.std.specs.Prelude.{slice_get, vec_len, vec_capacity, OnOk};
+ghost use Rattle.std.specs.Prelude.{◌≡◌, ◌+◌, ◌<◌, ◌≤◌, ◌^◌, ◌++◌, [], true, false, Some, None, IfOk, OnErr, OnOk};
+ghost use Rattle.std.specs.Prelude.{length, replicate, vec_len, vec_capacity};
 ghost use Rattle.semantics.specs.Worlds.{Run};
 ghost use Rattle.machine.specs.Linked.{program_of};
 ghost use Rattle.init_engine.specs.Schedules.{schedule_of, AreRuns};
-ghost use Rattle.init_engine.specs.Turns.{Goes, world_of};
-ghost use Rattle.thread_runner.specs.Commits.{Fits, IsCommit, IsSettled, Same, there};
+ghost use Rattle.init_engine.specs.Turns.{world_of};
+ghost use Rattle.thread_runner.specs.Commits.{Fits, IsCommit, IsSettled, Same};
+ghost use Rattle.thread_runner.specs.Fronts.{FitsFront, IsFrontCommit};
 ghost use Rattle.thread_runner.specs.Kept.{Grows, IsKept, steps_of};
 ghost use Rattle.courses.specs.steps.StepTables.{KeepsSteps};
 ghost use Rattle.thread_runner.specs.steps.Advances.{answered};
 ghost use Rattle.thread_runner.specs.steps.Alone.{RunsOn};
+ghost use Rattle.thread_runner.specs.steps.Landings.{MayLand, landed};
 
-use crate::advance::{advance, all_done, counted};
+use crate::advance::{all_done, all_initialized, counted};
+use crate::front::FrontStretch;
+use crate::landing::{Landing, land};
 use crate::last::run_in;
 use crate::origin::Origin;
 use crate::stretch::Stretch;
@@ -148,7 +152,7 @@ impl<O: Origin> History<O> {
         all_done(&self.world, stretch.done())
     }
 
-    /// Counts so many steps that lead a thread to these frames, and one more where there is one.
+    /// Counts so many steps that lead a thread to where it lands, and one more where there is one.
     ///
     /// # Errors
     /// `AllocError` where memory is refused; nothing has changed then.
@@ -157,26 +161,25 @@ impl<O: Origin> History<O> {
         alloc: Global,
         program: &Program,
         thread: u32,
-        to: Frames,
+        to: Landing,
         count: u64,
     ) -> Result<Commit, AllocError>
         requires program { program.now ≡ O.program }
         requires thread { thread < length self.old.world.threads }
-        requires number { to.thread ≡ thread }
+        requires may { MayLand (world_of self.old.world) thread to count }
         requires most { count ≤ 1023 }
         requires below { steps_of self.old < self.old.limit }
-        requires going { 0 < count → Goes (slice_get (world_of self.old.world).threads thread) }
         requires led { Run (program_of O.program) (world_of self.old.world) (replicate count thread)
-            (there (world_of self.old.world) thread to count) }
+            (landed (world_of self.old.world) thread to count) }
         ensures answer { IfOk result (λ a. IsSettled O.program self.old thread count
-            (there (world_of self.old.world) thread to count) a self.new) }
+            (landed (world_of self.old.world) thread to count) a self.new) }
         ensures grows { Grows self.old.world.printed self.new.world.printed }
         ensures threads { length self.new.world.threads ≡ length self.old.world.threads }
         ensures limit { self.new.limit ≡ self.old.limit }
         ensures memory { OnErr result (Same self.old self.new) }
     {
         self.journal.reserve(1)?;
-        let turn = advance(alloc, &mut self.world, program, thread, to, count)?;
+        let turn = land(alloc, &mut self.world, program, thread, to, count)?;
         let more = counted(turn, count);
         add_some(&mut self.journal, thread, more);
         self.steps += more;
@@ -209,7 +212,80 @@ impl<O: Origin> History<O> {
             return Ok(Commit::Stale);
         }
         let count = stretch.count();
-        self.settle(alloc, program, thread, stretch.into_end(), count)
+        let to = Landing::Whole(stretch.into_end());
+        self.settle(alloc, program, thread, to, count)
+    }
+
+    /// Whether a stretch begins at the innermost frame of its thread, and the classes that it asked for are
+    /// initialized.
+    fn fits_front(&self, thread: u32, stretch: &FrontStretch<O>) -> bool
+        requires { thread < length self.now.world.threads }
+        ensures yes { result ≡ true → FitsFront (world_of self.now.world) thread (Some stretch.now) }
+        ensures no { result ≡ false → ¬ FitsFront (world_of self.now.world) thread (Some stretch.now) }
+    {
+        if !self.world.has_front(thread, stretch.from()) {
+            return false;
+        }
+        all_initialized(&self.world, stretch.asked())
+    }
+
+    /// The steps of a stretch on a front, and one more where there is one.
+    ///
+    /// # Errors
+    /// `AllocError` where memory is refused; nothing has changed then.
+    pub(crate) fn commit_front(
+        &mut self,
+        alloc: Global,
+        program: &Program,
+        thread: u32,
+        stretch: FrontStretch<O>,
+    ) -> Result<Commit, AllocError>
+        requires program { program.now ≡ O.program }
+        requires thread { thread < length self.old.world.threads }
+        ensures answer { IfOk result (λ a. IsFrontCommit O.program self.old thread (Some stretch) a self.new) }
+        ensures grows { Grows self.old.world.printed self.new.world.printed }
+        ensures threads { length self.new.world.threads ≡ length self.old.world.threads }
+        ensures limit { self.new.limit ≡ self.old.limit }
+        ensures memory { OnErr result (Same self.old self.new) }
+    {
+        if self.is_full() {
+            return Ok(Commit::Full);
+        }
+        if !self.fits_front(thread, &stretch) {
+            return Ok(Commit::Stale);
+        }
+        let count = stretch.count();
+        let to = Landing::Top(stretch.into_top());
+        self.settle(alloc, program, thread, to, count)
+    }
+
+    /// One step of a thread, where there is one.
+    ///
+    /// # Errors
+    /// `AllocError` where memory is refused; nothing has changed then.
+    pub(crate) fn commit_none(
+        &mut self,
+        alloc: Global,
+        program: &Program,
+        thread: u32,
+    ) -> Result<Commit, AllocError>
+        requires program { program.now ≡ O.program }
+        requires thread { thread < length self.old.world.threads }
+        ensures answer { IfOk result (λ a. IsFrontCommit O.program self.old thread None a self.new) }
+        ensures grows { Grows self.old.world.printed self.new.world.printed }
+        ensures threads { length self.new.world.threads ≡ length self.old.world.threads }
+        ensures limit { self.new.limit ≡ self.old.limit }
+        ensures memory { OnErr result (Same self.old self.new) }
+    {
+        if self.is_full() {
+            return Ok(Commit::Full);
+        }
+        let none = Frames {
+            thread,
+            segment: None,
+            levels: None,
+        };
+        self.settle(alloc, program, thread, Landing::Whole(none), 0)
     }
 
     /// How many steps it may still have.

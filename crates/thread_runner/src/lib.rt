@@ -4,11 +4,15 @@
 mod advance;
 mod alone;
 mod answer;
+mod asked;
 mod book;
 mod desk;
 pub mod done_set;
+mod front;
 mod gate;
 mod history;
+mod known;
+mod landing;
 mod last;
 pub mod laws;
 mod local_end;
@@ -20,6 +24,7 @@ pub mod running;
 mod sending;
 pub mod stretch;
 mod tools;
+mod top;
 mod walk;
 mod worker;
 

@@ -3,9 +3,9 @@
 ghost use Rattle.std.specs.Prelude.{◌≡◌, ◌<◌, length};
 
 use crate::desk::{Desk, Front, Next, Session};
+use crate::front::{FrontStretch, next_front};
 use crate::gate::{Gate, ask};
-use crate::running::next_stretch;
-use crate::stretch::Stretch;
+use crate::known::Known;
 use crate::tools::Tools;
 use program::Program;
 use sinks::Sink;
@@ -27,13 +27,16 @@ pub(crate) fn work<O: Session, S: Sink, G: Gate, R: Wait>(
 {
     let mut job = 0u64;
     let mut tools = Tools::<O>::new(alloc);
+    let mut known = Known::none();
     for _ in rt.forever() {
-        let Some(front) = look(rt, alloc, program, desk, thread) else {
+        let Some(front) = look(rt, alloc, program, desk, thread, known.is_old()) else {
             moved.notify_all();
             return;
         };
         ask(gate, thread, job);
-        let made = next_stretch(alloc, program, &mut tools, front.frames, front.done);
+        let Front { frame, done } = front;
+        known.renew(done, program.given_count());
+        let made = next_front(alloc, program, &mut tools, thread, frame, known.done());
         gate.done(thread, job);
         let Ok(made) = made else {
             desk.lock(rt).end_for_memory();
@@ -56,14 +59,15 @@ fn look<O: Session, S: Sink, R: Wait>(
     program: &Program,
     desk: &Mutex<Desk<O, S>>,
     thread: u32,
+    asks: bool,
 ) -> Option<Front>
     requires { thread < length O.start.threads }
 {
-    desk.lock(rt).look(alloc, program, thread)
+    desk.lock(rt).look(alloc, program, thread, asks)
 }
 
-/// Commits a stretch. A thread that waits sleeps until another one has moved or the run is over, and whoever moves or
-/// ends it wakes all.
+/// Commits a stretch, if there is one. A thread that waits sleeps until another one has moved or the run is over, and
+/// whoever moves or ends it wakes all.
 fn settle<O: Session, S: Sink, R: Wait>(
     rt: &R,
     alloc: Global,
@@ -71,7 +75,7 @@ fn settle<O: Session, S: Sink, R: Wait>(
     desk: &Mutex<Desk<O, S>>,
     moved: &Condvar,
     thread: u32,
-    made: Stretch<O>,
+    made: Option<FrontStretch<O>>,
 ) -> Next
     requires program { program.now ≡ O.program }
     requires thread { thread < length O.start.threads }

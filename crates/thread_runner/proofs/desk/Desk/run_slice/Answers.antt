@@ -1,5 +1,5 @@
 use Rattle.std.proofs.Common.{refl, ◌∙◌, arith}
-use Rattle.thread_runner.proofs.AnswerLemmas.{beginning, holds_still}
+use Rattle.thread_runner.proofs.AnswerLemmas.{holds_still, lines_gone}
 use Rattle.thread_runner.proofs.AloneLemmas.{room_on}
 use Rattle.thread_runner.proofs.desk.Desk.run_slice.Goals as goal
 
@@ -11,6 +11,7 @@ invariant_of-desk g c =
       sent = holds_still g.O.Session.before (g.S.Sink.got d.sink) d.book.past.world.printed
           c.in-Ok.book.past.world.printed d.book.sent c.in-Ok.book.sent on.grows c.world-world.ensures.sent
           c.in-Ok.ensures.sent d.sent;
+      part = λ well. c.in-Ok.ensures.part ∙ d.part well;
       threads = on.threads ∙ d.threads;
       limit_is = on.limit ∙ d.limit_is;
       well = d.well;
@@ -19,11 +20,9 @@ invariant_of-desk g c =
 
 pub returns-in-Err-clause-memory : goal.returns-in-Err-clause-memory
 returns-in-Err-clause-memory g c =
-    let d = c.args.self in (
-      d.book.sent,
-      beginning g.O.Origin.program g.O.Origin.start d.book.past d.book.sent d.book.sent g.O.Session.before
-          (g.S.Sink.got d.sink) c.world-world.ensures.kept refl c.world-world.ensures.sent d.sent,
-    )
+    let d = c.args.self in
+    lines_gone g.O.Origin.program g.O.Origin.start d.book.past d.book.sent g.O.Session.before (g.S.Sink.got d.sink)
+    c.world-world.ensures.kept (c.world-world.ensures.lines (d.part c.requires.failed)) d.sent
 
 pub returns-in-Ok-clause-room : goal.returns-in-Ok-clause-room
 returns-in-Ok-clause-room g c =

@@ -7,11 +7,11 @@ invariant_of-self g c =
     let d = c.args.self.now in
     record {
       sent = holds_still g.O.Session.before (g.S.Sink.got d.sink) d.book.past.world.printed
-          c.commit.new.self.past.world.printed d.book.sent c.commit.new.self.sent c.commit.ensures.grows
-          c.commit.ensures.within c.commit.ensures.sent d.sent;
-      part = λ well. c.commit.ensures.part ∙ d.part well;
-      threads = c.commit.ensures.threads ∙ d.threads;
-      limit_is = c.commit.ensures.limit ∙ d.limit_is;
+          c.commit_made.new.self.past.world.printed d.book.sent c.commit_made.new.self.sent c.commit_made.ensures.grows
+          c.commit_made.ensures.within c.commit_made.ensures.sent d.sent;
+      part = λ well. c.commit_made.ensures.part ∙ d.part well;
+      threads = c.commit_made.ensures.threads ∙ d.threads;
+      limit_is = c.commit_made.ensures.limit ∙ d.limit_is;
       well = d.well;
       fault = d.fault;
     }

@@ -1,4 +1,4 @@
-use Rattle.std.proofs.Common.{◌<◌, sym, subst, replicate}
+use Rattle.std.proofs.Common.{◌<◌, ◌∙◌, sym, subst, replicate}
 use Rattle.vm_state.specs.declared.initialization.Frames.{Frames}
 use Rattle.semantics.specs.Worlds.{Run}
 use Rattle.machine.specs.Linked.{program_of}
@@ -7,11 +7,14 @@ use Rattle.thread_runner.specs.Commits.{there}
 use Rattle.thread_runner.proofs.BookLemmas.{counts_if, has_gone, led_there}
 use Rattle.thread_runner.proofs.history.History.commit.Goals as goal
 
-pub settle-requires-clause-going : goal.settle-requires-clause-going
-settle-requires-clause-going g c = λ some.
-    has_gone g.O.Origin.program (world_of c.args.self.now.world) c.args.thread c.args.stretch
-    (c.fits.ensures.yes c.if-not-fits.false) c.into_end.ensures.run
-    (subst (λ k. 0 < k) c.count-count.ensures.is some)
+pub settle-requires-clause-may : goal.settle-requires-clause-may
+settle-requires-clause-may g c = (
+  c.into_end.ensures.thread ∙ (c.fits.ensures.yes c.if-not-fits.false).0.0,
+  λ some.
+      has_gone g.O.Origin.program (world_of c.args.self.now.world) c.args.thread c.args.stretch
+      (c.fits.ensures.yes c.if-not-fits.false) c.into_end.ensures.run
+      (subst (λ k. 0 < k) c.count-count.ensures.is some),
+)
 
 pub settle-requires-clause-led : goal.settle-requires-clause-led
 settle-requires-clause-led g c =

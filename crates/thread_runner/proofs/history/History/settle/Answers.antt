@@ -6,17 +6,19 @@ use Rattle.machine.specs.Linked.{program_of}
 use Rattle.init_engine.specs.Schedules.{schedule_of}
 use Rattle.init_engine.specs.Turns.{IsTurn, world_of}
 use Rattle.thread_runner.specs.declared.history.Commit.{Commit}
-use Rattle.thread_runner.specs.Commits.{IsSettled, there}
+use Rattle.thread_runner.specs.Commits.{IsSettled}
 use Rattle.thread_runner.specs.Kept.{Grows, Past, steps_of}
 use Rattle.thread_runner.specs.steps.Advances.{counted}
-use Rattle.thread_runner.proofs.BookLemmas.{counted_small, grows_none, keeps, printed_same, settled, turn_run}
+use Rattle.thread_runner.specs.steps.Landings.{MayLand, landed}
+use Rattle.thread_runner.proofs.BookLemmas.{counted_small, grows_none, keeps, lands_none, printed_same, settled}
+use Rattle.thread_runner.proofs.BookLemmas.{turn_run}
 use Rattle.thread_runner.proofs.history.History.settle.Goals as goal
 
 pub returns-in_err-turn-clause-grows : goal.returns-in_err-turn-clause-grows
 returns-in_err-turn-clause-grows g c =
-    subst (λ (h : Past). Grows h.world.printed c.advance.new.world.printed) c.self.view_is
-    (grows_none c.self.inside.world.printed c.advance.new.world.printed
-    (printed_same c.advance.new.world c.self.inside.world c.in_err-turn.ensures.memory))
+    subst (λ (h : Past). Grows h.world.printed c.land.new.world.printed) c.self.view_is
+    (grows_none c.self.inside.world.printed c.land.new.world.printed
+    (printed_same c.land.new.world c.self.inside.world c.in_err-turn.ensures.memory))
 
 pub invariant_of-self-2 : goal.invariant_of-self-2
 invariant_of-self-2 g c =
@@ -29,13 +31,13 @@ invariant_of-self-2 g c =
       journal = c.self.inside.journal.items;
       limit = c.self.inside.limit;
     } in
-    let at = there (world_of h.world) t c.args.to n in
-    let far : IsTurn (program_of P) at t turn (world_of c.advance.new.world) =
-    subst (λ (Q : Tables). IsTurn (program_of Q) at t turn (world_of c.advance.new.world)) c.requires.program
+    let at = landed (world_of h.world) t c.args.to n in
+    let far : IsTurn (program_of P) at t turn (world_of c.land.new.world) =
+    subst (λ (Q : Tables). IsTurn (program_of Q) at t turn (world_of c.land.new.world)) c.requires.program
     c.in_ok-turn.ensures.far in
     let led : Run (program_of P) (world_of h.world) (replicate n t) at =
     subst (λ (x : Past). Run (program_of P) (world_of x.world) (replicate n t)
-    (there (world_of x.world) t c.args.to n)) (sym c.self.view_is) c.requires.led in
+    (landed (world_of x.world) t c.args.to n)) (sym c.self.view_is) c.requires.led in
     let is : c.counted-more.result ≡ counted turn n = c.counted-more.ensures in
     let schedule : schedule_of c.add_some.new.runs.items ≡ schedule_of h.journal ++ replicate (counted turn n) t =
     c.add_some.ensures.schedule
@@ -54,8 +56,8 @@ invariant_of-self-2 g c =
       length-replicate (counted turn n) t,
     ) in (
       sum,
-      keeps P g.O.Origin.start h c.advance.new.world c.add_some.new.runs.items (counted turn n) t c.self.invariant.1
-          (turn_run P (world_of h.world) at (world_of c.advance.new.world) t n turn led far) schedule
+      keeps P g.O.Origin.start h c.land.new.world c.add_some.new.runs.items (counted turn n) t c.self.invariant.1
+          (turn_run P (world_of h.world) at (world_of c.land.new.world) t n turn led far) schedule
           c.add_some.ensures.runs below (counted_small turn n c.requires.most),
     )
 
@@ -71,21 +73,23 @@ returns-clause-answer g c =
       limit = c.self.inside.limit;
     } in
     let new : Past = record {
-      world = c.advance.new.world;
+      world = c.land.new.world;
       journal = c.add_some.new.runs.items;
       limit = c.self.inside.limit;
     } in
-    let at = there (world_of h.world) t c.args.to n in
-    let far : IsTurn (program_of P) at t turn (world_of c.advance.new.world) =
-    subst (λ (Q : Tables). IsTurn (program_of Q) at t turn (world_of c.advance.new.world)) c.requires.program
+    let at = landed (world_of h.world) t c.args.to n in
+    let far : IsTurn (program_of P) at t turn (world_of c.land.new.world) =
+    subst (λ (Q : Tables). IsTurn (program_of Q) at t turn (world_of c.land.new.world)) c.requires.program
     c.in_ok-turn.ensures.far in
     let is : c.counted-more.result ≡ counted turn n = c.counted-more.ensures in
     let schedule : schedule_of new.journal ≡ schedule_of h.journal ++ replicate (counted turn n) t =
     c.add_some.ensures.schedule
     ∙ (ap (λ j. schedule_of j ++ replicate c.counted-more.result t) c.reserve.ensures.items
     ∙ ap (λ k. schedule_of h.journal ++ replicate k t) is) in
-    let done = settled P h new t n c.args.to turn far schedule
+    let may : MayLand (world_of h.world) t c.args.to n =
+    subst (λ (x : Past). MayLand (world_of x.world) t c.args.to n) (sym c.self.view_is) c.requires.may in
+    let done = settled P h new t n at turn (lands_none (world_of h.world) t c.args.to n may) far schedule
     (λ z. c.add_some.ensures.none (is ∙ z) ∙ c.reserve.ensures.items) refl in
-    subst (λ (x : Past). IsSettled P x t n (there (world_of x.world) t c.args.to n) c.answer_of.result new)
+    subst (λ (x : Past). IsSettled P x t n (landed (world_of x.world) t c.args.to n) c.answer_of.result new)
     c.self.view_is
     (subst (λ (a : Commit). IsSettled P h t n at a new) (sym c.answer_of.ensures) done)
