@@ -1,6 +1,6 @@
 //! The last thread of a run: once all others have ended it goes on alone, on the caller's thread.
 
-ghost use Rattle.std.specs.Prelude.{◌≡◌, ◌+◌, ◌-◌, ◌<◌, ◌≤◌, ◌^◌, ◌++◌, ℕ, false, length, replicate};
+ghost use Rattle.std.specs.Prelude.{◌≡◌, ◌+◌, ◌-◌, ◌<◌, ◌≤◌, ◌^◌, ◌++◌, false, length, replicate};
 ghost use Rattle.std.specs.Prelude.{IfErr, IfOk, IfSome, OnOk};
 ghost use Rattle.machine.specs.Linked.{program_of};
 ghost use Rattle.courses.specs.steps.StepTables.{KeepsSteps};
