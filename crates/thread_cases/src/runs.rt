@@ -1,9 +1,9 @@
 //! Runs of threads, and how they end.
 
-use crate::programs::{EVER, M, SPIN, Tape, program_of, start_of};
+use crate::programs::{EVER, M, SPIN, Tape, program_of, start_of, start_with};
 use std::process::Abort;
 use std::test::*;
-use thread_runner::{Open, RunFault, run_threads};
+use thread_runner::{Gate, Open, RunFault, run_threads};
 
 #[test]
 fn one_thread_prints(rt: HostRuntime) -> Result<(), Fail> {
@@ -38,10 +38,38 @@ fn local_instructions_are_counted(rt: HostRuntime) -> Result<(), Fail> {
     Ok(())
 }
 
+/// Always ready, and asked.
+#[derive(Drop)]
+struct Asked;
+
+impl Gate for Asked {
+    fn ready(&self, _who: u32, _job: u64, _turn: u32) -> bool {
+        true
+    }
+
+    fn done(&self, _who: u32, _job: u64) {}
+}
+
 #[test]
 fn a_limit_ends_a_run(rt: HostRuntime) -> Result<(), Fail> {
     let program = program_of(rt.alloc(), EVER)?;
-    let world = start_of(rt.alloc(), &program, &["Ever"])?;
+    let world = start_with(rt.alloc(), &program, &["Ever"], &["Ever"])?;
+    let tape = Tape::new(rt.alloc(), 100);
+    let (answer, _tape) = run_threads(&rt, rt.alloc(), &program, world, &Asked, tape, 5_000);
+    let Err(RunFault::Limit(ended)) = answer else {
+        return Err(Fail::new("no limit"));
+    };
+    assert_eq!(rt;
+        ended.journal.text(rt.alloc())?.as_slice(),
+        b"0 5121\n".as_slice()
+    );
+    Ok(())
+}
+
+#[test]
+fn a_limit_ends_a_run_of_one_thread(rt: HostRuntime) -> Result<(), Fail> {
+    let program = program_of(rt.alloc(), EVER)?;
+    let world = start_with(rt.alloc(), &program, &["Ever"], &["Ever"])?;
     let tape = Tape::new(rt.alloc(), 100);
     let (answer, _tape) = run_threads(&rt, rt.alloc(), &program, world, &Open, tape, 5_000);
     let Err(RunFault::Limit(ended)) = answer else {
@@ -51,6 +79,25 @@ fn a_limit_ends_a_run(rt: HostRuntime) -> Result<(), Fail> {
         ended.journal.text(rt.alloc())?.as_slice(),
         b"0 5121\n".as_slice()
     );
+    Ok(())
+}
+
+#[test]
+fn threads_of_two_classes_end(rt: HostRuntime) -> Result<(), Fail> {
+    let text = format!(in rt.alloc(); "{SPIN}\n{M}")?;
+    let program = program_of(rt.alloc(), &text)?;
+    let world = start_of(rt.alloc(), &program, &["M", "Spin", "M"])?;
+    let tape = Tape::new(rt.alloc(), 100);
+    let (answer, tape) = run_threads(&rt, rt.alloc(), &program, world, &Open, tape, 10_000);
+    let Ok(ended) = answer else {
+        return Err(Fail::new("no end"));
+    };
+    assert_eq!(rt; tape.got.as_slice(), b"7\n7\n".as_slice());
+    let mut steps = 0u64;
+    for run in ended.journal.runs() {
+        steps = steps.wrapping_add(run.1);
+    }
+    assert_eq!(rt; steps, 7 + 3006 + 5);
     Ok(())
 }
 
