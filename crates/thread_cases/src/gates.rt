@@ -2,7 +2,7 @@
 
 ghost use Rattle.std.specs.Prelude.{Some};
 
-use crate::programs::{CIRCLE, M, Q_AND_T, SPIN, Tape, program_of, start_of};
+use crate::programs::{CIRCLE, M, Q_AND_T, SPIN, Tape, program_of, start_of, start_with};
 use std::process::Abort;
 use std::rt::Clock;
 use std::sync::atomic::{AtomicU64, Ordering};
@@ -174,15 +174,16 @@ fn a_stretch_is_made_while_the_sink_has_the_lock(rt: HostRuntime) -> Result<(), 
     Ok(())
 }
 
-/// Holds each of two threads before its sixth commit until both are there.
+/// Holds each of two threads before its stretch of a number until both are there.
 #[derive(Drop)]
 struct Both<'a, R: Clock> {
+    job: u64,
     meet: Meet<'a, R>,
 }
 
 impl<'a, R: Clock + Sync> Gate for Both<'a, R> {
     fn ready(&self, who: u32, job: u64, turn: u32) -> bool {
-        job != 5 || self.meet.ready(who, job, turn)
+        job != self.job || self.meet.ready(who, job, turn)
     }
 
     fn done(&self, _who: u32, _job: u64) {}
@@ -193,6 +194,26 @@ fn two_threads_wait_for_one_another(rt: HostRuntime) -> Result<(), Fail> {
     let program = program_of(rt.alloc(), CIRCLE)?;
     let world = start_of(rt.alloc(), &program, &["Pa", "Pb"])?;
     let gate = Both {
+        job: 5,
+        meet: Meet::new(&rt, 2),
+    };
+    let tape = Tape::new(rt.alloc(), 100);
+    let (answer, tape) = run_threads(&rt, rt.alloc(), &program, world, &gate, tape, 10_000);
+    let Err(RunFault::Stuck(ended)) = answer else {
+        return Err(Fail::new("not stuck"));
+    };
+    assert_eq!(rt; tape.got.len(), 0);
+    assert_eq!(rt; ended.seen.threads.len(), 2);
+    assert_eq!(rt; gate.meet.late.load(Ordering::SeqCst), 0);
+    Ok(())
+}
+
+#[test]
+fn two_threads_wait_where_their_entries_are_initialized(rt: HostRuntime) -> Result<(), Fail> {
+    let program = program_of(rt.alloc(), CIRCLE)?;
+    let world = start_with(rt.alloc(), &program, &["Pa", "Pb"], &["Pa", "Pb"])?;
+    let gate = Both {
+        job: 3,
         meet: Meet::new(&rt, 2),
     };
     let tape = Tape::new(rt.alloc(), 100);

@@ -5,10 +5,13 @@ ghost use Rattle.std.specs.Prelude.{Some};
 use cases::{add_class_files, modified_utf8};
 use classfile::{ClassName, read};
 use init_engine::World;
+use init_engine::starting::{entry_classes, lazy_shared};
 use program::{Program, link};
 use std::alloc::{AllocError, Global};
 use std::test::*;
 use thread_runner::{Sink, SinkFault};
+use vm_state::classes::Fields;
+use vm_state::heap::Row;
 
 /// A class that prints 7.
 pub const M: &str = "class M: main 8 8 out bipush 7 println return";
@@ -38,6 +41,10 @@ class Cb: static final y:I, initializer 8 8 getstatic Ca.x:I putstatic Cb.y:I re
 class Pa: main 8 8 getstatic Ca.x:I pop return
 class Pb: main 8 8 getstatic Cb.y:I pop return";
 
+/// A static method of one class that another calls.
+pub const SQ: &str = "class Sq: static f(I)I 2 8 iload_0 iload_0 imul ireturn
+class Main21: main 8 8 iconst_3 invokestatic Sq.f(I)I pop return";
+
 /// The program of classes in their text form.
 pub fn program_of(alloc: Global, text: &str) -> Result<Program, Fail> {
     let mut files = Vec::new(alloc);
@@ -60,14 +67,38 @@ pub fn program_of(alloc: Global, text: &str) -> Result<Program, Fail> {
 
 /// The lazy start of these entries.
 pub fn start_of(alloc: Global, program: &Program, entries: &[&str]) -> Result<World, Fail> {
-    let mut names = Vec::new(alloc);
-    for entry in entries {
-        names.push(name_of(alloc, entry)?)?;
-    }
-    match World::lazy(alloc, program, &names) {
+    match World::lazy(alloc, program, &names_of(alloc, entries)?) {
         Ok(world) => Ok(world),
         Err(_) => Err(Fail::new("no start")),
     }
+}
+
+/// The start of these entries where these classes are initialized, whose static fields no initializer sets.
+pub fn start_with(
+    alloc: Global,
+    program: &Program,
+    entries: &[&str],
+    initialized: &[&str],
+) -> Result<World, Fail> {
+    let Ok(classes) = entry_classes(alloc, program, &names_of(alloc, entries)?) else {
+        return Err(Fail::new("no entries"));
+    };
+    let mut shared = lazy_shared(alloc, program, classes.len())?;
+    for name in names_of(alloc, initialized)?.iter() {
+        let Some(class) = program.number_of(alloc, name)? else {
+            return Err(Fail::new("no class"));
+        };
+        shared.initialize(alloc, class, Fields::new(alloc), Row::new(alloc))?;
+    }
+    Ok(World::start(alloc, shared, &classes)?)
+}
+
+fn names_of(alloc: Global, texts: &[&str]) -> Result<Vec<ClassName>, AllocError> {
+    let mut names = Vec::new(alloc);
+    for text in texts {
+        names.push(name_of(alloc, text)?)?;
+    }
+    Ok(names)
 }
 
 fn name_of(alloc: Global, text: &str) -> Result<ClassName, AllocError> {

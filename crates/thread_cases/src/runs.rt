@@ -1,10 +1,10 @@
 //! Runs of threads, and how they end.
 
-use crate::programs::{EVER, LATE, M, SPIN, TELL, Tape, program_of, start_of};
+use crate::programs::{EVER, LATE, M, SPIN, TELL, Tape, program_of, start_of, start_with};
 use std::process::Abort;
 use std::test::*;
 use thread_runner::replay::replay;
-use thread_runner::{Open, RunFault, run_threads};
+use thread_runner::{Gate, Open, RunFault, run_threads};
 
 #[test]
 fn one_thread_prints(rt: HostRuntime) -> Result<(), Fail> {
@@ -39,10 +39,38 @@ fn local_instructions_are_counted(rt: HostRuntime) -> Result<(), Fail> {
     Ok(())
 }
 
+/// Always ready, and asked.
+#[derive(Drop)]
+struct Asked;
+
+impl Gate for Asked {
+    fn ready(&self, _who: u32, _job: u64, _turn: u32) -> bool {
+        true
+    }
+
+    fn done(&self, _who: u32, _job: u64) {}
+}
+
 #[test]
 fn a_limit_ends_a_run(rt: HostRuntime) -> Result<(), Fail> {
     let program = program_of(rt.alloc(), EVER)?;
-    let world = start_of(rt.alloc(), &program, &["Ever"])?;
+    let world = start_with(rt.alloc(), &program, &["Ever"], &["Ever"])?;
+    let tape = Tape::new(rt.alloc(), 100);
+    let (answer, _tape) = run_threads(&rt, rt.alloc(), &program, world, &Asked, tape, 5_000);
+    let Err(RunFault::Limit(ended)) = answer else {
+        return Err(Fail::new("no limit"));
+    };
+    assert_eq!(rt;
+        ended.journal.text(rt.alloc())?.as_slice(),
+        b"0 5121\n".as_slice()
+    );
+    Ok(())
+}
+
+#[test]
+fn a_limit_ends_a_run_of_one_thread(rt: HostRuntime) -> Result<(), Fail> {
+    let program = program_of(rt.alloc(), EVER)?;
+    let world = start_with(rt.alloc(), &program, &["Ever"], &["Ever"])?;
     let tape = Tape::new(rt.alloc(), 100);
     let (answer, _tape) = run_threads(&rt, rt.alloc(), &program, world, &Open, tape, 5_000);
     let Err(RunFault::Limit(ended)) = answer else {
@@ -125,6 +153,21 @@ fn what_the_last_thread_prints_goes_out_while_it_runs(rt: HostRuntime) -> Result
     };
     assert_eq!(rt; sent, 1_000);
     assert_eq!(rt; tape.got.len(), 1_000);
+    Ok(())
+}
+
+#[test]
+fn threads_of_two_classes_end(rt: HostRuntime) -> Result<(), Fail> {
+    let text = format!(in rt.alloc(); "{SPIN}\n{M}")?;
+    let program = program_of(rt.alloc(), &text)?;
+    let world = start_of(rt.alloc(), &program, &["M", "Spin", "M"])?;
+    let tape = Tape::new(rt.alloc(), 100);
+    let (answer, tape) = run_threads(&rt, rt.alloc(), &program, world, &Open, tape, 10_000);
+    let Ok(ended) = answer else {
+        return Err(Fail::new("no end"));
+    };
+    assert_eq!(rt; tape.got.as_slice(), b"7\n7\n".as_slice());
+    assert_eq!(rt; steps_in(ended.journal.runs()), 7 + 3006 + 5);
     Ok(())
 }
 
