@@ -80,9 +80,9 @@ pub fn build_here(
     }
 }
 
-/// Builds an image from class files' bytes as `build_here` does, by 1 to 64 workers, each in a thread of its own, or one
-/// on this thread. Each worker asks the gate before it initializes a class. What is promised of the image is the same
-/// for any number of workers, and so is the image.
+/// Builds an image from class files' bytes as `build_here` does, by 1 to 64 workers, each in a thread of its own, or
+/// one on this thread. Each worker asks the gate before it initializes a class. What is promised of the image is the
+/// same for any number of workers, and so is the image.
 ///
 /// # Errors
 /// The first that holds of `Budget`, `Wave` of `Workers` (there are none or more than 64), `Class` (a text is no class

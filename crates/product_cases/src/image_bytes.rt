@@ -42,8 +42,8 @@ fn built_by<R: Threads + Wait + Sync>(
 ///
 /// - `length`, how many bytes it has; `bytes OFFSET LENGTH`, those that stand there; `regions`, those between the class
 ///   files and the digest.
-/// - `orders`: `same` where the files in the opposite order give the same bytes; `workers`: where they do in both orders
-///   by 1, 2 and 64 workers.
+/// - `orders`: `same` where the files in the opposite order give the same bytes; `workers`: where they do in both
+///   orders by 1, 2 and 64 workers.
 /// - `whole`, `cuts`, `changes`: what reading it answers, reading its first bytes, by their number, and reading it with
 ///   one byte changed, by its offset. A number is told where the answer is another than that of the number before.
 /// - `swapped PLACE PLACE` and `then BYTE`, what reading it answers with two class files in each other's place, or with

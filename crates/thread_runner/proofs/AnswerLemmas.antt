@@ -32,8 +32,8 @@ use Rattle.thread_runner.specs.steps.Verdicts.{IsVerdict}
 use Rattle.thread_runner.proofs.SendingLemmas.{Holds, holds_appends, lines_text, text_stays}
 
 -- the first bytes of what was printed
-pub beginning_of : (P : Tables) (start : World) (schedule : List ℕ) (s : Standing) (n : ℕ) (before got : Option (List ℕ))
-    → Run (program_of P) start schedule (world_of s) → n ≤ length (text_of s.printed)
+pub beginning_of : (P : Tables) (start : World) (schedule : List ℕ) (s : Standing) (n : ℕ)
+    (before got : Option (List ℕ)) → Run (program_of P) start schedule (world_of s) → n ≤ length (text_of s.printed)
     → Appends before got (take n (text_of s.printed)) → IsBeginning P start n before got
 unfolding shared_of
 beginning_of P start schedule s n before got run within sent = record {
@@ -109,8 +109,8 @@ answers P start limit failed failures schedule s (Some r) before got run sent v 
     answer_of P start limit failed failures schedule s r before got run sent v
 
 -- a sink that has got all
-pub holds_all : (before got : Option (List ℕ)) (text : List ℕ) (n : ℕ) → n ≡ length text → Holds before got (take n text)
-    → Appends before got text
+pub holds_all : (before got : Option (List ℕ)) (text : List ℕ) (n : ℕ) → n ≡ length text
+    → Holds before got (take n text) → Appends before got text
 holds_all before got text n is holds =
     subst (λ (t : List ℕ). Appends before got t) (ap (λ k. take k text) is ∙ take-length text)
     (holds_appends before got (take n text) holds)

@@ -1,6 +1,7 @@
 -- Lines go out, one after the other.
 use Rattle.std.proofs.Common.{◌≡◌, ℕ, zero, suc, ◌+◌, ◌<◌, ◌≤◌, ◌++◌, List, [], ◌∷◌, Option, Some, None, refl, sym, ap}
-use Rattle.std.proofs.Common.{subst, ◌∙◌, arith, slice_get, take, drop, length, length-append, length-drop, append_assoc}
+use Rattle.std.proofs.Common.{subst, ◌∙◌, arith, slice_get, take, drop, length, length-append, length-drop}
+use Rattle.std.proofs.Common.{append_assoc}
 use Rattle.std.proofs.Common.{append-nil, ◌⊎◌, inl, inr, get_or}
 use Rattle.std.proofs.Math.Nat.{eq-or-lt_of_le}
 use Rattle.std.proofs.Math.Seq.{take-add, take-append-add, take-length}

@@ -64,4 +64,5 @@ IsFault P start limit (Stuck e) before after failed failures = HasEnded P start 
 -- Spawn: the first lines of it.
 abbrev pub IsAnswer : Tables → World → ℕ → Result Ended RunFault → Option (List ℕ) → Option (List ℕ) → ℕ → ℕ → Type 0
 IsAnswer P start limit (Ok e) before after failed failures = HasEnded P start e AllEnded before after
-IsAnswer P start limit (Err fault) before after failed failures = IsFault P start limit fault before after failed failures
+IsAnswer P start limit (Err fault) before after failed failures =
+    IsFault P start limit fault before after failed failures
