@@ -1,6 +1,6 @@
 //! The stacks of a world's threads, one by one.
 
-ghost use Rattle.std.specs.Prelude.{◌≡◌, ◌≢◌, ◌<◌, true, false, Some, IfOk, length};
+ghost use Rattle.std.specs.Prelude.{◌≡◌, ◌≢◌, ◌<◌, true, false, Some, IfOk, length, slice_get};
 ghost use Rattle.vm_state.specs.declared.classes.ClassState.TheVariants.{Initialized};
 ghost use Rattle.init_engine.specs.Stacks.{IsStackOf, AreFrames, front_of, innermost_of};
 ghost use Rattle.init_engine.specs.Threads.{thread_of, HasNumber};
