@@ -68,6 +68,7 @@ fn two_threads_meet(rt: HostRuntime) -> Result<(), Fail> {
     };
     assert_eq!(rt; tape.got.as_slice(), b"5\n".as_slice());
     assert_eq!(rt; ended.seen.threads.len(), 2);
+    assert!(rt; gate.inside.load(Ordering::SeqCst) >= 2);
     assert_eq!(rt; gate.late.load(Ordering::SeqCst), 0);
     Ok(())
 }
@@ -84,7 +85,45 @@ fn sixty_four_threads_meet(rt: HostRuntime) -> Result<(), Fail> {
     };
     assert_eq!(rt; tape.got.as_slice(), b"5\n".as_slice());
     assert_eq!(rt; ended.seen.threads.len(), 64);
+    assert!(rt; gate.inside.load(Ordering::SeqCst) >= 64);
     assert_eq!(rt; gate.late.load(Ordering::SeqCst), 0);
+    Ok(())
+}
+
+/// Holds threads after their first stretch, which is not yet committed, until all are there.
+#[derive(Drop)]
+struct After<'a, R: Clock> {
+    meet: Meet<'a, R>,
+}
+
+impl<'a, R: Clock + Sync> Gate for After<'a, R> {
+    fn ready(&self, _who: u32, _job: u64, _turn: u32) -> bool {
+        true
+    }
+
+    fn done(&self, who: u32, job: u64) {
+        if job == 0 {
+            let _ready = self.meet.ready(who, job, 0);
+        }
+    }
+}
+
+#[test]
+fn two_threads_meet_after_a_stretch(rt: HostRuntime) -> Result<(), Fail> {
+    let program = program_of(rt.alloc(), Q_AND_T)?;
+    let world = start_of(rt.alloc(), &program, &["T", "T"])?;
+    let gate = After {
+        meet: Meet::new(&rt, 2),
+    };
+    let tape = Tape::new(rt.alloc(), 100);
+    let (answer, tape) = run_threads(&rt, rt.alloc(), &program, world, &gate, tape, 10_000);
+    let Ok(ended) = answer else {
+        return Err(Fail::new("no end"));
+    };
+    assert_eq!(rt; tape.got.as_slice(), b"5\n".as_slice());
+    assert_eq!(rt; ended.seen.threads.len(), 2);
+    assert!(rt; gate.meet.inside.load(Ordering::SeqCst) >= 2);
+    assert_eq!(rt; gate.meet.late.load(Ordering::SeqCst), 0);
     Ok(())
 }
 
