@@ -25,7 +25,7 @@ use Rattle.classfile.specs.reading.Pool.{pool_at}
 use Rattle.classfile.specs.reading.Members.{attributes_at, members_at}
 use Rattle.classfile.specs.reading.Class.{this_class_at, super_class_at, interface_at, interfaces_at, declaration_of}
 use Rattle.classfile.specs.reading.Class.{declaration_at, magic_at}
-use Rattle.classfile.specs.reading.Class.{two_at, is_version, version_at, class_body_at, class_at, class_of}
+use Rattle.classfile.specs.reading.Class.{pair_at, is_version, version_at, class_body_at, class_at, class_of}
 use Rattle.classfile.specs.FirstFault.{IsItem, IsTableText, Anything, IsMagic, MagicFails, TwoNumbers, IsSupported}
 use Rattle.classfile.specs.FirstFault.{IsVersion, VersionFails}
 use Rattle.classfile.specs.FirstFault.{IsPoolText, IndexOf, IndexFails, IsThisClass, IsSuperClass, declaration_text}
@@ -76,7 +76,7 @@ two_again v text s = record {
   parts = s.2;
 }
 
-two_lawful : (total : ℕ) → Lawful (two_at total) TwoNumbers (TwoFail w16 w16 total)
+two_lawful : (total : ℕ) → Lawful (pair_at total) TwoNumbers (TwoFail w16 w16 total)
 two_lawful total =
     restated
     (then_lawful (number_at w16 total)
@@ -94,7 +94,7 @@ supported_decides v = (
 
 version_lawful : (total : ℕ) → Lawful (version_at total) IsVersion (VersionFails total)
 unfolding version_at
-version_lawful total = ruled_lawful (two_at total) is_version IsSupported (λ bytes v. faults.Version v.1 v.0)
+version_lawful total = ruled_lawful (pair_at total) is_version IsSupported (λ bytes v. faults.Version v.1 v.0)
     supported_decides
     (two_lawful total)
 

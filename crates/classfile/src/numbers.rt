@@ -4,7 +4,7 @@ ghost use Rattle.std.specs.Prelude.{◌≡◌, ◌≤◌};
 ghost use Rattle.std.specs.Int.{w8, w16, w32};
 ghost use Rattle.classfile.specs.Gives.{Gives};
 ghost use Rattle.classfile.specs.reading.Numbers.{number_at, run_at};
-ghost use Rattle.classfile.specs.reading.Class.{two_at};
+ghost use Rattle.classfile.specs.reading.Class.{pair_at};
 
 use crate::fault::ClassFault;
 
@@ -34,7 +34,7 @@ pub(crate) fn u16_at(total: usize, bytes: &[u8]) -> Result<(u16, &[u8]), ClassFa
 
 /// Two numbers of 16 bits.
 pub(crate) fn u16_pair_at(total: usize, bytes: &[u8]) -> Result<((u16, u16), &[u8]), ClassFault>
-    ensures { Gives (λ x. (x.0, x.1.now)) result (two_at total bytes.now) }
+    ensures { Gives (λ x. (x.0, x.1.now)) result (pair_at total bytes.now) }
 {
     let (first, rest) = u16_at(total, bytes)?;
     let (second, rest) = u16_at(total, rest)?;

@@ -17,7 +17,7 @@ use Rattle.loading.specs.declared.given.Superclass.{Superclass}
 use Rattle.loading.specs.declared.given.Superclass.TheVariants as super
 use Rattle.hierarchy.specs.Initialization.{given_superclasses}
 use Rattle.hierarchy.specs.MemberLookup.{UpClasses, here, up, beyond, member, no_member}
-use Rattle.hierarchy.specs.Selection.{first_up, method_at, method_of, has_key, member_with}
+use Rattle.hierarchy.specs.Selection.{first_up, method_at, declared_by, has_key, member_with}
 use Rattle.hierarchy.specs.Selection.{member_at_end, array_members}
 use Rattle.hierarchy.specs.Subtypes.{last_of}
 use Rattle.hierarchy.specs.declared.member.Method.{Method}
@@ -80,7 +80,8 @@ module _ (family : Family) (own : ℕ → Option ℕ) (key : NameAndType) where
   -- what is found where these stand above a class
   abbrev over : ℕ → Option ℕ → List ℕ → Option Superclass → Option Method
   over c place ds end =
-      option_or (method_of own (cond (is_some place) (Some c) (find (λ d. is_some (own d)) ds))) (member_at_end key end)
+      option_or (declared_by own (cond (is_some place) (Some c) (find (λ d. is_some (own d)) ds)))
+      (member_at_end key end)
 
   abbrev over_all : ℕ → Option ℕ → List ℕ → Option Method
   over_all c place ds = over c place ds (superclass_in family (last_of c ds))

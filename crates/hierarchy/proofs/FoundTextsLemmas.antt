@@ -14,7 +14,7 @@ use Rattle.std.proofs.lemmas.Slice.Eq.{bytes_eq-Decides}
 use Rattle.std.specs.declared.hash.FoldHasher.{FoldHasher}
 use Rattle.loading.proofs.PlaceLemmas.{contains_at, place_in, pushed_at, kept_at, last_at, mapped_at, unmapped_at, map_push}
 use Rattle.hierarchy.specs.steps.Chains.{IsInBucket, AreChained}
-use Rattle.hierarchy.specs.steps.FoundTexts.{number_in, code_of, texts_of, AreLinked, AreSorted}
+use Rattle.hierarchy.specs.steps.FoundTexts.{sorted_number, code_of, texts_of, AreLinked, AreSorted}
 use Rattle.hierarchy.specs.declared.chains.Chains.{Chains}
 use Rattle.std.proofs.lemmas.List.{take_more}
 use Rattle.std.proofs.lemmas.Option.{get_or_from_slice_get, slice_get_within}
@@ -127,11 +127,11 @@ apart bs cs ks differ same = is_eq-slice_cmp cs ks ∙ by (bytes_eq cs ks) refl
 pub updates_number : (bs : List ℕ) (m n : BTreeMap (Vec ℕ Global) ℕ) (w : Option ℕ)
     → UpdatesBy (λ (a : Vec ℕ Global) (b : Vec ℕ Global). slice_cmp nat_cmp a.items b.items)
     (λ (k : Vec ℕ Global). slice_cmp nat_cmp bs k.items) m n w
-    → (cs : List ℕ) → number_in cs n ≡ cond (bytes_eq bs cs) w (number_in cs m)
+    → (cs : List ℕ) → sorted_number cs n ≡ cond (bytes_eq bs cs) w (sorted_number cs m)
 updates_number bs m n w h cs = by (bytes_eq bs cs) refl
   where
-    by : (b : Bool) → bytes_eq bs cs ≡ b → number_in cs n ≡ cond b w (number_in cs m)
-    by true e = subst (λ l. number_in l n ≡ w) ((bytes_eq-Decides bs cs).0 e) h.1
+    by : (b : Bool) → bytes_eq bs cs ≡ b → sorted_number cs n ≡ cond b w (sorted_number cs m)
+    by true e = subst (λ l. sorted_number l n ≡ w) ((bytes_eq-Decides bs cs).0 e) h.1
     by false e =
         other_entries _ _ _ _ h.3 (λ (k : Vec ℕ Global). is_eq (slice_cmp nat_cmp cs k.items))
         (λ x y. (eq_by_cmp_equiv nat_list_cmp_total).congr cs x.items y.items) (λ k. apart bs cs k.items e)
@@ -143,7 +143,7 @@ pub sorted_with : (texts : List (List ℕ)) (text : List ℕ) (key : Vec ℕ Glo
     (λ (k : Vec ℕ Global). slice_cmp nat_cmp key.items k.items) old new (Some n)
     → AreSorted texts old → AreSorted (texts ++ text ∷ []) new
 sorted_with texts text key n old new is count updates sorted =
-    sorted_more texts text (λ cs. number_in cs old) (λ cs. number_in cs new)
+    sorted_more texts text (λ cs. sorted_number cs old) (λ cs. sorted_number cs new)
     (λ cs. updates_number key.items old new (Some n) updates cs
-    ∙ ap (λ l. cond (bytes_eq l cs) (Some n) (number_in cs old)) is
-    ∙ ap (λ m. cond (bytes_eq text cs) (Some m) (number_in cs old)) count) sorted
+    ∙ ap (λ l. cond (bytes_eq l cs) (Some n) (sorted_number cs old)) is
+    ∙ ap (λ m. cond (bytes_eq text cs) (Some m) (sorted_number cs old)) count) sorted

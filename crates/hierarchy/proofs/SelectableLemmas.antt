@@ -18,9 +18,9 @@ use Rattle.hierarchy.specs.declared.member.Method.TheVariants as method
 use Rattle.hierarchy.specs.Initialization.{given_superclasses}
 use Rattle.hierarchy.specs.MemberLookup.{is_inherited, is_private, flags_in, key_in, method_with, interface_method_in}
 use Rattle.hierarchy.specs.MemberLookup.{is_named, keep_if, key_of, key_if, method_in, flags_of}
-use Rattle.hierarchy.specs.MemberLookup.{method_of as method_in_file}
+use Rattle.hierarchy.specs.MemberLookup.{method_of}
 use Rattle.hierarchy.specs.Resolution.{instance_method_in}
-use Rattle.hierarchy.specs.Selection.{method_at, method_of, first_declared, member_at_end, first_up}
+use Rattle.hierarchy.specs.Selection.{method_at, declared_by, first_declared, member_at_end, first_up}
 use Rattle.hierarchy.specs.Selection.{the_default, found_from, found_if, selected}
 use Rattle.hierarchy.specs.Subtypes.{end_of_chain}
 use Rattle.hierarchy.specs.Selectable.{IsSelectable}
@@ -44,7 +44,7 @@ declares : (own : ℕ → Option ℕ) (c d k : ℕ) (v : Option ℕ) → own c �
 declares own c d k None e h = absurd (let no : None ≡ Some (method.Given d k) = h in cc)
 declares own c d k (Some j) e h = cc
 
-declares_of : (own : ℕ → Option ℕ) (o : Option ℕ) (d k : ℕ) → method_of own o ≡ Some (method.Given d k)
+declares_of : (own : ℕ → Option ℕ) (o : Option ℕ) (d k : ℕ) → declared_by own o ≡ Some (method.Given d k)
     → own d ≡ Some k
 declares_of own None d k h = absurd (cc)
 declares_of own (Some c) d k h = declares own c d k (own c) refl h
@@ -228,7 +228,7 @@ module _ (family : Family) (name : NameAndType) (d k : ℕ) where
   key_named : method_in family name d ≡ Some k → key_in family d k ≡ Some name
   key_named has = by (file_in family d) refl has
     where
-      by : (o : Option ClassFile) → file_in family d ≡ o → method_in_file name o ≡ Some k → key_in family d k
+      by : (o : Option ClassFile) → file_in family d ≡ o → method_of name o ≡ Some k → key_in family d k
           ≡ Some name
       by None at e = absurd cc
       by (Some f) at e =
@@ -247,10 +247,10 @@ module _ (family : Family) (name : NameAndType) (d k : ℕ) where
   declared_within has = by (slice_get family d) refl
       (kept_same is_inherited (flags_in family d) (method_in family name d) k has)
     where
-      by : (o : Option GivenClass) → slice_get family d ≡ o → method_in_file name (file_of (slice_get family d))
+      by : (o : Option GivenClass) → slice_get family d ≡ o → method_of name (file_of (slice_get family d))
           ≡ Some k
           → d < length family
-      by None at e = absurd (let none : method_in_file name (file_of None) ≡ Some k = rw at at e in cc)
+      by None at e = absurd (let none : method_of name (file_of None) ≡ Some k = rw at at e in cc)
       by (Some g) at e = slice_get_within family d g at
 
   declared_found : instance_method_in family name d ≡ Some k
@@ -265,7 +265,7 @@ module _ (family : Family) (name : NameAndType) (d k : ℕ) where
       first : first_declared (instance_method_in family name) (d ∷ given_superclasses family d)
           ≡ Some (method.Given d k)
       first =
-          ap (λ (v : Option ℕ). method_of (instance_method_in family name) (cond (is_some v) (Some d)
+          ap (λ (v : Option ℕ). declared_by (instance_method_in family name) (cond (is_some v) (Some d)
           (find (λ c. is_some (instance_method_in family name c)) (given_superclasses family d)))) has
           ∙ ap (method_at d) has
 

@@ -11,7 +11,7 @@ use Rattle.loading.specs.Families.{Family, IsFamily, IsAncestor, AreParentsWithi
 use Rattle.hierarchy.specs.MemberLookup.{interface_method_in, keep_if, flags_in, is_abstract}
 use Rattle.hierarchy.specs.MemberLookup.{IsCandidate, IsMaximallySpecific, IsDefault, IsTheDefault, HasNoDefault}
 use Rattle.hierarchy.specs.Selection.{is_candidate, is_maximally_specific, has_default, concrete_method_in}
-use Rattle.hierarchy.specs.Selection.{given_classes, only_one, the_default, method_at, method_of}
+use Rattle.hierarchy.specs.Selection.{given_classes, only_one, the_default, method_at, declared_by}
 use Rattle.hierarchy.specs.Subclasses.{is_above}
 use Rattle.hierarchy.specs.declared.member.Method.TheVariants as method
 use Rattle.hierarchy.proofs.InitializationLemmas.{ancestor_within}
@@ -187,7 +187,7 @@ module _ (family : Family) (key : NameAndType) (c : ℕ) (fits : IsFamily family
       let alone : (j : ℕ) → has_default family key c j ≡ true → j ≡ i =
       λ j yes. (let other = (default_decides j).0 yes in (only j other.0 other.1).0) in
       let small : i < length family = ancestor_within family within is.0.0.0 in
-      ap (λ (xs : List ℕ). method_of (interface_method_in family key) (only_one xs))
+      ap (λ (xs : List ℕ). declared_by (interface_method_in family key) (only_one xs))
       (one_left (has_default family key c) i passes alone 0 (length family) (omega arith) (omega (arith, small)))
       ∙ ap (method_at i) is.0.0.1
 
@@ -195,7 +195,7 @@ module _ (family : Family) (key : NameAndType) (c : ℕ) (fits : IsFamily family
   no_default_is none = by (filter (has_default family key c) (given_classes family)) refl
     where
       by : (xs : List ℕ) → filter (has_default family key c) (given_classes family) ≡ xs
-          → method_of (interface_method_in family key) (only_one xs) ≡ None
+          → declared_by (interface_method_in family key) (only_one xs) ≡ None
       by [] is = refl
       by (x ∷ y ∷ xs) is = refl
       by (x ∷ []) is =

@@ -13,7 +13,7 @@ use Rattle.hierarchy.specs.steps.DeclarationBits.{Has, HasKey, IsAt, IsMask, IsO
 use Rattle.hierarchy.specs.steps.Declarations.{AreDeclared, IsWhole}
 use Rattle.hierarchy.specs.steps.HierarchyTables.{wanted_in}
 use Rattle.hierarchy.specs.steps.MemberIndexes.{AreNumbers}
-use Rattle.hierarchy.specs.steps.Windows.{AreNoted, Notes}
+use Rattle.hierarchy.specs.steps.Windows.{NotesFirst, Notes}
 use Rattle.hierarchy.specs.declared.bits.Own.{Own}
 use Rattle.hierarchy.specs.declared.declarations.Declaration.{Declaration}
 use Rattle.hierarchy.specs.declared.masks.Mask.{Mask}
@@ -78,7 +78,7 @@ module _ (rows : List Own) (class here same : ℕ) where
 
 module _ (declared : List Declaration) (start : ℕ) where
   pub noted_none : (rows : List Own) → ((c n : ℕ) → ¬ Has (own_of rows c).here n)
-      → ((c n : ℕ) → ¬ Has (own_of rows c).same n) → AreNoted declared start 0 rows
+      → ((c n : ℕ) → ¬ Has (own_of rows c).same n) → NotesFirst declared start 0 rows
   noted_none rows here same = record {
     here = λ n c small within. (λ has. absurd (here c n has), λ at. absurd (omega (arith, at.1)));
     same = λ n c small within. (λ has. absurd (same c n has), λ at. absurd (omega (arith, at.2)));
@@ -87,7 +87,7 @@ module _ (declared : List Declaration) (start : ℕ) where
   module _ (count : ℕ) (e : Declaration) (at : slice_get declared count ≡ Some e) (old new : List Own)
       (length_is : length new ≡ length old) (here : ℕ) (mask : Mask) (is : mask.key ≡ e.key)
       (masks : IsMask declared start mask) (place : (n : ℕ) → n < 64 → Has here n ↔ (count ≡ start + n))
-      (notes : Notes old new e.member.class here mask.same) (are : AreNoted declared start count old) where
+      (notes : Notes old new e.member.class here mask.same) (are : NotesFirst declared start count old) where
     stands : (n : ℕ) → n < 64 → Has mask.same n ↔ IsAt declared (start + n) (HasKey e.key)
     stands n small = subst (λ (k : MemberKey). Has mask.same n ↔ IsAt declared (start + n) (HasKey k)) is
         (masks.same n small)
@@ -96,7 +96,7 @@ module _ (declared : List Declaration) (start : ℕ) where
     one x p same has =
         let both : Some x ≡ Some e = sym has ∙ ap (slice_get declared) same ∙ at in cc
 
-    pub noted_more : AreNoted declared start (count + 1) new
+    pub noted_more : NotesFirst declared start (count + 1) new
     noted_more = record {
       here = λ n c small within.
           let low : c < length old = omega (arith, within, length_is) in (
@@ -144,7 +144,8 @@ module _ (declared : List Declaration) (start : ℕ) where
 -- ---- as what the classes declare
 
 module _ (h : NumberedFamily) (wanted : Wanted) (declared : List Declaration) (start count : ℕ) (rows : List Own)
-    (past : length declared ≤ count) (are : AreDeclared h wanted declared) (noted : AreNoted declared start count rows)
+    (past : length declared ≤ count) (are : AreDeclared h wanted declared)
+    (noted : NotesFirst declared start count rows)
     (n : ℕ) (small : n < 64) (e : Declaration) (at : slice_get declared (start + n) ≡ Some e) (name : NameAndType)
     (numbers : AreNumbers h.texts name e.key) (whole : IsWhole h wanted declared e.key) where
   pub own_noted : (c : ℕ) → c < length rows
@@ -188,7 +189,7 @@ module _ (h : NumberedFamily) (wanted : Wanted) (declared : List Declaration) (s
 
 -- all were noted
 pub noted_past : (declared : List Declaration) (start count : ℕ) (rows : List Own) → length declared ≤ count
-    → AreNoted declared start count rows → AreNoted declared start (length declared) rows
+    → NotesFirst declared start count rows → NotesFirst declared start (length declared) rows
 noted_past declared start count rows past are = record {
   here = λ n c small within. (
     λ has.

@@ -28,13 +28,13 @@ method_at c None = None
 method_at c (Some k) = Some (method.Given c k)
 
 -- the method of a class, by the place of the one that each class declares
-abbrev pub method_of : (ℕ → Option ℕ) → Option ℕ → Option Method
-method_of own None = None
-method_of own (Some c) = method_at c (own c)
+abbrev pub declared_by : (ℕ → Option ℕ) → Option ℕ → Option Method
+declared_by own None = None
+declared_by own (Some c) = method_at c (own c)
 
 -- that of the first of some classes that declares one
 abbrev pub first_declared : (ℕ → Option ℕ) → List ℕ → Option Method
-first_declared own classes = method_of own (find (λ c. is_some (own c)) classes)
+first_declared own classes = declared_by own (find (λ c. is_some (own c)) classes)
 
 -- ---- those of built-in classes and of array classes (JLS 10.7)
 
@@ -92,7 +92,7 @@ only_one (x ∷ y ∷ xs) = None
 -- the only method that is not abstract among the maximally specific superinterface methods of a class
 abbrev pub the_default : Family → NameAndType → ℕ → Option Method
 the_default family key c =
-    method_of (interface_method_in family key) (only_one (filter (has_default family key c) (given_classes family)))
+    declared_by (interface_method_in family key) (only_one (filter (has_default family key c) (given_classes family)))
 
 -- ---- from a class on
 

@@ -3,7 +3,7 @@
 ghost use Rattle.std.specs.Prelude.{◌≡◌, ◌↔◌, true, ◌<◌, ◌++◌, ◌∷◌, [], ℕ, List, Some, IfOk, OnOk, OnErr, MatchOption, length, map};
 ghost use Rattle.std.specs.Prelude.{slice_get};
 ghost use Rattle.std.specs.List.{Contains};
-ghost use Rattle.hierarchy.specs.steps.FoundTexts.{code_of, texts_of, AreLinked, AreSorted, Finds, HasRoom};
+ghost use Rattle.hierarchy.specs.steps.FoundTexts.{code_of, texts_of, AreLinked, AreSorted, Finds, HasBuckets};
 
 use crate::chains::Chains;
 use std::alloc::{AllocError, Global};
@@ -129,7 +129,7 @@ impl Finder {
     fn prepare(&mut self, alloc: Global, texts: &[Vec<u8>], text: &[u8]) -> Result<(), AllocError>
         requires { Finds (texts_of texts.now) self.old }
         ensures finds { Finds (texts_of texts.now) self.new }
-        ensures room { OnOk result (HasRoom self.new) }
+        ensures room { OnOk result (HasBuckets self.new) }
     {
         if let Finder::Hashed { start, chains } = self {
             let start = *start;
@@ -150,7 +150,7 @@ impl Finder {
     /// Notes one more text.
     fn note(&mut self, alloc: Global, texts: &[Vec<u8>], text: &[u8]) -> Result<(), AllocError>
         requires finds { Finds (texts_of texts.now) self.old }
-        requires room { HasRoom self.old }
+        requires room { HasBuckets self.old }
         ensures ok { OnOk result (Finds (texts_of texts.now ++ text.now ∷ []) self.new) }
         ensures err { OnErr result (Finds (texts_of texts.now) self.new) }
     {

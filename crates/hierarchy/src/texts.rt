@@ -19,13 +19,13 @@ pub struct Texts {
 
 impl Model for Texts {
     ghost use Rattle.std.specs.Prelude.{List, ℕ};
-    ghost use Rattle.hierarchy.specs.steps.FoundTexts.{texts_of, AreFound};
+    ghost use Rattle.hierarchy.specs.steps.FoundTexts.{texts_of, AreFoundBy};
 
     ghost Value = { List (List ℕ) };
 
     ghost view = { λ s. texts_of s.texts.items };
 
-    ghost invariant = { λ s. AreFound (texts_of s.texts.items) s.finder };
+    ghost invariant = { λ s. AreFoundBy (texts_of s.texts.items) s.finder };
 }
 
 impl Texts {

@@ -2,7 +2,7 @@
 
 ghost use Rattle.std.specs.Prelude.{◌≡◌, ◌↔◌, ◌⊎◌, ◌<◌, ◌≤◌, ◌+◌, ℕ, length};
 ghost use Rattle.hierarchy.specs.steps.DeclarationBits.{Has, own_of};
-ghost use Rattle.hierarchy.specs.steps.Windows.{AreNoted, Notes};
+ghost use Rattle.hierarchy.specs.steps.Windows.{NotesFirst, Notes};
 
 use crate::bits::{BITS, Own, with_bit};
 use crate::declarations::Declaration;
@@ -13,7 +13,7 @@ use crate::member_index::MemberKey;
 pub(crate) fn note(declared: &[Declaration], start: usize, own: &mut [Own])
     requires { start ≤ length declared.now }
     ensures len { length own.new ≡ length own.old }
-    ensures noted { AreNoted declared.now start (length declared.now) own.new }
+    ensures noted { NotesFirst declared.now start (length declared.now) own.new }
 {
     clear(own);
     let mut mask = Mask::of_key(declared, start, MemberKey::EMPTY);

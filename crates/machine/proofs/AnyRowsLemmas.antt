@@ -49,7 +49,7 @@ use Rattle.machine.specs.Initializers.{is_method}
 use Rattle.machine.specs.StoredKinds.{top_stored, extra_places}
 use Rattle.machine.specs.RowParts.{needing, goes_on, push, raises, if_usable}
 use Rattle.machine.specs.ObjectParts.{slot_in, on_name, class_of_nameless, ask_class_of}
-use Rattle.machine.specs.ObjectParts.{without_object, on_object}
+use Rattle.machine.specs.ObjectParts.{without_object, with_object}
 use Rattle.machine.specs.Objects.{new_object, is_of, ask_is_of, cast_row, check_cast, int_of_boolean, instance_of}
 use Rattle.machine.specs.Objects.{throw_of, throw_row, is_holder, on_holder, get_field, put_field}
 use Rattle.machine.specs.Arrays.{unless_trapped, array_type, served_type, slot_at, size_of, make_array, array_length}
@@ -139,7 +139,7 @@ module _ (Is : Row → Type 0) (HasRoom : Frame → Type 0) (up : GoesUp Is HasR
   nameless_any (values.Int n) = up.halted _
   nameless_any (values.Long n) = up.halted _
 
-  object_any : (v : Value) (go : Name → Row) → ((x : Name) → Is (go x)) → Is (on_object v go)
+  object_any : (v : Value) (go : Name → Row) → ((x : Name) → Is (go x)) → Is (with_object v go)
   object_any v go on = named_any (name_of v) (without_object v) go (nameless_any v) on
 
   pub class_any : (v : Value) (next : Option ClassId → Row) → ((o : Option ClassId) → Is (next o))

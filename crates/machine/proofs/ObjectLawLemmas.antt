@@ -37,7 +37,7 @@ use Rattle.machine.specs.declared.object_operation.ObjectOperation.TheVariants a
 use Rattle.machine.specs.StoredKinds.{top_stored, extra_places}
 use Rattle.machine.specs.RowParts.{halts, needing, goes_on, push, raises}
 use Rattle.machine.specs.ObjectParts.{slot_in, look_into_slot, on_name, class_of_nameless, ask_class_of, without_object}
-use Rattle.machine.specs.ObjectParts.{on_object}
+use Rattle.machine.specs.ObjectParts.{with_object}
 use Rattle.machine.specs.Objects.{new_object, is_of, cast_row, int_of_boolean, throw_of}
 use Rattle.machine.specs.Objects.{is_holder, on_holder, get_field, put_field, object_row}
 use Rattle.machine.specs.Monitors.{without_monitor, use_monitor, entered, left}
@@ -101,7 +101,7 @@ module _ (P : Tables) {N : Name → Type 0} {Q : Value → Type 0} (kept : IsKep
   without_object_suits (values.Long n) = halted Fault
 
   pub on_object_suits : (v : Value) (go : Name → Row) → Q v
-      → ((x : Name) → N x → Suits (go x)) → Suits (on_object v go)
+      → ((x : Name) → N x → Suits (go x)) → Suits (with_object v go)
   on_object_suits v go h on =
       on_name_suits (name_of v) (without_object v) go (kept.name v h) (without_object_suits v) on
 

@@ -18,7 +18,7 @@ use Rattle.program.specs.Tables.{Tables}
 use Rattle.frame_instructions.specs.declared.operand_kind.OperandKind.TheVariants.{Int, Reference}
 use Rattle.frame_instructions.specs.OperandKinds.{top_as}
 use Rattle.machine.specs.RowParts.{halts, needing, push, drops}
-use Rattle.machine.specs.ObjectParts.{look_into_slot, look_into_named, set_named, on_object}
+use Rattle.machine.specs.ObjectParts.{look_into_slot, look_into_named, set_named, with_object}
 use Rattle.machine.specs.Objects.{is_of}
 
 -- ---- Enum
@@ -26,7 +26,7 @@ use Rattle.machine.specs.Objects.{is_of}
 -- goes on with an object of Enum or of a class below it, which a value refers to
 abbrev pub on_enum : Tables → Value → (Name → Row) → Row
 on_enum P v go =
-    on_object v (λ x. AskClass x (λ o. if is_of P (BuiltIn builtins.Enum) o then go x else halts faults.Fault))
+    with_object v (λ x. AskClass x (λ o. if is_of P (BuiltIn builtins.Enum) o then go x else halts faults.Fault))
 
 -- Enum's initialization method: its arguments are the name and, on top, the ordinal
 abbrev pub new_enum : Tables → Value → Frame → Row
@@ -62,7 +62,7 @@ clone_if_array x f (Some (BuiltIn b)) = halts faults.Fault
 clone_if_array x f None = halts faults.Fault
 
 abbrev pub clone_array : Value → Frame → Row
-clone_array v f = on_object v (λ x. AskClass x (clone_if_array x f))
+clone_array v f = with_object v (λ x. AskClass x (clone_if_array x f))
 
 -- ---- all of them
 

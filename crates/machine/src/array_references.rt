@@ -7,7 +7,7 @@ ghost use Rattle.frame_instructions.specs.OperandKinds.{top_as};
 ghost use Rattle.vm_state.specs.declared.value.Name.{Name as ObjectName};
 ghost use Rattle.semantics.specs.Rows.{Row};
 ghost use Rattle.machine.specs.Arrays.{unless_trapped, slot_at};
-ghost use Rattle.machine.specs.ObjectParts.{on_object};
+ghost use Rattle.machine.specs.ObjectParts.{with_object};
 ghost use Rattle.machine.specs.steps.ArrayAccesses.{Finds, reach_array, reach_element, reach_length};
 
 use crate::abrupt::Abrupt;
@@ -47,7 +47,7 @@ pub fn third_reference(operands: &Operands) -> Result<Value, Fault>
 
 /// The object that a reference is to.
 fn object_of(reference: Value) -> Result<Name, Trap>
-    ensures { (go : ObjectName → Row) → on_object reference go ≡ unless_trapped result go }
+    ensures { (go : ObjectName → Row) → with_object reference go ≡ unless_trapped result go }
 {
     match name_of(reference) {
         Some(name) => Ok(name),

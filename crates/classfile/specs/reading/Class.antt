@@ -68,8 +68,8 @@ unfoldable pub magic_at : ℕ → List ℕ → Result (ℕ × List ℕ) ClassFau
 magic_at total bytes = number_at w32 total bytes >>= λ magic. if magic.0 == 3405691582 then Ok magic else Err
     faults.Magic
 
-abbrev pub two_at : ℕ → List ℕ → Result ((ℕ × ℕ) × List ℕ) ClassFault
-two_at total bytes = number_at w16 total bytes >>= λ first. number_at w16 total first.1 >>= λ second.
+abbrev pub pair_at : ℕ → List ℕ → Result ((ℕ × ℕ) × List ℕ) ClassFault
+pair_at total bytes = number_at w16 total bytes >>= λ first. number_at w16 total first.1 >>= λ second.
     Ok ((first.0, second.0), second.1)
 
 abbrev pub is_version : ℕ × ℕ → Bool
@@ -77,7 +77,7 @@ is_version v = v.0 == 0 && v.1 == 52
 
 -- the minor version and the major one
 unfoldable pub version_at : ℕ → List ℕ → Result ((ℕ × ℕ) × List ℕ) ClassFault
-version_at total bytes = two_at total bytes >>= λ v. if is_version v.0 then Ok v else Err (faults.Version v.0.1 v.0.0)
+version_at total bytes = pair_at total bytes >>= λ v. if is_version v.0 then Ok v else Err (faults.Version v.0.1 v.0.0)
 
 -- the methods and the class's own attributes, after the fields
 abbrev pub methods_and_attributes_at : List Constant → ℕ → List ℕ

@@ -26,13 +26,13 @@ abbrev pub AreLinked : FoldHasher → List (List ℕ) → Chains → Type 0
 AreLinked start texts chains = AreChained (map (code_of start) texts) chains.heads.items chains.next.items
 
 -- the number of a text among those that are sorted
-abbrev pub number_in : List ℕ → BTreeMap (Vec ℕ Global) ℕ → Option ℕ
-number_in text numbers = get_by (λ key. slice_cmp nat_cmp text key.items) numbers
+abbrev pub sorted_number : List ℕ → BTreeMap (Vec ℕ Global) ℕ → Option ℕ
+sorted_number text numbers = get_by (λ key. slice_cmp nat_cmp text key.items) numbers
 
 -- each text has its number, and no other text has one
 abbrev pub AreSorted : List (List ℕ) → BTreeMap (Vec ℕ Global) ℕ → Type 0
 AreSorted texts numbers = (text : List ℕ)
-    → MatchOption (number_in text numbers) (¬ Contains texts text) (λ n. slice_get texts n ≡ Some text)
+    → MatchOption (sorted_number text numbers) (¬ Contains texts text) (λ n. slice_get texts n ≡ Some text)
 
 -- texts are found, and no others
 abbrev pub Finds : List (List ℕ) → Finder → Type 0
@@ -40,11 +40,11 @@ Finds texts (finder.Hashed start chains) = AreLinked start texts chains
 Finds texts (finder.Sorted numbers) = AreSorted texts numbers
 
 -- there is a bucket, where texts are found by codes
-abbrev pub HasRoom : Finder → Type 0
-HasRoom (finder.Hashed start chains) = 0 < length chains.heads.items
-HasRoom (finder.Sorted numbers) = Unit {0}
+abbrev pub HasBuckets : Finder → Type 0
+HasBuckets (finder.Hashed start chains) = 0 < length chains.heads.items
+HasBuckets (finder.Sorted numbers) = Unit {0}
 
 -- texts are distinct and found
-pub record AreFound (texts : List (List ℕ)) (finder : Finder) : Type 0 where
+pub record AreFoundBy (texts : List (List ℕ)) (finder : Finder) : Type 0 where
   pub distinct : AreDistinct texts
   pub found : Finds texts finder

@@ -12,7 +12,7 @@ pub record Notes (old new : List Own) (class own alike : ℕ) : Type 0 where
       → Has (own_of new c).same n ↔ (Has (own_of old c).same n ⊎ ((c ≡ class) × Has alike n))
 
 -- The first so many declarations were noted.
-pub record AreNoted (declared : List Declaration) (start count : ℕ) (own : List Own) : Type 0 where
+pub record NotesFirst (declared : List Declaration) (start count : ℕ) (own : List Own) : Type 0 where
   pub here : (n c : ℕ) → n < 64 → c < length own
       → Has (own_of own c).here n
       ↔ ((e : Declaration) × (start + n < count) × (slice_get declared (start + n) ≡ Some e) × (e.member.class ≡ c))
