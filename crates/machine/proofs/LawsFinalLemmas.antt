@@ -56,7 +56,7 @@ use Rattle.frame_instructions.specs.Families.{Local as LocalOperation}
 use Rattle.frame_instructions.specs.Instructions.{local_of}
 use Rattle.machine.specs.Operations.{Operation, PutStatic, Return, Refused, int_constant, long_constant}
 use Rattle.machine.specs.Operations.{local_or, may_write, if_valued, get_target, getstatic_of, put_target, putstatic_of}
-use Rattle.machine.specs.Operations.{on_call, return_of, returns_so, with_object, new_of_references, anewarray_of}
+use Rattle.machine.specs.Operations.{on_call, return_of, returns_so, on_object, new_of_references, anewarray_of}
 use Rattle.machine.specs.Operations.{resolved_operation, operation_of, operation_at}
 use Rattle.machine.specs.Initializers.{is_method}
 use Rattle.machine.specs.CallReferences.{invokevirtual_of, invokeinterface_of, invokespecial_of, invokestatic_of}
@@ -133,7 +133,7 @@ module _ (w : FieldKind) (c k : ℕ) where
       by (Some array) h = cc
   no_anewarray P other e = cc
 
-  no_object : (r : Result ObjectOperation FaultKind) → with_object r ≡ PutStatic w c k → ⊥
+  no_object : (r : Result ObjectOperation FaultKind) → on_object r ≡ PutStatic w c k → ⊥
   no_object (Ok operation) e = cc
   no_object (Err kind) e = cc
 

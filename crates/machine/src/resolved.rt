@@ -4,7 +4,7 @@ ghost use Rattle.std.specs.Prelude.{◌≡◌, Some};
 ghost use Rattle.program.specs.Tables.{implementation_at};
 ghost use Rattle.machine.specs.Operations.{meaning, int_constant, long_constant, may_write};
 ghost use Rattle.machine.specs.Operations.{get_target, getstatic_of, put_target, putstatic_of, on_call};
-ghost use Rattle.machine.specs.Operations.{returns_so, return_of, with_object, anewarray_of};
+ghost use Rattle.machine.specs.Operations.{returns_so, return_of, on_object, anewarray_of};
 ghost use Rattle.machine.specs.Operations.{array_operation, resolved_operation};
 
 use crate::array_operation::ArrayOperation;
@@ -230,8 +230,8 @@ fn array_operation(program: &Program, class: u32, instruction: &Instruction) -> 
 }
 
 /// An instruction on objects, or the fault that it is.
-fn with_object(operation: Result<ObjectOperation, FaultKind>) -> Resolved
-    ensures { meaning result ≡ with_object operation }
+fn on_object(operation: Result<ObjectOperation, FaultKind>) -> Resolved
+    ensures { meaning result ≡ on_object operation }
 {
     match operation {
         Ok(operation) => Resolved::OnObject(operation),
@@ -273,14 +273,14 @@ pub fn resolved_operation(
         Instruction::ReturnReference => {
             return_of(program, class, method, Some(OperandKind::Reference))
         }
-        Instruction::New(index) => with_object(new_of(program, program.constant(class, *index))),
-        Instruction::CheckCast(index) => with_object(check_cast_of(program.constant(class, *index))),
-        Instruction::InstanceOf(index) => with_object(instance_test_of(program.constant(
+        Instruction::New(index) => on_object(new_of(program, program.constant(class, *index))),
+        Instruction::CheckCast(index) => on_object(check_cast_of(program.constant(class, *index))),
+        Instruction::InstanceOf(index) => on_object(instance_test_of(program.constant(
             class, *index,
         ))),
         Instruction::Throw => Resolved::OnObject(ObjectOperation::Throw),
-        Instruction::GetField(index) => with_object(get_field_of(program.constant(class, *index))),
-        Instruction::PutField(index) => with_object(put_field_of(program.constant(class, *index))),
+        Instruction::GetField(index) => on_object(get_field_of(program.constant(class, *index))),
+        Instruction::PutField(index) => on_object(put_field_of(program.constant(class, *index))),
         Instruction::MonitorEnter => Resolved::OnObject(ObjectOperation::EnterMonitor),
         Instruction::MonitorExit => Resolved::OnObject(ObjectOperation::ExitMonitor),
         Instruction::Bad => FAULT,
