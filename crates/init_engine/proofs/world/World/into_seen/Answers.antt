@@ -3,7 +3,7 @@ use Rattle.vm_state.specs.Shares.{shared_of}
 use Rattle.init_engine.specs.Standing.{Standing}
 use Rattle.init_engine.specs.Threads.{seen_of}
 use Rattle.init_engine.proofs.WorldSteps.{map-seen_of}
-use Rattle.init_engine.proofs.world.World.seen.Goals as goal
+use Rattle.init_engine.proofs.world.World.into_seen.Goals as goal
 
 pub returns : goal.returns
 unfolding shared_of
