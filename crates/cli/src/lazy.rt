@@ -72,11 +72,12 @@ pub(crate) fn shown_by_turns(
     ensures { IfOk result (λ shown. IsShownFrom program.now (world_of world) limit shown) }
 {
     let (last, schedule) = init_engine::turns(alloc, program, world, limit)?;
-    let seen = last.seen(alloc)?;
+    let rest = last.rest(program);
+    let seen = last.into_seen(alloc)?;
     Ok(Shown {
         seen,
         schedule,
-        rest: last.rest(program),
+        rest,
     })
 }
 

@@ -161,17 +161,6 @@ pub struct Seen {
     pub threads: Vec<Ending>,
 }
 
-/// The same lines once more.
-fn copies(alloc: Global, lines: &[Line]) -> Result<Vec<Line>, AllocError>
-    ensures { IfOk result (λ v. v.items ≡ lines.now) }
-{
-    let mut copies = Vec::new(alloc);
-    for line in lines {
-        copies.push(line.copy(alloc)?)?;
-    }
-    Ok(copies)
-}
-
 /// What is seen of each thread.
 fn endings(alloc: Global, threads: &[Thread]) -> Result<Vec<Ending>, AllocError>
     ensures { IfOk result (λ v. v.items ≡ map seen_of threads.now) }
@@ -197,15 +186,19 @@ fn exchange_in(thread: &mut Thread, frames: &mut Frames)
 }
 
 impl World {
-    /// What the world has shown.
+    /// What the world has shown. Its lines are handed over.
     ///
     /// # Errors
     /// `AllocError` where memory is refused.
-    pub fn seen(&self, alloc: Global) -> Result<Seen, AllocError>
-        ensures { IfOk result (λ s. IsObservation s (seen (world_of self.now))) }
+    pub fn into_seen(self, alloc: Global) -> Result<Seen, AllocError>
+        ensures { IfOk result (λ s. IsObservation s (seen (world_of self))) }
     {
-        let printed = copies(alloc, self.printed.as_slice())?;
-        let threads = endings(alloc, self.threads.as_slice())?;
+        let World {
+            threads,
+            shared: _,
+            printed,
+        } = self;
+        let threads = endings(alloc, threads.as_slice())?;
         Ok(Seen { printed, threads })
     }
 

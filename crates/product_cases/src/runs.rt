@@ -96,9 +96,9 @@ fn add_seen(
     program: &Program,
     world: &World,
 ) -> Result<(), AllocError> {
-    let seen = world.seen(alloc)?;
-    add_endings(text, &seen.threads)?;
-    add_lines(text, &seen.printed)?;
+    let threads = world.endings(alloc)?;
+    add_endings(text, threads.as_slice())?;
+    add_lines(text, world.printed())?;
     if world.stuck(program) {
         text.push_str(" stuck")?;
     }
@@ -141,10 +141,10 @@ pub fn shown_after(alloc: Global, program: &Program, world: World) -> Result<Str
 }
 
 fn shown_of(alloc: Global, world: &World) -> Result<String, AllocError> {
-    let seen = world.seen(alloc)?;
+    let threads = world.endings(alloc)?;
     let mut text = String::new(alloc);
-    add_texts(&mut text, &seen.printed)?;
-    add_endings(&mut text, &seen.threads)?;
+    add_texts(&mut text, world.printed())?;
+    add_endings(&mut text, threads.as_slice())?;
     text.push('\n')?;
     Ok(text)
 }

@@ -129,12 +129,12 @@ fn add_sight(
     program: &Program,
     world: &World,
 ) -> Result<(), AllocError> {
-    let seen = world.seen(alloc)?;
-    for (thread, ending) in seen.threads.iter().enumerate() {
+    let threads = world.endings(alloc)?;
+    for (thread, ending) in threads.iter().enumerate() {
         separate(text)?;
         write!(text, "{thread} {ending:?}")?;
     }
-    for line in &seen.printed {
+    for line in world.printed() {
         add_line(text, line)?;
     }
     if world.stuck(program) {

@@ -80,7 +80,7 @@ fn end_of_turns(alloc: Global, program: &Program, turning: Turning) -> Result<En
         → IsVerdict program.now first limit (world_of turning.world) result }
 {
     match turning.into_parts() {
-        Ok((world, runs)) => end_of_world(alloc, program, &world, Journal::of(runs)),
+        Ok((world, runs)) => end_of_world(alloc, program, world, Journal::of(runs)),
         Err(_) => Err(RunFault::Memory),
     }
 }
@@ -89,18 +89,19 @@ fn end_of_turns(alloc: Global, program: &Program, turning: Turning) -> Result<En
 fn end_of_world(
     alloc: Global,
     program: &Program,
-    world: &World,
+    world: World,
     journal: Journal,
 ) -> Result<Ended, RunFault>
     ensures { (first : DefinedWorld) (limit most : ℕ)
-        → Run (program_of program.now) first (schedule_of journal) (world_of world.now)
-        → HasStopped (program_of program.now) (length world.now.threads) most (schedule_of journal) (world_of world.now)
-        → limit ≤ most → most < limit + 1024 → IsVerdict program.now first limit (world_of world.now) result }
+        → Run (program_of program.now) first (schedule_of journal) (world_of world)
+        → HasStopped (program_of program.now) (length world.threads) most (schedule_of journal) (world_of world)
+        → limit ≤ most → most < limit + 1024 → IsVerdict program.now first limit (world_of world) result }
 {
+    let rest = world.rest(program);
     let Ok(ended) = end_with(alloc, world, journal) else {
         return Err(RunFault::Memory);
     };
-    match world.rest(program) {
+    match rest {
         Rest::Ended => Ok(ended),
         Rest::Stuck => Err(RunFault::Stuck(ended)),
         Rest::Going => Err(RunFault::Limit(ended)),

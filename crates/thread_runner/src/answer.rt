@@ -31,11 +31,11 @@ pub enum RunFault {
 }
 
 /// A journal, and what is seen of a world.
-pub(crate) fn end_with(alloc: Global, world: &World, journal: Journal) -> Result<Ended, AllocError>
+pub(crate) fn end_with(alloc: Global, world: World, journal: Journal) -> Result<Ended, AllocError>
     ensures journal { IfOk result (λ e. e.journal ≡ journal) }
-    ensures seen { IfOk result (λ e. IsObservation e.seen (seen (world_of world.now))) }
+    ensures seen { IfOk result (λ e. IsObservation e.seen (seen (world_of world))) }
 {
-    match world.seen(alloc) {
+    match world.into_seen(alloc) {
         Ok(seen) => Ok(Ended { journal, seen }),
         Err(error) => Err(error),
     }

@@ -88,6 +88,20 @@ impl<O: Origin> Book<O> {
         self.history.journal()
     }
 
+    /// The world, and the journal that leads to it by its runs.
+    pub(crate) fn into_parts(self) -> (World, Vec<(u32, u64)>)
+        ensures world { result.0 ≡ self.past.world }
+        ensures journal { result.1.items ≡ self.past.journal }
+        ensures runs { AreRuns result.1.items }
+    {
+        let Book {
+            history,
+            lines: _,
+            bytes: _,
+        } = self;
+        history.into_parts()
+    }
+
     /// Whether the journal has as many steps as it may.
     pub fn is_full(&self) -> bool
         ensures yes { result ≡ true → self.now.past.limit ≤ steps_of self.now.past }

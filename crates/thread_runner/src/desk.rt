@@ -1,12 +1,13 @@
 //! What lies under the lock of a run of threads.
 
-ghost use Rattle.std.specs.Prelude.{◌≡◌, ◌≢◌, ◌<◌, ◌++◌, ℕ, List, Some, true, false, IfSome, IfOk, length, take};
+ghost use Rattle.std.specs.Prelude.{◌≡◌, ◌≢◌, ◌<◌, ◌≤◌, ◌++◌, ℕ, List, Some, None, true, false, IfSome, IfOk};
+ghost use Rattle.std.specs.Prelude.{length, take};
 ghost use Rattle.std.proofs.Props.{props};
-ghost use Rattle.semantics.specs.Worlds.{seen};
-ghost use Rattle.init_engine.specs.Observations.{IsObservation};
+ghost use Rattle.machine.specs.Linked.{program_of};
+ghost use Rattle.init_engine.specs.Rests.{HasStep};
 ghost use Rattle.init_engine.specs.Turns.{world_of};
-ghost use Rattle.thread_runner.specs.Answers.{IsAnswer};
-ghost use Rattle.thread_runner.specs.Kept.{printed_text};
+ghost use Rattle.thread_runner.specs.Answers.{IsAnswer, IsFault};
+ghost use Rattle.thread_runner.specs.Kept.{printed_text, steps_of};
 ghost use Rattle.thread_runner.specs.steps.Verdicts.{IsVerdict};
 
 use crate::answer::{Ended, RunFault, end_with};
@@ -229,31 +230,61 @@ impl<O: Session, S: Sink> Desk<O, S> {
         }
     }
 
-    /// What a run answers once its threads were joined, or none where it goes on.
-    pub(crate) fn judge(
-        &mut self,
-        alloc: Global,
-        program: &Program,
-        started: bool,
-    ) -> Option<Result<Ended, RunFault>>
-        requires { program.now ≡ O.program }
-        ensures { IfSome result (λ r. IsAnswer O.program O.start O.limit r O.before (S.got self.new.sink) O.failed
+    /// Why a run whose threads were joined has failed, if it has. Else all that was printed has gone out.
+    fn fault(&mut self, started: bool) -> Option<RunFault>
+        ensures past { self.new.book.past ≡ self.old.book.past }
+        ensures fault { IfSome result (λ f. IsFault O.program O.start O.limit f O.before (S.got self.new.sink) O.failed
             (S.failures self.new.sink)) }
+        ensures all { result ≡ None → self.new.book.sent ≡ length (printed_text self.new.book) }
+        ensures well { result ≡ None → self.new.failed ≡ false }
     {
         let _world = self.book.world();
         if self.failed {
-            return Some(Err(RunFault::Device(self.book.sent())));
+            return Some(RunFault::Device(self.book.sent()));
         }
         if self.memory {
-            return Some(Err(RunFault::Memory));
+            return Some(RunFault::Memory);
         }
         if !started {
-            return Some(Err(RunFault::Spawn));
+            return Some(RunFault::Spawn);
         }
         if !self.send() {
-            return Some(Err(RunFault::Device(self.book.sent())));
+            return Some(RunFault::Device(self.book.sent()));
         }
-        judge_book(alloc, program, &self.book)
+        None
+    }
+
+    /// What a run answers once its threads were joined, and its sink.
+    ///
+    /// # Errors
+    /// The desk, where the run goes on.
+    pub(crate) fn judge(
+        self,
+        alloc: Global,
+        program: &Program,
+        started: bool,
+    ) -> Result<(Result<Ended, RunFault>, S), Desk<O, S>>
+        requires { program.now ≡ O.program }
+        ensures { IfOk result (λ a. IsAnswer O.program O.start O.limit a.0 O.before (S.got a.1) O.failed
+            (S.failures a.1)) }
+    {
+        let mut desk = self;
+        if let Some(fault) = desk.fault(started) {
+            return Ok((Err(fault), desk.into_sink()));
+        }
+        if goes_on(program, &desk.book) {
+            return Err(desk);
+        }
+        let Desk {
+            book,
+            sink,
+            moves: _,
+            open: _,
+            over: _,
+            memory: _,
+            failed: _,
+        } = desk;
+        Ok((verdict_of(alloc, program, book), sink))
     }
 
     /// The sink.
@@ -308,38 +339,31 @@ fn front_of<O: Origin>(
     }
 }
 
-/// The journal of a book, and what is seen of its world.
-fn end_of<O: Origin>(alloc: Global, book: &Book<O>) -> Result<Ended, AllocError>
-    ensures journal { IfOk result (λ e. e.journal ≡ book.now.past.journal) }
-    ensures seen { IfOk result (λ e. IsObservation e.seen (seen (world_of book.now.past.world))) }
+/// Whether a thread of a book's world has a step, and the journal has fewer than it may.
+fn goes_on<O: Origin>(program: &Program, book: &Book<O>) -> bool
+    ensures { result ≡ false → HasStep (program_of program.now) (world_of book.now.past.world)
+        → book.now.past.limit ≤ steps_of book.now.past }
 {
-    match Vec::from_slice(alloc, book.journal()) {
-        Ok(runs) => end_with(alloc, book.world(), Journal::of(runs)),
-        Err(_) => Err(AllocError),
+    match book.world().rest(program) {
+        Rest::Going => !book.is_full(),
+        Rest::Ended | Rest::Stuck => false,
     }
 }
 
-/// What a run answers by its book alone, or none where it goes on.
-fn judge_book<O: Origin>(
-    alloc: Global,
-    program: &Program,
-    book: &Book<O>,
-) -> Option<Result<Ended, RunFault>>
-    requires { program.now ≡ O.program }
-    ensures { IfSome result (λ r. IsVerdict O.program O.start book.now.past.limit (world_of book.now.past.world) r) }
+/// What a run answers by its book alone, where it is over.
+fn verdict_of<O: Origin>(alloc: Global, program: &Program, book: Book<O>) -> Result<Ended, RunFault>
+    requires program { program.now ≡ O.program }
+    requires over { HasStep (program_of program.now) (world_of book.past.world) → book.past.limit ≤ steps_of book.past }
+    ensures { IsVerdict O.program O.start book.past.limit (world_of book.past.world) result }
 {
-    let Ok(ended) = end_of(alloc, book) else {
-        return Some(Err(RunFault::Memory));
+    let rest = book.world().rest(program);
+    let (world, runs) = book.into_parts();
+    let Ok(ended) = end_with(alloc, world, Journal::of(runs)) else {
+        return Err(RunFault::Memory);
     };
-    match book.world().rest(program) {
-        Rest::Ended => Some(Ok(ended)),
-        Rest::Stuck => Some(Err(RunFault::Stuck(ended))),
-        Rest::Going => {
-            if book.is_full() {
-                Some(Err(RunFault::Limit(ended)))
-            } else {
-                None
-            }
-        }
+    match rest {
+        Rest::Ended => Ok(ended),
+        Rest::Stuck => Err(RunFault::Stuck(ended)),
+        Rest::Going => Err(RunFault::Limit(ended)),
     }
 }

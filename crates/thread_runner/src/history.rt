@@ -132,6 +132,22 @@ impl<O: Origin> History<O> {
         self.journal.as_slice()
     }
 
+    /// The world, and the journal that leads to it by its runs.
+    pub(crate) fn into_parts(self) -> (World, Vec<(u32, u64)>)
+        ensures world { result.0 ≡ self.world }
+        ensures journal { result.1.items ≡ self.journal }
+        ensures runs { AreRuns result.1.items }
+    {
+        let History {
+            world,
+            journal,
+            steps: _,
+            limit: _,
+            of: _,
+        } = self;
+        (world, journal)
+    }
+
     /// Whether the journal has as many steps as it may.
     pub(crate) fn is_full(&self) -> bool
         ensures yes { result ≡ true → self.now.limit ≤ steps_of self.now }

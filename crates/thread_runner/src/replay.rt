@@ -113,7 +113,7 @@ pub fn replay(
 {
     let mut world = start;
     match take_runs(alloc, program, &mut world, journal.runs()) {
-        Ok(()) => match world.seen(alloc) {
+        Ok(()) => match world.into_seen(alloc) {
             Ok(seen) => Ok(seen),
             Err(_) => Err(ReplayFault::Memory),
         },

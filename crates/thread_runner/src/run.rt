@@ -83,9 +83,10 @@ fn run_session<O: Session + Send + Sync, S: Sink + Send + Drop, G: Gate, R: Thre
             Ok(desk) => desk,
             Err(sink) => return (Err(RunFault::Memory), sink),
         };
-        if let Some(answer) = desk.judge(alloc, program, started) {
-            return (answer, desk.into_sink());
-        }
+        desk = match desk.judge(alloc, program, started) {
+            Ok(answered) => return answered,
+            Err(going) => going,
+        };
     }
     unreachable!()
 }

@@ -95,17 +95,6 @@ impl Text {
         Ok(Text::of_string(String::from_str(alloc, "\n")?))
     }
 
-    /// The same text once more.
-    ///
-    /// # Errors
-    /// `AllocError` where memory is refused.
-    pub fn copy(&self, alloc: Global) -> Result<Text, AllocError>
-        ensures { IfOk result (λ t. t ≡ self.now) }
-    {
-        let bytes = Vec::from_slice(alloc, self.bytes.as_slice())?;
-        Ok(Text { bytes })
-    }
-
     /// Its bytes.
     pub fn as_bytes(&self) -> &[u8]
         ensures { result.now ≡ self.now }
@@ -120,19 +109,4 @@ pub struct Line {
     /// The number of the thread that printed.
     pub thread: u32,
     pub text: Text,
-}
-
-impl Line {
-    /// The same line once more.
-    ///
-    /// # Errors
-    /// `AllocError` where memory is refused.
-    pub fn copy(&self, alloc: Global) -> Result<Line, AllocError>
-        ensures { IfOk result (λ l. l ≡ self.now) }
-    {
-        Ok(Line {
-            thread: self.thread,
-            text: self.text.copy(alloc)?,
-        })
-    }
 }

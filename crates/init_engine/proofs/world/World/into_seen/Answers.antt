@@ -3,13 +3,13 @@ use Rattle.vm_state.specs.Shares.{shared_of}
 use Rattle.init_engine.specs.Standing.{Standing}
 use Rattle.init_engine.specs.Threads.{seen_of}
 use Rattle.init_engine.proofs.WorldSteps.{map-seen_of}
-use Rattle.init_engine.proofs.world.World.seen.Goals as goal
+use Rattle.init_engine.proofs.world.World.into_seen.Goals as goal
 
 pub returns : goal.returns
 unfolding shared_of
 returns c = (
-  c.in_ok-printed.ensures ∙ (c.as_slice.ensures.value ∙ ap (λ (s : Standing). s.printed) c.self.view_is),
+  ap (λ (s : Standing). s.printed) c.self.view_is,
   c.in_ok-threads.ensures
-      ∙ (ap (map seen_of) (c.as_slice-2.ensures.value ∙ ap (λ (s : Standing). s.threads) c.self.view_is)
-      ∙ map-seen_of c.args.self.now.threads),
+      ∙ (ap (map seen_of) (c.as_slice.ensures.value ∙ ap (λ (s : Standing). s.threads) c.self.view_is)
+      ∙ map-seen_of c.args.self.threads),
 )
