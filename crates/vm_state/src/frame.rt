@@ -4,7 +4,7 @@ ghost use Rattle.std.specs.Prelude.{◌≡◌, ◌∷◌, [], IfOk, IfErr, OnOk,
 ghost use Rattle.vm_state.specs.Segments.{frames_in, first_frame, callers_of};
 ghost use Rattle.vm_state.specs.Operands.{dropped};
 
-use crate::items::{Item, copy_items, same_items};
+use crate::items::{CopiedItem, Item, copy_items, same_items};
 use crate::locals::Locals;
 use crate::operands::Operands;
 use std::alloc::{AllocError, Global};
@@ -85,7 +85,9 @@ impl Item for Frame {
     fn is_same(&self, other: &Frame) -> bool {
         Frame::is_same(self, other)
     }
+}
 
+impl CopiedItem for Frame {
     fn copy(&self, alloc: Global) -> Result<Frame, AllocError> {
         Frame::copy(self, alloc)
     }

@@ -7,7 +7,7 @@ ghost use Rattle.vm_state.specs.Stacks.{parent_taken};
 ghost use Rattle.vm_state.specs.Stacks.{initializer_begun, exception_pending, IsLeft};
 
 use crate::frame::{Frame, FrameList, Segment};
-use crate::items::{Item, copy_items, same_items};
+use crate::items::{CopiedItem, Item, copy_items, same_items};
 use crate::value::Name;
 use std::alloc::{AllocError, Global};
 use std::marker::Model;
@@ -25,22 +25,6 @@ impl Model for Parents {
     ghost Value = { List ℕ };
 
     ghost view = { λ s. reverse s.reversed.items };
-}
-
-/// Whether classes are the same.
-fn same_classes(left: &Vec<u32>, right: &Vec<u32>) -> bool
-    ensures yes { result ≡ true → left.now.items ≡ right.now.items }
-    ensures no { result ≡ false → left.now.items ≢ right.now.items }
-{
-    if left.len() != right.len() {
-        return false;
-    }
-    for place in 0..left.len() {
-        if left[place] != right[place] {
-            return false;
-        }
-    }
-    true
 }
 
 /// Whether these are the same, or there is none.
@@ -62,7 +46,7 @@ impl Parents {
         ensures yes { result ≡ true → self.now ≡ other.now }
         ensures no { result ≡ false → self.now ≢ other.now }
     {
-        same_classes(&self.reversed, &other.reversed)
+        same_items(&self.reversed, &other.reversed)
     }
 
     /// The same once more.
@@ -171,7 +155,9 @@ impl Item for Level {
     fn is_same(&self, other: &Level) -> bool {
         Level::is_same(self, other)
     }
+}
 
+impl CopiedItem for Level {
     fn copy(&self, alloc: Global) -> Result<Level, AllocError> {
         Level::copy(self, alloc)
     }

@@ -1,22 +1,31 @@
-//! Lists whose items can be compared and copied.
+//! Lists whose items are compared and copied.
 
 ghost use Rattle.std.specs.Prelude.{◌≡◌, ◌≢◌, [], IfOk, OnOk, true, false};
 
 use std::alloc::{AllocError, Global};
 
-/// What can be compared with another and copied.
-pub trait Item: Drop {
+/// What stands in a list and can be compared.
+pub trait Item {
     /// Whether these are the same.
     fn is_same(&self, other: &Self) -> bool
         ensures yes { result ≡ true → self.now ≡ other.now }
         ensures no { result ≡ false → self.now ≢ other.now };
+}
 
+/// What stands in a list and can be copied.
+pub trait CopiedItem: Drop {
     /// The same once more.
     ///
     /// # Errors
     /// `AllocError` where memory is refused.
     fn copy(&self, alloc: Global) -> Result<Self, AllocError>
         ensures { IfOk result (λ copied. copied ≡ self.now) };
+}
+
+impl Item for u32 {
+    fn is_same(&self, other: &u32) -> bool {
+        *self == *other
+    }
 }
 
 /// Whether items are the same.
@@ -36,7 +45,7 @@ pub fn same_items<T: Item>(left: &Vec<T>, right: &Vec<T>) -> bool
 }
 
 /// Copies of some items, put where there are none.
-pub fn copy_items<T: Item>(
+pub fn copy_items<T: CopiedItem>(
     alloc: Global,
     items: &[T],
     copies: &mut Vec<T>,
