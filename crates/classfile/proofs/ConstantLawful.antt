@@ -1,9 +1,9 @@
 -- Each constant is lawful.
 use Rattle.std.proofs.Common.{◌≡◌, ℕ, Bool, true, false, cond, eqb, List, [], ◌++◌, length, Option, Some, None, Result}
 use Rattle.std.proofs.Common.{Ok, Err, refl}
-use Rattle.std.proofs.Common.{sym, ap, subst, ◌∙◌, arith, inl, inr}
+use Rattle.std.proofs.Common.{sym, ap, subst, ◌∙◌, ◌<◌, ◌^◌, arith, inl, inr}
 use Rattle.std.specs.Bool.{Decides}
-use Rattle.std.specs.Int.{Width, w8, w16, w32}
+use Rattle.std.specs.Int.{Width, w8, w16, w32, to_be_bytes}
 use Rattle.std.proofs.lemmas.Bool.{eqb-true}
 use Rattle.std.proofs.lemmas.List.{append-nil}
 use Rattle.classfile.specs.declared.fault.ClassFault.{ClassFault}
@@ -19,7 +19,7 @@ use Rattle.classfile.specs.Constants.{kind_of_tag}
 use Rattle.classfile.specs.reading.Constants.{one_at, two_at, utf8_at, constant_body_at, constant_body_of, tagged_at}
 use Rattle.classfile.specs.Spelling.{u1, u2, u4, constant_text, Fits}
 use Rattle.classfile.specs.Faults.{Number, Run, CutNumber, TwoFail, Utf8Fails, BodyFails, TaggedFails, IsTagged}
-use Rattle.classfile.specs.Faults.{IsBytes}
+use Rattle.classfile.specs.Faults.{IsBytes, limit_of}
 use Rattle.classfile.proofs.Lawful.{ok_is, Lawful, Both, Mapped, IsWide, wide8, wide16, wide32, number_lawful}
 use Rattle.classfile.proofs.Lawful.{run_lawful, then_lawful}
 use Rattle.classfile.proofs.Lawful.{map_lawful, restated}
@@ -174,6 +174,15 @@ tag_is n k e =
 abbrev Spelled : Constant → List ℕ → Type 0
 Spelled = Both (Number w8) (λ tag. BodySpells (kind_of_tag tag))
 
+one_text : (w : Width) (make : ℕ → Constant) (tag : ℕ) (c : Constant) (text : List ℕ) (s : One w make c text)
+    → u1 tag ++ text ≡ u1 tag ++ to_be_bytes w s.value
+one_text w make tag c text s = ap (λ (z : List ℕ). u1 tag ++ z) s.spelled.1
+
+two_text : (v w : Width) (make : ℕ → ℕ → Constant) (tag : ℕ) (c : Constant) (text : List ℕ) (s : Two v w make c text)
+    → u1 tag ++ text ≡ u1 tag ++ (to_be_bytes v s.value ++ to_be_bytes w s.second.value)
+two_text v w make tag c text s = ap (λ (z : List ℕ). u1 tag ++ z)
+    (s.parts ∙ rw (s.first.1, s.second.spelled.1) refl)
+
 body_says : (k : Kind) (c : Constant) (text : List ℕ) → BodySpells (Some k) c text → Fits c
     × (u1 (tag_of k) ++ text ≡ constant_text c)
 body_says kinds.Utf8 c text s =
@@ -185,51 +194,27 @@ body_says kinds.Utf8 c text s =
       ap (λ (z : List ℕ). u1 1 ++ z)
           (s.parts ∙ rw (s.first.1, count-is, run-is) refl),
     )
-body_says kinds.Integer c text s = rw s.is (s.spelled.0, ap (λ (z : List ℕ). u1 3 ++ z) s.spelled.1)
-body_says kinds.Float c text s = rw s.is (s.spelled.0, ap (λ (z : List ℕ). u1 4 ++ z) s.spelled.1)
-body_says kinds.Long c text s = rw s.second.is (
-  (s.first.0, s.second.spelled.0),
-  ap (λ (z : List ℕ). u1 5 ++ z) (s.parts
-      ∙ rw (s.first.1, s.second.spelled.1) refl),
-)
-body_says kinds.Double c text s = rw s.second.is (
-  (s.first.0, s.second.spelled.0),
-  ap (λ (z : List ℕ). u1 6 ++ z) (s.parts
-      ∙ rw (s.first.1, s.second.spelled.1) refl),
-)
-body_says kinds.Class c text s = rw s.is (s.spelled.0, ap (λ (z : List ℕ). u1 7 ++ z) s.spelled.1)
-body_says kinds.String c text s = rw s.is (s.spelled.0, ap (λ (z : List ℕ). u1 8 ++ z) s.spelled.1)
-body_says kinds.Fieldref c text s = rw s.second.is (
-  (s.first.0, s.second.spelled.0),
-  ap (λ (z : List ℕ). u1 9 ++ z) (s.parts
-      ∙ rw (s.first.1, s.second.spelled.1) refl),
-)
-body_says kinds.Methodref c text s = rw s.second.is (
-  (s.first.0, s.second.spelled.0),
-  ap (λ (z : List ℕ). u1 10 ++ z) (s.parts
-      ∙ rw (s.first.1, s.second.spelled.1) refl),
-)
-body_says kinds.InterfaceMethodref c text s = rw s.second.is (
-  (s.first.0, s.second.spelled.0),
-  ap (λ (z : List ℕ). u1 11 ++ z) (s.parts
-      ∙ rw (s.first.1, s.second.spelled.1) refl),
-)
-body_says kinds.NameAndType c text s = rw s.second.is (
-  (s.first.0, s.second.spelled.0),
-  ap (λ (z : List ℕ). u1 12 ++ z) (s.parts
-      ∙ rw (s.first.1, s.second.spelled.1) refl),
-)
-body_says kinds.MethodHandle c text s = rw s.second.is (
-  (s.first.0, s.second.spelled.0),
-  ap (λ (z : List ℕ). u1 15 ++ z) (s.parts
-      ∙ rw (s.first.1, s.second.spelled.1) refl),
-)
-body_says kinds.MethodType c text s = rw s.is (s.spelled.0, ap (λ (z : List ℕ). u1 16 ++ z) s.spelled.1)
-body_says kinds.InvokeDynamic c text s = rw s.second.is (
-  (s.first.0, s.second.spelled.0),
-  ap (λ (z : List ℕ). u1 18 ++ z) (s.parts
-      ∙ rw (s.first.1, s.second.spelled.1) refl),
-)
+body_says kinds.Integer c text s = rw s.is (s.spelled.0, one_text w32 constants.Integer 3 c text s)
+body_says kinds.Float c text s = rw s.is (s.spelled.0, one_text w32 constants.Float 4 c text s)
+body_says kinds.Long c text s =
+    rw s.second.is ((s.first.0, s.second.spelled.0), two_text w32 w32 constants.Long 5 c text s)
+body_says kinds.Double c text s =
+    rw s.second.is ((s.first.0, s.second.spelled.0), two_text w32 w32 constants.Double 6 c text s)
+body_says kinds.Class c text s = rw s.is (s.spelled.0, one_text w16 constants.Class 7 c text s)
+body_says kinds.String c text s = rw s.is (s.spelled.0, one_text w16 constants.String 8 c text s)
+body_says kinds.Fieldref c text s =
+    rw s.second.is ((s.first.0, s.second.spelled.0), two_text w16 w16 constants.Fieldref 9 c text s)
+body_says kinds.Methodref c text s =
+    rw s.second.is ((s.first.0, s.second.spelled.0), two_text w16 w16 constants.Methodref 10 c text s)
+body_says kinds.InterfaceMethodref c text s =
+    rw s.second.is ((s.first.0, s.second.spelled.0), two_text w16 w16 constants.InterfaceMethodref 11 c text s)
+body_says kinds.NameAndType c text s =
+    rw s.second.is ((s.first.0, s.second.spelled.0), two_text w16 w16 constants.NameAndType 12 c text s)
+body_says kinds.MethodHandle c text s =
+    rw s.second.is ((s.first.0, s.second.spelled.0), two_text w8 w16 constants.MethodHandle 15 c text s)
+body_says kinds.MethodType c text s = rw s.is (s.spelled.0, one_text w16 constants.MethodType 16 c text s)
+body_says kinds.InvokeDynamic c text s =
+    rw s.second.is ((s.first.0, s.second.spelled.0), two_text w16 w16 constants.InvokeDynamic 18 c text s)
 
 tagged_by_kind : (c : Constant) (text : List ℕ) (tag : ℕ) (front back : List ℕ) (k : Option Kind) → kind_of_tag tag ≡ k
     → Number w8 tag front
@@ -243,206 +228,83 @@ tagged_by_body : (c : Constant) (text : List ℕ) → Spelled c text → IsTagge
 tagged_by_body c text s = tagged_by_kind c text s.value s.front s.back (kind_of_tag s.value) refl s.first s.second
     s.parts
 
+one_of : (w : Width) (make : ℕ → Constant) (a : ℕ) → a < limit_of w → One w make (make a) (to_be_bytes w a)
+one_of w make a fits = record { value = a; spelled = (fits, refl); is = refl }
+
+two_of : (v w : Width) (make : ℕ → ℕ → Constant) (a b : ℕ) → (a < limit_of v) × (b < limit_of w)
+    → Two v w make (make a b) (to_be_bytes v a ++ to_be_bytes w b)
+two_of v w make a b fits = record {
+  value = a;
+  front = to_be_bytes v a;
+  back = to_be_bytes w b;
+  first = (fits.0, refl);
+  second = one_of w (make a) b fits.1;
+  parts = refl;
+}
+
+utf8_of : (run : List ℕ) → (length run < 2 ^ 16) × IsModifiedUtf8 run
+    → IsUtf8Body (constants.Utf8 run) (u2 (length run) ++ run)
+utf8_of run fits = record {
+  value = length run;
+  front = u2 (length run);
+  back = run;
+  first = (fits.0, refl);
+  second =
+      record {
+        value = run;
+        front = run;
+        back = [];
+        first = (refl, refl);
+        second = (modified_passes run fits.1, refl, refl);
+        parts = sym (append-nil run);
+      };
+  parts = refl;
+}
+
+-- a tag and what follows it
+spelled_of : (tag : ℕ) (k : Kind) (c : Constant) (back text : List ℕ) → tag < 2 ^ 8 → kind_of_tag tag ≡ Some k
+    → BodySpells (Some k) c back → text ≡ u1 tag ++ back → Spelled c text
+spelled_of tag k c back text fits is body parts = record {
+  value = tag;
+  front = u1 tag;
+  back = back;
+  first = (fits, refl);
+  second = let P : Option Kind → Type 0 = λ z. BodySpells z c back in subst P (sym is) body;
+  parts = parts;
+}
+
 body_of_tagged : (c : Constant) (text : List ℕ) → IsTagged c text → Spelled c text
 unfolding kind_of_tag
 body_of_tagged constants.Unusable text s = absurd s.0
-body_of_tagged (constants.Utf8 run) text s = record {
-  value = 1;
-  front = u1 1;
-  back = u2 (length run) ++ run;
-  first = (omega arith, refl);
-  second = record {
-    value = length run;
-    front = u2 (length run);
-    back = run;
-    first = (s.0.0, refl);
-    second =
-        record {
-          value = run;
-          front = run;
-          back = [];
-          first = (refl, refl);
-          second = (modified_passes run s.0.1, refl, refl);
-          parts =
-              sym (append-nil run);
-        };
-    parts = refl;
-  };
-  parts = s.1;
-}
-body_of_tagged (constants.Integer a) text s = record {
-  value = 3;
-  front = u1 3;
-  back = u4 a;
-  first = (omega arith, refl);
-  second =
-      record { value = a; spelled = (s.0, refl); is = refl };
-  parts = s.1;
-}
-body_of_tagged (constants.Float a) text s = record {
-  value = 4;
-  front = u1 4;
-  back = u4 a;
-  first = (omega arith, refl);
-  second =
-      record { value = a; spelled = (s.0, refl); is = refl };
-  parts = s.1;
-}
-body_of_tagged (constants.Long a b) text s = record {
-  value = 5;
-  front = u1 5;
-  back = u4 a ++ u4 b;
-  first = (omega arith, refl);
-  second =
-      record {
-        value = a;
-        front = u4 a;
-        back = u4 b;
-        first = (s.0.0, refl);
-        second = record { value = b; spelled = (s.0.1, refl); is = refl };
-        parts = refl;
-      };
-  parts = s.1;
-}
-body_of_tagged (constants.Double a b) text s = record {
-  value = 6;
-  front = u1 6;
-  back = u4 a ++ u4 b;
-  first = (omega arith, refl);
-  second =
-      record {
-        value = a;
-        front = u4 a;
-        back = u4 b;
-        first = (s.0.0, refl);
-        second = record { value = b; spelled = (s.0.1, refl); is = refl };
-        parts = refl;
-      };
-  parts = s.1;
-}
-body_of_tagged (constants.Class a) text s = record {
-  value = 7;
-  front = u1 7;
-  back = u2 a;
-  first = (omega arith, refl);
-  second =
-      record { value = a; spelled = (s.0, refl); is = refl };
-  parts = s.1;
-}
-body_of_tagged (constants.String a) text s = record {
-  value = 8;
-  front = u1 8;
-  back = u2 a;
-  first = (omega arith, refl);
-  second =
-      record { value = a; spelled = (s.0, refl); is = refl };
-  parts = s.1;
-}
-body_of_tagged (constants.Fieldref a b) text s = record {
-  value = 9;
-  front = u1 9;
-  back = u2 a ++ u2 b;
-  first = (omega arith, refl);
-  second =
-      record {
-        value = a;
-        front = u2 a;
-        back = u2 b;
-        first = (s.0.0, refl);
-        second = record { value = b; spelled = (s.0.1, refl); is = refl };
-        parts = refl;
-      };
-  parts = s.1;
-}
-body_of_tagged (constants.Methodref a b) text s = record {
-  value = 10;
-  front = u1 10;
-  back = u2 a ++ u2 b;
-  first = (omega arith, refl);
-  second =
-      record {
-        value = a;
-        front = u2 a;
-        back = u2 b;
-        first = (s.0.0, refl);
-        second = record { value = b; spelled = (s.0.1, refl); is = refl };
-        parts = refl;
-      };
-  parts = s.1;
-}
-body_of_tagged (constants.InterfaceMethodref a b) text s = record {
-  value = 11;
-  front = u1 11;
-  back = u2 a ++ u2 b;
-  first = (omega arith, refl);
-  second = record {
-    value = a;
-    front = u2 a;
-    back = u2 b;
-    first = (s.0.0, refl);
-    second =
-        record { value = b; spelled = (s.0.1, refl); is = refl };
-    parts = refl;
-  };
-  parts = s.1;
-}
-body_of_tagged (constants.NameAndType a b) text s = record {
-  value = 12;
-  front = u1 12;
-  back = u2 a ++ u2 b;
-  first = (omega arith, refl);
-  second = record {
-    value = a;
-    front = u2 a;
-    back = u2 b;
-    first = (s.0.0, refl);
-    second =
-        record { value = b; spelled = (s.0.1, refl); is = refl };
-    parts = refl;
-  };
-  parts = s.1;
-}
-body_of_tagged (constants.MethodHandle a b) text s = record {
-  value = 15;
-  front = u1 15;
-  back = u1 a ++ u2 b;
-  first = (omega arith, refl);
-  second = record {
-    value = a;
-    front = u1 a;
-    back = u2 b;
-    first = (s.0.0, refl);
-    second =
-        record { value = b; spelled = (s.0.1, refl); is = refl };
-    parts = refl;
-  };
-  parts = s.1;
-}
-body_of_tagged (constants.MethodType a) text s = record {
-  value = 16;
-  front = u1 16;
-  back = u2 a;
-  first = (omega arith, refl);
-  second =
-      record { value = a; spelled = (s.0, refl); is = refl };
-  parts = s.1;
-}
-body_of_tagged (constants.InvokeDynamic a b) text s = record {
-  value = 18;
-  front = u1 18;
-  back = u2 a ++ u2 b;
-  first = (omega arith, refl);
-  second = record {
-    value = a;
-    front = u2 a;
-    back = u2 b;
-    first = (s.0.0, refl);
-    second =
-        record { value = b; spelled = (s.0.1, refl); is = refl };
-    parts = refl;
-  };
-  parts = s.1;
-}
+body_of_tagged (constants.Utf8 run) text s =
+    spelled_of 1 kinds.Utf8 _ _ text (omega arith) refl (utf8_of run s.0) s.1
+body_of_tagged (constants.Integer a) text s =
+    spelled_of 3 kinds.Integer _ _ text (omega arith) refl (one_of w32 constants.Integer a s.0) s.1
+body_of_tagged (constants.Float a) text s =
+    spelled_of 4 kinds.Float _ _ text (omega arith) refl (one_of w32 constants.Float a s.0) s.1
+body_of_tagged (constants.Long a b) text s =
+    spelled_of 5 kinds.Long _ _ text (omega arith) refl (two_of w32 w32 constants.Long a b s.0) s.1
+body_of_tagged (constants.Double a b) text s =
+    spelled_of 6 kinds.Double _ _ text (omega arith) refl (two_of w32 w32 constants.Double a b s.0) s.1
+body_of_tagged (constants.Class a) text s =
+    spelled_of 7 kinds.Class _ _ text (omega arith) refl (one_of w16 constants.Class a s.0) s.1
+body_of_tagged (constants.String a) text s =
+    spelled_of 8 kinds.String _ _ text (omega arith) refl (one_of w16 constants.String a s.0) s.1
+body_of_tagged (constants.Fieldref a b) text s =
+    spelled_of 9 kinds.Fieldref _ _ text (omega arith) refl (two_of w16 w16 constants.Fieldref a b s.0) s.1
+body_of_tagged (constants.Methodref a b) text s =
+    spelled_of 10 kinds.Methodref _ _ text (omega arith) refl (two_of w16 w16 constants.Methodref a b s.0) s.1
+body_of_tagged (constants.InterfaceMethodref a b) text s =
+    spelled_of 11 kinds.InterfaceMethodref _ _ text (omega arith) refl
+    (two_of w16 w16 constants.InterfaceMethodref a b s.0) s.1
+body_of_tagged (constants.NameAndType a b) text s =
+    spelled_of 12 kinds.NameAndType _ _ text (omega arith) refl (two_of w16 w16 constants.NameAndType a b s.0) s.1
+body_of_tagged (constants.MethodHandle a b) text s =
+    spelled_of 15 kinds.MethodHandle _ _ text (omega arith) refl (two_of w8 w16 constants.MethodHandle a b s.0) s.1
+body_of_tagged (constants.MethodType a) text s =
+    spelled_of 16 kinds.MethodType _ _ text (omega arith) refl (one_of w16 constants.MethodType a s.0) s.1
+body_of_tagged (constants.InvokeDynamic a b) text s =
+    spelled_of 18 kinds.InvokeDynamic _ _ text (omega arith) refl (two_of w16 w16 constants.InvokeDynamic a b s.0) s.1
 
 pub tagged_lawful : (total index : ℕ) → Lawful (tagged_at total index) IsTagged (TaggedFails total index)
 unfolding tagged_at

@@ -4,6 +4,7 @@ ghost use Rattle.std.specs.Prelude.{◌≡◌, ◌∷◌, [], IfOk, IfErr, OnOk,
 ghost use Rattle.vm_state.specs.Segments.{frames_in, first_frame, callers_of};
 ghost use Rattle.vm_state.specs.Operands.{dropped};
 
+use crate::items::{CopiedItem, Item, copy_items, same_items};
 use crate::locals::Locals;
 use crate::operands::Operands;
 use std::alloc::{AllocError, Global};
@@ -80,31 +81,16 @@ impl Frame {
     }
 }
 
-/// Whether frames are the same.
-fn same_frames(left: &Vec<Frame>, right: &Vec<Frame>) -> bool
-    ensures yes { result ≡ true → left.now.items ≡ right.now.items }
-    ensures no { result ≡ false → left.now.items ≢ right.now.items }
-{
-    if left.len() != right.len() {
-        return false;
+impl Item for Frame {
+    fn is_same(&self, other: &Frame) -> bool {
+        Frame::is_same(self, other)
     }
-    for place in 0..left.len() {
-        if !left[place].is_same(&right[place]) {
-            return false;
-        }
-    }
-    true
 }
 
-/// Copies of some frames, put where there are none.
-fn copy_frames(alloc: Global, frames: &[Frame], copies: &mut Vec<Frame>) -> Result<(), AllocError>
-    requires { copies.old.items ≡ [] }
-    ensures { OnOk result (copies.new.items ≡ frames.now) }
-{
-    for frame in frames {
-        copies.push(frame.copy(alloc)?)?;
+impl CopiedItem for Frame {
+    fn copy(&self, alloc: Global) -> Result<Frame, AllocError> {
+        Frame::copy(self, alloc)
     }
-    Ok(())
 }
 
 /// Some frames of one thread, the innermost first.
@@ -128,7 +114,7 @@ impl FrameList {
         ensures yes { result ≡ true → self.now ≡ other.now }
         ensures no { result ≡ false → self.now ≢ other.now }
     {
-        same_frames(&self.frames, &other.frames)
+        same_items(&self.frames, &other.frames)
     }
 
     /// The same once more.
@@ -139,7 +125,7 @@ impl FrameList {
         ensures { IfOk result (λ l. l ≡ self.now) }
     {
         let mut frames = Vec::new(alloc);
-        match copy_frames(alloc, self.frames.as_slice(), &mut frames) {
+        match copy_items(alloc, self.frames.as_slice(), &mut frames) {
             Ok(()) => Ok(FrameList { frames }),
             Err(error) => Err(error),
         }

@@ -7,6 +7,7 @@ ghost use Rattle.vm_state.specs.Stacks.{parent_taken};
 ghost use Rattle.vm_state.specs.Stacks.{initializer_begun, exception_pending, IsLeft};
 
 use crate::frame::{Frame, FrameList, Segment};
+use crate::items::{CopiedItem, Item, copy_items, same_items};
 use crate::value::Name;
 use std::alloc::{AllocError, Global};
 use std::marker::Model;
@@ -24,22 +25,6 @@ impl Model for Parents {
     ghost Value = { List ℕ };
 
     ghost view = { λ s. reverse s.reversed.items };
-}
-
-/// Whether classes are the same.
-fn same_classes(left: &Vec<u32>, right: &Vec<u32>) -> bool
-    ensures yes { result ≡ true → left.now.items ≡ right.now.items }
-    ensures no { result ≡ false → left.now.items ≢ right.now.items }
-{
-    if left.len() != right.len() {
-        return false;
-    }
-    for place in 0..left.len() {
-        if left[place] != right[place] {
-            return false;
-        }
-    }
-    true
 }
 
 /// Whether these are the same, or there is none.
@@ -61,7 +46,7 @@ impl Parents {
         ensures yes { result ≡ true → self.now ≡ other.now }
         ensures no { result ≡ false → self.now ≢ other.now }
     {
-        same_classes(&self.reversed, &other.reversed)
+        same_items(&self.reversed, &other.reversed)
     }
 
     /// The same once more.
@@ -166,31 +151,16 @@ impl Level {
     }
 }
 
-/// Whether levels are the same.
-fn same_levels(left: &Vec<Level>, right: &Vec<Level>) -> bool
-    ensures yes { result ≡ true → left.now.items ≡ right.now.items }
-    ensures no { result ≡ false → left.now.items ≢ right.now.items }
-{
-    if left.len() != right.len() {
-        return false;
+impl Item for Level {
+    fn is_same(&self, other: &Level) -> bool {
+        Level::is_same(self, other)
     }
-    for place in 0..left.len() {
-        if !left[place].is_same(&right[place]) {
-            return false;
-        }
-    }
-    true
 }
 
-/// Copies of some levels, put where there are none.
-fn copy_levels(alloc: Global, levels: &[Level], copies: &mut Vec<Level>) -> Result<(), AllocError>
-    requires { copies.old.items ≡ [] }
-    ensures { OnOk result (copies.new.items ≡ levels.now) }
-{
-    for level in levels {
-        copies.push(level.copy(alloc)?)?;
+impl CopiedItem for Level {
+    fn copy(&self, alloc: Global) -> Result<Level, AllocError> {
+        Level::copy(self, alloc)
     }
-    Ok(())
 }
 
 /// Some initializations in progress by one thread, the innermost first.
@@ -214,7 +184,7 @@ impl LevelList {
         ensures yes { result ≡ true → self.now ≡ other.now }
         ensures no { result ≡ false → self.now ≢ other.now }
     {
-        same_levels(&self.levels, &other.levels)
+        same_items(&self.levels, &other.levels)
     }
 
     /// The same once more.
@@ -225,7 +195,7 @@ impl LevelList {
         ensures { IfOk result (λ l. l ≡ self.now) }
     {
         let mut levels = Vec::new(alloc);
-        match copy_levels(alloc, self.levels.as_slice(), &mut levels) {
+        match copy_items(alloc, self.levels.as_slice(), &mut levels) {
             Ok(()) => Ok(LevelList { levels }),
             Err(error) => Err(error),
         }

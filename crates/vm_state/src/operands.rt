@@ -7,6 +7,7 @@ ghost use Rattle.vm_state.specs.Operands.{OperandStack, all_places, pushed, top,
 ghost use Rattle.vm_state.specs.Operands.{rest, dropped, all_pushed};
 ghost use Rattle.vm_state.specs.Arguments.{taken};
 
+use crate::items::{Item, same_items};
 use crate::value::{Fault, Value};
 use std::alloc::{AllocError, Global};
 use std::marker::Model;
@@ -31,20 +32,10 @@ impl Model for Operands {
         (s.free + all_places (reverse s.values.items) ≤ vec_capacity s.values) × (vec_capacity s.values ≤ 65535) };
 }
 
-/// Whether values are the same.
-fn same_values(left: &Vec<Value>, right: &Vec<Value>) -> bool
-    ensures yes { result ≡ true → left.now.items ≡ right.now.items }
-    ensures no { result ≡ false → left.now.items ≢ right.now.items }
-{
-    if left.len() != right.len() {
-        return false;
+impl Item for Value {
+    fn is_same(&self, other: &Value) -> bool {
+        *self == *other
     }
-    for place in 0..left.len() {
-        if left[place] != right[place] {
-            return false;
-        }
-    }
-    true
 }
 
 /// The same values, in as much room.
@@ -95,7 +86,7 @@ impl Operands {
         ensures yes { result ≡ true → self.now ≡ other.now }
         ensures no { result ≡ false → self.now ≢ other.now }
     {
-        self.free == other.free && same_values(&self.values, &other.values)
+        self.free == other.free && same_items(&self.values, &other.values)
     }
 
     /// An empty stack without room.
