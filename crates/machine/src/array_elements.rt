@@ -2,7 +2,7 @@
 
 ghost use Rattle.std.specs.Prelude.{◌≡◌, List};
 ghost use Rattle.vm_state.specs.declared.text.Line.{Line};
-ghost use Rattle.machine.specs.Accesses.{Gives, KeptBy, Untouched};
+ghost use Rattle.machine.specs.Accesses.{Gives, Keeps};
 ghost use Rattle.machine.specs.Arrays.{is_checked, check_store, load_element, store_element};
 ghost use Rattle.machine.specs.steps.ArrayAccesses.{Finds, PassesOn, reach_loaded, reach_stored};
 
@@ -67,9 +67,7 @@ pub fn load_element<S: Store>(
 ) -> Result<Conclusion, Stop>
     ensures gives { (p : List Line) → Gives S.stopped (S.run by (S.state store.old p)) (S.run by (S.state store.new p))
         (load_element kind frame.old) frame.new result }
-    ensures same { KeptBy S.state result store.old store.new }
-    ensures frame { Untouched result frame.old frame.new }
-    ensures activity { frame.new.activity ≡ frame.old.activity }
+    ensures kept { Keeps S.state result store.old store.new frame.old frame.new }
 {
     match loaded(by, frame, store, kind) {
         Ok(value) => Ok(replace_value(frame, 2, value)),
@@ -147,9 +145,7 @@ pub fn store_element<S: Store>(
 ) -> Result<Conclusion, Stop>
     ensures gives { (p : List Line) → Gives S.stopped (S.run by (S.state store.old p)) (S.run by (S.state store.new p))
         (store_element program.now kind frame.old) frame.new result }
-    ensures same { KeptBy S.state result store.old store.new }
-    ensures frame { Untouched result frame.old frame.new }
-    ensures activity { frame.new.activity ≡ frame.old.activity }
+    ensures kept { Keeps S.state result store.old store.new frame.old frame.new }
 {
     let stored = match stored(program, by, frame, store, kind) {
         Ok(stored) => stored,

@@ -7,7 +7,7 @@ ghost use Rattle.vm_state.specs.declared.text.Line.{Line};
 ghost use Rattle.frame_instructions.specs.Completion.{completed};
 ghost use Rattle.machine.specs.Operations.{meaning, operation_at};
 ghost use Rattle.machine.specs.Table.{local_row, operation_row, fetched, row};
-ghost use Rattle.machine.specs.Accesses.{Gives, KeptBy, Untouched};
+ghost use Rattle.machine.specs.Accesses.{Gives, KeptBy, Untouched, Keeps};
 
 use crate::arrays::on_array;
 use crate::call_execution::execute_call;
@@ -60,9 +60,7 @@ fn execute_resolved<S: Store>(
 ) -> Result<Conclusion, Stop>
     ensures gives { (p : List Line) → Gives S.stopped (S.run by (S.state store.old p)) (S.run by (S.state store.new p))
         (operation_row program.now (meaning resolved) frame.old) frame.new result }
-    ensures same { KeptBy S.state result store.old store.new }
-    ensures frame { Untouched result frame.old frame.new }
-    ensures activity { frame.new.activity ≡ frame.old.activity }
+    ensures kept { Keeps S.state result store.old store.new frame.old frame.new }
 {
     match resolved {
         Resolved::PushInt(number) => Ok(push_number(frame, Value::Int(number))),
@@ -96,9 +94,7 @@ fn execute_next<S: Store>(
 ) -> Result<Conclusion, Stop>
     ensures gives { (p : List Line) → Gives S.stopped (S.run by (S.state store.old p)) (S.run by (S.state store.new p))
         (fetched program.now (operation_at program.now class method frame.old.place) frame.old) frame.new result }
-    ensures same { KeptBy S.state result store.old store.new }
-    ensures frame { Untouched result frame.old frame.new }
-    ensures activity { frame.new.activity ≡ frame.old.activity }
+    ensures kept { Keeps S.state result store.old store.new frame.old frame.new }
 {
     let Some(instruction) = program.instruction(class, method, frame.place) else {
         return Ok(Conclusion::Halts(FaultKind::Fault));
@@ -127,9 +123,7 @@ pub fn execute<S: Store>(
 ) -> Result<Conclusion, Stop>
     ensures gives { (p : List Line) → Gives S.stopped (S.run by (S.state store.old p)) (S.run by (S.state store.new p))
         (row program.now frame.old) frame.new result }
-    ensures same { KeptBy S.state result store.old store.new }
-    ensures frame { Untouched result frame.old frame.new }
-    ensures activity { frame.new.activity ≡ frame.old.activity }
+    ensures kept { Keeps S.state result store.old store.new frame.old frame.new }
 {
     match frame.activity {
         Activity::Start(class) => start(alloc, program, by, frame, store, class),

@@ -4,7 +4,7 @@ ghost use Rattle.std.specs.Prelude.{◌≡◌, ◌&&◌, not, List, Some, None, 
 ghost use Rattle.vm_state.specs.declared.text.Line.{Line};
 ghost use Rattle.machine.specs.Calls.{receiver_under, runs, runs_chosen, is_out, called_on};
 ghost use Rattle.machine.specs.Calls.{call_instance};
-ghost use Rattle.machine.specs.Accesses.{Gives, KeptBy, Untouched};
+ghost use Rattle.machine.specs.Accesses.{Gives, Keeps};
 
 use crate::call_operation::{Choice, InstanceCall};
 use crate::calling::{has_arguments, parameters, reached};
@@ -55,9 +55,7 @@ fn run_method<S: Store>(
 ) -> Result<Conclusion, Stop>
     ensures gives { (p : List Line) → Gives S.stopped (S.run by (S.state store.old p)) (S.run by (S.state store.new p))
         (runs program.now count receiver frame.old method) frame.new result }
-    ensures same { KeptBy S.state result store.old store.new }
-    ensures frame { Untouched result frame.old frame.new }
-    ensures activity { frame.new.activity ≡ frame.old.activity }
+    ensures kept { Keeps S.state result store.old store.new frame.old frame.new }
 {
     match method {
         Some(Method::Given { class, index }) => {
@@ -85,9 +83,7 @@ fn run_chosen<S: Store>(
 ) -> Result<Conclusion, Stop>
     ensures gives { (p : List Line) → Gives S.stopped (S.run by (S.state store.old p)) (S.run by (S.state store.new p))
         (runs_chosen program.now choice count frame.old receiver) frame.new result }
-    ensures same { KeptBy S.state result store.old store.new }
-    ensures frame { Untouched result frame.old frame.new }
-    ensures activity { frame.new.activity ≡ frame.old.activity }
+    ensures kept { Keeps S.state result store.old store.new frame.old frame.new }
 {
     match choice {
         Choice::Found(method) => {
@@ -136,9 +132,7 @@ pub fn call_on<S: Store>(
 ) -> Result<Conclusion, Stop>
     ensures gives { (p : List Line) → Gives S.stopped (S.run by (S.state store.old p)) (S.run by (S.state store.new p))
         (called_on program.now call count frame.old receiver) frame.new result }
-    ensures same { KeptBy S.state result store.old store.new }
-    ensures frame { Untouched result frame.old frame.new }
-    ensures activity { frame.new.activity ≡ frame.old.activity }
+    ensures kept { Keeps S.state result store.old store.new frame.old frame.new }
 {
     if names_another(call, receiver) {
         return FAULT;
@@ -174,9 +168,7 @@ pub fn call_instance<S: Store>(
 ) -> Result<Conclusion, Stop>
     ensures gives { (p : List Line) → Gives S.stopped (S.run by (S.state store.old p)) (S.run by (S.state store.new p))
         (call_instance program.now call frame.old) frame.new result }
-    ensures same { KeptBy S.state result store.old store.new }
-    ensures frame { Untouched result frame.old frame.new }
-    ensures activity { frame.new.activity ≡ frame.old.activity }
+    ensures kept { Keeps S.state result store.old store.new frame.old frame.new }
 {
     let Some(kinds) = parameters(program, call.caller, call.descriptor) else {
         return FAULT;

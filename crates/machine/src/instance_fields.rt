@@ -1,9 +1,9 @@
 //! Fields of instances (JVMS 6.5, getfield and putfield), over any store.
 
-ghost use Rattle.std.specs.Prelude.{◌≡◌, List};
+ghost use Rattle.std.specs.Prelude.{List};
 ghost use Rattle.vm_state.specs.declared.text.Line.{Line};
 ghost use Rattle.machine.specs.Objects.{get_field, put_field};
-ghost use Rattle.machine.specs.Accesses.{Gives, KeptBy, Untouched};
+ghost use Rattle.machine.specs.Accesses.{Gives, Keeps};
 
 use crate::kinds::{Actor, Conclusion, Stop};
 use crate::object_operation::InstanceField;
@@ -36,9 +36,7 @@ pub fn get_field<S: Store>(
 ) -> Result<Conclusion, Stop>
     ensures gives { (p : List Line) → Gives S.stopped (S.run by (S.state store.old p)) (S.run by (S.state store.new p))
         (get_field program.now field frame.old) frame.new result }
-    ensures same { KeptBy S.state result store.old store.new }
-    ensures frame { Untouched result frame.old frame.new }
-    ensures activity { frame.new.activity ≡ frame.old.activity }
+    ensures kept { Keeps S.state result store.old store.new frame.old frame.new }
 {
     let Ok(holder) = top_as(&frame.operands, OperandKind::Reference) else {
         return FAULT;
@@ -78,9 +76,7 @@ pub fn put_field<S: Store>(
 ) -> Result<Conclusion, Stop>
     ensures gives { (p : List Line) → Gives S.stopped (S.run by (S.state store.old p)) (S.run by (S.state store.new p))
         (put_field program.now field frame.old) frame.new result }
-    ensures same { KeptBy S.state result store.old store.new }
-    ensures frame { Untouched result frame.old frame.new }
-    ensures activity { frame.new.activity ≡ frame.old.activity }
+    ensures kept { Keeps S.state result store.old store.new frame.old frame.new }
 {
     let Ok(value) = top_stored(&frame.operands, field.kind) else {
         return FAULT;

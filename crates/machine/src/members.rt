@@ -5,7 +5,7 @@ ghost use Rattle.vm_state.specs.declared.text.Line.{Line};
 ghost use Rattle.machine.specs.RowParts.{drops};
 ghost use Rattle.machine.specs.ObjectParts.{look_into_named};
 ghost use Rattle.machine.specs.Members.{new_enum, replaced, or_slot, enum_part, copy_of, clone_array, member_row};
-ghost use Rattle.machine.specs.Accesses.{Gives, KeptBy, Untouched, concluded};
+ghost use Rattle.machine.specs.Accesses.{Gives, Untouched, Keeps, concluded};
 
 use crate::kinds::{Actor, Conclusion, Stop};
 use crate::objects::is_of;
@@ -58,9 +58,7 @@ fn new_enum<S: Store>(
 ) -> Result<Conclusion, Stop>
     ensures gives { (p : List Line) → Gives S.stopped (S.run by (S.state store.old p)) (S.run by (S.state store.new p))
         (new_enum program.now receiver frame.old) frame.new result }
-    ensures same { KeptBy S.state result store.old store.new }
-    ensures frame { Untouched result frame.old frame.new }
-    ensures activity { frame.new.activity ≡ frame.old.activity }
+    ensures kept { Keeps S.state result store.old store.new frame.old frame.new }
 {
     let Ok(ordinal) = top_as(&frame.operands, OperandKind::Int) else {
         return FAULT;
@@ -118,9 +116,7 @@ fn enum_part<S: Store>(
 ) -> Result<Conclusion, Stop>
     ensures gives { (p : List Line) → Gives S.stopped (S.run by (S.state store.old p)) (S.run by (S.state store.new p))
         (enum_part program.now slot receiver frame.old) frame.new result }
-    ensures same { KeptBy S.state result store.old store.new }
-    ensures frame { Untouched result frame.old frame.new }
-    ensures activity { frame.new.activity ≡ frame.old.activity }
+    ensures kept { Keeps S.state result store.old store.new frame.old frame.new }
 {
     let Some(object) = name_of(receiver) else {
         return without_object(alloc, by, store, receiver);
@@ -147,9 +143,7 @@ fn copy_array<S: Store>(
 ) -> Result<Conclusion, Stop>
     ensures gives { (p : List Line) → Gives S.stopped (S.run by (S.state store.old p)) (S.run by (S.state store.new p))
         (copy_of object array frame.old) frame.new result }
-    ensures same { KeptBy S.state result store.old store.new }
-    ensures frame { Untouched result frame.old frame.new }
-    ensures activity { frame.new.activity ≡ frame.old.activity }
+    ensures kept { Keeps S.state result store.old store.new frame.old frame.new }
 {
     let Some(slots) = store.copied_slots(alloc, by, object)? else {
         return FAULT;
@@ -169,9 +163,7 @@ fn clone_array<S: Store>(
 ) -> Result<Conclusion, Stop>
     ensures gives { (p : List Line) → Gives S.stopped (S.run by (S.state store.old p)) (S.run by (S.state store.new p))
         (clone_array receiver frame.old) frame.new result }
-    ensures same { KeptBy S.state result store.old store.new }
-    ensures frame { Untouched result frame.old frame.new }
-    ensures activity { frame.new.activity ≡ frame.old.activity }
+    ensures kept { Keeps S.state result store.old store.new frame.old frame.new }
 {
     let Some(object) = name_of(receiver) else {
         return without_object(alloc, by, store, receiver);
@@ -200,9 +192,7 @@ pub fn run_member<S: Store>(
 ) -> Result<Conclusion, Stop>
     ensures gives { (p : List Line) → Gives S.stopped (S.run by (S.state store.old p)) (S.run by (S.state store.new p))
         (member_row program.now member count receiver frame.old) frame.new result }
-    ensures same { KeptBy S.state result store.old store.new }
-    ensures frame { Untouched result frame.old frame.new }
-    ensures activity { frame.new.activity ≡ frame.old.activity }
+    ensures kept { Keeps S.state result store.old store.new frame.old frame.new }
 {
     match member {
         BuiltInMethod::NewObject

@@ -6,7 +6,7 @@ ghost use Rattle.vm_state.specs.declared.object.Monitor.TheVariants.{Owned};
 ghost use Rattle.vm_state.specs.declared.text.Line.{Line};
 ghost use Rattle.semantics.specs.Rows.{enter_again, enter_monitor as enter_of, left_once, leave_monitor};
 ghost use Rattle.semantics.specs.Rows.{lock_monitor};
-ghost use Rattle.machine.specs.Accesses.{Gives, KeptBy, Untouched};
+ghost use Rattle.machine.specs.Accesses.{Gives, KeptBy, Keeps};
 ghost use Rattle.machine.specs.Monitors.{without_monitor, enter_monitor, exit_monitor};
 ghost use Rattle.machine.specs.steps.Locks.{lock_of};
 
@@ -140,9 +140,7 @@ pub fn enter_monitor<S: Store>(
 ) -> Result<Conclusion, Stop>
     ensures gives { (p : List Line) → Gives S.stopped (S.run by (S.state store.old p)) (S.run by (S.state store.new p))
         (enter_monitor frame.old) frame.new result }
-    ensures same { KeptBy S.state result store.old store.new }
-    ensures frame { Untouched result frame.old frame.new }
-    ensures activity { frame.new.activity ≡ frame.old.activity }
+    ensures kept { Keeps S.state result store.old store.new frame.old frame.new }
 {
     let Ok(value) = top_as(&frame.operands, OperandKind::Reference) else {
         return FAULT;
@@ -172,9 +170,7 @@ pub fn exit_monitor<S: Store>(
 ) -> Result<Conclusion, Stop>
     ensures gives { (p : List Line) → Gives S.stopped (S.run by (S.state store.old p)) (S.run by (S.state store.new p))
         (exit_monitor frame.old) frame.new result }
-    ensures same { KeptBy S.state result store.old store.new }
-    ensures frame { Untouched result frame.old frame.new }
-    ensures activity { frame.new.activity ≡ frame.old.activity }
+    ensures kept { Keeps S.state result store.old store.new frame.old frame.new }
 {
     let Ok(value) = top_as(&frame.operands, OperandKind::Reference) else {
         return FAULT;

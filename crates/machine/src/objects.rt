@@ -6,7 +6,7 @@ ghost use Rattle.vm_state.specs.declared.text.Line.{Line};
 ghost use Rattle.machine.specs.Objects.{new_object, new_given, is_of, is_holder, ask_is_of, check_cast};
 ghost use Rattle.machine.specs.Objects.{int_of_boolean};
 ghost use Rattle.machine.specs.Objects.{instance_of, throw_row};
-ghost use Rattle.machine.specs.Accesses.{Gives, KeptBy, Leads, Untouched};
+ghost use Rattle.machine.specs.Accesses.{Gives, Keeps, Leads};
 
 use crate::kinds::{Actor, Conclusion, Stop};
 use crate::raising::raise;
@@ -37,9 +37,7 @@ fn new_object<S: Store>(
 ) -> Result<Conclusion, Stop>
     ensures gives { (p : List Line) → Gives S.stopped (S.run by (S.state store.old p)) (S.run by (S.state store.new p))
         (new_object class slots frame.old) frame.new result }
-    ensures same { KeptBy S.state result store.old store.new }
-    ensures frame { Untouched result frame.old frame.new }
-    ensures activity { frame.new.activity ≡ frame.old.activity }
+    ensures kept { Keeps S.state result store.old store.new frame.old frame.new }
 {
     if !frame.operands.has_room(1) {
         return FAULT;
@@ -66,9 +64,7 @@ pub fn new_built_in<S: Store>(
 ) -> Result<Conclusion, Stop>
     ensures gives { (p : List Line) → Gives S.stopped (S.run by (S.state store.old p)) (S.run by (S.state store.new p))
         (new_object (BuiltInId class) [] frame.old) frame.new result }
-    ensures same { KeptBy S.state result store.old store.new }
-    ensures frame { Untouched result frame.old frame.new }
-    ensures activity { frame.new.activity ≡ frame.old.activity }
+    ensures kept { Keeps S.state result store.old store.new frame.old frame.new }
 {
     new_object(
         alloc,
@@ -96,9 +92,7 @@ pub fn new_given<S: Store>(
 ) -> Result<Conclusion, Stop>
     ensures gives { (p : List Line) → Gives S.stopped (S.run by (S.state store.old p)) (S.run by (S.state store.new p))
         (new_given program.now class frame.old) frame.new result }
-    ensures same { KeptBy S.state result store.old store.new }
-    ensures frame { Untouched result frame.old frame.new }
-    ensures activity { frame.new.activity ≡ frame.old.activity }
+    ensures kept { Keeps S.state result store.old store.new frame.old frame.new }
 {
     if !store.use_class(by, class)? {
         return raise(alloc, by, store, BuiltIn::NoClassDefFoundError);
@@ -170,9 +164,7 @@ pub fn check_cast<S: Store>(
 ) -> Result<Conclusion, Stop>
     ensures gives { (p : List Line) → Gives S.stopped (S.run by (S.state store.old p)) (S.run by (S.state store.new p))
         (check_cast program.now class frame.old) frame.new result }
-    ensures same { KeptBy S.state result store.old store.new }
-    ensures frame { Untouched result frame.old frame.new }
-    ensures activity { frame.new.activity ≡ frame.old.activity }
+    ensures kept { Keeps S.state result store.old store.new frame.old frame.new }
 {
     let Ok(value) = top_as(&frame.operands, OperandKind::Reference) else {
         return FAULT;
@@ -206,9 +198,7 @@ pub fn instance_of<S: Store>(
 ) -> Result<Conclusion, Stop>
     ensures gives { (p : List Line) → Gives S.stopped (S.run by (S.state store.old p)) (S.run by (S.state store.new p))
         (instance_of program.now class frame.old) frame.new result }
-    ensures same { KeptBy S.state result store.old store.new }
-    ensures frame { Untouched result frame.old frame.new }
-    ensures activity { frame.new.activity ≡ frame.old.activity }
+    ensures kept { Keeps S.state result store.old store.new frame.old frame.new }
 {
     let Ok(value) = top_as(&frame.operands, OperandKind::Reference) else {
         return FAULT;
@@ -236,9 +226,7 @@ pub fn throw<S: Store>(
 ) -> Result<Conclusion, Stop>
     ensures gives { (p : List Line) → Gives S.stopped (S.run by (S.state store.old p)) (S.run by (S.state store.new p))
         (throw_row program.now frame.old) frame.new result }
-    ensures same { KeptBy S.state result store.old store.new }
-    ensures frame { Untouched result frame.old frame.new }
-    ensures activity { frame.new.activity ≡ frame.old.activity }
+    ensures kept { Keeps S.state result store.old store.new frame.old frame.new }
 {
     let Ok(value) = top_as(&frame.operands, OperandKind::Reference) else {
         return FAULT;

@@ -1,4 +1,4 @@
-use Rattle.std.proofs.Common.{rules}
+use Rattle.std.proofs.Common.{◌≡◌, rules}
 use Rattle.frame_instructions.specs.Completion.{completed}
 use Rattle.machine.proofs.TableLocalLemmas.{next_local, next_other, local_activity}
 use Rattle.machine.proofs.execute.execute_next.Goals as goal
@@ -20,7 +20,9 @@ returns-in-Some-execute_local-clause-gives g c =
     (completed c.in-Some-execute_local.went c.execute_local.new.frame)
     (search rules)) (c.end.ensures.gives p)
 
-pub returns-in-Some-execute_local-clause-activity : goal.returns-in-Some-execute_local-clause-activity
-returns-in-Some-execute_local-clause-activity g c =
+pub returns-in-Some-execute_local-clause-kept : goal.returns-in-Some-execute_local-clause-kept
+returns-in-Some-execute_local-clause-kept g c =
+    let activity : c.execute_local.new.frame.activity ≡ c.args.frame.now.activity =
     local_activity c.args.frame.now c.execute_local.new.frame c.in-Some.instruction.now c.in-Some-execute_local.went
-    (search rules) (search rules)
+    (search rules) (search rules) in
+    record { same = search rules; frame = search rules; activity = activity }
