@@ -3,7 +3,8 @@
 ghost use Rattle.std.specs.Prelude.{◌≡◌, ◌↔◌, ◌++◌, ◌∷◌, [], Some, IsTrue, IfOk, OnOk, if◌then◌else◌};
 ghost use Rattle.hierarchy.specs.declared.member_index.MemberKey.{MemberKey as Key};
 ghost use Rattle.hierarchy.specs.steps.MemberIndexes.{same_key};
-ghost use Rattle.hierarchy.specs.steps.Reaches.{reaches_of, number_in, EndsAt, IsReachTable, GoUp, reaching, last_nearest};
+ghost use Rattle.hierarchy.specs.steps.Reaches.{EndsAt, GoUp, IsReachTable};
+ghost use Rattle.hierarchy.specs.steps.Reaches.{last_nearest, number_in, reaches_of, reaching};
 
 use crate::member::DeclaredMember;
 use crate::member_index::MemberKey;

@@ -4,20 +4,20 @@
 //! descriptor, where the nearest class that declares such a member changes: at a class that declares one, and where
 //! the classes below one end.
 
-ghost use Rattle.std.specs.Prelude.{◌≡◌, ◌⊎◌, ◌↔◌, IsTrue, ℕ, ◌<◌, ◌^◌, ◌++◌, ◌∷◌, [], List, Option, Some, None, length};
-ghost use Rattle.std.specs.Prelude.{OnOk, ◌==◌, slice_index_or, if◌then◌else◌};
+ghost use Rattle.std.specs.Prelude.{◌≡◌, ◌⊎◌, ◌↔◌, IsTrue, ℕ, ◌<◌, ◌^◌, ◌++◌, ◌∷◌, [], List, length};
+ghost use Rattle.std.specs.Prelude.{Option, Some, None, OnOk, ◌==◌, slice_index_or, if◌then◌else◌};
 ghost use Rattle.built_in.specs.Keys.{NameAndType};
 ghost use Rattle.hierarchy.specs.declared.member_index.MemberKey.{MemberKey as Key};
 ghost use Rattle.hierarchy.specs.steps.MemberIndexes.{AreNumbers};
-ghost use Rattle.hierarchy.specs.steps.Reaches.{AllTell, EndsAt, IsLast, IsReachTable, Nearest, NearestAbove, NearestFrom};
-ghost use Rattle.hierarchy.specs.steps.Reaches.{StandsBehind, Tells, reaches_of};
+ghost use Rattle.hierarchy.specs.steps.Reaches.{AllTell, EndsAt, IsLast, IsReachTable, StandsBehind, Tells};
+ghost use Rattle.hierarchy.specs.steps.Reaches.{Nearest, NearestAbove, NearestFrom, reaches_of};
 ghost use Rattle.hierarchy.specs.steps.DepthFirst.{MayFollow, IsDepthFirst, ArePlaces, StandOnce};
 ghost use Rattle.loading.specs.Families.{IsFamily};
 ghost use Rattle.hierarchy.specs.declared.member.DeclaredMember.{DeclaredMember as Found};
 ghost use Rattle.hierarchy.specs.steps.NearestMembers.{IsEmpty};
 ghost use Rattle.hierarchy.specs.steps.MemberTables.{IsTableOf};
-ghost use Rattle.hierarchy.specs.steps.Sweeps.{AreNoted, Comes, IsClassOrder, IsNoted, KeepsEnds, came, counted, own_in};
-ghost use Rattle.hierarchy.specs.steps.Sweeps.{members_by, members_in, members_of, members_of_file};
+ghost use Rattle.hierarchy.specs.steps.Sweeps.{AreNoted, Comes, IsClassOrder, IsNoted, KeepsEnds};
+ghost use Rattle.hierarchy.specs.steps.Sweeps.{came, counted, own_in, members_by, members_in, members_of, members_of_file};
 
 use crate::depth_first::given_superclass;
 use crate::hierarchy::is_inherited;

@@ -27,6 +27,5 @@ returns c = λ name is.
     let are = subst (λ (k : Option MemberKey). IsLookup c.args.self.now.texts name k) c.in_ok-key.was is in
     subst (λ (n : NumberedFamily). IsLookup n.texts name (Some c.in_ok-key.field-0) → class < length n.family
     → Nearest n.family (wanted_in c.args.wanted n.family name) class c.nearest.result) c.self.view_is
-    (λ numbers small. c.nearest.ensures.nearest c.self.inside.family c.self.inside.table name c.self.invariant.nearest_fit
-    numbers
-    small) are c.requires
+    (λ numbers small. c.nearest.ensures.nearest c.self.inside.family c.self.inside.table name
+    c.self.invariant.nearest_fit numbers small) are c.requires
