@@ -11,12 +11,12 @@ ghost use Rattle.hierarchy.specs.declared.member_index.MemberKey.{MemberKey as K
 ghost use Rattle.hierarchy.specs.steps.MemberIndexes.{AreNumbers};
 ghost use Rattle.hierarchy.specs.steps.Reaches.{AllTell, EndsAt, IsLast, IsReachTable, StandsBehind, Tells};
 ghost use Rattle.hierarchy.specs.steps.Reaches.{Nearest, NearestAbove, NearestFrom, reaches_of};
-ghost use Rattle.hierarchy.specs.steps.DepthFirst.{MayFollow, IsDepthFirst, ArePlaces, StandOnce};
+ghost use Rattle.hierarchy.specs.steps.DepthFirst.{IsDepthFirst, ArePlaces, StandOnce};
 ghost use Rattle.loading.specs.Families.{IsFamily};
 ghost use Rattle.hierarchy.specs.declared.member.DeclaredMember.{DeclaredMember as Found};
 ghost use Rattle.hierarchy.specs.steps.NearestMembers.{IsEmpty};
 ghost use Rattle.hierarchy.specs.steps.MemberTables.{IsTableOf};
-ghost use Rattle.hierarchy.specs.steps.Sweeps.{AreNoted, Comes, IsClassOrder, IsNoted, KeepsEnds};
+ghost use Rattle.hierarchy.specs.steps.Sweeps.{AreNoted, Comes, ComesBehind, IsClassOrder, IsNoted, NotesMore};
 ghost use Rattle.hierarchy.specs.steps.Sweeps.{came, counted, own_in, members_by, members_in, members_of, members_of_file};
 
 use crate::depth_first::given_superclass;
@@ -74,8 +74,7 @@ impl Sweep<'_> {
         requires comes { Comes self.now rows.old class place }
         requires own { (name : NameAndType) → AreNumbers self.now.table.now.texts name key
             → IsNoted self.now place rows.old name ⊎ (own_in self.now name class ≡ own) }
-        ensures comes { OnOk result (Comes self.now rows.new class place) }
-        ensures keeps { OnOk result (KeepsEnds place rows.old rows.new) }
+        ensures notes { OnOk result (NotesMore self.now class place rows.old rows.new) }
         ensures noted { OnOk result (EndsAt (reaches_of rows.new key) place) }
     {
         if rows.ends_at(key, place) {
@@ -143,8 +142,7 @@ impl Sweep<'_> {
     ) -> Result<(), AllocError>
         requires comes { Comes self.now rows.old class place }
         requires own { (declaring ≡ class) ⊎ AreNoted self.now place rows.old class }
-        ensures comes { OnOk result (Comes self.now rows.new class place) }
-        ensures keeps { OnOk result (KeepsEnds place rows.old rows.new) }
+        ensures notes { OnOk result (NotesMore self.now class place rows.old rows.new) }
         ensures noted { OnOk result (AreNoted self.now place rows.new declaring) }
     {
         let Some(pool) = self.table.pool(declaring) else {
@@ -169,12 +167,9 @@ impl Sweep<'_> {
         class: u32,
         place: usize,
     ) -> Result<(), AllocError>
-        requires family { IsFamily self.now.family.now }
-        requires comes { Comes self.now rows.old class place }
-        requires may { MayFollow self.now.family.now before class }
+        requires behind { ComesBehind self.now rows.old before class place }
         requires own { AreNoted self.now place rows.old class }
-        ensures comes { OnOk result (Comes self.now rows.new class place) }
-        ensures keeps { OnOk result (KeepsEnds place rows.old rows.new) }
+        ensures notes { OnOk result (NotesMore self.now class place rows.old rows.new) }
         ensures left { OnOk result ((name : NameAndType) → IsNoted self.now place rows.new name
             ⊎ ((r : Option Found) → NearestFrom self.now.family.now (own_in self.now name) before r
             → NearestAbove self.now.family.now (own_in self.now name) class r)) }
@@ -202,9 +197,7 @@ impl Sweep<'_> {
         class: u32,
         place: usize,
     ) -> Result<(), AllocError>
-        requires family { IsFamily self.now.family.now }
-        requires comes { Comes self.now rows.old class place }
-        requires may { MayFollow self.now.family.now before class }
+        requires behind { ComesBehind self.now rows.old before class place }
         requires last { IsLast (came self.now place) before }
         ensures rows { OnOk result (IsReachTable rows.new) }
         ensures tell { OnOk result (AllTell (members_of self.now) (came self.now place ++ class ∷ []) rows.new) }
