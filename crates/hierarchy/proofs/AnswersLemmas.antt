@@ -19,18 +19,18 @@ use Rattle.hierarchy.specs.steps.DeclarationBits.{Has, IsMask, Knows}
 use Rattle.hierarchy.specs.steps.Declarations.{AreDeclared}
 use Rattle.hierarchy.specs.steps.Defaults.{AreFound, nothing, one, several, found_after, only_of}
 use Rattle.hierarchy.specs.steps.FoundAhead.{given_method}
-use Rattle.hierarchy.specs.steps.MemberIndexes.{same_key, AreNumbers}
+use Rattle.hierarchy.specs.steps.MemberKeys.{same_key, AreNumbers}
 use Rattle.hierarchy.specs.declared.declarations.Declaration.{Declaration}
 use Rattle.hierarchy.specs.declared.defaults.Found.{Found}
 use Rattle.hierarchy.specs.declared.defaults.Found.TheVariants as found
 use Rattle.hierarchy.specs.declared.masks.Mask.{Mask}
 use Rattle.hierarchy.specs.declared.member.DeclaredMember.{DeclaredMember}
 use Rattle.hierarchy.specs.declared.bits.Known.{Known}
-use Rattle.hierarchy.specs.declared.member_index.MemberKey.{MemberKey}
+use Rattle.hierarchy.specs.declared.member_key.MemberKey.{MemberKey}
 use Rattle.hierarchy.specs.declared.wanted.Wanted.TheVariants as kind
 use Rattle.hierarchy.proofs.AmongLemmas.{among_one, above_one}
 use Rattle.hierarchy.proofs.DefaultsLemmas.{one_more}
-use Rattle.hierarchy.proofs.MemberIndexesLemmas.{key_is, same_key_itself}
+use Rattle.hierarchy.proofs.MemberKeysLemmas.{key_is, same_key_itself}
 use Rattle.hierarchy.proofs.WordLemmas.{both}
 use Rattle.hierarchy.proofs.WalksOrderLemmas.{none_in_empty, in_front, in_rest}
 

@@ -1,7 +1,7 @@
 pub mod TextsLemmas
 pub mod ChainsLemmas
 pub mod FoundTextsLemmas
-pub mod MemberIndexesLemmas
+pub mod MemberKeysLemmas
 pub mod MemberTablesLemmas
 pub mod FamiliesChainLemmas
 pub mod MemberLookupLemmas

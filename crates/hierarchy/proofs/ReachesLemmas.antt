@@ -6,9 +6,9 @@ use Rattle.std.proofs.lemmas.List.{length-append}
 use Rattle.std.proofs.lemmas.Option.{slice_get_within}
 use Rattle.loading.specs.Families.{Family}
 use Rattle.loading.proofs.PlaceLemmas.{pushed_at, kept_at, last_at}
-use Rattle.hierarchy.specs.steps.MemberIndexes.{same_key}
-use Rattle.hierarchy.specs.declared.member_index.MemberKey.{MemberKey}
-use Rattle.hierarchy.proofs.MemberIndexesLemmas.{key_is, same_key_itself}
+use Rattle.hierarchy.specs.steps.MemberKeys.{same_key}
+use Rattle.hierarchy.specs.declared.member_key.MemberKey.{MemberKey}
+use Rattle.hierarchy.proofs.MemberKeysLemmas.{key_is, same_key_itself}
 use Rattle.hierarchy.specs.steps.Reaches.{EndsAt, Nearest, Tells, TellsAlone, TellsUpTo, reaching, reach_after, GoUp}
 use Rattle.hierarchy.specs.declared.member.DeclaredMember.{DeclaredMember}
 use Rattle.hierarchy.specs.declared.reach_table.Reach.{Reach}

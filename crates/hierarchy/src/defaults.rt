@@ -1,7 +1,7 @@
 //! The one default among superinterface methods (JVMS 5.4.3.3). The interfaces that declare a method are noted beside
 //! its name and descriptor, so that what is asked of the ancestors of a class is whether they are among these.
 
-ghost use Rattle.std.specs.Prelude.{◌≡◌, ◌↔◌, ◌<◌, ◌++◌, ◌∷◌, [], ℕ, List, length, IsTrue, MatchOption};
+ghost use Rattle.std.specs.Prelude.{◌≡◌, ◌↔◌, ◌<◌, ◌++◌, ℕ, List, length, IsTrue, MatchOption};
 ghost use Rattle.std.specs.List.{Contains};
 ghost use Rattle.hierarchy.specs.declared.defaults.Found.TheVariants as found;
 ghost use Rattle.hierarchy.specs.steps.Defaults.{AreFound, found_after, only_of, HasMethod, IsFree, AreCovered};
@@ -9,14 +9,14 @@ ghost use Rattle.hierarchy.specs.steps.Defaults.{AreParentsOf, classes_of, Among
 ghost use Rattle.hierarchy.specs.steps.Reaches.{class_noted};
 ghost use Rattle.loading.specs.Families.{IsAncestor, parents_in};
 ghost use Rattle.built_in.specs.Keys.{NameAndType};
-ghost use Rattle.hierarchy.specs.steps.MemberIndexes.{IsLookup};
+ghost use Rattle.hierarchy.specs.steps.MemberKeys.{IsLookup};
 ghost use Rattle.hierarchy.specs.MemberLookup.{is_abstract, IsTheDefault, HasNoDefault};
 
 use crate::above::Above;
 use crate::hierarchy::Hierarchy;
 use crate::marked::Marked;
 use crate::member::DeclaredMember;
-use crate::member_index::MemberKey;
+use crate::member_key::MemberKey;
 use crate::reach_table::Reach;
 use crate::wanted::Wanted;
 use classfile::flags::{ABSTRACT, has_flag};

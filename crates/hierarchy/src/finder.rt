@@ -1,6 +1,6 @@
 //! What texts are found by.
 
-ghost use Rattle.std.specs.Prelude.{◌≡◌, ◌↔◌, true, ◌<◌, ◌++◌, ◌∷◌, [], ℕ, List, Some, length, map};
+ghost use Rattle.std.specs.Prelude.{◌≡◌, ◌↔◌, true, ◌<◌, ◌++◌, ◌∷◌, [], Some, length};
 ghost use Rattle.std.specs.Prelude.{IfOk, OnOk, OnErr, MatchOption, slice_get};
 ghost use Rattle.std.specs.List.{Contains};
 ghost use Rattle.hierarchy.specs.steps.FoundTexts.{code_of, texts_of, AreLinked, AreSorted, Finds, HasRoom};

@@ -21,7 +21,7 @@ mod marked;
 mod marks;
 mod masks;
 pub mod member;
-mod member_index;
+mod member_key;
 pub mod member_name;
 pub mod member_resolver;
 mod member_table;

@@ -1,4 +1,5 @@
-//! The nearest class that declares a member, found by one search (JVMS 5.4.3.2, 5.4.3.3; 6.5, invokevirtual).
+//! Which classes are the nearest that declare a member, noted so that one is found by one search (JVMS 5.4.3.2,
+//! 5.4.3.3; 6.5, invokevirtual).
 //!
 //! Classes stand so that those below a class follow it, all together. Along this order it is noted, for each name and
 //! descriptor, where the nearest class that declares such a member changes: at a class that declares one, and where
@@ -7,8 +8,8 @@
 ghost use Rattle.std.specs.Prelude.{◌≡◌, ◌⊎◌, ◌↔◌, IsTrue, ℕ, ◌<◌, ◌^◌, ◌++◌, ◌∷◌, [], List, length};
 ghost use Rattle.std.specs.Prelude.{Option, Some, None, OnOk, ◌==◌, slice_index_or, if◌then◌else◌};
 ghost use Rattle.built_in.specs.Keys.{NameAndType};
-ghost use Rattle.hierarchy.specs.declared.member_index.MemberKey.{MemberKey as Key};
-ghost use Rattle.hierarchy.specs.steps.MemberIndexes.{AreNumbers};
+ghost use Rattle.hierarchy.specs.declared.member_key.MemberKey.{MemberKey as Key};
+ghost use Rattle.hierarchy.specs.steps.MemberKeys.{AreNumbers};
 ghost use Rattle.hierarchy.specs.steps.Reaches.{AllTell, EndsAt, IsLast, IsReachTable, StandsBehind, Tells};
 ghost use Rattle.hierarchy.specs.steps.Reaches.{Nearest, NearestAbove, NearestFrom, reaches_of};
 ghost use Rattle.hierarchy.specs.steps.DepthFirst.{IsDepthFirst, ArePlaces, StandOnce};
@@ -17,12 +18,13 @@ ghost use Rattle.hierarchy.specs.declared.member.DeclaredMember.{DeclaredMember 
 ghost use Rattle.hierarchy.specs.steps.NearestMembers.{IsEmpty};
 ghost use Rattle.hierarchy.specs.steps.MemberTables.{IsTableOf};
 ghost use Rattle.hierarchy.specs.steps.Sweeps.{AreNoted, Comes, ComesBehind, IsClassOrder, IsNoted, NotesMore};
-ghost use Rattle.hierarchy.specs.steps.Sweeps.{came, counted, own_in, members_by, members_in, members_of, members_of_file};
+ghost use Rattle.hierarchy.specs.steps.Sweeps.{came, counted, own_in};
+ghost use Rattle.hierarchy.specs.steps.Sweeps.{members_by, members_in, members_of, members_of_file};
 
 use crate::depth_first::given_superclass;
 use crate::hierarchy::is_inherited;
 use crate::member::DeclaredMember;
-use crate::member_index::MemberKey;
+use crate::member_key::MemberKey;
 use crate::reach_table::{Reach, ReachTable};
 use crate::sweep::{ClassOrder, Sweep};
 use crate::wanted::Wanted;

@@ -21,7 +21,7 @@ use crate::bits::{BITS, Known, Own};
 use crate::declarations::Declaration;
 use crate::found_ahead::FoundAhead;
 use crate::hierarchy::Hierarchy;
-use crate::member_index::MemberKey;
+use crate::member_key::MemberKey;
 use crate::parents_first::ParentsFirst;
 use crate::wanted::Wanted;
 use crate::ways::fill;

@@ -1,22 +1,21 @@
 //! What references to methods resolve to, by what was found of superinterface methods (JVMS 5.4.3.3, 5.4.3.4).
 
-ghost use Rattle.std.specs.Prelude.{◌≡◌, ◌∷◌, [], Option, Some, true, false};
+ghost use Rattle.std.specs.Prelude.{◌≡◌, Option, Some, true, false};
 ghost use Rattle.built_in.specs.Keys.{NameAndType};
 ghost use Rattle.built_in.specs.declared.class_id.ClassId.TheVariants as class_ids;
-ghost use Rattle.hierarchy.specs.MemberLookup.{interface_method_in};
 ghost use Rattle.hierarchy.specs.Resolution.{AmongInterfaces, ResolvesMethod};
 ghost use Rattle.hierarchy.specs.declared.member.DeclaredMember.{DeclaredMember as Declared};
 ghost use Rattle.hierarchy.specs.declared.wanted.Wanted.TheVariants as kind;
 ghost use Rattle.hierarchy.specs.steps.Answers.{Resolves};
 ghost use Rattle.hierarchy.specs.steps.FoundAhead.{given_method};
-ghost use Rattle.hierarchy.specs.steps.MemberIndexes.{IsLookup};
+ghost use Rattle.hierarchy.specs.steps.MemberKeys.{IsLookup};
 ghost use Rattle.hierarchy.specs.steps.Sought.{sought_name};
 ghost use Rattle.loading.specs.Families.{is_interface_in};
 
 use crate::answers::Answer;
 use crate::hierarchy::Hierarchy;
 use crate::member::DeclaredMember;
-use crate::member_index::MemberKey;
+use crate::member_key::MemberKey;
 use crate::sought::Sought;
 use crate::wanted::Wanted;
 use loading::given::Superclass;

@@ -10,9 +10,9 @@ use Rattle.hierarchy.specs.steps.HierarchyTables.{wanted_in}
 use Rattle.built_in.specs.Keys.{NameAndType}
 use Rattle.hierarchy.specs.steps.MemberTables.{IsTableOf}
 use Rattle.hierarchy.specs.MemberLookup.{is_inherited}
-use Rattle.hierarchy.specs.steps.MemberIndexes.{AreNumbers}
+use Rattle.hierarchy.specs.steps.MemberKeys.{AreNumbers}
 use Rattle.hierarchy.specs.steps.Reaches.{EndsAt, IsReachTable, Members, StandsBehind, TellsUpTo, reaches_of}
-use Rattle.hierarchy.specs.declared.member_index.MemberKey.{MemberKey}
+use Rattle.hierarchy.specs.declared.member_key.MemberKey.{MemberKey}
 use Rattle.hierarchy.specs.declared.reach_table.ReachTable.{ReachTable}
 use Rattle.hierarchy.specs.declared.member_table.MemberTable.{MemberTable}
 use Rattle.hierarchy.specs.steps.DepthFirst.{ArePlaces, IsWholeOrder, MayFollow}

@@ -3,7 +3,7 @@ use Rattle.built_in.specs.Keys.{NameAndType}
 use Rattle.built_in.specs.declared.class_id.ClassId.TheVariants as class_ids
 use Rattle.hierarchy.specs.Resolution.{ResolvesMethod}
 use Rattle.hierarchy.specs.steps.FoundAhead.{given_method}
-use Rattle.hierarchy.specs.steps.MemberIndexes.{AreNumbers, IsLookup}
+use Rattle.hierarchy.specs.steps.MemberKeys.{AreNumbers, IsLookup}
 use Rattle.hierarchy.specs.steps.Sought.{sought_name}
 use Rattle.hierarchy.specs.declared.member.DeclaredMember.{DeclaredMember}
 use Rattle.hierarchy.proofs.FoundAheadLemmas.{one_more, one_name}

@@ -1,9 +1,9 @@
 use Rattle.std.proofs.Common.{◌<◌, suc, Some, None, Option, length, sym, subst, arith}
 use Rattle.hierarchy.specs.Hierarchies.{NumberedFamily}
 use Rattle.hierarchy.specs.steps.HierarchyTables.{wanted_in}
-use Rattle.hierarchy.specs.steps.MemberIndexes.{IsLookup}
+use Rattle.hierarchy.specs.steps.MemberKeys.{IsLookup}
 use Rattle.hierarchy.specs.steps.Reaches.{Nearest}
-use Rattle.hierarchy.specs.declared.member_index.MemberKey.{MemberKey}
+use Rattle.hierarchy.specs.declared.member_key.MemberKey.{MemberKey}
 use Rattle.hierarchy.proofs.FamiliesChainLemmas.{height}
 use Rattle.hierarchy.proofs.UpClassesLemmas.{nearest_none, none_declared}
 use Rattle.hierarchy.proofs.hierarchy.Hierarchy.nearest.Goals as goal

@@ -31,8 +31,8 @@ returns-clause-tell c = λ k name are.
       | inr none ↦ elim (left.left name) [
         | inl noted ↦ at_end (noted k are)
         | inr pass ↦ elim told [
-          | inl alone ↦ tells_next family own classes c.args.before class row c.requires.last c.requires.behind.may none pass
-              alone
+          | inl alone ↦ tells_next family own classes c.args.before class row c.requires.last c.requires.behind.may
+              none pass alone
           | inr alone ↦ alone
         ]
       ]

@@ -44,7 +44,8 @@ pub loop-at-smaller : goal.loop-at-smaller
 loop-at-smaller c =
     let family = c.args.self.now.family.now in
     subst (λ (o : Option ℕ). height_from family c.given_superclass-at.result < height_from family o) (sym c.in-Some.is)
-    (falls_up family c.in-Some.left c.given_superclass-at.result c.requires.behind.family c.given_superclass-at.ensures.value)
+    (falls_up family c.in-Some.left c.given_superclass-at.result c.requires.behind.family
+    c.given_superclass-at.ensures.value)
 
 pub loop-at-preserved : goal.loop-at-preserved
 loop-at-preserved c =

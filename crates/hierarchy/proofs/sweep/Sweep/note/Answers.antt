@@ -1,9 +1,9 @@
 use Rattle.std.proofs.Common.{◌≡◌, ℕ, List, inl, inr, sym, subst}
 use Rattle.built_in.specs.Keys.{NameAndType}
-use Rattle.hierarchy.specs.steps.MemberIndexes.{AreNumbers}
+use Rattle.hierarchy.specs.steps.MemberKeys.{AreNumbers}
 use Rattle.hierarchy.specs.steps.Reaches.{Tells, reaches_of}
 use Rattle.hierarchy.specs.steps.Sweeps.{Comes, came, own_in}
-use Rattle.hierarchy.specs.declared.member_index.MemberKey.{MemberKey}
+use Rattle.hierarchy.specs.declared.member_key.MemberKey.{MemberKey}
 use Rattle.hierarchy.specs.declared.reach_table.Reach.{Reach}
 use Rattle.hierarchy.proofs.ReachesLemmas.{ends_by_key, ends_of_key, tells_by_key}
 use Rattle.hierarchy.proofs.sweep.Sweep.note.Goals as goal

@@ -4,11 +4,11 @@ use Rattle.std.proofs.lemmas.Bool.{cases_lt}
 use Rattle.std.proofs.lemmas.Option.{slice_get_read, slice_get_within}
 use Rattle.classfile.specs.declared.member.Member.{Member}
 use Rattle.built_in.specs.Keys.{NameAndType}
-use Rattle.hierarchy.specs.declared.member_index.MemberKey.{MemberKey}
-use Rattle.hierarchy.specs.steps.MemberIndexes.{AreNumbers}
+use Rattle.hierarchy.specs.declared.member_key.MemberKey.{MemberKey}
+use Rattle.hierarchy.specs.steps.MemberKeys.{AreNumbers}
 use Rattle.hierarchy.specs.steps.Reaches.{EndsAt, reaches_of}
 use Rattle.hierarchy.specs.steps.Sweeps.{IsNoted, counted, own_in}
-use Rattle.hierarchy.proofs.MemberIndexesLemmas.{one_key, one_number}
+use Rattle.hierarchy.proofs.MemberKeysLemmas.{one_key, one_number}
 use Rattle.hierarchy.proofs.SweepsLemmas.{counts_or_before, declares, has_file, named_by, own_or_other}
 use Rattle.hierarchy.proofs.sweep.Sweep.note_class.Goals as goal
 

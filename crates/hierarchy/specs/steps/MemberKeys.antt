@@ -1,11 +1,11 @@
--- What members are called, by numbers.
+-- What members are called, by the numbers of their texts.
 use Rattle.std.specs.Prelude.{◌≡◌, ℕ, Bool, ◌&&◌, ◌==◌, List, Option, Some, None, slice_get}
 use Rattle.std.specs.List.{Contains}
 use Rattle.std.specs.Ordering.{nat_cmp, ordering_then}
 use Rattle.std.specs.declared.cmp.Ordering.{Ordering}
 use Rattle.built_in.specs.Keys.{NameAndType}
-use Rattle.hierarchy.specs.declared.member_index.MemberKey.{MemberKey}
-use Rattle.hierarchy.specs.declared.member_index.ClassMember.{ClassMember}
+use Rattle.hierarchy.specs.declared.member_key.MemberKey.{MemberKey}
+use Rattle.hierarchy.specs.declared.member_key.ClassMember.{ClassMember}
 
 -- by name, then by descriptor
 abbrev pub key_order : MemberKey → MemberKey → Ordering

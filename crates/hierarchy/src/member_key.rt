@@ -1,4 +1,4 @@
-//! What members are called, by numbers.
+//! What members are called, by the numbers of their texts.
 
 ghost use Rattle.std.specs.Prelude.{◌≡◌, ◌↔◌, IsTrue};
 

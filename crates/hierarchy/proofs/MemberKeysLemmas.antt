@@ -7,9 +7,9 @@ use Rattle.std.proofs.lemmas.Bool.{and_parts, eqb-true, eq-eqb}
 use Rattle.std.proofs.lemmas.Bool.Decides.{nat_tests}
 use Rattle.built_in.specs.Keys.{NameAndType}
 use Rattle.hierarchy.specs.Texts.{AreDistinct}
-use Rattle.hierarchy.specs.declared.member_index.MemberKey.{MemberKey}
-use Rattle.hierarchy.specs.declared.member_index.ClassMember.{ClassMember}
-use Rattle.hierarchy.specs.steps.MemberIndexes.{AreNumbers, key_order, member_order, same_key, same_member}
+use Rattle.hierarchy.specs.declared.member_key.MemberKey.{MemberKey}
+use Rattle.hierarchy.specs.declared.member_key.ClassMember.{ClassMember}
+use Rattle.hierarchy.specs.steps.MemberKeys.{AreNumbers, key_order, member_order, same_key, same_member}
 
 one_text : (texts : List (List ℕ)) (i : ℕ) (a b : List ℕ) → slice_get texts i ≡ Some a → slice_get texts i ≡ Some b
     → a ≡ b
