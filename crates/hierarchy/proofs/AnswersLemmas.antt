@@ -392,8 +392,8 @@ pub search_by : (family : Family) (declares : ℕ → Option ℕ) (cs : List ℕ
 search_by family declares cs None some none = none refl
 search_by family declares cs (Some x) some none = some x refl
 
-pub settled_by : (family : Family) (name : NameAndType) (c : ℕ) (m : Option DeclaredMember)
+pub answered_by : (family : Family) (name : NameAndType) (c : ℕ) (m : Option DeclaredMember)
     → HasNoDefault family name c → Search family (interface_method_in family name) (c ∷ []) m
     → AmongInterfaces family name c (given_method m)
-settled_by family name c None none search = AmongInterfaces.none none search
-settled_by family name c (Some x) none search = AmongInterfaces.any none search
+answered_by family name c None none search = AmongInterfaces.none none search
+answered_by family name c (Some x) none search = AmongInterfaces.any none search

@@ -15,7 +15,7 @@ pub mod WindowsLemmas
 pub mod AnswersLemmas
 pub mod FoundAheadLemmas
 pub mod MarkLemmas
-pub mod MarkedLemmas
+pub mod ClassSetLemmas
 pub mod DefaultsLemmas
 pub mod FirstsLemmas
 pub mod InterfaceOrdersLemmas

@@ -10,7 +10,7 @@ ghost use Rattle.hierarchy.specs.steps.Walks.{KeepsRoom};
 ghost use Rattle.hierarchy.specs.Search.{row_in};
 
 use crate::class_lists::{ClassLists, empty_lists};
-use crate::marks::{add_marked, initialized_first};
+use crate::initialized_first::{add_marked, initialized_first};
 use crate::short_orders::{ShortOrders, gather};
 use crate::walk::Walk;
 use loading::family::Family;

@@ -414,7 +414,7 @@ impl Hierarchy {
         if !sought.is_of(answer.key) {
             return Ok(());
         }
-        if let Some(member) = self.settled_method(sought, answer) {
+        if let Some(member) = self.answered_method(sought, answer) {
             found.insert(answer.class, answer.key, member)?;
         }
         Ok(())

@@ -8,7 +8,7 @@ ghost use Rattle.hierarchy.specs.Search.{firsts};
 ghost use Rattle.hierarchy.specs.steps.InterfaceOrders.{AreShort, Gathers, TellFirst};
 ghost use Rattle.hierarchy.specs.steps.Walks.{KeepsRoom};
 
-use crate::marks::add_marked;
+use crate::initialized_first::add_marked;
 use crate::walk::Walk;
 use loading::family::Family;
 use loading::given::ClassNumbers;

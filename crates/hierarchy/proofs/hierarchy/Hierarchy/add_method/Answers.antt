@@ -25,5 +25,5 @@ returns-in_ok-insert c =
     c.sought-sought.ensures.lookup in
     subst (λ (n : NameAndType). Resolves n answer.class member)
     (one_name c.args.self.now.texts sought name answer.key is numbers)
-    (c.settled_method.ensures member (c.requires.answer sought is) c.in-Some.is))
+    (c.answered_method.ensures member (c.requires.answer sought is) c.in-Some.is))
     c.in_ok-insert.ensures
