@@ -13,8 +13,8 @@ ghost use Rattle.hierarchy.specs.steps.MemberKeys.{IsLookup};
 ghost use Rattle.hierarchy.specs.MemberLookup.{is_abstract, IsTheDefault, HasNoDefault};
 
 use crate::above::Above;
-use crate::hierarchy::Hierarchy;
 use crate::class_set::ClassSet;
+use crate::hierarchy::Hierarchy;
 use crate::member::DeclaredMember;
 use crate::member_key::MemberKey;
 use crate::reach_table::Reach;

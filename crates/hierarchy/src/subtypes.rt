@@ -9,8 +9,8 @@ ghost use Rattle.hierarchy.specs.Subtypes.{is_array_below, is_array_type_below, 
 ghost use Rattle.hierarchy.specs.Subtypes.{is_unknown_below};
 ghost use Rattle.hierarchy.specs.Subtypes.{is_object, class_of_element, type_code, is_end_below, end_of_chain};
 
-use crate::hierarchy::Hierarchy;
 use crate::class_set::ClassSet;
+use crate::hierarchy::Hierarchy;
 use built_in::class_id::{ArrayType, BuiltIn, ClassId, ElementType};
 use std::cmp::Ordering;
 
