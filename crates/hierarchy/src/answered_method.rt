@@ -82,7 +82,11 @@ impl Hierarchy {
     }
 
     /// The superinterface method of a class that declares none: the one default, or else the first that a search finds.
-    fn answered_among_interfaces(&self, key: Option<MemberKey>, answer: &Answer) -> Option<Option<DeclaredMember>>
+    fn answered_among_interfaces(
+        &self,
+        key: Option<MemberKey>,
+        answer: &Answer,
+    ) -> Option<Option<DeclaredMember>>
         ensures { (name : NameAndType) (m : Option Declared) → IsLookup self.now.texts name key
             → Resolves self.now kind.InterfaceMethod name answer.now
             → result ≡ Some m → AmongInterfaces self.now.family name answer.now.class (given_method m) }

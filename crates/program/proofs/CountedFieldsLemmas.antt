@@ -23,15 +23,15 @@ numbers_next of_place numbers new i last count is was e k small = elim (cases_eq
 module _ (test : Member → Bool) (fields items : List Member) (i : ℕ) (field : Member) (passes : Bool)
     (are : items ≡ fields) (within : i < length items) (is : field ≡ get_or items i field)
     (tested : passes ≡ test field)
-    where
-  pub is_tested : test (get_or fields i field) ≡ passes
-  is_tested = sym (tested ∙ ap test (is ∙ ap (λ (xs : List Member). get_or xs i field) are))
+  where
+    pub is_tested : test (get_or fields i field) ≡ passes
+    is_tested = sym (tested ∙ ap test (is ∙ ap (λ (xs : List Member). get_or xs i field) are))
 
-  still_within : i < length fields
-  still_within = omega (arith, within, ap length are)
+    still_within : i < length fields
+    still_within = omega (arith, within, ap length are)
 
-  pub counts : passes ≡ true → count_by test (take (i + 1) fields) ≡ count_by test (take i fields) + 1
-  counts yes = count_by_more_yes test fields i field still_within (is_tested ∙ yes)
+    pub counts : passes ≡ true → count_by test (take (i + 1) fields) ≡ count_by test (take i fields) + 1
+    counts yes = count_by_more_yes test fields i field still_within (is_tested ∙ yes)
 
-  pub counts_not : passes ≡ false → count_by test (take (i + 1) fields) ≡ count_by test (take i fields)
-  counts_not no = count_by_more_no test fields i field still_within (is_tested ∙ no)
+    pub counts_not : passes ≡ false → count_by test (take (i + 1) fields) ≡ count_by test (take i fields)
+    counts_not no = count_by_more_no test fields i field still_within (is_tested ∙ no)

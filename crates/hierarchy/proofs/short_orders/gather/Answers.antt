@@ -30,9 +30,9 @@ loop-interface-preserved c =
     ∙ sym c.index-rows-interface.is ∙ c.in-Some.is in
     record {
       room = record {
-          entered = ap (λ s. s.limit) c.in_ok-leave_all.ensures.entered ∙ c.loop-interface.invariant.room.entered;
-          left = c.in_ok-leave_all.ensures.left_limit ∙ c.loop-interface.invariant.room.left;
-        };
+        entered = ap (λ s. s.limit) c.in_ok-leave_all.ensures.entered ∙ c.loop-interface.invariant.room.entered;
+        left = c.in_ok-leave_all.ensures.left_limit ∙ c.loop-interface.invariant.room.left;
+      };
       once = added ∙ sym (ap firsts added ∙ firsts_twice (seen ++ list));
       gathered = subst (λ (xs : List ℕ). Gathers family xs new) (sym (take_more is k 0 (omega arith)))
           (gathers_more family (take k is) seen list new interface c.loop-interface.invariant.gathered

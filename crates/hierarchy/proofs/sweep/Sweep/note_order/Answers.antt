@@ -16,11 +16,11 @@ enter-requires-clause-behind c =
     record {
       family = c.requires.family;
       comes = record {
-          fits = c.requires.fits;
-          rows = c.loop-place.invariant.rows;
-          stands = stands;
-          tell = λ k name are. inl (c.loop-place.invariant.tell k name are);
-        };
+        fits = c.requires.fits;
+        rows = c.loop-place.invariant.rows;
+        stands = stands;
+        tell = λ k name are. inl (c.loop-place.invariant.tell k name are);
+      };
       may = may.0;
     }
 

@@ -20,10 +20,10 @@ loop-field-preserved c =
     elim c.if-is_static_field.branch [
       | then-is_static_field w ↦ (let next : static_number_of f (i + 1) ≡ static_number_of f i + 1 =
           counts (is_static_field f) f.fields ms i field passes c.fields-fields.ensures.value (omega arith)
-              c.field-item.is c.is_static_field.ensures w.if-is_static_field.true in
+          c.field-item.is c.is_static_field.ensures w.if-is_static_field.true in
           record { few = omega arith; before = omega arith; count = count; numbers = numbers })
       | else-is_static_field w ↦ (let next : static_number_of f (i + 1) ≡ static_number_of f i =
           counts_not (is_static_field f) f.fields ms i field passes c.fields-fields.ensures.value (omega arith)
-              c.field-item.is c.is_static_field.ensures w.if-is_static_field.false in
+          c.field-item.is c.is_static_field.ensures w.if-is_static_field.false in
           record { few = omega arith; before = omega arith; count = count; numbers = numbers })
     ]
