@@ -18,12 +18,11 @@ use Rattle.loading.specs.declared.given.Superclass.TheVariants as super
 use Rattle.hierarchy.specs.Search.{Search, nothing, here, above}
 use Rattle.hierarchy.specs.steps.Above.{first_with, with_place, or_else, IsAmongOrAbove}
 use Rattle.hierarchy.specs.steps.Walks.{ParentsBefore, none, next, Leaves, done, enter, leave, ParentsCome, StandAbove}
-use Rattle.hierarchy.specs.steps.Walks.{IsFinished, KeepsRoom, Walking, IsPostorderOf, IsSearchOrder, to_enter}
-use Rattle.hierarchy.specs.steps.Walks.{class_of, parents_count, work_left}
+use Rattle.hierarchy.specs.steps.Walks.{IsFinished, Walking, IsPostorderOf, IsSearchOrder, to_enter, class_of}
+use Rattle.hierarchy.specs.steps.Walks.{parents_count, work_left}
 use Rattle.hierarchy.specs.declared.member.DeclaredMember.{DeclaredMember}
 use Rattle.hierarchy.specs.declared.walk.Visit.{Visit}
 use Rattle.hierarchy.specs.declared.walk.Visit.TheVariants.{Enter, Leave}
-use Rattle.hierarchy.specs.declared.walk.Walk.{Walk}
 use Rattle.hierarchy.proofs.FirstsLemmas.{Contains-firsts, firsts_joins}
 use Rattle.hierarchy.proofs.WalksOrderLemmas.{none_in_empty, in_front, in_rest, cons_cases, cons_more, cons_within}
 use Rattle.hierarchy.proofs.WalksOrderLemmas.{firsts_known, among_before, before_among, or_else_none, first_with-push}
@@ -54,11 +53,6 @@ pub planned_after : (c : ℕ) (old new after : List Visit) (ps : List Visit) →
     → after ≡ ps ++ Leave c ∷ reverse old
 planned_after c old new after ps push planned =
     planned ∙ ap (λ (xs : List Visit). ps ++ xs) (ap reverse push ∙ reverse_push old (Leave c))
-
--- ---- what keeps its room twice keeps it
-
-pub room_kept : {a b c : Walk} → KeepsRoom a b → KeepsRoom b c → KeepsRoom a c
-room_kept f g = record { entered = g.entered ∙ f.entered; left = g.left ∙ f.left }
 
 -- ---- what is planned is within a family, and there is less to do
 

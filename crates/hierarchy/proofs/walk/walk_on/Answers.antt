@@ -1,7 +1,7 @@
 use Rattle.std.proofs.Common.{rules, [], ◌≡◌, ◌∷◌, ◌<◌, reverse, length, ap, ◌∙◌}
 use Rattle.std.proofs.lemmas.List.Elements.{All-tail}
 use Rattle.hierarchy.specs.steps.Walks.{class_of}
-use Rattle.hierarchy.proofs.WalksLemmas.{reverse_push, room_kept}
+use Rattle.hierarchy.proofs.WalksLemmas.{reverse_push}
 use Rattle.hierarchy.proofs.walk.walk_on.Goals as goal
 
 pub step-requires-clause-within : goal.step-requires-clause-within
@@ -16,7 +16,10 @@ loop-visit-preserved c =
     let visits : reverse c.loop-visit.walk.todo.items ≡ c.in-Some.visit ∷ reverse c.pop.new.self.items =
     ap reverse c.in-Some.ensures.items ∙ reverse_push c.pop.new.self.items c.in-Some.visit in
     record {
-      room = room_kept c.loop-visit.invariant.room c.in_ok-step.ensures.room;
+      room = record {
+        entered = c.in_ok-step.ensures.room.entered ∙ c.loop-visit.invariant.room.entered;
+        left = c.in_ok-step.ensures.room.left ∙ c.loop-visit.invariant.room.left;
+      };
       within = c.in_ok-step.ensures.steps.within;
       walking = λ from w. c.in_ok-step.ensures.walking from (rw visits at (c.loop-visit.invariant.walking from w));
     }
