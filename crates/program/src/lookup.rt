@@ -1,11 +1,12 @@
 //! What a program answers about the parents and the members of its classes (JVMS 4.1, 5.4.3; 6.5, invokevirtual and
 //! invokespecial).
 
-ghost use Rattle.std.specs.Prelude.{◌≡◌, ◌↔◌, ℕ, OnOk};
+ghost use Rattle.std.specs.Prelude.{◌≡◌, ◌↔◌, ◌⊎◌, ℕ, OnOk};
+ghost use Rattle.std.specs.List.{Contains};
 ghost use Rattle.hierarchy.specs.Initialization.{AreSuperclasses};
 ghost use Rattle.program.specs.References.{ResolvesFieldOf, ResolvesMethodOf};
 ghost use Rattle.hierarchy.specs.Resolution.{Selects};
-ghost use Rattle.hierarchy.specs.Selectable.{AddsNamedLike, IsSelectable, IsAmong};
+ghost use Rattle.hierarchy.specs.Selectable.{IsSelectable, IsAmong, IsNamedLike};
 ghost use Rattle.hierarchy.specs.Selection.{selected, special, special_start};
 ghost use Rattle.hierarchy.specs.Subtypes.{is_below};
 ghost use Rattle.hierarchy.specs.Initialization.{given_superclasses};
@@ -106,7 +107,9 @@ impl Program {
         member: DeclaredMember,
         methods: &mut Vec<DeclaredMember>,
     ) -> Result<(), AllocError>
-        ensures { OnOk result (AddsNamedLike self.now.family member methods.old.items methods.new.items) }
+        ensures { OnOk result ((d k : ℕ) → Contains methods.new.items (record { class = d; index = k })
+            ↔ (Contains methods.old.items (record { class = d; index = k })
+            ⊎ IsNamedLike self.now.family member d k)) }
     {
         self.hierarchy.add_named_like(member, methods)
     }
