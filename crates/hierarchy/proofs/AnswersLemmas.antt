@@ -19,18 +19,18 @@ use Rattle.hierarchy.specs.steps.DeclarationBits.{Has, IsMask, Knows}
 use Rattle.hierarchy.specs.steps.Declarations.{AreDeclared}
 use Rattle.hierarchy.specs.steps.Defaults.{AreFound, nothing, one, several, found_after, only_of}
 use Rattle.hierarchy.specs.steps.FoundAhead.{given_method}
-use Rattle.hierarchy.specs.steps.MemberIndexes.{same_key, AreNumbers}
+use Rattle.hierarchy.specs.steps.MemberKeys.{same_key, AreNumbers}
 use Rattle.hierarchy.specs.declared.declarations.Declaration.{Declaration}
 use Rattle.hierarchy.specs.declared.defaults.Found.{Found}
 use Rattle.hierarchy.specs.declared.defaults.Found.TheVariants as found
 use Rattle.hierarchy.specs.declared.masks.Mask.{Mask}
 use Rattle.hierarchy.specs.declared.member.DeclaredMember.{DeclaredMember}
 use Rattle.hierarchy.specs.declared.bits.Known.{Known}
-use Rattle.hierarchy.specs.declared.member_index.MemberKey.{MemberKey}
+use Rattle.hierarchy.specs.declared.member_key.MemberKey.{MemberKey}
 use Rattle.hierarchy.specs.declared.wanted.Wanted.TheVariants as kind
 use Rattle.hierarchy.proofs.AmongLemmas.{among_one, above_one}
 use Rattle.hierarchy.proofs.DefaultsLemmas.{one_more}
-use Rattle.hierarchy.proofs.MemberIndexesLemmas.{key_is, same_key_itself}
+use Rattle.hierarchy.proofs.MemberKeysLemmas.{key_is, same_key_itself}
 use Rattle.hierarchy.proofs.WordLemmas.{both}
 use Rattle.hierarchy.proofs.WalksOrderLemmas.{none_in_empty, in_front, in_rest}
 
@@ -392,8 +392,8 @@ pub search_by : (family : Family) (declares : ℕ → Option ℕ) (cs : List ℕ
 search_by family declares cs None some none = none refl
 search_by family declares cs (Some x) some none = some x refl
 
-pub settled_by : (family : Family) (name : NameAndType) (c : ℕ) (m : Option DeclaredMember)
+pub answered_by : (family : Family) (name : NameAndType) (c : ℕ) (m : Option DeclaredMember)
     → HasNoDefault family name c → Search family (interface_method_in family name) (c ∷ []) m
     → AmongInterfaces family name c (given_method m)
-settled_by family name c None none search = AmongInterfaces.none none search
-settled_by family name c (Some x) none search = AmongInterfaces.any none search
+answered_by family name c None none search = AmongInterfaces.none none search
+answered_by family name c (Some x) none search = AmongInterfaces.any none search

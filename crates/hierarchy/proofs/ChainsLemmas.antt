@@ -62,10 +62,12 @@ module _ (codes heads next new_heads new_next : List ℕ) (code : ℕ) (is : Are
       by : (b : Bool) → eqb q own ≡ b
           → IsInBucket codes (length heads) q n ⊎ ((n ≡ length codes) × (q ≡ own)) → n < get_or new_heads q 0
       by true t (inl early) =
-          let top : get_or new_heads q 0 ≡ suc (length codes) = ap (λ k. get_or new_heads k 0) (eqb-true q own t) ∙ first in
+          let top : get_or new_heads q 0 ≡ suc (length codes) =
+          ap (λ k. get_or new_heads k 0) (eqb-true q own t) ∙ first in
           omega (arith, top, in_bucket_within codes (length heads) q n early)
       by true t (inr end) =
-          let top : get_or new_heads q 0 ≡ suc (length codes) = ap (λ k. get_or new_heads k 0) (eqb-true q own t) ∙ first in
+          let top : get_or new_heads q 0 ≡ suc (length codes) =
+          ap (λ k. get_or new_heads k 0) (eqb-true q own t) ∙ first in
           omega (arith, top, end.0)
       by false f (inl early) =
           omega (arith, others q (eqb-false q own f), is.heads_above q n early)

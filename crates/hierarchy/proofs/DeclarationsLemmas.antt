@@ -4,7 +4,7 @@ use Rattle.std.proofs.lemmas.List.Elements.{Contains-append_left, Contains-push_
 use Rattle.hierarchy.specs.Hierarchies.{NumberedFamily}
 use Rattle.hierarchy.specs.steps.Declarations.{AreDeclared, AreWhole, Grows, IsDeclared, IsListed, IsWhole}
 use Rattle.hierarchy.specs.declared.declarations.Declaration.{Declaration}
-use Rattle.hierarchy.specs.declared.member_index.MemberKey.{MemberKey}
+use Rattle.hierarchy.specs.declared.member_key.MemberKey.{MemberKey}
 use Rattle.hierarchy.specs.declared.wanted.Wanted.{Wanted}
 
 module _ (h : NumberedFamily) (wanted : Wanted) (key : MemberKey) where

@@ -15,7 +15,7 @@ use Rattle.hierarchy.specs.steps.Defaults.{IsFree, AreCovered, AreParentsOf, Amo
 use Rattle.hierarchy.specs.declared.defaults.Found.{Found}
 use Rattle.hierarchy.specs.declared.defaults.Found.TheVariants as found
 use Rattle.hierarchy.proofs.AboveLemmas.{ancestor_through}
-use Rattle.hierarchy.proofs.MarkedLemmas.{by_parent}
+use Rattle.hierarchy.proofs.ClassSetLemmas.{by_parent}
 
 -- ---- one more class
 

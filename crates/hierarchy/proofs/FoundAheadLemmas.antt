@@ -11,12 +11,12 @@ use Rattle.hierarchy.specs.Hierarchies.{NumberedFamily}
 use Rattle.hierarchy.specs.declared.asked.MemberKind.{MemberKind}
 use Rattle.hierarchy.specs.declared.asked.MemberKind.TheVariants as asked
 use Rattle.hierarchy.specs.steps.FoundAhead.{AreAhead, found_in, given_field}
-use Rattle.hierarchy.specs.steps.MemberIndexes.{AreNumbers, same_member}
+use Rattle.hierarchy.specs.steps.MemberKeys.{AreNumbers, same_member}
 use Rattle.hierarchy.specs.declared.found_ahead.FoundAhead.{FoundAhead}
 use Rattle.hierarchy.specs.declared.member.DeclaredMember.{DeclaredMember}
-use Rattle.hierarchy.specs.declared.member_index.ClassMember.{ClassMember}
-use Rattle.hierarchy.specs.declared.member_index.MemberKey.{MemberKey}
-use Rattle.hierarchy.proofs.MemberIndexesLemmas.{member_is}
+use Rattle.hierarchy.specs.declared.member_key.ClassMember.{ClassMember}
+use Rattle.hierarchy.specs.declared.member_key.MemberKey.{MemberKey}
+use Rattle.hierarchy.proofs.MemberKeysLemmas.{member_is}
 
 -- numbers are those of one name and descriptor
 pub one_name : (texts : List (List ℕ)) (a b : NameAndType) (key : MemberKey) → AreNumbers texts a key

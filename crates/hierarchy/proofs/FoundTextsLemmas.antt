@@ -12,7 +12,8 @@ use Rattle.std.specs.Map.{KeepsOthers, lookup, IsKeyTest, AreApart}
 use Rattle.std.proofs.lemmas.Map.Text.{is_eq-slice_cmp}
 use Rattle.std.proofs.lemmas.Slice.Eq.{bytes_eq-Decides}
 use Rattle.std.specs.declared.hash.FoldHasher.{FoldHasher}
-use Rattle.loading.proofs.PlaceLemmas.{contains_at, place_in, pushed_at, kept_at, last_at, mapped_at, unmapped_at, map_push}
+use Rattle.loading.proofs.PlaceLemmas.{contains_at, place_in, pushed_at, kept_at, last_at}
+use Rattle.loading.proofs.PlaceLemmas.{mapped_at, unmapped_at, map_push}
 use Rattle.hierarchy.specs.steps.Chains.{IsInBucket, AreChained}
 use Rattle.hierarchy.specs.steps.FoundTexts.{sorted_number, code_of, texts_of, AreLinked, AreSorted}
 use Rattle.hierarchy.specs.declared.chains.Chains.{Chains}

@@ -1,7 +1,7 @@
 pub mod TextsLemmas
 pub mod ChainsLemmas
 pub mod FoundTextsLemmas
-pub mod MemberIndexesLemmas
+pub mod MemberKeysLemmas
 pub mod MemberTablesLemmas
 pub mod FamiliesChainLemmas
 pub mod MemberLookupLemmas
@@ -15,7 +15,7 @@ pub mod WindowsLemmas
 pub mod AnswersLemmas
 pub mod FoundAheadLemmas
 pub mod MarkLemmas
-pub mod MarkedLemmas
+pub mod ClassSetLemmas
 pub mod DefaultsLemmas
 pub mod FirstsLemmas
 pub mod InterfaceOrdersLemmas

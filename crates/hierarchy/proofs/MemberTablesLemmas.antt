@@ -9,11 +9,11 @@ use Rattle.loading.specs.Names.{text_at}
 use Rattle.loading.specs.Families.{Family, file_of, file_in}
 use Rattle.hierarchy.specs.MemberNames.{named_in}
 use Rattle.hierarchy.specs.declared.member_name.MemberName.{MemberName}
-use Rattle.hierarchy.specs.steps.MemberIndexes.{AreNumbers}
+use Rattle.hierarchy.specs.steps.MemberKeys.{AreNumbers}
 use Rattle.hierarchy.specs.Texts.{AreDistinct}
 use Rattle.hierarchy.specs.steps.GrowingTexts.{KeepsNumbers}
 use Rattle.loading.specs.declared.given.GivenClass.{GivenClass}
-use Rattle.hierarchy.specs.declared.member_index.MemberKey.{MemberKey}
+use Rattle.hierarchy.specs.declared.member_key.MemberKey.{MemberKey}
 use Rattle.hierarchy.specs.declared.member_table.MemberTable.{MemberTable}
 use Rattle.hierarchy.specs.steps.MemberTables.{IsTableOf, HavePools}
 use Rattle.hierarchy.specs.steps.PoolTexts.{AreTextNumbers}

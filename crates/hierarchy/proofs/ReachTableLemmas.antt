@@ -5,12 +5,12 @@ use Rattle.std.proofs.lemmas.Bool.{ltb-true, lt-ltb, leb-true, leb-false, le-leb
 use Rattle.std.proofs.lemmas.List.{get_or_default}
 use Rattle.std.proofs.lemmas.Option.{slice_get_within, slice_get_read, get_or_from_slice_get}
 use Rattle.loading.proofs.PlaceLemmas.{kept_at, last_at}
-use Rattle.hierarchy.specs.steps.MemberIndexes.{same_key}
+use Rattle.hierarchy.specs.steps.MemberKeys.{same_key}
 use Rattle.hierarchy.specs.steps.Reaches.{reaches_in, row_at, reach_after, reaching, GoUp, last_nearest}
-use Rattle.hierarchy.specs.declared.member_index.MemberKey.{MemberKey}
+use Rattle.hierarchy.specs.declared.member_key.MemberKey.{MemberKey}
 use Rattle.hierarchy.specs.declared.member.DeclaredMember.{DeclaredMember}
 use Rattle.hierarchy.specs.declared.reach_table.Reach.{Reach}
-use Rattle.hierarchy.proofs.MemberIndexesLemmas.{key_is}
+use Rattle.hierarchy.proofs.MemberKeysLemmas.{key_is}
 
 length-push : {A : Type 0} (xs : List A) (y : A) → length (xs ++ y ∷ []) ≡ suc (length xs)
 length-push [] y = refl

@@ -1,14 +1,14 @@
 -- Rows of reaches as classes come, depth first.
-use Rattle.std.proofs.Common.{◌≡◌, ℕ, suc, ◌-◌, ◌<◌, ◌≤◌, Bool, true, false, cond, List, [], ◌∷◌, ◌++◌, length, Option, Some}
-use Rattle.std.proofs.Common.{None, slice_get, fold, ltb, refl, sym, ap, ◌∙◌, subst, inl, inr, arith}
+use Rattle.std.proofs.Common.{◌≡◌, ℕ, suc, ◌-◌, ◌<◌, ◌≤◌, Bool, true, false, cond, List, [], ◌∷◌, ◌++◌, length}
+use Rattle.std.proofs.Common.{Option, Some, None, slice_get, fold, ltb, refl, sym, ap, ◌∙◌, subst, inl, inr, arith}
 use Rattle.std.proofs.lemmas.Bool.{ltb-true, lt-ltb}
 use Rattle.std.proofs.lemmas.List.{length-append}
 use Rattle.std.proofs.lemmas.Option.{slice_get_within}
 use Rattle.loading.specs.Families.{Family}
 use Rattle.loading.proofs.PlaceLemmas.{pushed_at, kept_at, last_at}
-use Rattle.hierarchy.specs.steps.MemberIndexes.{same_key}
-use Rattle.hierarchy.specs.declared.member_index.MemberKey.{MemberKey}
-use Rattle.hierarchy.proofs.MemberIndexesLemmas.{key_is, same_key_itself}
+use Rattle.hierarchy.specs.steps.MemberKeys.{same_key}
+use Rattle.hierarchy.specs.declared.member_key.MemberKey.{MemberKey}
+use Rattle.hierarchy.proofs.MemberKeysLemmas.{key_is, same_key_itself}
 use Rattle.hierarchy.specs.steps.Reaches.{EndsAt, Nearest, Tells, TellsAlone, TellsUpTo, reaching, reach_after, GoUp}
 use Rattle.hierarchy.specs.declared.member.DeclaredMember.{DeclaredMember}
 use Rattle.hierarchy.specs.declared.reach_table.Reach.{Reach}

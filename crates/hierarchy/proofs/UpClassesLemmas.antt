@@ -20,10 +20,10 @@ use Rattle.hierarchy.specs.steps.MemberTables.{IsTableOf}
 use Rattle.hierarchy.specs.declared.member_table.MemberTable.{MemberTable}
 use Rattle.hierarchy.specs.declared.wanted.Wanted.{Wanted}
 use Rattle.hierarchy.specs.declared.wanted.Wanted.TheVariants as wanted
-use Rattle.hierarchy.specs.declared.member_index.MemberKey.{MemberKey}
+use Rattle.hierarchy.specs.declared.member_key.MemberKey.{MemberKey}
 use Rattle.hierarchy.specs.declared.nearest.NearestMembers.{NearestMembers}
 use Rattle.hierarchy.specs.declared.reach_table.Reach.{Reach}
-use Rattle.hierarchy.specs.steps.MemberIndexes.{AreNumbers}
+use Rattle.hierarchy.specs.steps.MemberKeys.{AreNumbers}
 use Rattle.hierarchy.specs.steps.NearestMembers.{AreNearest, AllAreTold, own_part, rows_of}
 use Rattle.hierarchy.specs.steps.Sweeps.{members_by}
 use Rattle.hierarchy.specs.declared.nearest.Reaches.{Reaches}

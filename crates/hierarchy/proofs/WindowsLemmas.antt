@@ -12,12 +12,12 @@ use Rattle.hierarchy.specs.Hierarchies.{NumberedFamily}
 use Rattle.hierarchy.specs.steps.DeclarationBits.{Has, HasKey, IsAt, IsMask, IsOwn, own_of}
 use Rattle.hierarchy.specs.steps.Declarations.{AreDeclared, IsWhole}
 use Rattle.hierarchy.specs.steps.HierarchyTables.{wanted_in}
-use Rattle.hierarchy.specs.steps.MemberIndexes.{AreNumbers}
+use Rattle.hierarchy.specs.steps.MemberKeys.{AreNumbers}
 use Rattle.hierarchy.specs.steps.Windows.{NotesFirst, Notes}
 use Rattle.hierarchy.specs.declared.bits.Own.{Own}
 use Rattle.hierarchy.specs.declared.declarations.Declaration.{Declaration}
 use Rattle.hierarchy.specs.declared.masks.Mask.{Mask}
-use Rattle.hierarchy.specs.declared.member_index.MemberKey.{MemberKey}
+use Rattle.hierarchy.specs.declared.member_key.MemberKey.{MemberKey}
 use Rattle.hierarchy.specs.declared.wanted.Wanted.{Wanted}
 use Rattle.hierarchy.proofs.WordLemmas.{either, either_left, either_right}
 

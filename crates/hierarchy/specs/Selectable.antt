@@ -1,5 +1,6 @@
 -- What a virtual call may select for objects of any given class (JVMS 6.5, invokevirtual and invokeinterface).
-use Rattle.std.specs.Prelude.{◌≡◌, ℕ, ◌<◌, length, Some}
+use Rattle.std.specs.Prelude.{◌≡◌, ℕ, ◌<◌, ◌⊎◌, ◌↔◌, List, length, Some}
+use Rattle.std.specs.List.{Contains}
 use Rattle.built_in.specs.declared.class_id.ClassId.TheVariants as class
 use Rattle.built_in.specs.Keys.{NameAndType}
 use Rattle.loading.specs.Families.{Family}
@@ -21,6 +22,11 @@ IsSelectable family m d k =
 abbrev pub IsNamedLike : Family → DeclaredMember → ℕ → ℕ → Type 0
 IsNamedLike family x d k = (key : NameAndType) × (key_in family x.class x.index ≡ Some key)
     × (instance_method_in family key d ≡ Some k)
+
+-- to some methods those were added that are named like this one
+abbrev pub AddsNamedLike : Family → DeclaredMember → List DeclaredMember → List DeclaredMember → Type 0
+AddsNamedLike family x old new = (d k : ℕ) → Contains new (record { class = d; index = k })
+    ↔ (Contains old (record { class = d; index = k }) ⊎ IsNamedLike family x d k)
 
 abbrev pub IsAmong : Family → Selectable → ℕ → ℕ → Type 0
 IsAmong family selectable.Nothing d k = ⊥

@@ -1,4 +1,4 @@
-pub mod MemberIndexes
+pub mod MemberKeys
 pub mod MemberTables
 pub mod Defaults
 pub mod Above

@@ -5,13 +5,13 @@ ghost use Rattle.std.specs.List.{Contains};
 ghost use Rattle.hierarchy.specs.steps.Defaults.{classes_of};
 
 use crate::ancestors::Ancestors;
-use crate::marked::Marked;
+use crate::class_set::ClassSet;
 
 /// What stands above a class: found by a walk, whose room was there, or by marks, which take none from the heap.
 #[derive(Clone, Copy)]
 pub(crate) enum Above<'a> {
     Walked(&'a Ancestors),
-    Marked(&'a Marked),
+    Marked(&'a ClassSet),
 }
 
 impl Above<'_> {

@@ -7,7 +7,7 @@ ghost use Rattle.loading.specs.Families.{Family as Classes};
 ghost use Rattle.hierarchy.specs.MemberLookup.{IsDefault};
 ghost use Rattle.hierarchy.specs.declared.declarations.Declaration.{Declaration as Declared};
 ghost use Rattle.hierarchy.specs.declared.member.DeclaredMember.{DeclaredMember as Member};
-ghost use Rattle.hierarchy.specs.declared.member_index.MemberKey.{MemberKey as Key};
+ghost use Rattle.hierarchy.specs.declared.member_key.MemberKey.{MemberKey as Key};
 ghost use Rattle.hierarchy.specs.steps.Answers.{AreAnswers, AreBitsOf, AreTold, IsAnswer, classes_with};
 ghost use Rattle.hierarchy.specs.steps.DeclarationBits.{Has, IsMask, Knows};
 ghost use Rattle.hierarchy.specs.Hierarchies.{NumberedFamily as Numbered};
@@ -15,7 +15,7 @@ ghost use Rattle.hierarchy.specs.declared.wanted.Wanted.{Wanted as Kind};
 ghost use Rattle.hierarchy.specs.steps.Declarations.{AreDeclared, IsWhole};
 ghost use Rattle.hierarchy.specs.steps.Defaults.{AreFound};
 ghost use Rattle.hierarchy.specs.steps.HierarchyTables.{wanted_in};
-ghost use Rattle.hierarchy.specs.steps.MemberIndexes.{AreNumbers};
+ghost use Rattle.hierarchy.specs.steps.MemberKeys.{AreNumbers};
 
 use crate::asked::Asked;
 use crate::bits::{BITS, Known, first_bit, has_bit, without};
@@ -24,7 +24,7 @@ use crate::defaults::Found;
 use crate::hierarchy::Hierarchy;
 use crate::masks::Mask;
 use crate::member::DeclaredMember;
-use crate::member_index::MemberKey;
+use crate::member_key::MemberKey;
 use crate::member_name::MemberName;
 use crate::wanted::Wanted;
 

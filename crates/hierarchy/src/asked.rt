@@ -5,7 +5,7 @@ ghost use Rattle.hierarchy.specs.steps.FoundAhead.{wanted_by};
 
 use crate::bits::BITS;
 use crate::hierarchy::Hierarchy;
-use crate::member_index::MemberKey;
+use crate::member_key::MemberKey;
 use crate::member_name::MemberName;
 use crate::wanted::Wanted;
 use classfile::{ClassFile, Constant};

@@ -1,19 +1,18 @@
 //! The declarations of members by some names and descriptors.
 
-ghost use Rattle.std.specs.Prelude.{◌≡◌, ℕ, List, Some, OnOk, true, not};
-ghost use Rattle.std.specs.List.{All, Contains};
+ghost use Rattle.std.specs.Prelude.{◌≡◌, ℕ, Some, OnOk, not};
+ghost use Rattle.std.specs.List.{Contains};
 ghost use Rattle.built_in.specs.Keys.{NameAndType};
 ghost use Rattle.hierarchy.specs.MemberLookup.{flags_in, is_abstract};
 ghost use Rattle.hierarchy.specs.declared.wanted.Wanted.TheVariants as kind;
-ghost use Rattle.hierarchy.specs.declared.declarations.Declaration.{Declaration as Declared};
 ghost use Rattle.hierarchy.specs.steps.Declarations.{AreDeclared, IsListed, IsWhole, Grows};
 ghost use Rattle.hierarchy.specs.steps.HierarchyTables.{wanted_in};
-ghost use Rattle.hierarchy.specs.steps.MemberIndexes.{AreNumbers};
+ghost use Rattle.hierarchy.specs.steps.MemberKeys.{AreNumbers};
 ghost use Rattle.hierarchy.specs.steps.Reaches.{class_noted};
 
 use crate::hierarchy::Hierarchy;
 use crate::member::DeclaredMember;
-use crate::member_index::MemberKey;
+use crate::member_key::MemberKey;
 use crate::reach_table::Reach;
 use crate::wanted::Wanted;
 use classfile::flags::{ABSTRACT, has_flag};

@@ -1,7 +1,7 @@
 //! The one default among superinterface methods (JVMS 5.4.3.3). The interfaces that declare a method are noted beside
 //! its name and descriptor, so that what is asked of the ancestors of a class is whether they are among these.
 
-ghost use Rattle.std.specs.Prelude.{◌≡◌, ◌↔◌, ◌<◌, ◌++◌, ◌∷◌, [], ℕ, List, length, IsTrue, MatchOption};
+ghost use Rattle.std.specs.Prelude.{◌≡◌, ◌↔◌, ◌<◌, ◌++◌, ℕ, List, length, IsTrue, MatchOption};
 ghost use Rattle.std.specs.List.{Contains};
 ghost use Rattle.hierarchy.specs.declared.defaults.Found.TheVariants as found;
 ghost use Rattle.hierarchy.specs.steps.Defaults.{AreFound, found_after, only_of, HasMethod, IsFree, AreCovered};
@@ -9,14 +9,14 @@ ghost use Rattle.hierarchy.specs.steps.Defaults.{AreParentsOf, classes_of, Among
 ghost use Rattle.hierarchy.specs.steps.Reaches.{class_noted};
 ghost use Rattle.loading.specs.Families.{IsAncestor, parents_in};
 ghost use Rattle.built_in.specs.Keys.{NameAndType};
-ghost use Rattle.hierarchy.specs.steps.MemberIndexes.{IsLookup};
+ghost use Rattle.hierarchy.specs.steps.MemberKeys.{IsLookup};
 ghost use Rattle.hierarchy.specs.MemberLookup.{is_abstract, IsTheDefault, HasNoDefault};
 
 use crate::above::Above;
+use crate::class_set::ClassSet;
 use crate::hierarchy::Hierarchy;
-use crate::marked::Marked;
 use crate::member::DeclaredMember;
-use crate::member_index::MemberKey;
+use crate::member_key::MemberKey;
 use crate::reach_table::Reach;
 use crate::wanted::Wanted;
 use classfile::flags::{ABSTRACT, has_flag};
@@ -98,7 +98,7 @@ impl Hierarchy {
             → MatchOption result (HasNoDefault self.now.family name class)
             (λ x. IsTheDefault self.now.family name class x.class x.index) }
     {
-        let marked = Marked::ancestors(self.family(), class);
+        let marked = ClassSet::ancestors(self.family(), class);
         self.default_among(class, Above::Marked(&marked), key)
     }
 
@@ -184,7 +184,7 @@ impl Hierarchy {
     }
 
     /// The classes that stand above an ancestor that has the method.
-    fn above_candidates(&self, above: Above<'_>, key: Option<MemberKey>) -> Marked
+    fn above_candidates(&self, above: Above<'_>, key: Option<MemberKey>) -> ClassSet
         ensures { (name : NameAndType) → IsLookup self.now.texts name key
             → AreCovered self.now.family name (classes_of above.entry) result }
     {
@@ -194,11 +194,11 @@ impl Hierarchy {
     }
 
     /// The parents of the ancestors that have the method.
-    fn parents_of_candidates(&self, above: Above<'_>, key: Option<MemberKey>) -> Marked
+    fn parents_of_candidates(&self, above: Above<'_>, key: Option<MemberKey>) -> ClassSet
         ensures { (name : NameAndType) → IsLookup self.now.texts name key
             → AreParentsOf self.now.family (HasMethod self.now.family name) (classes_of above.entry) result }
     {
-        let mut parents = Marked::none();
+        let mut parents = ClassSet::none();
         let row = self.noted(Wanted::InterfaceMethod, key);
         for reach in row {
             self.add_parents_of(above, key, reach, &mut parents);
@@ -212,7 +212,7 @@ impl Hierarchy {
         above: Above<'_>,
         key: Option<MemberKey>,
         reach: &Reach,
-        parents: &mut Marked,
+        parents: &mut ClassSet,
     )
         ensures { (name : NameAndType) (asked : List ℕ) → IsLookup self.now.texts name key
             → AreParentsOf self.now.family (Among (HasMethod self.now.family name) (classes_of above.entry)) asked
@@ -229,7 +229,7 @@ impl Hierarchy {
     }
 
     /// The defaults among the ancestors: those that are not covered.
-    fn defaults(&self, above: Above<'_>, covered: &Marked, key: Option<MemberKey>) -> Found
+    fn defaults(&self, above: Above<'_>, covered: &ClassSet, key: Option<MemberKey>) -> Found
         ensures { (name : NameAndType) → IsLookup self.now.texts name key
             → AreFound (IsFree self.now.family name covered.now) (classes_of above.entry) result }
     {
@@ -245,7 +245,7 @@ impl Hierarchy {
     fn with_default(
         &self,
         above: Above<'_>,
-        covered: &Marked,
+        covered: &ClassSet,
         key: Option<MemberKey>,
         found: Found,
         reach: &Reach,
@@ -267,7 +267,7 @@ impl Hierarchy {
     }
 
     /// The place of a class's method, if the class is not covered and the method not abstract.
-    fn default_in(&self, class: u32, covered: &Marked, key: Option<MemberKey>) -> Option<u16>
+    fn default_in(&self, class: u32, covered: &ClassSet, key: Option<MemberKey>) -> Option<u16>
         ensures { (name : NameAndType) → IsLookup self.now.texts name key
             → MatchOption result ((k : ℕ) → ¬ IsFree self.now.family name covered.now class k)
             (λ k. IsFree self.now.family name covered.now class k) }

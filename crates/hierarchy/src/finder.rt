@@ -1,7 +1,7 @@
 //! What texts are found by.
 
-ghost use Rattle.std.specs.Prelude.{◌≡◌, ◌↔◌, true, ◌<◌, ◌++◌, ◌∷◌, [], ℕ, List, Some, IfOk, OnOk, OnErr, MatchOption, length, map};
-ghost use Rattle.std.specs.Prelude.{slice_get};
+ghost use Rattle.std.specs.Prelude.{◌≡◌, ◌↔◌, true, ◌<◌, ◌++◌, ◌∷◌, [], Some, length};
+ghost use Rattle.std.specs.Prelude.{IfOk, OnOk, OnErr, MatchOption, slice_get};
 ghost use Rattle.std.specs.List.{Contains};
 ghost use Rattle.hierarchy.specs.steps.FoundTexts.{code_of, texts_of, AreLinked, AreSorted, Finds, HasBuckets};
 

@@ -1,12 +1,12 @@
 //! What was found for references before they are resolved.
 
 ghost use Rattle.std.specs.Prelude.{◌≡◌, ℕ, Some, None, OnOk, if◌then◌else◌};
-ghost use Rattle.hierarchy.specs.declared.member_index.MemberKey.{MemberKey as Key};
+ghost use Rattle.hierarchy.specs.declared.member_key.MemberKey.{MemberKey as Key};
 ghost use Rattle.hierarchy.specs.steps.FoundAhead.{found_in};
-ghost use Rattle.hierarchy.specs.steps.MemberIndexes.{same_member};
+ghost use Rattle.hierarchy.specs.steps.MemberKeys.{same_member};
 
 use crate::member::DeclaredMember;
-use crate::member_index::{ClassMember, MemberKey};
+use crate::member_key::{ClassMember, MemberKey};
 use std::alloc::{AllocError, Global};
 use std::collections::BTreeMap;
 

@@ -2,23 +2,21 @@
 
 ghost use Rattle.std.specs.Prelude.{◌≡◌, ◌<◌, ℕ, Some, None, length, IfOk, IsSome, IsTrue, option_map, slice_get};
 ghost use Rattle.std.specs.Prelude.{option_to_list};
-ghost use Rattle.std.specs.Option.{is_none};
 ghost use Rattle.built_in.specs.declared.class_id.BuiltIn.{BuiltIn as Top};
 ghost use Rattle.hierarchy.specs.steps.NearestMembers.{AreNearest};
 ghost use Rattle.std.specs.List.{Contains};
 ghost use Rattle.hierarchy.specs.steps.Reaches.{Nearest, classes_noted};
 ghost use Rattle.hierarchy.specs.steps.Tops.{IsTop};
 ghost use Rattle.loading.specs.Families.{IsFamily, superclass_in, superclasses_in};
-ghost use Rattle.hierarchy.specs.steps.HierarchyTables.{interface_field_in, wanted_in};
+ghost use Rattle.hierarchy.specs.steps.HierarchyTables.{wanted_in};
 ghost use Rattle.hierarchy.specs.steps.MemberTables.{IsTableOf};
 ghost use Rattle.built_in.specs.Keys.{NameAndType};
-ghost use Rattle.hierarchy.specs.steps.MemberIndexes.{IsLookup, AreNumbers};
-ghost use Rattle.hierarchy.specs.MemberLookup.{flags_in, interface_method_in, is_inherited, key_in, member_flags};
+ghost use Rattle.hierarchy.specs.steps.MemberKeys.{IsLookup, AreNumbers};
+ghost use Rattle.hierarchy.specs.MemberLookup.{flags_in, is_inherited, key_in, member_flags};
 ghost use Rattle.hierarchy.specs.MemberNames.{text_in, named_in};
-ghost use Rattle.hierarchy.specs.Resolution.{instance_method_in};
 
 use crate::member::DeclaredMember;
-use crate::member_index::MemberKey;
+use crate::member_key::MemberKey;
 use crate::member_name::MemberName;
 use crate::member_table::MemberTable;
 use crate::nearest::NearestMembers;

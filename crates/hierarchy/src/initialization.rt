@@ -1,15 +1,16 @@
 //! What is initialized before each class (JVMS 5.5, step 7).
 
-ghost use Rattle.std.specs.Prelude.{◌≡◌, ℕ, List, ◌<◌, ◌≤◌, ◌^◌, true, false, ◌++◌, length, IfOk, OnOk, slice_index_or};
-ghost use Rattle.std.specs.List.{All, Contains, filter};
+ghost use Rattle.std.specs.Prelude.{◌≡◌, ℕ, ◌<◌, ◌≤◌, ◌^◌, length, IfOk, OnOk};
+ghost use Rattle.std.specs.List.{All};
 ghost use Rattle.graph.specs.Rows.{IsClosed};
-ghost use Rattle.loading.specs.Families.{IsFamily, AreParentsWithin, interfaces_in, superclasses_in, is_interface_in};
+ghost use Rattle.loading.specs.Families.{IsFamily, AreParentsWithin, interfaces_in, superclasses_in};
 ghost use Rattle.hierarchy.specs.Initialization.{IsInitializationOrder};
 ghost use Rattle.hierarchy.specs.steps.InterfaceOrders.{AreShort, Gathers, TellFirst};
+ghost use Rattle.hierarchy.specs.steps.Walks.{KeepsRoom};
 ghost use Rattle.hierarchy.specs.Search.{row_in};
 
 use crate::class_lists::{ClassLists, empty_lists};
-use crate::marks::{add_marked, initialized_first};
+use crate::initialized_first::{add_marked, initialized_first};
 use crate::short_orders::{ShortOrders, gather};
 use crate::walk::Walk;
 use loading::family::Family;
@@ -100,8 +101,7 @@ fn order_of(
     requires short { AreShort family.now short.now.rows.items }
     requires entered { walk.old.entered.limit ≡ length family.now }
     requires left { walk.old.left.limit ≡ length family.now }
-    ensures entered { walk.new.entered.limit ≡ walk.old.entered.limit }
-    ensures left { walk.new.left.limit ≡ walk.old.left.limit }
+    ensures room { KeepsRoom walk.old walk.new }
     ensures order { IfOk result (λ order. IsInitializationOrder family.now class order) }
     ensures within { IfOk result (All (λ c. c < length family.now)) }
 {
@@ -140,8 +140,7 @@ fn leave_above(
     requires short { AreShort family.now short.now.rows.items }
     requires entered { walk.old.entered.limit ≡ length family.now }
     requires left { walk.old.left.limit ≡ length family.now }
-    ensures entered { walk.new.entered.limit ≡ walk.old.entered.limit }
-    ensures left { walk.new.left.limit ≡ walk.old.left.limit }
+    ensures room { KeepsRoom walk.old walk.new }
     ensures gathered { OnOk result
         (Gathers family.now (interfaces_in family.now class) walk.new.left.items) }
 {

@@ -5,7 +5,7 @@ ghost use Rattle.hierarchy.specs.steps.DeclarationBits.{Has, HasKey, IsCoded, Is
 
 use crate::bits::{BITS, with_bit};
 use crate::declarations::Declaration;
-use crate::member_index::MemberKey;
+use crate::member_key::MemberKey;
 
 /// The bits of a name and descriptor.
 #[derive(Clone, Copy)]

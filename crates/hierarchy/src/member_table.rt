@@ -2,11 +2,11 @@
 
 ghost use Rattle.std.specs.Prelude.{◌≡◌, ◌∷◌, ◌++◌, [], IfOk, OnOk, Some, option_copied, slice_get};
 ghost use Rattle.loading.specs.Families.{Family};
-ghost use Rattle.hierarchy.specs.steps.MemberIndexes.{AreNumbers, IsLookup};
+ghost use Rattle.hierarchy.specs.steps.MemberKeys.{AreNumbers, IsLookup};
 ghost use Rattle.hierarchy.specs.steps.MemberTables.{HavePools, IsTableOf};
 ghost use Rattle.hierarchy.specs.MemberNames.{named_in};
 
-use crate::member_index::MemberKey;
+use crate::member_key::MemberKey;
 use crate::member_name::MemberName;
 use crate::pool_texts::PoolTexts;
 use crate::texts::Texts;

@@ -2,7 +2,7 @@
 
 ghost use Rattle.std.specs.Prelude.{◌≡◌, ◌<◌, ◌≤◌, ℕ, None, Some, IsTrue, length, slice_get, IfOk, OnOk};
 ghost use Rattle.built_in.specs.Keys.{NameAndType};
-ghost use Rattle.hierarchy.specs.steps.MemberIndexes.{AreNumbers};
+ghost use Rattle.hierarchy.specs.steps.MemberKeys.{AreNumbers};
 ghost use Rattle.hierarchy.specs.steps.MemberTables.{IsTableOf};
 ghost use Rattle.loading.specs.Families.{Family as Classes};
 ghost use Rattle.hierarchy.specs.declared.member_table.MemberTable.{MemberTable as Table};
@@ -15,7 +15,7 @@ ghost use Rattle.hierarchy.specs.steps.NearestMembers.{AreNearest, AllAreTold, I
 
 use crate::depth_first::{depth_first, places_in};
 use crate::member::DeclaredMember;
-use crate::member_index::MemberKey;
+use crate::member_key::MemberKey;
 use crate::member_table::MemberTable;
 use crate::reach_table::{Reach, ReachTable};
 use crate::sweep::ClassOrder;

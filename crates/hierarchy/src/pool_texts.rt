@@ -1,16 +1,16 @@
 //! The texts of a class file's constant pool by number, so that each is looked at once.
 
-ghost use Rattle.std.specs.Prelude.{◌≡◌, ◌≤◌, [], Some, List, ℕ, length, slice_get, slice_index_or, unwrap_or, IfOk};
+ghost use Rattle.std.specs.Prelude.{◌≡◌, [], Some, List, ℕ, slice_get, slice_index_or, unwrap_or, IfOk};
 ghost use Rattle.std.specs.Prelude.{OnOk};
 ghost use Rattle.classfile.specs.ClassFile.{ClassFile as File};
 ghost use Rattle.classfile.specs.Lookup.{utf8_in};
 ghost use Rattle.loading.specs.Names.{text_at};
 ghost use Rattle.hierarchy.specs.Texts.{AreDistinct};
 ghost use Rattle.hierarchy.specs.steps.GrowingTexts.{KeepsNumbers};
-ghost use Rattle.hierarchy.specs.steps.MemberIndexes.{AreNumbers};
+ghost use Rattle.hierarchy.specs.steps.MemberKeys.{AreNumbers};
 ghost use Rattle.hierarchy.specs.steps.PoolTexts.{AreTextNumbers};
 
-use crate::member_index::MemberKey;
+use crate::member_key::MemberKey;
 use crate::texts::Texts;
 use classfile::{ClassFile, Constant};
 use std::alloc::{AllocError, Global};

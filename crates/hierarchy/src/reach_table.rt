@@ -1,12 +1,13 @@
 //! Rows of reaches by name and descriptor.
 
 ghost use Rattle.std.specs.Prelude.{◌≡◌, ◌↔◌, ◌++◌, ◌∷◌, [], Some, IsTrue, IfOk, OnOk, if◌then◌else◌};
-ghost use Rattle.hierarchy.specs.declared.member_index.MemberKey.{MemberKey as Key};
-ghost use Rattle.hierarchy.specs.steps.MemberIndexes.{same_key};
-ghost use Rattle.hierarchy.specs.steps.Reaches.{reaches_of, number_in, EndsAt, IsReachTable, GoUp, reaching, last_nearest};
+ghost use Rattle.hierarchy.specs.declared.member_key.MemberKey.{MemberKey as Key};
+ghost use Rattle.hierarchy.specs.steps.MemberKeys.{same_key};
+ghost use Rattle.hierarchy.specs.steps.Reaches.{EndsAt, GoUp, IsReachTable};
+ghost use Rattle.hierarchy.specs.steps.Reaches.{last_nearest, number_in, reaches_of, reaching};
 
 use crate::member::DeclaredMember;
-use crate::member_index::MemberKey;
+use crate::member_key::MemberKey;
 use std::alloc::{AllocError, Global};
 use std::collections::BTreeMap;
 

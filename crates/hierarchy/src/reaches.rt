@@ -1,28 +1,30 @@
-//! The nearest class that declares a member, found by one search (JVMS 5.4.3.2, 5.4.3.3; 6.5, invokevirtual).
+//! Which classes are the nearest that declare a member, noted so that one is found by one search (JVMS 5.4.3.2,
+//! 5.4.3.3; 6.5, invokevirtual).
 //!
 //! Classes stand so that those below a class follow it, all together. Along this order it is noted, for each name and
 //! descriptor, where the nearest class that declares such a member changes: at a class that declares one, and where
 //! the classes below one end.
 
-ghost use Rattle.std.specs.Prelude.{◌≡◌, ◌⊎◌, ◌↔◌, IsTrue, ℕ, ◌<◌, ◌^◌, ◌++◌, ◌∷◌, [], List, Option, Some, None, length};
-ghost use Rattle.std.specs.Prelude.{OnOk, ◌==◌, slice_index_or, if◌then◌else◌};
+ghost use Rattle.std.specs.Prelude.{◌≡◌, ◌⊎◌, ◌↔◌, IsTrue, ℕ, ◌<◌, ◌^◌, ◌++◌, ◌∷◌, [], List, length};
+ghost use Rattle.std.specs.Prelude.{Option, Some, None, OnOk, ◌==◌, slice_index_or, if◌then◌else◌};
 ghost use Rattle.built_in.specs.Keys.{NameAndType};
-ghost use Rattle.hierarchy.specs.declared.member_index.MemberKey.{MemberKey as Key};
-ghost use Rattle.hierarchy.specs.steps.MemberIndexes.{AreNumbers};
-ghost use Rattle.hierarchy.specs.steps.Reaches.{AllTell, EndsAt, IsLast, IsReachTable, Nearest, NearestAbove, NearestFrom};
-ghost use Rattle.hierarchy.specs.steps.Reaches.{StandsBehind, Tells, reaches_of};
-ghost use Rattle.hierarchy.specs.steps.DepthFirst.{MayFollow, IsDepthFirst, ArePlaces, StandOnce};
+ghost use Rattle.hierarchy.specs.declared.member_key.MemberKey.{MemberKey as Key};
+ghost use Rattle.hierarchy.specs.steps.MemberKeys.{AreNumbers};
+ghost use Rattle.hierarchy.specs.steps.Reaches.{AllTell, EndsAt, IsLast, IsReachTable, StandsBehind, Tells};
+ghost use Rattle.hierarchy.specs.steps.Reaches.{Nearest, NearestAbove, NearestFrom, reaches_of};
+ghost use Rattle.hierarchy.specs.steps.DepthFirst.{IsDepthFirst, ArePlaces, StandOnce};
 ghost use Rattle.loading.specs.Families.{IsFamily};
 ghost use Rattle.hierarchy.specs.declared.member.DeclaredMember.{DeclaredMember as Found};
 ghost use Rattle.hierarchy.specs.steps.NearestMembers.{IsEmpty};
 ghost use Rattle.hierarchy.specs.steps.MemberTables.{IsTableOf};
-ghost use Rattle.hierarchy.specs.steps.Sweeps.{AreNoted, Comes, IsClassOrder, IsNoted, KeepsEnds, came, counted, own_in};
+ghost use Rattle.hierarchy.specs.steps.Sweeps.{AreNoted, Comes, ComesBehind, IsClassOrder, IsNoted, NotesMore};
+ghost use Rattle.hierarchy.specs.steps.Sweeps.{came, counted, own_in};
 ghost use Rattle.hierarchy.specs.steps.Sweeps.{members_by, members_in, members_of, members_of_file};
 
 use crate::depth_first::given_superclass;
 use crate::hierarchy::is_inherited;
 use crate::member::DeclaredMember;
-use crate::member_index::MemberKey;
+use crate::member_key::MemberKey;
 use crate::reach_table::{Reach, ReachTable};
 use crate::sweep::{ClassOrder, Sweep};
 use crate::wanted::Wanted;
@@ -74,8 +76,7 @@ impl Sweep<'_> {
         requires comes { Comes self.now rows.old class place }
         requires own { (name : NameAndType) → AreNumbers self.now.table.now.texts name key
             → IsNoted self.now place rows.old name ⊎ (own_in self.now name class ≡ own) }
-        ensures comes { OnOk result (Comes self.now rows.new class place) }
-        ensures keeps { OnOk result (KeepsEnds place rows.old rows.new) }
+        ensures notes { OnOk result (NotesMore self.now class place rows.old rows.new) }
         ensures noted { OnOk result (EndsAt (reaches_of rows.new key) place) }
     {
         if rows.ends_at(key, place) {
@@ -143,8 +144,7 @@ impl Sweep<'_> {
     ) -> Result<(), AllocError>
         requires comes { Comes self.now rows.old class place }
         requires own { (declaring ≡ class) ⊎ AreNoted self.now place rows.old class }
-        ensures comes { OnOk result (Comes self.now rows.new class place) }
-        ensures keeps { OnOk result (KeepsEnds place rows.old rows.new) }
+        ensures notes { OnOk result (NotesMore self.now class place rows.old rows.new) }
         ensures noted { OnOk result (AreNoted self.now place rows.new declaring) }
     {
         let Some(pool) = self.table.pool(declaring) else {
@@ -169,12 +169,9 @@ impl Sweep<'_> {
         class: u32,
         place: usize,
     ) -> Result<(), AllocError>
-        requires family { IsFamily self.now.family.now }
-        requires comes { Comes self.now rows.old class place }
-        requires may { MayFollow self.now.family.now before class }
+        requires behind { ComesBehind self.now rows.old before class place }
         requires own { AreNoted self.now place rows.old class }
-        ensures comes { OnOk result (Comes self.now rows.new class place) }
-        ensures keeps { OnOk result (KeepsEnds place rows.old rows.new) }
+        ensures notes { OnOk result (NotesMore self.now class place rows.old rows.new) }
         ensures left { OnOk result ((name : NameAndType) → IsNoted self.now place rows.new name
             ⊎ ((r : Option Found) → NearestFrom self.now.family.now (own_in self.now name) before r
             → NearestAbove self.now.family.now (own_in self.now name) class r)) }
@@ -202,9 +199,7 @@ impl Sweep<'_> {
         class: u32,
         place: usize,
     ) -> Result<(), AllocError>
-        requires family { IsFamily self.now.family.now }
-        requires comes { Comes self.now rows.old class place }
-        requires may { MayFollow self.now.family.now before class }
+        requires behind { ComesBehind self.now rows.old before class place }
         requires last { IsLast (came self.now place) before }
         ensures rows { OnOk result (IsReachTable rows.new) }
         ensures tell { OnOk result (AllTell (members_of self.now) (came self.now place ++ class ∷ []) rows.new) }

@@ -21,7 +21,7 @@ use crate::bits::{BITS, Known, Own};
 use crate::declarations::Declaration;
 use crate::found_ahead::FoundAhead;
 use crate::hierarchy::Hierarchy;
-use crate::member_index::MemberKey;
+use crate::member_key::MemberKey;
 use crate::parents_first::ParentsFirst;
 use crate::wanted::Wanted;
 use crate::ways::fill;
@@ -414,7 +414,7 @@ impl Hierarchy {
         if !sought.is_of(answer.key) {
             return Ok(());
         }
-        if let Some(member) = self.settled_method(sought, answer) {
+        if let Some(member) = self.answered_method(sought, answer) {
             found.insert(answer.class, answer.key, member)?;
         }
         Ok(())

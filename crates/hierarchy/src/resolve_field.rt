@@ -8,13 +8,13 @@ ghost use Rattle.built_in.specs.Keys.{NameAndType};
 ghost use Rattle.hierarchy.specs.MemberNames.{named_in};
 ghost use Rattle.hierarchy.specs.steps.Ancestors.{AreOf};
 ghost use Rattle.hierarchy.specs.Resolution.{ResolvesField};
-ghost use Rattle.hierarchy.specs.steps.MemberIndexes.{AreNumbers};
+ghost use Rattle.hierarchy.specs.steps.MemberKeys.{AreNumbers};
 ghost use Rattle.hierarchy.specs.steps.Sought.{sought_name};
 
 use crate::ancestors::Ancestors;
 use crate::hierarchy::Hierarchy;
 use crate::member::{DeclaredMember, Field};
-use crate::member_index::MemberKey;
+use crate::member_key::MemberKey;
 use crate::member_name::MemberName;
 use crate::sought::Sought;
 use crate::wanted::Wanted;

@@ -6,7 +6,7 @@ ghost use Rattle.loading.specs.Families.{is_interface_in};
 ghost use Rattle.built_in.specs.Keys.{NameAndType};
 ghost use Rattle.hierarchy.specs.MemberNames.{named_in};
 ghost use Rattle.hierarchy.specs.steps.Ancestors.{AreOf};
-ghost use Rattle.hierarchy.specs.steps.MemberIndexes.{IsLookup};
+ghost use Rattle.hierarchy.specs.steps.MemberKeys.{IsLookup};
 ghost use Rattle.hierarchy.specs.steps.Sought.{sought_name};
 ghost use Rattle.hierarchy.specs.Resolution.{AmongInterfaces, ResolvesMethod};
 
@@ -14,7 +14,7 @@ use crate::above::Above;
 use crate::ancestors::Ancestors;
 use crate::hierarchy::Hierarchy;
 use crate::member::{DeclaredMember, Method};
-use crate::member_index::MemberKey;
+use crate::member_key::MemberKey;
 use crate::member_name::MemberName;
 use crate::search::{array_method, built_in_method};
 use crate::sought::Sought;

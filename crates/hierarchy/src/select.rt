@@ -2,7 +2,7 @@
 
 ghost use Rattle.std.specs.Prelude.{◌≡◌};
 ghost use Rattle.built_in.specs.declared.class_id.ClassId.TheVariants as class_ids;
-ghost use Rattle.hierarchy.specs.steps.MemberIndexes.{IsLookup};
+ghost use Rattle.hierarchy.specs.steps.MemberKeys.{IsLookup};
 ghost use Rattle.hierarchy.specs.MemberLookup.{is_private};
 ghost use Rattle.hierarchy.specs.Resolution.{Selects, SelectsByKey};
 ghost use Rattle.hierarchy.specs.Selection.{selected};

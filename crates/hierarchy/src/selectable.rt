@@ -4,13 +4,13 @@ ghost use Rattle.std.specs.Prelude.{◌≡◌, ◌↔◌, ◌⊎◌, ℕ, Some, 
 ghost use Rattle.std.specs.List.{Contains};
 ghost use Rattle.built_in.specs.Keys.{NameAndType};
 ghost use Rattle.hierarchy.specs.Resolution.{instance_method_in};
-ghost use Rattle.hierarchy.specs.Selectable.{IsSelectable, IsAmong, IsNamedLike};
-ghost use Rattle.hierarchy.specs.steps.MemberIndexes.{IsLookup};
+ghost use Rattle.hierarchy.specs.Selectable.{AddsNamedLike, IsSelectable, IsAmong};
+ghost use Rattle.hierarchy.specs.steps.MemberKeys.{IsLookup};
 ghost use Rattle.hierarchy.specs.steps.Selectable.{declared_as};
 
 use crate::hierarchy::Hierarchy;
 use crate::member::{DeclaredMember, Method};
-use crate::member_index::MemberKey;
+use crate::member_key::MemberKey;
 use crate::wanted::Wanted;
 use classfile::flags::{PRIVATE, has_flag};
 use std::alloc::AllocError;
@@ -95,9 +95,7 @@ impl Hierarchy {
         member: DeclaredMember,
         methods: &mut Vec<DeclaredMember>,
     ) -> Result<(), AllocError>
-        ensures { OnOk result ((d k : ℕ) → Contains methods.new.items (record { class = d; index = k })
-            ↔ (Contains methods.old.items (record { class = d; index = k })
-            ⊎ IsNamedLike self.now.family member d k)) }
+        ensures { OnOk result (AddsNamedLike self.now.family member methods.old.items methods.new.items) }
     {
         let Some(name) = self.name_of(member.class, member.index) else {
             return Ok(());

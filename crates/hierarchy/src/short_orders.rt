@@ -6,8 +6,9 @@ ghost use Rattle.std.specs.List.{All};
 ghost use Rattle.loading.specs.Families.{IsFamily, AreParentsWithin, interfaces_in, is_interface_in};
 ghost use Rattle.hierarchy.specs.Search.{firsts};
 ghost use Rattle.hierarchy.specs.steps.InterfaceOrders.{AreShort, Gathers, TellFirst};
+ghost use Rattle.hierarchy.specs.steps.Walks.{KeepsRoom};
 
-use crate::marks::add_marked;
+use crate::initialized_first::add_marked;
 use crate::walk::Walk;
 use loading::family::Family;
 use loading::given::ClassNumbers;
@@ -32,8 +33,7 @@ impl ShortOrders {
     ) -> Result<ShortOrders, AllocError>
         requires first { TellFirst family.now first.now }
         requires left { walk.old.left.limit ≡ length family.now }
-        ensures entered { walk.new.entered.limit ≡ walk.old.entered.limit }
-        ensures left { walk.new.left.limit ≡ walk.old.left.limit }
+        ensures room { KeepsRoom walk.old walk.new }
         ensures short { IfOk result (λ short. AreShort family.now short.rows.items) }
     {
         let mut rows = no_lists(alloc, family.classes().len())?;
@@ -67,8 +67,7 @@ fn fill(
     requires first { TellFirst family.now first.now }
     requires left { walk.old.left.limit ≡ length family.now }
     requires short { AreShort family.now rows.old.items }
-    ensures entered { walk.new.entered.limit ≡ walk.old.entered.limit }
-    ensures left { walk.new.left.limit ≡ walk.old.left.limit }
+    ensures room { KeepsRoom walk.old walk.new }
     ensures short { OnOk result (AreShort family.now rows.new.items) }
 {
     for class in family.parents_first() {
@@ -97,8 +96,7 @@ fn list_of(
     requires first { TellFirst family.now first.now }
     requires left { walk.old.left.limit ≡ length family.now }
     requires short { AreShort family.now rows.now }
-    ensures entered { walk.new.entered.limit ≡ walk.old.entered.limit }
-    ensures left { walk.new.left.limit ≡ walk.old.left.limit }
+    ensures room { KeepsRoom walk.old walk.new }
     ensures gathered { IfOk result (λ row. (list : List ℕ) → row ≡ Some list
         → Gathers family.now (class ∷ []) list) }
     ensures within { IfOk result (λ row. (list : List ℕ) → row ≡ Some list
@@ -129,8 +127,7 @@ pub(crate) fn gather(
     requires parents { AreParentsWithin family.now }
     requires left { walk.old.left.limit ≡ length family.now }
     requires short { AreShort family.now rows.now }
-    ensures entered { walk.new.entered.limit ≡ walk.old.entered.limit }
-    ensures left { walk.new.left.limit ≡ walk.old.left.limit }
+    ensures room { KeepsRoom walk.old walk.new }
     ensures once { IfOk result (λ whole. whole ≡ true → walk.new.left.items ≡ firsts walk.new.left.items) }
     ensures gathered { IfOk result (λ whole. whole ≡ true
         → Gathers family.now (interfaces_in family.now class) walk.new.left.items) }

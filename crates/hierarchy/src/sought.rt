@@ -1,14 +1,13 @@
 //! What a member is looked for by.
 
 ghost use Rattle.std.specs.Prelude.{◌≡◌, Some, IsTrue};
-ghost use Rattle.built_in.specs.declared.method.BuiltInMethod.{BuiltInMethod as Member};
 ghost use Rattle.built_in.specs.Methods.{key_of_member};
 ghost use Rattle.hierarchy.specs.MemberNames.{named_in};
-ghost use Rattle.hierarchy.specs.steps.MemberIndexes.{IsLookup};
+ghost use Rattle.hierarchy.specs.steps.MemberKeys.{IsLookup};
 ghost use Rattle.hierarchy.specs.steps.Sought.{sought_name};
 
 use crate::hierarchy::Hierarchy;
-use crate::member_index::MemberKey;
+use crate::member_key::MemberKey;
 use crate::member_name::MemberName;
 use built_in::method::BuiltInMethod;
 

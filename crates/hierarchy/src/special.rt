@@ -5,7 +5,7 @@ ghost use Rattle.built_in.specs.declared.class_id.ClassId.TheVariants as class_i
 ghost use Rattle.hierarchy.specs.MemberLookup.{UpClasses, is_static, key_in, method_with};
 ghost use Rattle.hierarchy.specs.Selection.{special, special_start, found_from, is_instance_method};
 ghost use Rattle.hierarchy.specs.Selection.{is_init, is_init_name, is_superclass};
-ghost use Rattle.hierarchy.specs.steps.MemberIndexes.{IsLookup};
+ghost use Rattle.hierarchy.specs.steps.MemberKeys.{IsLookup};
 ghost use Rattle.hierarchy.specs.steps.Sought.{sought_name};
 ghost use Rattle.hierarchy.specs.steps.Specials.{above_static};
 

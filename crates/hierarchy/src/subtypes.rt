@@ -9,8 +9,8 @@ ghost use Rattle.hierarchy.specs.Subtypes.{is_array_below, is_array_type_below, 
 ghost use Rattle.hierarchy.specs.Subtypes.{is_unknown_below};
 ghost use Rattle.hierarchy.specs.Subtypes.{is_object, class_of_element, type_code, is_end_below, end_of_chain};
 
+use crate::class_set::ClassSet;
 use crate::hierarchy::Hierarchy;
-use crate::marked::Marked;
 use built_in::class_id::{ArrayType, BuiltIn, ClassId, ElementType};
 use std::cmp::Ordering;
 
@@ -66,7 +66,7 @@ impl Hierarchy {
         ensures { result ≡ is_above self.now.family class other }
     {
         let _classes = self.family().classes();
-        Marked::ancestors(self.family(), class).has(other)
+        ClassSet::ancestors(self.family(), class).has(other)
     }
 
     /// Whether the second of two given classes is a superclass of the first.

@@ -5,7 +5,8 @@ ghost use Rattle.std.specs.List.{All};
 ghost use Rattle.loading.specs.Families.{IsFamily, AreParentsWithin, parents_in};
 ghost use Rattle.loading.specs.declared.given.GivenClass.{GivenClass};
 ghost use Rattle.hierarchy.specs.Search.{firsts};
-ghost use Rattle.hierarchy.specs.steps.Walks.{Walking, IsSearchOrder, IsPostorderOf, class_of, work_left};
+ghost use Rattle.hierarchy.specs.steps.Walks.{HasRoomFor, KeepsRoom, Walking, IsSearchOrder, IsPostorderOf};
+ghost use Rattle.hierarchy.specs.steps.Walks.{IsWithin, StepsWithin, class_of};
 
 use graph::Visited;
 use loading::family::Family;
@@ -74,11 +75,9 @@ impl Walk {
     pub(crate) fn above(&mut self, family: &Family, from: &[u32]) -> Result<(), AllocError>
         requires fits { IsFamily family.now }
         requires parents { AreParentsWithin family.now }
-        requires entered { length family.now ≤ self.old.entered.limit }
-        requires left { length family.now ≤ self.old.left.limit }
+        requires room { HasRoomFor family.now self.old }
         requires from { All (λ c. c < length family.now) from.now }
-        ensures entered_limit { self.new.entered.limit ≡ self.old.entered.limit }
-        ensures left_limit { self.new.left.limit ≡ self.old.left.limit }
+        ensures room { KeepsRoom self.old self.new }
         ensures entered { OnOk result (IsSearchOrder family.now from.now self.new.entered.items) }
         ensures left { OnOk result (IsPostorderOf family.now from.now self.new.left.items) }
     {
@@ -91,10 +90,8 @@ impl Walk {
     pub(crate) fn above_class(&mut self, family: &Family, class: u32) -> Result<(), AllocError>
         requires fits { IsFamily family.now }
         requires parents { AreParentsWithin family.now }
-        requires entered { length family.now ≤ self.old.entered.limit }
-        requires left { length family.now ≤ self.old.left.limit }
-        ensures entered_limit { self.new.entered.limit ≡ self.old.entered.limit }
-        ensures left_limit { self.new.left.limit ≡ self.old.left.limit }
+        requires room { HasRoomFor family.now self.old }
+        ensures room { KeepsRoom self.old self.new }
         ensures entered { OnOk result (IsSearchOrder family.now (parents_in family.now class) self.new.entered.items) }
         ensures left { OnOk result (IsPostorderOf family.now (parents_in family.now class) self.new.left.items) }
     {
@@ -122,8 +119,7 @@ impl Walk {
         ensures todo { self.new.todo.items ≡ [] }
         ensures entered { self.new.entered.items ≡ [] }
         ensures left { self.new.left.items ≡ [] }
-        ensures entered_limit { self.new.entered.limit ≡ self.old.entered.limit }
-        ensures left_limit { self.new.left.limit ≡ self.old.left.limit }
+        ensures room { KeepsRoom self.old self.new }
     {
         self.todo.clear();
         self.entered.clear();
@@ -134,11 +130,9 @@ impl Walk {
 /// Goes on until nothing is left to do.
 fn walk_on(walk: &mut Walk, family: &Family) -> Result<(), AllocError>
     requires parents { AreParentsWithin family.now }
-    requires entered { length family.now ≤ walk.old.entered.limit }
-    requires left { length family.now ≤ walk.old.left.limit }
-    requires within { All (λ visit. class_of visit < length family.now) (reverse walk.old.todo.items) }
-    ensures entered { walk.new.entered.limit ≡ walk.old.entered.limit }
-    ensures left { walk.new.left.limit ≡ walk.old.left.limit }
+    requires room { HasRoomFor family.now walk.old }
+    requires within { IsWithin family.now walk.old }
+    ensures room { KeepsRoom walk.old walk.new }
     ensures walking { OnOk result ((from : List ℕ)
         → Walking family.now from (reverse walk.old.todo.items) walk.old.entered.items walk.old.left.items
         → Walking family.now from [] walk.new.entered.items walk.new.left.items) }
@@ -152,16 +146,11 @@ fn walk_on(walk: &mut Walk, family: &Family) -> Result<(), AllocError>
 /// Does what came next.
 fn step(walk: &mut Walk, family: &Family, visit: Visit) -> Result<(), AllocError>
     requires parents { AreParentsWithin family.now }
-    requires entered { length family.now ≤ walk.old.entered.limit }
-    requires left { length family.now ≤ walk.old.left.limit }
+    requires room { HasRoomFor family.now walk.old }
     requires visit { class_of visit < length family.now }
-    requires within { All (λ visit. class_of visit < length family.now) (reverse walk.old.todo.items) }
-    ensures entered { walk.new.entered.limit ≡ walk.old.entered.limit }
-    ensures left { walk.new.left.limit ≡ walk.old.left.limit }
-    ensures within { OnOk result (All (λ visit. class_of visit < length family.now) (reverse walk.new.todo.items)) }
-    ensures nearer { OnOk result
-        (work_left family.now walk.new.entered.limit walk.new.entered.items walk.new.todo.items
-        ≤ work_left family.now walk.old.entered.limit walk.old.entered.items walk.old.todo.items) }
+    requires within { IsWithin family.now walk.old }
+    ensures room { KeepsRoom walk.old walk.new }
+    ensures steps { OnOk result (StepsWithin family.now walk.old walk.new) }
     ensures walking { OnOk result ((from : List ℕ)
         → Walking family.now from (visit ∷ reverse walk.old.todo.items) walk.old.entered.items walk.old.left.items
         → Walking family.now from (reverse walk.new.todo.items) walk.new.entered.items walk.new.left.items) }
@@ -177,13 +166,9 @@ fn enter(walk: &mut Walk, family: &Family, class: u32) -> Result<(), AllocError>
     requires parents { AreParentsWithin family.now }
     requires entered { length family.now ≤ walk.old.entered.limit }
     requires class { class < length family.now }
-    requires within { All (λ visit. class_of visit < length family.now) (reverse walk.old.todo.items) }
-    ensures entered { walk.new.entered.limit ≡ walk.old.entered.limit }
-    ensures left { walk.new.left.limit ≡ walk.old.left.limit }
-    ensures within { OnOk result (All (λ visit. class_of visit < length family.now) (reverse walk.new.todo.items)) }
-    ensures nearer { OnOk result
-        (work_left family.now walk.new.entered.limit walk.new.entered.items walk.new.todo.items
-        ≤ work_left family.now walk.old.entered.limit walk.old.entered.items walk.old.todo.items) }
+    requires within { IsWithin family.now walk.old }
+    ensures room { KeepsRoom walk.old walk.new }
+    ensures steps { OnOk result (StepsWithin family.now walk.old walk.new) }
     ensures walking { OnOk result ((from : List ℕ)
         → Walking family.now from (Visit.Enter class ∷ reverse walk.old.todo.items) walk.old.entered.items
         walk.old.left.items

@@ -1,13 +1,13 @@
 //! What classes have of their own in a window of declarations.
 
-ghost use Rattle.std.specs.Prelude.{◌≡◌, ◌↔◌, ◌⊎◌, ◌<◌, ◌≤◌, ◌+◌, ℕ, length};
+ghost use Rattle.std.specs.Prelude.{◌≡◌, ◌↔◌, ◌<◌, ◌≤◌, ◌+◌, ℕ, length};
 ghost use Rattle.hierarchy.specs.steps.DeclarationBits.{Has, own_of};
 ghost use Rattle.hierarchy.specs.steps.Windows.{NotesFirst, Notes};
 
 use crate::bits::{BITS, Own, with_bit};
 use crate::declarations::Declaration;
 use crate::masks::Mask;
-use crate::member_index::MemberKey;
+use crate::member_key::MemberKey;
 
 /// Notes of each class which of the declarations are its own, and which have a name and descriptor that it declares.
 pub(crate) fn note(declared: &[Declaration], start: usize, own: &mut [Own])

@@ -10,12 +10,12 @@ use Rattle.hierarchy.specs.steps.DeclarationBits.{Has, Knows, known_of}
 use Rattle.hierarchy.specs.steps.Declarations.{IsWhole}
 use Rattle.hierarchy.specs.steps.Defaults.{AreFound, only_of}
 use Rattle.hierarchy.specs.steps.HierarchyTables.{wanted_in}
-use Rattle.hierarchy.specs.steps.MemberIndexes.{AreNumbers, same_key}
+use Rattle.hierarchy.specs.steps.MemberKeys.{AreNumbers, same_key}
 use Rattle.hierarchy.specs.declared.answers.Answer.{Answer}
 use Rattle.hierarchy.specs.declared.bits.Known.{Known}
 use Rattle.hierarchy.specs.declared.declarations.Declaration.{Declaration}
 use Rattle.hierarchy.specs.declared.member.DeclaredMember.{DeclaredMember}
-use Rattle.hierarchy.specs.declared.member_index.MemberKey.{MemberKey}
+use Rattle.hierarchy.specs.declared.member_key.MemberKey.{MemberKey}
 use Rattle.hierarchy.specs.declared.wanted.Wanted.{Wanted}
 use Rattle.hierarchy.specs.declared.wanted.Wanted.TheVariants as kind
 

@@ -9,7 +9,7 @@ use Rattle.hierarchy.specs.steps.Above.{IsAmongOrAbove}
 use Rattle.hierarchy.specs.declared.bits.Known.{Known}
 use Rattle.hierarchy.specs.declared.bits.Own.{Own}
 use Rattle.hierarchy.specs.declared.declarations.Declaration.{Declaration}
-use Rattle.hierarchy.specs.declared.member_index.MemberKey.{MemberKey}
+use Rattle.hierarchy.specs.declared.member_key.MemberKey.{MemberKey}
 use Rattle.hierarchy.specs.declared.masks.Mask.{Mask}
 
 -- a bit of a word is set

@@ -5,12 +5,12 @@ use Rattle.built_in.specs.declared.class_id.ClassId.TheVariants as class_ids
 use Rattle.hierarchy.specs.Hierarchies.{NumberedFamily}
 use Rattle.hierarchy.specs.Resolution.{ResolvesField, ResolvesMethod}
 use Rattle.built_in.specs.Keys.{NameAndType}
-use Rattle.hierarchy.specs.steps.MemberIndexes.{AreNumbers, member_order}
+use Rattle.hierarchy.specs.steps.MemberKeys.{AreNumbers, member_order}
 use Rattle.hierarchy.specs.declared.asked.MemberKind.{MemberKind}
 use Rattle.hierarchy.specs.declared.asked.MemberKind.TheVariants as asked
 use Rattle.hierarchy.specs.declared.found_ahead.FoundAhead.{FoundAhead}
 use Rattle.hierarchy.specs.declared.member.DeclaredMember.{DeclaredMember}
-use Rattle.hierarchy.specs.declared.member_index.MemberKey.{MemberKey}
+use Rattle.hierarchy.specs.declared.member_key.MemberKey.{MemberKey}
 use Rattle.hierarchy.specs.declared.member.Field.{Field}
 use Rattle.hierarchy.specs.declared.member.Field.TheVariants as field
 use Rattle.hierarchy.specs.declared.member.Method.{Method}

@@ -6,7 +6,7 @@ use Rattle.hierarchy.specs.steps.Reaches.{AllTell, IsReachTable, reaches_of}
 use Rattle.hierarchy.specs.steps.Sweeps.{members_by}
 use Rattle.hierarchy.specs.steps.Tops.{AreTops}
 use Rattle.hierarchy.specs.declared.member.DeclaredMember.{DeclaredMember}
-use Rattle.hierarchy.specs.declared.member_index.MemberKey.{MemberKey}
+use Rattle.hierarchy.specs.declared.member_key.MemberKey.{MemberKey}
 use Rattle.hierarchy.specs.declared.member_table.MemberTable.{MemberTable}
 use Rattle.hierarchy.specs.declared.nearest.NearestMembers.{NearestMembers}
 use Rattle.hierarchy.specs.declared.nearest.Reaches.{Reaches}

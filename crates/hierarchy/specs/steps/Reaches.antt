@@ -6,8 +6,8 @@ use Rattle.std.specs.declared.alloc.Global.{Global}
 use Rattle.std.specs.BTreeMap.{get}
 use Rattle.loading.specs.Families.{Family, superclasses_in}
 use Rattle.built_in.specs.Keys.{NameAndType}
-use Rattle.hierarchy.specs.steps.MemberIndexes.{key_order, AreNumbers}
-use Rattle.hierarchy.specs.declared.member_index.MemberKey.{MemberKey}
+use Rattle.hierarchy.specs.steps.MemberKeys.{key_order, AreNumbers}
+use Rattle.hierarchy.specs.declared.member_key.MemberKey.{MemberKey}
 use Rattle.hierarchy.specs.declared.member.DeclaredMember.{DeclaredMember}
 use Rattle.hierarchy.specs.declared.reach_table.Reach.{Reach}
 use Rattle.hierarchy.specs.declared.reach_table.ReachTable.{ReachTable}

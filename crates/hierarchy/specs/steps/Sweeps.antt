@@ -3,19 +3,19 @@ use Rattle.std.specs.Prelude.{◌≡◌, ◌⊎◌, ℕ, List, [], Option, Some,
 use Rattle.loading.specs.Names.{is_interface}
 use Rattle.classfile.specs.ClassFile.{ClassFile}
 use Rattle.classfile.specs.declared.member.Member.{Member}
-use Rattle.loading.specs.Families.{Family, file_in}
+use Rattle.loading.specs.Families.{Family, IsFamily, file_in}
 use Rattle.hierarchy.specs.declared.wanted.Wanted.{Wanted}
 use Rattle.hierarchy.specs.declared.wanted.Wanted.TheVariants as wanted
 use Rattle.hierarchy.specs.steps.HierarchyTables.{wanted_in}
 use Rattle.built_in.specs.Keys.{NameAndType}
 use Rattle.hierarchy.specs.steps.MemberTables.{IsTableOf}
 use Rattle.hierarchy.specs.MemberLookup.{is_inherited}
-use Rattle.hierarchy.specs.steps.MemberIndexes.{AreNumbers}
+use Rattle.hierarchy.specs.steps.MemberKeys.{AreNumbers}
 use Rattle.hierarchy.specs.steps.Reaches.{EndsAt, IsReachTable, Members, StandsBehind, TellsUpTo, reaches_of}
-use Rattle.hierarchy.specs.declared.member_index.MemberKey.{MemberKey}
+use Rattle.hierarchy.specs.declared.member_key.MemberKey.{MemberKey}
 use Rattle.hierarchy.specs.declared.reach_table.ReachTable.{ReachTable}
 use Rattle.hierarchy.specs.declared.member_table.MemberTable.{MemberTable}
-use Rattle.hierarchy.specs.steps.DepthFirst.{ArePlaces, IsWholeOrder}
+use Rattle.hierarchy.specs.steps.DepthFirst.{ArePlaces, IsWholeOrder, MayFollow}
 use Rattle.hierarchy.specs.declared.sweep.ClassOrder.{ClassOrder}
 use Rattle.hierarchy.specs.declared.sweep.Sweep.{Sweep}
 
@@ -75,6 +75,17 @@ pub record Comes (s : Sweep) (table : ReachTable) (class place : ℕ) : Type 0 w
 -- what was noted at a place stays
 abbrev pub KeepsEnds : ℕ → ReachTable → ReachTable → Type 0
 KeepsEnds place old new = (key : MemberKey) → EndsAt (reaches_of old key) place → EndsAt (reaches_of new key) place
+
+-- More was noted at the place of the class that comes next, and it still comes next.
+pub record NotesMore (s : Sweep) (class place : ℕ) (old new : ReachTable) : Type 0 where
+  pub comes : Comes s new class place
+  pub keeps : KeepsEnds place old new
+
+-- A class comes next in a family, behind the one before it, if there is one.
+pub record ComesBehind (s : Sweep) (table : ReachTable) (before : Option ℕ) (class place : ℕ) : Type 0 where
+  pub family : IsFamily s.family.now
+  pub comes : Comes s table class place
+  pub may : MayFollow s.family.now before class
 
 -- a name and a descriptor were noted at a place
 abbrev pub IsNoted : Sweep → ℕ → ReachTable → NameAndType → Type 0

@@ -1,12 +1,14 @@
 -- Walks up a family, depth first (JVMS 5.4.3.2, 5.5).
-use Rattle.std.specs.Prelude.{◌≡◌, ℕ, ◌+◌, ◌-◌, ◌*◌, ◌⊎◌, ◌↔◌, List, [], ◌∷◌, ◌++◌, Option, length}
-use Rattle.std.specs.List.{Contains}
+use Rattle.std.specs.Prelude.{◌≡◌, ℕ, ◌+◌, ◌-◌, ◌*◌, ◌<◌, ◌≤◌, ◌⊎◌, ◌↔◌, List, [], ◌∷◌, ◌++◌, Option, length}
+use Rattle.std.specs.Prelude.{reverse}
+use Rattle.std.specs.List.{All, Contains}
 use Rattle.graph.specs.Seen.{AreDistinct}
 use Rattle.loading.specs.Families.{Family, IsFamily, IsAncestor, parents_in}
 use Rattle.hierarchy.specs.Search.{Search, firsts}
 use Rattle.hierarchy.specs.steps.Above.{or_else, first_with, IsAmongOrAbove}
 use Rattle.hierarchy.specs.declared.member.DeclaredMember.{DeclaredMember}
 use Rattle.hierarchy.specs.declared.walk.Visit.{Visit}
+use Rattle.hierarchy.specs.declared.walk.Walk.{Walk}
 use Rattle.hierarchy.specs.declared.walk.Visit.TheVariants.{Enter, Leave}
 
 -- Some classes in order, each after its parents, which stand there once for each class that they are parents of.
@@ -88,6 +90,18 @@ pub record Walking (family : Family) (from : List ℕ) (visits : List Visit) (en
   pub search : (own : ℕ → Option ℕ) (r : Option DeclaredMember) → Search family own (to_enter visits) r
       → Search family own from (or_else (first_with own entered) r)
 
+-- ---- its room
+
+-- A walk has room for all classes of a family.
+pub record HasRoomFor (family : Family) (walk : Walk) : Type 0 where
+  pub entered : length family ≤ walk.entered.limit
+  pub left : length family ≤ walk.left.limit
+
+-- It has as much room as before.
+pub record KeepsRoom (old new : Walk) : Type 0 where
+  pub entered : new.entered.limit ≡ old.entered.limit
+  pub left : new.left.limit ≡ old.left.limit
+
 -- ---- that it ends
 
 -- at least as many as the parents of any class
@@ -98,3 +112,13 @@ parents_count (c ∷ family) = length c.interfaces + 1 + parents_count family
 -- a bound for what a walk still does
 abbrev pub work_left : Family → ℕ → List ℕ → List Visit → ℕ
 work_left family limit entered visits = (limit - length entered) * (parents_count family + 2) + length visits
+
+-- what a walk is to do is of classes of a family
+abbrev pub IsWithin : Family → Walk → Type 0
+IsWithin family walk = All (λ visit. class_of visit < length family) (reverse walk.todo.items)
+
+-- A step of a walk stays within a family, and nothing that it plans takes longer than what it did.
+pub record StepsWithin (family : Family) (old new : Walk) : Type 0 where
+  pub within : IsWithin family new
+  pub nearer : work_left family new.entered.limit new.entered.items new.todo.items
+      ≤ work_left family old.entered.limit old.entered.items old.todo.items

@@ -4,7 +4,7 @@ use Rattle.loading.specs.Families.{Family}
 use Rattle.hierarchy.specs.MemberLookup.{IsDefault}
 use Rattle.hierarchy.specs.steps.Answers.{AreBitsOf, classes_with}
 use Rattle.hierarchy.specs.steps.Defaults.{AreFound}
-use Rattle.hierarchy.specs.declared.member_index.MemberKey.{MemberKey}
+use Rattle.hierarchy.specs.declared.member_key.MemberKey.{MemberKey}
 use Rattle.hierarchy.proofs.answers.with_all_defaults.Given as goal
 
 abbrev pub invariant-loop-bit : goal.invariant-loop-bit

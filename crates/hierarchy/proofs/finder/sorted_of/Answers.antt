@@ -15,5 +15,6 @@ loop-number-preserved c =
     (slice_get_read c.args.texts.now (length c.args.texts.now) i item refl (omega arith) c.index-texts-number.is) in
     subst (λ (l : List (List ℕ)). AreSorted l c.insert.new.self) (sym (taken_next all i item.items at))
     (sorted_with (take i all) item.items c.in_ok-copy.copy i c.loop-number.numbers c.insert.new.self
-    (c.in_ok-copy.ensures.items ∙ c.as_slice.ensures.value) (sym (length-take-le i all (omega (arith, count_of c.args.texts.now))))
+    (c.in_ok-copy.ensures.items ∙ c.as_slice.ensures.value)
+    (sym (length-take-le i all (omega (arith, count_of c.args.texts.now))))
     c.in_ok-insert.ensures.updates c.loop-number.invariant)

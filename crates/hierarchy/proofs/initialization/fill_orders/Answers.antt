@@ -9,10 +9,10 @@ loop-class-preserved c =
     let family = c.args.family.now in
     let rows = c.loop-class.rows.items in
     record {
-      entered = c.in_ok-row.ensures.entered ∙ c.loop-class.invariant.entered;
+      entered = c.in_ok-row.ensures.room.entered ∙ c.loop-class.invariant.entered;
       filled = filled_next (IsInitializationOrder family) family _ _ c.parents_first-order.result.now
           c.loop-class.class-index rows c.in_ok-row.row c.parents_first-order.ensures (omega arith)
-          c.in_ok-row.ensures.left c.loop-class.invariant.filled
+          c.in_ok-row.ensures.room.left c.loop-class.invariant.filled
           (subst (λ (n : ℕ). All (λ d. d < n) c.in_ok-row.row) (sym c.loop-class.invariant.filled.len)
           c.in_ok-row.ensures.within)
           c.in_ok-row.ensures.order;

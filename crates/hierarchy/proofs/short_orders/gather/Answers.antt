@@ -8,8 +8,7 @@ use Rattle.hierarchy.proofs.short_orders.gather.Goals as goal
 
 pub loop-interface-init : goal.loop-interface-init
 loop-interface-init c = record {
-  entered = c.forget.ensures.entered_limit;
-  left = c.forget.ensures.left_limit ∙ c.requires.left;
+  room = c.forget.ensures.room;
   once = rw c.forget.ensures.left refl;
   gathered = rw c.forget.ensures.left (gathers_none c.args.family.now);
 }
@@ -30,8 +29,10 @@ loop-interface-preserved c =
     (omega (arith, c.interfaces-interface-items.ensures.within k 0 (omega arith), c.requires.short.count))
     ∙ sym c.index-rows-interface.is ∙ c.in-Some.is in
     record {
-      entered = ap (λ s. s.limit) c.in_ok-leave_all.ensures.entered ∙ c.loop-interface.invariant.entered;
-      left = c.in_ok-leave_all.ensures.left_limit ∙ c.loop-interface.invariant.left;
+      room = record {
+        entered = ap (λ s. s.limit) c.in_ok-leave_all.ensures.entered ∙ c.loop-interface.invariant.room.entered;
+        left = c.in_ok-leave_all.ensures.left_limit ∙ c.loop-interface.invariant.room.left;
+      };
       once = added ∙ sym (ap firsts added ∙ firsts_twice (seen ++ list));
       gathered = subst (λ (xs : List ℕ). Gathers family xs new) (sym (take_more is k 0 (omega arith)))
           (gathers_more family (take k is) seen list new interface c.loop-interface.invariant.gathered

@@ -17,33 +17,29 @@ returns-then-not-branch-clause-walking c =
     (walk_again c.args.family.now from (reverse c.args.walk.now.todo.items) c.args.walk.now.entered.items
     c.args.walk.now.left.items c.args.class joins.0 w)
 
-pub returns-clause-within : goal.returns-clause-within
-returns-clause-within c =
-    on_ok_weaker c.plan_parents.result
-    (λ (planned : reverse c.plan_parents.new.todo.items
-    ≡ map Enter (parents_in c.args.family.now c.args.class) ++ reverse c.push.new.self.items).
-    rw (planned_after c.args.class c.args.walk.now.todo.items c.push.new.self.items _ _ c.in_ok-push.ensures.items
-    planned)
-    (planned_within c.args.family.now c.args.class (Leave c.args.class ∷ reverse c.args.walk.now.todo.items)
-    c.requires.parents
-    (All-cons (λ visit. class_of visit < length c.args.family.now) (Leave c.args.class)
-    (reverse c.args.walk.now.todo.items) c.requires.class c.requires.within)))
-    c.plan_parents.ensures
-
-pub returns-clause-nearer : goal.returns-clause-nearer
-returns-clause-nearer c =
-    let joins : Joins true c.args.walk.now.entered.items c.args.class c.add.new.self.items =
-    subst (λ (b : Bool). Joins b c.args.walk.now.entered.items c.args.class c.add.new.self.items) c.if-not-branch.false
+pub returns-clause-steps : goal.returns-clause-steps
+returns-clause-steps c =
+    let family = c.args.family.now in
+    let class = c.args.class in
+    let todo = c.args.walk.now.todo.items in
+    let joins : Joins true c.args.walk.now.entered.items class c.add.new.self.items =
+    subst (λ (b : Bool). Joins b c.args.walk.now.entered.items class c.add.new.self.items) c.if-not-branch.false
     c.in_ok-add.ensures.ok in
+    let after = λ (planned : reverse c.plan_parents.new.todo.items
+    ≡ map Enter (parents_in family class) ++ reverse c.push.new.self.items).
+    planned_after class todo c.push.new.self.items (reverse c.plan_parents.new.todo.items)
+    (map Enter (parents_in family class)) c.in_ok-push.ensures.items planned in
     on_ok_weaker c.plan_parents.result
     (λ (planned : reverse c.plan_parents.new.todo.items
-    ≡ map Enter (parents_in c.args.family.now c.args.class) ++ reverse c.push.new.self.items).
-    rw c.add.ensures.limit
-    (enter_nearer c.args.family.now c.args.walk.now.entered.limit c.args.class c.args.walk.now.entered.items
-    c.add.new.self.items c.args.walk.now.todo.items c.plan_parents.new.todo.items joins.1
-    (rw c.add.ensures.limit at c.add.ensures.small)
-    (planned_after c.args.class c.args.walk.now.todo.items c.push.new.self.items _ _ c.in_ok-push.ensures.items
-    planned)))
+    ≡ map Enter (parents_in family class) ++ reverse c.push.new.self.items). record {
+      within = rw (after planned) (planned_within family class (Leave class ∷ reverse todo) c.requires.parents
+          (All-cons (λ visit. class_of visit < length family) (Leave class) (reverse todo) c.requires.class
+          c.requires.within));
+      nearer = rw c.add.ensures.limit
+          (enter_nearer family c.args.walk.now.entered.limit class c.args.walk.now.entered.items
+          c.add.new.self.items todo c.plan_parents.new.todo.items joins.1
+          (rw c.add.ensures.limit at c.add.ensures.small) (after planned));
+    })
     c.plan_parents.ensures
 
 pub returns-clause-walking : goal.returns-clause-walking

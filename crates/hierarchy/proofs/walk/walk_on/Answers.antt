@@ -16,9 +16,11 @@ loop-visit-preserved c =
     let visits : reverse c.loop-visit.walk.todo.items ≡ c.in-Some.visit ∷ reverse c.pop.new.self.items =
     ap reverse c.in-Some.ensures.items ∙ reverse_push c.pop.new.self.items c.in-Some.visit in
     record {
-      entered = c.in_ok-step.ensures.entered ∙ c.loop-visit.invariant.entered;
-      left = c.in_ok-step.ensures.left ∙ c.loop-visit.invariant.left;
-      within = c.in_ok-step.ensures.within;
+      room = record {
+        entered = c.in_ok-step.ensures.room.entered ∙ c.loop-visit.invariant.room.entered;
+        left = c.in_ok-step.ensures.room.left ∙ c.loop-visit.invariant.room.left;
+      };
+      within = c.in_ok-step.ensures.steps.within;
       walking = λ from w. c.in_ok-step.ensures.walking from (rw visits at (c.loop-visit.invariant.walking from w));
     }
 

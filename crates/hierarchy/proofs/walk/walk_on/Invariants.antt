@@ -1,13 +1,11 @@
-use Rattle.std.proofs.Common.{◌≡◌, ℕ, List, ◌<◌, reverse, length}
-use Rattle.std.specs.List.{All}
-use Rattle.hierarchy.specs.steps.Walks.{Walking, class_of, work_left}
+use Rattle.std.proofs.Common.{ℕ, List, reverse}
+use Rattle.hierarchy.specs.steps.Walks.{IsWithin, KeepsRoom, Walking, work_left}
 use Rattle.hierarchy.proofs.walk.walk_on.Given as goal
 
 abbrev pub invariant-loop-visit : goal.invariant-loop-visit
 invariant-loop-visit l = record {
-  entered : l.walk.entered.limit ≡ l.fn.walk.entered.limit;
-  left : l.walk.left.limit ≡ l.fn.walk.left.limit;
-  within : All (λ visit. class_of visit < length l.family) (reverse l.walk.todo.items);
+  room : KeepsRoom l.fn.walk l.walk;
+  within : IsWithin l.family l.walk;
   walking : (from : List ℕ)
       → Walking l.family from (reverse l.fn.walk.todo.items) l.fn.walk.entered.items l.fn.walk.left.items
       → Walking l.family from (reverse l.walk.todo.items) l.walk.entered.items l.walk.left.items;

@@ -1,7 +1,7 @@
 use Rattle.std.proofs.Common.{Some, cond, ap, ◌∙◌}
 use Rattle.hierarchy.specs.steps.FoundAhead.{found_in}
-use Rattle.hierarchy.specs.declared.member_index.ClassMember.{ClassMember}
-use Rattle.hierarchy.proofs.MemberIndexesLemmas.{member_by_order}
+use Rattle.hierarchy.specs.declared.member_key.ClassMember.{ClassMember}
+use Rattle.hierarchy.proofs.MemberKeysLemmas.{member_by_order}
 use Rattle.hierarchy.proofs.found_ahead.FoundAhead.insert.Goals as goal
 
 pub returns : goal.returns

@@ -3,7 +3,7 @@ use Rattle.std.specs.List.{Contains}
 use Rattle.built_in.specs.Keys.{NameAndType}
 use Rattle.hierarchy.specs.steps.Declarations.{Grows, IsListed}
 use Rattle.hierarchy.specs.steps.HierarchyTables.{wanted_in}
-use Rattle.hierarchy.specs.steps.MemberIndexes.{AreNumbers}
+use Rattle.hierarchy.specs.steps.MemberKeys.{AreNumbers}
 use Rattle.hierarchy.specs.steps.Reaches.{classes_noted}
 use Rattle.hierarchy.proofs.hierarchy.Hierarchy.add_declarations.Given as goal
 

@@ -3,7 +3,7 @@ use Rattle.built_in.specs.Keys.{NameAndType}
 use Rattle.built_in.specs.declared.class_id.ClassId.TheVariants as class_ids
 use Rattle.hierarchy.specs.Resolution.{ResolvesMethod}
 use Rattle.hierarchy.specs.steps.FoundAhead.{given_method}
-use Rattle.hierarchy.specs.steps.MemberIndexes.{AreNumbers, IsLookup}
+use Rattle.hierarchy.specs.steps.MemberKeys.{AreNumbers, IsLookup}
 use Rattle.hierarchy.specs.steps.Sought.{sought_name}
 use Rattle.hierarchy.specs.declared.member.DeclaredMember.{DeclaredMember}
 use Rattle.hierarchy.proofs.FoundAheadLemmas.{one_more, one_name}
@@ -25,5 +25,5 @@ returns-in_ok-insert c =
     c.sought-sought.ensures.lookup in
     subst (λ (n : NameAndType). Resolves n answer.class member)
     (one_name c.args.self.now.texts sought name answer.key is numbers)
-    (c.settled_method.ensures member (c.requires.answer sought is) c.in-Some.is))
+    (c.answered_method.ensures member (c.requires.answer sought is) c.in-Some.is))
     c.in_ok-insert.ensures

@@ -1,6 +1,6 @@
 use Rattle.std.proofs.Common.{take}
 use Rattle.built_in.specs.Keys.{NameAndType}
-use Rattle.hierarchy.specs.steps.MemberIndexes.{IsLookup}
+use Rattle.hierarchy.specs.steps.MemberKeys.{IsLookup}
 use Rattle.hierarchy.specs.steps.Reaches.{classes_noted}
 use Rattle.hierarchy.specs.steps.Defaults.{AreFound, Among, IsFree, classes_of}
 use Rattle.hierarchy.proofs.hierarchy.Hierarchy.defaults.Given as goal

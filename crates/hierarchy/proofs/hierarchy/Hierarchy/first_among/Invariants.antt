@@ -2,7 +2,7 @@ use Rattle.std.proofs.Common.{take}
 use Rattle.built_in.specs.Keys.{NameAndType}
 use Rattle.graph.specs.Seen.{AreDistinct}
 use Rattle.hierarchy.specs.steps.Ancestors.{IsFirst}
-use Rattle.hierarchy.specs.steps.MemberIndexes.{IsLookup}
+use Rattle.hierarchy.specs.steps.MemberKeys.{IsLookup}
 use Rattle.hierarchy.specs.steps.HierarchyTables.{wanted_in}
 use Rattle.hierarchy.specs.steps.Reaches.{classes_noted}
 use Rattle.hierarchy.proofs.hierarchy.Hierarchy.first_among.Given as goal

@@ -3,7 +3,7 @@ use Rattle.std.specs.List.{Contains}
 use Rattle.std.proofs.lemmas.List.{take_all}
 use Rattle.hierarchy.specs.Resolution.{instance_method_in}
 use Rattle.built_in.specs.Keys.{NameAndType}
-use Rattle.hierarchy.specs.steps.MemberIndexes.{IsLookup}
+use Rattle.hierarchy.specs.steps.MemberKeys.{IsLookup}
 use Rattle.hierarchy.specs.steps.Reaches.{classes_noted}
 use Rattle.hierarchy.specs.declared.reach_table.Reach.{Reach}
 use Rattle.hierarchy.proofs.SelectableLemmas.{none_more, none_of, declared_is}

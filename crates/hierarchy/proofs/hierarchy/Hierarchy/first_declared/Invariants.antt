@@ -2,7 +2,7 @@ use Rattle.std.proofs.Common.{◌≡◌, ℕ, None, take}
 use Rattle.std.specs.List.{Contains}
 use Rattle.built_in.specs.Keys.{NameAndType}
 use Rattle.hierarchy.specs.Resolution.{instance_method_in}
-use Rattle.hierarchy.specs.steps.MemberIndexes.{IsLookup}
+use Rattle.hierarchy.specs.steps.MemberKeys.{IsLookup}
 use Rattle.hierarchy.specs.steps.Reaches.{classes_noted}
 use Rattle.hierarchy.proofs.hierarchy.Hierarchy.first_declared.Given as goal
 

@@ -1,9 +1,9 @@
 use Rattle.std.proofs.Common.{◌<◌, suc, Some, None, Option, length, sym, subst, arith}
 use Rattle.hierarchy.specs.Hierarchies.{NumberedFamily}
 use Rattle.hierarchy.specs.steps.HierarchyTables.{wanted_in}
-use Rattle.hierarchy.specs.steps.MemberIndexes.{IsLookup}
+use Rattle.hierarchy.specs.steps.MemberKeys.{IsLookup}
 use Rattle.hierarchy.specs.steps.Reaches.{Nearest}
-use Rattle.hierarchy.specs.declared.member_index.MemberKey.{MemberKey}
+use Rattle.hierarchy.specs.declared.member_key.MemberKey.{MemberKey}
 use Rattle.hierarchy.proofs.FamiliesChainLemmas.{height}
 use Rattle.hierarchy.proofs.UpClassesLemmas.{nearest_none, none_declared}
 use Rattle.hierarchy.proofs.hierarchy.Hierarchy.nearest.Goals as goal
@@ -27,6 +27,5 @@ returns c = λ name is.
     let are = subst (λ (k : Option MemberKey). IsLookup c.args.self.now.texts name k) c.in_ok-key.was is in
     subst (λ (n : NumberedFamily). IsLookup n.texts name (Some c.in_ok-key.field-0) → class < length n.family
     → Nearest n.family (wanted_in c.args.wanted n.family name) class c.nearest.result) c.self.view_is
-    (λ numbers small. c.nearest.ensures.nearest c.self.inside.family c.self.inside.table name c.self.invariant.nearest_fit
-    numbers
-    small) are c.requires
+    (λ numbers small. c.nearest.ensures.nearest c.self.inside.family c.self.inside.table name
+    c.self.invariant.nearest_fit numbers small) are c.requires

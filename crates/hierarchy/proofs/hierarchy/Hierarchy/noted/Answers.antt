@@ -2,9 +2,9 @@ use Rattle.std.proofs.Common.{◌≡◌, [], Some, None, Option, sym, ◌∙◌,
 use Rattle.std.specs.List.{Contains}
 use Rattle.hierarchy.specs.Hierarchies.{NumberedFamily}
 use Rattle.hierarchy.specs.steps.HierarchyTables.{wanted_in}
-use Rattle.hierarchy.specs.steps.MemberIndexes.{IsLookup}
+use Rattle.hierarchy.specs.steps.MemberKeys.{IsLookup}
 use Rattle.hierarchy.specs.steps.Reaches.{classes_noted}
-use Rattle.hierarchy.specs.declared.member_index.MemberKey.{MemberKey}
+use Rattle.hierarchy.specs.declared.member_key.MemberKey.{MemberKey}
 use Rattle.hierarchy.proofs.UpClassesLemmas.{none_declared}
 use Rattle.hierarchy.proofs.hierarchy.Hierarchy.noted.Goals as goal
 

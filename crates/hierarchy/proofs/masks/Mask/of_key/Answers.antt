@@ -1,7 +1,7 @@
 use Rattle.std.proofs.Common.{◌≡◌, ◌+◌, ◌↔◌, ◌⊎◌, ℕ, refl, sym, subst, arith, ◌∙◌}
 use Rattle.hierarchy.specs.steps.DeclarationBits.{Has, HasKey, IsAt, IsCoded}
 use Rattle.hierarchy.specs.declared.declarations.Declaration.{Declaration}
-use Rattle.hierarchy.specs.declared.member_index.MemberKey.{MemberKey}
+use Rattle.hierarchy.specs.declared.member_key.MemberKey.{MemberKey}
 use Rattle.hierarchy.proofs.AmongLemmas.{read_at}
 use Rattle.hierarchy.proofs.MaskLemmas.{bits_next, bits_past, lost_at}
 use Rattle.hierarchy.proofs.WordLemmas.{no_bit}

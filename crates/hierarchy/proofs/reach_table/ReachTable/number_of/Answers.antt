@@ -1,9 +1,9 @@
 use Rattle.std.proofs.Common.{◌≡◌, Some, None, cond, ap, ◌∙◌, rules}
 use Rattle.std.specs.BTreeMap.{get}
-use Rattle.hierarchy.specs.steps.MemberIndexes.{key_order}
+use Rattle.hierarchy.specs.steps.MemberKeys.{key_order}
 use Rattle.hierarchy.specs.steps.Reaches.{number_in}
-use Rattle.hierarchy.specs.declared.member_index.MemberKey.{MemberKey}
-use Rattle.hierarchy.proofs.MemberIndexesLemmas.{key_by_order}
+use Rattle.hierarchy.specs.declared.member_key.MemberKey.{MemberKey}
+use Rattle.hierarchy.proofs.MemberKeysLemmas.{key_by_order}
 use Rattle.hierarchy.proofs.ReachTableLemmas.{rows_kept, numbers_within, numbers_apart}
 use Rattle.hierarchy.proofs.reach_table.ReachTable.number_of.Goals as goal
 

@@ -8,9 +8,8 @@ use Rattle.hierarchy.proofs.sweep.Sweep.leave.Goals as goal
 
 pub loop-at-init : goal.loop-at-init
 loop-at-init c = record {
-  comes = c.requires.comes;
-  keeps = λ k ends. ends;
-  stands = below_first c.args.self.now.family.now c.args.before c.args.class c.requires.may;
+  notes = record { comes = c.requires.behind.comes; keeps = λ k ends. ends };
+  stands = below_first c.args.self.now.family.now c.args.before c.args.class c.requires.behind.may;
   left = λ name. inr (λ r near. near);
 }
 
@@ -37,7 +36,7 @@ returns-then-is_class-clause-left c = λ name.
 
 pub note_class-requires-clause-own : goal.note_class-requires-clause-own
 note_class-requires-clause-own c = inr (λ name. elim (c.requires.own name) [
-  | inl noted ↦ inl (λ q are. c.loop-at.invariant.keeps q (noted q are))
+  | inl noted ↦ inl (λ q are. c.loop-at.invariant.notes.keeps q (noted q are))
   | inr none ↦ inr none
 ])
 
@@ -45,7 +44,8 @@ pub loop-at-smaller : goal.loop-at-smaller
 loop-at-smaller c =
     let family = c.args.self.now.family.now in
     subst (λ (o : Option ℕ). height_from family c.given_superclass-at.result < height_from family o) (sym c.in-Some.is)
-    (falls_up family c.in-Some.left c.given_superclass-at.result c.requires.family c.given_superclass-at.ensures.value)
+    (falls_up family c.in-Some.left c.given_superclass-at.result c.requires.behind.family
+    c.given_superclass-at.ensures.value)
 
 pub loop-at-preserved : goal.loop-at-preserved
 loop-at-preserved c =
@@ -58,14 +58,13 @@ loop-at-preserved c =
     let clash : false ≡ true = c.if-is_class.ensures.1
     (only_one c.given_superclass-to.result c.in-Some.left (sym c.given_superclass-to.ensures.value ∙ has)) in cc in
     record {
-      comes = e.comes;
-      keeps = λ q ends. e.keeps q (before.keeps q ends);
+      notes = record { comes = e.notes.comes; keeps = λ q ends. e.notes.keeps q (before.notes.keeps q ends) };
       stands = below_next family c.args.class c.in-Some.left c.loop-at.at up c.in-Some.is
           c.given_superclass-at.ensures.value other before.stands;
       left = λ name.
           let own = own_in s name in
           elim (before.left name) [
-            | inl noted ↦ inl (λ q are. e.keeps q (noted q are))
+            | inl noted ↦ inl (λ q are. e.notes.keeps q (noted q are))
             | inr pass ↦ elim (e.noted name) [
               | inl noted ↦ inl noted
               | inr none ↦ inr (λ r near. passes_up family own c.in-Some.left r up none

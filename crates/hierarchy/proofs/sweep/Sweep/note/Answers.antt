@@ -1,9 +1,9 @@
 use Rattle.std.proofs.Common.{◌≡◌, ℕ, List, inl, inr, sym, subst}
 use Rattle.built_in.specs.Keys.{NameAndType}
-use Rattle.hierarchy.specs.steps.MemberIndexes.{AreNumbers}
+use Rattle.hierarchy.specs.steps.MemberKeys.{AreNumbers}
 use Rattle.hierarchy.specs.steps.Reaches.{Tells, reaches_of}
-use Rattle.hierarchy.specs.steps.Sweeps.{came, own_in}
-use Rattle.hierarchy.specs.declared.member_index.MemberKey.{MemberKey}
+use Rattle.hierarchy.specs.steps.Sweeps.{Comes, came, own_in}
+use Rattle.hierarchy.specs.declared.member_key.MemberKey.{MemberKey}
 use Rattle.hierarchy.specs.declared.reach_table.Reach.{Reach}
 use Rattle.hierarchy.proofs.ReachesLemmas.{ends_by_key, ends_of_key, tells_by_key}
 use Rattle.hierarchy.proofs.sweep.Sweep.note.Goals as goal
@@ -11,8 +11,8 @@ use Rattle.hierarchy.proofs.sweep.Sweep.note.Goals as goal
 pub returns-then-ends_at-clause-noted : goal.returns-then-ends_at-clause-noted
 returns-then-ends_at-clause-noted c = c.ends_at.ensures.0 c.if-ends_at.true
 
-pub returns-clause-comes : goal.returns-clause-comes
-returns-clause-comes c =
+pub returns-clause-notes : goal.returns-clause-notes
+returns-clause-notes c =
     let s = c.args.self.now in
     let key = c.args.key in
     let old = c.args.rows.now in
@@ -23,7 +23,7 @@ returns-clause-comes c =
       | inl noted ↦ absurd (let yes = c.ends_at.ensures.1 (noted key are) in cc (yes, c.if-ends_at.false))
       | inr is ↦ is
     ] in
-    record {
+    let next : Comes s c.push.new.self c.args.class c.args.place = record {
       fits = comes.fits;
       rows = c.in_ok-push.ensures.table;
       stands = comes.stands;
@@ -34,13 +34,13 @@ returns-clause-comes c =
           (subst (λ (q : MemberKey). Tells s.family.now (own_in s name) classes (reaches_of old q)) (sym equal) tells)
           (own name (subst (λ (q : MemberKey). AreNumbers s.table.now.texts name q) (sym equal) are)))
           (comes.tell k name are);
-    }
-
-pub returns-clause-keeps : goal.returns-clause-keeps
-returns-clause-keeps c = λ k ends.
+    } in
     let reach : Reach = record { from = c.args.place; nearest = c.nearest-nearest.result } in
-    ends_by_key c.args.key k (reaches_of c.args.rows.now k) (reaches_of c.push.new.self k) reach
-    (c.in_ok-push.ensures.rows k) ends
+    record {
+      comes = next;
+      keeps = λ k ends. ends_by_key key k (reaches_of old k) (reaches_of c.push.new.self k) reach
+          (c.in_ok-push.ensures.rows k) ends;
+    }
 
 pub returns-clause-noted : goal.returns-clause-noted
 returns-clause-noted c =

@@ -4,11 +4,11 @@ use Rattle.std.proofs.lemmas.Bool.{cases_lt}
 use Rattle.std.proofs.lemmas.Option.{slice_get_read, slice_get_within}
 use Rattle.classfile.specs.declared.member.Member.{Member}
 use Rattle.built_in.specs.Keys.{NameAndType}
-use Rattle.hierarchy.specs.declared.member_index.MemberKey.{MemberKey}
-use Rattle.hierarchy.specs.steps.MemberIndexes.{AreNumbers}
+use Rattle.hierarchy.specs.declared.member_key.MemberKey.{MemberKey}
+use Rattle.hierarchy.specs.steps.MemberKeys.{AreNumbers}
 use Rattle.hierarchy.specs.steps.Reaches.{EndsAt, reaches_of}
 use Rattle.hierarchy.specs.steps.Sweeps.{IsNoted, counted, own_in}
-use Rattle.hierarchy.proofs.MemberIndexesLemmas.{one_key, one_number}
+use Rattle.hierarchy.proofs.MemberKeysLemmas.{one_key, one_number}
 use Rattle.hierarchy.proofs.SweepsLemmas.{counts_or_before, declares, has_file, named_by, own_or_other}
 use Rattle.hierarchy.proofs.sweep.Sweep.note_class.Goals as goal
 
@@ -42,7 +42,7 @@ note-requires-clause-own c = λ name are.
       | inr other ↦ elim c.requires.own [
         | inl same ↦ absurd (other.0 same)
         | inr noted ↦ elim (noted name) [
-          | inl was ↦ inl (λ q named. before.keeps q (was q named))
+          | inl was ↦ inl (λ q named. before.notes.keeps q (was q named))
           | inr none ↦ inr (none ∙ sym (c.own_place-own.ensures ∙ ap place other.1))
         ]
       ]
@@ -60,17 +60,16 @@ loop-index-preserved c =
     let at : slice_get ms k ≡ Some item =
     slice_get_read ms (length ms) k item refl (omega arith) c.index-members-index.is in
     record {
-      comes = e.comes;
-      keeps = λ q ends. e.keeps q (before.keeps q ends);
+      notes = record { comes = e.notes.comes; keeps = λ q ends. e.notes.keeps q (before.notes.keeps q ends) };
       noted = λ f i m numbers small there q are. elim (cases_lt i k) [
-        | inl less ↦ e.keeps q (before.noted f i m numbers less there q are)
+        | inl less ↦ e.notes.keeps q (before.noted f i m numbers less there q are)
         | inr more ↦ (let place : i ≡ k = omega (arith, more, small) in
             let both : Some item ≡ Some m = sym at ∙ ap (slice_get ms) (sym place) ∙ there in
             let same : item ≡ m = cc in
             let named = subst (λ (x : Member). AreNumbers texts (named_by f x) c.key-key.result) same
             (c.key-key.ensures texts f numbers) in
             subst (λ (x : MemberKey). EndsAt (reaches_of c.note.new.rows x) c.args.place)
-            (one_number texts (named_by f m) c.key-key.result q e.comes.fits.distinct named are) e.noted)
+            (one_number texts (named_by f m) c.key-key.result q e.notes.comes.fits.distinct named are) e.noted)
       ];
     }
 

@@ -5,13 +5,8 @@ use Rattle.hierarchy.specs.steps.Sweeps.{members_of}
 use Rattle.hierarchy.proofs.OrderWalkLemmas.{HasAllAbove, all_above_next, stands_behind, last_next, next_may}
 use Rattle.hierarchy.proofs.sweep.Sweep.note_order.Goals as goal
 
-pub enter-requires-clause-may : goal.enter-requires-clause-may
-enter-requires-clause-may c =
-    (next_may c.args.self.now.family.now c.loop-place.before c.args.self.now.order.now c.loop-place.place (omega arith)
-    c.loop-place.invariant.ordered).0
-
-pub enter-requires-clause-comes : goal.enter-requires-clause-comes
-enter-requires-clause-comes c =
+pub enter-requires-clause-behind : goal.enter-requires-clause-behind
+enter-requires-clause-behind c =
     let s = c.args.self.now in
     let may = next_may s.family.now c.loop-place.before s.order.now c.loop-place.place (omega arith)
     c.loop-place.invariant.ordered in
@@ -19,10 +14,14 @@ enter-requires-clause-comes c =
     (get_or s.order.now c.loop-place.place 0) c.loop-place.before (omega arith) c.requires.once c.requires.places
     c.loop-place.invariant.all may.0 c.loop-place.invariant.last in
     record {
-      fits = c.requires.fits;
-      rows = c.loop-place.invariant.rows;
-      stands = stands;
-      tell = λ k name are. inl (c.loop-place.invariant.tell k name are);
+      family = c.requires.family;
+      comes = record {
+        fits = c.requires.fits;
+        rows = c.loop-place.invariant.rows;
+        stands = stands;
+        tell = λ k name are. inl (c.loop-place.invariant.tell k name are);
+      };
+      may = may.0;
     }
 
 pub loop-place-preserved : goal.loop-place-preserved
