@@ -35,15 +35,14 @@ same_id : {family : Family} {name : List ℕ} {x y : ClassId} → IsFamily famil
     → StandsFor family name (Some y) → x ≡ y
 same_id {family} {name} {x} {y} fits h g = same_Some x y (one_class family fits name (Some x) (Some y) h g)
 
-no_found_field : {family : Family} {name : List ℕ} {key : NameAndType} {x y : ClassId} {m : Field} → IsFamily family
-    → StandsFor family name (Some x) → ResolvesField family key x None → StandsFor family name (Some y)
-    → ResolvesField family key y (Some m) → ⊥
-no_found_field {family} {name} {key} {x} {y} {m} fits s none t has =
-    let same : x ≡ y = same_id fits s t in
-    let other : ResolvesField family key y None =
-    subst (λ (z : ClassId). ResolvesField family key z None) same none in
-    let e : None ≡ Some m = same_field other has in
-    cc
+-- what the classes that a name stands for resolve to is one answer
+one_answer : {A : Type 0} {family : Family} {name : List ℕ} {x y : ClassId} {r s : Option A}
+    (Resolves : ClassId → Option A → Type 0) → (Resolves y r → Resolves y s → r ≡ s) → IsFamily family
+    → StandsFor family name (Some x) → Resolves x r → StandsFor family name (Some y) → Resolves y s → r ≡ s
+one_answer {r = r} Resolves same fits s p t q = same (subst (λ (z : ClassId). Resolves z r) (same_id fits s t) p) q
+
+found_or_not : {A : Type 0} {m : A} → None ≡ Some m → ⊥
+found_or_not e = cc
 
 one_field : {family : Family} {name : List ℕ} {key : NameAndType} {a b : Result Field Unresolved} → IsFamily family
     → FindsField family name key a → FindsField family name key b → a ≡ b
@@ -52,30 +51,18 @@ one_field fits (FindsField.unknown s) (FindsField.missing t p) = refl
 one_field fits (FindsField.unknown s) (FindsField.found {x = y} t p) = absurd (s y t)
 one_field fits (FindsField.missing s p) (FindsField.unknown t) = refl
 one_field fits (FindsField.missing s p) (FindsField.missing t q) = refl
-one_field fits (FindsField.missing s p) (FindsField.found t q) = absurd (no_found_field fits s p t q)
+one_field {family} {key = key} fits (FindsField.missing s p) (FindsField.found t q) =
+    absurd (found_or_not (one_answer (ResolvesField family key) same_field fits s p t q))
 one_field fits (FindsField.found {x} s p) (FindsField.unknown t) = absurd (t x s)
-one_field fits (FindsField.found s p) (FindsField.missing t q) = absurd (no_found_field fits t q s p)
+one_field {family} {key = key} fits (FindsField.found s p) (FindsField.missing t q) =
+    absurd (found_or_not (one_answer (ResolvesField family key) same_field fits t q s p))
 one_field {family} {key = key} fits (FindsField.found {x} {m} s p) (FindsField.found {x = y} {m = n} t q) =
-    let same : x ≡ y = same_id fits s t in
-    let other : ResolvesField family key y (Some m) =
-    subst (λ (z : ClassId). ResolvesField family key z (Some m)) same p in
-    let e : Some m ≡ Some n = same_field other q in
-    ap Ok (same_Some m n e)
+    ap Ok (same_Some m n (one_answer (ResolvesField family key) same_field fits s p t q))
 
 no_other_kind : {family : Family} {name : List ℕ} {x y : ClassId} (wants : Bool) → IsFamily family
     → StandsFor family name (Some x) → (is_interface_id family x ≡ wants → ⊥) → StandsFor family name (Some y)
     → is_interface_id family y ≡ wants → ⊥
 no_other_kind {family} wants fits s off t on = off (ap (is_interface_id family) (same_id fits s t) ∙ on)
-
-no_found_method : {family : Family} {name : List ℕ} {key : NameAndType} {x y : ClassId} {m : Method} → IsFamily family
-    → StandsFor family name (Some x) → ResolvesMethod family key x None → StandsFor family name (Some y)
-    → ResolvesMethod family key y (Some m) → ⊥
-no_found_method {family} {name} {key} {x} {y} {m} fits s none t has =
-    let same : x ≡ y = same_id fits s t in
-    let other : ResolvesMethod family key y None =
-    subst (λ (z : ClassId). ResolvesMethod family key z None) same none in
-    let e : None ≡ Some m = same_method other has in
-    cc
 
 one_method : {family : Family} {owner : _} {name : List ℕ} {key : NameAndType}
     {a b : Result Method Unresolved} → IsFamily family → FindsMethod family owner name key a
@@ -94,17 +81,15 @@ one_method fits (FindsMethod.missing s on p) (FindsMethod.unknown t) = refl
 one_method {owner = owner} fits (FindsMethod.missing s on p) (FindsMethod.incompatible t off) =
     absurd (no_other_kind (wants_interface owner) fits t off s on)
 one_method fits (FindsMethod.missing s on p) (FindsMethod.missing t also q) = refl
-one_method fits (FindsMethod.missing s on p) (FindsMethod.found t also q) = absurd (no_found_method fits s p t q)
+one_method {family} {key = key} fits (FindsMethod.missing s on p) (FindsMethod.found t also q) =
+    absurd (found_or_not (one_answer (ResolvesMethod family key) same_method fits s p t q))
 one_method fits (FindsMethod.found {x} s on p) (FindsMethod.unknown t) = absurd (t x s)
 one_method {owner = owner} fits (FindsMethod.found s on p) (FindsMethod.incompatible t off) =
     absurd (no_other_kind (wants_interface owner) fits t off s on)
-one_method fits (FindsMethod.found s on p) (FindsMethod.missing t also q) = absurd (no_found_method fits t q s p)
+one_method {family} {key = key} fits (FindsMethod.found s on p) (FindsMethod.missing t also q) =
+    absurd (found_or_not (one_answer (ResolvesMethod family key) same_method fits t q s p))
 one_method {family} {key = key} fits (FindsMethod.found {x} {m} s on p) (FindsMethod.found {x = y} {m = n} t also q) =
-    let same : x ≡ y = same_id fits s t in
-    let other : ResolvesMethod family key y (Some m) =
-    subst (λ (z : ClassId). ResolvesMethod family key z (Some m)) same p in
-    let e : Some m ≡ Some n = same_method other q in
-    ap Ok (same_Some m n e)
+    ap Ok (same_Some m n (one_answer (ResolvesMethod family key) same_method fits s p t q))
 
 -- ---- one constant
 

@@ -27,7 +27,7 @@ pub fn superclasses(alloc: Global, program: &Program, class: &str) -> Result<Str
         return no_class(alloc);
     };
     let mut text = String::new(alloc);
-    for number in program.supers(class) {
+    for number in program.superclasses(class) {
         add_name(alloc, &mut text, program, number)?;
     }
     or_nothing(text)

@@ -12,7 +12,7 @@ use Rattle.std.proofs.lemmas.Option.{get_or_from_slice_get, slice_get_past, slic
 use Rattle.classfile.specs.ClassFile.{ClassFile}
 use Rattle.classfile.specs.declared.member.Member.{Member}
 use Rattle.loading.specs.Families.{Family, file_in, file_of}
-use Rattle.loading.proofs.PlaceLemmas.{kept_at, last_at}
+use Rattle.loading.proofs.PlaceLemmas.{last_at}
 use Rattle.program.specs.InstanceFields.{is_instance_field, kind_of, own_kinds}
 use Rattle.program.specs.InstanceFields.{slots_before, slot_after, slot_in, slot_of}
 use Rattle.program.specs.steps.Slots.{AreFieldSlots, field_slot_in, AreFieldSlotsOf}
@@ -59,17 +59,6 @@ room_for f i m small is =
 -- how many slots stand before a field
 abbrev pub passed : ClassFile → ℕ → ℕ → ℕ
 passed f first k = first + count_by (is_instance_field f) (take k f.fields)
-
-pub field_slots_next : (f : ClassFile) (first : ℕ) (slots new : List ℕ) (i before : ℕ) → length slots ≡ i
-    → before ≡ passed f first i → ((k : ℕ) → k < i → slice_get slots k ≡ Some (passed f first k))
-    → new ≡ slots ++ before ∷ [] → (k : ℕ) → k < i + 1 → slice_get new k ≡ Some (passed f first k)
-field_slots_next f first slots new i before count now was e k small = elim (cases_eq k i) [
-  | inl last ↦ (let at : k ≡ length slots = last ∙ sym count in
-      ap (λ (xs : List ℕ). slice_get xs k) e ∙ ap (slice_get (slots ++ before ∷ [])) at
-      ∙ last_at slots before ∙ ap Some (now ∙ ap (passed f first) (sym last)))
-  | inr other ↦ ap (λ (xs : List ℕ). slice_get xs k) e
-      ∙ kept_at slots before (passed f first k) k (was k (omega arith))
-]
 
 pub field_slots_all : (f : ClassFile) (first : ℕ) (slots : List ℕ) → length slots ≡ length f.fields
     → ((k : ℕ) → k < length f.fields → slice_get slots k ≡ Some (passed f first k)) → AreFieldSlots first f slots

@@ -10,11 +10,11 @@ pub mod NotedLemmas
 pub mod AheadLemmas
 pub mod SlotsLemmas
 pub mod FieldSlotsLemmas
-pub mod ZeroSlotsLemmas
-pub mod FieldKindsLemmas
+pub mod EachSlotLemmas
 pub mod KeptLemmas
 pub mod SlotLawsLemmas
 pub mod CountsLemmas
+pub mod CountedFieldsLemmas
 pub mod AddedStringsLemmas
 pub mod SparseLemmas
 pub mod KeptConstantsLemmas

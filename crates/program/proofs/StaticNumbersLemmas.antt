@@ -1,30 +1,12 @@
 -- The numbers of static fields.
-use Rattle.std.proofs.Common.{◌≡◌, ℕ, zero, suc, ◌+◌, ◌<◌, List, [], ◌∷◌, ◌++◌, length, Some, slice_get, sym, ap, ◌∙◌}
-use Rattle.std.proofs.Common.{subst, inl, inr}
-use Rattle.std.proofs.Common.{arith}
+use Rattle.std.proofs.Common.{◌≡◌, ℕ, zero, suc, ◌<◌, List, [], ◌∷◌, length, Some, subst}
 use Rattle.std.specs.List.{AllZip}
-use Rattle.std.proofs.lemmas.Bool.{cases_eq}
 use Rattle.std.proofs.lemmas.Option.{get_or_from_slice_get}
 use Rattle.classfile.specs.ClassFile.{ClassFile}
 use Rattle.loading.specs.declared.given.GivenClass.{GivenClass}
 use Rattle.loading.specs.Families.{Family, file_in}
 use Rattle.program.specs.Fields.{static_number_of}
 use Rattle.program.specs.steps.StaticNumbers.{static_number_in, AreStaticNumbers}
-use Rattle.loading.proofs.PlaceLemmas.{kept_at, last_at}
-
--- one more field has its number
-pub static_numbers_next : (f : ClassFile) (numbers new : List ℕ) (i before : ℕ) → length numbers ≡ i
-    → before ≡ static_number_of f i
-    → ((k : ℕ) → k < i → slice_get numbers k ≡ Some (static_number_of f k)) → new ≡ numbers ++ before ∷ [] → (k : ℕ)
-    → k < i + 1
-    → slice_get new k ≡ Some (static_number_of f k)
-static_numbers_next f numbers new i before count here was e k small = elim (cases_eq k i) [
-  | inl same ↦ (let at : k ≡ length numbers = same ∙ sym count in
-      ap (λ (xs : List ℕ). slice_get xs k) e ∙ ap (slice_get (numbers ++ before ∷ [])) at
-      ∙ last_at numbers before ∙ ap Some (here ∙ ap (static_number_of f) (sym same)))
-  | inr other ↦ ap (λ (xs : List ℕ). slice_get xs k) e
-      ∙ kept_at numbers before (static_number_of f k) k (was k (omega arith))
-]
 
 -- of each of these classes the fields have their numbers
 abbrev pub HaveStaticNumbers : List GivenClass → List (List ℕ) → Type 0

@@ -1,5 +1,5 @@
 pub mod Arrays
-pub mod CalledMethods
+pub mod MemberFlags
 pub mod References
 pub mod RuntimePool
 pub mod Tables

@@ -1,12 +1,11 @@
 //! What a program answers about the parents and the members of its classes (JVMS 4.1, 5.4.3; 6.5, invokevirtual and
 //! invokespecial).
 
-ghost use Rattle.std.specs.Prelude.{◌≡◌, ◌↔◌, ◌⊎◌, ℕ, OnOk};
-ghost use Rattle.std.specs.List.{Contains};
+ghost use Rattle.std.specs.Prelude.{◌≡◌, ◌↔◌, ℕ, OnOk};
 ghost use Rattle.hierarchy.specs.Initialization.{AreSuperclasses};
 ghost use Rattle.program.specs.References.{ResolvesFieldOf, ResolvesMethodOf};
 ghost use Rattle.hierarchy.specs.Resolution.{Selects};
-ghost use Rattle.hierarchy.specs.Selectable.{IsSelectable, IsAmong, IsNamedLike};
+ghost use Rattle.hierarchy.specs.Selectable.{AddsNamedLike, IsSelectable, IsAmong};
 ghost use Rattle.hierarchy.specs.Selection.{selected, special, special_start};
 ghost use Rattle.hierarchy.specs.Subtypes.{is_below};
 ghost use Rattle.hierarchy.specs.Initialization.{given_superclasses};
@@ -25,7 +24,7 @@ use std::alloc::AllocError;
 
 impl Program {
     /// The given superclasses of a class, the nearest first. None for a number of no class.
-    pub fn supers(&self, class: u32) -> Superclasses<'_>
+    pub fn superclasses(&self, class: u32) -> Superclasses<'_>
         ensures { AreSuperclasses self.now.family class result }
     {
         self.hierarchy.superclasses(class)
@@ -69,7 +68,7 @@ impl Program {
         ensures { result ≡ list_any (λ d. d == other) (given_superclasses self.now.family class) }
     {
         let _classes = self.family().classes();
-        self.supers(class).any(|above| above == other)
+        self.superclasses(class).any(|above| above == other)
     }
 
     /// Whether objects of the first class have the instance fields of the second: it is that class, or one of its
@@ -107,9 +106,7 @@ impl Program {
         member: DeclaredMember,
         methods: &mut Vec<DeclaredMember>,
     ) -> Result<(), AllocError>
-        ensures { OnOk result ((d k : ℕ) → Contains methods.new.items (record { class = d; index = k })
-            ↔ (Contains methods.old.items (record { class = d; index = k })
-            ⊎ IsNamedLike self.now.family member d k)) }
+        ensures { OnOk result (AddsNamedLike self.now.family member methods.old.items methods.new.items) }
     {
         self.hierarchy.add_named_like(member, methods)
     }

@@ -33,7 +33,7 @@ use Rattle.program.specs.declared.runtime_constant.RuntimeConstant.{RuntimeConst
 use Rattle.program.specs.declared.runtime_constant.RuntimeConstant.TheVariants as runtime
 use Rattle.program.specs.declared.signature.Signature.{Signature}
 use Rattle.program.specs.Arrays.{array_of}
-use Rattle.program.specs.CalledMethods.{is_static_method}
+use Rattle.program.specs.MemberFlags.{is_static_method}
 use Rattle.program.specs.InstanceFields.{has_instances, is_instantiable_in}
 use Rattle.program.specs.Programs.{IsProgram}
 use Rattle.program.specs.Tables.{Tables, constant_at, signature_at, instruction_at, implementation_at}

@@ -20,7 +20,7 @@ use Rattle.program.specs.declared.runtime_constant.RuntimeConstant.{RuntimeConst
 use Rattle.program.specs.declared.runtime_constant.RuntimeConstant.TheVariants as runtime
 use Rattle.program.specs.declared.signature.Signature.{Signature}
 use Rattle.program.specs.Fields.{has_value}
-use Rattle.program.specs.CalledMethods.{is_final_field}
+use Rattle.program.specs.MemberFlags.{is_final_field}
 use Rattle.program.specs.Tables.{Tables, constant_at, signature_at, instruction_at}
 use Rattle.machine.specs.CallReferences.{of_class, of_interface, of_either, has_values}
 use Rattle.machine.specs.Operations.{Operation, GetStatic, PutStatic, OnCall, OnObject, Refused, operation_of}

@@ -1,9 +1,8 @@
-use Rattle.std.proofs.Common.{◌≡◌, ◌<◌, Option, ℕ, ◌++◌, length, reverse, sym, ap, subst, ◌∙◌, append-nil}
+use Rattle.std.proofs.Common.{refl, sym, subst, ◌∙◌, append-nil}
 use Rattle.program.specs.InstanceFields.{slots_of}
 use Rattle.program.specs.steps.Slots.{IsChain, slots_if}
 use Rattle.program.proofs.SlotsLemmas.{added_at}
-use Rattle.program.proofs.ZeroSlotsLemmas.{fewer_left}
-use Rattle.program.proofs.FieldKindsLemmas.{class_kinds_next}
+use Rattle.program.proofs.EachSlotLemmas.{class_next, fewer_left}
 use Rattle.program.proofs.field_kinds.add_kinds.Goals as goal
 
 pub loop-next-init : goal.loop-next-init
@@ -21,31 +20,20 @@ loop-next-init c =
 pub loop-next-preserved : goal.loop-next-preserved
 loop-next-preserved c =
     let family = c.args.family.now in
-    let class = c.args.class in
-    let old = c.loop-next.kinds.items in
     record {
-      kinds = class_kinds_next family c.classes-classes.ensures.fits c.classes-classes.ensures.within
-          c.in-Some.adding c.above-next.result.nearest c.added.result.now old c.add_kinds_of.new.kinds.items
-          (slots_of family class) c.above-next.ensures.nearest
+      kinds = class_next family c.classes-classes.ensures.fits c.classes-classes.ensures.within c.in-Some.adding
+          (λ kinds. kinds) (λ front back. refl) c.loop-next.next c.above-next.result.nearest c.added.result.now
+          c.loop-next.kinds.items c.add_kinds_of.new.kinds.items (slots_of family c.args.class) c.in-Some.is
+          c.above-next.ensures.nearest
           (c.added.ensures ∙ added_at family c.args.tables.now.added c.requires.tables.added c.in-Some.adding)
-          c.in_ok-add_kinds_of.ensures
-          (subst (λ (o : Option ℕ). slots_of family class
-          ≡ slots_if family o ++ reverse old)
-          c.in-Some.is c.loop-next.invariant.kinds);
+          c.in_ok-add_kinds_of.ensures c.loop-next.invariant.kinds;
       adds = c.above-next.ensures.adds;
     }
 
 pub loop-next-smaller : goal.loop-next-smaller
 loop-next-smaller c =
-    let family = c.args.family.now in
-    let next = c.above-next.result.nearest in
-    subst (λ (o : Option ℕ). length (slots_if family next) < length (slots_if family o)) (sym c.in-Some.is)
-    (fewer_left family c.classes-classes.ensures.fits c.classes-classes.ensures.within c.in-Some.adding next
-    c.above-next.ensures.nearest (c.loop-next.invariant.adds c.in-Some.adding c.in-Some.is))
+    fewer_left c.args.family.now c.classes-classes.ensures.fits c.classes-classes.ensures.within c.in-Some.adding
+    c.loop-next.next c.above-next.result.nearest c.in-Some.is c.above-next.ensures.nearest c.loop-next.invariant.adds
 
 pub returns : goal.returns
-returns c =
-    let family = c.args.family.now in
-    let class = c.args.class in
-    sym (subst (λ (o : Option ℕ). slots_of family class
-    ≡ slots_if family o ++ reverse c.loop-next.kinds.items) c.in_default.is c.loop-next.invariant.kinds)
+returns c = sym (rw c.in_default.is at c.loop-next.invariant.kinds)

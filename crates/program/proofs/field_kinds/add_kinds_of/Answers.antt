@@ -1,6 +1,6 @@
 use Rattle.std.proofs.Common.{◌≡◌, ℕ, ◌++◌, drop, refl, reverse, subst, arith}
 use Rattle.std.proofs.Math.Seq.{drop-length}
-use Rattle.program.proofs.FieldKindsLemmas.{kinds_next}
+use Rattle.program.proofs.EachSlotLemmas.{slot_next}
 use Rattle.program.proofs.field_kinds.add_kinds_of.Goals as goal
 
 pub loop-index-init : goal.loop-index-init
@@ -8,8 +8,9 @@ loop-index-init c = rw drop-length refl
 
 pub loop-index-preserved : goal.loop-index-preserved
 loop-index-preserved c =
-    kinds_next c.args.added.now c.loop-index.index _ c.loop-index.kinds.items c.push.new.self.items
-    (reverse c.args.kinds.now.items) (omega arith) (omega arith) c.in_ok-push.ensures.items
+    slot_next (λ kinds. kinds) (λ kind. kind) (λ kind kinds. refl) c.args.added.now c.loop-index.index _ _
+    c.loop-index.kinds.items c.push.new.self.items (reverse c.args.kinds.now.items) (omega arith) (omega arith) refl
+    c.in_ok-push.ensures.items
     c.loop-index.invariant
 
 pub returns : goal.returns

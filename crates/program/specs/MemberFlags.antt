@@ -1,4 +1,4 @@
--- What is asked of a member that was resolved (JVMS 6.5, getstatic, invokestatic, invokevirtual and invokespecial).
+-- Flags of members that were resolved (JVMS 6.5, getstatic, invokestatic, invokevirtual and invokespecial).
 use Rattle.std.specs.Prelude.{ℕ, Bool, Option, None, Some, slice_get, false}
 use Rattle.classfile.specs.ClassFile.{ClassFile}
 use Rattle.loading.specs.Families.{Family, file_in}

@@ -1,7 +1,7 @@
-//! What is asked of a member that was resolved (JVMS 6.5, getstatic, invokestatic, invokevirtual and invokespecial).
+//! Flags of members that were resolved (JVMS 6.5, getstatic, invokestatic, invokevirtual and invokespecial).
 
 ghost use Rattle.std.specs.Prelude.{◌≡◌};
-ghost use Rattle.program.specs.CalledMethods.{is_static_method, is_final_field};
+ghost use Rattle.program.specs.MemberFlags.{is_static_method, is_final_field};
 
 use crate::linked_program::Program;
 use classfile::flags::{FINAL, STATIC, has_flag};
