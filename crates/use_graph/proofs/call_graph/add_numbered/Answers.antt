@@ -10,7 +10,7 @@ pub add_calls-requires : goal.add_calls-requires
 add_calls-requires c =
     let P = c.args.program.now in
     let method = c.in-Some.method in record {
-      growing = c.requires;
+      growing = c.requires.growing;
       caller = method;
       from = sym c.in-Some.ensures.value;
       calls = λ e j by. calls_by P method.class method.index e j
