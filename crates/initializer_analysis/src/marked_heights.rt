@@ -134,7 +134,12 @@ fn component_heights(
 {
     let by_component = marked_components(alloc, components, marked)?;
     let mut heights = vec![in alloc; 0usize; components.len()]?;
-    raise_all(graph, components, by_component.as_slice(), heights.as_mut_slice());
+    raise_all(
+        graph,
+        components,
+        by_component.as_slice(),
+        heights.as_mut_slice(),
+    );
     Ok(heights)
 }
 
