@@ -1,6 +1,7 @@
 pub mod LeastLemmas
 pub mod SettledLemmas
 pub mod RaisedLemmas
+pub mod VertexTablesLemmas
 pub mod VerdictsLemmas
 pub mod LabelsLemmas
 pub mod MarkingLemmas

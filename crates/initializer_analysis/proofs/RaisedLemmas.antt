@@ -1,11 +1,10 @@
 -- Heights of components, found from the last vertex of their order to the first.
 use Rattle.std.proofs.Common.{◌≡◌, ◌≢◌, ℕ, zero, suc, ◌+◌, ◌<◌, ◌≤◌, ◌⊎◌, Bool, true, false, IsTrue, List, length}
-use Rattle.std.proofs.Common.{replicate, ◌++◌, ◌∷◌, []}
-use Rattle.std.proofs.Common.{take, set, map, max, cond, slice_index, slice_index_or, inl, inr, refl, sym, subst}
+use Rattle.std.proofs.Common.{replicate, take, set, map, max, cond, slice_index, slice_index_or, inl, inr, refl, sym, subst}
 use Rattle.std.proofs.Common.{arith, ap, ◌∙◌}
 use Rattle.std.specs.List.{All, Contains}
 use Rattle.std.proofs.lemmas.Grind.{common_steps}
-use Rattle.std.proofs.lemmas.List.{length-set, get_or-map, map_more}
+use Rattle.std.proofs.lemmas.List.{length-set, get_or-map}
 use Rattle.std.proofs.lemmas.List.Elements.{All-get_or, All-contains}
 use Rattle.graph.specs.Rows.{Rows, successors_of}
 use Rattle.graph.specs.Reaches.{Reaches, itself, along}
@@ -276,15 +275,6 @@ raised_none graph parts marked heights place zeros late = record {
 
     zero_at : (n : ℕ) → slice_index heights n ≡ 0
     zero_at n = rw zeros (zero_of (length graph) n)
-
--- one vertex more has what the table has for its component
-pub heights_by_vertex_more : (table items new numbers : List ℕ) (i number : ℕ) → i < length numbers
-    → number ≡ slice_index numbers i
-    → items ≡ map (λ (n : ℕ). slice_index table n) (take i numbers)
-    → new ≡ items ++ slice_index table number ∷ []
-    → new ≡ map (λ (n : ℕ). slice_index table n) (take (i + 1) numbers)
-heights_by_vertex_more table items new numbers i number h is before pushed =
-    rw (pushed, before, is) (sym (map_more (λ (n : ℕ). slice_index table n) numbers i 0 h))
 
 -- ---- what the heights of components tell of vertices
 

@@ -11,9 +11,9 @@ use Rattle.use_graph.specs.declared.whole_program.UseGraph.{UseGraph}
 use Rattle.use_graph.specs.steps.Bodies.{IsUseGraph}
 use Rattle.use_graph.specs.steps.Deeds.{HoldsOfOne}
 use Rattle.use_graph.specs.steps.Searching.{StartsAt}
-use Rattle.initializer_analysis.specs.steps.Dependence.{vertex_of, IsVertexOf, IsNeededVertex, DependsAt}
-use Rattle.initializer_analysis.specs.steps.Dependence.{ClassDependsOn, IsClassRow, IsDependence, AddsFrom, AddsClass}
-use Rattle.initializer_analysis.specs.steps.Dependence.{IsDependenceBelow}
+use Rattle.initializer_analysis.specs.steps.Dependence.{vertex_of, HaveVertices, IsVertexOf, IsNeededVertex}
+use Rattle.initializer_analysis.specs.steps.Dependence.{DependsAt, ClassDependsOn, IsClassRow, IsDependence, AddsFrom}
+use Rattle.initializer_analysis.specs.steps.Dependence.{AddsClass, IsDependenceBelow}
 use Rattle.initializer_analysis.proofs.AddsFromLemmas.{adds_none, adds_same, adds_then}
 
 -- ---- one vertex
@@ -49,6 +49,11 @@ module _ (P : Tables) (uses : UseGraph) (v : ℕ) where
 
 pub calls_few : (P : Tables) (uses : UseGraph) → IsUseGraph P uses → length uses.calls ≤ 2 * (65535 * 65535)
 calls_few P uses whole = omega (arith, whole.calls.vertices, whole.few)
+
+pub vertices_of : (P : Tables) (uses : UseGraph) (graph : Rows) (limit count : ℕ) → IsUseGraph P uses
+    → IsDependence P uses graph → limit ≡ length P.classes → count ≡ length graph → HaveVertices uses limit count
+vertices_of P uses graph limit count whole is limited counted =
+    record { few = calls_few P uses whole; vertices = omega (arith, is.vertices, limited, counted) }
 
 pub vertex_low : (P : Tables) (uses : UseGraph) (graph : Rows) (class vertex : ℕ)
     → length graph ≡ length uses.calls + length P.classes → class < length P.classes → vertex ≡ vertex_of uses class

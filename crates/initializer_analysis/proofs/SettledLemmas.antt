@@ -1,10 +1,10 @@
 -- Labels of components, settled from the last vertex of their order to the first.
 use Rattle.std.proofs.Common.{◌≡◌, ◌≢◌, ℕ, ◌+◌, ◌<◌, ◌≤◌, ◌⊎◌, List, length, take, set, map, slice_index}
-use Rattle.std.proofs.Common.{slice_index_or, ◌++◌, ◌∷◌, [], ap}
+use Rattle.std.proofs.Common.{slice_index_or}
 use Rattle.std.proofs.Common.{inl, inr, refl, sym, subst, arith, ◌∙◌}
 use Rattle.std.specs.List.{All, Contains}
 use Rattle.std.proofs.lemmas.Grind.{common_steps}
-use Rattle.std.proofs.lemmas.List.{take_more, take_all, map_more, get_or-set_same, get_or-set_other, length-set}
+use Rattle.std.proofs.lemmas.List.{take_more, get_or-set_same, get_or-set_other, length-set}
 use Rattle.std.proofs.lemmas.List.{get_or-map}
 use Rattle.std.proofs.lemmas.List.Elements.{All-get_or, All-contains, Contains-push, Contains-push_cases}
 use Rattle.std.proofs.lemmas.List.Elements.{Contains-append_left}
@@ -322,18 +322,3 @@ AreLeast-of_own graph own Own v c each a =
     AreLeast-stands (IsReachedLabel graph own v) (λ l. (u : ℕ) × Reaches graph v u × Own u l) c
     (Stands-each (Reaches graph v) (IsOwn own) Own
     (λ u path. Stands-least (Own u) (slice_index_or own u no_labels) (each u))) a
-
--- one vertex more has what the table has for its component
-pub by_vertex_more : (table items new : List Least) (numbers : List ℕ) (i number : ℕ) → i < length numbers
-    → number ≡ slice_index numbers i
-    → items ≡ map (λ (n : ℕ). slice_index_or table n no_labels) (take i numbers)
-    → new ≡ items ++ slice_index_or table number no_labels ∷ []
-    → new ≡ map (λ (n : ℕ). slice_index_or table n no_labels) (take (i + 1) numbers)
-by_vertex_more table items new numbers i number h is before pushed =
-    rw (pushed, before, is) (sym (map_more (λ (n : ℕ). slice_index_or table n no_labels) numbers i 0 h))
-
-pub by_vertex_all : (table items : List Least) (numbers : List ℕ) (i : ℕ) → length numbers ≤ i
-    → items ≡ map (λ (n : ℕ). slice_index_or table n no_labels) (take i numbers)
-    → items ≡ map (λ (n : ℕ). slice_index_or table n no_labels) numbers
-by_vertex_all table items numbers i h e =
-    rw e (ap (map (λ (n : ℕ). slice_index_or table n no_labels)) (take_all i numbers h))

@@ -1,11 +1,11 @@
 //! Which classes use themselves by way of others, by the components of what classes and methods depend on.
 
-ghost use Rattle.std.specs.Prelude.{◌≡◌, ◌≢◌, ◌↔◌, ◌≤◌, ◌*◌, ◌+◌, ◌<◌, ℕ, length, replicate, slice_index, IsTrue, IfOk};
+ghost use Rattle.std.specs.Prelude.{◌≡◌, ◌↔◌, ◌≤◌, ◌*◌, ◌<◌, length, replicate, slice_index, IsTrue, IfOk};
 ghost use Rattle.std.specs.List.{All};
 ghost use Rattle.initializer_analysis.specs.steps.LeastReached.{no_labels};
 ghost use Rattle.initializer_analysis.specs.steps.OwnReasons.{AreOnCycles};
 ghost use Rattle.initializer_analysis.specs.steps.Cycles.{AddsMember, HaveMembers, HasOther, AreOthers};
-ghost use Rattle.initializer_analysis.specs.steps.Dependence.{vertex_of, AreDependences};
+ghost use Rattle.initializer_analysis.specs.steps.Dependence.{vertex_of, HaveVertices, AreDependences};
 
 use crate::dependence::class_vertex;
 use crate::labels::Least;
@@ -28,8 +28,7 @@ fn add_member(uses: &UseGraph, components: &Components, class: u32, table: &mut 
 
 /// By component: the two least classes that it has, of those below a limit.
 fn add_members(uses: &UseGraph, components: &Components, limit: u32, table: &mut [Least])
-    requires few { length uses.now.calls ≤ 2 * (65535 * 65535) }
-    requires vertices { length components.now.numbers ≡ length uses.now.calls + limit }
+    requires vertices { HaveVertices uses.now limit (length components.now.numbers) }
     requires numbers { All (λ n. n < length table.old) components.now.numbers }
     requires none { table.old ≡ replicate (length components.now.numbers) no_labels }
     ensures { HaveMembers uses.now components.now.numbers limit table.new }
@@ -47,8 +46,7 @@ fn has_other(
     limit: u32,
     class: u32,
 ) -> bool
-    requires few { length uses.now.calls ≤ 2 * (65535 * 65535) }
-    requires vertices { length components.now.numbers ≡ length uses.now.calls + limit }
+    requires vertices { HaveVertices uses.now limit (length components.now.numbers) }
     requires numbers { All (λ n. n < length table.now) components.now.numbers }
     requires table { HaveMembers uses.now components.now.numbers limit table.now }
     requires class { class < limit }
@@ -72,8 +70,7 @@ fn with_members(
     limit: u32,
     table: Vec<Least>,
 ) -> Vec<Least>
-    requires few { length uses.now.calls ≤ 2 * (65535 * 65535) }
-    requires vertices { length components.now.numbers ≡ length uses.now.calls + limit }
+    requires vertices { HaveVertices uses.now limit (length components.now.numbers) }
     requires numbers { All (λ n. n < length table.items) components.now.numbers }
     requires none { table.items ≡ replicate (length components.now.numbers) no_labels }
     ensures len { length result.items ≡ length table.items }
@@ -91,8 +88,7 @@ fn members(
     components: &Components,
     limit: u32,
 ) -> Result<Vec<Least>, AllocError>
-    requires few { length uses.now.calls ≤ 2 * (65535 * 65535) }
-    requires vertices { length components.now.numbers ≡ length uses.now.calls + limit }
+    requires vertices { HaveVertices uses.now limit (length components.now.numbers) }
     requires numbers { All (λ n. n < length components.now.numbers) components.now.numbers }
     ensures len { IfOk result (λ table. length table.items ≡ length components.now.numbers) }
     ensures members { IfOk result (λ table. HaveMembers uses.now components.now.numbers limit table.items) }
@@ -111,8 +107,7 @@ fn cycles_by(
     table: &[Least],
     limit: u32,
 ) -> Result<Vec<bool>, AllocError>
-    requires few { length uses.now.calls ≤ 2 * (65535 * 65535) }
-    requires vertices { length components.now.numbers ≡ length uses.now.calls + limit }
+    requires vertices { HaveVertices uses.now limit (length components.now.numbers) }
     requires numbers { All (λ n. n < length table.now) components.now.numbers }
     requires table { HaveMembers uses.now components.now.numbers limit table.now }
     ensures { IfOk result (λ on. AreOthers uses.now components.now.numbers limit on.items) }

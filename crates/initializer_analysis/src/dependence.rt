@@ -3,12 +3,12 @@
 ghost use Rattle.std.specs.Prelude.{◌≡◌, ℕ, ◌<◌, ◌≤◌, ◌+◌, ◌*◌, Option as Maybe, Some, [], length, replicate};
 ghost use Rattle.std.specs.Prelude.{IfOk, OnOk};
 ghost use Rattle.std.specs.List.{All, Contains};
-ghost use Rattle.graph.specs.Rows.{successors_of};
 ghost use Rattle.use_graph.specs.steps.Bodies.{IsUseGraph};
 ghost use Rattle.use_graph.specs.steps.Deeds.{HoldsOfOne};
 ghost use Rattle.use_graph.specs.steps.Searching.{StartsAt};
-ghost use Rattle.initializer_analysis.specs.steps.Dependence.{vertex_of, IsVertexOf, IsNeededVertex, DependsAt};
-ghost use Rattle.initializer_analysis.specs.steps.Dependence.{IsDependence, AddsFrom, AddsClass, IsDependenceBelow};
+ghost use Rattle.initializer_analysis.specs.steps.Dependence.{vertex_of, HaveVertices, IsVertexOf, IsNeededVertex};
+ghost use Rattle.initializer_analysis.specs.steps.Dependence.{DependsAt, IsDependence, AddsFrom, AddsClass};
+ghost use Rattle.initializer_analysis.specs.steps.Dependence.{IsDependenceBelow};
 
 use graph::Graph;
 use program::Program;
@@ -53,8 +53,7 @@ fn add_class(
     from: usize,
     class: u32,
 ) -> Result<(), AllocError>
-    requires few { length uses.now.calls ≤ 2 * (65535 * 65535) }
-    requires vertices { length graph.old ≡ length uses.now.calls + length program.now.classes }
+    requires vertices { HaveVertices uses.now (length program.now.classes) (length graph.old) }
     requires from { from < length graph.old }
     ensures { OnOk result (AddsFrom graph.old graph.new from (IsVertexOf program.now uses.now class)) }
 {
@@ -72,8 +71,7 @@ fn add_classes(
     from: usize,
     classes: &[u32],
 ) -> Result<(), AllocError>
-    requires few { length uses.now.calls ≤ 2 * (65535 * 65535) }
-    requires vertices { length graph.old ≡ length uses.now.calls + length program.now.classes }
+    requires vertices { HaveVertices uses.now (length program.now.classes) (length graph.old) }
     requires from { from < length graph.old }
     ensures { OnOk result (AddsFrom graph.old graph.new from
         (HoldsOfOne (IsVertexOf program.now uses.now) classes.now)) }
@@ -91,8 +89,7 @@ fn add_needed(
     graph: &mut Graph,
     vertex: usize,
 ) -> Result<(), AllocError>
-    requires few { length uses.now.calls ≤ 2 * (65535 * 65535) }
-    requires vertices { length graph.old ≡ length uses.now.calls + length program.now.classes }
+    requires vertices { HaveVertices uses.now (length program.now.classes) (length graph.old) }
     requires vertex { vertex < length graph.old }
     ensures { OnOk result (AddsFrom graph.old graph.new vertex (IsNeededVertex program.now uses.now vertex)) }
 {
@@ -112,8 +109,7 @@ fn add_vertex(
     graph: &mut Graph,
     vertex: usize,
 ) -> Result<(), AllocError>
-    requires few { length uses.now.calls ≤ 2 * (65535 * 65535) }
-    requires vertices { length graph.old ≡ length uses.now.calls + length program.now.classes }
+    requires vertices { HaveVertices uses.now (length program.now.classes) (length graph.old) }
     requires vertex { vertex < length uses.now.calls }
     ensures { OnOk result (AddsFrom graph.old graph.new vertex (DependsAt program.now uses.now vertex)) }
 {

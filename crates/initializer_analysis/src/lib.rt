@@ -14,6 +14,7 @@ mod reasons;
 mod refused_classes;
 mod refused_uses;
 pub mod verdict;
+mod vertex_tables;
 mod waves;
 
 pub use dependence::{class_vertex, dependence_graph};

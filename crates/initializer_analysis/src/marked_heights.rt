@@ -1,6 +1,6 @@
 //! How many marked vertices stand below one another, found by components.
 
-ghost use Rattle.std.specs.Prelude.{◌≡◌, ◌<◌, false, length, map, replicate, slice_index, IfOk};
+ghost use Rattle.std.specs.Prelude.{◌≡◌, ◌<◌, false, length, replicate, slice_index, IfOk};
 ghost use Rattle.std.specs.List.{All};
 ghost use Rattle.graph.specs.Components.{AreComponents};
 ghost use Rattle.graph.specs.Rows.{successors_of};
@@ -8,6 +8,7 @@ ghost use Rattle.initializer_analysis.specs.steps.Heights.{AreHeights};
 ghost use Rattle.initializer_analysis.specs.steps.Raised.{HaveMarked, top_of, HaveRoom, IsHighest};
 ghost use Rattle.initializer_analysis.specs.steps.Raised.{AreRaisedFrom, AreRaised};
 
+use crate::vertex_tables::by_vertex;
 use graph::{Components, Graph};
 use std::alloc::{AllocError, Global};
 
@@ -102,22 +103,6 @@ fn raise_all(graph: &Graph, components: &Components, marked: &[bool], heights: &
     }
 }
 
-/// What a table by components has for each vertex.
-fn heights_by_vertex(
-    alloc: Global,
-    components: &Components,
-    table: &[usize],
-) -> Result<Vec<usize>, AllocError>
-    requires { All (λ n. n < length table.now) components.now.numbers }
-    ensures { IfOk result (λ heights. heights.items ≡ map (λ n. slice_index table.now n) components.now.numbers) }
-{
-    let mut heights = Vec::with_capacity(alloc, components.len())?;
-    for vertex in 0..components.len() {
-        heights.push(table[components.number(vertex)])?;
-    }
-    Ok(heights)
-}
-
 /// By component: whether it has a marked vertex.
 fn marked_components(
     alloc: Global,
@@ -135,25 +120,8 @@ fn marked_components(
     Ok(table)
 }
 
-/// By component: its height, of components that are marked.
-fn component_heights(
-    alloc: Global,
-    graph: &Graph,
-    components: &Components,
-    marked: &[bool],
-) -> Result<Vec<usize>, AllocError>
-    requires components { AreComponents graph.now components.now }
-    requires marked { length marked.now ≡ length graph.now }
-    ensures len { IfOk result (λ heights. length heights.items ≡ length graph.now) }
-    ensures raised { IfOk result (λ heights. AreRaisedFrom graph.now components.now marked.now 0 heights.items) }
-{
-    let mut heights = vec![in alloc; 0usize; components.len()]?;
-    raise_all(graph, components, marked, heights.as_mut_slice());
-    Ok(heights)
-}
-
 /// By component: its height, over the vertices that are marked.
-fn heights_by_component(
+fn component_heights(
     alloc: Global,
     graph: &Graph,
     components: &Components,
@@ -165,7 +133,14 @@ fn heights_by_component(
     ensures raised { IfOk result (λ heights. AreRaised graph.now components.now marked.now heights.items) }
 {
     let by_component = marked_components(alloc, components, marked)?;
-    component_heights(alloc, graph, components, by_component.as_slice())
+    let mut heights = vec![in alloc; 0usize; components.len()]?;
+    raise_all(
+        graph,
+        components,
+        by_component.as_slice(),
+        heights.as_mut_slice(),
+    );
+    Ok(heights)
 }
 
 /// For each vertex the greatest number of marked vertices below it of which each is below the one before.
@@ -183,6 +158,6 @@ pub(crate) fn heights(
     ensures len { IfOk result (λ heights. length heights.items ≡ length graph.now) }
     ensures heights { IfOk result (λ heights. AreHeights graph.now marked.now heights.items) }
 {
-    let table = heights_by_component(alloc, graph, components, marked)?;
-    heights_by_vertex(alloc, components, table.as_slice())
+    let table = component_heights(alloc, graph, components, marked)?;
+    by_vertex(alloc, components, table.as_slice())
 }

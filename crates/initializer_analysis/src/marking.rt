@@ -64,7 +64,7 @@ fn labels_at(uses: &UseGraph, vertex: usize, mark: Mark) -> Least
 }
 
 /// Those of each vertex of the calls.
-fn own_labels(alloc: Global, uses: &UseGraph, mark: Mark) -> Result<Vec<Least>, AllocError>
+fn own_marks(alloc: Global, uses: &UseGraph, mark: Mark) -> Result<Vec<Least>, AllocError>
     requires { length uses.now.bodies.items ≤ length uses.now.calls }
     ensures len { IfOk result (λ own. length own.items ≡ length uses.now.calls) }
     ensures own { IfOk result (λ own. HasLeastOf (IsMarkedBy uses.now.bodies.items mark) own.items) }
@@ -90,7 +90,7 @@ pub(crate) fn marks_of(
     requires components { AreComponents uses.now.calls components.now }
     ensures { IfOk result (λ table. AreMarks uses.now mark table.items) }
 {
-    let own = own_labels(alloc, uses, mark)?;
+    let own = own_marks(alloc, uses, mark)?;
     least_reached(alloc, &uses.calls, components, own.as_slice())
 }
 

@@ -1,6 +1,6 @@
 //! The least labels of what vertices reach, found by components.
 
-ghost use Rattle.std.specs.Prelude.{◌≡◌, ℕ, ◌<◌, ◌⊎◌, length, map, replicate, slice_index, slice_index_or, IfOk};
+ghost use Rattle.std.specs.Prelude.{◌≡◌, ◌<◌, ◌⊎◌, length, replicate, slice_index, IfOk};
 ghost use Rattle.std.specs.List.{All};
 ghost use Rattle.graph.specs.Components.{AreComponents};
 ghost use Rattle.graph.specs.Rows.{successors_of};
@@ -9,6 +9,7 @@ ghost use Rattle.initializer_analysis.specs.steps.LeastReached.{no_labels, IsOwn
 ghost use Rattle.initializer_analysis.specs.steps.Settled.{IsBeyondLabel, AreSettledFrom};
 
 use crate::labels::Least;
+use crate::vertex_tables::by_vertex;
 use graph::{Components, Graph};
 use std::alloc::{AllocError, Global};
 
@@ -65,23 +66,6 @@ fn settle_all(graph: &Graph, components: &Components, own: &[Least], table: &mut
         let labels = settled(graph, components, own, vertex, table);
         table[components.number(vertex)] = labels;
     }
-}
-
-/// What a table by components has for each vertex.
-fn by_vertex(
-    alloc: Global,
-    components: &Components,
-    table: &[Least],
-) -> Result<Vec<Least>, AllocError>
-    requires { All (λ n. n < length table.now) components.now.numbers }
-    ensures { IfOk result (λ least. least.items
-        ≡ map (λ n. slice_index_or table.now n no_labels) components.now.numbers) }
-{
-    let mut least = Vec::with_capacity(alloc, components.len())?;
-    for vertex in 0..components.len() {
-        least.push(table[components.number(vertex)])?;
-    }
-    Ok(least)
 }
 
 /// For each vertex the two least labels of those that it reaches, itself among them.

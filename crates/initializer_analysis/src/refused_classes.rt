@@ -1,7 +1,7 @@
 //! Which classes depend on one that is refused for a reason of its own, itself among them.
 
-ghost use Rattle.std.specs.Prelude.{◌≡◌, ◌≤◌, ◌*◌, ◌+◌, ℕ, length, IfOk, OnOk};
-ghost use Rattle.initializer_analysis.specs.steps.Dependence.{AreDependences};
+ghost use Rattle.std.specs.Prelude.{◌≡◌, length, IfOk, OnOk};
+ghost use Rattle.initializer_analysis.specs.steps.Dependence.{HaveVertices, AreDependences};
 ghost use Rattle.initializer_analysis.specs.steps.Judging.{label_by, Labelled, AreOwnLabels, AreFirstThere, AreRefused};
 
 use crate::dependence::class_vertex;
@@ -65,8 +65,7 @@ fn labelled_classes(
     least: &[Least],
     limit: u32,
 ) -> Result<Vec<bool>, AllocError>
-    requires few { length uses.now.calls ≤ 2 * (65535 * 65535) }
-    requires len { length least.now ≡ length uses.now.calls + limit }
+    requires { HaveVertices uses.now limit (length least.now) }
     ensures { IfOk result (λ there. AreFirstThere uses.now least.now limit there.items) }
 {
     let mut there = Vec::with_capacity(alloc, limit as usize)?;

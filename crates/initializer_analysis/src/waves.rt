@@ -12,7 +12,7 @@ use std::alloc::{AllocError, Global};
 use use_graph::UseGraph;
 
 /// Adds a mark for each class.
-fn add_marks(limit: u32, marks: &mut Vec<bool>) -> Result<(), AllocError>
+fn mark_classes(limit: u32, marks: &mut Vec<bool>) -> Result<(), AllocError>
     ensures { OnOk result (AreMarkedFrom limit marks.old.items marks.new.items) }
 {
     for _class in 0..limit {
@@ -26,7 +26,7 @@ fn class_marks(alloc: Global, uses: &UseGraph, limit: u32) -> Result<Vec<bool>, 
     ensures { IfOk result (λ marks. AreClassMarks uses.now limit marks.items) }
 {
     let mut marks = vec![in alloc; false; uses.calls.len()]?;
-    match add_marks(limit, &mut marks) {
+    match mark_classes(limit, &mut marks) {
         Ok(()) => Ok(marks),
         Err(error) => Err(error),
     }

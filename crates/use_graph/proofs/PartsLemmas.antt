@@ -8,10 +8,11 @@ use Rattle.std.proofs.lemmas.List.Elements.{Contains-push_cases}
 use Rattle.graph.specs.Rows.{Rows, successors_of}
 use Rattle.program.specs.Tables.{Tables}
 use Rattle.hierarchy.specs.declared.member.DeclaredMember.{DeclaredMember}
+use Rattle.hierarchy.specs.Selectable.{IsNamedLike}
 use Rattle.use_graph.specs.steps.Numbers.{HasNumber}
 use Rattle.use_graph.specs.steps.CallGraphs.{IsEdge, named, LeadsTo}
-use Rattle.use_graph.specs.steps.Growing.{Extends, EdgeTo, Grows, IsLike, IsPart, LeadsToLike, LeadsToNamed}
-use Rattle.use_graph.specs.steps.Growing.{IsGrowing, GrowsBy}
+use Rattle.use_graph.specs.steps.Growing.{Extends, EdgeTo, Grows, IsLike, IsPart, LeadsToLike}
+use Rattle.use_graph.specs.steps.Growing.{IsGrowing, GrowsBy, IsCaller, LeadsToAll}
 use Rattle.use_graph.proofs.EdgesLemmas.{edge_kept}
 
 module _ (P : Tables) (methods : List DeclaredMember) where
@@ -63,12 +64,12 @@ module _ (P : Tables) (methods : List DeclaredMember) where
   pub leads_by_group : (graph : Rows) (groups : List ℕ) (from r : ℕ) (z : DeclaredMember)
       → IsPart P methods graph groups
       → Contains groups r → slice_get methods r ≡ Some z → Contains (successors_of graph from) (length methods + r)
-      → LeadsToNamed P methods graph from z
+      → LeadsToAll methods graph from (IsNamedLike P.family z)
   leads_by_group graph groups from r z part among at edge e j like number =
       let found = part.grouped r z among at e j like number in (found.0, found.1, inr (r, edge, found.2))
 
   pub leads_straight : (graph : Rows) (from : ℕ) (z : DeclaredMember) → LeadsToLike P methods graph from z
-      → LeadsToNamed P methods graph from z
+      → LeadsToAll methods graph from (IsNamedLike P.family z)
   leads_straight graph from z leads e j like number =
       let found = leads e j like number in (found.0, found.1, inl found.2)
 
@@ -88,6 +89,17 @@ module _ {P : Tables} {methods : List DeclaredMember} where
   pub no_step : {graph : Rows} {groups : Seen} {Leads : Type 0} → IsGrowing P methods graph groups → Leads
       → GrowsBy P methods graph graph groups Leads
   no_step growing leads = record { growing = growing; grows = λ n t p. p; leads = leads }
+
+  -- who calls all of some methods calls all of fewer
+  pub calls_fewer : {graph : Rows} {groups : Seen} {from : ℕ} {IsCalled IsOne : ℕ → ℕ → Type 0}
+      → IsCaller P methods graph groups from IsCalled → ((e j : ℕ) → IsOne e j → IsCalled e j)
+      → IsCaller P methods graph groups from IsOne
+  calls_fewer whole among = record {
+    growing = whole.growing;
+    caller = whole.caller;
+    from = whole.from;
+    calls = λ e j one. whole.calls e j (among e j one);
+  }
 
   -- edges from one method
   pub one_step : {old new : Rows} {groups : Seen} {from : ℕ} {Q : ℕ → Type 0} {Leads : Type 0}

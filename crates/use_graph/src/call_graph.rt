@@ -1,16 +1,14 @@
 //! The graph of calls between the methods of given classes.
 
-ghost use Rattle.std.specs.Prelude.{◌≡◌, ℕ, ◌<◌, ◌≤◌, ◌+◌, ◌*◌, [], length, Some, IfOk, OnOk, slice_get};
+ghost use Rattle.std.specs.Prelude.{◌≡◌, ◌<◌, ◌≤◌, ◌+◌, ◌*◌, [], length, Some, IfOk, OnOk, slice_get};
 ghost use Rattle.std.specs.List.{Contains};
 ghost use Rattle.graph.specs.Rows.{successors_of};
 ghost use Rattle.hierarchy.specs.Selectable.{IsNamedLike};
 ghost use Rattle.use_graph.specs.Code.{MayRunFor};
-ghost use Rattle.use_graph.specs.Uses.{Calls};
 ghost use Rattle.use_graph.specs.declared.callee.Callee.TheVariants as callees;
 ghost use Rattle.use_graph.specs.steps.CallGraphs.{IsCallGraph};
 ghost use Rattle.use_graph.specs.steps.Deeds.{CallsBy};
-ghost use Rattle.use_graph.specs.steps.Growing.{IsPart, IsGrowing, GrowsBy, LeadsToAll, LeadsToNamed};
-ghost use Rattle.use_graph.specs.steps.Growing.{LeadsByEach, LeadsByBody, LeadsByNumber};
+ghost use Rattle.use_graph.specs.steps.Growing.{IsPart, IsGrowing, GrowsBy, IsCaller, LeadsToAll, LeadsByNumber};
 ghost use Rattle.use_graph.specs.steps.Numbers.{HasNumber};
 ghost use Rattle.use_graph.specs.steps.Growing.{Extends, EdgeTo, IsLike, LeadsToLike, IsNumberOf, LeadsToEach};
 
@@ -139,15 +137,11 @@ fn add_named(
     graph: &mut Graph,
     groups: &mut Visited,
     from: usize,
-    caller: DeclaredMember,
     method: DeclaredMember,
 ) -> Result<(), AllocError>
-    requires growing { IsGrowing program.now numbers.now graph.old groups.old }
-    requires from { slice_get numbers.now from ≡ Some caller }
-    requires calls { (e j : ℕ) → IsNamedLike program.now.family method e j
-        → Calls program.now caller.class caller.index e j }
+    requires { IsCaller program.now numbers.now graph.old groups.old from (IsNamedLike program.now.family method) }
     ensures { OnOk result (GrowsBy program.now numbers.now graph.old graph.new groups.new
-        (LeadsToNamed program.now numbers.now graph.new from method)) }
+        (LeadsToAll numbers.now graph.new from (IsNamedLike program.now.family method))) }
 {
     match numbers.number(method.class, method.index) {
         Some(number) => {
@@ -170,15 +164,12 @@ fn add_selected(
     graph: &mut Graph,
     groups: &mut Visited,
     from: usize,
-    caller: DeclaredMember,
     method: Method,
 ) -> Result<(), AllocError>
-    requires growing { IsGrowing program.now numbers.now graph.old groups.old }
-    requires from { slice_get numbers.now from ≡ Some caller }
-    requires calls { (e j : ℕ) → MayRunFor program.now (callees.Selected method) e j
-        → Calls program.now caller.class caller.index e j }
+    requires { IsCaller program.now numbers.now graph.old groups.old from
+        (MayRunFor program.now (callees.Selected method)) }
     ensures { OnOk result (GrowsBy program.now numbers.now graph.old graph.new groups.new
-        (LeadsToAll program.now numbers.now graph.new from (callees.Selected method))) }
+        (LeadsToAll numbers.now graph.new from (MayRunFor program.now (callees.Selected method)))) }
 {
     match program.selectable(method) {
         Selectable::Nothing => Ok(()),
@@ -187,7 +178,7 @@ fn add_selected(
             Ok(())
         }
         Selectable::Named(member) => {
-            add_named(alloc, program, numbers, graph, groups, from, caller, member)?;
+            add_named(alloc, program, numbers, graph, groups, from, member)?;
             Ok(())
         }
     }
@@ -201,15 +192,11 @@ fn add_call(
     graph: &mut Graph,
     groups: &mut Visited,
     from: usize,
-    caller: DeclaredMember,
     callee: Callee,
 ) -> Result<(), AllocError>
-    requires growing { IsGrowing program.now numbers.now graph.old groups.old }
-    requires from { slice_get numbers.now from ≡ Some caller }
-    requires calls { (e j : ℕ) → MayRunFor program.now callee e j
-        → Calls program.now caller.class caller.index e j }
+    requires { IsCaller program.now numbers.now graph.old groups.old from (MayRunFor program.now callee) }
     ensures { OnOk result (GrowsBy program.now numbers.now graph.old graph.new groups.new
-        (LeadsToAll program.now numbers.now graph.new from callee)) }
+        (LeadsToAll numbers.now graph.new from (MayRunFor program.now callee))) }
 {
     match callee {
         Callee::Nobody => Ok(()),
@@ -218,7 +205,7 @@ fn add_call(
             Ok(())
         }
         Callee::Selected(method) => {
-            add_selected(alloc, program, numbers, graph, groups, from, caller, method)?;
+            add_selected(alloc, program, numbers, graph, groups, from, method)?;
             Ok(())
         }
     }
@@ -232,52 +219,19 @@ fn add_calls(
     graph: &mut Graph,
     groups: &mut Visited,
     from: usize,
-    caller: DeclaredMember,
     deeds: &[Deed],
 ) -> Result<(), AllocError>
-    requires growing { IsGrowing program.now numbers.now graph.old groups.old }
-    requires from { slice_get numbers.now from ≡ Some caller }
-    requires calls { (e j : ℕ) → CallsBy program.now deeds.now e j
-        → Calls program.now caller.class caller.index e j }
+    requires { IsCaller program.now numbers.now graph.old groups.old from (CallsBy program.now deeds.now) }
     ensures { OnOk result (GrowsBy program.now numbers.now graph.old graph.new groups.new
-        (LeadsByEach program.now numbers.now graph.new from deeds.now)) }
+        (LeadsToAll numbers.now graph.new from (CallsBy program.now deeds.now))) }
 {
     for deed in deeds {
-        add_call(
-            alloc,
-            program,
-            numbers,
-            graph,
-            groups,
-            from,
-            caller,
-            deed.callee,
-        )?;
+        add_call(alloc, program, numbers, graph, groups, from, deed.callee)?;
     }
     Ok(())
 }
 
-/// Adds edges from a method to all that may run for the calls of its body.
-fn add_body(
-    alloc: Global,
-    program: &Program,
-    numbers: &MethodNumbers,
-    graph: &mut Graph,
-    groups: &mut Visited,
-    from: usize,
-    caller: DeclaredMember,
-) -> Result<(), AllocError>
-    requires growing { IsGrowing program.now numbers.now graph.old groups.old }
-    requires from { slice_get numbers.now from ≡ Some caller }
-    ensures { OnOk result (GrowsBy program.now numbers.now graph.old graph.new groups.new
-        (LeadsByBody program.now numbers.now graph.new from caller)) }
-{
-    let deeds = deeds_of(alloc, program, caller.class, caller.index)?;
-    add_calls(alloc, program, numbers, graph, groups, from, caller, &deeds)?;
-    Ok(())
-}
-
-/// Adds the edges of the method of a number, if it is one.
+/// Adds the edges of the method of a number, to all that may run for the calls of its body, if it is one.
 fn add_numbered(
     alloc: Global,
     program: &Program,
@@ -293,12 +247,13 @@ fn add_numbered(
     let Some(method) = numbers.method(number) else {
         return Ok(());
     };
-    add_body(alloc, program, numbers, graph, groups, number, method)?;
+    let deeds = deeds_of(alloc, program, method.class, method.index)?;
+    add_calls(alloc, program, numbers, graph, groups, number, &deeds)?;
     Ok(())
 }
 
 /// Adds the edges of all methods.
-fn add_bodies(
+fn add_all_numbered(
     alloc: Global,
     program: &Program,
     numbers: &MethodNumbers,
@@ -326,7 +281,7 @@ fn add_all(
     ensures { OnOk result (IsCallGraph program.now numbers.now graph.new) }
 {
     let mut groups = Visited::new(alloc, numbers.len())?;
-    add_bodies(alloc, program, numbers, graph, &mut groups)?;
+    add_all_numbered(alloc, program, numbers, graph, &mut groups)?;
     Ok(())
 }
 

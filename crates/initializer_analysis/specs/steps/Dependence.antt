@@ -1,5 +1,5 @@
 -- A graph of what classes and methods depend on, and edges that are added to it.
-use Rattle.std.specs.Prelude.{◌≡◌, ◌≢◌, ◌↔◌, ◌⊎◌, ℕ, ◌+◌, ◌<◌, ◌≤◌, Option, Some, [], length, slice_get}
+use Rattle.std.specs.Prelude.{◌≡◌, ◌≢◌, ◌↔◌, ◌⊎◌, ℕ, ◌+◌, ◌*◌, ◌<◌, ◌≤◌, Option, Some, [], length, slice_get}
 use Rattle.std.specs.List.{Contains}
 use Rattle.graph.specs.Components.{Parts, AreComponents}
 use Rattle.graph.specs.Rows.{Rows, successors_of}
@@ -16,6 +16,11 @@ vertex_of uses c = length uses.calls + c
 
 abbrev pub IsVertexOf : Tables → UseGraph → ℕ → ℕ → Type 0
 IsVertexOf P uses c b = (c < length P.classes) × (vertex_of uses c ≡ b)
+
+-- so many vertices are those of the graph of calls, and behind them one for each class below a limit
+pub record HaveVertices (uses : UseGraph) (limit count : ℕ) : Type 0 where
+  pub few : length uses.calls ≤ 2 * (65535 * 65535)
+  pub vertices : count ≡ length uses.calls + limit
 
 -- the vertex of a given class that the method of a vertex needs
 abbrev pub IsNeededVertex : Tables → UseGraph → ℕ → ℕ → Type 0

@@ -6,9 +6,6 @@ use Rattle.graph.specs.Seen.{Seen}
 use Rattle.program.specs.Tables.{Tables}
 use Rattle.hierarchy.specs.declared.member.DeclaredMember.{DeclaredMember}
 use Rattle.hierarchy.specs.Selectable.{IsNamedLike}
-use Rattle.use_graph.specs.declared.callee.Callee.{Callee}
-use Rattle.use_graph.specs.declared.code.Deed.{Deed}
-use Rattle.use_graph.specs.Code.{MayRunFor}
 use Rattle.use_graph.specs.Uses.{Calls}
 use Rattle.use_graph.specs.steps.Numbers.{HasNumber}
 use Rattle.use_graph.specs.steps.CallGraphs.{IsEdge, LeadsTo}
@@ -68,24 +65,22 @@ pub record GrowsBy (P : Tables) (methods : List DeclaredMember) (old new : Rows)
   pub grows : Grows old new
   pub leads : Leads
 
--- edges lead from a method to all that may run for a call
-abbrev pub LeadsToAll : Tables → List DeclaredMember → Rows → ℕ → Callee → Type 0
-LeadsToAll P methods graph n callee =
-    (e j : ℕ) → MayRunFor P callee e j → HasNumber methods e j → LeadsTo methods graph n e j
+-- What holds before edges are added from the method of a number: it calls all to which they are to lead.
+pub record IsCaller (P : Tables) (methods : List DeclaredMember) (graph : Rows) (groups : Seen) (number : ℕ)
+    (IsCalled : ℕ → ℕ → Type 0) : Type 0 where
+  pub growing : IsGrowing P methods graph groups
+  pub caller : DeclaredMember
+  pub from : slice_get methods number ≡ Some caller
+  pub calls : (e j : ℕ) → IsCalled e j → Calls P caller.class caller.index e j
 
--- edges lead from a method to all that are declared by a name and a descriptor
-abbrev pub LeadsToNamed : Tables → List DeclaredMember → Rows → ℕ → DeclaredMember → Type 0
-LeadsToNamed P methods graph n z =
-    (e j : ℕ) → IsNamedLike P.family z e j → HasNumber methods e j → LeadsTo methods graph n e j
-
--- edges lead from a method to all that may run for the calls of some instructions
-abbrev pub LeadsByEach : Tables → List DeclaredMember → Rows → ℕ → List Deed → Type 0
-LeadsByEach P methods graph n deeds = (deed : Deed) → Contains deeds deed → LeadsToAll P methods graph n deed.callee
+-- edges lead from a method to all of these that have numbers
+abbrev pub LeadsToAll : List DeclaredMember → Rows → ℕ → (ℕ → ℕ → Type 0) → Type 0
+LeadsToAll methods graph n IsCalled =
+    (e j : ℕ) → IsCalled e j → HasNumber methods e j → LeadsTo methods graph n e j
 
 -- edges lead from a method to all that it may call
 abbrev pub LeadsByBody : Tables → List DeclaredMember → Rows → ℕ → DeclaredMember → Type 0
-LeadsByBody P methods graph n m =
-    (e j : ℕ) → Calls P m.class m.index e j → HasNumber methods e j → LeadsTo methods graph n e j
+LeadsByBody P methods graph n m = LeadsToAll methods graph n (Calls P m.class m.index)
 
 -- the same of the method of a number
 abbrev pub LeadsByNumber : Tables → List DeclaredMember → Rows → ℕ → Type 0

@@ -10,6 +10,12 @@ loop-class-init c =
     subst (λ (table : List Least). HaveMembers c.args.uses.now numbers 0 table) (sym c.requires.none)
     (members_none c.args.uses.now numbers (length numbers))
 
+pub add_member-requires-clause-few : goal.add_member-requires-clause-few
+add_member-requires-clause-few c = c.requires.vertices.few
+
+pub add_member-requires-clause-vertex : goal.add_member-requires-clause-vertex
+add_member-requires-clause-vertex c = omega (arith, c.requires.vertices.vertices, c.loop-class-test.true)
+
 pub loop-class-preserved : goal.loop-class-preserved
 loop-class-preserved c =
     members_more c.args.uses.now c.args.components.now.numbers c.loop-class.class c.loop-class.table

@@ -11,7 +11,8 @@ returns c =
     let numbers = c.args.components.now.numbers in
     let number : ℕ = slice_index numbers (vertex_of uses c.args.class) in
     let table = c.args.table.now in
-    let low = All-get_or (λ n. n < length table) numbers (vertex_of uses c.args.class) 0 (omega arith)
+    let low = All-get_or (λ n. n < length table) numbers (vertex_of uses c.args.class) 0
+    (omega (arith, c.requires.class, c.requires.vertices.vertices))
     c.requires.numbers in
     rw c.is_some.ensures
     (other_found uses numbers c.args.limit c.args.class (slice_index_or table number no_labels) c.first_but.result

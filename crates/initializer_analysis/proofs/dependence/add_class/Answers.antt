@@ -14,7 +14,10 @@ add_edge-requires-clause-from c = c.requires.from
 pub add_edge-requires-clause-to : goal.add_edge-requires-clause-to
 add_edge-requires-clause-to c =
     vertex_low c.args.program.now c.args.uses.now c.args.graph.now c.args.class c.class_vertex.result
-    c.requires.vertices (omega arith) c.class_vertex.ensures
+    c.requires.vertices.vertices (omega arith) c.class_vertex.ensures
+
+pub class_vertex-requires : goal.class_vertex-requires
+class_vertex-requires c = c.requires.vertices.few
 
 pub returns-else-class-given_count : goal.returns-else-class-given_count
 returns-else-class-given_count c =

@@ -19,11 +19,11 @@ pub loop-class-init : goal.loop-class-init
 loop-class-init c =
     added_none (IsVertexOf c.args.program.now c.args.uses.now) c.args.classes.now c.args.graph.now c.args.from
 
-pub add_class-requires-clause-few : goal.add_class-requires-clause-few
-add_class-requires-clause-few c = c.requires.few
-
 pub add_class-requires-clause-vertices : goal.add_class-requires-clause-vertices
-add_class-requires-clause-vertices c = c.loop-class.invariant.len ∙ c.requires.vertices
+add_class-requires-clause-vertices c = record {
+  few = c.requires.vertices.few;
+  vertices = c.loop-class.invariant.len ∙ c.requires.vertices.vertices;
+}
 
 pub add_class-requires-clause-from : goal.add_class-requires-clause-from
 add_class-requires-clause-from c = omega (arith, c.loop-class.invariant.len, c.requires.from)

@@ -1,8 +1,14 @@
-use Rattle.std.proofs.Common.{ℕ, subst}
+use Rattle.std.proofs.Common.{◌∙◌, ℕ, subst}
 use Rattle.use_graph.specs.steps.Deeds.{HoldsOfOne}
 use Rattle.initializer_analysis.specs.steps.Dependence.{AddsFrom, IsVertexOf}
-use Rattle.initializer_analysis.proofs.RowsBelowLemmas.{class_added}
+use Rattle.initializer_analysis.proofs.RowsBelowLemmas.{calls_few, class_added}
 use Rattle.initializer_analysis.proofs.dependence.add_uses.Goals as goal
+
+pub add_classes-requires-clause-vertices : goal.add_classes-requires-clause-vertices
+add_classes-requires-clause-vertices c = record {
+  few = calls_few c.args.program.now c.args.uses.now c.requires.uses;
+  vertices = c.in_ok-add_start.ensures.2.len ∙ c.requires.vertices;
+}
 
 pub returns : goal.returns
 returns c =

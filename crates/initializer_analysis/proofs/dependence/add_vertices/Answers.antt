@@ -2,6 +2,10 @@ use Rattle.std.proofs.Common.{◌≡◌, ◌<◌, length, arith}
 use Rattle.initializer_analysis.proofs.RowsBelowLemmas.{below_vertex, below_same}
 use Rattle.initializer_analysis.proofs.dependence.add_vertices.Goals as goal
 
+pub add_vertex-requires-clause-vertices : goal.add_vertex-requires-clause-vertices
+add_vertex-requires-clause-vertices c =
+    record { few = c.requires.few; vertices = c.loop-vertex.invariant.vertices }
+
 pub loop-vertex-preserved : goal.loop-vertex-preserved
 loop-vertex-preserved c =
     let low : c.loop-vertex.vertex < length c.args.uses.now.calls = omega arith in

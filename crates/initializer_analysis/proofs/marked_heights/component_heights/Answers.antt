@@ -10,4 +10,8 @@ returns-clause-len c =
 pub returns-clause-raised : goal.returns-clause-raised
 returns-clause-raised c =
     let whole : length c.raise_all.new.heights ≡ c.in_ok-heights.heights.len = omega arith in
-    rw take_at c.raise_all.ensures
+    rw take_at (
+      c.in_ok-by_component.by_component.items,
+      c.in_ok-by_component.ensures.have,
+      (rw c.as_slice.ensures.value at c.raise_all.ensures),
+    )

@@ -1,8 +1,18 @@
-use Rattle.std.proofs.Common.{◌≡◌, ℕ, List, Vec, Global, map, slice_index, sym, subst}
+use Rattle.std.proofs.Common.{◌≡◌, ◌∙◌, ℕ, List, Vec, Global, length, sym, subst}
 use Rattle.std.proofs.lemmas.Result.{IfOk-weaker}
 use Rattle.initializer_analysis.specs.steps.Heights.{AreHeights}
 use Rattle.initializer_analysis.proofs.RaisedLemmas.{heights_of}
+use Rattle.initializer_analysis.proofs.VertexTablesLemmas.{read_at, read_length}
 use Rattle.initializer_analysis.proofs.marked_heights.heights.Goals as goal
+
+pub returns-clause-len : goal.returns-clause-len
+returns-clause-len c =
+    let numbers = c.args.components.now.numbers in
+    let table = c.as_slice.result.now in
+    IfOk-weaker c.by_vertex.result
+    (λ (heights : Vec ℕ Global). (d : ℕ) → heights.items ≡ read_at table d numbers)
+    (λ (heights : Vec ℕ Global). length heights.items ≡ length c.args.graph.now)
+    (λ heights is. read_length table heights.items numbers 0 is ∙ c.requires.components.len) c.by_vertex.ensures
 
 pub returns-clause-heights : goal.returns-clause-heights
 returns-clause-heights c =
@@ -11,10 +21,10 @@ returns-clause-heights c =
     let marked = c.args.marked.now in
     let table = c.in_ok-table.table.items in
     let raised = c.in_ok-table.ensures.raised in
-    IfOk-weaker c.heights_by_vertex.result
-    (λ (heights : Vec ℕ Global). heights.items ≡ map (λ (n : ℕ). slice_index table n) parts.numbers)
+    IfOk-weaker c.by_vertex.result
+    (λ (heights : Vec ℕ Global). (d : ℕ) → heights.items ≡ read_at table d parts.numbers)
     (λ (heights : Vec ℕ Global). AreHeights graph marked heights.items)
-    (λ heights is. subst (λ (xs : List ℕ). AreHeights graph marked xs) (sym is)
+    (λ heights is. subst (λ (xs : List ℕ). AreHeights graph marked xs) (sym (is 0))
     (heights_of graph parts marked raised.0 table c.requires.components c.requires.marked c.in_ok-table.ensures.len
     raised.1 raised.2))
-    (rw c.as_slice.ensures.value at c.heights_by_vertex.ensures)
+    (rw c.as_slice.ensures.value at c.by_vertex.ensures)

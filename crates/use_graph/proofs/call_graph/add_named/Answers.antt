@@ -27,9 +27,12 @@ returns-in_ok-add_like-in-None c =
     (λ t (y, is, like). calls c.requires.from is (c.requires.calls y.class y.index like))
     (leads_straight c.args.program.now c.args.numbers.now c.add_like.new.graph c.args.from c.args.method added.all)
 
+pub add_group-requires-clause-growing : goal.add_group-requires-clause-growing
+add_group-requires-clause-growing c = c.requires.growing
+
 pub add_edge-requires-clause-from : goal.add_edge-requires-clause-from
 add_edge-requires-clause-from c =
-    is_vertex c.args.from c.args.caller c.in_ok-add_group-in-Some.ensures.growing c.requires.from
+    is_vertex c.args.from c.requires.caller c.in_ok-add_group-in-Some.ensures.growing c.requires.from
 
 pub add_edge-requires-clause-to : goal.add_edge-requires-clause-to
 add_edge-requires-clause-to c =
@@ -41,7 +44,7 @@ add_edge-requires-clause-to c =
     )
 
 pub add_like-requires-clause-from : goal.add_like-requires-clause-from
-add_like-requires-clause-from c = is_vertex c.args.from c.args.caller c.requires.growing c.requires.from
+add_like-requires-clause-from c = is_vertex c.args.from c.requires.caller c.requires.growing c.requires.from
 
 pub add_like-requires-clause-vertices : goal.add_like-requires-clause-vertices
 add_like-requires-clause-vertices c = omega (arith, c.requires.growing.part.vertices)

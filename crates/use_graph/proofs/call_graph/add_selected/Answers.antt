@@ -1,10 +1,10 @@
 use Rattle.std.proofs.Common.{refl, arith}
 use Rattle.use_graph.specs.steps.CallGraphs.{calls}
-use Rattle.use_graph.proofs.PartsLemmas.{is_vertex, no_step, one_step, leading, leads_to}
+use Rattle.use_graph.proofs.PartsLemmas.{is_vertex, calls_fewer, no_step, one_step, leading, leads_to}
 use Rattle.use_graph.proofs.call_graph.add_selected.Goals as goal
 
-pub add_named-requires-clause-calls : goal.add_named-requires-clause-calls
-add_named-requires-clause-calls c = λ e j like. c.requires.calls e j ((c.in-Named.ensures e j).1 like)
+pub add_named-requires : goal.add_named-requires
+add_named-requires c = calls_fewer c.requires (λ e j like. (c.in-Named.ensures e j).1 like)
 
 pub returns-in-Nothing : goal.returns-in-Nothing
 returns-in-Nothing c = no_step c.requires.growing (λ e j may number. absurd ((c.in-Nothing.ensures e j).0 may))
@@ -26,7 +26,7 @@ returns-in_ok-add_named-in-Named c =
     leading added (λ e j may number. added.leads e j ((c.in-Named.ensures e j).0 may) number)
 
 pub add_edge_to-requires-clause-from : goal.add_edge_to-requires-clause-from
-add_edge_to-requires-clause-from c = is_vertex c.args.from c.args.caller c.requires.growing c.requires.from
+add_edge_to-requires-clause-from c = is_vertex c.args.from c.requires.caller c.requires.growing c.requires.from
 
 pub add_edge_to-requires-clause-vertices : goal.add_edge_to-requires-clause-vertices
 add_edge_to-requires-clause-vertices c = omega (arith, c.requires.growing.part.vertices)

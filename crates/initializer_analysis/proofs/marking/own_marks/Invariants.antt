@@ -1,7 +1,7 @@
 use Rattle.std.proofs.Common.{◌≡◌, length}
 use Rattle.initializer_analysis.specs.steps.Marking.{IsMarkedBy}
 use Rattle.initializer_analysis.proofs.LabelsLemmas.{HasLeastBelow}
-use Rattle.initializer_analysis.proofs.marking.own_labels.Given as goal
+use Rattle.initializer_analysis.proofs.marking.own_marks.Given as goal
 
 abbrev pub invariant-loop-vertex : goal.invariant-loop-vertex
 invariant-loop-vertex l = record {

@@ -1,6 +1,6 @@
 use Rattle.std.proofs.Common.{◌≤◌, length, arith}
 use Rattle.use_graph.proofs.CallGraphLemmas.{done_more, done_all}
-use Rattle.use_graph.proofs.call_graph.add_bodies.Goals as goal
+use Rattle.use_graph.proofs.call_graph.add_all_numbered.Goals as goal
 
 pub loop-number-preserved : goal.loop-number-preserved
 loop-number-preserved c =

@@ -1,7 +1,7 @@
 use Rattle.std.proofs.Common.{◌≡◌, ℕ, subst, arith}
 use Rattle.initializer_analysis.specs.steps.Judging.{AreMarkedFrom}
 use Rattle.initializer_analysis.proofs.LabelsOfClassesLemmas.{marked_none, marked_more}
-use Rattle.initializer_analysis.proofs.waves.add_marks.Goals as goal
+use Rattle.initializer_analysis.proofs.waves.mark_classes.Goals as goal
 
 pub loop-class-init : goal.loop-class-init
 loop-class-init c = marked_none c.args.marks.now.items

@@ -2,7 +2,7 @@ use Rattle.std.proofs.Common.{arith}
 use Rattle.std.proofs.lemmas.Option.{slice_get_within}
 use Rattle.initializer_analysis.specs.steps.Marking.{IsMarkedBy}
 use Rattle.initializer_analysis.proofs.LabelsLemmas.{table_more, table_all, length_pushed}
-use Rattle.initializer_analysis.proofs.marking.own_labels.Goals as goal
+use Rattle.initializer_analysis.proofs.marking.own_marks.Goals as goal
 
 pub loop-vertex-preserved : goal.loop-vertex-preserved
 loop-vertex-preserved c = record {
