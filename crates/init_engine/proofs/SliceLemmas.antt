@@ -247,7 +247,8 @@ goes_ahead P count most n p w next before after ahead fits midst first limit t =
     ahead_so_far P count limit p.left p.asked p.done most n first w next before after t ahead fits midst
 
 goes_by_round : (P : Program) (count : ℕ) (p to : Place) (w new : World) (before after : List ℕ)
-    → AsksFurther P p to w new before after → to.left ≡ p.left → to.asked ≤ count → GoesOn P count p to w new before after
+    → AsksFurther P p to w new before after → to.left ≡ p.left → to.asked ≤ count
+    → GoesOn P count p to w new before after
 goes_by_round P count p to w new before after asks same within first limit t =
     subst (λ k. TurnsSoFar P count first limit after k to.asked to.done new) (sym same)
     (asked_so_far P count limit p.left p.asked p.done to.asked to.done first w new before after t within

@@ -6,17 +6,17 @@ pub returns-then-is_last-clause-runs : goal.returns-then-is_last-clause-runs
 returns-then-is_last-clause-runs c =
     let kept = c.rounds.invariant in
     let part = c.run_part.new in
-    runs_then c.args.program.now c.args.from c.rounds.place c.in_ok-place.place c.args.world.now c.rounds.world part.world
-    c.args.schedule.now c.rounds.schedule part.schedule c.args.allowance.now c.rounds.allowance part.allowance
-    kept.threads kept.runs c.in_ok-place.ensures.runs
+    runs_then c.args.program.now c.args.from c.rounds.place c.in_ok-place.place c.args.world.now c.rounds.world
+    part.world c.args.schedule.now c.rounds.schedule part.schedule c.args.allowance.now c.rounds.allowance
+    part.allowance kept.threads kept.runs c.in_ok-place.ensures.runs
 
 pub returns-then-place-count-clause-runs : goal.returns-then-place-count-clause-runs
 returns-then-place-count-clause-runs c =
     let kept = c.rounds.invariant in
     let part = c.run_part.new in
-    runs_then c.args.program.now c.args.from c.rounds.place c.in_ok-place.place c.args.world.now c.rounds.world part.world
-    c.args.schedule.now c.rounds.schedule part.schedule c.args.allowance.now c.rounds.allowance part.allowance
-    kept.threads kept.runs c.in_ok-place.ensures.runs
+    runs_then c.args.program.now c.args.from c.rounds.place c.in_ok-place.place c.args.world.now c.rounds.world
+    part.world c.args.schedule.now c.rounds.schedule part.schedule c.args.allowance.now c.rounds.allowance
+    part.allowance kept.threads kept.runs c.in_ok-place.ensures.runs
 
 pub rounds-preserved : goal.rounds-preserved
 rounds-preserved c =
