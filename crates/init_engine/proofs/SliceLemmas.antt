@@ -8,8 +8,6 @@ use Rattle.std.proofs.lemmas.List.Sums.{sum_by-append}
 use Rattle.vm_state.specs.declared.text.Line.{Line}
 use Rattle.semantics.specs.Programs.{Program}
 use Rattle.semantics.specs.Worlds.{World, Run, step}
-use Rattle.program.specs.Tables.{Tables}
-use Rattle.machine.specs.Linked.{program_of}
 use Rattle.init_engine.specs.Turns.{Prints, world_of}
 use Rattle.init_engine.specs.Schedules.{schedule_of}
 use Rattle.init_engine.specs.Standing.{Standing}
@@ -21,7 +19,7 @@ use Rattle.init_engine.specs.declared.rounds.Allowance.{Allowance}
 use Rattle.init_engine.specs.Rounds.{Turns, TurnsSoFar}
 use Rattle.init_engine.specs.steps.Rounds.{IsAsking, IsAskedSo, IsRunAhead}
 use Rattle.init_engine.specs.steps.Slices.{PrintsBy, Spends, AsksFurther, GoesOn, HasHalted, IsLast, IsSpent, IsPlace}
-use Rattle.init_engine.specs.steps.Slices.{HasRunOut, RunsOn, steps_of}
+use Rattle.init_engine.specs.steps.Slices.{HasRunOut, steps_of}
 use Rattle.init_engine.proofs.RoundLemmas.{asked_moved, asked_waiting, asked_ended, asked_so_far, next_so_far}
 use Rattle.init_engine.proofs.RoundLemmas.{ahead_so_far, ahead_counts, turns_of_last, run_so_far}
 use Rattle.init_engine.proofs.RoundLemmas.{stop_of_turns}
@@ -228,111 +226,96 @@ spends_turn P turn made from p w next before now after old mid new had left text
 abbrev pub after_rounds : Place → ℕ → Place
 after_rounds p n = record { left = p.left - n; asked = p.asked; done = p.done }
 
-spends_ahead : (P : Program) (count most n : ℕ) (p : Place) (w next : World) (before after : List ℕ)
-    (old new : List Line) (had : Allowance) (text : ℕ) → IsPlace count p → IsRunAhead P count w most n next before after
-    → PrintsBy n old new had.text text → n ≤ p.left → n ≤ had.steps → (0 < p.asked → n ≡ 0) →
-    Spends p (after_rounds p n) before after old new had (record { steps = had.steps - n; text = text })
-spends_ahead P count most n p w next before after old new had text is ahead prints fits room midst = record {
-  made = n;
-  fewer_to_go = (ahead_is n p.left p.asked p.done fits is.bounded is.few midst).0;
-  scheduled = ahead_counts P count most n w next before after ahead;
-  counted = omega (arith, room);
-  prints = prints;
+pub place_ahead : (count n : ℕ) (p : Place) → IsPlace count p → n ≤ p.left → (0 < p.asked → n ≡ 0)
+    → IsPlace count (after_rounds p n)
+place_ahead count n p is fits midst = record {
+  within = is.within;
+  bounded = (ahead_is n p.left p.asked p.done fits is.bounded is.few midst).1;
+  few = is.few;
 }
 
-goes_ahead : (P : Program) (count most n : ℕ) (p : Place) (w next : World) (before after : List ℕ)
-    → IsRunAhead P count w most n next before after → n ≤ p.left → (0 < p.asked → n ≡ 0)
-    → GoesOn P count p (after_rounds p n) w next before after
-goes_ahead P count most n p w next before after ahead fits midst first limit t =
-    ahead_so_far P count limit p.left p.asked p.done most n first w next before after t ahead fits midst
+pub spends_ahead : (P : Program) (count most n : ℕ) (from p : Place) (w next : World) (before now after : List ℕ)
+    (old mid new : List Line) (had left : Allowance) (text : ℕ) → Spends from p before now old mid had left →
+    p.done ≤ p.left → p.done ≤ p.asked → IsRunAhead P count w most n next now after →
+    PrintsBy n mid new left.text text → n ≤ p.left → n ≤ left.steps → (0 < p.asked → n ≡ 0) →
+    Spends from (after_rounds p n) before after old new had (record { steps = left.steps - n; text = text })
+spends_ahead P count most n from p w next before now after old mid new had left text spends bounded few alone prints
+    fits room midst =
+    let further : Spends p (after_rounds p n) now after mid new left (record { steps = left.steps - n; text = text }) =
+    record {
+      made = n;
+      fewer_to_go = (ahead_is n p.left p.asked p.done fits bounded few midst).0;
+      scheduled = ahead_counts P count most n w next now after alone;
+      counted = omega (arith, room);
+      prints = prints;
+    } in
+    spends_then from p (after_rounds p n) before now after old mid new had left
+    (record { steps = left.steps - n; text = text }) spends further
 
-goes_by_round : (P : Program) (count : ℕ) (p to : Place) (w new : World) (before after : List ℕ)
-    → AsksFurther P p to w new before after → to.left ≡ p.left → to.asked ≤ count
-    → GoesOn P count p to w new before after
-goes_by_round P count p to w new before after asks same within first limit t =
+pub goes_ahead : (P : Program) (count most n : ℕ) (from p : Place) (old w next : World) (before now after : List ℕ)
+    → GoesOn P count from p old w before now → IsRunAhead P count w most n next now after → n ≤ p.left →
+    (0 < p.asked → n ≡ 0) → GoesOn P count from (after_rounds p n) old next before after
+goes_ahead P count most n from p old w next before now after on alone fits midst first limit t =
+    ahead_so_far P count limit p.left p.asked p.done most n first w next now after (on first limit t) alone fits
+    midst
+
+pub goes_by_round : (P : Program) (count : ℕ) (from p to : Place) (old w new : World) (before now after : List ℕ)
+    → GoesOn P count from p old w before now → AsksFurther P p to w new now after → to.left ≡ p.left →
+    to.asked ≤ count → GoesOn P count from to old new before after
+goes_by_round P count from p to old w new before now after on asks same within first limit t =
     subst (λ k. TurnsSoFar P count first limit after k to.asked to.done new) (sym same)
-    (asked_so_far P count limit p.left p.asked p.done to.asked to.done first w new before after t within
+    (asked_so_far P count limit p.left p.asked p.done to.asked to.done first w new now after (on first limit t) within
     (λ begin rounds so. subst (λ k. IsAskedSo P begin k to.asked to.done new rounds after) same
     (asks begin rounds so)))
-
-goes_then : (P : Program) (count : ℕ) (x y z : Place) (a b c : World) (r s t : List ℕ) → GoesOn P count x y a b r s
-    → GoesOn P count y z b c s t → GoesOn P count x z a c r t
-goes_then P count x y z a b c r s t p q first limit so = q first limit (p first limit so)
-
--- both, one after the other
-pub runs_part : (P : Tables) (from to : Place) (w mid new : Standing) (before further after : List (ℕ × ℕ))
-    (had spent : Allowance) (most n text : ℕ) → IsPlace (length w.threads) from → most ≤ from.left → most ≤ had.steps →
-    (0 < from.asked → most ≡ 0) →
-    IsRunAhead (program_of P) (length w.threads) (world_of w) most n (world_of mid) (schedule_of before)
-    (schedule_of further) → PrintsBy n w.printed mid.printed had.text text →
-    AsksFurther (program_of P) (after_rounds from n) to (world_of mid) (world_of new) (schedule_of further)
-    (schedule_of after) → to.left ≡ from.left - n → IsPlace (length w.threads) to →
-    Spends (after_rounds from n) to (schedule_of further) (schedule_of after) mid.printed new.printed
-    (record { steps = had.steps - n; text = text }) spent → RunsOn P from to w new before after had spent
-runs_part P from to w mid new before further after had spent most n text at few room alone ahead prints asks same place
-    spends =
-    let p = program_of P in
-    let count = length w.threads in
-    let there = after_rounds from n in
-    let fits : n ≤ from.left = omega (arith, few, ahead.bounded) in
-    let within : n ≤ had.steps = omega (arith, room, ahead.bounded) in
-    let midst : 0 < from.asked → n ≡ 0 = λ some. omega (arith, alone some, ahead.bounded) in
-    record {
-      turns = goes_then p count from there to (world_of w) (world_of mid) (world_of new) (schedule_of before)
-          (schedule_of further) (schedule_of after)
-          (goes_ahead p count most n from (world_of w) (world_of mid) (schedule_of before) (schedule_of further) ahead
-          fits midst)
-          (goes_by_round p count there to (world_of mid) (world_of new) (schedule_of further) (schedule_of after) asks
-          same place.within);
-      place = place;
-      spends = spends_then from there to (schedule_of before) (schedule_of further) (schedule_of after) w.printed
-          mid.printed new.printed had (record { steps = had.steps - n; text = text }) spent
-          (spends_ahead p count most n from (world_of w) (world_of mid) (schedule_of before) (schedule_of further)
-          w.printed mid.printed had text at ahead prints fits within midst) spends;
-    }
-
--- ---- parts in a row
-
-pub runs_nowhere : (P : Tables) (p : Place) (w : Standing) (schedule : List (ℕ × ℕ)) (had : Allowance)
-    → IsPlace (length w.threads) p → RunsOn P p p w w schedule schedule had had
-runs_nowhere P p w schedule had place = record {
-  turns = λ first limit so. so;
-  place = place;
-  spends = spends_nothing p (schedule_of schedule) w.printed had;
-}
-
-pub runs_then : (P : Tables) (x y z : Place) (a b c : Standing) (r s t : List (ℕ × ℕ)) (had mid left : Allowance)
-    → length b.threads ≡ length a.threads → RunsOn P x y a b r s had mid → RunsOn P y z b c s t mid left
-    → RunsOn P x z a c r t had left
-runs_then P x y z a b c r s t had mid left same p q = record {
-  turns = goes_then (program_of P) (length a.threads) x y z (world_of a) (world_of b) (world_of c) (schedule_of r)
-      (schedule_of s) (schedule_of t) p.turns
-      (subst (λ k. GoesOn (program_of P) k y z (world_of b) (world_of c) (schedule_of s) (schedule_of t)) same q.turns);
-  place = subst (λ k. IsPlace k z) same q.place;
-  spends = spends_then x y z (schedule_of r) (schedule_of s) (schedule_of t) a.printed b.printed c.printed had mid left
-      p.spends q.spends;
-}
 
 -- the beginning of the next round
 abbrev pub after_round : Place → Place
 after_round p = record { left = p.left - p.done; asked = 0; done = 0 }
 
-pub runs_to_next : (P : Tables) (from p : Place) (old now : Standing) (before after : List (ℕ × ℕ))
-    (had left : Allowance) → RunsOn P from p old now before after had left → p.asked ≡ length old.threads → 0 < p.done
-    → RunsOn P from (after_round p) old now before after had left
-runs_to_next P from p old now before after had left runs all some = record {
-  turns = λ first limit t.
-      next_so_far (program_of P) (length old.threads) limit p.left p.asked p.done first (world_of now)
-      (schedule_of after) (runs.turns first limit t) all some;
-  place = record { within = omega arith; bounded = omega arith; few = omega arith };
-  spends = record {
-    made = runs.spends.made;
-    fewer_to_go = omega (arith, runs.spends.fewer_to_go);
-    scheduled = runs.spends.scheduled;
-    counted = runs.spends.counted;
-    prints = runs.spends.prints;
-  };
+pub goes_to_next : (P : Program) (count : ℕ) (from p : Place) (old now : World) (before after : List ℕ)
+    → GoesOn P count from p old now before after → p.asked ≡ count → 0 < p.done →
+    GoesOn P count from (after_round p) old now before after
+goes_to_next P count from p old now before after on all some first limit t =
+    next_so_far P count limit p.left p.asked p.done first now after (on first limit t) all some
+
+pub place_of_next : (count : ℕ) (p : Place) → IsPlace count (after_round p)
+place_of_next count p = record { within = omega arith; bounded = omega arith; few = omega arith }
+
+pub spends_to_next : (from p : Place) (before after : List ℕ) (old new : List Line) (had left : Allowance)
+    → Spends from p before after old new had left → Spends from (after_round p) before after old new had left
+spends_to_next from p before after old new had left s = record {
+  made = s.made;
+  fewer_to_go = omega (arith, s.fewer_to_go);
+  scheduled = s.scheduled;
+  counted = s.counted;
+  prints = s.prints;
 }
+
+-- ---- both, one after the other
+
+pub goes_round : (P : Program) (count threads most n : ℕ) (from p to : Place) (old w mid new : World)
+    (before now further after : List ℕ) → GoesOn P count from p old w before now → threads ≡ count →
+    IsRunAhead P threads w most n mid now further → n ≤ p.left → (0 < p.asked → n ≡ 0) →
+    AsksFurther P (after_rounds p n) to mid new further after → to.left ≡ p.left - n → to.asked ≤ count →
+    GoesOn P count from to old new before after
+goes_round P count threads most n from p to old w mid new before now further after on all alone fits midst asks same
+    within =
+    let ahead = goes_ahead P count most n from p old w mid before now further on
+    (subst (λ k. IsRunAhead P k w most n mid now further) all alone) fits midst in
+    goes_by_round P count from (after_rounds p n) to old mid new before further after ahead asks same within
+
+pub spends_round : (P : Program) (count threads most n : ℕ) (from p to : Place) (w mid : World)
+    (before now further after : List ℕ) (a b c d : List Line) (had left spent : Allowance) (text : ℕ) →
+    Spends from p before now a b had left → IsPlace count p → IsRunAhead P threads w most n mid now further →
+    PrintsBy n b c left.text text → n ≤ p.left → n ≤ left.steps → (0 < p.asked → n ≡ 0) →
+    Spends (after_rounds p n) to further after c d (record { steps = left.steps - n; text = text }) spent →
+    Spends from to before after a d had spent
+spends_round P count threads most n from p to w mid before now further after a b c d had left spent text spends is
+    alone prints fits room midst rest =
+    let ahead = spends_ahead P threads most n from p w mid before now further a b c had left text spends is.bounded
+    is.few alone prints fits room midst in
+    spends_then from (after_rounds p n) to before further after a c d had
+    (record { steps = left.steps - n; text = text }) spent ahead rest
 
 -- ---- where they halted
 

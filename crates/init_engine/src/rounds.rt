@@ -9,8 +9,8 @@ ghost use Rattle.courses.specs.steps.StepTables.{KeepsSteps};
 ghost use Rattle.init_engine.specs.Turns.{IsTurn, world_of};
 ghost use Rattle.init_engine.specs.Schedules.{schedule_of};
 ghost use Rattle.init_engine.specs.steps.Rounds.{IsAsking, IsRunAhead};
-ghost use Rattle.init_engine.specs.steps.Slices.{AsksFurther, HasHalted, HasPaused, HasRunOut, IsLast, IsPlace};
-ghost use Rattle.init_engine.specs.steps.Slices.{IsSpent, PrintsBy, RunsOn, Spends, steps_of, to_go_from};
+ghost use Rattle.init_engine.specs.steps.Slices.{AsksFurther, GoesOn, HasHalted, HasPaused, IsLast, IsPlace};
+ghost use Rattle.init_engine.specs.steps.Slices.{HasRunOut, IsSpent, PrintsBy, Spends, steps_of, to_go_from};
 ghost use Rattle.init_engine.specs.Turnings.{RunsAhead};
 
 use crate::schedule::Schedule;
@@ -264,36 +264,6 @@ fn run_ahead(
     Ok(done)
 }
 
-/// Rounds of one step where there is one thread, and then a round, up to its end, to the limit or to the end of the
-/// slice. It answers where it stands then.
-fn run_part(
-    alloc: Global,
-    program: &Program,
-    world: &mut World,
-    table: &mut StepTable,
-    schedule: &mut Schedule,
-    from: Place,
-    allowance: &mut Allowance,
-) -> Result<Place, AllocError>
-    requires place { IsPlace (length world.old.threads) from }
-    requires room { length (schedule_of schedule.old) + to_go_from from < 2 ^ 64 }
-    requires steps { KeepsSteps program.now table.old }
-    ensures steps { OnOk result (KeepsSteps program.now table.new) }
-    ensures runs { IfOk result (λ to. RunsOn program.now from to world.old world.new schedule.old schedule.new
-        allowance.old allowance.new) }
-    ensures paused { IfOk result (λ to. HasPaused (length world.old.threads) to allowance.new) }
-    ensures threads { length world.new.threads ≡ length world.old.threads }
-{
-    let mut place = from;
-    let most = place.rounds_of_one(allowance.steps);
-    let text = &mut allowance.text;
-    let ahead = run_ahead(alloc, program, world, table, schedule, text, most)?;
-    place.left -= ahead;
-    allowance.steps -= ahead;
-    let to = round(alloc, program, world, schedule, place, allowance)?;
-    Ok(to)
-}
-
 /// Rounds from a place on, up to one without a step, to the limit or to the end of the slice. It answers where they
 /// stand then, and whether they are over.
 pub(crate) fn run_rounds(
@@ -309,15 +279,30 @@ pub(crate) fn run_rounds(
     requires room { length (schedule_of schedule.old) + to_go_from from < 2 ^ 64 }
     requires steps { KeepsSteps program.now table.old }
     ensures steps { OnOk result (KeepsSteps program.now table.new) }
-    ensures runs { IfOk result (λ r. RunsOn program.now from r.0 world.old world.new schedule.old schedule.new
-        allowance.old allowance.new) }
+    ensures turns { IfOk result (λ r. GoesOn (program_of program.now) (length world.old.threads) from r.0
+        (world_of world.old) (world_of world.new) (schedule_of schedule.old) (schedule_of schedule.new)) }
+    ensures place { IfOk result (λ r. IsPlace (length world.old.threads) r.0) }
+    ensures spends { IfOk result (λ r. Spends from r.0 (schedule_of schedule.old) (schedule_of schedule.new)
+        world.old.printed world.new.printed allowance.old allowance.new) }
     ensures halted { IfOk result (λ r. HasHalted (length world.old.threads) r.1 r.0 allowance.new) }
     ensures threads { length world.new.threads ≡ length world.old.threads }
 {
     let count = world.thread_count();
     let mut place = from;
     'rounds: loop {
-        place = run_part(alloc, program, world, table, schedule, place, allowance)?;
+        let most = place.rounds_of_one(allowance.steps);
+        let ahead = run_ahead(
+            alloc,
+            program,
+            world,
+            table,
+            schedule,
+            &mut allowance.text,
+            most,
+        )?;
+        place.left -= ahead;
+        allowance.steps -= ahead;
+        place = round(alloc, program, world, schedule, place, allowance)?;
         if place.is_last(count) {
             return Ok((place, true));
         }

@@ -3,11 +3,6 @@ use Rattle.std.specs.Prelude.{◌≡◌, ℕ, ◌+◌, ◌-◌, ◌≤◌, ◌�
 use Rattle.vm_state.specs.declared.text.Line.{Line}
 use Rattle.semantics.specs.Programs.{Program}
 use Rattle.semantics.specs.Worlds.{World, step}
-use Rattle.program.specs.Tables.{Tables}
-use Rattle.machine.specs.Linked.{program_of}
-use Rattle.init_engine.specs.Standing.{Standing}
-use Rattle.init_engine.specs.Schedules.{schedule_of}
-use Rattle.init_engine.specs.Turns.{world_of}
 use Rattle.init_engine.specs.declared.world.Turn.{Turn}
 use Rattle.init_engine.specs.declared.world.Turn.TheVariants.{Moved, Waiting, Ended}
 use Rattle.init_engine.specs.declared.rounds.Place.{Place}
@@ -66,14 +61,6 @@ abbrev pub GoesOn : Program → ℕ → Place → Place → World → World → 
 GoesOn P count from to old new before after =
     (first : World) (limit : ℕ) → TurnsSoFar P count first limit before from.left from.asked from.done old
     → TurnsSoFar P count first limit after to.left to.asked to.done new
-
--- turns went on from a place to another one, with what they spent
-pub record RunsOn (P : Tables) (from to : Place) (old new : Standing) (before after : List (ℕ × ℕ))
-    (had left : Allowance) : Type 0 where
-  pub turns : GoesOn (program_of P) (length old.threads) from to (world_of old) (world_of new) (schedule_of before)
-      (schedule_of after)
-  pub place : IsPlace (length old.threads) to
-  pub spends : Spends from to (schedule_of before) (schedule_of after) old.printed new.printed had left
 
 -- a round stopped: all threads were asked, the limit was reached, or the slice ended
 abbrev pub HasPaused : ℕ → Place → Allowance → Type 0

@@ -12,11 +12,11 @@ returns-clause-turns c =
       table = c.run_rounds.new.table;
       schedule = c.run_rounds.new.schedule;
       place = c.in_ok-place.place;
-    })) c.run_rounds.new.allowance under c.in_ok-place.ensures.runs.turns c.run_rounds.ensures.threads
+    })) c.run_rounds.new.allowance under c.in_ok-place.ensures.turns c.run_rounds.ensures.threads
     c.in_ok-place.ensures.halted)
 
 pub returns-clause-slice : goal.returns-clause-slice
 returns-clause-slice c =
     rw (← c.self.view_is)
-    (is_slice c.args.steps c.args.bytes _ c.in_ok-place.over _ _ _ c.in_ok-place.ensures.runs.spends
+    (is_slice c.args.steps c.args.bytes _ c.in_ok-place.over _ _ _ c.in_ok-place.ensures.spends
     c.in_ok-place.ensures.halted)
