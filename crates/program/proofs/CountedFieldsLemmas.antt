@@ -31,7 +31,7 @@ module _ (test : Member → Bool) (fields items : List Member) (i : ℕ) (field 
     still_within = omega (arith, within, ap length are)
 
     pub counts : passes ≡ true → count_by test (take (i + 1) fields) ≡ count_by test (take i fields) + 1
-    counts yes = count_by_more_yes test fields i field still_within (is_tested ∙ yes)
+    counts e = count_by_more_yes test fields i field still_within (is_tested ∙ e)
 
     pub counts_not : passes ≡ false → count_by test (take (i + 1) fields) ≡ count_by test (take i fields)
-    counts_not no = count_by_more_no test fields i field still_within (is_tested ∙ no)
+    counts_not e = count_by_more_no test fields i field still_within (is_tested ∙ e)
