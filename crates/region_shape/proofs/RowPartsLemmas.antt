@@ -17,7 +17,7 @@ use Rattle.frame_instructions.specs.declared.trap.Trap.{Trap}
 use Rattle.frame_instructions.specs.declared.trap.Trap.TheVariants as traps
 use Rattle.program.specs.Tables.{Tables}
 use Rattle.machine.specs.Arrays.{unless_trapped}
-use Rattle.machine.specs.ObjectParts.{on_name, class_of_nameless, ask_class_of, without_object, on_object}
+use Rattle.machine.specs.ObjectParts.{on_name, class_of_nameless, ask_class_of, without_object, with_object}
 use Rattle.machine.specs.RowParts.{halts, needing, goes_on, push, raises}
 use Rattle.semantics.specs.Moves.{advanced, with_operands}
 use Rattle.machine.proofs.TableLemmas.{needing_any}
@@ -80,5 +80,5 @@ module _ (P : Tables) (types : Types) where
   without_object_keeps (values.Int n) = tt
   without_object_keeps (values.Long n) = tt
 
-  pub on_object_keeps : (v : Value) (go : Name → Row) → ((x : Name) → Keeps (go x)) → Keeps (on_object v go)
+  pub on_object_keeps : (v : Value) (go : Name → Row) → ((x : Name) → Keeps (go x)) → Keeps (with_object v go)
   on_object_keeps v go on = on_name_keeps (name_of v) (without_object v) go (without_object_keeps v) on
