@@ -1,7 +1,7 @@
 -- What is answered of a run, from what its book has.
 use Rattle.std.proofs.Common.{◌≡◌, ℕ, ◌≤◌, ◌++◌, List, Option, Some, None, Result, Ok, Err, sym, ap}
 use Rattle.std.proofs.Common.{subst, ◌∙◌, arith, take, length, ◌<◌, ◌+◌, ◌⊎◌, inl, inr}
-use Rattle.std.specs.Prelude.{IfSome, IsSome}
+use Rattle.std.specs.Prelude.{IsSome}
 use Rattle.std.proofs.Math.Seq.{take-length}
 use Rattle.std.specs.Io.KnownBytes.{Appends}
 use Rattle.vm_state.specs.declared.text.Line.{Line}
@@ -98,15 +98,6 @@ answer_of P start limit failed failures schedule s (Err (Limit e)) before got ru
     ended_so P start s e (IsAtLimit P limit e) before got sent v.0 v.1
 answer_of P start limit failed failures schedule s (Err (Stuck e)) before got run sent v =
     ended_so P start s e (IsStuck (program_of P)) before got sent v.0 v.1
-
-pub answers : (P : Tables) (start : World) (limit failed failures : ℕ) (schedule : List ℕ) (s : Standing)
-    (o : Option (Result Ended RunFault)) (before got : Option (List ℕ))
-    → Run (program_of P) start schedule (world_of s) → Appends before got (text_of s.printed)
-    → IfSome o (λ r. IsVerdict P start limit (world_of s) r)
-    → IfSome o (λ r. IsAnswer P start limit r before got failed failures)
-answers P start limit failed failures schedule s None before got run sent v = tt
-answers P start limit failed failures schedule s (Some r) before got run sent v =
-    answer_of P start limit failed failures schedule s r before got run sent v
 
 -- a sink that has got all
 pub holds_all : (before got : Option (List ℕ)) (text : List ℕ) (n : ℕ) → n ≡ length text

@@ -4,7 +4,10 @@ ghost use Rattle.std.specs.Prelude.{◌≡◌, ◌≢◌, ◌<◌, ◌≤◌, �
 ghost use Rattle.std.specs.Prelude.{length, take};
 ghost use Rattle.std.proofs.Props.{props};
 ghost use Rattle.machine.specs.Linked.{program_of};
-ghost use Rattle.init_engine.specs.Rests.{HasStep};
+ghost use Rattle.semantics.specs.Worlds.{seen};
+ghost use Rattle.init_engine.specs.Observations.{IsObservation};
+ghost use Rattle.init_engine.specs.Rests.{IsRest};
+ghost use Rattle.init_engine.specs.declared.stuck.Rest.TheVariants.{Going};
 ghost use Rattle.init_engine.specs.Turns.{world_of};
 ghost use Rattle.thread_runner.specs.Answers.{IsAnswer, IsFault};
 ghost use Rattle.thread_runner.specs.Kept.{printed_text, steps_of};
@@ -272,9 +275,10 @@ impl<O: Session, S: Sink> Desk<O, S> {
         if let Some(fault) = desk.fault(started) {
             return Ok((Err(fault), desk.into_sink()));
         }
-        if goes_on(program, &desk.book) {
+        let _world = desk.book.world();
+        let Some(rest) = rest_of(program, &desk.book) else {
             return Err(desk);
-        }
+        };
         let Desk {
             book,
             sink,
@@ -284,7 +288,7 @@ impl<O: Session, S: Sink> Desk<O, S> {
             memory: _,
             failed: _,
         } = desk;
-        Ok((verdict_of(alloc, program, book), sink))
+        Ok((verdict_of(alloc, book, rest), sink))
     }
 
     /// The sink.
@@ -339,26 +343,40 @@ fn front_of<O: Origin>(
     }
 }
 
-/// Whether a thread of a book's world has a step, and the journal has fewer than it may.
-fn goes_on<O: Origin>(program: &Program, book: &Book<O>) -> bool
-    ensures { result ≡ false → HasStep (program_of program.now) (world_of book.now.past.world)
-        → book.now.past.limit ≤ steps_of book.now.past }
+/// How the world of a book stands, where the run is over.
+fn rest_of<O: Origin>(program: &Program, book: &Book<O>) -> Option<Rest>
+    ensures rest { IfSome result (IsRest (program_of program.now) (world_of book.now.past.world)) }
+    ensures full { result ≡ Some Going → book.now.past.limit ≤ steps_of book.now.past }
 {
     match book.world().rest(program) {
-        Rest::Going => !book.is_full(),
-        Rest::Ended | Rest::Stuck => false,
+        Rest::Going => {
+            if book.is_full() {
+                Some(Rest::Going)
+            } else {
+                None
+            }
+        }
+        rest => Some(rest),
     }
 }
 
-/// What a run answers by its book alone, where it is over.
-fn verdict_of<O: Origin>(alloc: Global, program: &Program, book: Book<O>) -> Result<Ended, RunFault>
-    requires program { program.now ≡ O.program }
-    requires over { HasStep (program_of program.now) (world_of book.past.world) → book.past.limit ≤ steps_of book.past }
+/// The journal of a book, and what is seen of its world. Both are handed over.
+fn end_of<O: Origin>(alloc: Global, book: Book<O>) -> Result<Ended, AllocError>
+    ensures journal { IfOk result (λ e. e.journal ≡ book.past.journal) }
+    ensures seen { IfOk result (λ e. IsObservation e.seen (seen (world_of book.past.world))) }
+{
+    let (world, runs) = book.into_parts();
+    end_with(alloc, world, Journal::of(runs))
+}
+
+/// What a run answers by its book alone, where it is over and its world stands so.
+fn verdict_of<O: Origin>(alloc: Global, book: Book<O>, rest: Rest) -> Result<Ended, RunFault>
+    requires rest { IsRest (program_of O.program) (world_of book.past.world) rest }
+    requires full { rest ≡ Going → book.past.limit ≤ steps_of book.past }
     ensures { IsVerdict O.program O.start book.past.limit (world_of book.past.world) result }
 {
-    let rest = book.world().rest(program);
-    let (world, runs) = book.into_parts();
-    let Ok(ended) = end_with(alloc, world, Journal::of(runs)) else {
+    let _world = book.world();
+    let Ok(ended) = end_of(alloc, book) else {
         return Err(RunFault::Memory);
     };
     match rest {
