@@ -61,6 +61,29 @@ pub fn add_class_files(
     Ok(misspelled)
 }
 
+/// What `read` makes of each class file of a text, unless something is misspelled or it makes nothing of one.
+pub fn read_class_files<C: Drop, F: Fn(&[u8]) -> Option<C>>(
+    alloc: Global,
+    text: &str,
+    read: F,
+) -> Result<Option<Vec<C>>, AllocError>
+    requires { F.IsAlwaysCallable read }
+{
+    let mut files = Vec::new(alloc);
+    let misspelled = add_class_files(alloc, &mut files, text)?;
+    if !misspelled.is_empty() {
+        return Ok(None);
+    }
+    let mut classes = Vec::new(alloc);
+    for bytes in &files {
+        let Some(class) = read(bytes.as_slice()) else {
+            return Ok(None);
+        };
+        classes.push(class)?;
+    }
+    Ok(Some(classes))
+}
+
 fn add_class_file(
     alloc: Global,
     files: &mut Vec<Vec<u8>>,

@@ -16,7 +16,7 @@ mod repeated;
 mod spelling;
 
 pub use class::ClassBuilder;
-pub use class_text::add_class_files;
+pub use class_text::{add_class_files, read_class_files};
 pub use driver::{Subject, Tally, run_cases};
 pub use modified::modified_utf8;
 pub use spelling::{SpelledBytes, filled, spelled};

@@ -3,11 +3,15 @@
 ghost use Rattle.std.specs.Prelude.{Some};
 
 use crate::programs::{CIRCLE, M, Q_AND_T, SPIN, Tape, program_of, start_of, start_with};
+use init_engine::World;
+use program::Program;
 use std::process::Abort;
 use std::rt::Clock;
+use std::sync::Wait;
 use std::sync::atomic::{AtomicU64, Ordering};
 use std::test::*;
 use std::thread;
+use std::thread::Threads;
 use std::time::Duration;
 use thread_runner::{Gate, RunFault, Sink, SinkFault, run_threads};
 
@@ -56,37 +60,43 @@ impl<'a, R: Clock + Sync> Gate for Meet<'a, R> {
     fn done(&self, _who: u32, _job: u64) {}
 }
 
-#[test]
-fn two_threads_meet(rt: HostRuntime) -> Result<(), Fail> {
+/// Threads of these entries, of which one initializes `Q`, come to their ends at a gate.
+fn get_through<R: Threads + Wait + Abort + AllocGlobal + Sync, G: Gate>(
+    rt: &R,
+    entries: &[&str],
+    gate: &G,
+) -> Result<(), Fail> {
     let program = program_of(rt.alloc(), Q_AND_T)?;
-    let world = start_of(rt.alloc(), &program, &["T", "T"])?;
-    let gate = Meet::new(&rt, 2);
+    let world = start_of(rt.alloc(), &program, entries)?;
     let tape = Tape::new(rt.alloc(), 100);
-    let (answer, tape) = run_threads(&rt, rt.alloc(), &program, world, &gate, tape, 10_000);
+    let (answer, tape) = run_threads(rt, rt.alloc(), &program, world, gate, tape, 10_000);
     let Ok(ended) = answer else {
         return Err(Fail::new("no end"));
     };
     assert_eq!(rt; tape.got.as_slice(), b"5\n".as_slice());
-    assert_eq!(rt; ended.seen.threads.len(), 2);
-    assert!(rt; gate.inside.load(Ordering::SeqCst) >= 2);
-    assert_eq!(rt; gate.late.load(Ordering::SeqCst), 0);
+    assert_eq!(rt; ended.seen.threads.len(), entries.len());
+    Ok(())
+}
+
+/// As many were inside as are needed, and none was late.
+fn all_met<R: Abort, C: Clock>(rt: &R, meet: &Meet<'_, C>) {
+    assert!(rt; meet.inside.load(Ordering::SeqCst) >= meet.need);
+    assert_eq!(rt; meet.late.load(Ordering::SeqCst), 0);
+}
+
+#[test]
+fn two_threads_meet(rt: HostRuntime) -> Result<(), Fail> {
+    let gate = Meet::new(&rt, 2);
+    get_through(&rt, &["T", "T"], &gate)?;
+    all_met(&rt, &gate);
     Ok(())
 }
 
 #[test]
 fn sixty_four_threads_meet(rt: HostRuntime) -> Result<(), Fail> {
-    let program = program_of(rt.alloc(), Q_AND_T)?;
-    let world = start_of(rt.alloc(), &program, &["T"; 64])?;
     let gate = Meet::new(&rt, 64);
-    let tape = Tape::new(rt.alloc(), 100);
-    let (answer, tape) = run_threads(&rt, rt.alloc(), &program, world, &gate, tape, 10_000);
-    let Ok(ended) = answer else {
-        return Err(Fail::new("no end"));
-    };
-    assert_eq!(rt; tape.got.as_slice(), b"5\n".as_slice());
-    assert_eq!(rt; ended.seen.threads.len(), 64);
-    assert!(rt; gate.inside.load(Ordering::SeqCst) >= 64);
-    assert_eq!(rt; gate.late.load(Ordering::SeqCst), 0);
+    get_through(&rt, &["T"; 64], &gate)?;
+    all_met(&rt, &gate);
     Ok(())
 }
 
@@ -110,20 +120,11 @@ impl<'a, R: Clock + Sync> Gate for After<'a, R> {
 
 #[test]
 fn two_threads_meet_after_a_stretch(rt: HostRuntime) -> Result<(), Fail> {
-    let program = program_of(rt.alloc(), Q_AND_T)?;
-    let world = start_of(rt.alloc(), &program, &["T", "T"])?;
     let gate = After {
         meet: Meet::new(&rt, 2),
     };
-    let tape = Tape::new(rt.alloc(), 100);
-    let (answer, tape) = run_threads(&rt, rt.alloc(), &program, world, &gate, tape, 10_000);
-    let Ok(ended) = answer else {
-        return Err(Fail::new("no end"));
-    };
-    assert_eq!(rt; tape.got.as_slice(), b"5\n".as_slice());
-    assert_eq!(rt; ended.seen.threads.len(), 2);
-    assert!(rt; gate.meet.inside.load(Ordering::SeqCst) >= 2);
-    assert_eq!(rt; gate.meet.late.load(Ordering::SeqCst), 0);
+    get_through(&rt, &["T", "T"], &gate)?;
+    all_met(&rt, &gate.meet);
     Ok(())
 }
 
@@ -228,16 +229,19 @@ impl<'a, R: Clock + Sync> Gate for Both<'a, R> {
     fn done(&self, _who: u32, _job: u64) {}
 }
 
-#[test]
-fn two_threads_wait_for_one_another(rt: HostRuntime) -> Result<(), Fail> {
-    let program = program_of(rt.alloc(), CIRCLE)?;
-    let world = start_of(rt.alloc(), &program, &["Pa", "Pb"])?;
+/// Two threads that meet before their stretches of a number get stuck.
+fn get_stuck<R: Threads + Wait + Abort + Clock + AllocGlobal + Sync>(
+    rt: &R,
+    program: &Program,
+    world: World,
+    job: u64,
+) -> Result<(), Fail> {
     let gate = Both {
-        job: 5,
-        meet: Meet::new(&rt, 2),
+        job,
+        meet: Meet::new(rt, 2),
     };
     let tape = Tape::new(rt.alloc(), 100);
-    let (answer, tape) = run_threads(&rt, rt.alloc(), &program, world, &gate, tape, 10_000);
+    let (answer, tape) = run_threads(rt, rt.alloc(), program, world, &gate, tape, 10_000);
     let Err(RunFault::Stuck(ended)) = answer else {
         return Err(Fail::new("not stuck"));
     };
@@ -248,20 +252,15 @@ fn two_threads_wait_for_one_another(rt: HostRuntime) -> Result<(), Fail> {
 }
 
 #[test]
+fn two_threads_wait_for_one_another(rt: HostRuntime) -> Result<(), Fail> {
+    let program = program_of(rt.alloc(), CIRCLE)?;
+    let world = start_of(rt.alloc(), &program, &["Pa", "Pb"])?;
+    get_stuck(&rt, &program, world, 5)
+}
+
+#[test]
 fn two_threads_wait_where_their_entries_are_initialized(rt: HostRuntime) -> Result<(), Fail> {
     let program = program_of(rt.alloc(), CIRCLE)?;
     let world = start_with(rt.alloc(), &program, &["Pa", "Pb"], &["Pa", "Pb"])?;
-    let gate = Both {
-        job: 3,
-        meet: Meet::new(&rt, 2),
-    };
-    let tape = Tape::new(rt.alloc(), 100);
-    let (answer, tape) = run_threads(&rt, rt.alloc(), &program, world, &gate, tape, 10_000);
-    let Err(RunFault::Stuck(ended)) = answer else {
-        return Err(Fail::new("not stuck"));
-    };
-    assert_eq!(rt; tape.got.len(), 0);
-    assert_eq!(rt; ended.seen.threads.len(), 2);
-    assert_eq!(rt; gate.meet.late.load(Ordering::SeqCst), 0);
-    Ok(())
+    get_stuck(&rt, &program, world, 3)
 }

@@ -2,7 +2,7 @@
 
 ghost use Rattle.std.specs.Prelude.{Some};
 
-use cases::{add_class_files, modified_utf8};
+use cases::{modified_utf8, read_class_files};
 use classfile::{ClassName, read};
 use init_engine::World;
 use init_engine::starting::{entry_classes, lazy_shared};
@@ -47,18 +47,9 @@ class Main21: main 8 8 iconst_3 invokestatic Sq.f(I)I pop return";
 
 /// The program of classes in their text form.
 pub fn program_of(alloc: Global, text: &str) -> Result<Program, Fail> {
-    let mut files = Vec::new(alloc);
-    let misspelled = add_class_files(alloc, &mut files, text)?;
-    if !misspelled.is_empty() {
-        return Err(Fail::new("misspelled"));
-    }
-    let mut classes = Vec::new(alloc);
-    for bytes in &files {
-        match read(alloc, bytes) {
-            Ok(class) => classes.push(class)?,
-            Err(_) => return Err(Fail::new("no class file")),
-        }
-    }
+    let Some(classes) = read_class_files(alloc, text, |bytes| read(alloc, bytes).ok())? else {
+        return Err(Fail::new("no class files"));
+    };
     match link(alloc, classes) {
         Ok(program) => Ok(program),
         Err(_) => Err(Fail::new("no program")),

@@ -8,11 +8,12 @@ use Rattle.machine.specs.Linked.{program_of}
 use Rattle.init_engine.specs.Schedules.{schedule_of, AreRuns}
 use Rattle.init_engine.specs.Standing.{Standing}
 use Rattle.init_engine.specs.Turnings.{RunsAhead}
-use Rattle.thread_runner.specs.Kept.{Grows, IsKept, Past, steps_of}
+use Rattle.thread_runner.specs.Commits.{GoesOn, PagesGoOn}
+use Rattle.thread_runner.specs.Kept.{Grows, IsKept, Pages, Past, steps_of}
 use Rattle.thread_runner.specs.Sendings.{IsPlace, sent_of}
 use Rattle.thread_runner.specs.steps.Alone.{RunsOn}
 use Rattle.thread_runner.proofs.BookLemmas.{keeps_more, longer}
-use Rattle.thread_runner.proofs.SendingLemmas.{place_grown, sent_stays}
+use Rattle.thread_runner.proofs.SendingLemmas.{place_grown, place_within, sent_stays}
 
 -- what a history keeps, after steps of a thread that ran ahead in its world
 pub kept_on : (P : Tables) (start : World) (h : Past) (v : Standing) (j : List (ℕ × ℕ)) (before t most bytes made : ℕ)
@@ -43,6 +44,21 @@ pub sent_as_before : (old new : List Line) (i n : ℕ) → Grows old new → IsP
     → sent_of new i n ≡ sent_of old i n
 sent_as_before old new i n (more, grown) place =
     ap (λ (ls : List Line). sent_of ls i n) grown ∙ sent_stays old more i n place
+
+-- a book of this history, of whose lines so many have gone out, and so many bytes of the next
+abbrev pub pages_of : Past → ℕ → ℕ → Pages
+pages_of h i n = record { past = h; sent = sent_of h.world.printed i n; part = n }
+
+pub pages_go_on : (old new : Past) (i n : ℕ) → IsPlace old.world.printed i n → GoesOn old new
+    → PagesGoOn (pages_of old i n) (pages_of new i n)
+pages_go_on old new i n place on = record {
+  sent = sent_as_before old.world.printed new.world.printed i n on.grows place;
+  part = refl;
+  within = place_within old.world.printed i n place;
+  grows = on.grows;
+  threads = on.threads;
+  limit = on.limit;
+}
 
 -- how many steps may still be made
 pub room_on : (old new now : Past) (t made most : ℕ) → RunsOn t old new made → now ≡ new → made ≤ most

@@ -25,7 +25,7 @@ use Rattle.init_engine.specs.declared.world.Turn.TheVariants as turns
 use Rattle.thread_runner.specs.Local.{local_steps, local_step}
 use Rattle.thread_runner.specs.Stretches.{IsLocalRun, Reach}
 use Rattle.thread_runner.specs.Kept.{Grows, IsKept, Past, steps_of}
-use Rattle.thread_runner.specs.Commits.{Fits, IsCommit, IsSettled, MovedTo, after, there}
+use Rattle.thread_runner.specs.Commits.{Fits, GoesOn, IsCommit, IsSettled, MovedTo, after, there}
 use Rattle.thread_runner.specs.Fronts.{FitsFront, FrontReach, IsFrontCommit, after_front, front_count}
 use Rattle.thread_runner.specs.declared.history.Commit.{Commit}
 use Rattle.thread_runner.specs.declared.history.Commit.TheVariants as commits
@@ -135,6 +135,37 @@ grows_by turns.Waiting old new same = grows_none old new same
 grows_by turns.Ended old new same = grows_none old new same
 
 -- ---- what a commit does
+
+-- a history of these parts
+abbrev pub past_of : Standing → List (ℕ × ℕ) → ℕ → Past
+past_of w j limit = record { world = w; journal = j; limit = limit }
+
+-- a history goes on where nothing happens, and by a turn
+pub stays_so : (h : Past) → GoesOn h h
+stays_so h = record { grows = grows_none h.world.printed h.world.printed refl; threads = refl; limit = refl }
+
+pub goes_none : (h : Past) (w : Standing) (j : List (ℕ × ℕ)) → world_of w ≡ world_of h.world
+    → length w.threads ≡ length h.world.threads → GoesOn h (past_of w j h.limit)
+goes_none h w j same threads = record {
+  grows = grows_none h.world.printed w.printed (printed_same w h.world same);
+  threads = threads;
+  limit = refl;
+}
+
+pub goes_by : (h : Past) (w : Standing) (j : List (ℕ × ℕ)) (turn : Turn) → Prints turn h.world.printed w.printed
+    → length w.threads ≡ length h.world.threads → GoesOn h (past_of w j h.limit)
+goes_by h w j turn prints threads = record {
+  grows = grows_by turn h.world.printed w.printed prints;
+  threads = threads;
+  limit = refl;
+}
+
+-- more steps of a thread in a journal that is the same as another one
+pub schedule_grown : (old now new : List (ℕ × ℕ)) (t made n : ℕ)
+    → schedule_of new ≡ schedule_of now ++ replicate made t → now ≡ old → made ≡ n
+    → schedule_of new ≡ schedule_of old ++ replicate n t
+schedule_grown old now new t made n grown same is =
+    grown ∙ (ap (λ j. schedule_of j ++ replicate made t) same ∙ ap (λ k. schedule_of old ++ replicate k t) is)
 
 -- how many steps a journal has after so many more
 pub longer : (xs ys : List (ℕ × ℕ)) (n t : ℕ) → schedule_of ys ≡ schedule_of xs ++ replicate n t

@@ -258,5 +258,16 @@ sent_on before got after old new more i n j m grown place had sends =
     (appends_then before got after (take (sent_of new i n) (text_of new)) sends.piece
     (subst (λ (t : List ℕ). Appends before got t) (sym same) had) sends.sent)
 
+-- the same of lines that were read: the place that was come to, and what went out up to it
+pub slice_sent : (before got after : Option (List ℕ)) (old new now more : List Line) (i n j m : ℕ) → now ≡ new
+    → new ≡ old ++ more → IsPlace old i n → Appends before got (take (sent_of old i n) (text_of old)) → IsPlace now j m
+    → SendsOn (text_of now) (sent_of now i n) (sent_of now j m) got after
+    → IsPlace new j m × Appends before after (take (sent_of new j m) (text_of new))
+slice_sent before got after old new now more i n j m same grown place had there sends = (
+  subst (λ (ls : List Line). IsPlace ls j m) same there,
+  sent_on before got after old new more i n j m grown place had
+      (subst (λ (ls : List Line). SendsOn (text_of ls) (sent_of ls i n) (sent_of ls j m) got after) same sends),
+)
+
 pub nothing_sent : (got : Option (List ℕ)) → Appends got got []
 nothing_sent got = appends_none got

@@ -1,5 +1,6 @@
 -- What a commit answers, and what it changes.
-use Rattle.std.specs.Prelude.{◌≡◌, ℕ, zero, suc, ◌+◌, ◌<◌, ◌≤◌, ◌++◌, Option, Some, None, replicate, slice_get}
+use Rattle.std.specs.Prelude.{◌≡◌, ℕ, zero, suc, ◌+◌, ◌<◌, ◌≤◌, ◌++◌, Option, Some, None, length, replicate}
+use Rattle.std.specs.Prelude.{slice_get}
 use Rattle.vm_state.specs.declared.initialization.Frames.{Frames}
 use Rattle.semantics.specs.Worlds.{World, step}
 use Rattle.program.specs.Tables.{Tables}
@@ -10,7 +11,7 @@ use Rattle.init_engine.specs.Stacks.{AreFrames, with_thread}
 use Rattle.init_engine.specs.Turns.{Goes, IsOver, world_of}
 use Rattle.thread_runner.specs.Local.{AreDone}
 use Rattle.thread_runner.specs.Stretches.{Reach}
-use Rattle.thread_runner.specs.Kept.{Past, steps_of}
+use Rattle.thread_runner.specs.Kept.{Grows, Pages, Past, printed_text, steps_of}
 use Rattle.thread_runner.specs.declared.history.Commit.{Commit}
 use Rattle.thread_runner.specs.declared.history.Commit.TheVariants.{Full, Stale, Moved, Waiting, Ended}
 
@@ -32,6 +33,21 @@ pub record Same (old new : Past) : Type 0 where
   pub world : world_of new.world ≡ world_of old.world
   pub journal : new.journal ≡ old.journal
   pub limit : new.limit ≡ old.limit
+
+-- what a commit leaves: the lines that were printed, and maybe more, as many threads, and the limit
+pub record GoesOn (old new : Past) : Type 0 where
+  pub grows : Grows old.world.printed new.world.printed
+  pub threads : length new.world.threads ≡ length old.world.threads
+  pub limit : new.limit ≡ old.limit
+
+-- the same of a book, of which no more has gone out
+pub record PagesGoOn (old new : Pages) : Type 0 where
+  pub sent : new.sent ≡ old.sent
+  pub part : new.part ≡ old.part
+  pub within : old.sent ≤ length (printed_text old)
+  pub grows : Grows old.past.world.printed new.past.world.printed
+  pub threads : length new.past.world.threads ≡ length old.past.world.threads
+  pub limit : new.past.limit ≡ old.past.limit
 
 -- this world, with n steps of t more in the journal
 pub record Grew (old : Past) (t : ℕ) (w : World) (n : ℕ) (new : Past) : Type 0 where

@@ -6,13 +6,13 @@ ghost use Rattle.vm_state.specs.declared.classes.ClassState.TheVariants.{Initial
 ghost use Rattle.init_engine.specs.Schedules.{AreRuns};
 ghost use Rattle.init_engine.specs.Stacks.{AreFrames, front_of};
 ghost use Rattle.init_engine.specs.Turns.{world_of};
-ghost use Rattle.thread_runner.specs.Commits.{IsCommit, Same};
+ghost use Rattle.thread_runner.specs.Commits.{IsCommit, PagesGoOn, Same};
 ghost use Rattle.thread_runner.specs.Fronts.{IsFrontCommit};
-ghost use Rattle.thread_runner.specs.Kept.{Grows, IsKept, printed_text, steps_of};
+ghost use Rattle.thread_runner.specs.Kept.{IsKept, printed_text, steps_of};
 ghost use Rattle.thread_runner.specs.Local.{AreDone, is_done};
 ghost use Rattle.courses.specs.steps.StepTables.{KeepsSteps};
 ghost use Rattle.thread_runner.specs.Sendings.{AreOfLines, SendsOn};
-ghost use Rattle.thread_runner.specs.steps.Alone.{RunsOn};
+ghost use Rattle.thread_runner.specs.steps.Alone.{CanRunOn, RunsOn};
 
 use crate::done_set::DoneSet;
 use crate::front::FrontStretch;
@@ -147,12 +147,7 @@ impl<O: Origin> Book<O> {
         requires program { program.now ≡ O.program }
         requires thread { thread < length self.old.past.world.threads }
         ensures answer { IfOk result (λ a. IsCommit O.program self.old.past thread stretch a self.new.past) }
-        ensures sent { self.new.sent ≡ self.old.sent }
-        ensures part { self.new.part ≡ self.old.part }
-        ensures within { self.old.sent ≤ length (printed_text self.old) }
-        ensures grows { Grows self.old.past.world.printed self.new.past.world.printed }
-        ensures threads { length self.new.past.world.threads ≡ length self.old.past.world.threads }
-        ensures limit { self.new.past.limit ≡ self.old.past.limit }
+        ensures goes_on { PagesGoOn self.old self.new }
         ensures memory { OnErr result (Same self.old.past self.new.past) }
     {
         self.history.commit(alloc, program, thread, stretch)
@@ -184,12 +179,7 @@ impl<O: Origin> Book<O> {
         requires thread { thread < length self.old.past.world.threads }
         ensures answer { IfOk result
             (λ a. IsFrontCommit O.program self.old.past thread (Some stretch) a self.new.past) }
-        ensures sent { self.new.sent ≡ self.old.sent }
-        ensures part { self.new.part ≡ self.old.part }
-        ensures within { self.old.sent ≤ length (printed_text self.old) }
-        ensures grows { Grows self.old.past.world.printed self.new.past.world.printed }
-        ensures threads { length self.new.past.world.threads ≡ length self.old.past.world.threads }
-        ensures limit { self.new.past.limit ≡ self.old.past.limit }
+        ensures goes_on { PagesGoOn self.old self.new }
         ensures memory { OnErr result (Same self.old.past self.new.past) }
     {
         self.history.commit_front(alloc, program, thread, stretch)
@@ -208,12 +198,7 @@ impl<O: Origin> Book<O> {
         requires program { program.now ≡ O.program }
         requires thread { thread < length self.old.past.world.threads }
         ensures answer { IfOk result (λ a. IsFrontCommit O.program self.old.past thread None a self.new.past) }
-        ensures sent { self.new.sent ≡ self.old.sent }
-        ensures part { self.new.part ≡ self.old.part }
-        ensures within { self.old.sent ≤ length (printed_text self.old) }
-        ensures grows { Grows self.old.past.world.printed self.new.past.world.printed }
-        ensures threads { length self.new.past.world.threads ≡ length self.old.past.world.threads }
-        ensures limit { self.new.past.limit ≡ self.old.past.limit }
+        ensures goes_on { PagesGoOn self.old self.new }
         ensures memory { OnErr result (Same self.old.past self.new.past) }
     {
         self.history.commit_none(alloc, program, thread)
@@ -232,12 +217,7 @@ impl<O: Origin> Book<O> {
     ) -> Result<Commit, AllocError>
         requires program { program.now ≡ O.program }
         requires thread { thread < length self.old.past.world.threads }
-        ensures sent { self.new.sent ≡ self.old.sent }
-        ensures part { self.new.part ≡ self.old.part }
-        ensures within { self.old.sent ≤ length (printed_text self.old) }
-        ensures grows { Grows self.old.past.world.printed self.new.past.world.printed }
-        ensures threads { length self.new.past.world.threads ≡ length self.old.past.world.threads }
-        ensures limit { self.new.past.limit ≡ self.old.past.limit }
+        ensures goes_on { PagesGoOn self.old self.new }
         ensures memory { OnErr result (Same self.old.past self.new.past) }
     {
         match made {
@@ -299,10 +279,7 @@ impl<O: Origin> Book<O> {
         steps: u64,
         bytes: u64,
     ) -> Result<(Book<O>, u64), AllocError>
-        requires program { program.now ≡ O.program }
-        requires thread { thread < length self.past.world.threads }
-        requires keeps { KeepsSteps program.now table.old }
-        requires room { steps_of self.past + steps < self.past.limit + 1024 }
+        requires { CanRunOn O.program program.now self.past thread steps table.old }
         ensures keeps { OnOk result (KeepsSteps program.now table.new) }
         ensures on { IfOk result (λ r. RunsOn thread self.past r.0.past r.1) }
         ensures sent { IfOk result (λ r. r.0.sent ≡ self.sent) }

@@ -6,12 +6,12 @@ ghost use Rattle.semantics.specs.Worlds.{Run};
 ghost use Rattle.machine.specs.Linked.{program_of};
 ghost use Rattle.init_engine.specs.Schedules.{schedule_of, AreRuns};
 ghost use Rattle.init_engine.specs.Turns.{world_of};
-ghost use Rattle.thread_runner.specs.Commits.{Fits, IsCommit, IsSettled, Same};
+ghost use Rattle.thread_runner.specs.Commits.{Fits, GoesOn, IsCommit, IsSettled, Same};
 ghost use Rattle.thread_runner.specs.Fronts.{FitsFront, IsFrontCommit};
-ghost use Rattle.thread_runner.specs.Kept.{Grows, IsKept, steps_of};
+ghost use Rattle.thread_runner.specs.Kept.{IsKept, steps_of};
 ghost use Rattle.courses.specs.steps.StepTables.{KeepsSteps};
 ghost use Rattle.thread_runner.specs.steps.Advances.{answered};
-ghost use Rattle.thread_runner.specs.steps.Alone.{RunsOn};
+ghost use Rattle.thread_runner.specs.steps.Alone.{CanRunOn, RunsOn};
 ghost use Rattle.thread_runner.specs.steps.Landings.{MayLand, landed};
 
 use crate::advance::{all_done, all_initialized, counted};
@@ -189,9 +189,7 @@ impl<O: Origin> History<O> {
             (landed (world_of self.old.world) thread to count) }
         ensures answer { IfOk result (λ a. IsSettled O.program self.old thread count
             (landed (world_of self.old.world) thread to count) a self.new) }
-        ensures grows { Grows self.old.world.printed self.new.world.printed }
-        ensures threads { length self.new.world.threads ≡ length self.old.world.threads }
-        ensures limit { self.new.limit ≡ self.old.limit }
+        ensures goes_on { GoesOn self.old self.new }
         ensures memory { OnErr result (Same self.old self.new) }
     {
         self.journal.reserve(1)?;
@@ -216,9 +214,7 @@ impl<O: Origin> History<O> {
         requires program { program.now ≡ O.program }
         requires thread { thread < length self.old.world.threads }
         ensures answer { IfOk result (λ a. IsCommit O.program self.old thread stretch a self.new) }
-        ensures grows { Grows self.old.world.printed self.new.world.printed }
-        ensures threads { length self.new.world.threads ≡ length self.old.world.threads }
-        ensures limit { self.new.limit ≡ self.old.limit }
+        ensures goes_on { GoesOn self.old self.new }
         ensures memory { OnErr result (Same self.old self.new) }
     {
         if self.is_full() {
@@ -259,9 +255,7 @@ impl<O: Origin> History<O> {
         requires program { program.now ≡ O.program }
         requires thread { thread < length self.old.world.threads }
         ensures answer { IfOk result (λ a. IsFrontCommit O.program self.old thread (Some stretch) a self.new) }
-        ensures grows { Grows self.old.world.printed self.new.world.printed }
-        ensures threads { length self.new.world.threads ≡ length self.old.world.threads }
-        ensures limit { self.new.limit ≡ self.old.limit }
+        ensures goes_on { GoesOn self.old self.new }
         ensures memory { OnErr result (Same self.old self.new) }
     {
         if self.is_full() {
@@ -288,9 +282,7 @@ impl<O: Origin> History<O> {
         requires program { program.now ≡ O.program }
         requires thread { thread < length self.old.world.threads }
         ensures answer { IfOk result (λ a. IsFrontCommit O.program self.old thread None a self.new) }
-        ensures grows { Grows self.old.world.printed self.new.world.printed }
-        ensures threads { length self.new.world.threads ≡ length self.old.world.threads }
-        ensures limit { self.new.limit ≡ self.old.limit }
+        ensures goes_on { GoesOn self.old self.new }
         ensures memory { OnErr result (Same self.old self.new) }
     {
         if self.is_full() {
@@ -326,10 +318,7 @@ impl<O: Origin> History<O> {
         steps: u64,
         bytes: u64,
     ) -> Result<(History<O>, u64), AllocError>
-        requires program { program.now ≡ O.program }
-        requires thread { thread < length self.world.threads }
-        requires keeps { KeepsSteps program.now table.old }
-        requires room { steps_of self + steps < self.limit + 1024 }
+        requires { CanRunOn O.program program.now self thread steps table.old }
         ensures keeps { OnOk result (KeepsSteps program.now table.new) }
         ensures on { IfOk result (λ r. RunsOn thread self r.0 r.1) }
         ensures most { IfOk result (λ r. r.1 ≤ steps) }

@@ -3,7 +3,7 @@
 ghost use Rattle.std.specs.Prelude.{IfOk};
 ghost use Rattle.wave_scheduler.specs.Outcomes.{AreJudged};
 
-use cases::add_class_files;
+use cases::read_class_files;
 use classfile::read;
 use initializer_analysis::forced::Forced;
 use initializer_analysis::judge;
@@ -19,18 +19,9 @@ pub const BUDGET: u64 = 1_000;
 
 /// The program of classes in their text form.
 pub fn program_of(alloc: Global, text: &str) -> Result<Program, Fail> {
-    let mut files = Vec::new(alloc);
-    let misspelled = add_class_files(alloc, &mut files, text)?;
-    if !misspelled.is_empty() {
-        return Err(Fail::new("misspelled"));
-    }
-    let mut classes = Vec::new(alloc);
-    for bytes in &files {
-        match read(alloc, bytes) {
-            Ok(class) => classes.push(class)?,
-            Err(_) => return Err(Fail::new("no class file")),
-        }
-    }
+    let Some(classes) = read_class_files(alloc, text, |bytes| read(alloc, bytes).ok())? else {
+        return Err(Fail::new("no class files"));
+    };
     match link(alloc, classes) {
         Ok(program) => Ok(program),
         Err(_) => Err(Fail::new("no program")),

@@ -179,21 +179,18 @@ module _ (P : Tables) (forced : List Bool) (budget : ℕ) (judged : List Verdict
 
       module _ (lent env : Environment) (had : (d : ℕ) (r : Region) → below old n d ≡ Some r → lent d ≡ Some r)
           (same : (d : ℕ) → env d ≡ region_in cur d) where
-        pub tries_more : (next : Settled) (more : Tainted) → TriesClass P lent env budget n c t cur more next
-            → TriesThese P budget judged n (done ++ c ∷ []) old next
-        tries_more next more one =
-            let (outcome, held, found, sets) = one.finds in
-            more_tried next outcome held (elim found [
-              | inl theirs ↦ is_tried lent had one.told outcome held one.so theirs
-              | inr own ↦ is_tried env (has_now env same) one.told outcome held one.so own
-            ]) sets
-
-        pub taints_more : (next : Settled) (more : Tainted) → TriesClass P lent env budget n c t cur more next
-            → AreTainted P next more
-        taints_more next more one =
-            let (outcome, held, found, sets) = one.finds in
-            tainted_more P cur next c t more tainted (is_given c n wave) (waits c wave new)
-            (λ e other. (sets.others e other).0) one.spreads
+        -- one class more is tried, and what depends on it is seen where it is not accepted
+        pub goes_on : (next : Settled) (more : Tainted) → TriesClass P lent env budget n c t cur more next
+            → TriesThese P budget judged n (done ++ c ∷ []) old next × AreTainted P next more
+        goes_on next more one =
+            let (outcome, held, found, sets) = one.finds in (
+              more_tried next outcome held (elim found [
+                | inl theirs ↦ is_tried lent had one.told outcome held one.so theirs
+                | inr own ↦ is_tried env (has_now env same) one.told outcome held one.so own
+              ]) sets,
+              tainted_more P cur next c t more tainted (is_given c n wave) (waits c wave new)
+                  (λ e other. (sets.others e other).0) one.spreads,
+            )
 
 -- ---- by the places of a row
 

@@ -1,11 +1,10 @@
 //! The workers of a wave.
 
-ghost use Rattle.std.specs.Prelude.{◌≡◌, ◌<◌, ◌≤◌, length, slice_index};
+ghost use Rattle.std.specs.Prelude.{◌≡◌, ◌≤◌};
 ghost use Rattle.machine.specs.Linked.{program_of};
 ghost use Rattle.evaluator.specs.Regions.{environment_of};
-ghost use Rattle.evaluator.specs.Outcomes.{IsOutcome, IsUnbarred};
-ghost use Rattle.wave_scheduler.specs.steps.Tainting.{IsSearched};
-ghost use Rattle.wave_scheduler.specs.steps.Crews.{AreReady};
+ghost use Rattle.evaluator.specs.Outcomes.{IsUnbarred};
+ghost use Rattle.wave_scheduler.specs.steps.Crews.{CanRunRow};
 
 use crate::gate::{Gate, ask};
 use crate::lent::Lent;
@@ -34,11 +33,7 @@ pub(crate) fn results_of<W: Lent + Send + Sync, G: Gate, R: Threads + Wait + Syn
     workers: u32,
     gate: &G,
 ) -> Result<Results<W>, AllocError>
-    requires program { program.now ≡ W.program }
-    requires regions { regions.now ≡ W.regions }
-    requires budget { budget ≡ W.budget }
-    requires searched { IsSearched tainted.now }
-    requires ready { AreReady (program_of program.now) (environment_of regions.now) budget tainted.now row.now }
+    requires row { CanRunRow W.program W.regions W.budget program.now regions.now budget tainted.now row.now }
 {
     let mut results = Results::of_places(alloc, row.len())?;
     let crew = crew_of(workers, row.len());
@@ -80,11 +75,7 @@ fn gather<W: Lent + Send + Sync, G: Gate, R: Threads + Wait + Sync>(
     crew: u32,
     gate: &G,
 ) -> Vec<Vec<Done<W>>>
-    requires program { program.now ≡ W.program }
-    requires regions { regions.now ≡ W.regions }
-    requires budget { budget ≡ W.budget }
-    requires searched { IsSearched tainted.now }
-    requires ready { AreReady (program_of program.now) (environment_of regions.now) budget tainted.now row.now }
+    requires row { CanRunRow W.program W.regions W.budget program.now regions.now budget tainted.now row.now }
 {
     let claimed = Mutex::new(0usize);
     let claimed = &claimed;
@@ -92,17 +83,13 @@ fn gather<W: Lent + Send + Sync, G: Gate, R: Threads + Wait + Sync>(
         thread::scope_env(),
         rt,
         |scope| -> Vec<Vec<Done<W>>>
-            requires { (program.now ≡ W.program) × (regions.now ≡ W.regions) × (budget ≡ W.budget)
-                × IsSearched tainted.now
-                × AreReady (program_of program.now) (environment_of regions.now) budget tainted.now row.now }
+            requires { CanRunRow W.program W.regions W.budget program.now regions.now budget tainted.now row.now }
         {
             let mut handles = Vec::new(alloc);
             for who in 0..crew {
                 let one = scope.spawn(
                     move || -> Vec<Done<W>>
-                        requires { (program.now ≡ W.program) × (regions.now ≡ W.regions) × (budget ≡ W.budget)
-                            × IsSearched tainted.now
-                            × AreReady (program_of program.now) (environment_of regions.now) budget tainted.now
+                        requires { CanRunRow W.program W.regions W.budget program.now regions.now budget tainted.now
                             row.now }
                     {
                         work::<W, G, R>(
@@ -147,11 +134,7 @@ fn work<W: Lent, G: Gate, R: Wait>(
     gate: &G,
     who: u32,
 ) -> Vec<Done<W>>
-    requires program { program.now ≡ W.program }
-    requires regions { regions.now ≡ W.regions }
-    requires budget { budget ≡ W.budget }
-    requires searched { IsSearched tainted.now }
-    requires ready { AreReady (program_of program.now) (environment_of regions.now) budget tainted.now row.now }
+    requires row { CanRunRow W.program W.regions W.budget program.now regions.now budget tainted.now row.now }
 {
     let mut all = Vec::new(alloc);
     for _ in 0..row.len() {

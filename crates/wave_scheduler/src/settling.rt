@@ -12,7 +12,7 @@ ghost use Rattle.wave_scheduler.specs.declared.outcome.WaveFault.TheVariants.{Me
 
 use crate::gate::{Collector, Gate};
 use crate::outcome::{Settled, WaveFault};
-use crate::plan::{Plan, plan_of};
+use crate::plan::plan_of;
 use crate::refused::tell_dependents;
 use crate::waves::{try_all, try_all_here};
 use initializer_analysis::verdict::{Verdict, Verdicts};
@@ -31,25 +31,18 @@ fn settle_judged_here(
     requires { AreJudged program.now verdicts.now }
     ensures { IfOk result (λ settled. FollowVerdicts program.now budget verdicts.now (settled_of settled)) }
 {
-    let plan = plan_of(alloc, program, verdicts)?;
-    let Plan {
-        uses,
-        calls,
-        rows,
-        mut tainted,
-        mut settled,
-    } = plan;
+    let mut plan = plan_of(alloc, program, verdicts)?;
     try_all_here(
         alloc,
         program,
         verdicts,
         budget,
-        rows.as_slice(),
-        &mut tainted,
-        &mut settled,
+        plan.rows.as_slice(),
+        &mut plan.tainted,
+        &mut plan.settled,
     )?;
-    tell_dependents(alloc, program, &uses, &calls, &mut settled)?;
-    Ok(settled)
+    tell_dependents(alloc, program, &plan.uses, &plan.calls, &mut plan.settled)?;
+    Ok(plan.settled)
 }
 
 /// Settles all classes by workers.
@@ -64,27 +57,20 @@ fn settle_judged<G: Gate, R: Threads + Wait + Sync>(
     requires { AreJudged program.now verdicts.now }
     ensures { IfOk result (λ settled. FollowVerdicts program.now budget verdicts.now (settled_of settled)) }
 {
-    let plan = plan_of(alloc, program, verdicts)?;
-    let Plan {
-        uses,
-        calls,
-        rows,
-        mut tainted,
-        mut settled,
-    } = plan;
+    let mut plan = plan_of(alloc, program, verdicts)?;
     try_all(
         rt,
         alloc,
         program,
         verdicts,
         budget,
-        rows.as_slice(),
+        plan.rows.as_slice(),
         collector,
-        &mut tainted,
-        &mut settled,
+        &mut plan.tainted,
+        &mut plan.settled,
     )?;
-    tell_dependents(alloc, program, &uses, &calls, &mut settled)?;
-    Ok(settled)
+    tell_dependents(alloc, program, &plan.uses, &plan.calls, &mut plan.settled)?;
+    Ok(plan.settled)
 }
 
 /// Settles all classes of a program on this thread, wave by wave, from their verdicts: runs the initializer of each

@@ -6,10 +6,10 @@ ghost use Rattle.semantics.specs.Quiet as quiet;
 ghost use Rattle.semantics.specs.Settling.{StoppedBy};
 ghost use Rattle.machine.specs.Linked.{program_of};
 ghost use Rattle.evaluator.specs.Regions.{region_in, environment_of};
-ghost use Rattle.wave_scheduler.specs.Outcomes.{settled_of, AreJudged};
+ghost use Rattle.wave_scheduler.specs.Outcomes.{settled_of};
 ghost use Rattle.wave_scheduler.specs.steps.Waves.{AreTriedBelow};
-ghost use Rattle.wave_scheduler.specs.steps.Tainting.{vertex_in, IsSeen, IsSearched, IsTold, TriesClass, AreTainted};
-ghost use Rattle.wave_scheduler.specs.steps.WaveRows.{IsRow, AreRows};
+ghost use Rattle.wave_scheduler.specs.steps.Tainting.{vertex_in, IsSeen, IsSearched, IsTold, TriesClass};
+ghost use Rattle.wave_scheduler.specs.steps.Plans.{CanTry, CanTryAll, StandsBefore};
 
 use crate::crew::results_of;
 use crate::finding::find_class;
@@ -46,8 +46,8 @@ fn try_class<W: Lent, G: Gate>(
     requires none { region_in settled.old.regions class ≡ None }
     requires run { (¬ IsSeen tainted.old (vertex_in tainted.old class)) → StoppedBy (program_of program.now)
         (environment_of settled.old.regions) class budget quiet.Barred → ⊥ }
-    ensures { OnOk result (TriesClass program.now (environment_of W.regions) (environment_of settled.old.regions) budget wave
-        class tainted.old (settled_of settled.old) tainted.new (settled_of settled.new)) }
+    ensures { OnOk result (TriesClass program.now (environment_of W.regions) (environment_of settled.old.regions) budget
+        wave class tainted.old (settled_of settled.old) tainted.new (settled_of settled.new)) }
 {
     let told = told(tainted, class);
     find_class(
@@ -73,12 +73,9 @@ fn collect<W: Lent, G: Gate>(
     requires lent { program.now ≡ W.program }
     requires regions { settled.old.regions ≡ W.regions }
     requires budget { budget ≡ W.budget }
-    requires judged { AreJudged program.now verdicts.now }
-    requires row { IsRow verdicts.now wave row.now }
-    requires tried { AreTriedBelow program.now budget verdicts.now wave (settled_of settled.old) }
-    requires tainted { AreTainted program.now (settled_of settled.old) tainted.old }
-    ensures tried { OnOk result (AreTriedBelow program.now budget verdicts.now (wave + 1) (settled_of settled.new)) }
-    ensures tainted { OnOk result (AreTainted program.now (settled_of settled.new) tainted.new) }
+    requires wave { CanTry program.now budget verdicts.now wave row.now (settled_of settled.old) tainted.old }
+    ensures { OnOk result
+        (StandsBefore program.now budget verdicts.now (wave + 1) (settled_of settled.new) tainted.new) }
 {
     let _given = program.family().classes();
     let _tables = program.classes();
@@ -106,12 +103,9 @@ fn run_wave_here<W: Lent>(
     requires lent { program.now ≡ W.program }
     requires regions { settled.old.regions ≡ W.regions }
     requires budget { budget ≡ W.budget }
-    requires judged { AreJudged program.now verdicts.now }
-    requires row { IsRow verdicts.now wave row.now }
-    requires tried { AreTriedBelow program.now budget verdicts.now wave (settled_of settled.old) }
-    requires tainted { AreTainted program.now (settled_of settled.old) tainted.old }
-    ensures tried { OnOk result (AreTriedBelow program.now budget verdicts.now (wave + 1) (settled_of settled.new)) }
-    ensures tainted { OnOk result (AreTainted program.now (settled_of settled.new) tainted.new) }
+    requires wave { CanTry program.now budget verdicts.now wave row.now (settled_of settled.old) tainted.old }
+    ensures { OnOk result
+        (StandsBefore program.now budget verdicts.now (wave + 1) (settled_of settled.new) tainted.new) }
 {
     let results = Results::none(alloc);
     let collector = Collector {
@@ -134,12 +128,9 @@ fn try_wave_here(
     tainted: &mut Tainted,
     settled: &mut Settled,
 ) -> Result<(), AllocError>
-    requires judged { AreJudged program.now verdicts.now }
-    requires row { IsRow verdicts.now wave row.now }
-    requires tried { AreTriedBelow program.now budget verdicts.now wave (settled_of settled.old) }
-    requires tainted { AreTainted program.now (settled_of settled.old) tainted.old }
-    ensures tried { OnOk result (AreTriedBelow program.now budget verdicts.now (wave + 1) (settled_of settled.new)) }
-    ensures tainted { OnOk result (AreTainted program.now (settled_of settled.new) tainted.new) }
+    requires { CanTry program.now budget verdicts.now wave row.now (settled_of settled.old) tainted.old }
+    ensures { OnOk result
+        (StandsBefore program.now budget verdicts.now (wave + 1) (settled_of settled.new) tainted.new) }
 {
     run_wave_here::<Brand>(
         alloc, program, verdicts, budget, wave, row, tainted, settled,
@@ -162,12 +153,9 @@ fn run_wave<W: Lent + Send + Sync, G: Gate, R: Threads + Wait + Sync>(
     requires lent { program.now ≡ W.program }
     requires regions { settled.old.regions ≡ W.regions }
     requires budget { budget ≡ W.budget }
-    requires judged { AreJudged program.now verdicts.now }
-    requires row { IsRow verdicts.now wave row.now }
-    requires tried { AreTriedBelow program.now budget verdicts.now wave (settled_of settled.old) }
-    requires tainted { AreTainted program.now (settled_of settled.old) tainted.old }
-    ensures tried { OnOk result (AreTriedBelow program.now budget verdicts.now (wave + 1) (settled_of settled.new)) }
-    ensures tainted { OnOk result (AreTainted program.now (settled_of settled.new) tainted.new) }
+    requires wave { CanTry program.now budget verdicts.now wave row.now (settled_of settled.old) tainted.old }
+    ensures { OnOk result
+        (StandsBefore program.now budget verdicts.now (wave + 1) (settled_of settled.new) tainted.new) }
 {
     let _given = program.family().classes();
     let _tables = program.classes();
@@ -201,12 +189,9 @@ fn try_wave<G: Gate, R: Threads + Wait + Sync>(
     tainted: &mut Tainted,
     settled: &mut Settled,
 ) -> Result<(), AllocError>
-    requires judged { AreJudged program.now verdicts.now }
-    requires row { IsRow verdicts.now wave row.now }
-    requires tried { AreTriedBelow program.now budget verdicts.now wave (settled_of settled.old) }
-    requires tainted { AreTainted program.now (settled_of settled.old) tainted.old }
-    ensures tried { OnOk result (AreTriedBelow program.now budget verdicts.now (wave + 1) (settled_of settled.new)) }
-    ensures tainted { OnOk result (AreTainted program.now (settled_of settled.new) tainted.new) }
+    requires wave { CanTry program.now budget verdicts.now wave row.now (settled_of settled.old) tainted.old }
+    ensures { OnOk result
+        (StandsBefore program.now budget verdicts.now (wave + 1) (settled_of settled.new) tainted.new) }
 {
     run_wave::<Brand, G, R>(
         rt, alloc, program, verdicts, budget, wave, row, collector, tainted, settled,
@@ -223,10 +208,7 @@ pub(crate) fn try_all_here(
     tainted: &mut Tainted,
     settled: &mut Settled,
 ) -> Result<(), AllocError>
-    requires judged { AreJudged program.now verdicts.now }
-    requires rows { AreRows verdicts.now (rows_of rows.now) }
-    requires tried { AreTriedBelow program.now budget verdicts.now 0 (settled_of settled.old) }
-    requires tainted { AreTainted program.now (settled_of settled.old) tainted.old }
+    requires { CanTryAll program.now budget verdicts.now (rows_of rows.now) (settled_of settled.old) tainted.old }
     ensures { OnOk result
         (AreTriedBelow program.now budget verdicts.now (length rows.now) (settled_of settled.new)) }
 {
@@ -257,10 +239,7 @@ pub(crate) fn try_all<G: Gate, R: Threads + Wait + Sync>(
     tainted: &mut Tainted,
     settled: &mut Settled,
 ) -> Result<(), AllocError>
-    requires judged { AreJudged program.now verdicts.now }
-    requires rows { AreRows verdicts.now (rows_of rows.now) }
-    requires tried { AreTriedBelow program.now budget verdicts.now 0 (settled_of settled.old) }
-    requires tainted { AreTainted program.now (settled_of settled.old) tainted.old }
+    requires waves { CanTryAll program.now budget verdicts.now (rows_of rows.now) (settled_of settled.old) tainted.old }
     ensures { OnOk result
         (AreTriedBelow program.now budget verdicts.now (length rows.now) (settled_of settled.new)) }
 {

@@ -1,11 +1,14 @@
 -- What the workers of a wave are lent, and what they may run.
-use Rattle.std.specs.Prelude.{ℕ, ◌<◌, List, [], length, slice_index}
+use Rattle.std.specs.Prelude.{◌≡◌, ℕ, ◌<◌, List, [], length, Option, slice_index}
 use Rattle.semantics.specs.Programs.{Program}
 use Rattle.semantics.specs.Quiet.{Environment}
 use Rattle.program.specs.Tables.{Tables}
+use Rattle.machine.specs.Linked.{program_of}
+use Rattle.evaluator.specs.declared.regions.Region.{Region}
 use Rattle.evaluator.specs.Outcomes.{IsUnbarred}
+use Rattle.evaluator.specs.Regions.{environment_of}
 use Rattle.wave_scheduler.specs.declared.tainted.Tainted.{Tainted}
-use Rattle.wave_scheduler.specs.steps.Tainting.{vertex_in, IsSeen}
+use Rattle.wave_scheduler.specs.steps.Tainting.{vertex_in, IsSeen, IsSearched}
 
 -- a program without classes, where no wave has picked one
 abbrev pub no_classes : Tables
@@ -16,3 +19,12 @@ abbrev pub AreReady : Program → Environment → ℕ → Tainted → List ℕ �
 AreReady P env budget t row =
     (i : ℕ) → i < length row → (¬ IsSeen t (vertex_in t (slice_index row i)))
     → IsUnbarred P env (slice_index row i) budget
+
+-- a row may be run with this program, these regions and this budget, and they are those that its wave picked
+pub record CanRunRow (lent : Tables) (held : List (Option Region)) (most : ℕ) (P : Tables)
+    (here : List (Option Region)) (limit : ℕ) (t : Tainted) (row : List ℕ) : Type 0 where
+  pub program : P ≡ lent
+  pub regions : here ≡ held
+  pub budget : limit ≡ most
+  pub searched : IsSearched t
+  pub ready : AreReady (program_of P) (environment_of here) limit t row

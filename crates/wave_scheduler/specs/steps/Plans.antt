@@ -1,17 +1,18 @@
--- What is known before the first wave, and what the last one leaves to be told.
+-- What is known before each wave, and what the last one leaves to be told.
 use Rattle.std.specs.Prelude.{ℕ, List, Option}
 use Rattle.graph.specs.Components.{AreComponents}
-use Rattle.graph.specs.Rows.{rows_of}
+use Rattle.graph.specs.Rows.{Rows, rows_of}
 use Rattle.program.specs.Tables.{Tables}
 use Rattle.use_graph.specs.steps.Bodies.{IsUseGraph}
 use Rattle.initializer_analysis.specs.declared.verdict.Verdict.{Verdict}
 use Rattle.wave_scheduler.specs.declared.plan.Plan.{Plan}
+use Rattle.wave_scheduler.specs.declared.tainted.Tainted.{Tainted}
 use Rattle.wave_scheduler.specs.Settled.{Settled}
-use Rattle.wave_scheduler.specs.Outcomes.{settled_of}
-use Rattle.wave_scheduler.specs.steps.Waves.{StartsFrom, ToldFirst}
+use Rattle.wave_scheduler.specs.Outcomes.{settled_of, AreJudged}
+use Rattle.wave_scheduler.specs.steps.Waves.{AreTriedBelow, StartsFrom, ToldFirst}
 use Rattle.wave_scheduler.specs.steps.Finding.{AreFirstIn}
 use Rattle.wave_scheduler.specs.steps.Tainting.{AreTainted}
-use Rattle.wave_scheduler.specs.steps.WaveRows.{AreRows}
+use Rattle.wave_scheduler.specs.steps.WaveRows.{IsRow, AreRows}
 
 -- the uses of a program, its waves, and all classes as their verdicts say
 pub record IsPlan (P : Tables) (judged : List Verdict) (plan : Plan) : Type 0 where
@@ -20,6 +21,28 @@ pub record IsPlan (P : Tables) (judged : List Verdict) (plan : Plan) : Type 0 wh
   pub rows : AreRows judged (rows_of plan.rows.items)
   pub starts : StartsFrom judged (settled_of plan.settled)
   pub tainted : AreTainted P (settled_of plan.settled) plan.tainted
+
+-- the classes of lower waves are tried, and what is seen depends on one that is not accepted
+pub record StandsBefore (P : Tables) (budget : ℕ) (judged : List Verdict) (n : ℕ) (S : Settled) (t : Tainted) : Type 0
+  where
+    pub tried : AreTriedBelow P budget judged n S
+    pub tainted : AreTainted P S t
+
+-- so it is before a wave that has these classes, by the verdicts on all
+pub record CanTry (P : Tables) (budget : ℕ) (verdicts : List Verdict) (n : ℕ) (classes : List ℕ) (S : Settled)
+    (t : Tainted) : Type 0 where
+  pub judged : AreJudged P verdicts
+  pub row : IsRow verdicts n classes
+  pub tried : AreTriedBelow P budget verdicts n S
+  pub tainted : AreTainted P S t
+
+-- so it is before the first wave, where all waves have these classes
+pub record CanTryAll (P : Tables) (budget : ℕ) (verdicts : List Verdict) (waves : Rows) (S : Settled) (t : Tainted)
+    : Type 0 where
+  pub judged : AreJudged P verdicts
+  pub rows : AreRows verdicts waves
+  pub tried : AreTriedBelow P budget verdicts 0 S
+  pub tainted : AreTainted P S t
 
 -- each class that depends on refused ones is told the first such
 abbrev pub TellsFirst : Tables → Settled → Settled → Type 0

@@ -7,9 +7,9 @@ use Rattle.init_engine.specs.Schedules.{schedule_of}
 use Rattle.init_engine.specs.Turnings.{HasTurned}
 use Rattle.init_engine.specs.Turns.{world_of}
 use Rattle.thread_runner.specs.Answers.{IsBeginning}
-use Rattle.thread_runner.specs.Sendings.{IsPlace, SendsOn, sent_of, text_of}
+use Rattle.thread_runner.specs.Sendings.{sent_of, text_of}
 use Rattle.thread_runner.proofs.AnswerLemmas.{answer_of, lines_midway, midway}
-use Rattle.thread_runner.proofs.SendingLemmas.{lines_sent, nothing_sent, place_grown, place_within, sent_on}
+use Rattle.thread_runner.proofs.SendingLemmas.{lines_sent, nothing_sent, place_grown, place_within, slice_sent}
 use Rattle.thread_runner.proofs.alone.run_alone.Goals as goal
 
 pub slices-init : goal.slices-init
@@ -43,65 +43,47 @@ returns-then-not-whole g c =
     let start = world_of c.args.world in
     let most = c.most_steps-most.result in
     let before = g.S.Sink.got c.args.sink.now in
-    let got = g.S.Sink.got c.slices.sink in
     let after = g.S.Sink.got c.send_lines-lines.new.sink in
     let kept = c.slices.invariant in
-    let old = c.slices.turning in
     let new = c.go_on.new.self in
-    let printed = new.world.printed in
-    let i = c.slices.line in
-    let n = c.slices.within in
     let j = c.send_lines-lines.result.0 in
     let m = c.send_lines-lines.result.1 in
-    let slice = c.in-Ok.ensures.slice in
-    let turned = c.in-Ok.ensures.turns start most kept.turns in
-    let place : IsPlace printed j m =
-    subst (λ (ls : List Line). IsPlace ls j m) c.printed.ensures c.send_lines-lines.ensures.place in
-    let sends : SendsOn (text_of printed) (sent_of printed i n) (sent_of printed j m) got after =
-    subst (λ (ls : List Line). SendsOn (text_of ls) (sent_of ls i n) (sent_of ls j m) got after) c.printed.ensures
+    let (place, sent) = slice_sent before (g.S.Sink.got c.slices.sink) after c.slices.turning.world.printed
+    new.world.printed c.printed.result.now c.in-Ok.ensures.slice.printed c.slices.line c.slices.within j m
+    c.printed.ensures c.in-Ok.ensures.slice.lines kept.place kept.sent c.send_lines-lines.ensures.place
     c.send_lines-lines.ensures.sends in
-    let sent : Appends before after (take (sent_of printed j m) (text_of printed)) =
-    sent_on before got after old.world.printed printed slice.printed i n j m slice.lines kept.place kept.sent sends in
-    let is : c.text_length.result + m ≡ sent_of printed j m =
+    let turned = c.in-Ok.ensures.turns start most kept.turns in
+    let is : c.text_length.result + m ≡ sent_of new.world.printed j m =
     ap (λ k. k + m) (c.text_length.ensures.is
     ∙ ap (λ (ls : List Line). length (text_of (take j ls))) c.printed-then-not-whole.ensures) in (
       subst (λ k. IsBeginning P start k before after) (sym is)
-          (midway P start most (sent_of printed j m) new before after turned.under_way (place_within printed j m place)
-          sent),
+          (midway P start most (sent_of new.world.printed j m) new before after turned.under_way
+          (place_within new.world.printed j m place) sent),
       λ same. c.send_lines-lines.ensures.failed c.if-not-whole.true (same ∙ sym kept.well),
     )
 
 pub returns-then-over : goal.returns-then-over
 returns-then-over g c =
     let P = c.args.program.now in
-    let start = world_of c.args.world in
-    let most = c.most_steps-most.result in
     let before = g.S.Sink.got c.args.sink.now in
-    let got = g.S.Sink.got c.slices.sink in
     let after = g.S.Sink.got c.send_lines-lines.new.sink in
     let kept = c.slices.invariant in
-    let old = c.slices.turning in
     let new = c.go_on.new.self in
-    let printed = new.world.printed in
-    let i = c.slices.line in
-    let n = c.slices.within in
+    let text = text_of new.world.printed in
     let j = c.send_lines-lines.result.0 in
     let m = c.send_lines-lines.result.1 in
-    let slice = c.in-Ok.ensures.slice in
-    let turned = c.in-Ok.ensures.turns start most kept.turns in
-    let place : IsPlace printed j m =
-    subst (λ (ls : List Line). IsPlace ls j m) c.printed.ensures c.send_lines-lines.ensures.place in
-    let sends : SendsOn (text_of printed) (sent_of printed i n) (sent_of printed j m) got after =
-    subst (λ (ls : List Line). SendsOn (text_of ls) (sent_of ls i n) (sent_of ls j m) got after) c.printed.ensures
+    let (place, sent) = slice_sent before (g.S.Sink.got c.slices.sink) after c.slices.turning.world.printed
+    new.world.printed c.printed.result.now c.in-Ok.ensures.slice.printed c.slices.line c.slices.within j m
+    c.printed.ensures c.in-Ok.ensures.slice.lines kept.place kept.sent c.send_lines-lines.ensures.place
     c.send_lines-lines.ensures.sends in
-    let sent : Appends before after (take (sent_of printed j m) (text_of printed)) =
-    sent_on before got after old.world.printed printed slice.printed i n j m slice.lines kept.place kept.sent sends in
-    let all : sent_of printed j m ≡ length (text_of printed) =
+    let start = world_of c.args.world in
+    let most = c.most_steps-most.result in
+    let turned = c.in-Ok.ensures.turns start most kept.turns in
+    let all : sent_of new.world.printed j m ≡ length text =
     subst (λ (ls : List Line). sent_of ls j m ≡ length (text_of ls)) c.printed.ensures
     (c.send_lines-lines.ensures.all c.if-not-whole.false) in
-    let whole : Appends before after (text_of printed) =
-    subst (λ (t : List ℕ). Appends before after t)
-    (ap (λ k. take k (text_of printed)) all ∙ take-length (text_of printed)) sent in
+    let whole : Appends before after text =
+    subst (λ (t : List ℕ). Appends before after t) (ap (λ k. take k text) all ∙ take-length text) sent in
     answer_of P start c.args.limit (g.S.Sink.failures c.args.sink.now) (g.S.Sink.failures c.send_lines-lines.new.sink)
     (schedule_of new.schedule) new.world c.end_of_turns.result before after turned.run whole
     (c.end_of_turns.ensures start c.args.limit most
@@ -110,29 +92,17 @@ returns-then-over g c =
 
 pub slices-preserved : goal.slices-preserved
 slices-preserved g c =
-    let P = c.args.program.now in
-    let start = world_of c.args.world in
-    let most = c.most_steps-most.result in
     let before = g.S.Sink.got c.args.sink.now in
-    let got = g.S.Sink.got c.slices.sink in
     let after = g.S.Sink.got c.send_lines-lines.new.sink in
     let kept = c.slices.invariant in
-    let old = c.slices.turning in
     let new = c.go_on.new.self in
-    let printed = new.world.printed in
-    let i = c.slices.line in
-    let n = c.slices.within in
     let j = c.send_lines-lines.result.0 in
     let m = c.send_lines-lines.result.1 in
-    let slice = c.in-Ok.ensures.slice in
-    let turned = c.in-Ok.ensures.turns start most kept.turns in
-    let place : IsPlace printed j m =
-    subst (λ (ls : List Line). IsPlace ls j m) c.printed.ensures c.send_lines-lines.ensures.place in
-    let sends : SendsOn (text_of printed) (sent_of printed i n) (sent_of printed j m) got after =
-    subst (λ (ls : List Line). SendsOn (text_of ls) (sent_of ls i n) (sent_of ls j m) got after) c.printed.ensures
+    let (place, sent) = slice_sent before (g.S.Sink.got c.slices.sink) after c.slices.turning.world.printed
+    new.world.printed c.printed.result.now c.in-Ok.ensures.slice.printed c.slices.line c.slices.within j m
+    c.printed.ensures c.in-Ok.ensures.slice.lines kept.place kept.sent c.send_lines-lines.ensures.place
     c.send_lines-lines.ensures.sends in
-    let sent : Appends before after (take (sent_of printed j m) (text_of printed)) =
-    sent_on before got after old.world.printed printed slice.printed i n j m slice.lines kept.place kept.sent sends in
+    let turned = c.in-Ok.ensures.turns (world_of c.args.world) c.most_steps-most.result kept.turns in
     record {
       turns = turned.under_way;
       ready = c.in-Ok.ensures.ready;

@@ -5,14 +5,16 @@ use Rattle.wave_scheduler.proofs.TriesLemmas.{waves_start_lem}
 use Rattle.wave_scheduler.proofs.CrewsLemmas.{all_follow}
 use Rattle.wave_scheduler.proofs.settling.settle_judged_here.Goals as goal
 
-pub try_all_here-requires-clause-rows : goal.try_all_here-requires-clause-rows
-try_all_here-requires-clause-rows c = rw c.as_slice.ensures.value c.in_ok-plan.ensures.rows
-
-pub try_all_here-requires-clause-tried : goal.try_all_here-requires-clause-tried
-try_all_here-requires-clause-tried c =
+pub try_all_here-requires : goal.try_all_here-requires
+try_all_here-requires c =
     let (forced, are) = c.requires in
-    waves_start_lem c.args.program.now forced c.args.budget c.args.verdicts.now
-    (settled_of c.in_ok-plan.plan.settled) are c.in_ok-plan.ensures.starts
+    record {
+      judged = c.requires;
+      rows = rw c.as_slice.ensures.value c.in_ok-plan.ensures.rows;
+      tried = waves_start_lem c.args.program.now forced c.args.budget c.args.verdicts.now
+          (settled_of c.in_ok-plan.plan.settled) are c.in_ok-plan.ensures.starts;
+      tainted = c.in_ok-plan.ensures.tainted;
+    }
 
 pub tell_dependents-requires-clause-count : goal.tell_dependents-requires-clause-count
 tell_dependents-requires-clause-count c =

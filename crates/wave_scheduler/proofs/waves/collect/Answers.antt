@@ -8,21 +8,21 @@ use Rattle.wave_scheduler.specs.steps.Waves.{AreTriedBelow}
 use Rattle.wave_scheduler.proofs.FindingLemmas.{region_seen, none_seen}
 use Rattle.wave_scheduler.proofs.CrewsLemmas.{lent_has}
 use Rattle.wave_scheduler.proofs.TaintedLemmas.{searched, vertex_low}
-use Rattle.wave_scheduler.proofs.TryingLemmas.{tries_none, tries_all, tries_more, taints_more, can_run, nothing_yet}
+use Rattle.wave_scheduler.proofs.TryingLemmas.{tries_none, tries_all, goes_on, can_run, nothing_yet}
 use Rattle.wave_scheduler.proofs.TryingLemmas.{next_done, wave_at, low_at}
 use Rattle.wave_scheduler.proofs.TriesLemmas.{waves_go_on_lem}
 use Rattle.wave_scheduler.proofs.waves.collect.Goals as goal
 
 pub loop-class-init : goal.loop-class-init
 loop-class-init g c =
-    let (forced, are) = c.requires.judged in
+    let (forced, are) = c.requires.wave.judged in
     record {
       tries = tries_none c.args.program.now forced c.args.budget c.args.verdicts.now c.args.wave
           (settled_of c.args.settled.now) c.classes-tables.ensures.fits
           (subst IsFamily c.family.ensures c.classes-given.ensures.fits)
           (subst (λ (f : Family). AreParentsWithin f) c.family.ensures c.classes-given.ensures.within) are
-          c.requires.tried;
-      tainted = c.requires.tainted;
+          c.requires.wave.tried;
+      tainted = c.requires.wave.tainted;
     }
 
 pub try_class-requires-clause-searched : goal.try_class-requires-clause-searched
@@ -31,34 +31,34 @@ try_class-requires-clause-searched g c = λ κs alive.
 
 pub try_class-requires-clause-vertex : goal.try_class-requires-clause-vertex
 try_class-requires-clause-vertex g c = λ κs alive.
-    let (forced, are) = c.requires.judged in
+    let (forced, are) = c.requires.wave.judged in
     let row = c.args.row.now in
     let i = c.loop-class.class-index in
     vertex_low c.args.program.now (settled_of c.loop-class.settled) c.loop-class.tainted
     c.loop-class.invariant.tainted (slice_index row i)
-    (low_at c.args.program.now forced c.args.verdicts.now c.args.wave row i are c.requires.row (omega arith))
+    (low_at c.args.program.now forced c.args.verdicts.now c.args.wave row i are c.requires.wave.row (omega arith))
 
 pub try_class-requires-clause-class : goal.try_class-requires-clause-class
 try_class-requires-clause-class g c =
-    let (forced, are) = c.requires.judged in
+    let (forced, are) = c.requires.wave.judged in
     let row = c.args.row.now in
     let i = c.loop-class.class-index in
     let low : slice_index row i < length c.args.program.now.classes =
-    low_at c.args.program.now forced c.args.verdicts.now c.args.wave row i are c.requires.row (omega arith) in
+    low_at c.args.program.now forced c.args.verdicts.now c.args.wave row i are c.requires.wave.row (omega arith) in
     omega (arith, c.loop-class.invariant.tries.count, length-map c.loop-class.settled.verdicts outcome_of)
 
 pub try_class-requires-clause-place : goal.try_class-requires-clause-place
 try_class-requires-clause-place g c =
-    let (forced, are) = c.requires.judged in
+    let (forced, are) = c.requires.wave.judged in
     let row = c.args.row.now in
     let i = c.loop-class.class-index in
     let low : slice_index row i < length c.args.program.now.classes =
-    low_at c.args.program.now forced c.args.verdicts.now c.args.wave row i are c.requires.row (omega arith) in
+    low_at c.args.program.now forced c.args.verdicts.now c.args.wave row i are c.requires.wave.row (omega arith) in
     omega (arith, c.loop-class.invariant.tries.regions, length-map c.loop-class.settled.regions (option_map region_of))
 
 pub try_class-requires-clause-none : goal.try_class-requires-clause-none
 try_class-requires-clause-none g c = λ κs alive.
-    let (forced, are) = c.requires.judged in
+    let (forced, are) = c.requires.wave.judged in
     let row = c.args.row.now in
     let i = c.loop-class.class-index in
     let held = c.loop-class.settled.regions in
@@ -67,63 +67,53 @@ try_class-requires-clause-none g c = λ κs alive.
     (settled_of c.args.settled.now) c.classes-tables.ensures.fits
     (subst IsFamily c.family.ensures c.classes-given.ensures.fits)
     (subst (λ (f : Family). AreParentsWithin f) c.family.ensures c.classes-given.ensures.within) are
-    c.requires.tried (take i row) (settled_of c.loop-class.settled) c.loop-class.tainted c.loop-class.invariant.tries
-    c.loop-class.invariant.tainted (slice_index row i)
-    (wave_at c.args.verdicts.now c.args.wave row i c.requires.row (omega arith))
-    (c.requires.row.once i (omega arith)))
+    c.requires.wave.tried (take i row) (settled_of c.loop-class.settled) c.loop-class.tainted
+    c.loop-class.invariant.tries c.loop-class.invariant.tainted (slice_index row i)
+    (wave_at c.args.verdicts.now c.args.wave row i c.requires.wave.row (omega arith))
+    (c.requires.wave.row.once i (omega arith)))
 
 pub try_class-requires-clause-run : goal.try_class-requires-clause-run
 try_class-requires-clause-run g c = λ κs alive.
-    let (forced, are) = c.requires.judged in
+    let (forced, are) = c.requires.wave.judged in
     let row = c.args.row.now in
     let i = c.loop-class.class-index in
     can_run c.args.program.now forced c.args.budget c.args.verdicts.now c.args.wave
     (settled_of c.args.settled.now) c.classes-tables.ensures.fits
     (subst IsFamily c.family.ensures c.classes-given.ensures.fits)
     (subst (λ (f : Family). AreParentsWithin f) c.family.ensures c.classes-given.ensures.within) are
-    c.requires.tried (take i row) (settled_of c.loop-class.settled) c.loop-class.tainted c.loop-class.invariant.tries
-    c.loop-class.invariant.tainted (slice_index row i)
-    (wave_at c.args.verdicts.now c.args.wave row i c.requires.row (omega arith))
-    (c.requires.row.once i (omega arith)) (environment_of c.loop-class.settled.regions)
+    c.requires.wave.tried (take i row) (settled_of c.loop-class.settled) c.loop-class.tainted
+    c.loop-class.invariant.tries c.loop-class.invariant.tainted (slice_index row i)
+    (wave_at c.args.verdicts.now c.args.wave row i c.requires.wave.row (omega arith))
+    (c.requires.wave.row.once i (omega arith)) (environment_of c.loop-class.settled.regions)
     (λ d. region_seen c.loop-class.settled.regions d)
 
 pub loop-class-preserved : goal.loop-class-preserved
 loop-class-preserved g c =
-    let (forced, are) = c.requires.judged in
+    let (forced, are) = c.requires.wave.judged in
     let row = c.args.row.now in
     let i = c.loop-class.class-index in
     let P = c.args.program.now in
     let new = settled_of c.try_class.new.settled in
+    let (tries, tainted) = goes_on P forced c.args.budget c.args.verdicts.now c.args.wave
+    (settled_of c.args.settled.now) c.classes-tables.ensures.fits
+    (subst IsFamily c.family.ensures c.classes-given.ensures.fits)
+    (subst (λ (f : Family). AreParentsWithin f) c.family.ensures c.classes-given.ensures.within) are
+    c.requires.wave.tried (take i row) (settled_of c.loop-class.settled) c.loop-class.tainted
+    c.loop-class.invariant.tries c.loop-class.invariant.tainted (slice_index row i)
+    (wave_at c.args.verdicts.now c.args.wave row i c.requires.wave.row (omega arith))
+    (c.requires.wave.row.once i (omega arith)) (environment_of g.W.Lent.regions)
+    (environment_of c.loop-class.settled.regions)
+    (λ d r here. lent_has c.args.settled.now c.args.wave g.W.Lent.regions c.requires.regions d r here)
+    (λ d. region_seen c.loop-class.settled.regions d) new c.try_class.new.tainted c.in_ok-try_class.ensures in
     record {
       tries = subst (λ (done : List ℕ). TriesThese P c.args.budget c.args.verdicts.now c.args.wave done
-          (settled_of c.args.settled.now) new) (sym (next_done row i (omega arith)))
-          (tries_more P forced c.args.budget c.args.verdicts.now c.args.wave
-          (settled_of c.args.settled.now) c.classes-tables.ensures.fits
-          (subst IsFamily c.family.ensures c.classes-given.ensures.fits)
-          (subst (λ (f : Family). AreParentsWithin f) c.family.ensures c.classes-given.ensures.within) are
-          c.requires.tried (take i row) (settled_of c.loop-class.settled) c.loop-class.tainted
-          c.loop-class.invariant.tries c.loop-class.invariant.tainted (slice_index row i)
-          (wave_at c.args.verdicts.now c.args.wave row i c.requires.row (omega arith))
-          (c.requires.row.once i (omega arith)) (environment_of g.W.Lent.regions)
-          (environment_of c.loop-class.settled.regions)
-          (λ d r here. lent_has c.args.settled.now c.args.wave g.W.Lent.regions c.requires.regions d r here)
-          (λ d. region_seen c.loop-class.settled.regions d) new c.try_class.new.tainted c.in_ok-try_class.ensures);
-      tainted = taints_more P forced c.args.budget c.args.verdicts.now c.args.wave
-          (settled_of c.args.settled.now) c.classes-tables.ensures.fits
-          (subst IsFamily c.family.ensures c.classes-given.ensures.fits)
-          (subst (λ (f : Family). AreParentsWithin f) c.family.ensures c.classes-given.ensures.within) are
-          c.requires.tried (take i row) (settled_of c.loop-class.settled) c.loop-class.tainted
-          c.loop-class.invariant.tries c.loop-class.invariant.tainted (slice_index row i)
-          (wave_at c.args.verdicts.now c.args.wave row i c.requires.row (omega arith))
-          (c.requires.row.once i (omega arith)) (environment_of g.W.Lent.regions)
-          (environment_of c.loop-class.settled.regions)
-          (λ d r here. lent_has c.args.settled.now c.args.wave g.W.Lent.regions c.requires.regions d r here)
-          (λ d. region_seen c.loop-class.settled.regions d) new c.try_class.new.tainted c.in_ok-try_class.ensures;
+          (settled_of c.args.settled.now) new) (sym (next_done row i (omega arith))) tries;
+      tainted = tainted;
     }
 
-pub returns-clause-tried : goal.returns-clause-tried
-returns-clause-tried g c =
-    let (forced, are) = c.requires.judged in
+pub returns : goal.returns
+returns g c =
+    let (forced, are) = c.requires.wave.judged in
     let row = c.args.row.now in
     let P = c.args.program.now in
     let judged = c.args.verdicts.now in
@@ -132,9 +122,12 @@ returns-clause-tried g c =
     let all : TriesThese P c.args.budget judged c.args.wave row old new =
     subst (λ (done : List ℕ). TriesThese P c.args.budget judged c.args.wave done old new)
     (take_all c.loop-class.class-index row (omega arith)) c.loop-class.invariant.tries in
-    subst (λ (n : ℕ). AreTriedBelow P c.args.budget judged n new) (sym (add-one c.args.wave))
-    (waves_go_on_lem P forced c.args.budget judged c.args.wave old new are c.requires.tried
-    (tries_all P forced c.args.budget judged c.args.wave old c.classes-tables.ensures.fits
-    (subst IsFamily c.family.ensures c.classes-given.ensures.fits)
-    (subst (λ (f : Family). AreParentsWithin f) c.family.ensures c.classes-given.ensures.within) are
-    c.requires.tried row new c.requires.row all))
+    record {
+      tried = subst (λ (n : ℕ). AreTriedBelow P c.args.budget judged n new) (sym (add-one c.args.wave))
+          (waves_go_on_lem P forced c.args.budget judged c.args.wave old new are c.requires.wave.tried
+          (tries_all P forced c.args.budget judged c.args.wave old c.classes-tables.ensures.fits
+          (subst IsFamily c.family.ensures c.classes-given.ensures.fits)
+          (subst (λ (f : Family). AreParentsWithin f) c.family.ensures c.classes-given.ensures.within) are
+          c.requires.wave.tried row new c.requires.wave.row all));
+      tainted = c.loop-class.invariant.tainted;
+    }

@@ -1,9 +1,11 @@
-use Rattle.std.proofs.Common.{◌≤◌, length, subst}
-use Rattle.thread_runner.specs.Kept.{Pages, printed_text}
-use Rattle.thread_runner.proofs.SendingLemmas.{place_within}
+use Rattle.std.proofs.Common.{subst}
+use Rattle.thread_runner.specs.Commits.{PagesGoOn}
+use Rattle.thread_runner.specs.Kept.{Pages}
+use Rattle.thread_runner.proofs.AloneLemmas.{pages_go_on, pages_of}
 use Rattle.thread_runner.proofs.book.Book.commit_none.Goals as goal
 
-pub returns-clause-within : goal.returns-clause-within
-returns-clause-within g c =
-    subst (λ (b : Pages). b.sent ≤ length (printed_text b)) c.self.view_is
-    (place_within c.self.inside.history.world.printed c.self.inside.lines c.self.inside.bytes c.self.invariant)
+pub returns-clause-goes_on : goal.returns-clause-goes_on
+returns-clause-goes_on g c =
+    let b = c.self.inside in
+    subst (λ (p : Pages). PagesGoOn p (pages_of c.commit_none.new.self b.lines b.bytes)) c.self.view_is
+    (pages_go_on b.history c.commit_none.new.self b.lines b.bytes c.self.invariant c.commit_none.ensures.goes_on)

@@ -1,7 +1,13 @@
-use Rattle.std.proofs.Common.{ap, ◌∙◌}
+use Rattle.std.proofs.Common.{ap, subst, sym, ◌∙◌}
 use Rattle.thread_runner.specs.Kept.{Pages}
+use Rattle.thread_runner.specs.steps.Alone.{CanRunOn}
 use Rattle.thread_runner.proofs.AloneLemmas.{place_on, sent_as_before}
 use Rattle.thread_runner.proofs.book.Book.run_on.Goals as goal
+
+pub run_on-requires : goal.run_on-requires
+run_on-requires g c =
+    subst (λ (b : Pages). CanRunOn g.O.Origin.program c.args.program.now b.past c.args.thread c.args.steps
+    c.args.table.now) (sym c.self.view_is) c.requires
 
 pub invariant_of-result : goal.invariant_of-result
 invariant_of-result g c =

@@ -3,6 +3,16 @@ use Rattle.thread_runner.proofs.AnswerLemmas.{holds_still, lines_gone}
 use Rattle.thread_runner.proofs.AloneLemmas.{room_on}
 use Rattle.thread_runner.proofs.desk.Desk.run_slice.Goals as goal
 
+pub run_on-requires : goal.run_on-requires
+run_on-requires g c =
+    let d = c.args.self in
+    record {
+      program = c.requires.program;
+      thread = omega (arith, c.requires.thread, d.threads);
+      keeps = c.requires.keeps;
+      room = omega (arith, c.requires.room);
+    }
+
 pub invariant_of-desk : goal.invariant_of-desk
 invariant_of-desk g c =
     let d = c.args.self in

@@ -5,6 +5,7 @@ use Rattle.init_engine.specs.Turnings.{RunsAhead}
 use Rattle.thread_runner.specs.Kept.{Past, steps_of}
 use Rattle.thread_runner.specs.steps.Alone.{RunsOn}
 use Rattle.thread_runner.proofs.AloneLemmas.{kept_on, runs_on}
+use Rattle.thread_runner.proofs.BookLemmas.{past_of}
 use Rattle.thread_runner.proofs.history.History.run_on.Goals as goal
 
 pub run_in-requires-clause-fits : goal.run_in-requires-clause-fits
@@ -15,11 +16,7 @@ run_in-requires-clause-fits g c =
 pub invariant_of-result : goal.invariant_of-result
 invariant_of-result g c =
     let P = g.O.Origin.program in
-    let h : Past = record {
-      world = c.self.inside.world;
-      journal = c.self.inside.journal.items;
-      limit = c.self.inside.limit;
-    } in
+    let h = past_of c.self.inside.world c.self.inside.journal.items c.self.inside.limit in
     let room = subst (λ (x : Past). steps_of x + c.args.steps < x.limit + 1024) (sym c.self.view_is) c.requires.room in
     let v = c.run_in.new.world in
     let made = c.in-Ok.made in
@@ -32,16 +29,8 @@ invariant_of-result g c =
 pub returns-in-Ok-clause-on : goal.returns-in-Ok-clause-on
 returns-in-Ok-clause-on g c =
     let P = c.args.program.now in
-    let h : Past = record {
-      world = c.self.inside.world;
-      journal = c.self.inside.journal.items;
-      limit = c.self.inside.limit;
-    } in
-    let new : Past = record {
-      world = c.run_in.new.world;
-      journal = c.run_in.new.journal.items;
-      limit = c.self.inside.limit;
-    } in
+    let h = past_of c.self.inside.world c.self.inside.journal.items c.self.inside.limit in
+    let new = past_of c.run_in.new.world c.run_in.new.journal.items c.self.inside.limit in
     subst (λ (x : Past). RunsOn c.args.thread x new c.in-Ok.made) c.self.view_is
     (runs_on P h c.run_in.new.world c.run_in.new.journal.items c.args.thread c.args.steps c.args.bytes c.in-Ok.made
     c.in-Ok.ensures.ahead c.in-Ok.ensures.schedule c.run_in.ensures.threads)
