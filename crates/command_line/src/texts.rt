@@ -91,10 +91,10 @@ Runs an image by a journal that 'preinit run' wrote";
 
 pub(crate) const REPLAY_LONG_ABOUT: &str = "\
 Runs the main method of each entry class in a thread of its own, from an image, in the order that a journal has. It
-shows what the run showed that wrote the journal. A line of a journal is the number of a thread, one space and the number
-of steps that it makes, in decimal without leading zeros.
+shows what the run showed that wrote the journal. A line of a journal is the number of a thread, one space and the
+number of steps that it makes, in decimal without leading zeros.
 
-What is wrong with a journal is told by its text: Text and the first line at fault, or Turn and the line of a thread that
-is not there or has no step, from 1.
+What is wrong with a journal is told by its text: Text and the first line at fault, or Turn and the line of a thread
+that is not there or has no step, from 1.
 
 For example: preinit replay --journal app.journal --entries app.Main,app.Other app.img";

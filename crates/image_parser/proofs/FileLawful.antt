@@ -17,7 +17,7 @@ use Rattle.classfile.specs.ClassFile.{ClassFile}
 use Rattle.classfile.specs.Spelling.{u4}
 use Rattle.classfile.specs.Text.{class_text}
 use Rattle.classfile.specs.reading.Class.{class_of}
-use Rattle.classfile.specs.Faults.{Either, Number, Run, IsBytes}
+use Rattle.classfile.specs.Faults.{Either, Number, IsBytes}
 use Rattle.classfile.specs.reading.Numbers.{◌>>=◌}
 use Rattle.classfile.proofs.ClassLawful.{class_is_text, text_is_class, fault_is_first, first_is_fault}
 use Rattle.classfile.proofs.Lawful.{Lawful, Both, Is, Mapped, IsBytes-back, fits_as, bind_ok, bind_err, ok_is, wide32}
@@ -34,10 +34,9 @@ use Rattle.image_parser.specs.FileFaults.{FilesFailFrom, AreFilesAfter, AreFiles
 use Rattle.image_parser.specs.FileFaults.RunFails.{class, order}
 use Rattle.image_parser.specs.RegionFaults.{Cut, CutNumber}
 use Rattle.image_parser.specs.Regions.{Begins}
-use Rattle.image_parser.specs.reading.Results.{number_at, run_at}
 use Rattle.image_parser.specs.reading.Files.{of_run, outside, counted_at, sized_at, is_after, in_class, in_order}
 use Rattle.image_parser.specs.reading.Files.{class_in, file_at, files_at}
-use Rattle.image_parser.proofs.NumberLawful.{number_lawful, run_lawful}
+use Rattle.image_parser.proofs.NumberLawful.{run_after_lawful}
 
 -- ---- the same faults in other words
 
@@ -144,29 +143,9 @@ outside_lawful {X} r S F one = record {
 abbrev Counted : List ℕ → RegionFault → Type 0
 Counted = Either (Number w32) (CutNumber w32) Cut
 
-sized_there : (run text : List ℕ) → Both (Number w32) Run run text → IsSized run text
-sized_there run text s =
-    let short : length run < 2 ^ 32 = rw (s.second.0) s.first.0 in (
-      short,
-      s.parts ∙ append_equal s.front (u4 (length run)) s.back run
-          (s.first.1 ∙ ap (λ (n : ℕ). u4 n) (sym s.second.0)) s.second.1,
-    )
-
-sized_back : (run text : List ℕ) → IsSized run text → Both (Number w32) Run run text
-sized_back run text s = record {
-  value = length run;
-  front = u4 (length run);
-  back = run;
-  first = (s.0, refl);
-  second = (refl, refl);
-  parts = s.1;
-}
-
 counted_lawful : Lawful counted_at IsSized Counted
 unfolding counted_at
-counted_lawful = restated (then_lawful (number_at w32) (λ bytes count. run_at count.0 count.1)
-    (number_lawful w32 wide32)
-    (λ bytes count text s. run_lawful count)) sized_there sized_back
+counted_lawful = run_after_lawful w32 wide32
 
 cut_there : (bytes : List ℕ) (f : FilesFault) → Outside Counted bytes f → SizedFails bytes f
 cut_there bytes f (e, (inl cut, is)) = inl (cut.0, is ∙ ap of_run cut.1)

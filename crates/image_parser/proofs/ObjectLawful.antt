@@ -5,11 +5,11 @@ use Rattle.std.specs.Bool.{Decides}
 use Rattle.std.specs.List.{flat_map}
 use Rattle.std.specs.Int.{w8, w16, w32}
 use Rattle.std.proofs.lemmas.Bool.{and_parts, ltb-true, lt-ltb, eqb-true}
-use Rattle.classfile.specs.Spelling.{u1, u2, u4}
+use Rattle.classfile.specs.Spelling.{u1, u4}
 use Rattle.built_in.specs.declared.class_id.ClassId.{ClassId}
 use Rattle.built_in.specs.declared.class_id.ClassId.TheVariants as classes
 use Rattle.classfile.specs.ClassFile.{ClassFile}
-use Rattle.classfile.specs.Faults.{Either, Number, Run}
+use Rattle.classfile.specs.Faults.{Either, Number}
 use Rattle.classfile.specs.FirstFault.{Ruled, RuleFails}
 use Rattle.classfile.specs.reading.Numbers.{◌>>=◌}
 use Rattle.classfile.proofs.Lawful.{Lawful, Both, Is, Mapped, wide8, wide16, wide32, pure_lawful, ok_is, restated}
@@ -42,7 +42,7 @@ use Rattle.image_parser.specs.RegionFaults.{form_of, NameFails, IsName, NamesCla
 use Rattle.image_parser.specs.RegionFaults.{ArrayFails}
 use Rattle.image_parser.specs.RegionFaults.{SlotsFail, ObjectFails, IsObject, ObjectsFail, AreStatics, RegionFails}
 use Rattle.image_parser.specs.RegionFaults.{IsRegion}
-use Rattle.image_parser.specs.reading.Results.{number_at, run_at, each_at}
+use Rattle.image_parser.specs.reading.Results.{number_at, each_at}
 use Rattle.image_parser.specs.reading.Values.{value_at, element_at}
 use Rattle.image_parser.specs.reading.ClassNames.{class_of}
 use Rattle.image_parser.specs.reading.Unknown.{unknown_of}
@@ -50,7 +50,7 @@ use Rattle.image_parser.specs.reading.Objects.{is_form, may_be, good_class, unkn
 use Rattle.image_parser.specs.reading.Objects.{class_at, elements_at, count_at, array_at, slots_at, formed_at, form_at}
 use Rattle.image_parser.specs.reading.Objects.{object_at, object_of, region_of, objects_at, counted_region_at}
 use Rattle.image_parser.specs.reading.Objects.{region_at}
-use Rattle.image_parser.proofs.NumberLawful.{number_lawful, run_lawful}
+use Rattle.image_parser.proofs.NumberLawful.{number_lawful, run_after_lawful}
 use Rattle.image_parser.proofs.EachLawful.{AllSpelled, each_lawful}
 use Rattle.image_parser.proofs.ValueLawful.{value_lawful, times_all, all_times}
 use Rattle.image_parser.proofs.ElementLawful.{element_lawful}
@@ -76,28 +76,9 @@ count_lawful = ruled_lawful (number_at w32) (λ n. ltb n 2147483648) (λ n. n < 
 
 -- ---- names
 
-named_there : (name text : List ℕ) → Both (Number w16) Run name text → IsName name text
-named_there name text s =
-    let short : length name < 2 ^ 16 = rw (s.second.0) s.first.0 in (
-      short,
-      s.parts ∙ append_equal s.front (u2 (length name)) s.back name
-          (s.first.1 ∙ ap (λ (n : ℕ). u2 n) (sym s.second.0)) s.second.1,
-    )
-
-named_back : (name text : List ℕ) → IsName name text → Both (Number w16) Run name text
-named_back name text s = record {
-  value = length name;
-  front = u2 (length name);
-  back = name;
-  first = (s.0, refl);
-  second = (refl, refl);
-  parts = s.1;
-}
-
 name_lawful : Lawful name_at IsName NameFails
 unfolding name_at
-name_lawful = restated (then_lawful (number_at w16) (λ bytes count. run_at count.0 count.1) (number_lawful w16 wide16)
-    (λ bytes count text s. run_lawful count)) named_there named_back
+name_lawful = run_after_lawful w16 wide16
 
 -- ---- classes
 

@@ -5,7 +5,6 @@ ghost use Rattle.loading.specs.Families.{IsFamily};
 ghost use Rattle.image_format.specs.Shapes.{has_objects, has_values};
 ghost use Rattle.image_parser.specs.FirstFailing.{times};
 ghost use Rattle.image_parser.specs.reading.Results.{Gives, number_at, each_at};
-ghost use Rattle.program.specs.InstanceFields.{slots_of, static_kinds};
 ghost use Rattle.image_parser.specs.reading.Values.{value_at};
 ghost use Rattle.image_parser.specs.reading.ClassNames.{class_of};
 ghost use Rattle.image_parser.specs.reading.Unknown.{unknown_of};
@@ -194,20 +193,6 @@ fn values_at<'a>(
     Ok((ImageValues::of_vec(values), rest))
 }
 
-/// The slots of an instance of a given class.
-fn instance_at<'a>(
-    alloc: Global,
-    program: &Program,
-    class: u32,
-    bytes: &'a [u8],
-) -> Result<(ImageValues, &'a [u8]), RegionFault>
-    ensures { Gives (λ x. (x.0, x.1.now)) result
-        (each_at value_at (slots_of program.now.family class) [] bytes.now) }
-{
-    let kinds = program.slot_kinds(alloc, class)?;
-    values_at(alloc, &kinds, bytes)
-}
-
 /// What follows the name of a class.
 fn slots_at<'a>(
     alloc: Global,
@@ -233,7 +218,10 @@ fn known_slots_at<'a>(
     ensures { Gives (λ x. (x.0, x.1.now)) result (known_slots_at program.now.family class bytes.now) }
 {
     match class {
-        ClassId::Given(number) => instance_at(alloc, program, number, bytes),
+        ClassId::Given(number) => {
+            let kinds = program.slot_kinds(alloc, number)?;
+            values_at(alloc, &kinds, bytes)
+        }
         ClassId::BuiltIn(_) => Ok((ImageValues::none(alloc), bytes)),
         ClassId::Array(array) => array_at(alloc, kind_of_elements(array), bytes),
     }
@@ -315,20 +303,6 @@ fn objects_at<'a>(
     Ok((ImageObjects::of_vec(objects), rest))
 }
 
-/// The values of the static fields of a class.
-fn statics_at<'a>(
-    alloc: Global,
-    program: &Program,
-    class: u32,
-    bytes: &'a [u8],
-) -> Result<(ImageValues, &'a [u8]), RegionFault>
-    ensures { Gives (λ x. (x.0, x.1.now)) result
-        (each_at value_at (static_kinds program.now.family class) [] bytes.now) }
-{
-    let kinds = program.static_kinds(alloc, class)?;
-    values_at(alloc, &kinds, bytes)
-}
-
 /// The statics of a class and so many objects.
 #[tactic(auto, unfolding(crate::specs::reading::Objects::counted_region_at))]
 fn counted_region_at<'a>(
@@ -340,7 +314,8 @@ fn counted_region_at<'a>(
 ) -> Result<(ImageRegion, &'a [u8]), RegionFault>
     ensures { Gives (λ x. (x.0, x.1.now)) result (counted_region_at program.now.family class count bytes.now) }
 {
-    let (statics, rest) = statics_at(alloc, program, class, bytes)?;
+    let kinds = program.static_kinds(alloc, class)?;
+    let (statics, rest) = values_at(alloc, &kinds, bytes)?;
     let (objects, rest) = objects_at(alloc, program, count, rest)?;
     Ok((ImageRegion { statics, objects }, rest))
 }

@@ -41,6 +41,7 @@ use Rattle.image_reader.specs.steps.Held.{AddsStrings, HasUnits, HoldsValue, Hol
 use Rattle.image_reader.specs.steps.Held.{HoldsFields, HoldsType}
 use Rattle.image_reader.specs.steps.Held.{HoldsObject, HoldsNumber, HoldsObjects, HoldsRegion, HoldsClass}
 use Rattle.image_reader.specs.steps.Held.{HoldsRegions}
+use Rattle.image_reader.proofs.ReferencesLemmas.{reference_is}
 
 -- ---- the program
 
@@ -274,15 +275,9 @@ put_region S lower t told old new n r count holds is here put =
 -- ---- units of strings
 
 text_units : (kind : FieldKind) (units : List ℕ) → Suits kind (values.Text units) → AreUnits units
-text_units kinds.Boolean units suits = absurd suits
-text_units kinds.Byte units suits = absurd suits
-text_units kinds.Char units suits = absurd suits
-text_units kinds.Short units suits = absurd suits
-text_units kinds.Int units suits = absurd suits
-text_units kinds.Long units suits = absurd suits
-text_units kinds.Float units suits = absurd suits
-text_units kinds.Double units suits = absurd suits
-text_units kinds.Reference units suits = suits
+text_units kind units suits =
+    let P : FieldKind → Type 0 = λ k. Suits k (values.Text units) in
+    subst P (reference_is kind (values.Text units) tt suits) suits
 
 value_units : (kind : FieldKind) (told : ImageValue) → Suits kind told → HasUnits told
 value_units kind (values.Text units) suits = text_units kind units suits

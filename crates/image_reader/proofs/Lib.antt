@@ -1,4 +1,5 @@
 pub mod PlacingLemmas
+pub mod ReferencesLemmas
 pub mod HeldLemmas
 pub mod ClassesLemmas
 pub mod ToldLemmas

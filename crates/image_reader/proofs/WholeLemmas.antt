@@ -57,6 +57,7 @@ use Rattle.image_format.specs.Shapes.{AreKnownSlots, ObjectHasShape, HasShape, h
 use Rattle.image_reader.specs.steps.Held.{HoldsValue, HoldsValues, HoldsField, HoldsFields, HoldsObject, HoldsNumber}
 use Rattle.image_reader.specs.steps.Held.{HoldsArray, HoldsType, HoldsRegion, HoldsClass, HoldsRegions}
 use Rattle.image_reader.proofs.ClassesLemmas.{is_in, place_of}
+use Rattle.image_reader.proofs.ReferencesLemmas.{reference_is}
 
 -- ---- values
 
@@ -93,51 +94,6 @@ long_suits kinds.Float n fits = absurd fits
 long_suits kinds.Double n fits = absurd fits
 long_suits kinds.Reference n fits = absurd fits
 
--- what is neither an int nor a long
-null_is : (kind : FieldKind) → Suits kind values.Null → kind ≡ kinds.Reference
-null_is kinds.Boolean fits = absurd fits
-null_is kinds.Byte fits = absurd fits
-null_is kinds.Char fits = absurd fits
-null_is kinds.Short fits = absurd fits
-null_is kinds.Int fits = absurd fits
-null_is kinds.Long fits = absurd fits
-null_is kinds.Float fits = absurd fits
-null_is kinds.Double fits = absurd fits
-null_is kinds.Reference fits = refl
-
-text_is : (kind : FieldKind) (units : List ℕ) → Suits kind (values.Text units) → kind ≡ kinds.Reference
-text_is kinds.Boolean units fits = absurd fits
-text_is kinds.Byte units fits = absurd fits
-text_is kinds.Char units fits = absurd fits
-text_is kinds.Short units fits = absurd fits
-text_is kinds.Int units fits = absurd fits
-text_is kinds.Long units fits = absurd fits
-text_is kinds.Float units fits = absurd fits
-text_is kinds.Double units fits = absurd fits
-text_is kinds.Reference units fits = refl
-
-object_is : (kind : FieldKind) (c n : ℕ) → Suits kind (values.Object c n) → kind ≡ kinds.Reference
-object_is kinds.Boolean c n fits = absurd fits
-object_is kinds.Byte c n fits = absurd fits
-object_is kinds.Char c n fits = absurd fits
-object_is kinds.Short c n fits = absurd fits
-object_is kinds.Int c n fits = absurd fits
-object_is kinds.Long c n fits = absurd fits
-object_is kinds.Float c n fits = absurd fits
-object_is kinds.Double c n fits = absurd fits
-object_is kinds.Reference c n fits = refl
-
-out_is : (kind : FieldKind) → Suits kind values.Out → kind ≡ kinds.Reference
-out_is kinds.Boolean fits = absurd fits
-out_is kinds.Byte fits = absurd fits
-out_is kinds.Char fits = absurd fits
-out_is kinds.Short fits = absurd fits
-out_is kinds.Int fits = absurd fits
-out_is kinds.Long fits = absurd fits
-out_is kinds.Float fits = absurd fits
-out_is kinds.Double fits = absurd fits
-out_is kinds.Reference fits = refl
-
 -- a list as long as another has nothing where that has nothing
 no_more : {A B : Type 0} (xs : List A) (ys : List B) (i : ℕ) → length ys ≡ length xs → slice_get xs i ≡ None
     → slice_get ys i ≡ None
@@ -150,12 +106,12 @@ no_more (x ∷ xs) (y ∷ ys) (suc i) long none =
 
 module _ (S : List (List ℕ)) where
   value_suits : (kind : FieldKind) (t : ImageValue) (v : Value) → Suits kind t → HoldsValue S t v → suits kind v ≡ true
-  value_suits kind values.Null v fits holds = rw (null_is kind fits, holds) refl
+  value_suits kind values.Null v fits holds = rw (reference_is kind values.Null tt fits, holds) refl
   value_suits kind (values.Int n) v fits holds = rw holds (int_suits kind n fits)
   value_suits kind (values.Long n) v fits holds = rw holds (long_suits kind n fits)
-  value_suits kind (values.Text us) v fits holds = rw (text_is kind us fits, holds.is) refl
-  value_suits kind (values.Object c n) v fits holds = rw (object_is kind c n fits, holds) refl
-  value_suits kind values.Out v fits holds = rw (out_is kind fits, holds) refl
+  value_suits kind (values.Text us) v fits holds = rw (reference_is kind (values.Text us) tt fits, holds.is) refl
+  value_suits kind (values.Object c n) v fits holds = rw (reference_is kind (values.Object c n) tt fits, holds) refl
+  value_suits kind values.Out v fits holds = rw (reference_is kind values.Out tt fits, holds) refl
 
   values_suit : (ks : List FieldKind) (told : List ImageValue) (vs : List Value) → AllZip Suits ks told
       → HoldsValues S told vs → AllZip (λ kind v. suits kind v ≡ true) ks vs

@@ -2,7 +2,7 @@
 
 ghost use Rattle.std.specs.Prelude.{◌≡◌, ℕ, ◌++◌, ◌<◌, ◌^◌, length, map, replicate, Some, option_map, IfOk, OnOk};
 ghost use Rattle.std.specs.List.{flat_map, All};
-ghost use Rattle.classfile.specs.Spelling.{u1, u4};
+ghost use Rattle.classfile.specs.Spelling.{u4};
 ghost use Rattle.vm_state.specs.declared.object.Object.{Object as Held};
 ghost use Rattle.vm_state.specs.Pools.{pool_by};
 ghost use Rattle.program.specs.Tables.{statics_in};
@@ -195,32 +195,17 @@ fn push_region(
     push_objects(alloc, out, program, &region.objects, count)
 }
 
-/// The mark of a class that is initialized, and its region.
-fn push_marked(
-    alloc: Global,
-    out: &mut Vec<u8>,
-    image: &Image,
-    class: u32,
-    region: &Region,
-) -> Result<(), AllocError>
-    requires files { HasFiles image.now.program }
-    requires sized { IsSizedRegion image.now.program (region_of region.now) }
-    requires held { environment_of image.now.regions class ≡ Some (region_of region.now) }
-    ensures { OnOk result (out.new.items ≡ out.old.items ++ (u1 1 ++ region_text image.now.program.family
-        (told_region image.now.program class (region_of region.now)))) }
-{
-    push_u8(out, 1)?;
-    push_region(alloc, out, image, class, region)
-}
-
-/// Whether a class is initialized, and its region.
+/// The mark of a class: 1 and its region where it is initialized, and else 0.
 fn push_mark(alloc: Global, out: &mut Vec<u8>, image: &Image, class: u32) -> Result<(), AllocError>
     requires { HasFiles image.now.program }
     ensures { OnOk result (out.new.items ≡ out.old.items ++ mark_text image.now.program.family
         (option_map (told_region image.now.program class) (environment_of image.now.regions class))) }
 {
     match image.region(class) {
-        Some(region) => push_marked(alloc, out, image, class, region),
+        Some(region) => {
+            push_u8(out, 1)?;
+            push_region(alloc, out, image, class, region)
+        }
         None => push_u8(out, 0),
     }
 }

@@ -14,14 +14,16 @@ returns-in-Ok-clause-asked c =
     (λ asked of. record {
       same = of.0;
       known = c.in-Ok.ensures.known;
-      demanded = subst (λ (d : List Bool). AreClasses d (IsDemanded P.family patterns)) (sym of.1) c.in-Ok.ensures.demanded;
+      demanded =
+          subst (λ (d : List Bool). AreClasses d (IsDemanded P.family patterns)) (sym of.1) c.in-Ok.ensures.demanded;
       apart = subst (λ (f : List Bool). AreApart (IsDemanded P.family patterns) f) (sym of.0) c.in-Ok.ensures.apart;
       verdicts = subst (λ (f : List Bool). AreVerdicts P f asked.verdicts) (sym of.0) of.2;
     })
     c.ask_judged.ensures.asked
 
 pub returns-in-Ok-clause-fault : goal.returns-in-Ok-clause-fault
-returns-in-Ok-clause-fault c = IfErr-weaker c.ask_judged.result _ _ (λ fault memory. inl memory) c.ask_judged.ensures.memory
+returns-in-Ok-clause-fault c =
+    IfErr-weaker c.ask_judged.result _ _ (λ fault memory. inl memory) c.ask_judged.ensures.memory
 
 pub returns-in-Err-clause-fault : goal.returns-in-Err-clause-fault
 returns-in-Err-clause-fault c =

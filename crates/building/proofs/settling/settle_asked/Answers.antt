@@ -37,4 +37,6 @@ returns-in-Ok-clause-fault g c =
     c.checked.ensures.fault
 
 pub returns-clause-fault : goal.returns-clause-fault
-returns-clause-fault g c = inl (c.of_wave.ensures.memory (memory_alone c.in-Err.fault c.args.workers c.requires.workers c.in-Err.ensures.fault))
+returns-clause-fault g c =
+    inl (c.of_wave.ensures.memory
+    (memory_alone c.in-Err.fault c.args.workers c.requires.workers c.in-Err.ensures.fault))

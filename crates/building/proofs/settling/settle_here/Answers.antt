@@ -8,8 +8,8 @@ use Rattle.building.proofs.settling.settle_here.Goals as goal
 pub returns-in-Ok-clause-settled : goal.returns-in-Ok-clause-settled
 returns-in-Ok-clause-settled c =
     settled_asked c.args.program.now (text_of c.args.options.now.run_time) (text_of c.args.options.now.build_time)
-    c.args.options.now.budget c.in-Ok.asked c.settle_asked_here.result c.in-Ok.ensures.asked c.settle_asked_here.ensures.settled
-    c.settle_asked_here.ensures.met
+    c.args.options.now.budget c.in-Ok.asked c.settle_asked_here.result c.in-Ok.ensures.asked
+    c.settle_asked_here.ensures.settled c.settle_asked_here.ensures.met
 
 pub returns-in-Ok-clause-fault : goal.returns-in-Ok-clause-fault
 returns-in-Ok-clause-fault c =

@@ -3,8 +3,8 @@ use Rattle.evaluator.specs.Regions.{region_of, environment_of}
 use Rattle.image_writer.proofs.SizesLemmas.{region_sized}
 use Rattle.image_writer.proofs.objects.push_mark.Goals as goal
 
-pub push_marked-requires-clause-sized : goal.push_marked-requires-clause-sized
-push_marked-requires-clause-sized c =
+pub push_region-requires-clause-sized : goal.push_region-requires-clause-sized
+push_region-requires-clause-sized c =
     region_sized c.args.image.now.program (environment_of c.args.image.now.regions) c.requires
     c.in-Some.ensures.whole c.in-Some.ensures.small c.args.class (region_of c.in-Some.region.now)
     (sym c.in-Some.ensures.value)
