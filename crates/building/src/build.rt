@@ -5,13 +5,14 @@ ghost use Rattle.evaluator.specs.Regions.{environment_of};
 ghost use Rattle.initializer_analysis.specs.Verdicts.{IsAccepted};
 ghost use Rattle.region_shape.specs.Laws.{IsFromFile};
 ghost use Rattle.region_shape.specs.Wholes.{AreWhole};
-ghost use Rattle.wave_scheduler.specs.Outcomes.{outcome_of, settled_of, CanWork};
+ghost use Rattle.wave_scheduler.specs.Outcomes.{outcome_of, CanWork};
 ghost use Rattle.wave_scheduler.specs.declared.outcome.WaveFault.TheVariants as wave_faults;
 ghost use Rattle.object_graph.specs.Images.{AreSmall};
-ghost use Rattle.building.specs.Builds.{text_of, IsBuilt, IsSettledAs, HoldsAccepted, StartsShowTheSame};
+ghost use Rattle.building.specs.Builds.{text_of, IsBuilt, HoldsAccepted, StartsShowTheSame};
 ghost use Rattle.building.specs.Refusals.{IsOption, OptionsFail};
 ghost use Rattle.building.specs.declared.build.BuildFault.TheVariants.{Memory, Wave};
 ghost use Rattle.building.specs.steps.Gathered.{built_of};
+ghost use Rattle.building.specs.steps.Settling.{SettlesBy};
 
 use crate::settling::{settle_by_workers, settle_here};
 use classfile::ClassFault;
@@ -104,10 +105,7 @@ fn image_by(
 ) -> Result<Built, BuildFault>
     requires files { (class : ℕ) → IsFromFile program class }
     requires budget { options.now.budget < 2 ^ 31 }
-    requires settled { IfOk settled (λ settled. IsSettledAs program (text_of options.now.run_time)
-        (text_of options.now.build_time) options.now.budget (settled_of settled)) }
-    requires fault { IfErr settled (λ fault. (fault ≡ Memory) ⊎ IsOption (OptionsFail program
-        (text_of options.now.run_time) (text_of options.now.build_time) options.now.budget) fault) }
+    requires settled { SettlesBy program options.now settled }
     ensures program { IfOk result (λ built. built.image.program ≡ program) }
     ensures built { IfOk result (λ built. IsBuilt (text_of options.now.run_time) (text_of options.now.build_time)
         options.now.budget built.image (map outcome_of built.verdicts)) }
