@@ -7,16 +7,18 @@ use Rattle.wave_scheduler.specs.Outcomes.{settled_of, CanWork, IsWaveFault}
 use Rattle.wave_scheduler.specs.declared.outcome.WaveFault.{WaveFault}
 use Rattle.wave_scheduler.specs.declared.outcome.WaveFault.TheVariants as wave_faults
 use Rattle.wave_scheduler.specs.declared.outcome.Settled.{Settled as Answer}
-use Rattle.options.specs.Demands.{AreMet}
+use Rattle.options.specs.Demands.{AreMet, IsUnmet}
 use Rattle.options.specs.declared.fault.OptionFault.{OptionFault}
 use Rattle.options.specs.declared.fault.OptionFault.TheVariants as option_faults
 use Rattle.building.specs.declared.build.Built.{Built}
 use Rattle.building.specs.declared.build.BuildFault.{BuildFault}
 use Rattle.building.specs.declared.build.BuildFault.TheVariants as faults
+use Rattle.building.specs.declared.build.BuildOptions.{BuildOptions}
 use Rattle.building.specs.declared.asking.Asked.{Asked}
-use Rattle.building.specs.Builds.{IsSettledAs}
+use Rattle.building.specs.Builds.{text_of, IsSettledAs}
 use Rattle.building.specs.Refusals.{IsLeftUnmet, IsOption, OptionsFail, demands, option, patterns, unmet}
-use Rattle.building.specs.steps.Asking.{IsAsked}
+use Rattle.building.specs.steps.Asking.{Always, IsAsked}
+use Rattle.building.specs.steps.Settling.{SettlesAsked, SettlesBy}
 
 -- ---- refusals
 
@@ -59,38 +61,80 @@ no_option_is_wave F (Err fault) (inr wrong) e = no_wave_fault F fault wrong (cc)
 
 -- ---- what is settled
 
-pub of_same : (r : Result Answer BuildFault) (s : Answer) (Q : Answer → Type 0) → IfOk r (λ last. last ≡ s)
-    → OnOk r (Q s) → IfOk r Q
-of_same (Ok last) s Q same here = subst Q (sym same) here
-of_same (Err fault) s Q same here = tt
-
-pub settled_asked : (P : Tables) (run build : Option (List ℕ)) (budget : ℕ) (asked : Asked)
-    (r : Result Answer BuildFault) → IsAsked P run build asked
-    → IfOk r (λ s. AreSettled P asked.forced budget (settled_of s)) → IfOk r (λ s. AreMet P asked.demand (settled_of s))
-    → IfOk r (λ s. IsSettledAs P run build budget (settled_of s))
-settled_asked P run build budget asked (Ok s) is settled met = record {
-  run_list = is.run_list;
-  build_list = is.build_list;
-  patterns = record {
-    known = is.by.known;
-    forced = asked.forced;
-    are = is.by.are;
-    settled = settled;
-    demands = record {
-      known = is.by.of.known;
-      demand = asked.demand;
-      are = is.by.of.demanded;
-      apart = is.by.of.apart;
-      met = met;
-    };
-  };
+-- what was settled, and is then checked
+pub checked_settles : (P : Tables) (asked : Asked) (budget : ℕ) (s : Answer) (r : Result Answer BuildFault)
+    → AreSettled P asked.forced budget (settled_of s) → IfOk r (λ last. last ≡ s)
+    → OnOk r (AreMet P asked.demand (settled_of s))
+    → IfErr r (λ fault. IsMemoryOr (IsUnmet P asked.demand (settled_of s)) fault) → SettlesAsked P asked budget r
+checked_settles P asked budget s (Ok last) settled same met fault = record {
+  settled = subst (λ (a : Answer). AreSettled P asked.forced budget (settled_of a)) (sym same) settled;
+  met = subst (λ (a : Answer). AreMet P asked.demand (settled_of a)) (sym same) met;
+  fault = tt;
 }
-settled_asked P run build budget asked (Err fault) is settled met = tt
+checked_settles P asked budget s (Err fault) settled same met wrong = record {
+  settled = tt;
+  met = tt;
+  fault =
+      wider {F = IsUnmet P asked.demand (settled_of s)} {G = IsLeftUnmet P asked.demand asked.forced budget} fault
+      (λ f left. record { last = settled_of s; settled = settled; unmet = left }) wrong;
+}
 
-pub left_unmet : (P : Tables) (run build : Option (List ℕ)) (budget : ℕ) (asked : Asked) (fault : OptionFault)
-    → IsAsked P run build asked → IsLeftUnmet P asked.demand asked.forced budget fault
-    → OptionsFail P run build budget fault
-left_unmet P run build budget asked fault is left =
-    patterns is.run_list is.build_list
-    (demands asked.forced is.by.known is.by.are
-    (unmet asked.demand is.by.of.known is.by.of.demanded is.by.of.apart left))
+-- nothing was settled for want of memory
+pub no_memory_settles : (P : Tables) (asked : Asked) (budget : ℕ) (fault : BuildFault) → fault ≡ faults.Memory
+    → SettlesAsked P asked budget (Err fault)
+no_memory_settles P asked budget fault memory = record { settled = tt; met = tt; fault = inl memory }
+
+module _ (P : Tables) (options : BuildOptions) where
+  abbrev run : Option (List ℕ)
+  run = text_of options.run_time
+
+  abbrev build : Option (List ℕ)
+  build = text_of options.build_time
+
+  settled_asked : (asked : Asked) (s : Answer) → IsAsked P run build asked
+      → SettlesAsked P asked options.budget (Ok s) → IsSettledAs P run build options.budget (settled_of s)
+  settled_asked asked s is of = record {
+    run_list = is.run_list;
+    build_list = is.build_list;
+    patterns = record {
+      known = is.by.known;
+      forced = asked.forced;
+      are = is.by.are;
+      settled = of.settled;
+      demands = record {
+        known = is.by.of.known;
+        demand = asked.demand;
+        are = is.by.of.demanded;
+        apart = is.by.of.apart;
+        met = of.met;
+      };
+    };
+  }
+
+  left_unmet : (asked : Asked) (fault : OptionFault) → IsAsked P run build asked
+      → IsLeftUnmet P asked.demand asked.forced options.budget fault → OptionsFail P run build options.budget fault
+  left_unmet asked fault is left =
+      patterns is.run_list is.build_list
+      (demands asked.forced is.by.known is.by.are
+      (unmet asked.demand is.by.of.known is.by.of.demanded is.by.of.apart left))
+
+  -- what was asked by the options
+  pub asked_settles : (asked : Asked) (r : Result Answer BuildFault) → IsAsked P run build asked
+      → SettlesAsked P asked options.budget r → SettlesBy P options r
+  asked_settles asked (Ok s) is of = record { settled = settled_asked asked s is of; fault = tt }
+  asked_settles asked (Err fault) is of = record {
+    settled = tt;
+    fault =
+        wider {F = IsLeftUnmet P asked.demand asked.forced options.budget} {G = OptionsFail P run build options.budget}
+        fault (λ f left. left_unmet asked f is left) of.fault;
+  }
+
+  -- it is not known what is asked
+  pub not_asked_settles : (fault : BuildFault) → IsMemoryOr (Always (OptionsFail P run build)) fault
+      → SettlesBy P options (Err fault)
+  not_asked_settles fault wrong = record {
+    settled = tt;
+    fault =
+        wider {F = Always (OptionsFail P run build)} {G = OptionsFail P run build options.budget} fault
+        (λ f always. always options.budget) wrong;
+  }

@@ -2,12 +2,11 @@
 
 ghost use Rattle.std.specs.Prelude.{◌≡◌, ◌⊎◌, length, IfErr, IfOk, OnOk};
 ghost use Rattle.initializer_analysis.specs.Verdicts.{AreVerdicts};
-ghost use Rattle.wave_scheduler.specs.Settled.{AreSettled};
 ghost use Rattle.wave_scheduler.specs.Outcomes.{settled_of, CanWork};
 ghost use Rattle.options.specs.Demands.{AreMet, IsUnmet};
-ghost use Rattle.building.specs.Builds.{text_of, IsSettledAs};
-ghost use Rattle.building.specs.Refusals.{IsLeftUnmet, IsOption, OptionsFail};
+ghost use Rattle.building.specs.Refusals.{IsOption};
 ghost use Rattle.building.specs.declared.build.BuildFault.TheVariants.{Memory};
+ghost use Rattle.building.specs.steps.Settling.{SettlesAsked, SettlesBy};
 
 use crate::asking::{Asked, ask};
 use crate::build::{BuildFault, BuildOptions};
@@ -46,10 +45,7 @@ fn settle_asked_here(
     budget: u64,
 ) -> Result<Settled, BuildFault>
     requires { AreVerdicts program.now asked.forced asked.verdicts }
-    ensures settled { IfOk result (λ settled. AreSettled program.now asked.forced budget (settled_of settled)) }
-    ensures met { IfOk result (λ settled. AreMet program.now asked.demand (settled_of settled)) }
-    ensures fault { IfErr result (λ fault. (fault ≡ Memory)
-        ⊎ IsOption (IsLeftUnmet program.now asked.demand asked.forced budget) fault) }
+    ensures { SettlesAsked program.now asked budget result }
 {
     let Asked {
         forced: _forced,
@@ -74,10 +70,7 @@ fn settle_asked<G: Gate, R: Threads + Wait + Sync>(
 ) -> Result<Settled, BuildFault>
     requires verdicts { AreVerdicts program.now asked.forced asked.verdicts }
     requires workers { CanWork workers }
-    ensures settled { IfOk result (λ settled. AreSettled program.now asked.forced budget (settled_of settled)) }
-    ensures met { IfOk result (λ settled. AreMet program.now asked.demand (settled_of settled)) }
-    ensures fault { IfErr result (λ fault. (fault ≡ Memory)
-        ⊎ IsOption (IsLeftUnmet program.now asked.demand asked.forced budget) fault) }
+    ensures { SettlesAsked program.now asked budget result }
 {
     let Asked {
         forced: _forced,
@@ -96,10 +89,7 @@ pub(crate) fn settle_here(
     program: &Program,
     options: &BuildOptions<'_>,
 ) -> Result<Settled, BuildFault>
-    ensures settled { IfOk result (λ settled. IsSettledAs program.now (text_of options.now.run_time)
-        (text_of options.now.build_time) options.now.budget (settled_of settled)) }
-    ensures fault { IfErr result (λ fault. (fault ≡ Memory) ⊎ IsOption (OptionsFail program.now
-        (text_of options.now.run_time) (text_of options.now.build_time) options.now.budget) fault) }
+    ensures { SettlesBy program.now options.now result }
 {
     match ask(alloc, program, options) {
         Ok(asked) => settle_asked_here(alloc, program, asked, options.budget),
@@ -117,10 +107,7 @@ pub(crate) fn settle_by_workers<G: Gate, R: Threads + Wait + Sync>(
     gate: &G,
 ) -> Result<Settled, BuildFault>
     requires { CanWork workers }
-    ensures settled { IfOk result (λ settled. IsSettledAs program.now (text_of options.now.run_time)
-        (text_of options.now.build_time) options.now.budget (settled_of settled)) }
-    ensures fault { IfErr result (λ fault. (fault ≡ Memory) ⊎ IsOption (OptionsFail program.now
-        (text_of options.now.run_time) (text_of options.now.build_time) options.now.budget) fault) }
+    ensures { SettlesBy program.now options.now result }
 {
     match ask(alloc, program, options) {
         Ok(asked) => settle_asked(rt, alloc, program, asked, options.budget, workers, gate),

@@ -1,40 +1,13 @@
-use Rattle.std.proofs.Common.{inl, sym, subst}
-use Rattle.std.proofs.lemmas.Result.{IfErr-weaker, IfOk-weaker}
-use Rattle.options.specs.Demands.{AreMet, IsUnmet}
-use Rattle.wave_scheduler.specs.Settled.{AreSettled}
-use Rattle.wave_scheduler.specs.Outcomes.{settled_of}
-use Rattle.wave_scheduler.specs.declared.outcome.Settled.{Settled as Answer}
-use Rattle.building.specs.Refusals.{IsLeftUnmet}
-use Rattle.building.proofs.RefusalLemmas.{of_same, wider}
+use Rattle.building.proofs.RefusalLemmas.{checked_settles, no_memory_settles}
 use Rattle.building.proofs.settling.settle_asked_here.Goals as goal
 
-pub returns-in-Ok-clause-settled : goal.returns-in-Ok-clause-settled
-returns-in-Ok-clause-settled c =
-    IfOk-weaker c.checked.result _ _
-    (λ last same.
-    subst (λ (s : Answer). AreSettled c.args.program.now c.args.asked.forced c.args.budget (settled_of s)) (sym same)
-    (c.in-Ok.ensures.settled c.args.asked.forced c.requires))
-    c.checked.ensures.same
-
-pub returns-in-Ok-clause-met : goal.returns-in-Ok-clause-met
-returns-in-Ok-clause-met c =
-    of_same c.checked.result c.in-Ok.settled
-    (λ (s : Answer). AreMet c.args.program.now c.args.asked.demand (settled_of s)) c.checked.ensures.same
-    c.checked.ensures.met
-
-pub returns-in-Ok-clause-fault : goal.returns-in-Ok-clause-fault
-returns-in-Ok-clause-fault c =
-    IfErr-weaker c.checked.result _ _
-    (λ r wrong.
-    wider {F = IsUnmet c.args.program.now c.args.asked.demand (settled_of c.in-Ok.settled)}
-    {G = IsLeftUnmet c.args.program.now c.args.asked.demand c.args.asked.forced c.args.budget} r
-    (λ f unmet. record {
-      last = settled_of c.in-Ok.settled;
-      settled = c.in-Ok.ensures.settled c.args.asked.forced c.requires;
-      unmet = unmet;
-    })
-    wrong)
+pub returns-in-Ok : goal.returns-in-Ok
+returns-in-Ok c =
+    checked_settles c.args.program.now c.args.asked c.args.budget c.in-Ok.settled c.checked.result
+    (c.in-Ok.ensures.settled c.args.asked.forced c.requires) c.checked.ensures.same c.checked.ensures.met
     c.checked.ensures.fault
 
-pub returns-clause-fault : goal.returns-clause-fault
-returns-clause-fault c = inl (c.of_wave.ensures.memory c.in-Err.ensures.fault)
+pub returns : goal.returns
+returns c =
+    no_memory_settles c.args.program.now c.args.asked c.args.budget c.of_wave.result
+    (c.of_wave.ensures.memory c.in-Err.ensures.fault)
