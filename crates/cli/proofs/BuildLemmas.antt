@@ -59,10 +59,10 @@ is_from_file texts P of c f at = by (slice_get P.family c) refl
           get_or_from_slice_get (map (λ (x : GivenClass). x.file) P.family) c f f there,
         ))
 
-pub is_build : (texts : List (List ℕ)) (options : BuildOptions) (P : Tables) (r : Result Built BuildFault)
-    → IsBudget options.budget → IsProgramOf texts P → IfOk r (IsBuildOfProgram P options)
-    → IfOk r (IsBuildOfClassFiles texts options)
-is_build texts options P (Ok answer) range of is =
+pub is_build : (texts : List (List ℕ)) (chosen : BuildOptions) (P : Tables) (r : Result Built BuildFault)
+    → IsBudget chosen.budget → IsProgramOf texts P → IfOk r (IsBuildOfProgram P chosen)
+    → IfOk r (IsBuildOfClassFiles texts chosen)
+is_build texts chosen P (Ok answer) range of is =
     let here : IsProgramOf texts answer.image.program =
     subst (λ (Q : Tables). IsProgramOf texts Q) (sym is.program) of in
     record {
@@ -75,7 +75,7 @@ is_build texts options P (Ok answer) range of is =
       entries = entries_alike answer.image here.family.fits;
       waves = record { count = is.count; each = is.waves };
     }
-is_build texts options P (Err fault) range of is = tt
+is_build texts chosen P (Err fault) range of is = tt
 
 -- ---- refusals
 
