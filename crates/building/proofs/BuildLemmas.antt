@@ -1,6 +1,6 @@
 -- What an image is of.
 use Rattle.std.proofs.Common.{◌≡◌, ◌↔◌, ℕ, ◌<◌, ◌^◌, List, length, map, Option, Some, option_map, IsSome, is_some}
-use Rattle.std.proofs.Common.{slice_get, sym, ap, subst, ◌∙◌, arith}
+use Rattle.std.proofs.Common.{slice_get, refl, sym, ap, subst, ◌∙◌, arith}
 use Rattle.std.proofs.Math.Path.{fun_ext}
 use Rattle.std.proofs.lemmas.List.{length-map}
 use Rattle.std.proofs.lemmas.Option.{slice_get-map, slice_get_within}
@@ -30,7 +30,9 @@ use Rattle.wave_scheduler.proofs.HeadlineLemmas.{settled_show_the_same_lem}
 use Rattle.wave_scheduler.proofs.WholesLemmas.{settled_are_whole_lem, settled_are_small_lem}
 use Rattle.machine.specs.Linked.{program_of}
 use Rattle.object_graph.specs.Images.{ImageTables, AreSmall, start_image, region_or}
-use Rattle.building.specs.Builds.{IsSettledAs, IsBuilt, HoldsAccepted, StartsShowTheSame}
+use Rattle.building.specs.declared.build.BuildOptions.{BuildOptions}
+use Rattle.building.specs.Builds.{text_of, IsSettledAs, HoldsAccepted, StartsShowTheSame, IsBuildOfProgram}
+use Rattle.building.specs.steps.Gathered.{built_of}
 
 -- ---- regions
 
@@ -70,7 +72,7 @@ module _ (P : Tables) (run build : Option (List ℕ)) (budget : ℕ) (linked : I
           settled_are_small_lem P by.patterns.forced budget (settled_of s) linked from by.patterns.settled c r
           (seen c r here)
 
-  pub shows_by : (S : Settled) (I : ImageTables) → I.program ≡ P → IsSettledAs P run build budget S
+  shows_by : (S : Settled) (I : ImageTables) → I.program ≡ P → IsSettledAs P run build budget S
       → ((c : ℕ) → environment_of I.regions c ≡ region_in S c) → StartsShowTheSame I
   shows_by S I is by same entries s =
       let as_here = subst (λ (Q : Tables). IsSettledAs Q run build budget S) (sym is) by in
@@ -78,7 +80,7 @@ module _ (P : Tables) (run build : Option (List ℕ)) (budget : ℕ) (linked : I
       settled_show_the_same_lem I.program as_here.patterns.forced budget S (start_image I) entries here.program
       here.family here.within as_here.patterns.settled (has_regions S I same) s
 
-  pub exact_by : (S : Settled) (I : ImageTables) → I.program ≡ P → IsSettledAs P run build budget S
+  exact_by : (S : Settled) (I : ImageTables) → I.program ≡ P → IsSettledAs P run build budget S
       → ((c : ℕ) → environment_of I.regions c ≡ region_in S c) → HoldsAccepted run budget I
   exact_by S I is by same =
       let as_here = subst (λ (Q : Tables). IsSettledAs Q run build budget S) (sym is) by in
@@ -105,59 +107,47 @@ module _ (P : Tables) (run build : Option (List ℕ)) (budget : ℕ) (linked : I
         );
       }
 
-module _ (P : Tables) (run build : Option (List ℕ)) (budget : ℕ) (s : Answer) (I : ImageTables)
-    (verdicts : List Verdict) (program : I.program ≡ P) (regions : I.regions ≡ s.regions)
-    (same : verdicts ≡ s.verdicts) (by : IsSettledAs P run build budget (settled_of s)) where
-  seen_in : (c : ℕ) → environment_of I.regions c ≡ region_in (settled_of s) c
-  seen_in c = ap (λ (rs : List (Option Held)). environment_of rs c) regions ∙ region_seen s.regions c
+module _ (P : Tables) (options : BuildOptions) (s : Answer)
+    (by : IsSettledAs P (text_of options.run_time) (text_of options.build_time) options.budget (settled_of s)) where
+  seen_in : (c : ℕ) → environment_of s.regions c ≡ region_in (settled_of s) c
+  seen_in c = region_seen s.regions c
 
-  pub built_by : IsBuilt run build budget I (map outcome_of verdicts)
-  built_by = record {
-    settled = settled_of s;
-    by = subst (λ (Q : Tables). IsSettledAs Q run build budget (settled_of s)) (sym program) by;
-    regions = seen_in;
-    told = ap (map outcome_of) (sym same);
-  }
-
-  pub count_built : length verdicts ≡ length I.program.classes
-  count_built =
-      sym (length-map verdicts outcome_of) ∙ ap (λ (vs : List Verdict). length (map outcome_of vs)) same
-      ∙ by.patterns.settled.count ∙ ap (λ (Q : Tables). length Q.classes) (sym program)
-
-  outcomes_are : map outcome_of verdicts ≡ (settled_of s).outcomes
-  outcomes_are = ap (map outcome_of) same
-
-  pub waves_built : (c : ℕ) → IsAccepted verdicts c ↔ IsSome (environment_of I.regions c)
+  waves_built : (c : ℕ) → IsAccepted s.verdicts c ↔ IsSome (environment_of s.regions c)
   waves_built c = (there, back)
     where
-      there : IsAccepted verdicts c → IsSome (environment_of I.regions c)
+      there : IsAccepted s.verdicts c → IsSome (environment_of s.regions c)
       there (n, at) =
           let here : HasWave (settled_of s) c n =
-          ap (λ (os : List Outcome). slice_get os c) (sym outcomes_are)
-          ∙ slice_get-map outcome_of verdicts c ∙ ap (option_map outcome_of) at in
+          slice_get-map outcome_of s.verdicts c ∙ ap (option_map outcome_of) at in
           let (none, wave, r, has, leaves) = by.patterns.settled.each c (Wave n) here in
           ap is_some (seen_in c ∙ has)
 
-      one : (n : ℕ) (v : Verdict) → slice_get verdicts c ≡ Some v → outcome_of v ≡ Wave n → IsAccepted verdicts c
+      one : (n : ℕ) (v : Verdict) → slice_get s.verdicts c ≡ Some v → outcome_of v ≡ Wave n → IsAccepted s.verdicts c
       one n (verdicts_are.Wave m) at is = (m, at)
       one n (verdicts_are.Refused reason) at is = absurd (no_wave reason n is)
 
-      held : (r : Region) → environment_of I.regions c ≡ Some r → IsAccepted verdicts c
+      held : (r : Region) → environment_of s.regions c ≡ Some r → IsAccepted s.verdicts c
       held r here =
           let (n, at) = by.patterns.settled.only c r (sym (seen_in c) ∙ here) in
           let low = slice_get_within (settled_of s).outcomes c (Wave n) at in
-          let (v, there) = one_of verdicts c
-          (omega (arith, ap (λ (os : List Outcome). length os) outcomes_are, length-map verdicts outcome_of)) in
+          let (v, there) = one_of s.verdicts c (omega (arith, low, length-map s.verdicts outcome_of)) in
           let seen : slice_get (settled_of s).outcomes c ≡ Some (outcome_of v) =
-          ap (λ (os : List Outcome). slice_get os c) (sym outcomes_are)
-          ∙ slice_get-map outcome_of verdicts c ∙ ap (option_map outcome_of) there in
+          slice_get-map outcome_of s.verdicts c ∙ ap (option_map outcome_of) there in
           one n v there (from_some (sym seen ∙ at))
 
-      back : IsSome (environment_of I.regions c) → IsAccepted verdicts c
-      back some = let (r, here) = value_in (environment_of I.regions c) some in held r here
+      back : IsSome (environment_of s.regions c) → IsAccepted s.verdicts c
+      back some = let (r, here) = value_in (environment_of s.regions c) some in held r here
 
-  pub exact_built : IsLinked P → HoldsAccepted run budget I
-  exact_built linked = exact_by P run build budget linked (settled_of s) I program by seen_in
-
-  pub shows_built : IsLinked P → StartsShowTheSame I
-  shows_built linked = shows_by P run build budget linked (settled_of s) I program by seen_in
+  pub is_build : IsLinked P → IsBuildOfProgram P options (built_of P s)
+  is_build linked = record {
+    program = refl;
+    built = record { settled = settled_of s; by = by; regions = seen_in; told = refl };
+    exact =
+        exact_by P (text_of options.run_time) (text_of options.build_time) options.budget linked (settled_of s)
+        (built_of P s).image refl by seen_in;
+    shows =
+        shows_by P (text_of options.run_time) (text_of options.build_time) options.budget linked (settled_of s)
+        (built_of P s).image refl by seen_in;
+    count = sym (length-map s.verdicts outcome_of) ∙ by.patterns.settled.count;
+    waves = waves_built;
+  }

@@ -1,5 +1,5 @@
 -- What an image is of.
-use Rattle.std.specs.Prelude.{◌≡◌, ◌↔◌, ℕ, Bool, List, [], Option, Some, None, option_map}
+use Rattle.std.specs.Prelude.{◌≡◌, ◌↔◌, ℕ, Bool, List, [], length, map, Option, Some, None, option_map, IsSome}
 use Rattle.std.specs.Borrow.{Bor}
 use Rattle.std.specs.List.{All}
 use Rattle.vm_state.specs.SharedState.{Region}
@@ -9,13 +9,17 @@ use Rattle.semantics.specs.Worlds.{Observation, Shows, lazy_start}
 use Rattle.program.specs.Tables.{Tables}
 use Rattle.machine.specs.Linked.{program_of}
 use Rattle.evaluator.specs.Regions.{environment_of}
+use Rattle.initializer_analysis.specs.Verdicts.{IsAccepted}
 use Rattle.wave_scheduler.specs.Laws.{IsAnalysis}
+use Rattle.wave_scheduler.specs.Outcomes.{outcome_of}
 use Rattle.wave_scheduler.specs.Settled.{Outcome, Settled, region_in, AreSettled}
 use Rattle.options.specs.Lists.{items_of, IsNonEmpty}
 use Rattle.options.specs.Classes.{AreClasses, IsDemanded, IsForced}
 use Rattle.options.specs.Demands.{AreMet}
 use Rattle.options.specs.Faults.{AreApart, IsKnown}
 use Rattle.object_graph.specs.Images.{ImageTables, start_image}
+use Rattle.building.specs.declared.build.BuildOptions.{BuildOptions}
+use Rattle.building.specs.declared.build.Built.{Built}
 
 -- ---- lists of patterns, as options give them
 
@@ -85,3 +89,18 @@ abbrev pub StartsShowTheSame : ImageTables → Type 0
 StartsShowTheSame I = (entries : List ℕ) (s : Observation)
     → Shows (program_of I.program) (lazy_start (program_of I.program) entries) s
     ↔ Shows (program_of I.program) (image_start (program_of I.program) (start_image I) entries) s
+
+-- ---- what is built
+
+-- An image of this program and the last verdicts, built by these options.
+pub record IsBuildOfProgram (P : Tables) (options : BuildOptions) (answer : Built) : Type 0 where
+  pub program : answer.image.program ≡ P
+  pub built : IsBuilt (text_of options.run_time) (text_of options.build_time) options.budget answer.image
+      (map outcome_of answer.verdicts)
+  -- the image holds exactly the accepted classes' results
+  pub exact : HoldsAccepted (text_of options.run_time) options.budget answer.image
+  -- from any entry classes a run from the image and the lazy procedure show the same
+  pub shows : StartsShowTheSame answer.image
+  -- the classes that have a wave are those that have a region
+  pub count : length answer.verdicts ≡ length answer.image.program.classes
+  pub waves : (class : ℕ) → IsAccepted answer.verdicts class ↔ IsSome (environment_of answer.image.regions class)

@@ -1,14 +1,13 @@
 //! From a program to an image: the classes that may be are initialized.
 
-ghost use Rattle.std.specs.Prelude.{◌≡◌, ◌≢◌, ◌↔◌, ◌⊎◌, ℕ, ◌<◌, ◌^◌, length, map, Ok, Err, IfErr, IfOk, IsSome};
+ghost use Rattle.std.specs.Prelude.{◌≡◌, ◌≢◌, ◌↔◌, ◌⊎◌, ℕ, ◌<◌, ◌^◌, Ok, Err, IfErr, IfOk};
 ghost use Rattle.evaluator.specs.Regions.{environment_of};
-ghost use Rattle.initializer_analysis.specs.Verdicts.{IsAccepted};
 ghost use Rattle.region_shape.specs.Laws.{IsFromFile};
 ghost use Rattle.region_shape.specs.Wholes.{AreWhole};
-ghost use Rattle.wave_scheduler.specs.Outcomes.{outcome_of, CanWork};
+ghost use Rattle.wave_scheduler.specs.Outcomes.{CanWork};
 ghost use Rattle.wave_scheduler.specs.declared.outcome.WaveFault.TheVariants as wave_faults;
 ghost use Rattle.object_graph.specs.Images.{AreSmall};
-ghost use Rattle.building.specs.Builds.{text_of, IsBuilt, HoldsAccepted, StartsShowTheSame};
+ghost use Rattle.building.specs.Builds.{text_of, IsBuildOfProgram};
 ghost use Rattle.building.specs.Refusals.{IsOption, OptionsFail};
 ghost use Rattle.building.specs.declared.build.BuildFault.TheVariants.{Memory, Wave};
 ghost use Rattle.building.specs.steps.Gathered.{built_of};
@@ -106,21 +105,10 @@ fn image_by(
     requires files { (class : ℕ) → IsFromFile program class }
     requires budget { options.now.budget < 2 ^ 31 }
     requires settled { SettlesBy program options.now settled }
-    ensures program { IfOk result (λ built. built.image.program ≡ program) }
-    ensures built { IfOk result (λ built. IsBuilt (text_of options.now.run_time) (text_of options.now.build_time)
-        options.now.budget built.image (map outcome_of built.verdicts)) }
+    ensures build { IfOk result (IsBuildOfProgram program options.now) }
     // Nothing is built but for want of memory, or for what is wrong with the options.
     ensures fault { IfErr result (λ fault. (fault ≡ Memory) ⊎ IsOption (OptionsFail program
         (text_of options.now.run_time) (text_of options.now.build_time) options.now.budget) fault) }
-    // The image holds exactly the accepted classes' results.
-    ensures exact { IfOk result
-        (λ built. HoldsAccepted (text_of options.now.run_time) options.now.budget built.image) }
-    // From any entry classes a run from the image and the lazy procedure show the same.
-    ensures shows { IfOk result (λ built. StartsShowTheSame built.image) }
-    // The classes that have a wave are those that have a region.
-    ensures count { IfOk result (λ built. length built.verdicts ≡ length built.image.program.classes) }
-    ensures waves { IfOk result (λ built. (class : ℕ)
-        → IsAccepted built.verdicts class ↔ IsSome (environment_of built.image.regions class)) }
 {
     region_shape::is_linked(&program);
     match settled {
@@ -142,21 +130,10 @@ pub fn build_program_here(
 ) -> Result<Built, BuildFault>
     requires files { (class : ℕ) → IsFromFile program class }
     requires budget { options.now.budget < 2 ^ 31 }
-    ensures program { IfOk result (λ built. built.image.program ≡ program) }
-    ensures built { IfOk result (λ built. IsBuilt (text_of options.now.run_time) (text_of options.now.build_time)
-        options.now.budget built.image (map outcome_of built.verdicts)) }
+    ensures build { IfOk result (IsBuildOfProgram program options.now) }
     // Nothing is built but for want of memory, or for what is wrong with the options.
     ensures fault { IfErr result (λ fault. (fault ≡ Memory) ⊎ IsOption (OptionsFail program
         (text_of options.now.run_time) (text_of options.now.build_time) options.now.budget) fault) }
-    // The image holds exactly the accepted classes' results.
-    ensures exact { IfOk result
-        (λ built. HoldsAccepted (text_of options.now.run_time) options.now.budget built.image) }
-    // From any entry classes a run from the image and the lazy procedure show the same.
-    ensures shows { IfOk result (λ built. StartsShowTheSame built.image) }
-    // The classes that have a wave are those that have a region.
-    ensures count { IfOk result (λ built. length built.verdicts ≡ length built.image.program.classes) }
-    ensures waves { IfOk result (λ built. (class : ℕ)
-        → IsAccepted built.verdicts class ↔ IsSome (environment_of built.image.regions class)) }
 {
     let settled = settle_here(alloc, &program, options);
     image_by(program, options, settled)
@@ -177,22 +154,11 @@ pub fn build_program<G: Gate, R: Threads + Wait + Sync>(
 ) -> Result<Built, BuildFault>
     requires files { (class : ℕ) → IsFromFile program class }
     requires budget { options.now.budget < 2 ^ 31 }
-    ensures program { IfOk result (λ built. built.image.program ≡ program) }
-    ensures built { IfOk result (λ built. IsBuilt (text_of options.now.run_time) (text_of options.now.build_time)
-        options.now.budget built.image (map outcome_of built.verdicts)) }
+    ensures build { IfOk result (IsBuildOfProgram program options.now) }
     // Nothing is built but for want of memory, or for what is wrong with the number of workers or the options.
     ensures fault { IfErr result (λ fault. (fault ≡ Memory) ⊎ (fault ≡ Wave wave_faults.Workers)
         ⊎ IsOption (OptionsFail program (text_of options.now.run_time) (text_of options.now.build_time)
         options.now.budget) fault) }
-    // The image holds exactly the accepted classes' results.
-    ensures exact { IfOk result
-        (λ built. HoldsAccepted (text_of options.now.run_time) options.now.budget built.image) }
-    // From any entry classes a run from the image and the lazy procedure show the same.
-    ensures shows { IfOk result (λ built. StartsShowTheSame built.image) }
-    // The classes that have a wave are those that have a region.
-    ensures count { IfOk result (λ built. length built.verdicts ≡ length built.image.program.classes) }
-    ensures waves { IfOk result (λ built. (class : ℕ)
-        → IsAccepted built.verdicts class ↔ IsSome (environment_of built.image.regions class)) }
     // The number of workers is refused just where it is wrong, and nothing else is told then.
     ensures workers { (result ≡ Err (Wave wave_faults.Workers)) ↔ (¬ CanWork workers) }
 {

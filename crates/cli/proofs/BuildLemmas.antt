@@ -1,8 +1,8 @@
 -- The classes of a program of class files are from files; the classes of an image that have a wave have a region; what
 -- refuses a program or its options refuses a build.
 use Rattle.std.proofs.Common.{◌≡◌, ◌↔◌, ℕ, List, map, Option, Some, None, option_map, slice_get}
-use Rattle.std.proofs.Common.{refl, sym, ap, subst, ◌∙◌, MatchOption, IsSomeAnd, length, IsSome, Result, Ok, Err, IfOk}
-use Rattle.std.proofs.Common.{IfErr, OnOk, ◌≢◌, ◌⊎◌, inl, inr, Bool, true, false, IsTrue}
+use Rattle.std.proofs.Common.{refl, sym, ap, subst, ◌∙◌, MatchOption, IsSomeAnd, Result, Ok, Err, IfOk, IfErr}
+use Rattle.std.proofs.Common.{◌≢◌, ◌⊎◌, inl, inr, Bool, true, false, IsTrue}
 use Rattle.std.specs.List.{Contains}
 use Rattle.std.proofs.lemmas.Option.{slice_get-map, slice_get-get_or, slice_get_within, get_or_from_slice_get}
 use Rattle.std.proofs.lemmas.Slice.Zip.{AllZip-right}
@@ -12,11 +12,10 @@ use Rattle.loading.specs.declared.given.GivenClass.{GivenClass}
 use Rattle.loading.specs.Families.{file_of}
 use Rattle.program.specs.Tables.{Tables}
 use Rattle.region_shape.specs.Laws.{IsFromFile}
-use Rattle.evaluator.specs.Regions.{environment_of}
-use Rattle.initializer_analysis.specs.Verdicts.{IsAccepted}
 use Rattle.building.specs.declared.build.Built.{Built}
 use Rattle.building.specs.declared.build.BuildFault.{BuildFault}
-use Rattle.report.specs.Waves.{GiveWaves}
+use Rattle.building.specs.declared.build.BuildOptions.{BuildOptions}
+use Rattle.building.specs.Builds.{IsBuildOfProgram}
 use Rattle.options.specs.declared.fault.OptionFault.{OptionFault}
 use Rattle.building.specs.declared.build.BuildFault.TheVariants as faults
 use Rattle.building.specs.Refusals.{IsOption, option, OptionsFail}
@@ -24,10 +23,11 @@ use Rattle.wave_scheduler.specs.Outcomes.{CanWork}
 use Rattle.wave_scheduler.specs.declared.outcome.WaveFault.TheVariants as waves
 use Rattle.cli.specs.declared.fault.Refusal.{Refusal}
 use Rattle.cli.specs.declared.fault.Refusal.TheVariants as refusals
-use Rattle.cli.specs.Builds.{BuildFails, IsBudget, class, link, options}
+use Rattle.cli.specs.Builds.{BuildFails, IsBudget, IsBuildOfClassFiles, class, link, options}
 use Rattle.cli.specs.Runs.{IsProgramOf, NotLinked}
 use Rattle.cli.specs.Runs as runs
 use Rattle.cli.specs.steps.Builds.{fault_of}
+use Rattle.cli.proofs.HeadlineLemmas.{entries_alike, shows_image, shows_class_files}
 
 pub is_from_file : (texts : List (List ℕ)) (P : Tables) → IsProgramOf texts P → (c : ℕ) → IsFromFile P c
 is_from_file texts P of c f at = by (slice_get P.family c) refl
@@ -59,12 +59,23 @@ is_from_file texts P of c f at = by (slice_get P.family c) refl
           get_or_from_slice_get (map (λ (x : GivenClass). x.file) P.family) c f f there,
         ))
 
-pub give_waves : (r : Result Built BuildFault)
-    → IfOk r (λ built. length built.verdicts ≡ length built.image.program.classes)
-    → IfOk r (λ built. (c : ℕ) → IsAccepted built.verdicts c ↔ IsSome (environment_of built.image.regions c))
-    → IfOk r (λ built. GiveWaves built.image built.verdicts)
-give_waves (Ok built) count each = record { count = count; each = each }
-give_waves (Err fault) count each = tt
+pub is_build : (texts : List (List ℕ)) (chosen : BuildOptions) (P : Tables) (r : Result Built BuildFault)
+    → IsBudget chosen.budget → IsProgramOf texts P → IfOk r (IsBuildOfProgram P chosen)
+    → IfOk r (IsBuildOfClassFiles texts chosen)
+is_build texts chosen P (Ok answer) range of is =
+    let here : IsProgramOf texts answer.image.program =
+    subst (λ (Q : Tables). IsProgramOf texts Q) (sym is.program) of in
+    record {
+      program = here;
+      built = is.built;
+      range = range;
+      exact = is.exact;
+      to_image = shows_image answer.image here.family.fits is.shows;
+      to_class_files = shows_class_files answer.image here.family.fits is.shows;
+      entries = entries_alike answer.image here.family.fits;
+      waves = record { count = is.count; each = is.waves };
+    }
+is_build texts chosen P (Err fault) range of is = tt
 
 -- ---- refusals
 
@@ -110,10 +121,6 @@ module _ (texts : List (List ℕ)) (run build : Option (List ℕ)) (budget : ℕ
 
 pub wrong_budget : (budget : ℕ) (test : Bool) → (IsTrue test ↔ IsBudget budget) → test ≡ false → ¬ IsBudget budget
 wrong_budget budget test says failed = λ good. (let clash : true ≡ false = sym (says.1 good) ∙ failed in cc)
-
-pub within_range : (r : Result Built BuildFault) (budget : ℕ) → IsBudget budget → OnOk r (IsBudget budget)
-within_range (Ok built) budget good = good
-within_range (Err fault) budget good = tt
 
 no_budget_fault : (F : OptionFault → Type 0) (fault : BuildFault) → IsOption F fault → fault ≢ faults.Budget
 no_budget_fault F fault (option fails) e = cc

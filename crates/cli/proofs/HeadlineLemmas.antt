@@ -1,9 +1,8 @@
 -- The headline of what is built, by the names of entries: from the numbers of their classes.
-use Rattle.std.proofs.Common.{◌≡◌, ◌∙◌, ◌⊎◌, inl, inr, ℕ, List, Result, Ok, Err, IfOk, sym, ap, subst}
+use Rattle.std.proofs.Common.{◌≡◌, ◌∙◌, ◌⊎◌, inl, inr, ℕ, List, sym, ap, subst}
 use Rattle.semantics.specs.Images.{image_start}
 use Rattle.semantics.specs.Worlds.{Observation, Shows, World, lazy_start}
 use Rattle.loading.specs.Families.{IsFamily}
-use Rattle.program.specs.Tables.{Tables}
 use Rattle.machine.specs.Linked.{program_of}
 use Rattle.object_graph.specs.Images.{ImageTables, start_image}
 use Rattle.init_engine.specs.declared.fault.EntryFault.{EntryFault}
@@ -11,8 +10,6 @@ use Rattle.init_engine.specs.Starts.{EntriesFail, IsStart, StandForEntries}
 use Rattle.init_engine.proofs.EntryLemmas.{one_list}
 use Rattle.image_reader.specs.Starts.{IsImageStart}
 use Rattle.building.specs.Builds.{StartsShowTheSame}
-use Rattle.building.specs.declared.build.Built.{Built}
-use Rattle.building.specs.declared.build.BuildFault.{BuildFault}
 use Rattle.cli.specs.Headline.{BothStart, ClassFilesToImage, ImageToClassFiles, NeitherStarts, TakesTheSameEntries}
 use Rattle.cli.proofs.EntriesLemmas.{never_both, one_fault, stands_or_fails}
 
@@ -37,26 +34,12 @@ module _ (I : ImageTables) (fits : IsFamily I.program.family) (names : List (Lis
     back : Shows (program_of I.program) image s → Shows (program_of I.program) lazy s
     back shown = subst (Sees s) (sym start.start) ((shows start.classes s).1 (subst (Sees s) image_is shown))
 
-abbrev IsOf : Tables → Result Built BuildFault → Type 0
-IsOf P r = IfOk r (λ built. built.image.program ≡ P)
+module _ (I : ImageTables) (fits : IsFamily I.program.family) (shows : StartsShowTheSame I) where
+  pub shows_image : ClassFilesToImage I
+  shows_image = λ names lazy image s start from. there I fits names lazy image start from shows s
 
-family_of : (built : Built) (P : Tables) → IsFamily P.family → built.image.program ≡ P
-    → IsFamily built.image.program.family
-family_of built P fits is = subst (λ (Q : Tables). IsFamily Q.family) (sym is) fits
-
-pub shows_image : (r : Result Built BuildFault) (P : Tables) → IsFamily P.family → IsOf P r
-    → IfOk r (λ built. StartsShowTheSame built.image) → IfOk r (λ built. ClassFilesToImage built.image)
-shows_image (Ok built) P fits is shows =
-    λ names lazy image s start from.
-    there built.image (family_of built P fits is) names lazy image start from shows s
-shows_image (Err fault) P fits is shows = tt
-
-pub shows_class_files : (r : Result Built BuildFault) (P : Tables) → IsFamily P.family → IsOf P r
-    → IfOk r (λ built. StartsShowTheSame built.image) → IfOk r (λ built. ImageToClassFiles built.image)
-shows_class_files (Ok built) P fits is shows =
-    λ names lazy image s start from.
-    back built.image (family_of built P fits is) names lazy image start from shows s
-shows_class_files (Err fault) P fits is shows = tt
+  pub shows_class_files : ImageToClassFiles I
+  shows_class_files = λ names lazy image s start from. back I fits names lazy image start from shows s
 
 -- ---- entries
 
@@ -97,7 +80,5 @@ module _ (I : ImageTables) (fits : IsFamily I.program.family) (names : List (Lis
     | inr wrong ↦ inr (neither wrong.0 wrong.1)
   ]
 
-pub entries_alike : (r : Result Built BuildFault) (P : Tables) → IsFamily P.family → IsOf P r
-    → IfOk r (λ built. TakesTheSameEntries built.image)
-entries_alike (Ok built) P fits is = λ names. alike built.image (family_of built P fits is) names
-entries_alike (Err fault) P fits is = tt
+pub entries_alike : (I : ImageTables) → IsFamily I.program.family → TakesTheSameEntries I
+entries_alike I fits = λ names. alike I fits names

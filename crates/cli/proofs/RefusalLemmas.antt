@@ -1,7 +1,7 @@
 -- What the layers below refuse, as refusals.
 use Rattle.std.proofs.Common.{◌≡◌, ◌≢◌, ℕ, ◌+◌, ◌<◌, ◌⊎◌, inl, inr, List, [], ◌∷◌, ◌++◌, length, take, Some}
 use Rattle.std.proofs.Common.{get_or}
-use Rattle.std.proofs.Common.{slice_get, sym, ap, subst, refl, ◌∙◌, Vec, append-nil, Result, Ok, Err, IfOk, OnOk}
+use Rattle.std.proofs.Common.{slice_get, sym, ap, subst, refl, ◌∙◌, Vec, append-nil, Result, Ok, Err, IfOk, IfErr, OnOk}
 use Rattle.std.specs.List.{flat_map}
 use Rattle.std.proofs.lemmas.Grind.{flat_map-append}
 use Rattle.std.proofs.lemmas.List.{map_more, take-map, take_more}
@@ -26,7 +26,7 @@ use Rattle.cli.specs.declared.fault.Refusal.TheVariants.{Class, Link, Entry, Mem
 use Rattle.cli.specs.Runs.{texts_of, AreClassFiles, IsProgramOf, NotLinked, class, link, IsRefused}
 use Rattle.cli.specs.Runs.{unlinked, entry}
 use Rattle.cli.specs.steps.Refusals.{IsBadAt, bad, IsNoClassFile, first, IsUnlinkable, unlinkable, IsRefusedEntry}
-use Rattle.cli.specs.steps.Refusals.{refused}
+use Rattle.cli.specs.steps.Refusals.{refused, MakesProgram}
 
 -- ---- one layer's fault
 
@@ -93,33 +93,34 @@ first_bad files i file before r at all (inr wrong) = inr (no_class_file files i 
 not_class : {texts : List (List ℕ)} {r : Refusal} → IsNoClassFile texts r → NotLinked texts r
 not_class (first wrong) = class wrong
 
-pub not_linked_class : (texts : List (List ℕ)) (r : Refusal) → (r ≡ Memory) ⊎ IsNoClassFile texts r
-    → (r ≡ Memory) ⊎ NotLinked texts r
-not_linked_class texts r (inl memory) = inl memory
-not_linked_class texts r (inr wrong) = inr (not_class wrong)
+pub not_read : (texts : List (List ℕ)) (r : Refusal) → (r ≡ Memory) ⊎ IsNoClassFile texts r
+    → MakesProgram texts (Err r)
+not_read texts r (inl memory) = record { program = tt; refusal = inl memory }
+not_read texts r (inr wrong) = record { program = tt; refusal = inr (not_class wrong) }
 
 not_link : {texts : List (List ℕ)} {files : List ClassFile} {r : Refusal} → AreClassFiles texts files
     → IsUnlinkable files r → NotLinked texts r
 not_link are (unlinkable fails) = link are fails
 
-pub not_linked_files : (texts : List (List ℕ)) (files : List ClassFile) (r : Refusal) → AreClassFiles texts files
-    → (r ≡ Memory) ⊎ IsUnlinkable files r → (r ≡ Memory) ⊎ NotLinked texts r
-not_linked_files texts files r are (inl memory) = inl memory
-not_linked_files texts files r are (inr wrong) = inr (not_link are wrong)
-
-pub is_program : (texts : List (List ℕ)) (files : List ClassFile) (r : Result Tables Refusal)
+pub linked_or_not : (texts : List (List ℕ)) (files : List ClassFile) (r : Result Tables Refusal)
     → AreClassFiles texts files → OnOk r (Links files)
     → IfOk r (λ P. IsFamilyOf files P.family × IsProgram P) → IfOk r HasOwnStrings
-    → IfOk r (λ P. IsProgramOf texts P)
-is_program texts files (Ok P) are links (family, program) own = record {
-  files = files;
-  are = are;
-  links = links;
-  family = family;
-  program = program;
-  own_strings = own;
+    → IfErr r (λ refusal. (refusal ≡ Memory) ⊎ IsUnlinkable files refusal) → MakesProgram texts r
+linked_or_not texts files (Ok P) are links (family, program) own wrong = record {
+  program = record {
+    files = files;
+    are = are;
+    links = links;
+    family = family;
+    program = program;
+    own_strings = own;
+  };
+  refusal = tt;
 }
-is_program texts files (Err refusal) are links program own = tt
+linked_or_not texts files (Err refusal) are links program own (inl memory) =
+    record { program = tt; refusal = inl memory }
+linked_or_not texts files (Err refusal) are links program own (inr wrong) =
+    record { program = tt; refusal = inr (not_link are wrong) }
 
 pub refused_texts : (texts names : List (List ℕ)) (r : Refusal) → (r ≡ Memory) ⊎ NotLinked texts r
     → (r ≡ Memory) ⊎ IsRefused texts names r

@@ -82,7 +82,7 @@ still_sent steps bytes sent over old new before now s within got = (
 )
 
 -- all lines have gone out
-pub all_sent : (sent count : ℕ) (lines : List Line) (before now after : Option (List ℕ))
+all_sent : (sent count : ℕ) (lines : List Line) (before now after : Option (List ℕ))
     → Appends before now (lines_text (take sent lines)) → Appends now after (lines_text (drop sent lines)) →
     count ≡ length lines →
     (count ≤ length lines) × Appends before after (lines_text (take count lines))
@@ -95,6 +95,17 @@ all_sent sent count lines before now after first second all =
           (sym (ap (λ k. take k lines) all ∙ take-length lines)) whole,
       whole,
     )
+
+-- after a slice all lines have gone out, since what was new was sent
+pub slice_sent : (steps bytes sent count : ℕ) (over : Bool) (old new : Midway) (lines : List Line)
+    (before now after : Option (List ℕ)) → IsSlice steps bytes over old new → sent ≤ length old.world.printed
+    → Appends before now (lines_text (take sent old.world.printed)) → lines ≡ new.world.printed
+    → Appends now after (lines_text (drop sent lines)) → count ≡ length lines →
+    (count ≤ length new.world.printed) × Appends before after (lines_text (take count new.world.printed))
+    × Appends before after (lines_text new.world.printed)
+slice_sent steps bytes sent count over old new lines before now after slice within got same sends all =
+    let still = still_sent steps bytes sent over old new before now slice within got in
+    all_sent sent count new.world.printed before now after still.1 (rw same at sends) (rw same at all)
 
 -- memory was refused where the first lines had gone out
 pub cut_by_memory : (P : Tables) (first : World) (limit sent : ℕ) (t : Midway) (before now : Option (List ℕ))

@@ -1,14 +1,12 @@
 //! From class files' bytes to an image.
 
-ghost use Rattle.std.specs.Prelude.{◌≡◌, ◌↔◌, ◌⊎◌, map, Err, IfErr, IfOk, IsTrue, OnOk};
-ghost use Rattle.building.specs.Builds.{text_of, HoldsAccepted, IsBuilt};
+ghost use Rattle.std.specs.Prelude.{◌≡◌, ◌↔◌, ◌⊎◌, Err, IfErr, IfOk, IsTrue};
+ghost use Rattle.building.specs.Builds.{text_of};
 ghost use Rattle.building.specs.declared.build.BuildFault.TheVariants.{Memory, Budget, Wave};
-ghost use Rattle.report.specs.Waves.{GiveWaves};
-ghost use Rattle.wave_scheduler.specs.Outcomes.{outcome_of, CanWork};
+ghost use Rattle.wave_scheduler.specs.Outcomes.{CanWork};
 ghost use Rattle.wave_scheduler.specs.declared.outcome.WaveFault.TheVariants.{Workers};
-ghost use Rattle.cli.specs.Builds.{BuildFails, IsBudget};
-ghost use Rattle.cli.specs.Headline.{ClassFilesToImage, ImageToClassFiles, TakesTheSameEntries};
-ghost use Rattle.cli.specs.Runs.{IsProgramOf, texts_of};
+ghost use Rattle.cli.specs.Builds.{BuildFails, IsBudget, IsBuildOfClassFiles};
+ghost use Rattle.cli.specs.Runs.{texts_of};
 ghost use Rattle.cli.specs.steps.Builds.{fault_of};
 
 use crate::Refusal;
@@ -48,23 +46,10 @@ pub fn build_here(
     files: &[Vec<u8>],
     options: &BuildOptions<'_>,
 ) -> Result<Built, BuildFault>
-    // The texts are class files that link to the image's program.
-    ensures program { IfOk result (λ built. IsProgramOf (texts_of files.now) built.image.program) }
-    // Its regions are those of the classes that are accepted, where those are forced that the options say.
-    // Those that are demanded are among the accepted ones.
-    ensures built { IfOk result (λ built. IsBuilt (text_of options.now.run_time) (text_of options.now.build_time)
-        options.now.budget built.image (map outcome_of built.verdicts)) }
-    ensures range { OnOk result (IsBudget options.now.budget) }
-    // The image holds exactly the accepted classes' results.
-    ensures exact { IfOk result
-        (λ built. HoldsAccepted (text_of options.now.run_time) options.now.budget built.image) }
-    // The headline: what the class files show under some schedule of the lazy procedure, a run from the image shows
-    // under some schedule, and conversely, for every list of entries.
-    ensures to_image { IfOk result (λ built. ClassFilesToImage built.image) }
-    ensures to_class_files { IfOk result (λ built. ImageToClassFiles built.image) }
-    ensures entries { IfOk result (λ built. TakesTheSameEntries built.image) }
-    // The classes that have a wave are those that have a region.
-    ensures waves { IfOk result (λ built. GiveWaves built.image built.verdicts) }
+    // The image is of the class files, by the options, and holds exactly the accepted classes' results. The headline:
+    // what the class files show under some schedule of the lazy procedure, a run from the image shows under some
+    // schedule, and conversely, for every list of entries.
+    ensures build { IfOk result (IsBuildOfClassFiles (texts_of files.now) options.now) }
     // Nothing is built but for want of memory, or for the first that is wrong.
     ensures fault { IfErr result (λ fault. (fault ≡ Memory) ⊎ BuildFails (texts_of files.now)
         (text_of options.now.run_time) (text_of options.now.build_time) options.now.budget fault) }
@@ -95,22 +80,8 @@ pub fn build<G: Gate, R: Threads + Wait + Sync>(
     workers: u32,
     gate: &G,
 ) -> Result<Built, BuildFault>
-    // The texts are class files that link to the image's program.
-    ensures program { IfOk result (λ built. IsProgramOf (texts_of files.now) built.image.program) }
-    // Its regions are those of the classes that are accepted, where those are forced that the options say.
-    // Those that are demanded are among the accepted ones.
-    ensures built { IfOk result (λ built. IsBuilt (text_of options.now.run_time) (text_of options.now.build_time)
-        options.now.budget built.image (map outcome_of built.verdicts)) }
-    ensures range { OnOk result (IsBudget options.now.budget) }
-    // The image holds exactly the accepted classes' results.
-    ensures exact { IfOk result
-        (λ built. HoldsAccepted (text_of options.now.run_time) options.now.budget built.image) }
-    // The headline, as of `build_here`.
-    ensures to_image { IfOk result (λ built. ClassFilesToImage built.image) }
-    ensures to_class_files { IfOk result (λ built. ImageToClassFiles built.image) }
-    ensures entries { IfOk result (λ built. TakesTheSameEntries built.image) }
-    // The classes that have a wave are those that have a region.
-    ensures waves { IfOk result (λ built. GiveWaves built.image built.verdicts) }
+    // The same as of `build_here`, and so the headline.
+    ensures build { IfOk result (IsBuildOfClassFiles (texts_of files.now) options.now) }
     // Nothing is built but for want of memory, or for the first that is wrong.
     ensures fault { IfErr result (λ fault. (fault ≡ Memory) ⊎ (fault ≡ Wave Workers) ⊎ BuildFails (texts_of files.now)
         (text_of options.now.run_time) (text_of options.now.build_time) options.now.budget fault) }

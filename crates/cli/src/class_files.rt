@@ -1,11 +1,11 @@
 //! Class files' bytes, read and linked to one program.
-ghost use Rattle.std.specs.Prelude.{◌≡◌, ◌⊎◌, ◌++◌, ◌∷◌, [], IfErr, IfOk, OnOk};
+ghost use Rattle.std.specs.Prelude.{◌≡◌, ◌⊎◌, ◌++◌, ◌∷◌, [], ℕ, List, IfErr, IfOk, OnOk};
 ghost use Rattle.classfile.specs.Class.{IsClassText};
 ghost use Rattle.loading.specs.Families.{IsFamilyOf};
 ghost use Rattle.loading.specs.Files.{Links};
 ghost use Rattle.program.specs.Programs.{HasOwnStrings, IsProgram};
 ghost use Rattle.cli.specs.Runs.{AreClassFiles, IsProgramOf, NotLinked, texts_of};
-ghost use Rattle.cli.specs.steps.Refusals.{IsBadAt, IsNoClassFile, IsUnlinkable};
+ghost use Rattle.cli.specs.steps.Refusals.{IsBadAt, IsNoClassFile, IsUnlinkable, MakesProgram};
 ghost use Rattle.cli.specs.declared.fault.Refusal.TheVariants.{Memory};
 
 use crate::Refusal;
@@ -22,10 +22,7 @@ pub fn linked_program(alloc: Global, files: &[Vec<u8>]) -> Result<Program, Refus
     ensures program { IfOk result (λ program. IsProgramOf (texts_of files.now) program) }
     ensures refusal { IfErr result (λ refusal. (refusal ≡ Memory) ⊎ NotLinked (texts_of files.now) refusal) }
 {
-    match class_files(alloc, files) {
-        Ok(classes) => linked(alloc, classes),
-        Err(refusal) => Err(refusal),
-    }
+    linked_if_read(alloc, class_files(alloc, files))
 }
 
 /// The same of texts that are let go once they are read.
@@ -33,7 +30,18 @@ pub(crate) fn program_of_texts(alloc: Global, files: Vec<Vec<u8>>) -> Result<Pro
     ensures program { IfOk result (λ program. IsProgramOf (texts_of files.items) program) }
     ensures refusal { IfErr result (λ refusal. (refusal ≡ Memory) ⊎ NotLinked (texts_of files.items) refusal) }
 {
-    match class_files_of(alloc, files) {
+    linked_if_read(alloc, class_files_of(alloc, files))
+}
+
+/// The program of the class files that some texts are, or why these are none.
+fn linked_if_read(
+    alloc: Global,
+    classes: Result<Vec<ClassFile>, Refusal>,
+) -> Result<Program, Refusal>
+    ensures { (texts : List (List ℕ)) → IfOk classes (λ classes. AreClassFiles texts classes.items)
+        → IfErr classes (λ refusal. (refusal ≡ Memory) ⊎ IsNoClassFile texts refusal) → MakesProgram texts result }
+{
+    match classes {
         Ok(classes) => linked(alloc, classes),
         Err(refusal) => Err(refusal),
     }

@@ -1,5 +1,5 @@
--- What the parts of a run refuse.
-use Rattle.std.specs.Prelude.{ℕ, List}
+-- What the parts of a run answer and refuse.
+use Rattle.std.specs.Prelude.{◌≡◌, ◌⊎◌, ℕ, List, Result, IfErr, IfOk}
 use Rattle.classfile.specs.ClassFile.{ClassFile}
 use Rattle.classfile.specs.FirstFault.{FirstFault}
 use Rattle.classfile.specs.declared.fault.ClassFault.{ClassFault}
@@ -9,8 +9,8 @@ use Rattle.program.specs.Tables.{Tables}
 use Rattle.init_engine.specs.Starts.{EntriesFail}
 use Rattle.init_engine.specs.declared.fault.EntryFault.{EntryFault}
 use Rattle.cli.specs.declared.fault.Refusal.{Refusal}
-use Rattle.cli.specs.declared.fault.Refusal.TheVariants.{Class, Link, Entry}
-use Rattle.cli.specs.Runs.{IsFirstBad}
+use Rattle.cli.specs.declared.fault.Refusal.TheVariants.{Class, Link, Entry, Memory}
+use Rattle.cli.specs.Runs.{IsFirstBad, IsProgramOf, NotLinked}
 
 -- the text of a place is no class file
 pub data IsBadAt (place : ℕ) (text : List ℕ) : Refusal → Type 0 where
@@ -23,6 +23,11 @@ pub data IsNoClassFile (texts : List (List ℕ)) : Refusal → Type 0 where
 -- some class files make no program
 pub data IsUnlinkable (files : List ClassFile) : Refusal → Type 0 where
   unlinkable : {fault : LinkFault} → LinkFails files fault → IsUnlinkable files (Link fault)
+
+-- some texts make a program, or it is told why not
+pub record MakesProgram (texts : List (List ℕ)) (r : Result Tables Refusal) : Type 0 where
+  pub program : IfOk r (λ program. IsProgramOf texts program)
+  pub refusal : IfErr r (λ refusal. (refusal ≡ Memory) ⊎ NotLinked texts refusal)
 
 -- entries can't be run in a program
 pub data IsRefusedEntry (P : Tables) (names : List (List ℕ)) : Refusal → Type 0 where

@@ -1,14 +1,12 @@
-use Rattle.std.proofs.Common.{sym, subst, arith, refl, inl, inr, Err}
-use Rattle.std.proofs.lemmas.Result.{IfErr-weaker, IfOk-weaker}
-use Rattle.program.specs.Tables.{Tables}
+use Rattle.std.proofs.Common.{arith, refl, inl, inr, Err}
+use Rattle.std.proofs.lemmas.Result.{IfErr-weaker}
 use Rattle.building.specs.Builds.{text_of}
 use Rattle.building.specs.Refusals.{OptionsFail}
-use Rattle.cli.specs.Runs.{texts_of, IsProgramOf}
+use Rattle.cli.specs.Runs.{texts_of}
 use Rattle.cli.specs.Builds.{BuildFails, IsBudget, range}
-use Rattle.cli.proofs.BuildLemmas.{is_from_file, give_waves, not_built_by, not_linked_build, no_workers_is_budget}
-use Rattle.cli.proofs.BuildLemmas.{of_workers, refused_for_no_budget, refused_for_no_workers, within_range}
-use Rattle.cli.proofs.BuildLemmas.{wrong_budget, wrong_number}
-use Rattle.cli.proofs.HeadlineLemmas.{entries_alike, shows_image, shows_class_files}
+use Rattle.cli.proofs.BuildLemmas.{is_build, is_from_file, not_built_by, not_linked_build, no_workers_is_budget}
+use Rattle.cli.proofs.BuildLemmas.{of_workers, refused_for_no_budget, refused_for_no_workers, wrong_budget}
+use Rattle.cli.proofs.BuildLemmas.{wrong_number}
 use Rattle.cli.proofs.builds.build.Goals as goal
 
 pub build_program-requires-clause-files : goal.build_program-requires-clause-files
@@ -22,36 +20,10 @@ build_program-requires-clause-budget g c =
 
 -- ---- what is built
 
-pub returns-in-Ok-clause-program : goal.returns-in-Ok-clause-program
-returns-in-Ok-clause-program g c =
-    IfOk-weaker c.build_program.result _ _
-    (λ built is. subst (λ (P : Tables). IsProgramOf (texts_of c.args.files.now) P) (sym is) c.in-Ok.ensures.program)
-    c.build_program.ensures.program
-
-pub returns-in-Ok-clause-range : goal.returns-in-Ok-clause-range
-returns-in-Ok-clause-range g c =
-    within_range c.build_program.result c.args.options.now.budget (c.is_budget.ensures.0 c.if-not-is_budget.false)
-
-pub returns-in-Ok-clause-waves : goal.returns-in-Ok-clause-waves
-returns-in-Ok-clause-waves g c =
-    give_waves c.build_program.result c.build_program.ensures.count c.build_program.ensures.waves
-
--- ---- the headline
-
-pub returns-in-Ok-clause-to_image : goal.returns-in-Ok-clause-to_image
-returns-in-Ok-clause-to_image g c =
-    shows_image c.build_program.result c.in-Ok.program c.in-Ok.ensures.program.family.fits
-    c.build_program.ensures.program c.build_program.ensures.shows
-
-pub returns-in-Ok-clause-to_class_files : goal.returns-in-Ok-clause-to_class_files
-returns-in-Ok-clause-to_class_files g c =
-    shows_class_files c.build_program.result c.in-Ok.program c.in-Ok.ensures.program.family.fits
-    c.build_program.ensures.program c.build_program.ensures.shows
-
-pub returns-in-Ok-clause-entries : goal.returns-in-Ok-clause-entries
-returns-in-Ok-clause-entries g c =
-    entries_alike c.build_program.result c.in-Ok.program c.in-Ok.ensures.program.family.fits
-    c.build_program.ensures.program
+pub returns-in-Ok-clause-build : goal.returns-in-Ok-clause-build
+returns-in-Ok-clause-build g c =
+    is_build (texts_of c.args.files.now) c.args.options.now c.in-Ok.program c.build_program.result
+    (c.is_budget.ensures.0 c.if-not-is_budget.false) c.in-Ok.ensures.program c.build_program.ensures.build
 
 -- ---- what is refused
 

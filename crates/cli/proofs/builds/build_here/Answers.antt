@@ -1,13 +1,11 @@
-use Rattle.std.proofs.Common.{sym, subst, arith, refl, inr, Err}
-use Rattle.std.proofs.lemmas.Result.{IfErr-weaker, IfOk-weaker}
-use Rattle.program.specs.Tables.{Tables}
+use Rattle.std.proofs.Common.{arith, refl, inr, Err}
+use Rattle.std.proofs.lemmas.Result.{IfErr-weaker}
 use Rattle.building.specs.Builds.{text_of}
 use Rattle.building.specs.Refusals.{OptionsFail}
-use Rattle.cli.specs.Runs.{texts_of, IsProgramOf}
+use Rattle.cli.specs.Runs.{texts_of}
 use Rattle.cli.specs.Builds.{IsBudget, range}
-use Rattle.cli.proofs.BuildLemmas.{is_from_file, give_waves, not_built, not_linked_build, no_option_is_budget}
-use Rattle.cli.proofs.BuildLemmas.{refused_for_no_budget, within_range, wrong_budget}
-use Rattle.cli.proofs.HeadlineLemmas.{entries_alike, shows_image, shows_class_files}
+use Rattle.cli.proofs.BuildLemmas.{is_build, is_from_file, not_built, not_linked_build, no_option_is_budget}
+use Rattle.cli.proofs.BuildLemmas.{refused_for_no_budget, wrong_budget}
 use Rattle.cli.proofs.builds.build_here.Goals as goal
 
 pub build_program_here-requires-clause-files : goal.build_program_here-requires-clause-files
@@ -21,36 +19,10 @@ build_program_here-requires-clause-budget c =
 
 -- ---- what is built
 
-pub returns-in-Ok-clause-program : goal.returns-in-Ok-clause-program
-returns-in-Ok-clause-program c =
-    IfOk-weaker c.build_program_here.result _ _
-    (λ built is. subst (λ (P : Tables). IsProgramOf (texts_of c.args.files.now) P) (sym is) c.in-Ok.ensures.program)
-    c.build_program_here.ensures.program
-
-pub returns-in-Ok-clause-range : goal.returns-in-Ok-clause-range
-returns-in-Ok-clause-range c =
-    within_range c.build_program_here.result c.args.options.now.budget (c.is_budget.ensures.0 c.if-not-is_budget.false)
-
-pub returns-in-Ok-clause-waves : goal.returns-in-Ok-clause-waves
-returns-in-Ok-clause-waves c =
-    give_waves c.build_program_here.result c.build_program_here.ensures.count c.build_program_here.ensures.waves
-
--- ---- the headline
-
-pub returns-in-Ok-clause-to_image : goal.returns-in-Ok-clause-to_image
-returns-in-Ok-clause-to_image c =
-    shows_image c.build_program_here.result c.in-Ok.program c.in-Ok.ensures.program.family.fits
-    c.build_program_here.ensures.program c.build_program_here.ensures.shows
-
-pub returns-in-Ok-clause-to_class_files : goal.returns-in-Ok-clause-to_class_files
-returns-in-Ok-clause-to_class_files c =
-    shows_class_files c.build_program_here.result c.in-Ok.program c.in-Ok.ensures.program.family.fits
-    c.build_program_here.ensures.program c.build_program_here.ensures.shows
-
-pub returns-in-Ok-clause-entries : goal.returns-in-Ok-clause-entries
-returns-in-Ok-clause-entries c =
-    entries_alike c.build_program_here.result c.in-Ok.program c.in-Ok.ensures.program.family.fits
-    c.build_program_here.ensures.program
+pub returns-in-Ok-clause-build : goal.returns-in-Ok-clause-build
+returns-in-Ok-clause-build c =
+    is_build (texts_of c.args.files.now) c.args.options.now c.in-Ok.program c.build_program_here.result
+    (c.is_budget.ensures.0 c.if-not-is_budget.false) c.in-Ok.ensures.program c.build_program_here.ensures.build
 
 -- ---- what is refused
 

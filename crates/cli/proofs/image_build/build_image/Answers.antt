@@ -10,22 +10,23 @@ use Rattle.cli.proofs.image_build.build_image.Goals as goal
 pub image_text-requires : goal.image_text-requires
 image_text-requires g c =
     are_short (texts_of c.args.files.now) 4294967295 c.in-Ok.built.image.program (lit< tt) c.requires
-    c.in-Ok.ensures.program
+    c.in-Ok.ensures.build.program
 
 pub returns-in-Ok-image_text-clause-image : goal.returns-in-Ok-image_text-clause-image
 returns-in-Ok-image_text-clause-image g c =
     let built = c.in-Ok.built in
-    let of = c.in-Ok.ensures.program in
+    let by = c.in-Ok.ensures.build in
+    let of = by.program in
     let text = c.image_text.ensures.image (family_links of.files built.image.program.family of.links of.family) in
     record {
       image = built.image;
       of = record {
         program = of;
         outcomes = map outcome_of built.verdicts;
-        built = c.in-Ok.ensures.built;
-        exact = c.in-Ok.ensures.exact;
-        shows = record { to_image = c.in-Ok.ensures.to_image; to_class_files = c.in-Ok.ensures.to_class_files };
-        entries = c.in-Ok.ensures.entries;
+        built = by.built;
+        exact = by.exact;
+        shows = record { to_image = by.to_image; to_class_files = by.to_class_files };
+        entries = by.entries;
       };
       text =
           subst (λ (bytes : List ℕ). ImageText bytes built.image.program.family (told_of built.image))

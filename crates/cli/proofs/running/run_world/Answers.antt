@@ -3,7 +3,7 @@ use Rattle.vm_state.specs.declared.text.Line.{Line}
 use Rattle.machine.specs.Linked.{program_of}
 use Rattle.init_engine.specs.Turns.{world_of}
 use Rattle.cli.specs.Running.{SendsTo, lines_text}
-use Rattle.cli.proofs.RunningLemmas.{appends_nothing, still_sent, all_sent, cut_by_memory, cut_in_sending, run_ends}
+use Rattle.cli.proofs.RunningLemmas.{appends_nothing, still_sent, slice_sent, cut_by_memory, cut_in_sending, run_ends}
 use Rattle.cli.proofs.running.run_world.Goals as goal
 
 pub slices-init : goal.slices-init
@@ -39,14 +39,11 @@ pub returns-in-Ok-what_is_left-clause-ran : goal.returns-in-Ok-what_is_left-clau
 returns-in-Ok-what_is_left-clause-ran g c =
     let kept = c.slices.invariant in
     let before = g.W.Write.contents c.args.out.now in
-    let now = g.W.Write.contents c.slices.out in
     let after = g.W.Write.contents c.send_further.new.out in
     let turned = c.in-Ok.ensures.turns (world_of c.args.world) c.args.limit kept.turns in
-    let still = still_sent _ _ c.slices.sent c.in-Ok.over c.slices.turning c.go_on.new.self before now
-    c.in-Ok.ensures.slice kept.within kept.sent in
-    let sent = all_sent c.slices.sent c.in-Ok-send_further.count c.go_on.new.self.world.printed before now after still.1
-    (rw c.printed.ensures at c.in-Ok-send_further.ensures.sends)
-    (rw c.printed.ensures at c.in-Ok-send_further.ensures.all) in
+    let sent = slice_sent _ _ c.slices.sent c.in-Ok-send_further.count c.in-Ok.over c.slices.turning c.go_on.new.self
+    c.printed.result.now before (g.W.Write.contents c.slices.out) after c.in-Ok.ensures.slice kept.within kept.sent
+    c.printed.ensures c.in-Ok-send_further.ensures.sends c.in-Ok-send_further.ensures.all in
     let told = c.in-Ok-what_is_left.ensures in
     run_ends c.args.program.now c.args.world c.args.limit c.go_on.new.self before after c.in-Ok-what_is_left.ran
     (rw c.if-over.true at turned) (c.go_on.ensures.threads ∙ kept.threads) told.stands told.schedule told.apart sent.2
@@ -55,14 +52,11 @@ pub returns-in-Err-what_is_left-clause-cut : goal.returns-in-Err-what_is_left-cl
 returns-in-Err-what_is_left-clause-cut g c =
     let kept = c.slices.invariant in
     let before = g.W.Write.contents c.args.out.now in
-    let now = g.W.Write.contents c.slices.out in
     let after = g.W.Write.contents c.send_further.new.out in
     let turned = c.in-Ok.ensures.turns (world_of c.args.world) c.args.limit kept.turns in
-    let still = still_sent _ _ c.slices.sent c.in-Ok.over c.slices.turning c.go_on.new.self before now
-    c.in-Ok.ensures.slice kept.within kept.sent in
-    let sent = all_sent c.slices.sent c.in-Ok-send_further.count c.go_on.new.self.world.printed before now after still.1
-    (rw c.printed.ensures at c.in-Ok-send_further.ensures.sends)
-    (rw c.printed.ensures at c.in-Ok-send_further.ensures.all) in
+    let sent = slice_sent _ _ c.slices.sent c.in-Ok-send_further.count c.in-Ok.over c.slices.turning c.go_on.new.self
+    c.printed.result.now before (g.W.Write.contents c.slices.out) after c.in-Ok.ensures.slice kept.within kept.sent
+    c.printed.ensures c.in-Ok-send_further.ensures.sends c.in-Ok-send_further.ensures.all in
     cut_by_memory c.args.program.now (world_of c.args.world) c.args.limit c.in-Ok-send_further.count c.go_on.new.self
     before after turned.under_way sent.0 sent.1
 
@@ -70,14 +64,11 @@ pub slices-preserved : goal.slices-preserved
 slices-preserved g c =
     let kept = c.slices.invariant in
     let before = g.W.Write.contents c.args.out.now in
-    let now = g.W.Write.contents c.slices.out in
     let after = g.W.Write.contents c.send_further.new.out in
     let turned = c.in-Ok.ensures.turns (world_of c.args.world) c.args.limit kept.turns in
-    let still = still_sent _ _ c.slices.sent c.in-Ok.over c.slices.turning c.go_on.new.self before now
-    c.in-Ok.ensures.slice kept.within kept.sent in
-    let sent = all_sent c.slices.sent c.in-Ok-send_further.count c.go_on.new.self.world.printed before now after still.1
-    (rw c.printed.ensures at c.in-Ok-send_further.ensures.sends)
-    (rw c.printed.ensures at c.in-Ok-send_further.ensures.all) in
+    let sent = slice_sent _ _ c.slices.sent c.in-Ok-send_further.count c.in-Ok.over c.slices.turning c.go_on.new.self
+    c.printed.result.now before (g.W.Write.contents c.slices.out) after c.in-Ok.ensures.slice kept.within kept.sent
+    c.printed.ensures c.in-Ok-send_further.ensures.sends c.in-Ok-send_further.ensures.all in
     record {
       turns = turned.under_way;
       ready = c.in-Ok.ensures.ready;
