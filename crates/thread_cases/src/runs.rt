@@ -1,10 +1,12 @@
 //! Runs of threads, and how they end.
 
 use crate::programs::{EVER, LATE, M, SPIN, TELL, Tape, program_of, start_of, start_with};
+use std::alloc::{AllocError, Global};
 use std::process::Abort;
 use std::test::*;
 use thread_runner::replay::replay;
 use thread_runner::{Gate, Open, RunFault, run_threads};
+use vm_state::text::Line;
 
 #[test]
 fn one_thread_prints(rt: HostRuntime) -> Result<(), Fail> {
@@ -92,6 +94,15 @@ fn steps_in(runs: &[(u32, u64)]) -> u64 {
     sum
 }
 
+/// The text of lines.
+fn text_of(alloc: Global, lines: &[Line]) -> Result<Vec<u8>, AllocError> {
+    let mut text = Vec::new(alloc);
+    for line in lines {
+        text.extend_from_slice(line.text.as_bytes())?;
+    }
+    Ok(text)
+}
+
 #[test]
 fn the_last_thread_goes_on_alone(rt: HostRuntime) -> Result<(), Fail> {
     let text = format!(in rt.alloc(); "{LATE}\n{SPIN}\n{M}")?;
@@ -109,13 +120,15 @@ fn the_last_thread_goes_on_alone(rt: HostRuntime) -> Result<(), Fail> {
         return Err(Fail::new("no replay"));
     };
     assert_eq!(rt; seen.printed.len(), 101);
-    let mut printed = Vec::new(rt.alloc());
-    for line in &seen.printed {
-        printed.extend_from_slice(line.text.as_bytes())?;
-    }
-    assert_eq!(rt; tape.got.as_slice(), printed.as_slice());
+    assert_eq!(rt;
+        tape.got.as_slice(),
+        text_of(rt.alloc(), seen.printed.as_slice())?.as_slice()
+    );
     Ok(())
 }
+
+/// So many steps of `Ever` take longer than it takes to start another thread.
+const EVER_LIMIT: u64 = 100_000_000;
 
 #[test]
 fn a_limit_ends_the_last_thread(rt: HostRuntime) -> Result<(), Fail> {
@@ -123,13 +136,16 @@ fn a_limit_ends_the_last_thread(rt: HostRuntime) -> Result<(), Fail> {
     let program = program_of(rt.alloc(), &text)?;
     let world = start_of(rt.alloc(), &program, &["Ever", "M"])?;
     let tape = Tape::new(rt.alloc(), 100);
-    let (answer, tape) = run_threads(&rt, rt.alloc(), &program, world, &Open, tape, 30_000);
+    let (answer, tape) = run_threads(&rt, rt.alloc(), &program, world, &Open, tape, EVER_LIMIT);
     let Err(RunFault::Limit(ended)) = answer else {
         return Err(Fail::new("no limit"));
     };
     let steps = steps_in(ended.journal.runs());
-    assert!(rt; 30_000 <= steps && steps < 31_024);
-    assert_eq!(rt; tape.got.as_slice(), b"7\n".as_slice());
+    assert!(rt; EVER_LIMIT <= steps && steps < EVER_LIMIT + 1_024);
+    assert_eq!(rt;
+        tape.got.as_slice(),
+        text_of(rt.alloc(), ended.seen.printed.as_slice())?.as_slice()
+    );
     Ok(())
 }
 
