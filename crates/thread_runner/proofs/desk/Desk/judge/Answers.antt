@@ -15,6 +15,6 @@ returns g c =
     let got = g.S.Sink.got e.sink in
     let sent = holds_all g.O.Session.before got (text_of w.printed) e.book.sent (c.in_default.ensures.all refl)
     e.sent in
-    answer_of P start g.O.Session.limit g.O.Session.failed (g.S.Sink.failures e.sink) (schedule_of e.book.past.journal) w
-    c.verdict_of.result g.O.Session.before got c.world-world.ensures.kept.runs sent
+    answer_of P start g.O.Session.limit g.O.Session.failed (g.S.Sink.failures e.sink)
+    (schedule_of e.book.past.journal) w c.verdict_of.result g.O.Session.before got c.world-world.ensures.kept.runs sent
     (subst (λ k. IsVerdict P start k (world_of w) c.verdict_of.result) e.limit_is c.verdict_of.ensures)
