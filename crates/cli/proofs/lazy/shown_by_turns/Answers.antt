@@ -16,5 +16,5 @@ returns c = record {
       (schedule_of c.in_ok-last.schedule.items) (world_of c.in_ok-last.last))
       (sym (length-map c.args.world.threads thread_of)) c.in_ok-last.ensures.turns;
   seen = c.in_ok-seen.ensures;
-  rest = c.rest.ensures;
+  rest = c.rest-rest.ensures;
 }
