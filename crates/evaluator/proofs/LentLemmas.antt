@@ -5,12 +5,14 @@ use Rattle.std.proofs.lemmas.Bool.{ltb-true, or_right}
 use Rattle.vm_state.specs.declared.value.Maker.{Maker}
 use Rattle.vm_state.specs.declared.value.Maker.TheVariants.{Class, Thread}
 use Rattle.vm_state.specs.SharedState.{Region}
+use Rattle.semantics.specs.Rows.{Named}
 use Rattle.semantics.specs.Quiet.{Environment, pool_seen, Refusal, Stop, Refused, Barred}
 use Rattle.semantics.specs.Settling.{Settles, StoppedBy}
 use Rattle.semantics.specs.Soundness.{is_made_at_hand, names_at_hand, IsClosed}
 use Rattle.semantics.proofs.EnvironmentsLemmas.{settles-wider}
-use Rattle.semantics.proofs.KnownNamesLemmas.{Fewer, Knows-mono}
+use Rattle.semantics.proofs.KnownNamesLemmas.{Fewer, Knows-mono, KnowsSlots-mono}
 use Rattle.semantics.proofs.OneRunLemmas.{settles_once}
+use Rattle.semantics.proofs.PoolsLemmas.{fixed_at-holds}
 use Rattle.semantics.proofs.RefusalsLemmas.{stop_excludes_lem, one_stop_lem, settles_or_stops_lem}
 use Rattle.program.specs.Tables.{Tables}
 use Rattle.machine.specs.Linked.{program_of}
@@ -48,9 +50,14 @@ module _ (P : Tables) (linked : IsLinked P) (env : Environment) (c : ℕ) (can :
       by (Class e) h = or_right (e == c) (is_some (can.lent e)) (by_class (e == d) e refl h)
 
   closed : IsClosed (program_of P) (IsUse P c) can.lent c
-  closed d f r used at final =
-      Knows-mono (is_there can.lent d r) (names_at_hand can.lent c) (there_at_hand d r at) (r.fields f)
-      ((can.whole.closed d r at).statics f)
+  closed = record {
+    finals = λ d f r used at final.
+        Knows-mono (is_there can.lent d r) (names_at_hand can.lent c) (there_at_hand d r at) (r.fields f)
+        ((can.whole.closed d r at).statics f);
+    named = λ d n r at.
+        KnowsSlots-mono (is_there can.lent d r) (names_at_hand can.lent c) (there_at_hand d r at) _
+        (fixed_at-holds (is_there can.lent d r) (program_of P) Named r.pool n (can.whole.closed d r at).slots);
+  }
 
   -- what stops it with the regions that it is lent is a refusal, and with more it is refused for the same reason
   refused_so : (budget : ℕ) (stop : Stop) → StoppedBy (program_of P) can.lent c budget stop

@@ -38,7 +38,8 @@ use Rattle.vm_state.specs.declared.frame.Activity.TheVariants.{Start, Method as 
 use Rattle.vm_state.specs.declared.value.Maker.{Maker}
 use Rattle.vm_state.specs.declared.value.Maker.TheVariants.{Class, Thread}
 use Rattle.vm_state.proofs.OperandLemmas.{one_place}
-use Rattle.machine.proofs.AnyRowsLemmas.{GoesUp, GoesOut, raised_any, needed_any, usable_any, pushed_any, named_any}
+use Rattle.machine.proofs.AnyRowsLemmas.{GoesUp, GoesUpChange, OfChanges, changes_any, GoesOut, raised_any}
+use Rattle.machine.proofs.AnyRowsLemmas.{needed_any, usable_any, pushed_any, named_any}
 use Rattle.machine.proofs.AnyRowsLemmas.{array_any, given_any, built_in_any, cast_any, instance_any, throw_any, got_any}
 use Rattle.machine.proofs.AnyRowsLemmas.{put_any, static_any, instance_call_any, print_any, line_any, main_any}
 
@@ -85,11 +86,16 @@ up = record {
   halted = λ kind. tt;
   asked = λ x next on. on;
   looked = λ x part next on. on;
-  changed = λ x slot v next on. on;
   made_given = λ c slots next on. on;
   made_built_in = λ b slots next on. on;
   made_array = λ a slots f room x. replaces x f room;
 }
+
+changed : GoesUpChange MakesLast
+changed x slot v next on = on
+
+changes : (P : Tables) → OfChanges MakesLast P
+changes P = changes_any _ _ up changed P
 
 out : GoesOut MakesLast
 out = record { moved = λ move. tt; printed = λ text next on. on }
@@ -134,15 +140,15 @@ object_makes_last P (objects.CheckCast class) f = cast_any _ _ up P class f
 object_makes_last P (objects.InstanceOf class) f = instance_any _ _ up P class f
 object_makes_last P objects.Throw f = throw_any _ _ up P f
 object_makes_last P (objects.GetField field) f = got_any _ _ up P field f
-object_makes_last P (objects.PutField field) f = put_any _ _ up P field f
+object_makes_last P (objects.PutField field) f = put_any _ _ up changed P field f
 object_makes_last P objects.EnterMonitor f = monitor_makes true f (entered f) (entered_makes f)
 object_makes_last P objects.ExitMonitor f = monitor_makes false f (left f) (left_makes f)
 
 call_makes_last : (P : Tables) (operation : CallOperation) (f : Frame) → MakesLast (call_row P operation f)
 call_makes_last P (calls.Static k) f = λ b. usable _ (static_any _ _ up out P k f) b
-call_makes_last P (calls.Instance k) f = instance_call_any _ _ up out P k f
-call_makes_last P (calls.Print what line k) f = print_any _ _ up out P what line k f
-call_makes_last P (calls.EndLine k) f = line_any _ _ up out P k f
+call_makes_last P (calls.Instance k) f = instance_call_any _ _ up out P (changes P) k f
+call_makes_last P (calls.Print what line k) f = print_any _ _ up out P (changes P) what line k f
+call_makes_last P (calls.EndLine k) f = line_any _ _ up out P (changes P) k f
 
 local_makes : (r : Result Frame Trap) → MakesLast (local_row r)
 local_makes (Ok g) = tt
@@ -159,7 +165,7 @@ operation_makes P (PushText s) f = pushed_any _ _ up (values.Text s) f
 operation_makes P (GetStatic c k) f = λ b. usable _ (λ v. pushed_any _ _ up v f) b
 operation_makes P (PutStatic kind c k) f = λ b. usable _ (needed (top_stored kind f.operands) _ (λ v. tt)) b
 operation_makes P GetOut f = pushed_any _ _ up values.Out f
-operation_makes P (OnArray operation) f = array_any _ _ up P operation f
+operation_makes P (OnArray operation) f = array_any _ _ up P (changes P) operation f
 operation_makes P (OnCall operation) f = call_makes_last P operation f
 operation_makes P (Return kind) f = return_makes kind f
 operation_makes P (OnObject operation) f = object_makes_last P operation f

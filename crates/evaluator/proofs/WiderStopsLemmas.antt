@@ -5,11 +5,11 @@ use Rattle.vm_state.specs.declared.frame.Frame.{Frame}
 use Rattle.vm_state.specs.declared.value.Maker.TheVariants.{Class}
 use Rattle.vm_state.specs.SharedState.{Region, same_maker}
 use Rattle.semantics.specs.Rows.{Row, Ends, UseClass, ReadStatic, WriteStatic, AskClass, LookInto, Change, Make}
-use Rattle.semantics.specs.Rows.{UseMonitor, Print, part_at}
+use Rattle.semantics.specs.Rows.{UseMonitor, Print}
 use Rattle.semantics.specs.Rows.{Next, Raise, Halt}
 use Rattle.semantics.specs.Programs.{Program}
 use Rattle.semantics.specs.Quiet.{Environment, is_final, pool_seen, Refusal, Refused, Conduct, Stops, is_open, at_hand}
-use Rattle.semantics.specs.Quiet.{if_fixed, quiet}
+use Rattle.semantics.specs.Quiet.{if_fixed, fixed_at, quiet}
 use Rattle.semantics.specs.Settling.{StopsBody, Before, At, Making, Inside, NoRoom, AfterCall, StoppedAt, StoppedBy}
 use Rattle.semantics.proofs.BranchesLemmas.{on_same}
 use Rattle.semantics.proofs.EnvironmentsLemmas.{Extends, pool_seen-wider, quiet-wider, runs-wider}
@@ -50,7 +50,7 @@ module _ (P : Program) (env wider : Environment) (more : Extends env wider) (c :
       (on_same (is_open part)
       (on_hand (pool_seen env c own x.maker) (pool_seen wider c own x.maker)
       (pool_seen-wider P env wider more c own x.maker)
-      (λ p. on_part (part_at part p x.number) _ _ (refused-wider (next _) own n why)))
+      (λ p. on_part (fixed_at P part p x.number) _ _ (refused-wider (next _) own n why)))
       (λ is. is))
   refused-wider (Change x i v next) own n why =
       on_same (same_maker (Class c) x.maker) (refused-wider next _ n why) (λ is. is)

@@ -10,7 +10,7 @@ use Rattle.semantics.specs.Rows.{Next, Raise, Halt, Row, Ends, UseClass, ReadSta
 use Rattle.semantics.specs.Rows.{Change, Make, UseMonitor, Print, part_at}
 use Rattle.semantics.specs.Programs.{Program}
 use Rattle.semantics.specs.Quiet.{Environment, is_final, pool_seen, elements_in, OverBudget, Refused, Conduct}
-use Rattle.semantics.specs.Quiet.{Stops, is_open, at_hand, if_fixed, quiet}
+use Rattle.semantics.specs.Quiet.{Stops, is_open, at_hand, if_fixed, fixed_at, quiet}
 use Rattle.evaluator.specs.steps.Within.{within, capped, Moves, MakesLast}
 
 below : (most n : ℕ) → n ≤ most → nat_lt most n ≡ false
@@ -79,7 +79,7 @@ module _ (P : Program) (env : Environment) (c most : ℕ) where
       (within_capped (next (part_at part own.pool x.number)) (h (part_at part own.pool x.number)) own n few)
       (either (is_open part) _ _
       (in_hand (pool_seen env c own x.maker) _ _ (λ p.
-      fixed (part_at part p x.number) _ _ (λ vs. within_capped (next vs) (h vs) own n few)))
+      fixed (fixed_at P part p x.number) _ _ (λ vs. within_capped (next vs) (h vs) own n few)))
       refl)
   within_capped (Change x i v next) h own n few =
       either (same_maker (Class c) x.maker) _ _

@@ -4,12 +4,14 @@ ghost use Rattle.std.specs.Prelude.{◌≡◌, ◌+◌, nat_lt, if◌then◌else
 ghost use Rattle.machine.specs.Linked.{program_of};
 ghost use Rattle.vm_state.specs.SharedState.{class_at, slots_at, same_maker, with_new};
 ghost use Rattle.vm_state.specs.Pools.{pool_by};
-ghost use Rattle.semantics.specs.Quiet.{Conduct, elements_in, is_final};
+ghost use Rattle.semantics.specs.Rows.{Named};
+ghost use Rattle.semantics.specs.Quiet.{Conduct, elements_in, fixed_at, is_final};
+ghost use Rattle.machine.specs.ObjectParts.{slot_in};
 ghost use Rattle.evaluator.specs.steps.Builds.{Building, run_build, stopped_build, CanUseAtBuild};
 ghost use Rattle.evaluator.specs.steps.BuildTables.{build_of};
 
 use crate::regions::{Region, Regions};
-use built_in::class_id::{ArrayType, ClassId};
+use built_in::class_id::{ArrayType, BuiltIn, ClassId};
 use machine::kinds::{Actor, Stop};
 use machine::sharing::{length_of, named_slot};
 use machine::store::Store;
@@ -69,6 +71,28 @@ fn slots_in(region: &Region, number: u64) -> Option<&[Value]>
     match region.objects.object(number) {
         Some(object) => Some(object.slots.as_slice()),
         None => None,
+    }
+}
+
+/// The name or the ordinal, by its slot, of an object of a region, if it is an `Enum` object whose name is set: neither
+/// changes then.
+fn fixed_slot(program: &Program, region: &Region, number: u64, slot: usize) -> Option<Option<Value>>
+    ensures { result ≡ option_map (λ vs. slot_in (Some vs) slot)
+        (fixed_at (program_of program.now) Named (pool_by region.now.objects) number) }
+{
+    match region.objects.object(number) {
+        Some(object) if program.is_below(object.class, ClassId::BuiltIn(BuiltIn::Enum)) => {
+            match object.slots.as_slice() {
+                [Value::Null, ..] => None,
+                [name, ordinal, ..] => Some(match slot {
+                    0 => Some(*name),
+                    1 => Some(*ordinal),
+                    _ => None,
+                }),
+                _ => None,
+            }
+        }
+        _ => None,
     }
 }
 
@@ -196,7 +220,7 @@ impl<'a> Store for Build<'a> {
     }
 
     #[tactic(auto, unfolding(machine::specs::Accesses::unless_refused))]
-    fn length(&self, _by: Actor, object: Name) -> Result<Option<i32>, Stop> {
+    fn size(&self, _by: Actor, object: Name) -> Result<Option<i32>, Stop> {
         if !is_of_maker(self.class, object) {
             return Err(Stop::ForeignObject);
         }
@@ -204,11 +228,37 @@ impl<'a> Store for Build<'a> {
     }
 
     #[tactic(auto, unfolding(machine::specs::Accesses::unless_refused))]
-    fn named(&self, _by: Actor, object: Name, slot: usize) -> Result<Option<Value>, Stop> {
-        if !is_of_maker(self.class, object) {
-            return Err(Stop::ForeignObject);
+    fn length(&self, _by: Actor, object: Name) -> Result<Option<i32>, Stop> {
+        let Maker::Class(class) = object.maker else {
+            return Err(Stop::Barred);
+        };
+        if class == self.class {
+            return Ok(length_of(slots_in(&self.own, object.number)));
         }
-        Ok(named_slot(slots_in(&self.own, object.number), slot))
+        let Some(region) = self.regions.get(class) else {
+            return Err(Stop::Barred);
+        };
+        match region.objects.object(object.number) {
+            Some(object) => Ok(length_of(Some(object.slots.as_slice()))),
+            None => Err(Stop::ForeignObject),
+        }
+    }
+
+    #[tactic(auto, unfolding(machine::specs::Accesses::unless_refused))]
+    fn named(&self, _by: Actor, object: Name, slot: usize) -> Result<Option<Value>, Stop> {
+        let Maker::Class(class) = object.maker else {
+            return Err(Stop::Barred);
+        };
+        if class == self.class {
+            return Ok(named_slot(slots_in(&self.own, object.number), slot));
+        }
+        let Some(region) = self.regions.get(class) else {
+            return Err(Stop::Barred);
+        };
+        match fixed_slot(self.program, region, object.number, slot) {
+            Some(value) => Ok(value),
+            None => Err(Stop::ForeignObject),
+        }
     }
 
     #[tactic(auto, unfolding(machine::specs::Accesses::unless_refused))]

@@ -15,6 +15,7 @@ use Rattle.built_in.specs.declared.class_id.ClassId.TheVariants.{Given, BuiltIn,
 use Rattle.built_in.specs.declared.method.BuiltInMethod.{BuiltInMethod}
 use Rattle.built_in.specs.declared.method.BuiltInMethod.TheVariants as members
 use Rattle.vm_state.specs.declared.ends.FaultKind.{FaultKind}
+use Rattle.vm_state.specs.declared.ends.FaultKind.TheVariants as faults
 use Rattle.vm_state.specs.declared.frame.Frame.{Frame}
 use Rattle.vm_state.specs.declared.value.Name.{Name}
 use Rattle.vm_state.specs.declared.value.Value.{Value}
@@ -47,15 +48,16 @@ use Rattle.machine.specs.declared.call_operation.StaticCall.{StaticCall}
 use Rattle.machine.specs.declared.object_operation.InstanceField.{InstanceField}
 use Rattle.machine.specs.Initializers.{is_method}
 use Rattle.machine.specs.StoredKinds.{top_stored, extra_places}
-use Rattle.machine.specs.RowParts.{needing, goes_on, push, raises, if_usable}
-use Rattle.machine.specs.ObjectParts.{slot_in, on_name, class_of_nameless, ask_class_of}
+use Rattle.machine.specs.RowParts.{halts, needing, goes_on, push, drops, raises, if_usable}
+use Rattle.machine.specs.ObjectParts.{slot_in, size_in, set_named, on_name, class_of_nameless, ask_class_of}
 use Rattle.machine.specs.ObjectParts.{without_object, with_object}
 use Rattle.machine.specs.Objects.{new_object, is_of, ask_is_of, cast_row, check_cast, int_of_boolean, instance_of}
 use Rattle.machine.specs.Objects.{throw_of, throw_row, is_holder, on_holder, get_field, put_field}
 use Rattle.machine.specs.Arrays.{unless_trapped, array_type, served_type, slot_at, size_of, make_array, array_length}
 use Rattle.machine.specs.Arrays.{at_element, load_element, is_checked, if_held, can_hold, check_store, store_element}
 use Rattle.machine.specs.Arrays.{stored_as, array_row, type_of_primitives, zero_of}
-use Rattle.machine.specs.Members.{on_enum, replaced, or_slot, enum_part, clone_if_array, member_row}
+use Rattle.machine.specs.Members.{on_enum, name_once, new_enum, replaced, or_slot, enum_part, clone_if_array}
+use Rattle.machine.specs.Members.{member_row}
 use Rattle.machine.specs.Calls.{parameters_at, has_arguments, receiver_under, reaches, reached, enter_static, runs}
 use Rattle.machine.specs.Calls.{runs_chosen, is_out, called_on, call_instance}
 use Rattle.machine.specs.Printing.{printed_text, ended, print_on, print_value, end_line}
@@ -75,13 +77,21 @@ pub record GoesUp (Is : Row → Type 0) (HasRoom : Frame → Type 0) : Type 0 wh
   pub asked : (x : Name) (next : Option ClassId → Row) → ((o : Option ClassId) → Is (next o)) → Is (AskClass x next)
   pub looked : (x : Name) (part : Part) (next : Option (List Value) → Row) → ((o : Option (List Value)) → Is (next o))
       → Is (LookInto x part next)
-  pub changed : (x : Name) (slot : ℕ) (v : Value) (next : Row) → Is next → Is (Change x slot v next)
   pub made_given : (c : ℕ) (slots : List Value) (next : Name → Row) → ((x : Name) → Is (next x))
       → Is (Make (Given c) slots next)
   pub made_built_in : (b : BuiltInClass) (slots : List Value) (next : Name → Row) → ((x : Name) → Is (next x))
       → Is (Make (BuiltIn b) slots next)
   pub made_array : (a : ArrayType) (slots : List Value) (f : Frame) → HasRoom f
       → Is (Make (Array a) slots (λ x. push (value_of x) (with_operands f (rest f.operands))))
+
+-- it goes up a change of a slot, whatever was asked before
+abbrev pub GoesUpChange : (Row → Type 0) → Type 0
+GoesUpChange Is = (x : Name) (slot : ℕ) (v : Value) (next : Row) → Is next → Is (Change x slot v next)
+
+-- it holds of the rows that change an object, apart from that of putfield
+pub record OfChanges (Is : Row → Type 0) (P : Tables) : Type 0 where
+  pub stored : (kind : ElementKind) (f : Frame) → Is (store_element P kind f)
+  pub named : (v : Value) (f : Frame) → Is (new_enum P v f)
 
 -- it holds of all that is done, and goes up a print
 pub record GoesOut (Is : Row → Type 0) : Type 0 where
@@ -179,7 +189,7 @@ module _ (Is : Row → Type 0) (HasRoom : Frame → Type 0) (up : GoesUp Is HasR
       up.asked name _ (λ class.
       trapped_any (served_type kind class) _ (λ a.
       up.looked name _ _ (λ vs.
-      trapped_any (slot_at index (int_of (slot_in vs 0))) (go name a) (on name a)))))
+      trapped_any (slot_at index (size_in vs)) (go name a) (on name a)))))
 
   loaded_any : (kind : ElementKind) (f : Frame) → Is (load_element kind f)
   loaded_any kind f =
@@ -203,23 +213,23 @@ module _ (Is : Row → Type 0) (HasRoom : Frame → Type 0) (up : GoesUp Is HasR
       checked : Option ClassId → Row
       checked o = needing o (λ class. if_held (can_hold P a class) row)
 
-  stored_any : (P : Tables) (kind : ElementKind) (f : Frame) → Is (store_element P kind f)
-  stored_any P kind f =
+  stored_any : GoesUpChange Is → (P : Tables) (kind : ElementKind) (f : Frame) → Is (store_element P kind f)
+  stored_any changed P kind f =
       needed_any (top_stored (stored_as kind) f.operands) _ (λ v.
       needed_any (top_int (rest f.operands)) _ (λ index.
       needed_any (top_as Reference (rest (rest f.operands))) _ (λ array.
       element_any kind array index (λ name a slot. check_store P a v (put name slot v)) (λ name a slot.
-      check_any P a v (put name slot v) (up.changed name slot v _ (up.stayed _ _ _))))))
+      check_any P a v (put name slot v) (changed name slot v _ (up.stayed _ _ _))))))
     where
       put : Name → ℕ → Value → Row
       put name slot v = Change name slot v (goes_on (advanced (with_operands f (rest (rest (rest f.operands))))))
 
-  pub array_any : (P : Tables) (operation : ArrayOperation) (f : Frame) → Is (array_row P operation f)
-  array_any P (arrays.New kind) f = made_any (type_of_primitives kind) (zero_of kind) f
-  array_any P (arrays.NewOfReferences a) f = made_any a values.Null f
-  array_any P arrays.Length f = length_any f
-  array_any P (arrays.Load kind) f = loaded_any kind f
-  array_any P (arrays.Store kind) f = stored_any P kind f
+  pub array_any : (P : Tables) → OfChanges Is P → (operation : ArrayOperation) (f : Frame) → Is (array_row P operation f)
+  array_any P changes (arrays.New kind) f = made_any (type_of_primitives kind) (zero_of kind) f
+  array_any P changes (arrays.NewOfReferences a) f = made_any a values.Null f
+  array_any P changes arrays.Length f = length_any f
+  array_any P changes (arrays.Load kind) f = loaded_any kind f
+  array_any P changes (arrays.Store kind) f = changes.stored kind f
 
   -- ---- objects
 
@@ -276,11 +286,11 @@ module _ (Is : Row → Type 0) (HasRoom : Frame → Type 0) (up : GoesUp Is HasR
       needed_any (slot_in vs field.slot) _ (λ held. pushed_any held (with_operands f (rest f.operands))))))
       (up.halted _))
 
-  pub put_any : (P : Tables) (field : InstanceField) (f : Frame) → Is (put_field P field f)
-  put_any P field f =
+  pub put_any : GoesUpChange Is → (P : Tables) (field : InstanceField) (f : Frame) → Is (put_field P field f)
+  put_any changed P field f =
       needed_any (top_stored field.kind f.operands) _ (λ held.
       needed_any (top_as Reference (rest f.operands)) _ (λ v.
-      holder_any P field v _ (λ x. up.changed x field.slot held _ (up.stayed _ _ _))))
+      holder_any P field v _ (λ x. changed x field.slot held _ (up.stayed _ _ _))))
 
   -- ---- methods of built-in classes
 
@@ -308,22 +318,36 @@ module _ (Is : Row → Type 0) (HasRoom : Frame → Type 0) (up : GoesUp Is HasR
   cloned_any x f room (Some (BuiltIn b)) = up.halted _
   cloned_any x f room None = up.halted _
 
-  pub member_any : (P : Tables) (member : BuiltInMethod) (count : ℕ) (v : Value) (f : Frame) → HasRoom f
-      → Is (member_row P member count v f)
-  member_any P members.NewObject count v f room = up.stayed _ _ _
-  member_any P members.NewThrowable count v f room = up.stayed _ _ _
-  member_any P members.NewThrowableOfText count v f room = up.stayed _ _ _
-  member_any P members.NewEnum count v f room =
+  once_any : GoesUpChange Is → (x : Name) (name ordinal : Value) (f : Frame) (o : Option Value)
+      → Is (name_once x name ordinal f o)
+  once_any changed x name ordinal f (Some values.Null) =
+      either_any (is_null name) (halts faults.Unsupported) (set_named x name ordinal (drops 3 f)) (up.halted _)
+      (changed x 0 name _ (changed x 1 ordinal _ (up.stayed _ _ _)))
+  once_any changed x name ordinal f other = up.halted _
+
+  new_enum_any : GoesUpChange Is → (P : Tables) (v : Value) (f : Frame) → Is (new_enum P v f)
+  new_enum_any changed P v f =
       needed_any (top_as Int f.operands) _ (λ ordinal.
       needed_any (top_as Reference (rest f.operands)) _ (λ name.
-      enum_any P v _ (λ x. up.changed x 0 name _ (up.changed x 1 ordinal _ (up.stayed _ _ _)))))
-  member_any P members.EnumName count v f room = part_any P 0 v f
-  member_any P members.EnumOrdinal count v f room = part_any P 1 v f
-  member_any P members.CloneArray count v f room =
+      enum_any P v _ (λ x. up.looked x _ _ (λ vs. once_any changed x name ordinal f (slot_in vs 0)))))
+
+  -- where it goes up every change
+  pub changes_any : GoesUpChange Is → (P : Tables) → OfChanges Is P
+  changes_any changed P = record { stored = stored_any changed P; named = new_enum_any changed P }
+
+  pub member_any : (P : Tables) → OfChanges Is P → (member : BuiltInMethod) (count : ℕ) (v : Value) (f : Frame)
+      → HasRoom f → Is (member_row P member count v f)
+  member_any P changes members.NewObject count v f room = up.stayed _ _ _
+  member_any P changes members.NewThrowable count v f room = up.stayed _ _ _
+  member_any P changes members.NewThrowableOfText count v f room = up.stayed _ _ _
+  member_any P changes members.NewEnum count v f room = changes.named v f
+  member_any P changes members.EnumName count v f room = part_any P 0 v f
+  member_any P changes members.EnumOrdinal count v f room = part_any P 1 v f
+  member_any P changes members.CloneArray count v f room =
       object_any v _ (λ x. up.asked x (clone_if_array x f) (cloned_any x f room))
-  member_any P (members.Print what) count v f room = up.halted _
-  member_any P (members.PrintLine what) count v f room = up.halted _
-  member_any P members.EndLine count v f room = up.halted _
+  member_any P changes (members.Print what) count v f room = up.halted _
+  member_any P changes (members.PrintLine what) count v f room = up.halted _
+  member_any P changes members.EndLine count v f room = up.halted _
 
   -- ---- calls
 
@@ -345,28 +369,28 @@ module _ (Is : Row → Type 0) (HasRoom : Frame → Type 0) (up : GoesUp Is HasR
         needed_any (parameters_at P k.caller k.descriptor) _ (λ kinds.
         either_any (has_arguments kinds f.operands) _ _ (reached_any P k.class k.index (length kinds) f) (up.halted _))
 
-    runs_any : (P : Tables) (count : ℕ) (v : Value) (f : Frame) → HasRoom f → (o : Option Method)
+    runs_any : (P : Tables) → OfChanges Is P → (count : ℕ) (v : Value) (f : Frame) → HasRoom f → (o : Option Method)
         → Is (runs P count v f o)
-    runs_any P count v f room None = up.halted _
-    runs_any P count v f room (Some (methods.Given c m)) = reached_any P c m count f
-    runs_any P count v f room (Some (methods.BuiltIn member)) = member_any P member count v f room
+    runs_any P changes count v f room None = up.halted _
+    runs_any P changes count v f room (Some (methods.Given c m)) = reached_any P c m count f
+    runs_any P changes count v f room (Some (methods.BuiltIn member)) = member_any P changes member count v f room
 
-    ran_any : (P : Tables) (choice : Choice) (count : ℕ) (f : Frame) → HasRoom f → (v : Value)
+    ran_any : (P : Tables) → OfChanges Is P → (choice : Choice) (count : ℕ) (f : Frame) → HasRoom f → (v : Value)
         → Is (runs_chosen P choice count f v)
-    ran_any P (Found m) count f room v = runs_any P count v f room m
-    ran_any P (Selected m) count f room v =
+    ran_any P changes (Found m) count f room v = runs_any P changes count v f room m
+    ran_any P changes (Selected m) count f room v =
         class_any v chosen (λ o. needed_any o (λ class. runs P count v f (selected P.family class m)) (λ class.
-        runs_any P count v f room (selected P.family class m)))
+        runs_any P changes count v f room (selected P.family class m)))
       where
         chosen : Option ClassId → Row
         chosen o = needing o (λ class. runs P count v f (selected P.family class m))
 
-    on_any : (P : Tables) (k : InstanceCall) (count : ℕ) (f : Frame) → HasRoom f → (v : Value)
+    on_any : (P : Tables) → OfChanges Is P → (k : InstanceCall) (count : ℕ) (f : Frame) → HasRoom f → (v : Value)
         → Is (called_on P k count f v)
-    on_any P k count f room v =
+    on_any P changes k count f room v =
         either_any (is_out v && not k.names_stream) _ _ (up.halted _)
         (unless_null_any Is up.halted raised_any (runs_chosen P k.choice count f v) v
-        (ran_any P k.choice count f room v))
+        (ran_any P changes k.choice count f room v))
 
     -- a receiver stands somewhere among the operands
     room_of_receiver : (kinds : List FieldKind) (f : Frame) (v : Value) → receiver_under kinds f.operands ≡ Some v
@@ -378,29 +402,29 @@ module _ (Is : Row → Type 0) (HasRoom : Frame → Type 0) (up : GoesUp Is HasR
         of true e = up.room f (length kinds) v (reference_top (dropped (length kinds) f.operands) v e)
         of false e = absurd cc
 
-    pub instance_call_any : (P : Tables) (k : InstanceCall) (f : Frame) → Is (call_instance P k f)
-    instance_call_any P k f =
+    pub instance_call_any : (P : Tables) → OfChanges Is P → (k : InstanceCall) (f : Frame) → Is (call_instance P k f)
+    instance_call_any P changes k f =
         needed_any (parameters_at P k.caller k.descriptor) _ (λ kinds.
         needing_any Is up.halted (receiver_under kinds f.operands) _ (λ v is.
-        on_any P k (length kinds + 1) f (room_of_receiver kinds f v is) v))
+        on_any P changes k (length kinds + 1) f (room_of_receiver kinds f v is) v))
 
-    print_on_any : (P : Tables) (text : List ℕ) (count : ℕ) (k : InstanceCall) (f : Frame) → HasRoom f → (v : Value)
+    print_on_any : (P : Tables) → OfChanges Is P → (text : List ℕ) (count : ℕ) (k : InstanceCall) (f : Frame) → HasRoom f → (v : Value)
         → Is (print_on P text count k f v)
-    print_on_any P text count k f room v =
-        either_any (is_out v) _ _ (out.printed text _ (up.stayed _ _ _)) (on_any P k count f room v)
+    print_on_any P changes text count k f room v =
+        either_any (is_out v) _ _ (out.printed text _ (up.stayed _ _ _)) (on_any P changes k count f room v)
 
-    pub print_any : (P : Tables) (what : Printed) (line : Bool) (k : InstanceCall) (f : Frame)
+    pub print_any : (P : Tables) → OfChanges Is P → (what : Printed) (line : Bool) (k : InstanceCall) (f : Frame)
         → Is (print_value P what line k f)
-    print_any P what line k f =
+    print_any P changes what line k f =
         needing_any Is up.halted (top f.operands) _ (λ v is.
         needed_any (printed_text P what v) _ (λ text.
         needed_any (top_as Reference (rest f.operands)) _ (λ w.
-        print_on_any P (ended line text) 2 k f (up.room f 0 v is) w)))
+        print_on_any P changes (ended line text) 2 k f (up.room f 0 v is) w)))
 
-    pub line_any : (P : Tables) (k : InstanceCall) (f : Frame) → Is (end_line P k f)
-    line_any P k f =
+    pub line_any : (P : Tables) → OfChanges Is P → (k : InstanceCall) (f : Frame) → Is (end_line P k f)
+    line_any P changes k f =
         needing_any Is up.halted (top_as Reference f.operands) _ (λ w is.
-        print_on_any P (10 ∷ []) 1 k f (up.room f 0 w (reference_top f.operands w is)) w)
+        print_on_any P changes (10 ∷ []) 1 k f (up.room f 0 w (reference_top f.operands w is)) w)
 
     -- ---- a thread's start
 

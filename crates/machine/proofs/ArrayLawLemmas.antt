@@ -34,7 +34,7 @@ use Rattle.machine.specs.declared.array_operation.ArrayOperation.TheVariants as 
 use Rattle.machine.specs.Arrays.{type_of_primitives, zero_of, stored_as, unless_trapped, array_type}
 use Rattle.machine.specs.Arrays.{served_type, slot_at, size_of, can_hold, make_array, array_length, at_element}
 use Rattle.machine.specs.Arrays.{load_element, is_checked, if_held, check_store, store_element, array_row}
-use Rattle.machine.specs.ObjectParts.{slot_in, ask_class_of}
+use Rattle.machine.specs.ObjectParts.{slot_in, size_in, ask_class_of}
 use Rattle.machine.specs.RowParts.{halts, needing, goes_on, push, raises}
 use Rattle.machine.specs.StoredKinds.{top_stored}
 use Rattle.machine.proofs.StoredKindsLemmas.{stored_kept}
@@ -76,7 +76,7 @@ module _ (P : Tables) {N : Name → Type 0} {Q : Value → Type 0} (kept : IsKep
         hx,
         λ class. trapped_suits (served_type kind class) _ (λ a. (
           hx,
-          λ part hp. trapped_suits (slot_at index (int_of (slot_in part 0))) (go x a) (λ slot. on x a slot hx),
+          λ part hp. trapped_suits (slot_at index (size_in part)) (go x a) (λ slot. on x a slot hx),
         )),
       ))
 

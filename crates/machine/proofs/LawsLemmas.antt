@@ -16,6 +16,8 @@ use Rattle.machine.specs.Linked.{program_of, initializer_frame, initialized_by}
 use Rattle.machine.specs.Laws.{AreSound, LinkedTablesAreSound, TableIsLawful}
 use Rattle.machine.proofs.LawsStaticLemmas.{plain_statics, mains_apart}
 use Rattle.machine.proofs.LawsFinalLemmas.{finals_written}
+use Rattle.machine.proofs.LawsSlotLemmas.{slots_past}
+use Rattle.machine.proofs.NamedTableLemmas.{failing_keeps, orphaned_keeps, row_keeps}
 use Rattle.machine.proofs.LinkedLemmas.{found_class_has, initializer_frame_is}
 use Rattle.machine.proofs.CallLawLemmas.{blank_has}
 use Rattle.machine.proofs.TableLawLemmas.{row_suits}
@@ -57,6 +59,9 @@ lawful_over P sound = record {
   row = λ known. row_suits sound (names_kept known) (λ d m place s is. tt);
   failing = λ known own c x h. (h, failing_suits P known own x h);
   orphaned = λ known own c. (tt, λ x h. (h, tt));
+  row_named = row_keeps P sound;
+  failing_named = λ c x. failing_keeps P x;
+  orphaned_named = λ c. orphaned_keeps P;
   plain_failing = λ c x. failing_plain P x;
   plain_orphaned = λ c x. tt;
   initializer_names = initializer_known P;
@@ -70,6 +75,7 @@ pub linked_tables_are_sound_lem : LinkedTablesAreSound
 linked_tables_are_sound_lem P is = record {
   statics = plain_statics P is;
   finals = finals_written P is;
+  slots = slots_past P is;
   mains = mains_apart P is;
 }
 

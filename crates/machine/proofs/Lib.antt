@@ -25,4 +25,8 @@ pub mod MemberLawLemmas
 pub mod CallLawLemmas
 pub mod TableLawLemmas
 pub mod LawsFinalLemmas
+pub mod EnumSlotsLemmas
+pub mod LawsSlotLemmas
+pub mod NamedChangesLemmas
+pub mod NamedTableLemmas
 pub mod LawsLemmas

@@ -10,8 +10,9 @@ use Rattle.built_in.specs.declared.class_id.ClassId.TheVariants.{Given, BuiltIn,
 use Rattle.built_in.specs.declared.method.BuiltInMethod.{BuiltInMethod}
 use Rattle.built_in.specs.declared.method.BuiltInMethod.TheVariants as members
 use Rattle.vm_state.specs.declared.ends.FaultKind.{FaultKind}
-use Rattle.vm_state.specs.declared.ends.FaultKind.TheVariants.{Fault}
+use Rattle.vm_state.specs.declared.ends.FaultKind.TheVariants.{Fault, Unsupported}
 use Rattle.vm_state.specs.declared.value.Value.{Value}
+use Rattle.vm_state.specs.declared.value.Value.TheVariants as values
 use Rattle.vm_state.specs.declared.value.Name.{Name}
 use Rattle.vm_state.specs.declared.frame.Frame.{Frame}
 use Rattle.vm_state.specs.Operands.{top, rest}
@@ -21,12 +22,13 @@ use Rattle.semantics.specs.Lawful.{HoldsOfSlots, HoldsOfFrame, FitsBy}
 use Rattle.semantics.proofs.KeptLemmas.{IsKept}
 use Rattle.program.specs.Tables.{Tables}
 use Rattle.frame_instructions.specs.declared.operand_kind.OperandKind.TheVariants.{Int, Reference}
+use Rattle.frame_instructions.specs.Instructions.{is_null}
 use Rattle.frame_instructions.specs.OperandKinds.{top_as}
 use Rattle.frame_instructions.proofs.LawsFrameLemmas.{top_has, rest_has, as_kind_has}
 use Rattle.machine.specs.RowParts.{halts, drops}
-use Rattle.machine.specs.ObjectParts.{slot_in, set_named, look_into_named}
+use Rattle.machine.specs.ObjectParts.{slot_in, look_into_slot, set_named, look_into_named}
 use Rattle.machine.specs.Objects.{is_of}
-use Rattle.machine.specs.Members.{on_enum, new_enum, replaced, or_slot, enum_part, copy_of, clone_if_array}
+use Rattle.machine.specs.Members.{on_enum, name_once, new_enum, replaced, or_slot, enum_part, copy_of, clone_if_array}
 use Rattle.machine.specs.Members.{member_row}
 use Rattle.machine.specs.Linked.{program_of}
 use Rattle.machine.proofs.CallsLemmas.{dropped_has}
@@ -61,6 +63,13 @@ module _ (P : Tables) {N : Name → Type 0} {Q : Value → Type 0} (kept : IsKep
     replaced_suits : (v : Value) → Q v → Suits (replaced v f)
     replaced_suits v hv = push_on_suits P kept own f h (rest f.operands) (rest_has Q f.operands h.0) v hv
 
+    name_once_suits : (x : Name) → N x → (name ordinal : Value) → Q name → Q ordinal → (o : Option Value)
+        → Suits (name_once x name ordinal f o)
+    name_once_suits x hx name ordinal hn ho (Some values.Null) =
+        either (is_null name) (halts Unsupported) (set_named x name ordinal (drops 3 f)) (halted Unsupported)
+        (hx, hn, (hx, ho, drops_suits 3))
+    name_once_suits x hx name ordinal hn ho other = halted Fault
+
     new_enum_suits : (v : Value) → Q v → Suits (new_enum P v f)
     new_enum_suits v hv =
         needing_such Suits halted Q (top_as Int f.operands) _
@@ -68,8 +77,8 @@ module _ (P : Tables) {N : Name → Type 0} {Q : Value → Type 0} (kept : IsKep
         needing_such Suits halted Q (top_as Reference (rest f.operands)) _
         (as_kind_has Q Reference (top (rest f.operands))
         (top_has Q (rest f.operands) (rest_has Q f.operands h.0))) (λ name hn.
-        on_enum_suits v (λ x. set_named x name ordinal (drops 3 f)) hv
-        (λ x hx. (hx, hn, (hx, ho, drops_suits 3)))))
+        on_enum_suits v (λ x. look_into_slot x 0 (name_once x name ordinal f)) hv
+        (λ x hx. (hx, λ vs hvs. name_once_suits x hx name ordinal hn ho (slot_in vs 0)))))
 
     or_slot_suits : (x : Name) → N x → (slot : ℕ) (o : Option Value) → IfSome o Q
         → Suits (or_slot x slot f o)

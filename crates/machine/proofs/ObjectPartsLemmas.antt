@@ -6,10 +6,11 @@ use Rattle.vm_state.specs.declared.value.Name.{Name}
 use Rattle.vm_state.specs.Values.{name_of, int_of}
 use Rattle.built_in.specs.declared.class_id.ClassId.{ClassId}
 use Rattle.vm_state.specs.SharedState.{SharedState, pool_of, slots_at}
-use Rattle.semantics.specs.Rows.{Row, AskClass, Length, part_of, int_length}
+use Rattle.semantics.specs.Rows.{Row, AskClass, Slots, Length, part_of, int_length}
 use Rattle.machine.specs.declared.kinds.Actor.{Actor}
 use Rattle.machine.specs.Sharing.{run_shared}
-use Rattle.machine.specs.ObjectParts.{slot_in, ask_length, ask_class_of, without_object, with_object}
+use Rattle.machine.specs.ObjectParts.{slot_in, size_in, count_slots, ask_length, ask_class_of, without_object}
+use Rattle.machine.specs.ObjectParts.{with_object}
 
 pub class_asked : (v : Value) (x : Name) (next : Option ClassId → Row) → name_of v ≡ Some x
     → ask_class_of v next ≡ AskClass x next
@@ -32,6 +33,20 @@ length_asked by sh x o next is =
   where
     read : (s : Option (List Value)) →
         run_shared by sh (next (int_of (slot_in (option_and_then (part_of Length) s) 0)))
+        ≡ run_shared by sh (next (option_map (λ (vs : List Value). int_length (length vs)) s))
+    read None = refl
+    read (Some vs) = refl
+
+-- the same, before one of them is looked into
+pub slots_counted : (by : Actor) (sh : SharedState) (x : Name) (o : Option (List Value)) (next : Option ℤ → Row)
+    → slots_at (pool_of sh x.maker) x.number ≡ o → run_shared by sh (count_slots x next)
+    ≡ run_shared by sh (next (option_map (λ (vs : List Value). int_length (length vs)) o))
+slots_counted by sh x o next is =
+    ap (λ (s : Option (List Value)). run_shared by sh (next (size_in (option_and_then (part_of Slots) s)))) is
+    ∙ read o
+  where
+    read : (s : Option (List Value)) →
+        run_shared by sh (next (size_in (option_and_then (part_of Slots) s)))
         ≡ run_shared by sh (next (option_map (λ (vs : List Value). int_length (length vs)) s))
     read None = refl
     read (Some vs) = refl

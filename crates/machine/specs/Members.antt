@@ -7,6 +7,7 @@ use Rattle.built_in.specs.declared.class_id.ClassId.TheVariants.{Given, BuiltIn,
 use Rattle.built_in.specs.declared.method.BuiltInMethod.{BuiltInMethod}
 use Rattle.built_in.specs.declared.method.BuiltInMethod.TheVariants as members
 use Rattle.vm_state.specs.declared.value.Value.{Value}
+use Rattle.vm_state.specs.declared.value.Value.TheVariants as values
 use Rattle.vm_state.specs.declared.value.Name.{Name}
 use Rattle.vm_state.specs.declared.ends.FaultKind.TheVariants as faults
 use Rattle.vm_state.specs.declared.frame.Frame.{Frame}
@@ -16,6 +17,7 @@ use Rattle.semantics.specs.Rows.{Row, AskClass, LookInto, Make, Slots}
 use Rattle.semantics.specs.Moves.{with_operands}
 use Rattle.program.specs.Tables.{Tables}
 use Rattle.frame_instructions.specs.declared.operand_kind.OperandKind.TheVariants.{Int, Reference}
+use Rattle.frame_instructions.specs.Instructions.{is_null}
 use Rattle.frame_instructions.specs.OperandKinds.{top_as}
 use Rattle.machine.specs.RowParts.{halts, needing, push, drops}
 use Rattle.machine.specs.ObjectParts.{look_into_slot, look_into_named, set_named, with_object}
@@ -28,12 +30,18 @@ abbrev pub on_enum : Tables → Value → (Name → Row) → Row
 on_enum P v go =
     with_object v (λ x. AskClass x (λ o. if is_of P (BuiltIn builtins.Enum) o then go x else halts faults.Fault))
 
+-- an Enum object has a name, which is not null, and is given it once
+abbrev pub name_once : Name → Value → Value → Frame → Option Value → Row
+name_once x name ordinal f (Some values.Null) =
+    if is_null name then halts faults.Unsupported else set_named x name ordinal (drops 3 f)
+name_once x name ordinal f _ = halts faults.Fault
+
 -- Enum's initialization method: its arguments are the name and, on top, the ordinal
 abbrev pub new_enum : Tables → Value → Frame → Row
 new_enum P v f =
     needing (top_as Int f.operands) (λ ordinal.
     needing (top_as Reference (rest f.operands)) (λ name.
-    on_enum P v (λ x. set_named x name ordinal (drops 3 f))))
+    on_enum P v (λ x. look_into_slot x 0 (name_once x name ordinal f))))
 
 -- in the place of the receiver
 abbrev pub replaced : Value → Frame → Row

@@ -95,8 +95,8 @@ pub fn element_at<S: Store>(
 {
     let (name, class) = array_at(by, store, array)?;
     let array = served_type(kind, class)?;
-    let length = store.length(by, name)?;
-    let slot = slot_at(index, length)?;
+    let size = store.size(by, name)?;
+    let slot = slot_at(index, size)?;
     Ok(Element { name, array, slot })
 }
 

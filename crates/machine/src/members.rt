@@ -76,6 +76,12 @@ fn new_enum<S: Store>(
     ) {
         return FAULT;
     }
+    let Some(Value::Null) = store.slot(by, object, 0)? else {
+        return FAULT;
+    };
+    if name == Value::Null {
+        return Ok(Conclusion::Halts(FaultKind::Unsupported));
+    }
     store.set_named(by, object, name, ordinal)?;
     Ok(drop_operands(frame, 3))
 }

@@ -100,6 +100,11 @@ impl Store for Shared {
     }
 
     #[inline(always)]
+    fn size(&self, _by: Actor, object: Name) -> Result<Option<i32>, Stop> {
+        Ok(length_of(self.slots(object)))
+    }
+
+    #[inline(always)]
     fn length(&self, _by: Actor, object: Name) -> Result<Option<i32>, Stop> {
         Ok(length_of(self.slots(object)))
     }

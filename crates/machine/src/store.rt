@@ -6,7 +6,7 @@ ghost use Rattle.vm_state.specs.declared.text.Line.{Line};
 ghost use Rattle.semantics.specs.Rows.{Row, UseClass, ReadStatic, WriteStatic, AskClass, LookInto, Change};
 ghost use Rattle.semantics.specs.Rows.{Make, UseMonitor, Slots as AllSlots};
 ghost use Rattle.machine.specs.Accesses.{Kept, Leads, LeadsOn};
-ghost use Rattle.machine.specs.ObjectParts.{look_into_slot, ask_length, look_into_named, set_named};
+ghost use Rattle.machine.specs.ObjectParts.{look_into_slot, count_slots, ask_length, look_into_named, set_named};
 ghost use Rattle.machine.specs.declared.kinds.Actor.{Actor as By};
 ghost use Rattle.machine.specs.declared.kinds.Stop.{Stop as Reason};
 
@@ -88,7 +88,15 @@ pub trait Store {
         ensures { (p : List Line) → Leads stopped (run by (state self.now p)) (run by (state self.now p))
             (look_into_slot object slot) result };
 
-    /// How many slots an object has, if it is held: an array's length.
+    /// How many slots an object has, if it is held, before one of them is looked into or changed.
+    ///
+    /// # Errors
+    /// The store's reason why it may not be looked into.
+    fn size(&self, by: Actor, object: Name) -> Result<Option<i32>, Stop>
+        ensures { (p : List Line) → Leads stopped (run by (state self.now p)) (run by (state self.now p))
+            (count_slots object) result };
+
+    /// How many slots an object has, if it is held, and nothing else of them: an array's length.
     ///
     /// # Errors
     /// The store's reason why it may not be looked into.

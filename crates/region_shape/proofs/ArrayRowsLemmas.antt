@@ -33,7 +33,7 @@ use Rattle.machine.specs.Arrays.{is_same_kind, is_served, served_type, slot_at, 
 use Rattle.machine.specs.Arrays.{array_length, at_element, load_element, is_checked, if_held, check_store}
 use Rattle.machine.specs.Arrays.{store_element}
 use Rattle.machine.specs.Arrays.{array_row}
-use Rattle.machine.specs.ObjectParts.{slot_in, ask_class_of}
+use Rattle.machine.specs.ObjectParts.{slot_in, size_in, ask_class_of}
 use Rattle.machine.specs.RowParts.{needing, goes_on, push}
 use Rattle.machine.specs.StoredKinds.{top_stored}
 use Rattle.machine.proofs.TableLemmas.{needing_any, needing_such}
@@ -137,7 +137,7 @@ module _ (P : Tables) (types : Types) where
   element_keeps kind v index go on =
       on_object_keeps P types v _ (λ x known.
       trapped P types (served_type kind (types x)) _ (λ a is vs seen.
-      trapped P types (slot_at index (int_of (slot_in vs 0))) (go x a) (λ slot at.
+      trapped P types (slot_at index (size_in vs)) (go x a) (λ slot at.
       let array = served_array kind (types x) a is in
       on x a slot array.0 array.1)))
 

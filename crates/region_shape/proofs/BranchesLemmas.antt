@@ -1,7 +1,6 @@
 -- Which way a quiet instruction went.
 use Rattle.std.proofs.Common.{◌≡◌, ◌⊎◌, Bool, true, false, cond, inl, inr, Option, Some, None, refl}
-use Rattle.semantics.specs.Rows.{Part, Slots, Length, Named}
-use Rattle.semantics.specs.Quiet.{QuietMove, Conduct, Leaves, is_open, at_hand}
+use Rattle.semantics.specs.Quiet.{QuietMove, Conduct, Leaves, at_hand}
 
 pub branch : (b : Bool) {x y : Conduct} {m : QuietMove} → cond b x y ≡ Leaves m
     → ((b ≡ true) × (x ≡ Leaves m)) ⊎ ((b ≡ false) × (y ≡ Leaves m))
@@ -12,8 +11,3 @@ pub at_hand_some : {A : Type 0} (o : Option A) {go : A → Conduct} {m : QuietMo
     → (a : A) × (o ≡ Some a) × (go a ≡ Leaves m)
 at_hand_some None h = absurd cc
 at_hand_some (Some a) h = (a, refl, h)
-
-pub closed : (part : Part) → is_open part ≡ false
-closed Slots = refl
-closed Length = refl
-closed Named = refl

@@ -9,6 +9,8 @@ use Rattle.built_in.specs.declared.class_id.ClassId.TheVariants.{Given, BuiltIn,
 use Rattle.built_in.specs.declared.method.BuiltInMethod.{BuiltInMethod}
 use Rattle.built_in.specs.declared.method.BuiltInMethod.TheVariants as members
 use Rattle.vm_state.specs.declared.value.Value.{Value}
+use Rattle.vm_state.specs.declared.value.Value.TheVariants as values
+use Rattle.vm_state.specs.declared.ends.FaultKind.TheVariants.{Unsupported}
 use Rattle.vm_state.specs.declared.value.Name.{Name}
 use Rattle.vm_state.specs.declared.frame.Frame.{Frame}
 use Rattle.vm_state.specs.Operands.{rest}
@@ -21,11 +23,13 @@ use Rattle.program.specs.declared.runtime_constant.FieldKind.TheVariants as kind
 use Rattle.program.specs.InstanceFields.{slots_of}
 use Rattle.program.specs.Tables.{Tables}
 use Rattle.frame_instructions.specs.declared.operand_kind.OperandKind.TheVariants.{Int, Reference}
+use Rattle.frame_instructions.specs.Instructions.{is_null}
 use Rattle.frame_instructions.specs.OperandKinds.{top_as}
-use Rattle.machine.specs.ObjectParts.{slot_in, set_named, look_into_named}
+use Rattle.machine.specs.ObjectParts.{slot_in, look_into_slot, set_named, look_into_named}
 use Rattle.machine.specs.Objects.{is_of}
-use Rattle.machine.specs.Members.{on_enum, new_enum, replaced, or_slot, enum_part, clone_if_array, member_row}
-use Rattle.machine.specs.RowParts.{drops}
+use Rattle.machine.specs.Members.{on_enum, name_once, new_enum, replaced, or_slot, enum_part, clone_if_array}
+use Rattle.machine.specs.Members.{member_row}
+use Rattle.machine.specs.RowParts.{halts, drops}
 use Rattle.machine.proofs.TableLemmas.{needing_any, needing_such}
 use Rattle.region_shape.specs.Suits.{suits}
 use Rattle.region_shape.specs.Shapes.{AreSlots}
@@ -66,14 +70,22 @@ module _ (P : Tables) (fits : IsFamily P.family) (within : AreParentsWithin P.fa
   ordinal_fits (Some (Given c)) v is h = slot_suits c 1 kinds.Int v (enum_slots P.family fits within c is).1 h
 
   module _ (f : Frame) where
+    name_once_keeps : (x : Name) → is_of P (BuiltIn Enum) (types x) ≡ true → (name ordinal : Value)
+        → suits kinds.Reference name ≡ true → suits kinds.Int ordinal ≡ true → (o : Option Value)
+        → Keeps (name_once x name ordinal f o)
+    name_once_keeps x is name ordinal hn ho (Some values.Null) =
+        either P types (is_null name) (halts Unsupported) (set_named x name ordinal (drops 3 f)) (λ null. tt)
+        (name_fits (types x) name is hn, (ordinal_fits (types x) ordinal is ho, tt))
+    name_once_keeps x is name ordinal hn ho other = tt
+
     new_enum_keeps : (v : Value) → Keeps (new_enum P v f)
     new_enum_keeps v =
         needing_such Keeps (halted P types) (λ w. suits kinds.Int w ≡ true) (top_as Int f.operands) _
         (ordinal_suits f.operands) (λ ordinal ho.
         needing_such Keeps (halted P types) (λ w. suits kinds.Reference w ≡ true) (top_as Reference (rest f.operands)) _
         (name_suits (rest f.operands)) (λ name hn.
-        on_enum_keeps v (λ x. set_named x name ordinal (drops 3 f)) (λ x is.
-        (name_fits (types x) name is hn, (ordinal_fits (types x) ordinal is ho, tt)))))
+        on_enum_keeps v (λ x. look_into_slot x 0 (name_once x name ordinal f)) (λ x is vs seen.
+        name_once_keeps x is name ordinal hn ho (slot_in vs 0))))
 
     or_slot_keeps : (x : Name) (slot : ℕ) (o : Option Value) → Keeps (or_slot x slot f o)
     or_slot_keeps x slot None = λ vs seen.

@@ -91,6 +91,8 @@ module _ (P : Program) (lawful : IsLawful P) (env : Environment) (all : AreClose
         keeps_values P env c (λ x. known x ≡ true) (Knows known) (λ n. tt) m.region.pool.count
         (λ d r at k. Knows-mono (is_there env d r) known (named_there env d c r m.region at none) (r.fields k)
         ((all d r at).statics k))
+        (λ d r at n. KnowsSlots-mono (is_there env d r) known (named_there env d c r m.region at none)
+        (slots_at r.pool n) ((all d r at).slots n))
         (λ k small. rw (eq-eqb c c refl) (lt-ltb k m.region.pool.count small))
         (P.row f) own 0 m
         (lawful.row known (λ d. true) f left.0 (λ d e. refl))

@@ -20,7 +20,7 @@ use Rattle.vm_state.proofs.ListLemmas.{tested}
 use Rattle.semantics.specs.Rows.{Part, Slots, Length, Named, Next, Raise, Halt, Row, Ends, UseClass, ReadStatic}
 use Rattle.semantics.specs.Rows.{WriteStatic, AskClass, LookInto, Change, Make, UseMonitor, Print, part_at, part_of}
 use Rattle.semantics.specs.Quiet.{Environment, is_final, pool_seen, QuietMove, Leaves, Stops, Refused, Barred}
-use Rattle.semantics.specs.Quiet.{ForeignObject, is_open, elements_in, quiet, quiet_step}
+use Rattle.semantics.specs.Quiet.{ForeignObject, is_open, fixed_at, elements_in, quiet, quiet_step}
 use Rattle.semantics.specs.Alone.{RunsAlone, Over, Step}
 use Rattle.semantics.proofs.PoolsLemmas.{with_slot-shape, shape-class}
 use Rattle.semantics.proofs.TestsLemmas.{same_maker-true}
@@ -35,7 +35,8 @@ use Rattle.region_shape.specs.Shapes.{SuitsStatic, HasObjects, AreElements, AreS
 use Rattle.region_shape.proofs.KeepsShape.{Types, HasObjectsIfKnown, AreSlotsSeen, SuitsSlot, IsRaise, IsEnd}
 use Rattle.region_shape.proofs.KeepsShape.{KeepsShape}
 use Rattle.region_shape.specs.Laws.{IsLinked, HaveShape}
-use Rattle.region_shape.proofs.BranchesLemmas.{branch, at_hand_some, closed}
+use Rattle.region_shape.proofs.BranchesLemmas.{branch, at_hand_some}
+use Rattle.semantics.proofs.BranchesLemmas.{fixed_value}
 use Rattle.region_shape.proofs.TableRowsLemmas.{row_keeps}
 
 -- ---- slots
@@ -100,6 +101,15 @@ module _ (P : Tables) where
           (option_and_then (part_of part) (option_map (λ (x : Object). x.slots) o))
       by None all = tt
       by (Some x) all = by_part part x (all x refl)
+
+-- of an open part nothing is asked
+open_seen : (P : Tables) (part : Part) (o : Option ClassId) (vs : Option (List Value)) → is_open part ≡ true
+    → AreSlotsSeen P o part vs
+open_seen P Slots o vs is = absurd cc
+open_seen P Length None vs is = tt
+open_seen P Length (Some class) vs is = tt
+open_seen P Named None vs is = tt
+open_seen P Named (Some class) vs is = tt
 
 -- the class of an object of a pool, if it is seen
 abbrev pub class_in : Option Pool → ℕ → Option ClassId
@@ -283,7 +293,11 @@ module _ (P : Tables) (env : Environment) (shaped : HaveShape P env) (c : ℕ) w
             (part_seen P part own.pool x.number (shape.objects x.number))))
             agrees shape on.1
         | inr other ↦ elim (branch (is_open part) other.1) [
-          | inl open_part ↦ absurd (let clash : true ≡ false = sym open_part.0 ∙ closed part in cc)
+          | inl open_part ↦
+              let at = at_hand_some (pool_seen env c own x.maker) open_part.1 in
+              let fixed = fixed_value (fixed_at (program_of P) part at.0 x.number) _ at.2 in
+              quiet_keeps (next (Some fixed.0)) types own n m
+              (keeps (Some fixed.0) (open_seen P part (types x) (Some fixed.0) open_part.0)) agrees shape fixed.2
           | inr shut ↦ absurd (let clash : Stops (Refused ForeignObject) ≡ Leaves m = shut.1 in cc)
         ]
       ]

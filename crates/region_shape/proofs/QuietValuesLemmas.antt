@@ -1,21 +1,25 @@
 -- What quiet instructions leave: c's objects are never fewer, and what holds of the values that they are given holds of
 -- those that they leave.
-use Rattle.std.proofs.Common.{◌≡◌, ℕ, ℤ, ◌+◌, ◌<◌, ◌≤◌, ◌==◌, true, false, inl, inr, Some, sym, ◌∙◌}
+use Rattle.std.proofs.Common.{◌≡◌, ℕ, ℤ, ◌+◌, ◌<◌, ◌≤◌, ◌==◌, true, false, inl, inr, List, Some}
 use Rattle.std.proofs.Common.{subst, arith}
+use Rattle.std.specs.List.{AllByRecursion}
 use Rattle.vm_state.specs.declared.value.Value.{Value}
 use Rattle.vm_state.specs.declared.value.Value.TheVariants.{Int}
 use Rattle.vm_state.specs.declared.value.Name.{Name}
+use Rattle.vm_state.specs.declared.value.Maker.{Maker}
 use Rattle.vm_state.specs.declared.value.Maker.TheVariants.{Class}
-use Rattle.vm_state.specs.SharedState.{Region, same_maker, with_field, with_slot, with_new, class_at}
+use Rattle.vm_state.specs.SharedState.{Pool, Region, same_maker, with_field, with_slot, with_new, class_at}
 use Rattle.vm_state.proofs.ListLemmas.{tested}
 use Rattle.semantics.specs.Rows.{Next, Raise, Halt, Row, Ends, UseClass, ReadStatic}
-use Rattle.semantics.specs.Rows.{WriteStatic, AskClass, LookInto, Change, Make, UseMonitor, Print, part_at}
+use Rattle.semantics.specs.Rows.{WriteStatic, AskClass, LookInto, Change, Make, UseMonitor, Print, Part, part_at}
 use Rattle.semantics.specs.Programs.{Program}
 use Rattle.semantics.specs.Quiet.{Environment, is_final, pool_seen, QuietMove, Leaves, Stops, Refused, Barred}
-use Rattle.semantics.specs.Quiet.{ForeignObject, is_open, elements_in, quiet}
-use Rattle.semantics.specs.Lawful.{HoldsOfMove, FitsBy}
-use Rattle.semantics.proofs.PoolsLemmas.{HoldsOfPool, with_slot-has, with_new-has, part_at-has}
-use Rattle.region_shape.proofs.BranchesLemmas.{branch, at_hand_some, closed}
+use Rattle.semantics.specs.Quiet.{ForeignObject, is_open, fixed_at, elements_in, quiet}
+use Rattle.semantics.specs.Lawful.{HoldsOfSlots, HoldsOfMove, FitsBy}
+use Rattle.semantics.proofs.PoolsLemmas.{HoldsOfPool, with_slot-has, with_new-has, part_at-has, fixed-part}
+use Rattle.semantics.proofs.WithinNamesLemmas.{pool_of_other}
+use Rattle.region_shape.proofs.BranchesLemmas.{branch, at_hand_some}
+use Rattle.semantics.proofs.BranchesLemmas.{fixed_value}
 
 module _ (P : Program) (env : Environment) (c : ℕ) where
   -- c's objects are never fewer
@@ -48,7 +52,10 @@ module _ (P : Program) (env : Environment) (c : ℕ) where
   grows (LookInto x part next) own n m q = elim (branch (same_maker (Class c) x.maker) q) [
     | inl on ↦ grows (next (part_at part own.pool x.number)) own n m on.1
     | inr other ↦ elim (branch (is_open part) other.1) [
-      | inl open_part ↦ absurd (let clash : true ≡ false = sym open_part.0 ∙ closed part in cc)
+      | inl open_part ↦
+          let at = at_hand_some (pool_seen env c own x.maker) open_part.1 in
+          let fixed = fixed_value (fixed_at P part at.0 x.number) _ at.2 in
+          grows (next (Some fixed.0)) own n m fixed.2
       | inr shut ↦ absurd (let clash : Stops (Refused ForeignObject) ≡ Leaves m = shut.1 in cc)
     ]
   ]
@@ -70,10 +77,20 @@ module _ (P : Program) (env : Environment) (c : ℕ) where
     pub slots : HoldsOfPool Q m.region.pool
     pub move : HoldsOfMove Q m.move
 
-  -- where it holds of ints, of the finals at hand, and of c's own names below a count
+  -- where it holds of ints, of the finals and the objects at hand, and of c's own names below a count
   module _ (N : Name → Type 0) (Q : Value → Type 0) (ints : (n : ℤ) → Q (Int n)) (last : ℕ)
       (finals : (d : ℕ) (r : Region) → env d ≡ Some r → (f : ℕ) → Q (r.fields f))
+      (pools : (d : ℕ) (r : Region) → env d ≡ Some r → HoldsOfPool Q r.pool)
       (fresh : (k : ℕ) → k < last → N (record { maker = Class c; number = k })) where
+    -- what is fixed of the objects at hand
+    fixed_has : (own : Region) (maker : Maker) (p : Pool) → same_maker (Class c) maker ≡ false
+        → pool_seen env c own maker ≡ Some p → (part : Part) (k : ℕ) (vs : List Value)
+        → fixed_at P part p k ≡ Some vs → AllByRecursion Q vs
+    fixed_has own maker p other is part k vs fixed =
+        let found = pool_of_other env c own maker p other is in
+        let all : HoldsOfPool Q p = subst (HoldsOfPool Q) found.3 (pools found.0 found.1 found.2) in
+        subst (HoldsOfSlots Q) (fixed-part P part p k vs fixed) (part_at-has Q ints part p k all)
+
     written : (own : Region) (f : ℕ) (v : Value) → ((k : ℕ) → Q (own.fields k)) → Q v
         → (k : ℕ) → Q ((with_field own f v).fields k)
     written own f v h hv k = elim (tested (k == f)) [ inl e ↦ rw e hv | inr e ↦ rw e (h k) ]
@@ -116,7 +133,12 @@ module _ (P : Program) (env : Environment) (c : ℕ) where
               (fits.1 (part_at part own.pool x.number) (part_at-has Q ints part own.pool x.number slots)) statics slots
               few on.1
           | inr other ↦ elim (branch (is_open part) other.1) [
-            | inl open_part ↦ absurd (let clash : true ≡ false = sym open_part.0 ∙ closed part in cc)
+            | inl open_part ↦
+                let at = at_hand_some (pool_seen env c own x.maker) open_part.1 in
+                let fixed = fixed_value (fixed_at P part at.0 x.number) _ at.2 in
+                keeps_values (next (Some fixed.0)) own n m
+                (fits.1 (Some fixed.0)
+                (fixed_has own x.maker at.0 other.0 at.1 part x.number fixed.0 fixed.1)) statics slots few fixed.2
             | inr shut ↦ absurd (let clash : Stops (Refused ForeignObject) ≡ Leaves m = shut.1 in cc)
           ]
         ]

@@ -1,6 +1,6 @@
 -- A region is no larger than what it cost.
-use Rattle.std.proofs.Common.{◌≡◌, ℕ, ◌+◌, ◌≤◌, ◌==◌, true, false, inl, inr, List, Option, Some, None}
-use Rattle.std.proofs.Common.{slice_set, option_map, refl, sym, ◌∙◌, subst, arith}
+use Rattle.std.proofs.Common.{◌≡◌, ℕ, ◌+◌, ◌≤◌, ◌==◌, true, inl, inr, List, Option, Some, None}
+use Rattle.std.proofs.Common.{slice_set, option_map, refl, sym, subst, arith}
 use Rattle.std.proofs.lemmas.List.{length-set}
 use Rattle.std.proofs.lemmas.Option.{same_Some}
 use Rattle.built_in.specs.declared.class_id.ClassId.{ClassId}
@@ -16,14 +16,15 @@ use Rattle.semantics.specs.Rows.{Next, Raise, Halt, Row, Ends, UseClass, ReadSta
 use Rattle.semantics.specs.Rows.{Change, Make, UseMonitor, Print, part_at}
 use Rattle.semantics.specs.Programs.{Program}
 use Rattle.semantics.specs.Quiet.{Environment, is_final, pool_seen, QuietMove, Leaves, Stops, Refused, Barred}
-use Rattle.semantics.specs.Quiet.{ForeignObject, is_open, elements_in, quiet}
+use Rattle.semantics.specs.Quiet.{ForeignObject, is_open, fixed_at, elements_in, quiet}
 use Rattle.semantics.specs.Alone.{RunsAlone, Over, Step}
 use Rattle.program.specs.Tables.{Tables}
 use Rattle.machine.specs.Linked.{program_of}
 use Rattle.region_shape.specs.Shapes.{HasShape}
 use Rattle.region_shape.specs.Sizes.{IsWithin}
 use Rattle.region_shape.specs.Laws.{IsLinked, HaveShape}
-use Rattle.region_shape.proofs.BranchesLemmas.{branch, at_hand_some, closed}
+use Rattle.region_shape.proofs.BranchesLemmas.{branch, at_hand_some}
+use Rattle.semantics.proofs.BranchesLemmas.{fixed_value}
 use Rattle.region_shape.proofs.QuietShapeLemmas.{step_keeps}
 
 -- no array of more elements
@@ -91,7 +92,10 @@ module _ (P : Program) (env : Environment) (c : ℕ) where
   arrays_small (LookInto x part next) own b n m small q = elim (branch (same_maker (Class c) x.maker) q) [
     | inl on ↦ arrays_small (next (part_at part own.pool x.number)) own b n m small on.1
     | inr other ↦ elim (branch (is_open part) other.1) [
-      | inl open_part ↦ absurd (let clash : true ≡ false = sym open_part.0 ∙ closed part in cc)
+      | inl open_part ↦
+          let at = at_hand_some (pool_seen env c own x.maker) open_part.1 in
+          let fixed = fixed_value (fixed_at P part at.0 x.number) _ at.2 in
+          arrays_small (next (Some fixed.0)) own b n m small fixed.2
       | inr shut ↦ absurd (let clash : Stops (Refused ForeignObject) ≡ Leaves m = shut.1 in cc)
     ]
   ]

@@ -1,6 +1,6 @@
 -- The initialization of a class begins.
 use Rattle.std.proofs.Common.{◌≡◌, ℕ, ◌+◌, ◌<◌, ◌≤◌, true, false, inl, inr, List, [], ◌∷◌, length, ◌==◌, refl, sym, ap}
-use Rattle.std.proofs.Common.{◌∙◌, subst}
+use Rattle.std.proofs.Common.{◌∙◌, subst, Bool, cond}
 use Rattle.std.proofs.Common.{eqb-true, eq-eqb, arith}
 use Rattle.vm_state.specs.declared.value.Maker.TheVariants.{Class}
 use Rattle.vm_state.specs.declared.classes.ClassState.TheVariants.{Uninitialized, InProgress, Initialized, Erroneous}
@@ -13,6 +13,7 @@ use Rattle.semantics.specs.Steps.{Going, initialization_of}
 use Rattle.semantics.specs.Worlds.{World, blank_region}
 use Rattle.semantics.specs.Settling.{constant_region}
 use Rattle.semantics.specs.Erasure.{IsErasedState}
+use Rattle.semantics.specs.Lawful.{KeepsNamed}
 use Rattle.vm_state.proofs.ListLemmas.{tested}
 use Rattle.semantics.proofs.KnownNamesLemmas.{Fewer}
 use Rattle.semantics.proofs.VisibilityLemmas.{shown, known, hidden_other, hidden_not, shown_from}
@@ -76,8 +77,15 @@ module _ (S : Setting) where
       (record { initialization = initialization_of S.P c; under = fs } ∷ ls) →
       Invariant.Changes S fuel (shared_out fuel c x) w.shared (begun_by w.shared t c) t
       (Going [] (record { initialization = initialization_of S.P c; under = fs } ∷ ls))
+  unfolding with_its_constants
   begin_changes fuel w t c x fs ls inv at un tower = record {
     sane = begin_sane w.shared t c inv.sane un;
+    named = λ d a s. elim (tested (d == c)) [
+      | inl e ↦ (let clash : InProgress t ≡ Initialized = rw e at s in cc)
+      | inr e ↦
+          subst (λ (b : Bool). KeepsNamed S.P (S.I.region d).pool
+          (cond b (with_its_constants w.shared c) (w.shared.regions d)).pool) (sym e) (inv.named d a (rw e at s))
+    ];
     sound = λ d a s. elim (tested (d == c)) [
       | inl e ↦ (let clash : InProgress t ≡ Erroneous = rw e at s in cc)
       | inr e ↦ inv.sound d a (rw e at s)

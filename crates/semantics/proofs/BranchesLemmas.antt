@@ -43,7 +43,13 @@ pub on_fixed : (o : Option (List Value)) (f g : Option (List Value) → Conduct)
 on_fixed None f g same is = cc
 on_fixed (Some vs) f g same is = same is
 
-pub from_fixed : (o : Option (List Value)) (f : Option (List Value) → Conduct) {m : QuietMove} → if_fixed o f ≡ Leaves m
-    → f o ≡ Leaves m
-from_fixed None f is = cc
-from_fixed (Some vs) f is = is
+-- what is at hand where an instruction is quiet that goes on with it, and what is fixed
+pub hand_value : {A : Type 0} (o : Option A) (f : A → Conduct) {m : QuietMove} → at_hand o f ≡ Leaves m
+    → (a : A) × (o ≡ Some a) × (f a ≡ Leaves m)
+hand_value None f is = cc
+hand_value (Some a) f is = (a, refl, is)
+
+pub fixed_value : (o : Option (List Value)) (f : Option (List Value) → Conduct) {m : QuietMove}
+    → if_fixed o f ≡ Leaves m → (vs : List Value) × (o ≡ Some vs) × (f (Some vs) ≡ Leaves m)
+fixed_value None f is = cc
+fixed_value (Some vs) f is = (vs, refl, is)

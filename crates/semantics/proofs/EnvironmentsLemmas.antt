@@ -7,10 +7,11 @@ use Rattle.vm_state.specs.declared.value.Maker.TheVariants.{Class, Thread}
 use Rattle.vm_state.specs.declared.frame.Frame.{Frame}
 use Rattle.vm_state.specs.SharedState.{Pool, Region, same_maker}
 use Rattle.semantics.specs.Rows.{Row, Ends, UseClass, ReadStatic, WriteStatic, AskClass, LookInto, Change, Make}
-use Rattle.semantics.specs.Rows.{UseMonitor, Print, part_at}
+use Rattle.semantics.specs.Rows.{UseMonitor, Print}
 use Rattle.semantics.specs.Rows.{Next, Raise, Halt}
 use Rattle.semantics.specs.Programs.{Program}
-use Rattle.semantics.specs.Quiet.{Environment, is_final, pool_seen, QuietMove, Leaves, is_open, quiet}
+use Rattle.semantics.specs.Quiet.{Environment, is_final, pool_seen, QuietMove, Leaves, is_open}
+use Rattle.semantics.specs.Quiet.{fixed_at, quiet}
 use Rattle.semantics.specs.Settling.{RunsBody, ByReturn, ByStep, ByCall, SettlesBy, Settles}
 use Rattle.semantics.proofs.BranchesLemmas.{on_same, on_value, on_fixed}
 
@@ -50,7 +51,7 @@ module _ (P : Program) (env wider : Environment) (more : Extends env wider) (c :
       on_same (same_maker (Class c) x.maker) (quiet-wider (next _) own n m)
       (on_same (is_open part)
       (on_value (pool_seen env c own x.maker) (pool_seen wider c own x.maker) (pool_seen-wider own x.maker)
-      (λ p. on_fixed (part_at part p x.number) _ _ (quiet-wider (next _) own n m)))
+      (λ p. on_fixed (fixed_at P part p x.number) _ _ (quiet-wider (next _) own n m)))
       (λ is. is))
   quiet-wider (Change x i v next) own n m = on_same (same_maker (Class c) x.maker) (quiet-wider next _ n m) (λ is. is)
   quiet-wider (Make class slots next) own n m = quiet-wider (next _) _ _ m

@@ -16,6 +16,7 @@ use Rattle.semantics.proofs.KnownNamesLemmas.{Fewer, KnowsFrames-mono}
 use Rattle.semantics.proofs.VisibilityLemmas.{States, shown}
 use Rattle.semantics.proofs.FrameMovesLemmas.{left_known}
 use Rattle.semantics.proofs.SettingLemmas.{Setting}
+use Rattle.semantics.proofs.SharedStatesLemmas as SharedStates
 use Rattle.semantics.proofs.AgreeingRowsLemmas as AgreeingRows
 use Rattle.semantics.proofs.OwnersLemmas.{own_of}
 use Rattle.semantics.proofs.StacksLemmas.{NoneAccepted, none_higher}
@@ -84,7 +85,9 @@ module _ (S : Setting) where
         (here_steps _ e) (there_steps _ (ev ∙ m.same))
         (record {
           inv = Invariant.invariant_put S fuel fuel w t sh' _ (going_within w t (f ∷ fs) ls at) b.inv
-              (VisibleSteps.row_changes S fuel w t outcome sh' rv _ b.inv away m stands);
+              (VisibleSteps.row_changes S fuel w t outcome sh' rv _ b.inv away m
+              (SharedStates.named_after S (S.P.row f) (S.lawful.row_named f) t (maker_of t ls) (maker_other t ls none)
+              w.shared sh' outcome e m.states b.inv.named) stands);
           erased =
               erased-both S.I w v t sh' m.other _ _ b.erased m.like
               (sym (VisibleSteps.cut_left S (left_in outcome (f ∷ fs)) (f ∷ fs) ls none));

@@ -5,12 +5,13 @@ use Rattle.std.proofs.Common.{arith, ltb-true}
 use Rattle.vm_state.specs.declared.classes.ClassState.TheVariants.{Uninitialized, InProgress, Initialized, Erroneous}
 use Rattle.vm_state.specs.declared.frame.Frame.{Frame}
 use Rattle.vm_state.specs.declared.initialization.Level.{Level}
-use Rattle.vm_state.specs.SharedState.{SharedState, set_state}
+use Rattle.vm_state.specs.SharedState.{Region, SharedState, set_state}
 use Rattle.semantics.specs.Rows.{Outcome}
 use Rattle.semantics.specs.Steps.{Thread, Going}
 use Rattle.semantics.specs.Worlds.{World}
 use Rattle.semantics.specs.Quiet.{QuietMove}
 use Rattle.semantics.specs.Erasure.{is_hidden, IsErasedState}
+use Rattle.semantics.specs.Lawful.{KeepsNamed}
 use Rattle.vm_state.proofs.ListLemmas.{tested}
 use Rattle.semantics.proofs.KnownNamesLemmas.{Fewer}
 use Rattle.semantics.proofs.VisibilityLemmas.{States, shown, hidden_by, shown_from}
@@ -66,6 +67,7 @@ module _ (S : Setting) where
       Invariant.Changes S fuel fuel' w.shared w.shared t th
   stack_changes fuel fuel' w t th inv f1 f2 on stands = record {
     sane = inv.sane;
+    named = inv.named;
     sound = inv.sound;
     stands = stands;
     names = λ x h. h;
@@ -90,6 +92,12 @@ module _ (S : Setting) where
       let same : (d : ℕ) → sh'.states d ≡ w.shared.states d = λ d. ap (λ (st : States). st d) moved.states in
       record {
         sane = moved.sane;
+        named = λ d a s.
+            let old : w.shared.states d ≡ Initialized = sym (same d) ∙ s in
+            let other : w.shared.states d ≢ InProgress t =
+            λ h. (let clash : InProgress t ≡ Initialized = sym h ∙ old in cc) in
+            subst (λ (r : Region). KeepsNamed S.P (S.I.region d).pool r.pool)
+            (sym (moved.only.others d (apart w.shared.states c d t by other))) (inv.named d a old);
         sound = λ d a s. inv.sound d a (sym (same d) ∙ s);
         stands = tower;
         names = VisibleSteps.same_names S w.shared.states sh'.states moved.states;
@@ -159,6 +167,12 @@ module _ (S : Setting) where
       ] in
       record {
         sane = StateChanges.set_state-sane S w.shared inv.sane c Initialized names (λ ac e. settled);
+        named = λ d ad s. elim (tested (d == c)) [
+          | inl e ↦
+              subst (λ (k : ℕ). KeepsNamed S.P (S.I.region k).pool (w.shared.regions k).pool) (sym (eqb-true d c e))
+              (subst (λ (r : Region). KeepsNamed S.P (S.I.region c).pool r.pool) (sym settled) (λ n vs is. is))
+          | inr e ↦ inv.named d ad (rw e at s)
+        ];
         sound = λ d ad s. elim (tested (d == c)) [
           | inl e ↦ (let clash : Initialized ≡ Erroneous = rw e at s in cc)
           | inr e ↦ inv.sound d ad (rw e at s)

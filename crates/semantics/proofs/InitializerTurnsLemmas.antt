@@ -228,7 +228,7 @@ module _ (S : Setting) where
           (QuietRows.alone S t c on.holds w.shared.regions w.shared.pools w.shared.printed (S.P.row f) w.shared
           (w.shared.regions c) 0 refl
           (record { others = λ d e. refl; same_pools = λ u. refl; same_printed = refl })
-          b.inv.sane b.inv.sound on.by (free fuel w t (f ∷ fs) l ls b.inv on.at on.higher)
+          b.inv.sane b.inv.named b.inv.sound on.by (free fuel w t (f ∷ fs) l ls b.inv on.at on.higher)
           (S.lawful.row _ (λ d. true) f k.0 (λ d is. refl)) next.0 next.2)
 
     -- ---- the initialization on top

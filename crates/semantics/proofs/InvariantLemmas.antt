@@ -66,6 +66,7 @@ module _ (S : Setting) where
 
   pub record Invariant (fuel : Fuel) (w : World) : Type 0 where
     pub sane : SharedStates.IsSane S w.shared
+    pub named : SharedStates.HasNamed S w.shared.states w.shared.regions
     pub sound : AgreeingRows.NoneFailed S w.shared
     pub stands : (t : ℕ) → StandsAt w.shared fuel t (thread_at w t)
     -- an accepted class in progress has its initialization on its thread's stack
@@ -118,6 +119,7 @@ module _ (S : Setting) where
   -- what thread t's step, which leaves this shared state and this stack, has to show
   pub record Changes (fuel fuel' : Fuel) (sh sh' : SharedState) (t : ℕ) (th : Thread) : Type 0 where
     pub sane : SharedStates.IsSane S sh'
+    pub named : SharedStates.HasNamed S sh'.states sh'.regions
     pub sound : AgreeingRows.NoneFailed S sh'
     pub stands : StandsAt sh' fuel' t th
     pub names : Fewer (shown S.I sh.states) (shown S.I sh'.states)
@@ -143,6 +145,7 @@ module _ (S : Setting) where
       Changes fuel fuel' w.shared sh' t th → Invariant fuel' (put w t sh' th)
   invariant_put fuel fuel' w t sh' th within inv ch = record {
     sane = ch.sane;
+    named = ch.named;
     sound = ch.sound;
     stands = λ u. elim (tested (u == t)) [
       | inl e ↦ rw (thread_at-put w t u sh' th within, e, eqb-true u t e) ch.stands

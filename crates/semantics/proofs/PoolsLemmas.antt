@@ -1,7 +1,7 @@
 -- What a change of some objects keeps: whose names they hold, and their classes.
 use Rattle.std.proofs.Common.{◌≡◌, ℕ, ℤ, zero, suc, inl, inr, List, [], ◌∷◌, Option, Some, None, ◌==◌, refl, eqb-true}
 use Rattle.std.proofs.Common.{option_map, option_and_then, slice_set}
-use Rattle.std.proofs.Common.{true, ap, length}
+use Rattle.std.proofs.Common.{ap, length, subst}
 use Rattle.std.proofs.lemmas.List.{length-set}
 use Rattle.std.specs.List.{AllByRecursion}
 use Rattle.vm_state.specs.declared.value.Value.{Value}
@@ -12,9 +12,11 @@ use Rattle.vm_state.specs.declared.object.Monitor.{Monitor}
 use Rattle.vm_state.specs.SharedState.{Pool, with_object, with_slot, with_new, object_with_slot, class_at, slots_at}
 use Rattle.semantics.specs.Rows.{Part, Slots, Length, Named, named, int_length, part_of, part_at}
 use Rattle.vm_state.specs.SharedState.{object_with_monitor, with_monitor}
-use Rattle.semantics.specs.Quiet.{is_open}
+use Rattle.semantics.specs.Programs.{Program}
+use Rattle.semantics.specs.Quiet.{fixed_of, fixed_at}
 use Rattle.semantics.specs.Lawful.{Names, Knows, KnowsAll, KnowsSlots, HoldsOfSlots}
 use Rattle.vm_state.proofs.ListLemmas.{tested}
+use Rattle.semantics.proofs.BranchesLemmas.{on_true}
 
 -- ---- what objects hold
 
@@ -140,14 +142,29 @@ shape-class p q n same = by_objects (p.at n) (q.at n) same
     by_objects (Some o) None is = cc
     by_objects (Some o) (Some r) is = ap (option_map (λ (s : ClassId × ℕ). s.0)) is
 
-pub shape-part : (part : Part) (p q : Pool) (n : ℕ) → is_open part ≡ true → shape_at p n ≡ shape_at q n
-    → part_at part p n ≡ part_at part q n
-shape-part Slots p q n open_part same = cc
-shape-part Named p q n open_part same = cc
-shape-part Length p q n open_part same = by_objects (p.at n) (q.at n) same
+-- ---- what is fixed
+
+pub fixed-part : (P : Program) (part : Part) (p : Pool) (n : ℕ) (vs : List Value) → fixed_at P part p n ≡ Some vs
+    → part_at part p n ≡ Some vs
+fixed-part P part p n vs is = by_object (p.at n) is
+  where
+    of_object : (part : Part) (o : Object) → fixed_of P part o ≡ Some vs → part_of part o.slots ≡ Some vs
+    of_object Slots o h = cc
+    of_object Length o h = h
+    of_object Named o h = on_true (P.is_enum o.class) h (λ same. same)
+
+    by_object : (o : Option Object) → option_and_then (fixed_of P part) o ≡ Some vs
+        → option_and_then (part_of part) (slots_of o) ≡ Some vs
+    by_object None h = cc
+    by_object (Some o) h = of_object part o h
+
+-- an object with as many slots has the same length
+pub length-fixed : (P : Program) (p q : Pool) (n : ℕ) → shape_at p n ≡ shape_at q n
+    → fixed_at P Length p n ≡ fixed_at P Length q n
+length-fixed P p q n same = by_objects (p.at n) (q.at n) same
   where
     by_objects : (o r : Option Object) → shape_of o ≡ shape_of r →
-        option_and_then (part_of Length) (slots_of o) ≡ option_and_then (part_of Length) (slots_of r)
+        option_and_then (fixed_of P Length) o ≡ option_and_then (fixed_of P Length) r
     by_objects None None is = refl
     by_objects None (Some r) is = cc
     by_objects (Some o) None is = cc
@@ -159,13 +176,27 @@ pub part_at-holds : (known : Names) (part : Part) (p : Pool) (n : ℕ) → Holds
     → KnowsSlots known (part_at part p n)
 part_at-holds known part p n h = part_at-has (Knows known) (λ n. tt) part p n h
 
--- an open part holds no names
-pub open-known : (known : Names) (part : Part) (p : Pool) (n : ℕ) → is_open part ≡ true
-    → KnowsSlots known (part_at part p n)
-open-known known Slots p n open_part = cc
-open-known known Named p n open_part = cc
-open-known known Length p n open_part = by_slots (slots_at p n)
+-- what is fixed of an object that holds known names alone
+pub fixed_at-holds : (known : Names) (P : Program) (part : Part) (p : Pool) (n : ℕ) → Holds known p
+    → KnowsSlots known (fixed_at P part p n)
+fixed_at-holds known P part p n h = by_fixed (fixed_at P part p n) refl
   where
-    by_slots : (o : Option (List Value)) → KnowsSlots known (option_and_then (part_of Length) o)
-    by_slots None = tt
-    by_slots (Some vs) = (tt, tt)
+    by_fixed : (o : Option (List Value)) → fixed_at P part p n ≡ o → KnowsSlots known o
+    by_fixed None is = tt
+    by_fixed (Some vs) is =
+        subst (KnowsSlots known) (fixed-part P part p n vs is) (part_at-holds known part p n h)
+
+-- a length is no name
+pub fixed-known : (known : Names) (P : Program) (part : Part) (p : Pool) (n : ℕ)
+    → KnowsSlots known (fixed_at P Named p n) → KnowsSlots known (fixed_at P part p n)
+fixed-known known P Slots p n h = by_object (p.at n)
+  where
+    by_object : (o : Option Object) → KnowsSlots known (option_and_then (fixed_of P Slots) o)
+    by_object None = tt
+    by_object (Some o) = tt
+fixed-known known P Length p n h = by_object (p.at n)
+  where
+    by_object : (o : Option Object) → KnowsSlots known (option_and_then (fixed_of P Length) o)
+    by_object None = tt
+    by_object (Some o) = (tt, tt)
+fixed-known known P Named p n h = h

@@ -1,13 +1,16 @@
 -- What holds of a lazy world's shared state, what is the same in the image's, and how changes of both keep it.
-use Rattle.std.proofs.Common.{◌≡◌, ℕ, Bool, true, false, cond, inl, inr, ◌==◌, sym, ap, ◌∙◌, subst, eqb-true}
+use Rattle.std.proofs.Common.{◌≡◌, ◌≢◌, ℕ, Bool, true, false, cond, inl, inr, ◌==◌, sym, ap, ◌∙◌, subst, eqb-true}
 use Rattle.vm_state.specs.declared.value.Maker.{Maker}
 use Rattle.vm_state.specs.declared.value.Maker.TheVariants.{Class, Thread}
+use Rattle.vm_state.specs.declared.classes.ClassState.{ClassState}
 use Rattle.vm_state.specs.declared.classes.ClassState.TheVariants.{Initialized}
-use Rattle.vm_state.specs.SharedState.{Pool, Region, SharedState, pool_of, set_pool, set_region, slots_at}
+use Rattle.vm_state.specs.SharedState.{Pool, Region, SharedState, same_maker, pool_of, set_pool, set_region, slots_at}
+use Rattle.semantics.specs.Rows.{Row, Outcome, Moved, run_row}
 use Rattle.semantics.specs.Quiet.{is_final}
 use Rattle.semantics.specs.Erasure.{is_hidden, IsErasedState}
-use Rattle.semantics.specs.Lawful.{Knows, KnowsSlots}
+use Rattle.semantics.specs.Lawful.{Knows, KnowsSlots, KeepsNamed, LeavesNamed}
 use Rattle.vm_state.proofs.ListLemmas.{tested}
+use Rattle.semantics.proofs.TestsLemmas.{same_maker-true}
 use Rattle.semantics.proofs.PoolsLemmas.{Holds, shape_at}
 use Rattle.semantics.proofs.VisibilityLemmas.{hidden_maker, known}
 use Rattle.semantics.proofs.SettingLemmas.{Setting}
@@ -22,6 +25,24 @@ module _ (S : Setting) where
         (sh.regions c).fields f ≡ (S.I.region c).fields f
     pub classes : (c k : ℕ) → S.I.holds c ≡ true → sh.states c ≡ Initialized
         → shape_at (sh.regions c).pool k ≡ shape_at (S.I.region c).pool k
+
+  -- the names and ordinals of Enum objects that an accepted class's region has are there once it is done
+  abbrev pub HasNamed : (ℕ → ClassState) → (ℕ → Region) → Type 0
+  HasNamed states regions =
+      (c : ℕ) → S.I.holds c ≡ true → states c ≡ Initialized → KeepsNamed S.P (S.I.region c).pool (regions c).pool
+
+  -- a row whose new objects are counted by no accepted class keeps them
+  pub named_after : (row : Row) → LeavesNamed S.P row → (t : ℕ) (maker : Maker)
+      → ((c : ℕ) → S.I.holds c ≡ true → maker ≢ Class c) → (sh new : SharedState) (outcome : Outcome)
+      → run_row t maker sh row ≡ Moved outcome new → new.states ≡ sh.states → HasNamed sh.states sh.regions
+      → HasNamed new.states new.regions
+  named_after row leaves t maker other sh new outcome led same has c a done n vs is =
+      let apart : same_maker maker (Class c) ≡ false = elim (tested (same_maker maker (Class c))) [
+        | inl e ↦ absurd (other c a (same_maker-true maker (Class c) e))
+        | inr e ↦ e
+      ] in
+      leaves t maker sh outcome new led (Class c) apart n vs
+      (has c a (sym (ap (λ (st : ℕ → ClassState). st c) same) ∙ done) n vs is)
 
   -- ---- a region changes
 

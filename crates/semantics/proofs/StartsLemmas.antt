@@ -81,6 +81,7 @@ module _ (S : Setting) (entries : List ℕ) where
   unfolding first_fuel
   first_invariant = record {
     sane = first_sane;
+    named = λ c a s. cc;
     sound = λ c a e. cc;
     stands = λ t. stands_at t (thread_at lazy t) (starting S.P 0 entries t);
     busy = λ c t a s. (let clash : Uninitialized ≡ InProgress t = s in cc);

@@ -1,14 +1,19 @@
 -- The toy machine is lawful, where its code is sound.
-use Rattle.std.proofs.Common.{◌≡◌, ℕ, List, [], ◌∷◌, Option, Some, None, option_map, sym, subst, refl}
+use Rattle.std.proofs.Common.{◌≡◌, ℕ, List, [], ◌∷◌, Option, Some, None, option_map, option_and_then, sym, subst, refl}
+use Rattle.std.proofs.Common.{◌∙◌}
 use Rattle.std.specs.List.{AllByRecursion}
 use Rattle.vm_state.specs.declared.value.Value.{Value}
 use Rattle.vm_state.specs.declared.value.Name.{Name}
 use Rattle.built_in.specs.declared.class_id.ClassId.{ClassId}
 use Rattle.vm_state.specs.declared.ends.FaultKind.TheVariants.{Fault}
 use Rattle.vm_state.specs.declared.frame.Frame.{Frame}
+use Rattle.vm_state.specs.declared.object.Object.{Object}
+use Rattle.vm_state.specs.SharedState.{Pool, pool_of}
 use Rattle.vm_state.specs.Values.{name_of}
-use Rattle.semantics.specs.Lawful.{Names, KnowsName, KnowsAll, KnowsFrame, HoldsNoName, IsPlain, IsLawful}
-use Rattle.semantics.proofs.ToyMachine.{Code, method_frame, initialized_by, needing, fails_by, toy}
+use Rattle.semantics.specs.Rows.{Row, Named}
+use Rattle.semantics.specs.Quiet.{fixed_of, fixed_at}
+use Rattle.semantics.specs.Lawful.{Names, KnowsName, KnowsAll, KnowsFrame, HoldsNoName, IsPlain, LeavesNamed, IsLawful}
+use Rattle.semantics.proofs.ToyMachine.{Code, method_frame, initialized_by, needing, fails_by, toy_row, toy}
 use Rattle.semantics.proofs.ToyParts.{Admits, needing_holds, choice_holds}
 use Rattle.semantics.proofs.ToyRows.{toy_row_keeps, fails_by_keeps}
 
@@ -52,6 +57,18 @@ module _ (p : Code) where
       let same : method_frame p [] m ≡ f = cc in
       sound.initializers c d m is (subst (λ (g : Frame). initialized_by p g.activity ≡ Some d) (sym same) h)
 
+  -- the machine has no enums
+  pub none_named : (q : Pool) (n : ℕ) → fixed_at (toy p) Named q n ≡ None
+  none_named q n = by_object (q.at n)
+    where
+      by_object : (o : Option Object) → option_and_then (fixed_of (toy p) Named) o ≡ None
+      by_object None = refl
+      by_object (Some o) = refl
+
+  all_named : (row : Row) → LeavesNamed (toy p) row
+  all_named row t maker sh outcome new led m other n vs is =
+      (let clash : None ≡ Some vs = sym (none_named (pool_of sh m) n) ∙ is in cc)
+
 -- ---- the laws
 
 pub toy_is_lawful : (p : Code) → IsSound p → IsLawful (toy p)
@@ -59,6 +76,9 @@ toy_is_lawful p sound = record {
   row = λ known own f h ho. toy_row_keeps p known own (λ c. no_names known (p.slots c) (sound.slots c)) f h ho;
   failing = λ known own c x hx. (hx, λ o. fails_by_keeps p known own x o hx);
   orphaned = λ known own c. (tt, λ x hx. (hx, tt));
+  row_named = λ f. all_named p (toy_row p f);
+  failing_named = λ c x. all_named p ((toy p).failing c x);
+  orphaned_named = λ c. all_named p ((toy p).orphaned c);
   plain_failing = λ c x o. failing_plain p x o;
   plain_orphaned = λ c x. tt;
   initializer_names = λ known c f e. frame_knows p known (p.initializer c) f e;

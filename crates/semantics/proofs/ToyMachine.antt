@@ -238,5 +238,6 @@ toy p = record {
   parents = p.parents;
   statics = p.statics;
   initializes = initialized_by p;
+  is_enum = λ class. false;
   start = start_frame;
 }

@@ -24,7 +24,7 @@ use Rattle.semantics.specs.Steps.{step_initialization}
 use Rattle.semantics.specs.Steps.{step_thread, maker_of}
 use Rattle.semantics.specs.Worlds.{World, put_thread, step}
 use Rattle.semantics.specs.Erasure.{IsErasedState}
-use Rattle.semantics.specs.Lawful.{KnowsName, Fits, IsPlain}
+use Rattle.semantics.specs.Lawful.{KnowsName, Fits, IsPlain, LeavesNamed}
 use Rattle.semantics.specs.helpers.Lawful.{KnowsFrames}
 use Rattle.vm_state.proofs.ListLemmas.{tested}
 use Rattle.semantics.proofs.KnownNamesLemmas.{Fewer, KnowsFrames-mono}
@@ -32,6 +32,7 @@ use Rattle.semantics.proofs.VisibilityLemmas.{States, shown}
 use Rattle.semantics.proofs.UsabilitiesLemmas.{usable_fresh, usable_busy}
 use Rattle.semantics.proofs.FrameMovesLemmas.{KnowsLeft, left_known}
 use Rattle.semantics.proofs.SettingLemmas.{Setting}
+use Rattle.semantics.proofs.SharedStatesLemmas as SharedStates
 use Rattle.semantics.proofs.AgreeingRowsLemmas as AgreeingRows
 use Rattle.semantics.proofs.OwnersLemmas.{own_of}
 use Rattle.semantics.proofs.StateChangesLemmas.{set_state-erased}
@@ -103,11 +104,11 @@ module _ (S : Setting) where
 
     ends_turn : (s : ClassState) (left : Left) (outcome : Outcome) (sh' sv' : SharedState) (r : Result) →
         AgreeingRows.MovedAlike S w.shared.regions w.shared.states outcome sh' r
-        → KnowsLeft (shown S.I w.shared.states) left →
+        → SharedStates.HasNamed S sh'.states sh'.regions → KnowsLeft (shown S.I w.shared.states) left →
         IsErasedState S.I sh' sv' →
         step S.P w t ≡ Some (put w t (set_state sh' c s) (going_on S.P left l.under ls)) →
         step S.P v t ≡ Some (put v t (set_state sv' c s) (going_on S.P left l.under ls)) → TurnKinds.Turn S fuel w v t
-    ends_turn s left outcome sh' sv' r m kl like stepped stepped' =
+    ends_turn s left outcome sh' sv' r m named kl like stepped stepped' =
         let names : Fewer (shown S.I w.shared.states) (shown S.I (set_state sh' c s).states) =
         VisibleSteps.end_names S w.shared.states sh' c s m.states on.other in
         let low : VisibleSteps.Foot S (set_state sh' c s) fuel t ls =
@@ -120,7 +121,7 @@ module _ (S : Setting) where
         TurnKinds.Alike fuel _ _ stepped stepped'
         (record {
           inv = Invariant.invariant_put S fuel fuel w t (set_state sh' c s) _ (going_within w t [] (l ∷ ls) on.at) b.inv
-              (VisibleSteps.end_changes S fuel w t c s outcome sh' r _ b.inv away on.other m stands);
+              (VisibleSteps.end_changes S fuel w t c s outcome sh' r _ b.inv away on.other m named stands);
           erased = erased-both S.I w v t _ _ _ _ b.erased (set_state-erased S.I sh' sv' c s like on.other)
               (sym (VisibleSteps.cut_left S left l.under ls on.none));
         })
@@ -131,11 +132,11 @@ module _ (S : Setting) where
         away
 
     -- by a row that needs no class
-    fails_turn : (row : Row) → IsPlain row → Fits S.P (shown S.I w.shared.states) (own_of (maker_of t ls)) row →
+    fails_turn : (row : Row) → LeavesNamed S.P row → IsPlain row → Fits S.P (shown S.I w.shared.states) (own_of (maker_of t ls)) row →
         step S.P w t ≡ put_thread w t (fails S.P c l.under ls (run_row t (Class c) w.shared row)) →
         step S.P v t ≡ put_thread v t (fails S.P c l.under ls (run_row t (Class c) v.shared row))
         → TurnKinds.Turn S fuel w v t
-    fails_turn row is_plain fit stepped stepped' = go (plain_moves t (Class c) row w.shared is_plain)
+    fails_turn row leaves is_plain fit stepped stepped' = go (plain_moves t (Class c) row w.shared is_plain)
       where
         maker_other : (d : ℕ) → S.I.holds d ≡ true → Class c ≢ Class d
         maker_other d a e =
@@ -157,6 +158,7 @@ module _ (S : Setting) where
             subst (λ (r : Result). AgreeingRows.Agrees S w.shared.regions w.shared r (run_row t (Class c) v.shared row))
             e both_ways in
             ends_turn Erroneous (left_in outcome l.under) outcome new m.other (run_row t (Class c) v.shared row) m
+            (SharedStates.named_after S row leaves t (Class c) maker_other w.shared new outcome e m.states b.inv.named)
             (left_known (shown S.I w.shared.states) outcome l.under m.outcome_known under_known) m.like
             (stepped ∙ ap (λ (r : Result). put_thread w t (fails S.P c l.under ls r)) e)
             (stepped' ∙ ap (λ (r : Result). put_thread v t (fails S.P c l.under ls r)) m.same)
@@ -174,7 +176,7 @@ module _ (S : Setting) where
           states = refl;
           outcome_known = tt;
         })
-        under_known b.erased.shared stepped stepped'
+        b.inv.named under_known b.erased.shared stepped stepped'
 
     -- ---- the stack alone changes
 
@@ -238,7 +240,7 @@ module _ (S : Setting) where
               (stepped _ f) (stepped' _ f')
           | AgreeingRows.BothBusy x x' ↦ TurnKinds.Neither (stepped _ x) (inr (stepped' _ x'))
           | AgreeingRows.BothBroken x x' ↦
-              fails_turn (S.P.orphaned c) (S.lawful.plain_orphaned c)
+              fails_turn (S.P.orphaned c) (S.lawful.orphaned_named c) (S.lawful.plain_orphaned c)
               (S.lawful.orphaned (shown S.I w.shared.states) (own_of (maker_of t ls)) c) (stepped _ x) (stepped' _ x')
           | AgreeingRows.MustBegin f a ↦
               TurnKinds.begin_turn S fuel w v t d [] (l ∷ ls) b on.at tower a (usable_fresh t _ f)
@@ -266,7 +268,7 @@ module _ (S : Setting) where
     by_pending : (o : Option Name) → l.initialization.pending ≡ o → KnowsName (shown S.I w.shared.states) o
         → TurnKinds.Turn S fuel w v t
     by_pending (Some x) e k =
-        fails_turn (S.P.failing c x) (S.lawful.plain_failing c x)
+        fails_turn (S.P.failing c x) (S.lawful.failing_named c x) (S.lawful.plain_failing c x)
         (S.lawful.failing (shown S.I w.shared.states) (own_of (maker_of t ls)) c x k)
         (here
         ∙ ap (λ (o : Option Name). put_thread w t

@@ -17,6 +17,7 @@ use Rattle.semantics.proofs.KnownNamesLemmas.{Fewer, KnowsName-mono}
 use Rattle.semantics.proofs.VisibilityLemmas.{States, shown, hidden_by, hidden_not, shown_from}
 use Rattle.semantics.proofs.FrameMovesLemmas.{KnowsLeft, unwound_known}
 use Rattle.semantics.proofs.SettingLemmas.{Setting}
+use Rattle.semantics.proofs.SharedStatesLemmas as SharedStates
 use Rattle.semantics.proofs.AgreeingRowsLemmas as AgreeingRows
 use Rattle.semantics.proofs.StateChangesLemmas as StateChanges
 use Rattle.semantics.proofs.StateChangesLemmas.{hidden_after}
@@ -124,12 +125,14 @@ module _ (S : Setting) where
   pub row_changes : (fuel : Fuel) (w : World) (t : ℕ) (outcome : Outcome) (sh' : SharedState) (r : Result) (th : Thread)
       →
       Invariant.Invariant S fuel w → AgreeingRows.NoneBy S t w.shared →
-      AgreeingRows.MovedAlike S w.shared.regions w.shared.states outcome sh' r → Invariant.StandsAt S sh' fuel t th →
+      AgreeingRows.MovedAlike S w.shared.regions w.shared.states outcome sh' r
+      → SharedStates.HasNamed S sh'.states sh'.regions → Invariant.StandsAt S sh' fuel t th →
       Invariant.Changes S fuel fuel w.shared sh' t th
-  row_changes fuel w t outcome sh' r th inv away m stands =
+  row_changes fuel w t outcome sh' r th inv away m named stands =
       let same : (d : ℕ) → sh'.states d ≡ w.shared.states d = λ d. ap (λ (st : States). st d) m.states in
       record {
         sane = m.sane;
+        named = named;
         sound = λ c a s. inv.sound c a (sym (same c) ∙ s);
         stands = stands;
         names = same_names w.shared.states sh'.states m.states;
@@ -157,9 +160,9 @@ module _ (S : Setting) where
       (th : Thread) →
       Invariant.Invariant S fuel w → AgreeingRows.NoneBy S t w.shared → S.I.holds c ≡ false →
       AgreeingRows.MovedAlike S w.shared.regions w.shared.states outcome sh' r
-      → Invariant.StandsAt S (set_state sh' c s) fuel t th →
+      → SharedStates.HasNamed S sh'.states sh'.regions → Invariant.StandsAt S (set_state sh' c s) fuel t th →
       Invariant.Changes S fuel fuel w.shared (set_state sh' c s) t th
-  end_changes fuel w t c s outcome sh' r th inv away n m stands =
+  end_changes fuel w t c s outcome sh' r th inv away n m named stands =
       let apart : (d : ℕ) → S.I.holds d ≡ true → (d == c) ≡ false = λ d a. elim (tested (d == c)) [
         | inl e ↦ (let clash : true ≡ false = sym a ∙ (ap S.I.holds (eqb-true d c e) ∙ n) in cc)
         | inr e ↦ e
@@ -170,6 +173,7 @@ module _ (S : Setting) where
             StateChanges.set_state-sane S sh' m.sane c s
             (shown_from S.I sh'.states _ (hidden_after S.I sh' c s (λ k. rw n)))
             (λ a e. (let clash : true ≡ false = sym a ∙ n in cc));
+        named = λ d a done. named d a (rw (apart d a) at done);
         sound = λ d a k. inv.sound d a (sym (same d) ∙ (rw (apart d a) at k));
         stands = stands;
         names = end_names w.shared.states sh' c s m.states n;

@@ -3,11 +3,13 @@ use Rattle.std.proofs.Common.{◌≡◌, inl, ℕ, true, ◌||◌, ◌==◌, Som
 use Rattle.std.proofs.Math.Bool.{or-true}
 use Rattle.std.specs.Option.{is_some}
 use Rattle.vm_state.specs.SharedState.{Region}
+use Rattle.semantics.specs.Rows.{Named}
 use Rattle.semantics.specs.Programs.{Program}
 use Rattle.semantics.specs.Quiet.{Environment}
 use Rattle.semantics.specs.Lawful.{IsLawful}
 use Rattle.semantics.specs.Acceptance.{Analysis, IsLower, Accepted, Accepts}
 use Rattle.semantics.specs.Soundness.{names_at_hand, HasLower, LowerIsClosed, ParentsAreUsed}
+use Rattle.semantics.proofs.PoolsLemmas.{fixed_at-holds}
 use Rattle.semantics.proofs.WavesLemmas.{wave_once}
 use Rattle.semantics.proofs.WithinNamesLemmas.{KnowsRegion, settled_known}
 
@@ -27,13 +29,19 @@ module _ (P : Program) (A : Analysis) (lawful : IsLawful P) (env : Environment) 
             (Accepts e region other n one allowed some lower known settles within, down));
         finals = λ g f s at final. (accepted_known (known g s at)
             (lower_still A.uses g d c (lower g s at) down)).0 f;
+        named = λ g k s at. fixed_at-holds (names_at_hand env c) P Named s.pool k
+            (accepted_known (known g s at) (lower_still A.uses g d c (lower g s at) down)).1;
       })
       n region settles
 
 pub lower_is_closed_lem : LowerIsClosed
-lower_is_closed_lem P A lawful env c has d f r each at final =
-    let found = (has d r).0 at in
-    (accepted_known P A lawful env c has found.0 found.1).0 f
+lower_is_closed_lem P A lawful env c has = record {
+  finals = λ d f r each at final. (known d r at).0 f;
+  named = λ d n r at. fixed_at-holds (names_at_hand env c) P Named r.pool n (known d r at).1;
+}
+  where
+    known : (d : ℕ) (r : Region) → env d ≡ Some r → KnowsRegion (names_at_hand env c) r
+    known d r at = let found = (has d r).0 at in accepted_known P A lawful env c has found.0 found.1
 
 pub parents_are_used_lem : ParentsAreUsed
 parents_are_used_lem P B A finds apart c p low is = (finds c p low).1 (apart c p low is, inl is)

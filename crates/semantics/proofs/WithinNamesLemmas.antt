@@ -1,25 +1,27 @@
 -- Which names an initializer that runs alone comes to know: those of its own objects, and those that finals at hand
 -- hold.
 use Rattle.std.proofs.Common.{◌≡◌, inl, inr, ℕ, Bool, true, false, cond, List, [], ◌∷◌, Option, Some, None, ◌==◌}
-use Rattle.std.proofs.Common.{refl, subst, ◌+◌}
+use Rattle.std.proofs.Common.{refl, sym, subst, ◌∙◌, ◌+◌, eqb-true, eq-eqb, option_map}
 use Rattle.vm_state.specs.declared.value.Value.{Value}
-use Rattle.vm_state.specs.declared.value.Maker.TheVariants.{Class}
+use Rattle.vm_state.specs.declared.value.Maker.{Maker}
+use Rattle.vm_state.specs.declared.value.Maker.TheVariants.{Class, Thread}
 use Rattle.vm_state.specs.declared.frame.Frame.{Frame}
 use Rattle.vm_state.specs.Operands.{OperandStack}
-use Rattle.vm_state.specs.SharedState.{Region, same_maker, with_field}
+use Rattle.vm_state.specs.SharedState.{Pool, Region, same_maker, with_field}
 use Rattle.semantics.specs.Rows.{Move, Stays, Becomes, Calls, Returns, Next, Raise, Halt, Row, Ends}
 use Rattle.semantics.specs.Rows.{UseClass, ReadStatic, WriteStatic, AskClass, LookInto, Change}
-use Rattle.semantics.specs.Rows.{Make, UseMonitor, Print, part_at}
+use Rattle.semantics.specs.Rows.{Make, UseMonitor, Print, Part, Named, part_at}
 use Rattle.semantics.specs.Moves.{with_operands, received}
 use Rattle.semantics.specs.Programs.{Program}
 use Rattle.semantics.specs.Quiet.{Environment, is_final, pool_seen, QuietMove, Refused, Barred, ForeignObject, Conduct}
-use Rattle.semantics.specs.Quiet.{Leaves, Stops, is_open, at_hand, if_fixed, elements_in, quiet, quiet_step}
+use Rattle.semantics.specs.Quiet.{Leaves, Stops, is_open, at_hand, if_fixed, fixed_at, elements_in, quiet}
+use Rattle.semantics.specs.Quiet.{quiet_step}
 use Rattle.semantics.specs.Settling.{constant_region, onward, entered, RunsBody, ByReturn, ByStep, ByCall, SettlesBy}
 use Rattle.semantics.specs.Settling.{Settles}
-use Rattle.semantics.specs.Lawful.{Names, Knows, KnowsSome, KnowsFrame, KnowsMove, Fits, IsLawful}
+use Rattle.semantics.specs.Lawful.{Names, Knows, KnowsSome, KnowsSlots, KnowsFrame, KnowsMove, Fits, IsLawful}
 use Rattle.vm_state.proofs.ListLemmas.{tested}
 use Rattle.semantics.proofs.TestsLemmas.{from_some}
-use Rattle.semantics.proofs.PoolsLemmas.{Holds, with_slot-holds, with_new-holds, part_at-holds, open-known}
+use Rattle.semantics.proofs.PoolsLemmas.{Holds, with_slot-holds, with_new-holds, part_at-holds, fixed-known}
 use Rattle.semantics.proofs.ConstantsLemmas.{zeros_known, constants_known}
 use Rattle.semantics.proofs.FrameMovesLemmas.{onward_moved, moved_known, received_known}
 
@@ -67,10 +69,35 @@ pub frame_suits : (P : Program) → IsLawful P → (known : Names) (f : Frame) �
     → Suits P known (P.row f)
 frame_suits P lawful known f k = lawful.row known (λ d. true) f k (λ d is. refl)
 
--- c's own objects are known, and so is what finals at hand hold
+-- a pool at hand that is not c's is of a region at hand
+pub pool_of_other : (env : Environment) (c : ℕ) (own : Region) (m : Maker) (p : Pool) → same_maker (Class c) m ≡ false
+    → pool_seen env c own m ≡ Some p → (d : ℕ) × (r : Region) × (env d ≡ Some r) × (r.pool ≡ p)
+pool_of_other env c own (Thread t) p other is = cc
+pool_of_other env c own (Class d) p other is = elim (tested (d == c)) [
+  | inl e ↦ (let clash : false ≡ true = sym other ∙ eq-eqb c d (sym (eqb-true d c e)) in cc)
+  | inr e ↦ of_region (env d) refl (rw e at is)
+]
+  where
+    of_region : (o : Option Region) → env d ≡ o → option_map (λ (r : Region). r.pool) o ≡ Some p
+        → (d : ℕ) × (r : Region) × (env d ≡ Some r) × (r.pool ≡ p)
+    of_region None at h = cc
+    of_region (Some r) at h = (d, r, at, from_some h)
+
+-- c's own objects are known, and so is what finals and Enum objects at hand hold
 pub record Suffices (P : Program) (env : Environment) (c : ℕ) (known : Names) : Type 0 where
   pub own : (n : ℕ) → known (record { maker = Class c; number = n }) ≡ true
   pub finals : (d f : ℕ) (r : Region) → env d ≡ Some r → is_final P d f ≡ true → Knows known (r.fields f)
+  pub named : (d n : ℕ) (r : Region) → env d ≡ Some r → KnowsSlots known (fixed_at P Named r.pool n)
+
+-- so what is fixed of the objects of other classes is known
+pub fixed_knows : (P : Program) (env : Environment) (c : ℕ) (known : Names)
+    → ((d n : ℕ) (r : Region) → env d ≡ Some r → KnowsSlots known (fixed_at P Named r.pool n)) →
+    (own : Region) (m : Maker) (p : Pool) → same_maker (Class c) m ≡ false → pool_seen env c own m ≡ Some p →
+    (part : Part) (n : ℕ) → KnowsSlots known (fixed_at P part p n)
+fixed_knows P env c known named own m p other is part n =
+    let found = pool_of_other env c own m p other is in
+    fixed-known known P part p n
+    (subst (λ (q : Pool). KnowsSlots known (fixed_at P Named q n)) found.3 (named found.0 n found.1 found.2))
 
 module _ (P : Program) (lawful : IsLawful P) (env : Environment) (c : ℕ) (known : Names)
     (suffices : Suffices P env c known) where
@@ -125,8 +152,9 @@ module _ (P : Program) (lawful : IsLawful P) (env : Environment) (c : ℕ) (know
       (quiet_knows (next (part_at part own.pool x.number)) own n
       (fits.1 _ (part_at-holds known part own.pool x.number k.1)) k)
       (λ other. if_open (is_open part) _ (λ o. hand (pool_seen env c own x.maker) _ (λ p is.
-      fixed (part_at part p x.number) _
-      (quiet_knows (next (part_at part p x.number)) own n (fits.1 _ (open-known known part p x.number o)) k))))
+      fixed (fixed_at P part p x.number) _
+      (quiet_knows (next (fixed_at P part p x.number)) own n
+      (fits.1 _ (fixed_knows P env c known suffices.named own x.maker p other is part x.number)) k))))
   quiet_knows (Change x i v next) own n fits k =
       either (same_maker (Class c) x.maker) _ _
       (quiet_knows next _ n fits.2 (k.0, with_slot-holds known own.pool x.number i v k.1 fits.1)) (λ other. tt)

@@ -1,19 +1,20 @@
 -- Class 1 of the sample with an object: what may run for it is its initializer and the method that this calls, nothing
 -- of that bars it, and class 0 is its one use. So it is not barred, with class 0 at hand.
-use Rattle.std.proofs.Common.{◌≡◌, ◌⊎◌, inl, inr, ℕ, zero, suc, ◌==◌, false, Some, refl, ap, subst}
+use Rattle.std.proofs.Common.{◌≡◌, ◌⊎◌, inl, inr, ℕ, zero, suc, ◌==◌, true, false, Some, refl, sym, ap, subst}
 use Rattle.built_in.specs.declared.class_id.ClassId.{ClassId}
 use Rattle.vm_state.specs.declared.frame.Frame.{Frame}
 use Rattle.vm_state.specs.declared.frame.Activity.{Activity}
 use Rattle.vm_state.specs.declared.frame.Activity.TheVariants.{Method}
 use Rattle.vm_state.specs.SharedState.{Region}
-use Rattle.semantics.specs.Quiet.{Stop, Refusal, Refused}
+use Rattle.semantics.specs.Quiet.{is_final, Stop, Refusal, Refused}
 use Rattle.semantics.specs.Settling.{StoppedBy}
-use Rattle.semantics.specs.Lawful.{Knows}
+use Rattle.semantics.specs.Lawful.{Knows, KnowsSlots}
 use Rattle.semantics.specs.Bounds.{Scope, nothing, MayRun, Initializes, Called, IsUse, IsClean}
 use Rattle.semantics.specs.Soundness.{names_at_hand, IsClosed, HasUses}
 use Rattle.vm_state.proofs.ListLemmas.{tested}
 use Rattle.semantics.proofs.TestsLemmas.{from_some}
 use Rattle.semantics.proofs.ToyBounds.{toy_bounds, toy_is_bounded}
+use Rattle.semantics.proofs.ToyLaws.{none_named}
 use Rattle.semantics.proofs.WithinNamesLemmas.{constant_region_known}
 use Rattle.semantics.proofs.WithinStopsLemmas.{stops_within_lem}
 use Rattle.semantics.proofs.ObjectSample.{code, program, program_is_lawful, with_first, only_use}
@@ -121,13 +122,21 @@ has_uses d (apart, inr (a, place, run, needs)) = elim ((fine a place (runs run))
   | inr e ↦ absurd (apart e)
 ]
 
-closed : IsClosed program (IsUse program (toy_bounds code) 1) with_first 1
-closed zero f r used is final =
+closed_finals : (d f : ℕ) (r : Region) → IsUse program (toy_bounds code) 1 d → with_first d ≡ Some r
+    → is_final program d f ≡ true → Knows (names_at_hand with_first 1) (r.fields f)
+closed_finals zero f r used is final =
     subst (λ (s : Region). Knows (names_at_hand with_first 1) (s.fields f)) (from_some is) (elim (tested (f == 0)) [
       | inl e ↦ rw e tt
       | inr e ↦ rw e ((constant_region_known program program_is_lawful (names_at_hand with_first 1) 0).0 f)
     ])
-closed (suc d) f r used is final = cc
+closed_finals (suc d) f r used is final = cc
+
+closed : IsClosed program (IsUse program (toy_bounds code) 1) with_first 1
+closed = record {
+  finals = closed_finals;
+  named = λ d n r is.
+      subst (KnowsSlots (names_at_hand with_first 1)) (sym (none_named code r.pool n)) tt;
+}
 
 pub not_barred : (budget : ℕ) (stop : Stop) → StoppedBy program with_first 1 budget stop
     → (why : Refusal) × (stop ≡ Refused why)

@@ -13,7 +13,7 @@ use Rattle.semantics.specs.Rows.{Make, UseMonitor, Print, part_at}
 use Rattle.semantics.specs.Programs.{Program}
 use Rattle.semantics.specs.Quiet.{Environment, is_final, pool_seen, Refusal, Stop, Refused, Barred, Raised}
 use Rattle.semantics.specs.Quiet.{ForeignObject, OverBudget, Faulted, Conduct, Leaves, Stops, is_open, at_hand}
-use Rattle.semantics.specs.Quiet.{if_fixed, elements_in, quiet, quiet_step}
+use Rattle.semantics.specs.Quiet.{if_fixed, fixed_at, elements_in, quiet, quiet_step}
 use Rattle.semantics.specs.Settling.{RunsBody, ByReturn, ByStep, ByCall, entered, StopsBody, Before, At}
 use Rattle.semantics.specs.Settling.{Making, Inside, NoRoom, AfterCall, StoppedAt}
 use Rattle.semantics.specs.Lawful.{Names, KnowsFrame, KnowsMove, KnowsSome, IsLawful}
@@ -21,10 +21,10 @@ use Rattle.semantics.specs.Bounds.{Scope, MovesWithin, IsInScope, Bounds, IsBoun
 use Rattle.semantics.specs.Bounds.{IsUse, IsClean}
 use Rattle.semantics.specs.Soundness.{is_made_at_hand, names_at_hand, IsClosed, HasUses, StopsWithin}
 use Rattle.semantics.proofs.FrameMovesLemmas.{onward_entered}
-use Rattle.semantics.proofs.PoolsLemmas.{with_slot-holds, with_new-holds, part_at-holds, open-known}
+use Rattle.semantics.proofs.PoolsLemmas.{with_slot-holds, with_new-holds, part_at-holds}
 use Rattle.semantics.proofs.WithinRowsLemmas.{received_has, entered_has}
 use Rattle.semantics.proofs.WithinNamesLemmas.{KnowsRegion, constant_region_known, entered_known}
-use Rattle.semantics.proofs.WithinNamesLemmas.{field_known, back_known, Suits, frame_suits}
+use Rattle.semantics.proofs.WithinNamesLemmas.{field_known, back_known, Suits, frame_suits, fixed_knows}
 
 -- what was stopped was refused
 abbrev pub IsRefused : Stop → Type 0
@@ -106,7 +106,7 @@ module _ (P : Program) (lawful : IsLawful P) (B : Bounds) (env : Environment) (c
         (λ other. (let used = free.needs d within.0 other in
         hand (env d) _ (has d used) (λ r is. if_final (is_final P d f) _
         (λ final. quiet_passes (next (r.fields f)) own n (within.2 (r.fields f))
-        (fits (r.fields f) (closed d f r used is final)) k)
+        (fits (r.fields f) (closed.finals d f r used is final)) k)
         (λ plain. apart d other (free.reads d (within.1 plain))))))
     quiet_passes (WriteStatic d f v next) own n within fits k =
         either (d == c) _ _
@@ -121,9 +121,9 @@ module _ (P : Program) (lawful : IsLawful P) (B : Bounds) (env : Environment) (c
         (fits.1 _ (part_at-holds known part own.pool x.number k.1)) k)
         (λ other. if_open (is_open part) _ (λ o.
         hand (pool_seen env c own x.maker) _ (seen own x.maker fits.0) (λ p is.
-        fixed (part_at part p x.number) _
-        (quiet_passes (next (part_at part p x.number)) own n (within _)
-        (fits.1 _ (open-known known part p x.number o)) k))))
+        fixed (fixed_at P part p x.number) _
+        (quiet_passes (next (fixed_at P part p x.number)) own n (within _)
+        (fits.1 _ (fixed_knows P env c known closed.named own x.maker p other is part x.number)) k))))
     quiet_passes (Change x i v next) own n within fits k =
         either (same_maker (Class c) x.maker) _ _
         (quiet_passes next _ n within fits.2 (k.0, with_slot-holds known own.pool x.number i v k.1 fits.1))

@@ -1,19 +1,21 @@
--- What the machine owes: no instruction makes up a name, writes a final that it may not write, or makes a frame that
--- it may not make.
-use Rattle.std.specs.Prelude.{◌≡◌, ◌≢◌, ℕ, Bool, true, List, Option, Some, None}
+-- What the machine owes: no instruction makes up a name, writes a final that it may not write, makes a frame that it may
+-- not make, or changes the name or the ordinal of an Enum object once they are set.
+use Rattle.std.specs.Prelude.{◌≡◌, ◌≢◌, ℕ, Bool, true, false, List, Option, Some, None}
 use Rattle.std.specs.List.{AllByRecursion}
 use Rattle.vm_state.specs.declared.value.Value.{Value}
 use Rattle.vm_state.specs.declared.value.Name.{Name}
+use Rattle.vm_state.specs.declared.value.Maker.{Maker}
 use Rattle.vm_state.specs.declared.value.Maker.TheVariants as makers
 use Rattle.built_in.specs.declared.class_id.ClassId.{ClassId}
 use Rattle.vm_state.specs.declared.classes.StaticField.{StaticField}
 use Rattle.vm_state.specs.declared.frame.Frame.{Frame}
 use Rattle.vm_state.specs.Values.{name_of}
+use Rattle.vm_state.specs.SharedState.{Pool, SharedState, same_maker, pool_of}
 use Rattle.semantics.specs.Rows.{Move, Stays, Becomes, Calls, Returns, Outcome, Next, Raise, Halt, Row, Ends}
 use Rattle.semantics.specs.Rows.{UseClass, ReadStatic, WriteStatic, AskClass, LookInto, Change}
-use Rattle.semantics.specs.Rows.{Make, UseMonitor, Print}
+use Rattle.semantics.specs.Rows.{Make, UseMonitor, Print, Named, Moved, run_row}
 use Rattle.semantics.specs.Programs.{Program}
-use Rattle.semantics.specs.Quiet.{is_final}
+use Rattle.semantics.specs.Quiet.{is_final, fixed_at}
 
 -- ---- what holds of names and of values
 
@@ -110,6 +112,20 @@ FitsBy P N Q own (Print text next) = FitsBy P N Q own next
 abbrev pub Fits : Program → Names → (ℕ → Bool) → Row → Type 0
 Fits P known own row = FitsBy P (λ x. known x ≡ true) (Knows known) own row
 
+-- ---- names and ordinals that are set
+
+-- those of Enum objects in the first pool are the same in the second
+abbrev pub KeepsNamed : Program → Pool → Pool → Type 0
+KeepsNamed P p q =
+    (n : ℕ) (vs : List Value) → fixed_at P Named p n ≡ Some vs → fixed_at P Named q n ≡ Some vs
+
+-- In whatever state it is done, a row keeps those of the objects of all makers but the one that counts its new objects.
+abbrev pub LeavesNamed : Program → Row → Type 0
+LeavesNamed P row =
+    (t : ℕ) (maker : Maker) (sh : SharedState) (outcome : Outcome) (new : SharedState) →
+    run_row t maker sh row ≡ Moved outcome new → (m : Maker) → same_maker maker m ≡ false →
+    KeepsNamed P (pool_of sh m) (pool_of new m)
+
 -- ---- other forms of rows
 
 -- A row that ends, and needs no class and no monitor on its way.
@@ -139,6 +155,10 @@ pub record IsLawful (P : Program) : Type 0 where
       Fits P known own (P.row f)
   pub failing : (known : Names) (own : ℕ → Bool) (c : ℕ) (x : Name) → known x ≡ true → Fits P known own (P.failing c x)
   pub orphaned : (known : Names) (own : ℕ → Bool) (c : ℕ) → Fits P known own (P.orphaned c)
+  -- an instruction changes no name and no ordinal that are set; nor does a class's failing, or its failing by a parent
+  pub row_named : (f : Frame) → LeavesNamed P (P.row f)
+  pub failing_named : (c : ℕ) (x : Name) → LeavesNamed P (P.failing c x)
+  pub orphaned_named : (c : ℕ) → LeavesNamed P (P.orphaned c)
   -- a class's failing needs no class and no monitor
   pub plain_failing : (c : ℕ) (x : Name) → IsPlain (P.failing c x)
   pub plain_orphaned : (c : ℕ) → IsPlain (P.orphaned c)

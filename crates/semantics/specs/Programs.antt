@@ -1,5 +1,5 @@
 -- What the initialization procedure and its threads ask of a program.
-use Rattle.std.specs.Prelude.{ℕ, List, Option}
+use Rattle.std.specs.Prelude.{ℕ, Bool, List, Option}
 use Rattle.vm_state.specs.declared.value.Name.{Name}
 use Rattle.built_in.specs.declared.class_id.ClassId.{ClassId}
 use Rattle.vm_state.specs.declared.frame.Frame.{Frame}
@@ -29,5 +29,7 @@ pub record Program : Type 0 where
   pub statics : ℕ → List StaticField
   -- the class whose class initialization method a frame of this activity runs
   pub initializes : Activity → Option ℕ
+  -- whether a class is Enum or below it: its objects have their name and ordinal in their first two slots (JLS 8.9)
+  pub is_enum : ClassId → Bool
   -- the frame that a thread begins with, to call the `main` of its entry class (JVMS 5.2)
   pub start : (entry thread : ℕ) → Frame

@@ -1,9 +1,9 @@
 -- What an initializer may do at build time. Such an instruction is quiet: it prints nothing, raises nothing, is no
 -- fault and touches no monitor; it reads the statics of the initializer's class, or finals of a class in its
 -- environment; it writes the statics of its class alone; it looks into and changes objects of its own making alone.
--- It may ask for the class of any object that it can name, and compare names.
+-- Of any object that it can name it may ask for the class and for what is fixed, and it may compare names.
 use Rattle.std.specs.Prelude.{ℕ, ◌+◌, Bool, true, false, cond, List, length, Option, Some, None, ◌==◌, option_map}
-use Rattle.std.specs.Prelude.{slice_get}
+use Rattle.std.specs.Prelude.{option_and_then, slice_get}
 use Rattle.vm_state.specs.declared.value.Value.{Value}
 use Rattle.vm_state.specs.declared.value.Maker.{Maker}
 use Rattle.vm_state.specs.declared.value.Maker.TheVariants.{Class, Thread}
@@ -11,10 +11,11 @@ use Rattle.built_in.specs.declared.class_id.ClassId.{ClassId}
 use Rattle.built_in.specs.declared.class_id.ClassId.TheVariants.{Given, BuiltIn, Array}
 use Rattle.vm_state.specs.declared.classes.StaticField.{StaticField}
 use Rattle.vm_state.specs.declared.frame.Frame.{Frame}
+use Rattle.vm_state.specs.declared.object.Object.{Object}
 use Rattle.vm_state.specs.SharedState.{Pool, Region, same_maker, with_field, with_slot, with_new, class_at}
 use Rattle.semantics.specs.Rows.{Part, Slots, Length, Named, Move, Next, Raise, Halt, Row, Ends, UseClass, ReadStatic}
 use Rattle.semantics.specs.Rows.{WriteStatic, AskClass, LookInto, Change, Make}
-use Rattle.semantics.specs.Rows.{UseMonitor, Print, part_at}
+use Rattle.semantics.specs.Rows.{UseMonitor, Print, part_of, part_at}
 use Rattle.semantics.specs.Programs.{Program}
 
 -- The regions of other classes that an initializer may use.
@@ -73,18 +74,28 @@ pub data Conduct : Type 0 where
   -- stopped, at its first failing check
   Stops : (stop : Stop) → Conduct
 
--- a part that never changes, which may be looked at in any object at hand: none, so far
+-- a part that may be looked at in any object at hand, where it is fixed
 abbrev pub is_open : Part → Bool
 is_open Slots = false
-is_open Length = false
-is_open Named = false
+is_open Length = true
+is_open Named = true
+
+-- What is fixed of an object, so that it never changes: its length, as an array's (JLS 10.3), and as an Enum's its name
+-- and ordinal, once its name is set (JLS 8.9).
+abbrev pub fixed_of : Program → Part → Object → Option (List Value)
+fixed_of P Slots o = None
+fixed_of P Length o = part_of Length o.slots
+fixed_of P Named o = cond (P.is_enum o.class) (part_of Named o.slots) None
+
+abbrev pub fixed_at : Program → Part → Pool → ℕ → Option (List Value)
+fixed_at P part p n = option_and_then (fixed_of P part) (p.at n)
 
 -- goes on with what is at hand, or is barred where it is not
 abbrev pub at_hand : {A : Type 0} → Option A → (A → Conduct) → Conduct
 at_hand None go = Stops Barred
 at_hand (Some a) go = go a
 
--- goes on with what is fixed of another class's object, which is refused as long as that is not there
+-- goes on with what is fixed of another class's object, which is refused where nothing is
 abbrev pub if_fixed : Option (List Value) → (Option (List Value) → Conduct) → Conduct
 if_fixed None go = Stops (Refused ForeignObject)
 if_fixed (Some vs) go = go (Some vs)
@@ -108,7 +119,7 @@ quiet P env c own n (LookInto x part next) =
     (quiet P env c own n (next (part_at part own.pool x.number)))
     (cond (is_open part)
     (at_hand (pool_seen env c own x.maker) (λ p.
-    if_fixed (part_at part p x.number) (λ vs. quiet P env c own n (next vs))))
+    if_fixed (fixed_at P part p x.number) (λ vs. quiet P env c own n (next vs))))
     (Stops (Refused ForeignObject)))
 quiet P env c own n (Change x i v next) =
     cond (same_maker (Class c) x.maker) (quiet P env c (record own { pool = with_slot own.pool x.number i v }) n next)

@@ -9,13 +9,13 @@ use Rattle.vm_state.specs.declared.initialization.Level.{Level}
 use Rattle.vm_state.specs.declared.value.Maker.{Maker}
 use Rattle.vm_state.specs.declared.value.Maker.TheVariants.{Class, Thread}
 use Rattle.vm_state.specs.SharedState.{Region}
-use Rattle.semantics.specs.Rows.{Needs, run_row}
+use Rattle.semantics.specs.Rows.{Named, Needs, run_row}
 use Rattle.semantics.specs.Programs.{Program}
 use Rattle.semantics.specs.Steps.{Going}
 use Rattle.semantics.specs.Worlds.{World, Run, lazy_start}
-use Rattle.semantics.specs.Quiet.{Environment, is_final, Refusal, Stop, Refused}
+use Rattle.semantics.specs.Quiet.{Environment, is_final, fixed_at, Refusal, Stop, Refused}
 use Rattle.semantics.specs.Settling.{StoppedBy}
-use Rattle.semantics.specs.Lawful.{Names, Knows, IsLawful}
+use Rattle.semantics.specs.Lawful.{Names, Knows, KnowsSlots, IsLawful}
 use Rattle.semantics.specs.Acceptance.{Analysis, IsLower, Accepted}
 use Rattle.semantics.specs.Images.{Image, image_start, UsesParents}
 use Rattle.semantics.specs.Bounds.{Bounds, IsBounded, MayRun, IsUse, IsClean}
@@ -65,11 +65,13 @@ is_made_at_hand env c (Thread t) = false
 abbrev pub names_at_hand : Environment → ℕ → Names
 names_at_hand env c x = is_made_at_hand env c x.maker
 
--- The finals of these classes, where they are at hand, refer to objects of classes at hand alone.
-abbrev pub IsClosed : Program → (ℕ → Type 0) → Environment → ℕ → Type 0
-IsClosed P these env c =
-    (d f : ℕ) (r : Region) → these d → env d ≡ Some r → is_final P d f ≡ true →
-    Knows (names_at_hand env c) (r.fields f)
+-- What may be read of other classes refers to objects of classes at hand alone: the finals of these classes, where they
+-- are at hand, and the names of Enum objects of all that are at hand, since any object can be such a name.
+pub record IsClosed (P : Program) (these : ℕ → Type 0) (env : Environment) (c : ℕ) : Type 0 where
+  pub finals : (d f : ℕ) (r : Region) → these d → env d ≡ Some r → is_final P d f ≡ true →
+      Knows (names_at_hand env c) (r.fields f)
+  pub named : (d n : ℕ) (r : Region) → env d ≡ Some r →
+      KnowsSlots (names_at_hand env c) (fixed_at P Named r.pool n)
 
 abbrev pub EachClass : ℕ → Type 0
 EachClass d = Unit {0}
@@ -77,7 +79,7 @@ EachClass d = Unit {0}
 abbrev pub HasUses : Program → Bounds → Environment → ℕ → Type 0
 HasUses P B env c = (d : ℕ) → IsUse P B c d → IsSome (env d)
 
--- A class whose code bars nothing, with all its uses at hand, whose finals refer to objects of classes at hand, is not
+-- A class whose code bars nothing, with all its uses at hand, and with nothing to be read that refers elsewhere, is not
 -- barred when its initializer runs: where it is stopped it is refused, for one of the four reasons.
 abbrev pub StopsWithin : Type 0
 StopsWithin =
@@ -90,7 +92,7 @@ abbrev pub HasLower : Program → Analysis → Environment → ℕ → Type 0
 HasLower P A env c =
     (d : ℕ) (r : Region) → (env d ≡ Some r) ↔ (Accepted P A d r × IsLower A.uses d c)
 
--- With these at hand all finals at hand refer to objects of classes at hand.
+-- With these at hand all that may be read refers to objects of classes at hand.
 abbrev pub LowerIsClosed : Type 0
 LowerIsClosed =
     (P : Program) (A : Analysis) → IsLawful P → (env : Environment) (c : ℕ) → HasLower P A env c →

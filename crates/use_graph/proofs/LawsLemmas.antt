@@ -27,7 +27,10 @@ worlds_run_by_code_lem P first last schedule start run =
 pub stops_by_code_lem : StopsByCode
 stops_by_code_lem P is fits within env c low none has closed budget stop stopped =
     stops_within_lem (program_of P) (bounds_of P) (table_is_lawful_lem P is) (table_is_bounded_lem P) env c
-    (unmarked_is_clean P is c none) (λ d used. has d (given d used)) (λ d f r used. closed d f r (given d used))
+    (unmarked_is_clean P is c none) (λ d used. has d (given d used)) (record {
+      finals = λ d f r used. closed.finals d f r (given d used);
+      named = closed.named;
+    })
     budget stop stopped
   where
     given : (d : ℕ) → bounds.IsUse (program_of P) (bounds_of P) c d → IsUse P c d

@@ -18,7 +18,7 @@ use Rattle.machine.specs.RowParts.{halts, needing, goes_on, push, raises}
 use Rattle.machine.specs.Monitors.{without_monitor, use_monitor, entered, left}
 use Rattle.machine.specs.Linked.{program_of}
 use Rattle.machine.proofs.TableLemmas.{needing_any}
-use Rattle.machine.proofs.AnyRowsLemmas.{GoesUp, either_any, named_any}
+use Rattle.machine.proofs.AnyRowsLemmas.{GoesUp, GoesUpChange, OfChanges, changes_any, either_any, named_any}
 
 module _ (P : Tables) (scope : Scope) where
   abbrev pub Suits : Row → Type 0
@@ -46,11 +46,16 @@ module _ (P : Tables) (scope : Scope) where
     halted = halted;
     asked = λ x next on. on;
     looked = λ x part next on. on;
-    changed = λ x slot v next on. on;
     made_given = λ c slots next on. on;
     made_built_in = λ b slots next on. on;
     made_array = λ a slots f room x. push_in (value_of x) (with_operands f (rest f.operands));
   }
+
+  pub changed : GoesUpChange Suits
+  changed x slot v next on = on
+
+  pub changes : OfChanges Suits P
+  changes = changes_any _ _ up changed P
 
   pub either : (b : Bool) (r q : Row) → Suits r → Suits q → Suits (cond b r q)
   either b r q one other = either_any _ _ up b r q one other

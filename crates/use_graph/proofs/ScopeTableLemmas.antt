@@ -56,7 +56,8 @@ use Rattle.use_graph.specs.Code.{chosen_callee, found_callee}
 use Rattle.use_graph.specs.Scopes.{if_declared, activity_of, called_by, scope_of, scope_if, start_scope, bounds_of}
 use Rattle.machine.proofs.AnyRowsLemmas.{class_any, array_any, given_any, built_in_any, cast_any, instance_any}
 use Rattle.machine.proofs.AnyRowsLemmas.{throw_any, got_any, put_any, member_any}
-use Rattle.use_graph.proofs.ScopeRowsLemmas.{halted, raised, either, need, push_in, up, monitor_in, entered_in, left_in}
+use Rattle.use_graph.proofs.ScopeRowsLemmas.{halted, raised, either, need, push_in, up, changed, changes, monitor_in}
+use Rattle.use_graph.proofs.ScopeRowsLemmas.{entered_in, left_in}
 
 -- where what is called is the same for all classes
 abbrev any_class : ClassId
@@ -94,7 +95,7 @@ module _ (P : Tables) (scope : Scope) (f : Frame) where
       → ((c m : ℕ) → o ≡ Some (methods.Given c m) → MayReach c m) → Suits (runs P count v f o)
   runs_in count v None may = tt
   runs_in count v (Some (methods.Given c m)) may = reached_in c m count (may c m refl)
-  runs_in count v (Some (methods.BuiltIn member)) may = member_any _ _ (up P scope) P member count v f tt
+  runs_in count v (Some (methods.BuiltIn member)) may = member_any _ _ (up P scope) P (changes P scope) member count v f tt
 
   -- what is chosen is in scope
   abbrev Covers : Choice → Type 0
@@ -171,7 +172,8 @@ object_in P f objects.Throw = throw_any _ _ (up P (scope_of P (OnObject objects.
 object_in P f (objects.GetField field) =
     got_any _ _ (up P (scope_of P (OnObject (objects.GetField field)))) P field f
 object_in P f (objects.PutField field) =
-    put_any _ _ (up P (scope_of P (OnObject (objects.PutField field)))) P field f
+    put_any _ _ (up P (scope_of P (OnObject (objects.PutField field))))
+    (changed P (scope_of P (OnObject (objects.PutField field)))) P field f
 object_in P f objects.EnterMonitor =
     let scope = scope_of P (OnObject objects.EnterMonitor) in
     monitor_in P scope true f (entered f) refl (entered_in P scope f)
@@ -201,7 +203,7 @@ operation_in P f (PutStatic kind c k) =
           (need P scope (top_stored kind f.operands) _ (λ v. (refl, refl, tt))),
     )
 operation_in P f GetOut = push_in P (scope_of P GetOut) values.Out f
-operation_in P f (OnArray operation) = array_any _ _ (up P (scope_of P (OnArray operation))) P operation f
+operation_in P f (OnArray operation) = array_any _ _ (up P (scope_of P (OnArray operation))) P (changes P (scope_of P (OnArray operation))) operation f
 operation_in P f (OnCall call) = call_in P f call
 operation_in P f (Return returns.Nothing) = tt
 operation_in P f (Return (returns.Value kind)) =

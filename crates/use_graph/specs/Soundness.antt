@@ -68,7 +68,7 @@ pub data IsBarring : Mark → Type 0 where
   ForeignWrite : IsBarring marks.ForeignWrite
   ForeignRead : IsBarring marks.ForeignRead
 
--- A class whose code bears none of them, with all its uses at hand, whose finals refer to objects of classes at hand,
+-- A class whose code bears none of them, with all its uses at hand, and with nothing to be read that refers elsewhere,
 -- is not barred when its initializer runs: where it is stopped it is refused.
 abbrev pub StopsByCode : Type 0
 StopsByCode =

@@ -5,6 +5,8 @@ use Rattle.std.proofs.Common.{Some, is_some, arith}
 use Rattle.std.proofs.Math.Bool.{or-true}
 use Rattle.vm_state.specs.SharedState.{Region}
 use Rattle.semantics.specs.Soundness.{names_at_hand, IsClosed}
+use Rattle.semantics.specs.Rows.{Named}
+use Rattle.semantics.proofs.PoolsLemmas.{fixed_at-holds}
 use Rattle.semantics.proofs.WithinNamesLemmas.{KnowsRegion, settled_known}
 use Rattle.machine.specs.Linked.{program_of}
 use Rattle.machine.proofs.LawsLemmas.{table_is_lawful_lem}
@@ -31,13 +33,23 @@ module _ (P : Tables) (is : IsProgram P) (budget : ℕ) (S : Settled) (n : ℕ) 
         own = λ k. own_at_hand d r (below_there S n d m r at here low);
         finals = λ g f s has final. (let (j, also, less, region) = from_below S m g s has in
             (region_known limit j g s (omega arith) (omega arith) also region).0 f);
+        named = λ g k s has. (let (j, also, less, region) = from_below S m g s has in
+            fixed_at-holds (names_at_hand (below S n) c) (program_of P) Named s.pool k
+            (region_known limit j g s (omega arith) (omega arith) also region).1);
       })
       cost r settles
 
   closed : IsClosed (program_of P) (IsUse P c) (below S n) c
-  closed d f r used at final =
-      let (m, has, less, region) = from_below S n d r at in
-      (region_known (suc m) m d r (omega arith) less has region).0 f
+  closed = record {
+    finals = λ d f r used at final. (known d r at).0 f;
+    named = λ d k r at.
+        fixed_at-holds (names_at_hand (below S n) c) (program_of P) Named r.pool k (known d r at).1;
+  }
+    where
+      known : (d : ℕ) (r : Region) → below S n d ≡ Some r → KnowsRegion (names_at_hand (below S n) c) r
+      known d r at =
+          let (m, has, less, region) = from_below S n d r at in
+          region_known (suc m) m d r (omega arith) less has region
 
 pub never_barred_lem : NeverBarred
 never_barred_lem P budget S n is fits within are c low unmarked some stop stopped =

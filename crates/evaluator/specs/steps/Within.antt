@@ -11,7 +11,7 @@ use Rattle.semantics.specs.Rows.{WriteStatic, AskClass, LookInto, Change, Make, 
 use Rattle.semantics.specs.Programs.{Program}
 use Rattle.semantics.specs.Quiet.{Environment, is_final, pool_seen, elements_in, Raised, ForeignObject}
 use Rattle.semantics.specs.Quiet.{OverBudget, Faulted, Refused, Barred, Conduct, Leaves, Stops, is_open, at_hand}
-use Rattle.semantics.specs.Quiet.{if_fixed}
+use Rattle.semantics.specs.Quiet.{if_fixed, fixed_at}
 
 -- A row of c's initializer, where c's region is so, and at most so many elements may be made and so many were.
 abbrev pub within : Program → Environment → ℕ → ℕ → Region → ℕ → Row → Conduct
@@ -33,7 +33,7 @@ within P env c most own n (LookInto x part next) =
     (within P env c most own n (next (part_at part own.pool x.number)))
     (cond (is_open part)
     (at_hand (pool_seen env c own x.maker) (λ p.
-    if_fixed (part_at part p x.number) (λ vs. within P env c most own n (next vs))))
+    if_fixed (fixed_at P part p x.number) (λ vs. within P env c most own n (next vs))))
     (Stops (Refused ForeignObject)))
 within P env c most own n (Change x i v next) =
     cond (same_maker (Class c) x.maker)
