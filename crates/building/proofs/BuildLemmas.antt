@@ -29,10 +29,15 @@ use Rattle.wave_scheduler.proofs.ExactLemmas.{settled_are_exact_lem}
 use Rattle.wave_scheduler.proofs.HeadlineLemmas.{settled_show_the_same_lem}
 use Rattle.wave_scheduler.proofs.WholesLemmas.{settled_are_whole_lem, settled_are_small_lem}
 use Rattle.machine.specs.Linked.{program_of}
+use Rattle.object_graph.specs.Cuts.{IsCutOf}
+use Rattle.object_graph.specs.Reached.{IsReached}
+use Rattle.object_graph.proofs.CutStartsLemmas.{cut_unseen_lem, same_some}
+use Rattle.semantics.specs.Quiet.{Environment}
 use Rattle.object_graph.specs.Images.{ImageTables, AreSmall, start_image, region_or}
 use Rattle.building.specs.declared.build.BuildOptions.{BuildOptions}
 use Rattle.building.specs.Builds.{text_of, IsSettledAs, HoldsAccepted, StartsShowTheSame, IsBuildOfProgram}
-use Rattle.building.specs.steps.Gathered.{built_of}
+use Rattle.building.specs.declared.build.Built.{Built}
+use Rattle.building.specs.steps.Gathered.{IsGathered}
 
 -- ---- regions
 
@@ -80,32 +85,37 @@ module _ (P : Tables) (run build : Option (List ℕ)) (budget : ℕ) (linked : I
       settled_show_the_same_lem I.program as_here.patterns.forced budget S (start_image I) entries here.program
       here.family here.within as_here.patterns.settled (has_regions S I same) s
 
-  exact_by : (S : Settled) (I : ImageTables) → I.program ≡ P → IsSettledAs P run build budget S
-      → ((c : ℕ) → environment_of I.regions c ≡ region_in S c) → HoldsAccepted run budget I
-  exact_by S I is by same =
-      let as_here = subst (λ (Q : Tables). IsSettledAs Q run build budget S) (sym is) by in
-      let here = subst (λ (Q : Tables). IsLinked Q) (sym is) linked in
+  exact_by : (S : Settled) (regions : List (Option Held)) → IsSettledAs P run build budget S
+      → ((c : ℕ) → environment_of regions c ≡ region_in S c) → (left : List (Option Held))
+      → IsCutOf P (environment_of regions) (environment_of left)
+      → HoldsAccepted run budget (record { program = P; regions = left })
+  exact_by S regions by same left cut =
       let (A, analysis, parents) =
-      has_analysis_lem I.program as_here.patterns.forced budget here.program here.family here.within in
+      has_analysis_lem P by.patterns.forced budget linked.program linked.family linked.within in
       let exact =
-      settled_are_exact_lem I.program as_here.patterns.forced budget S A (start_image I) as_here.patterns.settled
-      analysis (has_regions S I same) in
-      let there : (c : ℕ) (r : Region) → environment_of I.regions c ≡ Some r → Accepted (program_of I.program) A c r =
+      settled_are_exact_lem P by.patterns.forced budget S A (start_image (record { program = P; regions = regions }))
+      by.patterns.settled analysis (has_regions S (record { program = P; regions = regions }) same) in
+      let there : (c : ℕ) (r : Region) → environment_of regions c ≡ Some r → Accepted (program_of P) A c r =
       λ c r at.
-      subst (λ (t : Region). Accepted (program_of I.program) A c t) (ap (region_or _) at)
-      (exact.sound c (ap is_some at)) in
+      subst (λ (t : Region). Accepted (program_of P) A c t) (ap (region_or _) at) (exact.sound c (ap is_some at)) in
       record {
-        forced = as_here.patterns.forced;
-        are = as_here.patterns.are;
+        forced = by.patterns.forced;
+        are = by.patterns.are;
         analysis = A;
         is = analysis;
+        whole = environment_of regions;
         exactly = λ c r. (
           there c r,
           λ accepted.
-              let (s, at) = value_in (environment_of I.regions c) (exact.complete c r accepted) in
-              at ∙ ap Some (one_region_lem (program_of I.program) A c s r (there c s at) accepted),
+              let (s, at) = value_in (environment_of regions c) (exact.complete c r accepted) in
+              at ∙ ap Some (one_region_lem (program_of P) A c s r (there c s at) accepted),
         );
+        cut = cut;
       }
+
+-- the image of these regions, with the verdicts
+abbrev left_built : Tables → Answer → List (Option Held) → Built
+left_built P s left = record { image = record { program = P; regions = left }; verdicts = s.verdicts }
 
 module _ (P : Tables) (options : BuildOptions) (s : Answer)
     (by : IsSettledAs P (text_of options.run_time) (text_of options.build_time) options.budget (settled_of s)) where
@@ -138,16 +148,46 @@ module _ (P : Tables) (options : BuildOptions) (s : Answer)
       back : IsSome (environment_of s.regions c) → IsAccepted s.verdicts c
       back some = let (r, here) = value_in (environment_of s.regions c) some in held r here
 
-  pub is_build : IsLinked P → IsBuildOfProgram P options (built_of P s)
-  is_build linked = record {
-    program = refl;
-    built = record { settled = settled_of s; by = by; regions = seen_in; told = refl };
-    exact =
-        exact_by P (text_of options.run_time) (text_of options.build_time) options.budget linked (settled_of s)
-        (built_of P s).image refl by seen_in;
-    shows =
+  module _ (linked : IsLinked P) (fits : AreWhole P (environment_of s.regions)) (left : List (Option Held))
+      (cut : IsCutOf P (environment_of s.regions) (environment_of left)) where
+    shows_left : StartsShowTheSame (record { program = P; regions = left })
+    shows_left entries o =
+        let whole =
         shows_by P (text_of options.run_time) (text_of options.build_time) options.budget linked (settled_of s)
-        (built_of P s).image refl by seen_in;
-    count = sym (length-map s.verdicts outcome_of) ∙ by.patterns.settled.count;
-    waves = waves_built;
-  }
+        (record { program = P; regions = s.regions }) refl by seen_in entries o in
+        let unseen = cut_unseen_lem P (environment_of s.regions) (environment_of left) entries linked.program fits cut o in
+        (λ shown. unseen.0 (whole.0 shown), λ shown. whole.1 (unseen.1 shown))
+
+    waves_left : (c : ℕ) → IsAccepted s.verdicts c ↔ IsSome (environment_of left c)
+    waves_left c =
+        let same = same_some (IsReached P (environment_of s.regions)) c (environment_of s.regions c)
+        (environment_of left c) (cut c) in
+        (λ accepted. same ∙ (waves_built c).0 accepted, λ some. (waves_built c).1 (sym same ∙ some))
+
+    build_left : IsBuildOfProgram P options (left_built P s left)
+    build_left = record {
+      program = refl;
+      built = record {
+        settled = settled_of s;
+        by = by;
+        cut = subst (λ (env : Environment). IsCutOf P env (environment_of left)) (seen_regions s) cut;
+        told = refl;
+      };
+      exact =
+          exact_by P (text_of options.run_time) (text_of options.build_time) options.budget linked (settled_of s)
+          s.regions by seen_in left cut;
+      shows = shows_left;
+      count = sym (length-map s.verdicts outcome_of) ∙ by.patterns.settled.count;
+      waves = waves_left;
+    }
+
+  pub is_build : (built : Built) → IsLinked P → AreWhole P (environment_of s.regions) → IsGathered P s built
+      → IsBuildOfProgram P options built
+  is_build built linked fits is =
+      subst (IsBuildOfProgram P options) same (build_left linked fits built.image.regions is.cut)
+    where
+      same : left_built P s built.image.regions ≡ built
+      same = λ i. record {
+        image = record { program = sym is.program i; regions = built.image.regions };
+        verdicts = sym is.verdicts i;
+      }

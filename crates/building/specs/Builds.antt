@@ -5,6 +5,7 @@ use Rattle.std.specs.List.{All}
 use Rattle.vm_state.specs.SharedState.{Region}
 use Rattle.semantics.specs.Acceptance.{Accepted, Analysis}
 use Rattle.semantics.specs.Images.{image_start}
+use Rattle.semantics.specs.Quiet.{Environment}
 use Rattle.semantics.specs.Worlds.{Observation, Shows, lazy_start}
 use Rattle.program.specs.Tables.{Tables}
 use Rattle.machine.specs.Linked.{program_of}
@@ -17,6 +18,7 @@ use Rattle.options.specs.Lists.{items_of, IsNonEmpty}
 use Rattle.options.specs.Classes.{AreClasses, IsDemanded, IsForced}
 use Rattle.options.specs.Demands.{AreMet}
 use Rattle.options.specs.Faults.{AreApart, IsKnown}
+use Rattle.object_graph.specs.Cuts.{IsCutOf}
 use Rattle.object_graph.specs.Images.{ImageTables, start_image}
 use Rattle.building.specs.declared.build.BuildOptions.{BuildOptions}
 use Rattle.building.specs.declared.build.Built.{Built}
@@ -64,16 +66,18 @@ pub record IsSettledAs (P : Tables) (run_time build_time : Option (List ℕ)) (b
   pub build_list : IsRead build_time
   pub patterns : IsSettledBy P (patterns_in run_time) (patterns_in build_time) budget S
 
--- The image has the regions of the classes that are accepted then, and this became of all classes.
+-- The image has the regions of the classes that are accepted then, without the objects that no static field reaches, and
+-- this became of all classes.
 pub record IsBuilt (run_time build_time : Option (List ℕ)) (budget : ℕ) (I : ImageTables) (outcomes : List Outcome)
     : Type 0 where
   pub settled : Settled
   pub by : IsSettledAs I.program run_time build_time budget settled
-  pub regions : (c : ℕ) → environment_of I.regions c ≡ region_in settled c
+  pub cut : IsCutOf I.program (region_in settled) (environment_of I.regions)
   pub told : settled.outcomes ≡ outcomes
 
 -- The image holds exactly the accepted classes' results: it has a region of a class exactly where the class is
--- accepted, and then the one that its initializer leaves.
+-- accepted, and then what is left of the one that its initializer leaves, without the objects that no static field
+-- reaches.
 pub record HoldsAccepted (run_time : Option (List ℕ)) (budget : ℕ) (I : ImageTables) : Type 0 where
   -- the classes that are forced to run time
   pub forced : List Bool
@@ -81,8 +85,10 @@ pub record HoldsAccepted (run_time : Option (List ℕ)) (budget : ℕ) (I : Imag
   -- of each class its uses and whether it is allowed, and the budget
   pub analysis : Analysis
   pub is : IsAnalysis I.program forced budget analysis
-  pub exactly : (c : ℕ) (r : Region)
-      → (environment_of I.regions c ≡ Some r) ↔ Accepted (program_of I.program) analysis c r
+  -- what the initializers of the accepted classes leave
+  pub whole : Environment
+  pub exactly : (c : ℕ) (r : Region) → (whole c ≡ Some r) ↔ Accepted (program_of I.program) analysis c r
+  pub cut : IsCutOf I.program whole (environment_of I.regions)
 
 -- From any entry classes a run from the image and the lazy procedure show the same.
 abbrev pub StartsShowTheSame : ImageTables → Type 0

@@ -1,6 +1,6 @@
 //! From a program to an image: the classes that may be are initialized.
 
-ghost use Rattle.std.specs.Prelude.{◌≡◌, ◌≢◌, ◌↔◌, ◌⊎◌, ℕ, ◌<◌, ◌^◌, Ok, Err, IfErr, IfOk};
+ghost use Rattle.std.specs.Prelude.{◌≡◌, ◌≢◌, ◌↔◌, ◌⊎◌, ℕ, ◌<◌, ◌^◌, Err, IfErr, IfOk};
 ghost use Rattle.evaluator.specs.Regions.{environment_of};
 ghost use Rattle.region_shape.specs.Laws.{IsFromFile};
 ghost use Rattle.region_shape.specs.Wholes.{AreWhole};
@@ -10,7 +10,7 @@ ghost use Rattle.object_graph.specs.Images.{AreSmall};
 ghost use Rattle.building.specs.Builds.{text_of, IsBuildOfProgram};
 ghost use Rattle.building.specs.Refusals.{IsOption, OptionsFail};
 ghost use Rattle.building.specs.declared.build.BuildFault.TheVariants.{Memory, Wave};
-ghost use Rattle.building.specs.steps.Gathered.{built_of};
+ghost use Rattle.building.specs.steps.Gathered.{IsGathered};
 ghost use Rattle.building.specs.steps.Settling.{SettlesBy};
 
 use crate::settling::{settle_by_workers, settle_here};
@@ -84,13 +84,14 @@ impl BuildFault {
 }
 
 /// The image of what became of all classes.
-fn image_of(program: Program, settled: Settled) -> Result<Built, BuildFault>
+fn image_of(alloc: Global, program: Program, settled: Settled) -> Result<Built, BuildFault>
     requires whole { AreWhole program (environment_of settled.regions) }
     requires small { AreSmall program (environment_of settled.regions) }
-    ensures { result ≡ Ok (built_of program settled) }
+    ensures gathered { IfOk result (IsGathered program settled) }
+    ensures memory { IfErr result (λ fault. fault ≡ Memory) }
 {
     let Settled { verdicts, regions } = settled;
-    match gather(program, regions) {
+    match gather(alloc, program, regions) {
         Ok(image) => Ok(Built { image, verdicts }),
         Err(AllocError) => Err(BuildFault::Memory),
     }
@@ -98,6 +99,7 @@ fn image_of(program: Program, settled: Settled) -> Result<Built, BuildFault>
 
 /// The image of a program of whose classes this became, by the options, or why it is not known.
 fn image_by(
+    alloc: Global,
     program: Program,
     options: &BuildOptions<'_>,
     settled: Result<Settled, BuildFault>,
@@ -112,7 +114,7 @@ fn image_by(
 {
     region_shape::is_linked(&program);
     match settled {
-        Ok(settled) => image_of(program, settled),
+        Ok(settled) => image_of(alloc, program, settled),
         Err(fault) => Err(fault),
     }
 }
@@ -136,7 +138,7 @@ pub fn build_program_here(
         (text_of options.now.run_time) (text_of options.now.build_time) options.now.budget) fault) }
 {
     let settled = settle_here(alloc, &program, options);
-    image_by(program, options, settled)
+    image_by(alloc, program, options, settled)
 }
 
 /// The image of a program, by the options: initializes by 1 to 64 workers each class that may be, within the budget.
@@ -166,5 +168,5 @@ pub fn build_program<G: Gate, R: Threads + Wait + Sync>(
         return Err(BuildFault::Wave(WaveFault::Workers));
     }
     let settled = settle_by_workers(rt, alloc, &program, options, workers, gate);
-    image_by(program, options, settled)
+    image_by(alloc, program, options, settled)
 }

@@ -22,6 +22,7 @@ use Rattle.building.specs.Builds.{IsSettledAs}
 use Rattle.building.specs.Refusals.{OptionsFail}
 use Rattle.building.proofs.OneFaultLemmas.{one_fault_lem, settled_have_no_fault_lem}
 use Rattle.building.proofs.OneSettledLemmas.{one_settled_as_lem}
+use Rattle.object_graph.proofs.CutsLemmas.{same_left}
 use Rattle.options.specs.declared.fault.OptionFault.{OptionFault}
 use Rattle.one_program.proofs.ProgramsLemmas.{still_fail}
 use Rattle.cli.specs.Builds.{BuildFails, IsBudget}
@@ -70,8 +71,9 @@ one_build texts moved run build budget I J first second same of built other also
     one_settled_as_lem I.program run build budget built.settled also.settled built.by by in (
       record {
         program = program;
-        regions = λ c.
-            built.regions c ∙ ap (λ (S : Settled). region_in S c) settled ∙ sym (also.regions c);
+        regions =
+            same_left I J (region_in built.settled) (region_in also.settled) program (ap region_in settled) built.cut
+            also.cut;
       },
       same_verdicts first second
           (sym built.told ∙ ap (λ (S : Settled). S.outcomes) settled ∙ also.told),

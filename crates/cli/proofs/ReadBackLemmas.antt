@@ -7,6 +7,8 @@ use Rattle.semantics.specs.Worlds.{World}
 use Rattle.program.specs.Tables.{Tables}
 use Rattle.evaluator.specs.Regions.{environment_of}
 use Rattle.machine.specs.Linked.{program_of}
+use Rattle.wave_scheduler.specs.Settled.{region_in}
+use Rattle.object_graph.specs.Cuts.{IsCutOf}
 use Rattle.object_graph.specs.Images.{ImageTables, region_or, start_image}
 use Rattle.image_reader.specs.Readings.{IsSameImage}
 use Rattle.image_reader.specs.Starts.{IsImageStart}
@@ -68,8 +70,9 @@ module _ (I J : ImageTables) (same : IsSameImage I J) where
     | inr neither ↦ inr (neither_starts names neither)
   ]
 
-  at_class : (c : ℕ) → environment_of J.regions c ≡ environment_of I.regions c
-  at_class c = ap (λ (env : Environment). env c) same.regions
+  cut_again : (whole : Environment) → IsCutOf J.program whole (environment_of I.regions)
+      → IsCutOf J.program whole (environment_of J.regions)
+  cut_again whole cut = subst (IsCutOf J.program whole) (sym same.regions) cut
 
   module _ (texts : List (List ℕ)) (run_time build_time : Option (List ℕ)) (budget : ℕ) where
     of_same : IsImageOf texts run_time build_time budget between → IsImageOf texts run_time build_time budget J
@@ -79,7 +82,7 @@ module _ (I J : ImageTables) (same : IsSameImage I J) where
       built = record {
         settled = of.built.settled;
         by = of.built.by;
-        regions = λ c. at_class c ∙ of.built.regions c;
+        cut = cut_again (region_in of.built.settled) of.built.cut;
         told = of.built.told;
       };
       exact = record {
@@ -87,10 +90,9 @@ module _ (I J : ImageTables) (same : IsSameImage I J) where
         are = of.exact.are;
         analysis = of.exact.analysis;
         is = of.exact.is;
-        exactly = λ c r. (
-          λ here. (of.exact.exactly c r).0 (sym (at_class c) ∙ here),
-          λ accepted. at_class c ∙ (of.exact.exactly c r).1 accepted,
-        );
+        whole = of.exact.whole;
+        exactly = of.exact.exactly;
+        cut = cut_again of.exact.whole of.exact.cut;
       };
       shows = record {
         to_image = λ names lazy image s first second.

@@ -1,7 +1,7 @@
 -- A class that can be settled by the regions that its initializer is lent does the same with all that are at hand.
-use Rattle.std.proofs.Common.{◌≡◌, ℕ, ◌≤◌, Bool, true, false, cond, ◌==◌, nat_lt, inl, inr, Option, Some, None}
+use Rattle.std.proofs.Common.{◌≡◌, ℕ, ◌≤◌, Bool, true, false, cond, ◌==◌, inl, inr, Option, Some, None}
 use Rattle.std.proofs.Common.{is_some, option_map, refl, subst, eqb-true, arith}
-use Rattle.std.proofs.lemmas.Bool.{ltb-true, or_right}
+use Rattle.std.proofs.lemmas.Bool.{or_right}
 use Rattle.vm_state.specs.declared.value.Maker.{Maker}
 use Rattle.vm_state.specs.declared.value.Maker.TheVariants.{Class, Thread}
 use Rattle.vm_state.specs.SharedState.{Region}
@@ -16,9 +16,10 @@ use Rattle.semantics.proofs.PoolsLemmas.{fixed_at-holds}
 use Rattle.semantics.proofs.RefusalsLemmas.{stop_excludes_lem, one_stop_lem, settles_or_stops_lem}
 use Rattle.program.specs.Tables.{Tables}
 use Rattle.machine.specs.Linked.{program_of}
-use Rattle.region_shape.specs.Counts.{count_of, is_there}
+use Rattle.region_shape.specs.Counts.{is_held, is_there}
 use Rattle.region_shape.specs.Laws.{IsLinked, IsFromFile}
 use Rattle.region_shape.proofs.LawsLemmas.{settled_have_shape_lem, settled_are_within_lem, settled_name_objects_lem}
+use Rattle.region_shape.proofs.LawsLemmas.{settled_hold_all_lem}
 use Rattle.region_shape.proofs.NamesLemmas.{names_wider}
 use Rattle.region_shape.proofs.TextsLemmas.{settled_have_texts_lem}
 use Rattle.use_graph.specs.Uses.{IsUse}
@@ -27,10 +28,10 @@ use Rattle.evaluator.specs.Settleable.{IsSettleable, IsWhole, SettleableAreUnbar
 use Rattle.evaluator.proofs.WiderStopsLemmas.{stopped-wider}
 
 -- where there are objects, a region is at hand
-some_counts : (o : Option Region) (n : ℕ) → nat_lt n (count_of (option_map (λ (r : Region). r.pool) o)) ≡ true
+some_holds : (o : Option Region) (n : ℕ) → is_held (option_map (λ (r : Region). r.pool) o) n ≡ true
     → is_some o ≡ true
-some_counts None n h = absurd (omega (arith, ltb-true n 0 h))
-some_counts (Some r) n h = refl
+some_holds None n h = cc
+some_holds (Some r) n h = refl
 
 module _ (P : Tables) (linked : IsLinked P) (env : Environment) (c : ℕ) (can : IsSettleable P env c) where
   -- an object that there is was made by a class at hand
@@ -39,14 +40,14 @@ module _ (P : Tables) (linked : IsLinked P) (env : Environment) (c : ℕ) (can :
   there_at_hand d r at x h = by x.maker h
     where
       by_class : (b : Bool) (e : ℕ) → (e == d) ≡ b
-          → nat_lt x.number (count_of (cond b (Some r.pool) (option_map (λ (q : Region). q.pool) (can.lent e)))) ≡ true
+          → is_held (cond b (Some r.pool) (option_map (λ (q : Region). q.pool) (can.lent e))) x.number ≡ true
           → is_some (can.lent e) ≡ true
       by_class true e same h = rw (eqb-true e d same, at) refl
-      by_class false e same h = some_counts (can.lent e) x.number h
+      by_class false e same h = some_holds (can.lent e) x.number h
 
-      by : (maker : Maker) → nat_lt x.number (count_of (pool_seen can.lent d r maker)) ≡ true
+      by : (maker : Maker) → is_held (pool_seen can.lent d r maker) x.number ≡ true
           → is_made_at_hand can.lent c maker ≡ true
-      by (Thread t) h = absurd (omega (arith, ltb-true x.number 0 h))
+      by (Thread t) h = cc
       by (Class e) h = or_right (e == c) (is_some (can.lent e)) (by_class (e == d) e refl h)
 
   closed : IsClosed (program_of P) (IsUse P c) can.lent c
@@ -105,6 +106,7 @@ module _ (P : Tables) (linked : IsLinked P) (env : Environment) (c : ℕ) (can :
         shape = settled_have_shape_lem P linked can.lent can.whole.shape c n region from there;
         names = names_wider can.lent env c region can.at_hand
             (settled_name_objects_lem P linked.program can.lent can.whole.closed c n region can.apart there);
+        all = settled_hold_all_lem P can.lent c n region there;
         texts = settled_have_texts_lem P linked.program can.lent can.whole.texts c n region there;
         size = record {
           count = omega (arith, size.count, within);

@@ -4,7 +4,7 @@ use Rattle.vm_state.specs.SharedState.{Region}
 use Rattle.semantics.specs.Quiet.{Environment}
 use Rattle.program.specs.Tables.{Tables}
 use Rattle.machine.specs.Linked.{program_of}
-use Rattle.region_shape.specs.Counts.{NamesObjects}
+use Rattle.region_shape.specs.Counts.{NamesObjects, HoldsAll}
 use Rattle.region_shape.specs.Laws.{IsLinked}
 use Rattle.region_shape.specs.Shapes.{HasShape}
 use Rattle.region_shape.specs.Sizes.{IsWithin}
@@ -29,11 +29,12 @@ pub record IsSettleable (P : Tables) (env : Environment) (c : ℕ) : Type 0 wher
   pub apart : lent c ≡ None
   pub whole : AreWhole P lent
 
--- The region has shape, names such objects alone as there are and strings of the program alone, and has no more
--- objects, and no array of more elements, than the budget.
+-- The region has shape, names such objects alone as there are and strings of the program alone, holds all objects that
+-- were made, and has no more of them, and no array of more elements, than the budget.
 pub record IsWhole (P : Tables) (env : Environment) (c budget : ℕ) (region : Region) : Type 0 where
   pub shape : HasShape P c region
   pub names : NamesObjects env c region
+  pub all : HoldsAll region.pool
   pub texts : HasTexts P region
   pub size : IsWithin budget region
 

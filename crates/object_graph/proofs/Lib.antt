@@ -1,5 +1,7 @@
 pub mod AddsLemmas
-pub mod CountsLemmas
+pub mod CutsLemmas
+pub mod CutStartsLemmas
+pub mod CuttingLemmas
 pub mod MarksLemmas
 pub mod SearchLemmas
 pub mod StaticsLemmas

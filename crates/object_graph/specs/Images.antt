@@ -1,7 +1,8 @@
 -- An image, and the start of a run from it.
-use Rattle.std.specs.Prelude.{◌≡◌, ℕ, ◌<◌, ◌≤◌, ◌^◌, true, List, Option, Some, None, is_some, length}
+use Rattle.std.specs.Prelude.{◌≡◌, ℕ, ◌<◌, ◌^◌, List, Option, Some, None, is_some, length}
 use Rattle.vm_state.specs.declared.object.Object.{Object}
-use Rattle.vm_state.specs.SharedState.{Pool, Region}
+use Rattle.vm_state.specs.Pools.{held_count}
+use Rattle.vm_state.specs.SharedState.{Region}
 use Rattle.semantics.specs.Quiet.{Environment, elements_in}
 use Rattle.semantics.specs.Settling.{constant_region}
 use Rattle.semantics.specs.Images.{Image as Start}
@@ -24,15 +25,10 @@ pub record AreSmall (P : Tables) (env : Environment) : Type 0 where
   pub elements : (c n : ℕ) (region : Region) (object : Object) → env c ≡ Some region → region.pool.at n ≡ Some object
       → elements_in object.class object.slots < 2 ^ 31
 
--- how many objects a region has, if there is one
+-- how many objects a region holds, if there is one
 abbrev pub object_count : Option Region → ℕ
 object_count None = 0
-object_count (Some region) = region.pool.count
-
--- The object of each number below the count is held, and no other one.
-pub record HoldsAll (p : Pool) : Type 0 where
-  pub held : (n : ℕ) → n < p.count → is_some (p.at n) ≡ true
-  pub no_more : (n : ℕ) → p.count ≤ n → p.at n ≡ None
+object_count (Some region) = held_count region.pool
 
 -- ---- the start of a run
 
@@ -41,9 +37,13 @@ abbrev pub region_or : Region → Option Region → Region
 region_or other (Some region) = region
 region_or other None = other
 
+-- The classes that have these regions are initialized at the start.
+abbrev pub start_of : Tables → Environment → Start
+start_of P env = record {
+  holds = λ c. is_some (env c);
+  region = λ c. region_or (constant_region (program_of P) c) (env c);
+}
+
 -- The classes that are initialized at the start, each with its region.
 abbrev pub start_image : ImageTables → Start
-start_image I = record {
-  holds = λ c. is_some (environment_of I.regions c);
-  region = λ c. region_or (constant_region (program_of I.program) c) (environment_of I.regions c);
-}
+start_image I = start_of I.program (environment_of I.regions)

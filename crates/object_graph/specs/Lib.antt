@@ -1,4 +1,5 @@
 pub mod Images
 pub mod Names
 pub mod Reached
+pub mod Cuts
 pub mod steps

@@ -1,18 +1,21 @@
 //! An image.
 
-ghost use Rattle.std.specs.Prelude.{◌≡◌, length, option_map, Ok};
+ghost use Rattle.std.specs.Prelude.{◌≡◌, length, option_map, IfOk};
 ghost use Rattle.evaluator.specs.Regions.{region_of, environment_of};
 ghost use Rattle.program.specs.Tables.{statics_in};
 ghost use Rattle.region_shape.specs.Wholes.{AreWhole};
+ghost use Rattle.object_graph.specs.Cuts.{AreReached, IsCutOf};
 ghost use Rattle.object_graph.specs.Images.{object_count, AreSmall};
 
 use crate::counting::{count_of, static_count};
+use crate::cutting::cut_classes;
+use crate::reach::reached;
 use evaluator::regions::{Region, Regions};
 use program::Program;
-use std::alloc::AllocError;
+use std::alloc::{AllocError, Global};
 use std::marker::Model;
 
-/// A program, and the regions of classes that are initialized before it runs.
+/// A program, and the regions of classes that are initialized before it runs. Some static field reaches each object.
 #[derive(Drop)]
 pub struct Image {
     program: Program,
@@ -22,16 +25,28 @@ pub struct Image {
 impl Model for Image {
     ghost use Rattle.evaluator.specs.Regions.{environment_of as regions_of};
     ghost use Rattle.region_shape.specs.Wholes.{AreWhole as HasWhole};
+    ghost use Rattle.object_graph.specs.Cuts.{AreReached as HasReached};
     ghost use Rattle.object_graph.specs.Images.{ImageTables, AreSmall as HasSmall};
 
     ghost Value = { ImageTables };
 
     ghost view = { λ i. record { program = i.program; regions = i.regions } };
 
-    ghost invariant = { λ i. HasWhole i.program (regions_of i.regions) × HasSmall i.program (regions_of i.regions) };
+    ghost invariant = { λ i. HasWhole i.program (regions_of i.regions) × HasSmall i.program (regions_of i.regions)
+        × HasReached i.program (regions_of i.regions) };
 }
 
 impl Image {
+    /// The image of a program and regions, of which all is reached.
+    pub fn of_reached(program: Program, regions: Regions) -> Image
+        requires whole { AreWhole program (environment_of regions) }
+        requires small { AreSmall program (environment_of regions) }
+        requires reached { AreReached program (environment_of regions) }
+        ensures { result ≡ record { program = program; regions = regions } }
+    {
+        Image { program, regions }
+    }
+
     /// The program.
     pub fn program(&self) -> &Program
         ensures { result.now ≡ self.now.program }
@@ -45,8 +60,16 @@ impl Image {
         // What holds of every image.
         ensures whole { AreWhole self.now.program (environment_of self.now.regions) }
         ensures small { AreSmall self.now.program (environment_of self.now.regions) }
+        ensures reached { AreReached self.now.program (environment_of self.now.regions) }
     {
         self.regions.get(class)
+    }
+
+    /// The regions.
+    pub(crate) fn regions(&self) -> &Regions
+        ensures { result.now ≡ self.now.regions }
+    {
+        &self.regions
     }
 
     /// How many objects the region of a class has; none, where the class is not initialized.
@@ -67,16 +90,21 @@ impl Image {
     }
 }
 
-/// The image of a program and regions of some of its classes. Each region has shape, names such objects alone as these
-/// regions have, and strings of the program alone, and has fewer than 2^32 objects, and no array of 2^31 elements or
-/// more.
+/// The image of a program and regions of some of its classes, without the objects that no static field reaches. Each
+/// region has shape, names such objects alone as these regions hold, and strings of the program alone, and has fewer
+/// than 2^32 objects, and no array of 2^31 elements or more.
 ///
 /// # Errors
-/// None today, as it takes no memory.
-pub fn gather(program: Program, regions: Regions) -> Result<Image, AllocError>
+/// Where memory runs out.
+pub fn gather(alloc: Global, program: Program, regions: Regions) -> Result<Image, AllocError>
     requires whole { AreWhole program (environment_of regions) }
     requires small { AreSmall program (environment_of regions) }
-    ensures { result ≡ Ok (record { program = program; regions = regions }) }
+    ensures program { IfOk result (λ image. image.program ≡ program) }
+    ensures cut { IfOk result (λ image. IsCutOf program (environment_of regions) (environment_of image.regions)) }
 {
-    Ok(Image { program, regions })
+    let _classes = program.classes();
+    let found = reached(alloc, &program, &regions)?;
+    let mut regions = regions;
+    cut_classes(&found, program.given_count(), &mut regions);
+    Ok(Image::of_reached(program, regions))
 }

@@ -2,7 +2,9 @@
 #![tactic(auto)]
 
 mod counting;
+mod cutting;
 mod image;
+pub mod laws;
 mod name_set;
 mod reach;
 

@@ -55,6 +55,14 @@ impl NameSet {
         is_marked(&self.marks, ObjectName { class, number })
     }
 
+    /// The marks of the numbers of a class's objects.
+    pub(crate) fn marks_of(&self, class: u32) -> &[bool]
+        ensures { (n : ℕ) → IsTrue (marks_in result.now n)
+            ↔ Contains self.now (record { class = class; number = n }) }
+    {
+        row_of(&self.marks, class as usize)
+    }
+
     /// How many names it has.
     pub fn len(&self) -> usize
         ensures value { result ≡ length self.now }

@@ -1,8 +1,7 @@
 -- What quiet instructions leave has shape.
 use Rattle.std.proofs.Common.{◌≡◌, ℕ, zero, suc, ◌+◌, ◌≤◌, ◌==◌, Bool, true, false, cond, inl, inr, List, []}
-use Rattle.std.proofs.Common.{◌∷◌, Option, Some, None, is_some, slice_get, slice_set, refl, sym, ap, ◌∙◌, subst, arith}
+use Rattle.std.proofs.Common.{◌∷◌, Option, Some, None, slice_get, slice_set, refl, sym, ap, ◌∙◌, subst, arith}
 use Rattle.std.proofs.Common.{eqb-true, eq-eqb, option_map, option_and_then, ne_eqb}
-use Rattle.std.proofs.lemmas.Bool.{eqb-false}
 use Rattle.std.proofs.lemmas.Option.{same_Some}
 use Rattle.std.specs.List.{AllByRecursion, AllZip}
 use Rattle.bytecode.specs.declared.operand.ElementKind.{ElementKind}
@@ -171,7 +170,6 @@ module _ (P : Tables) (env : Environment) (shaped : HaveShape P env) (c : ℕ) w
       | inr e ↦ rw e (shape.statics k)
     ];
     objects = shape.objects;
-    held = shape.held;
     no_more = shape.no_more;
   }
 
@@ -182,11 +180,6 @@ module _ (P : Tables) (env : Environment) (shaped : HaveShape P env) (c : ℕ) w
     objects = λ k o at. elim (tested (k == n)) [
       | inl e ↦ here (own.pool.at n) (shape.objects n) h o (rw e at at)
       | inr e ↦ shape.objects k o (rw e at at)
-    ];
-    held = λ k small. elim (tested (k == n)) [
-      | inl e ↦ rw e (kept (own.pool.at n) (subst (λ (j : ℕ). is_some (own.pool.at j) ≡ true) (eqb-true k n e)
-          (shape.held k small)))
-      | inr e ↦ rw e (shape.held k small)
     ];
     no_more = λ k past. elim (tested (k == n)) [
       | inl e ↦ rw e (ap (option_map (object_with_slot i v)) (subst (λ (j : ℕ). own.pool.at j ≡ None) (eqb-true k n e)
@@ -201,10 +194,6 @@ module _ (P : Tables) (env : Environment) (shaped : HaveShape P env) (c : ℕ) w
       here None all fits y e = absurd cc
       here (Some x) all fits y e = subst (ObjectHasShape P) (same_Some _ y e) (object_set P x i v (all x refl) fits)
 
-      kept : (o : Option Object) → is_some o ≡ true → is_some (option_map (object_with_slot i v) o) ≡ true
-      kept None e = e
-      kept (Some x) e = refl
-
   object_made : (own : Region) (class : ClassId) (slots : List Value) → HasShape P c own → HasObjects P class
       → AreSlots P class slots → HasShape P c (record own { pool = with_new own.pool class slots })
   object_made own class slots shape has are = record {
@@ -214,10 +203,6 @@ module _ (P : Tables) (env : Environment) (shaped : HaveShape P env) (c : ℕ) w
           subst (ObjectHasShape P) (same_Some _ o (rw e at at))
           (record { class = has; slots = are; monitor = refl })
       | inr e ↦ shape.objects k o (rw e at at)
-    ];
-    held = λ k small. elim (tested (k == own.pool.count)) [
-      | inl e ↦ rw e refl
-      | inr e ↦ rw e (shape.held k (omega (arith, small, eqb-false k own.pool.count e)))
     ];
     no_more = λ k past.
         rw (ne_eqb k own.pool.count (λ same. omega (arith, past, same))) (shape.no_more k (omega (arith, past)));

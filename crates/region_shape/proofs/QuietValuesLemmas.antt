@@ -1,14 +1,18 @@
--- What quiet instructions leave: c's objects are never fewer, and what holds of the values that they are given holds of
+-- What quiet instructions leave: c's objects are never fewer, and all are held; and what holds of the values that they are given holds of
 -- those that they leave.
-use Rattle.std.proofs.Common.{◌≡◌, ℕ, ℤ, ◌+◌, ◌<◌, ◌≤◌, ◌==◌, true, false, inl, inr, List, Some}
-use Rattle.std.proofs.Common.{subst, arith}
+use Rattle.std.proofs.Common.{◌≡◌, ℕ, ℤ, ◌+◌, ◌<◌, ◌≤◌, ◌==◌, true, false, inl, inr, List, Some, subst, arith, sym, ◌∙◌}
+use Rattle.std.proofs.Common.{ap, refl, Option, None, is_some, option_map, eqb-true, ne_eqb}
 use Rattle.std.specs.List.{AllByRecursion}
+use Rattle.std.proofs.lemmas.Bool.{eqb-false}
+use Rattle.built_in.specs.declared.class_id.ClassId.{ClassId}
 use Rattle.vm_state.specs.declared.value.Value.{Value}
 use Rattle.vm_state.specs.declared.value.Value.TheVariants.{Int}
 use Rattle.vm_state.specs.declared.value.Name.{Name}
 use Rattle.vm_state.specs.declared.value.Maker.{Maker}
 use Rattle.vm_state.specs.declared.value.Maker.TheVariants.{Class}
 use Rattle.vm_state.specs.SharedState.{Pool, Region, same_maker, with_field, with_slot, with_new, class_at}
+use Rattle.vm_state.specs.SharedState.{object_with_slot}
+use Rattle.vm_state.specs.declared.object.Object.{Object}
 use Rattle.vm_state.proofs.ListLemmas.{tested}
 use Rattle.semantics.specs.Rows.{Next, Raise, Halt, Row, Ends, UseClass, ReadStatic}
 use Rattle.semantics.specs.Rows.{WriteStatic, AskClass, LookInto, Change, Make, UseMonitor, Print, Part, part_at}
@@ -20,6 +24,40 @@ use Rattle.semantics.proofs.PoolsLemmas.{HoldsOfPool, with_slot-has, with_new-ha
 use Rattle.semantics.proofs.WithinNamesLemmas.{pool_of_other}
 use Rattle.region_shape.proofs.BranchesLemmas.{branch, at_hand_some}
 use Rattle.semantics.proofs.BranchesLemmas.{fixed_value}
+use Rattle.region_shape.specs.Counts.{HoldsAll}
+
+-- ---- all objects are held
+
+slot_all : (p : Pool) (n i : ℕ) (v : Value) → HoldsAll p → HoldsAll (with_slot p n i v)
+slot_all p n i v all = record {
+  held = λ k small. elim (tested (k == n)) [
+    | inl e ↦
+        rw e (kept (p.at n) (subst (λ (j : ℕ). is_some (p.at j) ≡ true) (eqb-true k n e) (all.held k small)))
+    | inr e ↦ rw e (all.held k small)
+  ];
+  no_more = λ k past. elim (tested (k == n)) [
+    | inl e ↦
+        rw e (ap (option_map (object_with_slot i v))
+        (subst (λ (j : ℕ). p.at j ≡ None) (eqb-true k n e) (all.no_more k past)))
+    | inr e ↦ rw e (all.no_more k past)
+  ];
+}
+  where
+    kept : (o : Option Object) → is_some o ≡ true → is_some (option_map (object_with_slot i v) o) ≡ true
+    kept None e = e
+    kept (Some x) e = refl
+
+new_all : (p : Pool) (class : ClassId) (slots : List Value) → HoldsAll p → HoldsAll (with_new p class slots)
+new_all p class slots all = record {
+  held = λ k small. elim (tested (k == p.count)) [
+    | inl e ↦ rw e refl
+    | inr e ↦ rw e (all.held k (omega (arith, small, eqb-false k p.count e)))
+  ];
+  no_more = λ k past.
+      rw (ne_eqb k p.count (λ same. omega (arith, past, same))) (all.no_more k (omega (arith, past)));
+}
+
+-- ---- rows
 
 module _ (P : Program) (env : Environment) (c : ℕ) where
   -- c's objects are never fewer
@@ -70,6 +108,56 @@ module _ (P : Program) (env : Environment) (c : ℕ) where
       omega (arith, more)
   grows (UseMonitor x enter next) own n m q = absurd cc
   grows (Print text next) own n m q = absurd cc
+
+  -- all of c's objects are held
+  pub keeps_all : (row : Row) (own : Region) (n : ℕ) (m : QuietMove) → quiet P env c own n row ≡ Leaves m
+      → HoldsAll own.pool → HoldsAll m.region.pool
+  keeps_all (Ends (Next move)) own n m q all =
+      let e : record { move = move; region = own; elements = n } ≡ m = cc in
+      subst (λ (x : QuietMove). HoldsAll x.region.pool) e all
+  keeps_all (Ends (Raise x class)) own n m q all = absurd cc
+  keeps_all (Ends (Halt kind)) own n m q all = absurd cc
+  keeps_all (UseClass d next) own n m q all = elim (branch (d == c) q) [
+    | inl on ↦ keeps_all (next true) own n m on.1 all
+    | inr other ↦ keeps_all (next true) own n m (at_hand_some (env d) other.1).2 all
+  ]
+  keeps_all (ReadStatic d f next) own n m q all = elim (branch (d == c) q) [
+    | inl on ↦ keeps_all (next (own.fields f)) own n m on.1 all
+    | inr other ↦
+        let at = at_hand_some (env d) other.1 in
+        elim (branch (is_final P d f) at.2) [
+          | inl final ↦ keeps_all (next (at.0.fields f)) own n m final.1 all
+          | inr shut ↦ absurd (let clash : Stops Barred ≡ Leaves m = shut.1 in cc)
+        ]
+  ]
+  keeps_all (WriteStatic d f v next) own n m q all = elim (branch (d == c) q) [
+    | inl on ↦ keeps_all next (with_field own f v) n m on.1 all
+    | inr other ↦ absurd (let clash : Stops Barred ≡ Leaves m = other.1 in cc)
+  ]
+  keeps_all (AskClass x next) own n m q all =
+      let at = at_hand_some (pool_seen env c own x.maker) q in keeps_all (next (class_at at.0 x.number)) own n m at.2 all
+  keeps_all (LookInto x part next) own n m q all = elim (branch (same_maker (Class c) x.maker) q) [
+    | inl on ↦ keeps_all (next (part_at part own.pool x.number)) own n m on.1 all
+    | inr other ↦ elim (branch (is_open part) other.1) [
+      | inl open_part ↦
+          let at = at_hand_some (pool_seen env c own x.maker) open_part.1 in
+          let fixed = fixed_value (fixed_at P part at.0 x.number) _ at.2 in
+          keeps_all (next (Some fixed.0)) own n m fixed.2 all
+      | inr shut ↦ absurd (let clash : Stops (Refused ForeignObject) ≡ Leaves m = shut.1 in cc)
+    ]
+  ]
+  keeps_all (Change x i v next) own n m q all = elim (branch (same_maker (Class c) x.maker) q) [
+    | inl on ↦
+        keeps_all next (record own { pool = with_slot own.pool x.number i v }) n m on.1
+        (slot_all own.pool x.number i v all)
+    | inr other ↦ absurd (let clash : Stops (Refused ForeignObject) ≡ Leaves m = other.1 in cc)
+  ]
+  keeps_all (Make class slots next) own n m q all =
+      keeps_all (next (record { maker = Class c; number = own.pool.count }))
+      (record own { pool = with_new own.pool class slots }) (n + elements_in class slots) m q
+      (new_all own.pool class slots all)
+  keeps_all (UseMonitor x enter next) own n m q all = absurd cc
+  keeps_all (Print text next) own n m q all = absurd cc
 
   -- it holds of all values that are left
   pub record HoldsAfter (Q : Value → Type 0) (m : QuietMove) : Type 0 where

@@ -225,6 +225,5 @@ module _ (P : Tables) (is : IsProgram P) (c : ℕ) (from : IsFromFile P c) where
   first_shape = record {
     statics = statics_suit;
     objects = λ n o at. absurd cc;
-    held = λ n small. absurd (omega (arith, small));
     no_more = λ n past. refl;
   }

@@ -12,7 +12,7 @@ use Rattle.machine.specs.Linked.{program_of}
 use Rattle.region_shape.specs.Shapes.{HasShape}
 use Rattle.region_shape.specs.Sizes.{IsWithin}
 use Rattle.region_shape.specs.Texts.{HasTexts, HaveTexts}
-use Rattle.region_shape.specs.Counts.{NamesObjects, AreClosed}
+use Rattle.region_shape.specs.Counts.{NamesObjects, AreClosed, HoldsAll}
 
 -- A linked program.
 pub record IsLinked (P : Tables) : Type 0 where
@@ -50,6 +50,12 @@ abbrev pub SettledNameObjects : Type 0
 SettledNameObjects =
     (P : Tables) → IsProgram P → (env : Environment) → AreClosed env → (c n : ℕ) (region : Region) → env c ≡ None
     → Settles (program_of P) env c n region → NamesObjects env c region
+
+-- What an initializer leaves holds all the objects that it made.
+abbrev pub SettledHoldAll : Type 0
+SettledHoldAll =
+    (P : Tables) (env : Environment) (c n : ℕ) (region : Region) → Settles (program_of P) env c n region
+    → HoldsAll region.pool
 
 -- ---- strings
 

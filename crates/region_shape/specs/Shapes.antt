@@ -1,8 +1,7 @@
 -- The shape of a region: it has a value for each static field of its class, which suits the field, and for no other;
 -- each object is an instance of a class that has instances, with just the slots that such an instance has, or an array,
 -- each slot suiting its field or the elements' type.
-use Rattle.std.specs.Prelude.{◌≡◌, ℕ, ◌<◌, ◌≤◌, ◌⊎◌, Bool, true, false, List, [], Option, Some, None, slice_get}
-use Rattle.std.specs.Prelude.{is_some}
+use Rattle.std.specs.Prelude.{◌≡◌, ℕ, ◌≤◌, ◌⊎◌, Bool, true, false, List, [], Option, Some, None, slice_get}
 use Rattle.std.specs.List.{AllByRecursion, AllZip}
 use Rattle.bytecode.specs.declared.operand.ElementKind.{ElementKind}
 use Rattle.built_in.specs.declared.class_id.BuiltIn.{BuiltIn}
@@ -71,9 +70,8 @@ pub record ObjectHasShape (P : Tables) (object : Object) : Type 0 where
 
 -- ---- regions
 
--- A region of a class, whose objects are numbered from 0 up.
+-- A region of a class. Its objects have numbers below its count; not each of these needs to be held.
 pub record HasShape (P : Tables) (c : ℕ) (region : Region) : Type 0 where
   pub statics : (k : ℕ) → SuitsStatic P c k (region.fields k)
   pub objects : (n : ℕ) (object : Object) → region.pool.at n ≡ Some object → ObjectHasShape P object
-  pub held : (n : ℕ) → n < region.pool.count → is_some (region.pool.at n) ≡ true
   pub no_more : (n : ℕ) → region.pool.count ≤ n → region.pool.at n ≡ None

@@ -5,8 +5,8 @@ use Rattle.region_shape.specs.Counts.{AreClosed}
 use Rattle.region_shape.specs.Laws.{HaveShape}
 use Rattle.region_shape.specs.Texts.{HaveTexts}
 
--- Each region has shape, names objects alone that there are (each maker has its region, and the number is below its
--- count), and strings of the program alone.
+-- Each region has shape, names objects alone that there are (each maker has its region, and that holds the object), and
+-- strings of the program alone.
 pub record AreWhole (P : Tables) (env : Environment) : Type 0 where
   pub shape : HaveShape P env
   pub closed : AreClosed env

@@ -4,7 +4,7 @@
 #![tactic(auto)]
 
 ghost use Rattle.region_shape.specs.Laws.{SettledHaveShape, SettledAreWithin, SettledNameObjects, IsLinked, IsFromFile};
-ghost use Rattle.region_shape.specs.Laws.{SettledHaveTexts};
+ghost use Rattle.region_shape.specs.Laws.{SettledHaveTexts, SettledHoldAll};
 
 use program::Program;
 
@@ -31,9 +31,10 @@ pub fn regions_have_shape()
     ensures within { SettledAreWithin }
 {}
 
-/// Each object that such a region names is one of a region at hand or of itself.
+/// Each object that such a region names is held by a region at hand or by itself, and it holds all that were made.
 pub fn regions_name_objects()
-    ensures { SettledNameObjects }
+    ensures names { SettledNameObjects }
+    ensures all { SettledHoldAll }
 {}
 
 /// Each string that such a region names is one of the program's.

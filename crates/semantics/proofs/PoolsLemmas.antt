@@ -23,7 +23,7 @@ use Rattle.semantics.proofs.BranchesLemmas.{on_true}
 abbrev pub HoldsOfPool : (Value → Type 0) → Pool → Type 0
 HoldsOfPool Q p = (n : ℕ) → HoldsOfSlots Q (slots_at p n)
 
-abbrev slots_of : Option Object → Option (List Value)
+abbrev pub slots_of : Option Object → Option (List Value)
 slots_of o = option_map (λ (x : Object). x.slots) o
 
 abbrev class_of : Option Object → Option ClassId
@@ -42,21 +42,21 @@ module _ (Q : Value → Type 0) where
   set-has (u ∷ us) zero v h kv = (kv, h.1)
   set-has (u ∷ us) (suc i) v h kv = (h.0, set-has us i v h.1 kv)
 
+  pub slot-has : (i : ℕ) (v : Value) → Q v → (o : Option Object) → HoldsOfSlots Q (slots_of o)
+      → HoldsOfSlots Q (slots_of (option_map (object_with_slot i v) o))
+  slot-has i v kv None k = tt
+  slot-has i v kv (Some o) k = set-has o.slots i v k kv
+
+  pub monitor-has : (m : Monitor) (o : Option Object) → HoldsOfSlots Q (slots_of o)
+      → HoldsOfSlots Q (slots_of (option_map (object_with_monitor m) o))
+  monitor-has m None k = tt
+  monitor-has m (Some o) k = k
+
   pub with_slot-has : (p : Pool) (n i : ℕ) (v : Value) → HoldsOfPool Q p → Q v → HoldsOfPool Q (with_slot p n i v)
-  with_slot-has p n i v h kv = with_object-has p n _ h (slots (p.at n) (h n))
-    where
-      slots : (o : Option Object) → HoldsOfSlots Q (slots_of o)
-          → HoldsOfSlots Q (slots_of (option_map (object_with_slot i v) o))
-      slots None k = tt
-      slots (Some o) k = set-has o.slots i v k kv
+  with_slot-has p n i v h kv = with_object-has p n _ h (slot-has i v kv (p.at n) (h n))
 
   with_monitor-has : (p : Pool) (n : ℕ) (m : Monitor) → HoldsOfPool Q p → HoldsOfPool Q (with_monitor p n m)
-  with_monitor-has p n m h = with_object-has p n _ h (slots (p.at n) (h n))
-    where
-      slots : (o : Option Object) → HoldsOfSlots Q (slots_of o)
-          → HoldsOfSlots Q (slots_of (option_map (object_with_monitor m) o))
-      slots None k = tt
-      slots (Some o) k = k
+  with_monitor-has p n m h = with_object-has p n _ h (monitor-has m (p.at n) (h n))
 
   pub with_new-has : (p : Pool) (class : ClassId) (slots : List Value) → HoldsOfPool Q p → AllByRecursion Q slots
       → HoldsOfPool Q (with_new p class slots)
@@ -78,12 +78,13 @@ module _ (Q : Value → Type 0) where
     part_of-has Named (v ∷ []) k = tt
     part_of-has Named (name ∷ ordinal ∷ vs) k = named-has name ordinal k.0 k.1.0
 
+    pub part-has : (part : Part) (o : Option (List Value)) → HoldsOfSlots Q o
+        → HoldsOfSlots Q (option_and_then (part_of part) o)
+    part-has part None k = tt
+    part-has part (Some vs) k = part_of-has part vs k
+
     pub part_at-has : (part : Part) (p : Pool) (n : ℕ) → HoldsOfPool Q p → HoldsOfSlots Q (part_at part p n)
-    part_at-has part p n h = by_slots (slots_at p n) (h n)
-      where
-        by_slots : (o : Option (List Value)) → HoldsOfSlots Q o → HoldsOfSlots Q (option_and_then (part_of part) o)
-        by_slots None k = tt
-        by_slots (Some vs) k = part_of-has part vs k
+    part_at-has part p n h = part-has part (slots_at p n) (h n)
 
 -- ---- names
 

@@ -40,6 +40,14 @@ start_cut : (P : Program) (I : Image) (n : ℕ) (entries : List ℕ)
 start_cut P I n [] = refl
 start_cut P I n (e ∷ es) = ap (λ (ts : List Thread). Going (P.start e n ∷ []) [] ∷ ts) (start_cut P I (n + 1) es)
 
+-- the argument of a thread holds no names
+pub argument_holds : (names : Names) (entries : List ℕ) (t : ℕ)
+    → Holds names (if nat_lt t (length entries) then argument_pool else empty_pool)
+argument_holds names entries t k = elim (tested (nat_lt t (length entries))) [
+  | inl e ↦ elim (tested (k == 0)) [ inl z ↦ rw (e, z) tt | inr z ↦ rw (e, z) tt ]
+  | inr e ↦ rw e tt
+]
+
 module _ (S : Setting) (entries : List ℕ) where
   abbrev pub lazy : World
   lazy = lazy_start S.P entries
@@ -59,12 +67,6 @@ module _ (S : Setting) (entries : List ℕ) where
   promise_at c true e h = ((S.settled c e).0, (S.settled c e).1, omega arith)
   promise_at c false e h = cc
 
-  pool_holds : (names : Names) (t : ℕ) → Holds names (if nat_lt t (length entries) then argument_pool else empty_pool)
-  pool_holds names t k = elim (tested (nat_lt t (length entries))) [
-    | inl e ↦ elim (tested (k == 0)) [ inl z ↦ rw (e, z) tt | inr z ↦ rw (e, z) tt ]
-    | inr e ↦ rw e tt
-  ]
-
   first_sane : SharedStates.IsSane S lazy.shared
   first_sane = record {
     statics = λ c f. zeros_known (known S.I lazy.shared.states (makers.Class c)) (S.P.statics c) (S.lawful.statics c) f;
@@ -75,7 +77,7 @@ module _ (S : Setting) (entries : List ℕ) where
     where
       the_objects : (m : Maker) → Holds (known S.I lazy.shared.states m) (pool_of lazy.shared m)
       the_objects (makers.Class c) k = tt
-      the_objects (makers.Thread t) k = pool_holds (known S.I lazy.shared.states (makers.Thread t)) t k
+      the_objects (makers.Thread t) k = argument_holds (known S.I lazy.shared.states (makers.Thread t)) entries t k
 
   pub first_invariant : Invariant.Invariant S first_fuel lazy
   unfolding first_fuel

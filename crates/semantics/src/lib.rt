@@ -11,6 +11,7 @@ ghost use Rattle.semantics.specs.Settling.{StopExcludes, OneStop, SettlesOrStops
 ghost use Rattle.semantics.specs.Acceptance.{OneRegion, WiderEnvironment};
 ghost use Rattle.semantics.specs.Erasure.{ErasedUnseen};
 ghost use Rattle.semantics.specs.Headline.{LazyToImage, ImageToLazy};
+ghost use Rattle.semantics.specs.Drops.{DroppedUnseen};
 ghost use Rattle.semantics.specs.Soundness.{RunsWithin, StopsWithin, LowerIsClosed, ParentsAreUsed};
 
 /// A run over one schedule, and then one over another, is a run over both, one after the other.
@@ -70,6 +71,11 @@ pub fn lazy_to_image()
 /// What a run from a program's image shows under some schedule, the lazy procedure shows under some schedule.
 pub fn image_to_lazy()
     ensures { ImageToLazy }
+{}
+
+/// A run from an image, and one from that image without objects that nothing else in it names, show the same.
+pub fn dropped_unseen()
+    ensures { DroppedUnseen }
 {}
 
 /// What an analysis says of code holds of whatever runs: in each world that a run leads to, a frame that stands on the

@@ -8,7 +8,7 @@ ghost use Rattle.vm_state.specs.Objects.{empty_row, row_of, object_in};
 ghost use Rattle.vm_state.specs.steps.Objects.{with_next, object_at_place};
 ghost use Rattle.vm_state.specs.SharedState.{with_new, with_slot, with_monitor};
 ghost use Rattle.vm_state.specs.Objects.{AscendsFrom};
-ghost use Rattle.vm_state.specs.Pools.{IsRowOf, pool_at, pool_by, pool_in, with_pool};
+ghost use Rattle.vm_state.specs.Pools.{IsRowOf, held_count, is_marked, pool_at, pool_by, pool_in, with_marked, with_pool};
 
 use crate::object::{Monitor, Object, Slots};
 use crate::value::{Maker, Value};
@@ -67,6 +67,16 @@ fn copy_objects(
         copies.push((held.0, held.1.copy(alloc)?))?;
     }
     Ok(())
+}
+
+/// Whether a number is marked: none is past the end.
+fn is_marked(marks: &[bool], number: u64) -> bool
+    ensures { result ≡ is_marked marks.now number }
+{
+    match marks.get(number as usize) {
+        Some(mark) => *mark,
+        None => false,
+    }
 }
 
 impl Row {
@@ -154,6 +164,20 @@ impl Row {
             let held = &mut self.objects[place];
             held.1.monitor = monitor;
         }
+    }
+
+    /// How many objects are held.
+    pub fn len(&self) -> usize
+        ensures { result ≡ held_count (pool_by self.now) }
+    {
+        self.objects.len()
+    }
+
+    /// Leaves out the objects whose numbers are not marked. How many were made stays.
+    pub fn keep(&mut self, marks: &[bool])
+        ensures { pool_by self.new ≡ with_marked marks.now (pool_by self.old) }
+    {
+        self.objects.retain(|held| is_marked(marks, held.0));
     }
 
     /// One more object, of the next number, which it answers. Where memory is refused nothing changes.

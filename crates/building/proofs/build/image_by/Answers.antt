@@ -1,4 +1,8 @@
-use Rattle.building.specs.Builds.{text_of}
+use Rattle.std.proofs.Common.{◌≡◌, inl}
+use Rattle.std.proofs.lemmas.Result.{IfOk-weaker, IfErr-weaker}
+use Rattle.building.specs.declared.build.BuildFault.TheVariants.{Memory}
+use Rattle.building.specs.Builds.{text_of, IsBuildOfProgram}
+use Rattle.building.specs.steps.Gathered.{IsGathered}
 use Rattle.building.proofs.BuildLemmas.{whole_by, small_by, is_build}
 use Rattle.building.proofs.build.image_by.Goals as goal
 
@@ -18,8 +22,17 @@ image_of-requires-clause-small c =
 
 pub returns-in-Ok-clause-build : goal.returns-in-Ok-clause-build
 returns-in-Ok-clause-build c =
-    rw c.image_of.ensures (is_build c.args.program c.args.options.now c.in-Ok.settled
-    (rw c.in-Ok.is at c.requires.settled.settled) c.is_linked.ensures)
+    IfOk-weaker c.image_of.result (IsGathered c.args.program c.in-Ok.settled)
+    (IsBuildOfProgram c.args.program c.args.options.now)
+    (λ built gathered. is_build c.args.program c.args.options.now c.in-Ok.settled
+    (rw c.in-Ok.is at c.requires.settled.settled) built c.is_linked.ensures
+    (whole_by c.args.program (text_of c.args.options.now.run_time) (text_of c.args.options.now.build_time)
+    c.args.options.now.budget c.is_linked.ensures c.in-Ok.settled c.requires.files
+    (rw c.in-Ok.is at c.requires.settled.settled)) gathered)
+    c.image_of.ensures.gathered
+
+pub returns-in-Ok-clause-fault : goal.returns-in-Ok-clause-fault
+returns-in-Ok-clause-fault c = IfErr-weaker c.image_of.result (λ f. f ≡ Memory) _ (λ f e. inl e) c.image_of.ensures.memory
 
 pub returns-in-Err-clause-fault : goal.returns-in-Err-clause-fault
 returns-in-Err-clause-fault c = rw c.in-Err.is at c.requires.settled.fault

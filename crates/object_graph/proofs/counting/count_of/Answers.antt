@@ -1,25 +1,17 @@
-use Rattle.std.proofs.Common.{◌≡◌, ◌≤◌, ℕ, Some, None, subst, arith}
+use Rattle.std.proofs.Common.{ℕ, is_some, arith}
+use Rattle.std.specs.List.{range_with_len}
+use Rattle.std.proofs.lemmas.List.FromFn.{length-range_with_len}
+use Rattle.std.proofs.lemmas.List.Sums.{count_by-le-length}
 use Rattle.vm_state.specs.Pools.{pool_by}
-use Rattle.object_graph.proofs.CountsLemmas.{held_none, held_more, count_here, count_last}
 use Rattle.object_graph.proofs.counting.count_of.Goals as goal
 
-pub loop-number-init : goal.loop-number-init
-loop-number-init c = held_none (pool_by c.args.objects.now)
-
-pub loop-number-preserved : goal.loop-number-preserved
-loop-number-preserved c =
-    held_more (pool_by c.args.objects.now) c.loop-number.number c.in-Some.field-0.now
-    (subst (λ (n : ℕ). Some c.in-Some.field-0.now ≡ (pool_by c.args.objects.now).at n) c.from.ensures
-    c.in-Some.ensures) c.loop-number.invariant
-
-pub returns-in-None : goal.returns-in-None
-returns-in-None c =
-    count_here (pool_by c.args.objects.now) c.loop-number.number c.requires.all c.loop-number.invariant
-    (subst (λ (n : ℕ). None ≡ (pool_by c.args.objects.now).at n) c.from.ensures c.in-None.ensures)
-
-pub returns : goal.returns
-returns c =
-    let within : (pool_by c.args.objects.now).count ≤ c.loop-number.number = omega arith in
-    let same =
-    count_last (pool_by c.args.objects.now) c.loop-number.number c.requires.all c.loop-number.invariant within in
-    omega (arith, same)
+pub overflow_cast-result : goal.overflow_cast-result
+overflow_cast-result c =
+    let numbers = range_with_len 0 (pool_by c.args.objects.now).count in
+    omega (
+      arith,
+      c.len.ensures,
+      count_by-le-length (λ (n : ℕ). is_some ((pool_by c.args.objects.now).at n)) numbers,
+      length-range_with_len 0 (pool_by c.args.objects.now).count,
+      c.requires,
+    )

@@ -4,7 +4,7 @@ use Rattle.object_graph.proofs.reach.object_of.Goals as goal
 
 pub returns-in-Some : goal.returns-in-Some
 returns-in-Some c =
-    c.object.ensures ∙ ap (λ o. object_among o c.args.name.number) c.in-Some.ensures.value
+    c.object.ensures ∙ ap (λ o. object_among o c.args.name.number) c.in-Some.ensures
 
 pub returns-in-None : goal.returns-in-None
-returns-in-None c = ap (λ o. object_among o c.args.name.number) c.in-None.ensures.value
+returns-in-None c = ap (λ o. object_among o c.args.name.number) c.in-None.ensures

@@ -5,16 +5,16 @@ use Rattle.object_graph.proofs.reach.search.Goals as goal
 
 pub loop-next-init : goal.loop-next-init
 loop-next-init c =
-    searching_first c.args.image.now.program (environment_of c.args.image.now.regions) c.visit_statics.new.found
+    searching_first c.args.program.now (environment_of c.args.regions.now) c.visit_statics.new.found
     (rw c.requires at c.in_ok-visit_statics.ensures)
 
 pub loop-next-preserved : goal.loop-next-preserved
 loop-next-preserved c =
-    searching_next c.args.image.now.program (environment_of c.args.image.now.regions) c.loop-next.found
+    searching_next c.args.program.now (environment_of c.args.regions.now) c.loop-next.found
     c.visit_object.new.found c.loop-next.next c.at-name.result c.at-name.ensures c.loop-next.invariant
     c.in_ok-visit_object.ensures
 
 pub returns-clause-reached : goal.returns-clause-reached
 returns-clause-reached c =
-    searching_done c.args.image.now.program (environment_of c.args.image.now.regions) c.loop-next.found
+    searching_done c.args.program.now (environment_of c.args.regions.now) c.loop-next.found
     c.loop-next.next (omega arith) c.loop-next.invariant

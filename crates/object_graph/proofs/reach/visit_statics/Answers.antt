@@ -1,25 +1,20 @@
-use Rattle.std.proofs.Common.{◌≤◌, arith, ap, length}
-use Rattle.program.specs.Tables.{Tables}
+use Rattle.std.proofs.Common.{◌≤◌, arith, length}
 use Rattle.evaluator.specs.Regions.{environment_of}
 use Rattle.object_graph.proofs.AddsLemmas.{statics_none, statics_more, statics_all}
 use Rattle.object_graph.proofs.reach.visit_statics.Goals as goal
 
 pub loop-class-init : goal.loop-class-init
 loop-class-init c =
-    statics_none c.args.image.now.program (environment_of c.args.image.now.regions) c.args.found.now
+    statics_none c.args.program.now (environment_of c.args.regions.now) c.args.found.now
 
 pub loop-class-preserved : goal.loop-class-preserved
 loop-class-preserved c =
-    statics_more c.args.image.now.program (environment_of c.args.image.now.regions) c.loop-class.class c.args.found.now
+    statics_more c.args.program.now (environment_of c.args.regions.now) c.loop-class.class c.args.found.now
     c.loop-class.found c.visit_statics_of.new.found c.loop-class.invariant c.in_ok-visit_statics_of.ensures
 
 pub returns : goal.returns
 returns c =
-    let all : length c.args.image.now.program.classes ≤ c.loop-class.class =
-    omega (
-      arith,
-      c.given_count-class-end.ensures.value,
-      ap (λ (P : Tables). length P.classes) c.program.ensures,
-    ) in
-    statics_all c.args.image.now.program (environment_of c.args.image.now.regions) c.loop-class.class c.args.found.now
+    let all : length c.args.program.now.classes ≤ c.loop-class.class =
+    omega (arith, c.given_count-class-end.ensures.value) in
+    statics_all c.args.program.now (environment_of c.args.regions.now) c.loop-class.class c.args.found.now
     c.loop-class.found all c.loop-class.invariant

@@ -5,4 +5,4 @@ use Rattle.object_graph.proofs.reach.visit_statics.Given as goal
 
 abbrev pub invariant-loop-class : goal.invariant-loop-class
 invariant-loop-class l =
-    Adds l.fn.found (IsInStaticsBelow l.image.program (environment_of l.image.regions) l.class) l.found
+    Adds l.fn.found (IsInStaticsBelow l.program (environment_of l.regions) l.class) l.found
