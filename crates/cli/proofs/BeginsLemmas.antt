@@ -6,7 +6,7 @@ use Rattle.object_graph.specs.Images.{ImageTables}
 use Rattle.init_engine.specs.Starts.{IsStart}
 use Rattle.image_reader.specs.Starts.{IsImageStart}
 use Rattle.cli.specs.Begins.{IsBegun, IsBegunFromImage}
-use Rattle.cli.specs.ImageRuns.{IsTextOf}
+use Rattle.cli.specs.ImageRuns.{IsSomeTextOf}
 use Rattle.cli.specs.Runs.{IsProgramOf}
 
 -- what holds a program holds one of the same texts
@@ -23,7 +23,7 @@ module _ {S E : Type 0} (world : S → World) (names : List (List ℕ)) where
   begun program texts (Err e) is start = tt
 
   pub begun_from_image : (image : S → ImageTables) (bytes : List ℕ) (r : Result S E)
-      → IfOk r (λ s. IsTextOf bytes (image s)) → IfOk r (λ s. IsImageStart (image s) names (world s))
+      → IfOk r (λ s. IsSomeTextOf bytes (image s)) → IfOk r (λ s. IsImageStart (image s) names (world s))
       → IfOk r (λ s. IsBegunFromImage (image s) (world s))
   begun_from_image image bytes (Ok s) is start = record { bytes = bytes; names = names; text = is; start = start }
   begun_from_image image bytes (Err e) is start = tt

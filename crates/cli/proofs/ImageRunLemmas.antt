@@ -9,7 +9,7 @@ use Rattle.init_engine.specs.declared.fault.EntryFault.{EntryFault}
 use Rattle.init_engine.specs.declared.fault.EntryFault.TheVariants as entry_faults
 use Rattle.cli.specs.declared.fault.Refusal.{Refusal}
 use Rattle.cli.specs.declared.fault.Refusal.TheVariants.{Image, Entry, Memory}
-use Rattle.cli.specs.ImageRuns.{IsNoRun, IsTextOf, image, entry}
+use Rattle.cli.specs.ImageRuns.{IsNoRun, IsSomeTextOf, image, entry}
 
 pub refused_image : (bytes : List ℕ) (names : List (List ℕ)) (fault : ImageFault) (r : Refusal)
     → (fault ≡ image_faults.Memory) ⊎ ImageFails bytes fault → (fault ≡ image_faults.Memory → r ≡ Memory)
@@ -20,7 +20,7 @@ refused_image bytes names fault r (inr fails) memory other =
     inr (subst (λ (x : Refusal). IsNoRun bytes names x) (sym (other (λ e. cc))) (image fails))
 
 pub refused_entry_of : (bytes : List ℕ) (names : List (List ℕ)) (I : ImageTables) (fault : EntryFault) (r : Refusal)
-    → IsTextOf bytes I → (fault ≡ entry_faults.Memory) ⊎ EntriesFail I.program names fault
+    → IsSomeTextOf bytes I → (fault ≡ entry_faults.Memory) ⊎ EntriesFail I.program names fault
     → (fault ≡ entry_faults.Memory → r ≡ Memory) → (fault ≢ entry_faults.Memory → r ≡ Entry fault)
     → (r ≡ Memory) ⊎ IsNoRun bytes names r
 refused_entry_of bytes names I fault r of (inl e) memory other = inl (memory e)

@@ -7,6 +7,7 @@ pub mod OneBuildLemmas
 pub mod RunningLemmas
 pub mod ImageBuildLemmas
 pub mod ImageRunLemmas
+pub mod RenewedLemmas
 pub mod EntriesLemmas
 pub mod HeadlineLemmas
 pub mod BeginsLemmas

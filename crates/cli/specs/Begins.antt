@@ -5,7 +5,7 @@ use Rattle.program.specs.Tables.{Tables}
 use Rattle.object_graph.specs.Images.{ImageTables}
 use Rattle.init_engine.specs.Starts.{IsStart}
 use Rattle.image_reader.specs.Starts.{IsImageStart}
-use Rattle.cli.specs.ImageRuns.{IsTextOf}
+use Rattle.cli.specs.ImageRuns.{IsSomeTextOf}
 use Rattle.cli.specs.Runs.{IsProgramOf}
 
 -- The lazy start, from entries of some names, of the program of class files of which these are the texts.
@@ -19,5 +19,5 @@ pub record IsBegun (P : Tables) (w : World) : Type 0 where
 pub record IsBegunFromImage (I : ImageTables) (w : World) : Type 0 where
   pub bytes : List ℕ
   pub names : List (List ℕ)
-  pub text : IsTextOf bytes I
+  pub text : IsSomeTextOf bytes I
   pub start : IsImageStart I names w

@@ -2,7 +2,7 @@
 use Rattle.std.specs.Prelude.{ℕ, List}
 use Rattle.semantics.specs.Worlds.{World}
 use Rattle.object_graph.specs.Images.{ImageTables}
-use Rattle.image_format.specs.Images.{ImageText}
+use Rattle.image_format.specs.Images.{ImageText, SomeText}
 use Rattle.image_parser.specs.ImageFaults.{ImageFails}
 use Rattle.image_parser.specs.declared.image_fault.ImageFault.{ImageFault}
 use Rattle.image_writer.specs.ImageTexts.{told_of}
@@ -18,6 +18,10 @@ use Rattle.cli.specs.Runs.{IsShownFrom}
 abbrev pub IsTextOf : List ℕ → ImageTables → Type 0
 IsTextOf bytes I = ImageText bytes I.program.family (told_of I)
 
+-- the bytes are a text of the image, of either version
+abbrev pub IsSomeTextOf : List ℕ → ImageTables → Type 0
+IsSomeTextOf bytes I = SomeText bytes I.program.family (told_of I)
+
 -- what is seen after the turns of a thread for each entry, of at most so many steps, from the start of the image
 pub record IsShownFromImage (I : ImageTables) (names : List (List ℕ)) (limit : ℕ) (shown : Shown) : Type 0 where
   pub first : World
@@ -27,5 +31,5 @@ pub record IsShownFromImage (I : ImageTables) (names : List (List ℕ)) (limit :
 -- why there is no run, but for want of memory: the bytes are no image, or else the entries can't be run in it
 pub data IsNoRun (bytes : List ℕ) (names : List (List ℕ)) : Refusal → Type 0 where
   image : {fault : ImageFault} → ImageFails bytes fault → IsNoRun bytes names (Image fault)
-  entry : (I : ImageTables) {fault : EntryFault} → IsTextOf bytes I → EntriesFail I.program names fault
+  entry : (I : ImageTables) {fault : EntryFault} → IsSomeTextOf bytes I → EntriesFail I.program names fault
       → IsNoRun bytes names (Entry fault)

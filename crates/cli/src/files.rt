@@ -78,3 +78,16 @@ fn add_bytes(contents: &mut Vec<Vec<u8>>, bytes: Vec<u8>) -> Result<(), AllocErr
 {
     Ok(contents.push(bytes)?)
 }
+
+/// Makes a file of these bytes.
+pub(crate) fn put<F: Files>(
+    alloc: Global,
+    name: &str,
+    bytes: &[u8],
+    files: &mut F,
+) -> Result<(), Refusal> {
+    match files.put(name, bytes) {
+        Ok(()) => Ok(()),
+        Err(fault) => Err(Refusal::of_file(alloc, name, fault)),
+    }
+}

@@ -9,7 +9,7 @@ ghost use Rattle.cli.specs.ImageBuilds.{AreAtMost, IsBuiltText};
 ghost use Rattle.cli.specs.Runs.{texts_of};
 
 use crate::builds::build;
-use crate::files::contents;
+use crate::files::{contents, put};
 use crate::requested::{options_of, refusal_of};
 use crate::{Build, Files, Refusal};
 use building::{BuildFault, BuildOptions};
@@ -73,13 +73,5 @@ pub(crate) fn run<R: Threads + Wait + Sync, F: Files>(
     match build_image(rt, alloc, texts.as_slice(), &options, words.workers, &Open) {
         Ok(bytes) => put(alloc, words.image, bytes.as_slice(), files),
         Err(fault) => Err(refusal_of(alloc, texts.as_slice(), fault)),
-    }
-}
-
-/// Makes a file of these bytes.
-fn put<F: Files>(alloc: Global, name: &str, bytes: &[u8], files: &mut F) -> Result<(), Refusal> {
-    match files.put(name, bytes) {
-        Ok(()) => Ok(()),
-        Err(fault) => Err(Refusal::of_file(alloc, name, fault)),
     }
 }

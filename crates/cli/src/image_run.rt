@@ -4,7 +4,7 @@ ghost use Rattle.init_engine.specs.Turns.{world_of};
 ghost use Rattle.image_reader.specs.Starts.{IsImageStart};
 ghost use Rattle.cli.specs.Begins.{IsBegunFromImage};
 ghost use Rattle.cli.specs.ImageBuilds.{IsBuiltText, IsImageOf};
-ghost use Rattle.cli.specs.ImageRuns.{IsNoRun, IsShownFromImage, IsTextOf};
+ghost use Rattle.cli.specs.ImageRuns.{IsNoRun, IsShownFromImage, IsSomeTextOf};
 ghost use Rattle.cli.specs.declared.fault.Refusal.TheVariants.{Memory};
 
 use crate::lazy::{Shown, entries_of, shown_by_turns};
@@ -33,9 +33,9 @@ pub fn run_image(
     entries: &[ClassName],
     limit: u64,
 ) -> Result<ImageRun, Refusal>
-    // The bytes are the text of the image, the entries are its classes, and what is shown is what is seen after the
-    // turns of its start.
-    ensures image { IfOk result (λ run. IsTextOf bytes.now run.image) }
+    // The bytes are a text of the image, of either version, the entries are its classes, and what is shown is what is
+    // seen after the turns of its start.
+    ensures image { IfOk result (λ run. IsSomeTextOf bytes.now run.image) }
     ensures shown { IfOk result (λ run. IsShownFromImage run.image entries.now limit run.shown) }
     // The text of an image that is built of class files is run as such an image. So the headline holds of it: what it
     // shows, these class files show under some schedule of the lazy procedure, and conversely, for every list of
@@ -65,7 +65,7 @@ pub(crate) struct ImageStart {
 
 /// The start from an image of these bytes.
 fn image_start(alloc: Global, bytes: &[u8], entries: &[ClassName]) -> Result<ImageStart, Refusal>
-    ensures image { IfOk result (λ start. IsTextOf bytes.now start.image) }
+    ensures image { IfOk result (λ start. IsSomeTextOf bytes.now start.image) }
     ensures start { IfOk result (λ start. IsImageStart start.image entries.now (world_of start.world)) }
     ensures built { (texts : List (List ℕ)) (run_time build_time : Option (List ℕ)) (budget : ℕ)
         → IsBuiltText texts run_time build_time budget bytes.now

@@ -13,7 +13,7 @@ use crate::lazy::LazyStart;
 use crate::running::send_seen;
 use crate::{
     Files, Lazy, Ran, Refusal, Replay, Request, Run, RunFault, Status, WordsFault, image_build,
-    image_run, lazy, reporting, request_of, run_world, status_of, thread_lines,
+    image_run, lazy, renewing, reporting, request_of, run_world, status_of, thread_lines,
 };
 use init_engine::{Ending, World};
 use journal::Journal;
@@ -138,6 +138,10 @@ fn do_request<R: Threads + Wait + Sync, F: Files, W: Write + Send + Drop, E: Wri
         Request::Lazy(words) => {
             let (status, held) = run_lazily(alloc, words, files, &mut out, errors);
             (status, held, out)
+        }
+        Request::Renew(words) => {
+            let status = tell_done(renewing::run(alloc, words, files), errors);
+            (status, Held::Nothing, out)
         }
         Request::Report(words) => {
             let status = tell_report(reporting::run(alloc, words, files), &mut out, errors);

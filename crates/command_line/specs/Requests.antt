@@ -13,6 +13,7 @@ use Rattle.clap.specs.declared.parser.matches.Found.{Found}
 use Rattle.command_line.specs.declared.request.Build.{Build}
 use Rattle.command_line.specs.declared.request.Building.{Building}
 use Rattle.command_line.specs.declared.request.Lazy.{Lazy}
+use Rattle.command_line.specs.declared.request.Renew.{Renew}
 use Rattle.command_line.specs.declared.request.Replay.{Replay}
 use Rattle.command_line.specs.declared.request.Request.{Request}
 use Rattle.command_line.specs.declared.request.Request.TheVariants as requests
@@ -66,6 +67,11 @@ pub record HoldsRun (found : Found) (run : Run) : Type 0 where
   pub journal : option_map (λ (s : Bor (List ℕ)). s.now) run.journal ≡ first_value found (codes "journal")
   pub image : first_value found (codes "image") ≡ Some run.image.now
 
+-- what the words ask for, of an image to be written again
+pub record HoldsRenew (found : Found) (renew : Renew) : Type 0 where
+  pub new : first_value found (codes "out") ≡ Some renew.new.now
+  pub image : first_value found (codes "image") ≡ Some renew.image.now
+
 pub record HoldsReplay (found : Found) (replay : Replay) : Type 0 where
   pub entries : first_value found (codes "entries") ≡ Some replay.entries.now
   pub journal : first_value found (codes "journal") ≡ Some replay.journal.now
@@ -75,6 +81,7 @@ pub record HoldsReplay (found : Found) (replay : Replay) : Type 0 where
 abbrev pub Holds : List ℕ → Found → Request → Type 0
 Holds name found (requests.Build build) = (name ≡ codes "build") × HoldsBuild found build
 Holds name found (requests.Lazy lazy) = (name ≡ codes "lazy") × HoldsLazy found lazy
+Holds name found (requests.Renew renew) = (name ≡ codes "renew") × HoldsRenew found renew
 Holds name found (requests.Replay replay) = (name ≡ codes "replay") × HoldsReplay found replay
 Holds name found (requests.Report building) = (name ≡ codes "report") × HoldsBuilding found building
 Holds name found (requests.Run run) = (name ≡ codes "run") × HoldsRun found run

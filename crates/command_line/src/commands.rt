@@ -1,8 +1,9 @@
 //! The commands of the program and their arguments.
 
 use crate::texts::{
-    BUILD_ABOUT, BUILD_LONG_ABOUT, LAZY_ABOUT, LAZY_LONG_ABOUT, PROGRAM_ABOUT, REPLAY_ABOUT,
-    REPLAY_LONG_ABOUT, REPORT_ABOUT, REPORT_LONG_ABOUT, RUN_ABOUT, RUN_LONG_ABOUT, STATUSES,
+    BUILD_ABOUT, BUILD_LONG_ABOUT, LAZY_ABOUT, LAZY_LONG_ABOUT, PROGRAM_ABOUT, RENEW_ABOUT,
+    RENEW_LONG_ABOUT, REPLAY_ABOUT, REPLAY_LONG_ABOUT, REPORT_ABOUT, REPORT_LONG_ABOUT, RUN_ABOUT,
+    RUN_LONG_ABOUT, STATUSES,
 };
 use clap::{Arg, ArgAction, Command, value_parser};
 use std::alloc::{AllocError, Global};
@@ -27,7 +28,11 @@ fn with_commands_of_builds<'a>(
 ) -> Result<Command<'a>, AllocError> {
     let build = build_command(alloc)?;
     let report = report_command(alloc)?;
-    program.subcommand(build)?.subcommand(report)
+    let renew = renew_command(alloc)?;
+    program
+        .subcommand(build)?
+        .subcommand(report)?
+        .subcommand(renew)
 }
 
 fn with_commands_of_runs<'a>(
@@ -65,6 +70,12 @@ fn report_command<'a>(alloc: Global) -> Result<Command<'a>, AllocError> {
     with_building(alloc, report)
 }
 
+fn renew_command<'a>(alloc: Global) -> Result<Command<'a>, AllocError> {
+    described(alloc, "renew", RENEW_ABOUT, RENEW_LONG_ABOUT)
+        .arg(out(alloc))?
+        .arg(image(alloc, "The image to write again"))
+}
+
 fn lazy_command<'a>(alloc: Global) -> Result<Command<'a>, AllocError> {
     let lazy = described(alloc, "lazy", LAZY_ABOUT, LAZY_LONG_ABOUT);
     with_entries(alloc, lazy)?.arg(file(alloc, "The class files to run, in any order"))
@@ -75,7 +86,7 @@ fn run_command<'a>(alloc: Global) -> Result<Command<'a>, AllocError> {
     with_entries(alloc, run)?
         .arg(turns(alloc))?
         .arg(written_journal(alloc))?
-        .arg(image(alloc))
+        .arg(image(alloc, "The image to run"))
 }
 
 fn replay_command<'a>(alloc: Global) -> Result<Command<'a>, AllocError> {
@@ -83,7 +94,7 @@ fn replay_command<'a>(alloc: Global) -> Result<Command<'a>, AllocError> {
     replay
         .arg(entries(alloc))?
         .arg(read_journal(alloc))?
-        .arg(image(alloc))
+        .arg(image(alloc, "The image to run"))
 }
 
 /// A command without its arguments.
@@ -169,11 +180,11 @@ fn read_journal<'a>(alloc: Global) -> Arg<'a> {
         .help("The file that has the journal")
 }
 
-fn image<'a>(alloc: Global) -> Arg<'a> {
+fn image<'a>(alloc: Global, help: &'a str) -> Arg<'a> {
     Arg::new(alloc, "image")
         .value_name("IMG")
         .required(true)
-        .help("The image to run")
+        .help(help)
 }
 
 fn file<'a>(alloc: Global, help: &'a str) -> Arg<'a> {

@@ -14,5 +14,5 @@ mod words;
 
 pub use fault::WordsFault;
 pub use matched::line;
-pub use request::{Build, Building, Lazy, Replay, Request, Run};
+pub use request::{Build, Building, Lazy, Renew, Replay, Request, Run};
 pub use words::request_of;

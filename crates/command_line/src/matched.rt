@@ -2,11 +2,11 @@
 ghost use Rattle.std.specs.Prelude.{◌≡◌, IfOk, IfSome, codes};
 ghost use Rattle.clap.specs.Matches.{found_of};
 ghost use Rattle.command_line.specs.Requests.{AsksFor, Holds, HoldsBits, HoldsBuild, HoldsBuilding, HoldsLazy};
-ghost use Rattle.command_line.specs.Requests.{HoldsFlag, HoldsNumber, HoldsReplay, HoldsRun, IsLine, texts, values_of};
+ghost use Rattle.command_line.specs.Requests.{HoldsFlag, HoldsNumber, HoldsRenew, HoldsReplay, HoldsRun, IsLine, texts, values_of};
 
 use crate::commands::program;
 use crate::parsed::fault_of;
-use crate::{Build, Building, Lazy, Replay, Request, Run, WordsFault};
+use crate::{Build, Building, Lazy, Renew, Replay, Request, Run, WordsFault};
 use clap::error::ErrorKind;
 use clap::{ArgMatches, Command};
 use std::alloc::{AllocError, Global};
@@ -66,6 +66,7 @@ fn asked_of<'a>(
     match name {
         "build" => Ok(build_of(alloc, arguments)?.map(Request::Build)),
         "lazy" => Ok(lazy_of(alloc, arguments)?.map(Request::Lazy)),
+        "renew" => Ok(renew_of(arguments).map(Request::Renew)),
         "replay" => Ok(replay_of(arguments).map(Request::Replay)),
         "report" => Ok(building_of(alloc, arguments)?.map(Request::Report)),
         "run" => Ok(run_of(arguments).map(Request::Run)),
@@ -117,6 +118,14 @@ fn lazy_of<'a>(alloc: Global, matches: &ArgMatches<'a>) -> Result<Option<Lazy<'a
         })),
         _ => Ok(None),
     }
+}
+
+fn renew_of<'a>(matches: &ArgMatches<'a>) -> Option<Renew<'a>>
+    ensures { IfSome result (HoldsRenew (found_of matches.now)) }
+{
+    let new = matches.get_str("out")?;
+    let image = matches.get_str("image")?;
+    Some(Renew { new, image })
 }
 
 fn run_of<'a>(matches: &ArgMatches<'a>) -> Option<Run<'a>>

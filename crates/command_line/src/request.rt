@@ -7,6 +7,8 @@ pub enum Request<'a> {
     Build(Build<'a>),
     /// `lazy`: run class files by turns.
     Lazy(Lazy<'a>),
+    /// `renew`: write an image again, in the version that is written today.
+    Renew(Renew<'a>),
     /// `replay`: run an image by a journal.
     Replay(Replay<'a>),
     /// `report`: tell which classes are initialized at build time.
@@ -48,6 +50,15 @@ pub struct Lazy<'a> {
     pub limit: u64,
     /// The names of the class files, in the order given.
     pub files: Vec<&'a str>,
+}
+
+/// What the words of `renew` ask for.
+#[derive(Drop)]
+pub struct Renew<'a> {
+    /// The name of the file that gets the new image.
+    pub new: &'a str,
+    /// The name of the image's file.
+    pub image: &'a str,
 }
 
 /// What the words of `run` ask for.

@@ -57,7 +57,7 @@ within a budget. A class may, where its code does nothing that another class or 
 that it uses are initialized before it.
 
 Standard output gets a line for each class, in the order of their names:
-  app/Table build 0 12              initialized at build time, in wave 0; its initializer made 12 objects
+  app/Table build 0 12              initialized at build time, in wave 0; 12 objects of it are in the image
   app/Main run Prints               initialized at run time, since its initializer may print
 The other reasons: Forced (by an option), Throws, Monitors, ForeignWrite, ForeignRead (a field of another class that is
 not final), Unsupported, Missing, Cycle, DependsOn CLASS (a class that it uses is initialized at run time), and of the
@@ -68,6 +68,18 @@ An option's fault is told by its text: Empty and the place of an item, Unknown a
 asked for at both times, Demanded and a class that can't be initialized at build time, with the reason.
 
 For example: preinit report --initialize-at-run-time app.log app/Main.class app/Table.class";
+
+pub(crate) const RENEW_ABOUT: &str = "\
+Writes an image again, in the version that 'preinit build' writes";
+
+pub(crate) const RENEW_LONG_ABOUT: &str = "\
+Reads an image of version 1 or 2 and writes it in version 2, which leaves out the objects that no static reaches. A run
+from the new image shows what a run from the old one shows. An image of version 2 is written as it is.
+
+Standard output gets nothing. Where the new image can't be written, the file is named as it was given: 'preinit: File
+new.img'. What is wrong with an image is told as for 'preinit run'.
+
+For example: preinit renew --out new.img app.img";
 
 pub(crate) const RUN_ABOUT: &str = "\
 Runs an image that 'preinit build' wrote";
@@ -82,7 +94,7 @@ system, in whatever order these come, and a run ends at most 1,023 steps behind 
 each time that another thread goes on: its number, and how many steps it makes.
 
 What is wrong with an image is told by its text: Truncated, Magic, Version, Digest, Class and a class file with its
-fault, Link, Order, Shape and Name with a class, and Extra.
+fault, Link, Order, Shape, Name and Idle with a class, and Extra.
 
 For example: preinit run --journal app.journal --entries app.Main,app.Other app.img";
 

@@ -1,1 +1,5 @@
 pub mod NamesLemmas
+pub mod KnownLemmas
+pub mod ReachedLemmas
+pub mod DroppedLemmas
+pub mod RowsLemmas

@@ -1,8 +1,8 @@
 -- The shape of a region in an image: each static suits its field, and each object is an instance of a class that has
 -- instances, with just the slots that such an instance has, or an array, each slot suiting its field or the elements'
 -- type. What is counted fits the number that counts it.
-use Rattle.std.specs.Prelude.{◌≡◌, ℕ, ℤ, pos, negsuc, ◌<◌, ◌≤◌, ◌^◌, Bool, true, false, ◌&&◌, List, [], length}
-use Rattle.std.specs.Prelude.{is_some, FitsSigned, int_le}
+use Rattle.std.specs.Prelude.{◌≡◌, ℕ, ◌+◌, ℤ, pos, negsuc, ◌<◌, ◌≤◌, ◌^◌, Bool, true, false, ◌&&◌, List, [], ◌∷◌}
+use Rattle.std.specs.Prelude.{length, is_some, FitsSigned, int_le}
 use Rattle.std.specs.List.{All, AllZip}
 use Rattle.std.specs.Int.{w32, w64}
 use Rattle.classfile.specs.Units.{IsModifiedUtf8}
@@ -22,7 +22,10 @@ use Rattle.image_format.specs.declared.value.ImageValue.TheVariants as values
 use Rattle.image_format.specs.declared.object.ImageClass.{ImageClass}
 use Rattle.image_format.specs.declared.object.ImageClass.TheVariants as image
 use Rattle.image_format.specs.declared.object.ImageObject.{ImageObject}
+use Rattle.image_format.specs.declared.object.KeptObject.{KeptObject}
 use Rattle.image_format.specs.declared.region.ImageRegion.{ImageRegion}
+use Rattle.image_format.specs.declared.version.Version.{Version}
+use Rattle.image_format.specs.declared.version.Version.TheVariants as versions
 use Rattle.image_format.specs.Names.{name_of_class}
 use Rattle.image_format.specs.Elements.{kind_of_elements}
 
@@ -144,7 +147,26 @@ pub record ObjectHasShape (family : Family) (object : ImageObject) : Type 0 wher
 
 -- ---- regions
 
-pub record HasShape (family : Family) (c : ℕ) (region : ImageRegion) : Type 0 where
-  pub count : length region.objects < 2 ^ 32
+-- The number of an object, where those before it are below this one: in version 1 each number has its object; in
+-- version 2 some of those below the count have one.
+abbrev pub IsNumber : Version → ℕ → ℕ → ℕ → Type 0
+IsNumber versions.One count least n = n ≡ least
+IsNumber versions.Two count least n = (least ≤ n) × (n < count)
+
+-- the numbers of objects from one on, strictly ascending
+abbrev pub AreNumbered : Version → ℕ → ℕ → List KeptObject → Type 0
+AreNumbered version count least [] = Unit {0}
+AreNumbered version count least (kept ∷ more) =
+    IsNumber version count least kept.number × AreNumbered version count (kept.number + 1) more
+
+-- how many objects there are: in version 1 as many as were made
+abbrev pub AreSoMany : Version → ℕ → ℕ → Type 0
+AreSoMany versions.One count many = many ≡ count
+AreSoMany versions.Two count many = Unit {0}
+
+pub record HasShape (version : Version) (family : Family) (c : ℕ) (region : ImageRegion) : Type 0 where
+  pub count : region.count < 2 ^ 32
   pub statics : AllZip Suits (static_kinds family c) region.statics
-  pub objects : All (ObjectHasShape family) region.objects
+  pub many : AreSoMany version region.count (length region.objects)
+  pub numbers : AreNumbered version region.count 0 region.objects
+  pub objects : All (λ (kept : KeptObject). ObjectHasShape family kept.object) region.objects

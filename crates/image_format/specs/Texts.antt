@@ -1,5 +1,5 @@
 -- The one text of each part of an image: a function of what it holds. Numbers are big-endian.
-use Rattle.std.specs.Prelude.{ℕ, List, ◌++◌, length, Option, Some, None}
+use Rattle.std.specs.Prelude.{ℕ, List, [], ◌++◌, length, Option, Some, None}
 use Rattle.std.specs.List.{flat_map}
 use Rattle.std.specs.Int.{w8, w16, w32, w64, to_be_bytes, cast_unsigned}
 use Rattle.sha2.specs.Sha256.{sha256}
@@ -15,7 +15,10 @@ use Rattle.image_format.specs.declared.value.ImageValue.TheVariants as values
 use Rattle.image_format.specs.declared.object.ImageClass.{ImageClass}
 use Rattle.image_format.specs.declared.object.ImageClass.TheVariants as image
 use Rattle.image_format.specs.declared.object.ImageObject.{ImageObject}
+use Rattle.image_format.specs.declared.object.KeptObject.{KeptObject}
 use Rattle.image_format.specs.declared.region.ImageRegion.{ImageRegion}
+use Rattle.image_format.specs.declared.version.Version.{Version}
+use Rattle.image_format.specs.declared.version.Version.TheVariants as versions
 use Rattle.image_format.specs.Names.{name_of_class}
 use Rattle.image_format.specs.Elements.{kind_of_elements}
 use Rattle.program.specs.declared.runtime_constant.FieldKind.{FieldKind}
@@ -89,15 +92,24 @@ object_text family object = parts_text (name_of_class family object.class) objec
 
 -- ---- regions
 
--- the count of the objects, the statics, and the objects in the order of their numbers
-abbrev pub region_text : Family → ImageRegion → List ℕ
-region_text family region = u4 (length region.objects)
-    ++ (flat_map value_text region.statics ++ flat_map (object_text family) region.objects)
+-- a number that version 2 alone spells: how many objects are kept, and the number of each
+abbrev pub number_text : Version → ℕ → List ℕ
+number_text versions.One n = []
+number_text versions.Two n = u4 n
+
+abbrev pub kept_text : Version → Family → KeptObject → List ℕ
+kept_text version family kept = number_text version kept.number ++ object_text family kept.object
+
+-- the count of the objects that were made, the statics, and the objects that are kept in the order of their numbers
+abbrev pub region_text : Version → Family → ImageRegion → List ℕ
+region_text version family region = u4 region.count
+    ++ (flat_map value_text region.statics
+    ++ (number_text version (length region.objects) ++ flat_map (kept_text version family) region.objects))
 
 -- whether a class is initialized, and its region
-abbrev pub mark_text : Family → Option ImageRegion → List ℕ
-mark_text family None = u1 0
-mark_text family (Some region) = u1 1 ++ region_text family region
+abbrev pub mark_text : Version → Family → Option ImageRegion → List ℕ
+mark_text version family None = u1 0
+mark_text version family (Some region) = u1 1 ++ region_text version family region
 
 -- ---- the image
 
@@ -108,13 +120,17 @@ file_text file = u4 (length (class_text file)) ++ class_text file
 abbrev pub given_text : GivenClass → List ℕ
 given_text given = file_text given.file
 
+abbrev pub version_number : Version → ℕ
+version_number versions.One = 1
+version_number versions.Two = 2
+
 -- all before the digest: `JPIM`, the version, the count of classes, the class files, and their marks and regions
-abbrev pub body_text : Family → List (Option ImageRegion) → List ℕ
-body_text family regions = u4 1246775629 ++ (u2 1 ++ (u4 (length family)
-    ++ (flat_map given_text family ++ flat_map (mark_text family) regions)))
+abbrev pub body_text : Version → Family → List (Option ImageRegion) → List ℕ
+body_text version family regions = u4 1246775629 ++ (u2 (version_number version) ++ (u4 (length family)
+    ++ (flat_map given_text family ++ flat_map (mark_text version family) regions)))
 
 abbrev pub with_digest : List ℕ → List ℕ
 with_digest body = body ++ sha256 body
 
-abbrev pub image_text : Family → List (Option ImageRegion) → List ℕ
-image_text family regions = with_digest (body_text family regions)
+abbrev pub image_text : Version → Family → List (Option ImageRegion) → List ℕ
+image_text version family regions = with_digest (body_text version family regions)

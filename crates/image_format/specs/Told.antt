@@ -18,6 +18,7 @@ use Rattle.image_format.specs.declared.value.ImageValue.TheVariants as values
 use Rattle.image_format.specs.declared.object.ImageClass.{ImageClass}
 use Rattle.image_format.specs.declared.object.ImageClass.TheVariants as image
 use Rattle.image_format.specs.declared.object.ImageObject.{ImageObject}
+use Rattle.image_format.specs.declared.object.KeptObject.{KeptObject}
 use Rattle.image_format.specs.declared.region.ImageRegion.{ImageRegion}
 
 -- the units of the string of a number
@@ -48,13 +49,17 @@ abbrev pub told_object : List (List ℕ) → Object → ImageObject
 told_object strings object =
     record { class = told_class strings object.class; slots = map (told_value strings) object.slots }
 
-abbrev pub told_if : List (List ℕ) → Option Object → List ImageObject
-told_if strings None = []
-told_if strings (Some object) = told_object strings object ∷ []
+-- an object with its number
+abbrev pub told_kept : List (List ℕ) → ℕ × Object → KeptObject
+told_kept strings o = record { number = o.0; object = told_object strings o.1 }
 
--- the objects in the order of their numbers
-abbrev pub told_objects : List (List ℕ) → Pool → List ImageObject
-told_objects strings pool = flat_map (told_if strings) (map pool.at (range_with_len 0 pool.count))
+abbrev pub told_if : List (List ℕ) → ℕ → Option Object → List KeptObject
+told_if strings n None = []
+told_if strings n (Some object) = told_kept strings (n, object) ∷ []
+
+-- the objects that are held, in the order of their numbers
+abbrev pub told_objects : List (List ℕ) → Pool → List KeptObject
+told_objects strings pool = flat_map (λ n. told_if strings n (pool.at n)) (range_with_len 0 pool.count)
 
 -- the first so many static fields
 abbrev pub told_fields : List (List ℕ) → (ℕ → Value) → ℕ → List ImageValue
@@ -63,6 +68,7 @@ told_fields strings fields count = map (λ k. told_value strings (fields k)) (ra
 -- the region of a class
 abbrev pub told_region : Tables → ℕ → Region → ImageRegion
 told_region P c region = record {
+  count = region.pool.count;
   statics = told_fields P.strings region.fields (length (statics_in P c));
   objects = told_objects P.strings region.pool;
 }

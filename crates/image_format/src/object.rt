@@ -52,31 +52,45 @@ pub struct ImageObject {
     pub slots: ImageValues,
 }
 
+/// An object that is kept, and its number.
+#[derive(Drop)]
+pub struct KeptObject {
+    pub number: u32,
+    pub object: ImageObject,
+}
+
 /// Objects in order.
 #[derive(Drop)]
 pub struct ImageObjects {
-    objects: Vec<ImageObject>,
+    objects: Vec<KeptObject>,
 }
 
 impl Model for ImageObjects {
     ghost use Rattle.std.specs.Prelude.{List};
-    ghost use Rattle.image_format.specs.declared.object.ImageObject.{ImageObject};
+    ghost use Rattle.image_format.specs.declared.object.KeptObject.{KeptObject};
 
-    ghost Value = { List ImageObject };
+    ghost Value = { List KeptObject };
 
     ghost view = { λ s. s.objects.items };
 }
 
 impl ImageObjects {
     /// These objects.
-    pub fn of_vec(objects: Vec<ImageObject>) -> ImageObjects
+    pub fn of_vec(objects: Vec<KeptObject>) -> ImageObjects
         ensures { result ≡ objects.items }
     {
         ImageObjects { objects }
     }
 
+    /// The objects as a vector.
+    pub fn into_vec(self) -> Vec<KeptObject>
+        ensures { result.items ≡ self }
+    {
+        self.objects
+    }
+
     /// The objects as a slice.
-    pub fn as_slice(&self) -> &[ImageObject]
+    pub fn as_slice(&self) -> &[KeptObject]
         ensures { result.now ≡ self.now }
     {
         self.objects.as_slice()

@@ -6,10 +6,11 @@ use crate::object::ImageObjects;
 use crate::value::ImageValues;
 use std::marker::Model;
 
-/// What belongs to one class that is initialized: the values of its static fields, and its objects, whose numbers are
-/// their places.
+/// What belongs to one class that is initialized: how many objects its initializer made, the values of its static
+/// fields, and the objects that are kept, by ascending numbers.
 #[derive(Drop)]
 pub struct ImageRegion {
+    pub count: u32,
     pub statics: ImageValues,
     pub objects: ImageObjects,
 }
@@ -35,6 +36,13 @@ impl ImageRegions {
         ensures { result ≡ regions.items }
     {
         ImageRegions { regions }
+    }
+
+    /// The regions as a vector.
+    pub fn into_vec(self) -> Vec<Option<ImageRegion>>
+        ensures { result.items ≡ self }
+    {
+        self.regions
     }
 
     /// The regions as a slice.

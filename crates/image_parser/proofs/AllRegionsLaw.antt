@@ -1,6 +1,7 @@
 -- Bytes are the text of the regions of a program or have one fault, and never both.
-use Rattle.std.proofs.Common.{◌≡◌, ◌≢◌, ℕ, ◌<◌, ◌⊎◌, List, [], ◌∷◌, length, take, get_or, Some, None}
+use Rattle.std.proofs.Common.{◌≡◌, ◌≢◌, ℕ, ◌<◌, ◌⊎◌, Bool, true, false, is_some, List, [], ◌∷◌, length, take, get_or, Some, None}
 use Rattle.std.proofs.Common.{Result, Ok, Err, refl, sym, ap, subst, ◌∙◌, arith, inl, inr}
+use Rattle.std.specs.List.{All}
 use Rattle.std.proofs.lemmas.Bool.{cases_lt}
 use Rattle.std.proofs.lemmas.List.{append-nil, get_or-take, length-take}
 use Rattle.std.proofs.lemmas.Option.{slice_get_within, slice_get-get_or, same_Some}
@@ -8,8 +9,13 @@ use Rattle.classfile.specs.Faults.{IsBytes}
 use Rattle.loading.specs.Families.{Family, IsFamily}
 use Rattle.image_format.specs.declared.value.ImageValue.{ImageValue}
 use Rattle.image_format.specs.declared.value.ImageValue.TheVariants as values
-use Rattle.image_format.specs.declared.object.ImageObject.{ImageObject}
-use Rattle.image_format.specs.Images.{count_of, region_in, IsThere}
+use Rattle.image_format.specs.declared.object.KeptObject.{KeptObject}
+use Rattle.image_format.specs.Objects.{region_in, objects_of, object_of}
+use Rattle.image_format.specs.Reached.{IsReached, AreReached, kept_from}
+use Rattle.image_format.specs.Images.{IsThere, NeedsAll}
+use Rattle.image_format.proofs.DroppedLemmas.{keeps_of, dropped_of, one_dropped}
+use Rattle.image_format.specs.declared.version.Version.{Version}
+use Rattle.image_format.specs.declared.version.Version.TheVariants as versions
 use Rattle.image_parser.specs.declared.fault.MarksFault.{MarksFault}
 use Rattle.image_parser.specs.declared.fault.RegionsFault.{RegionsFault}
 use Rattle.image_parser.specs.declared.fault.RegionsFault.TheVariants as faults
@@ -17,35 +23,43 @@ use Rattle.image_parser.specs.Inside.{among_regions}
 use Rattle.image_parser.specs.Regions.{Begins}
 use Rattle.image_parser.specs.MarkFaults.{AreMarks}
 use Rattle.image_parser.specs.Nameless.{SlotsAreThere, MarkNames, IsNameless}
-use Rattle.image_parser.specs.AllRegions.{RegionsText, RegionsFail}
-use Rattle.image_parser.specs.AllRegions.RegionsFail.{part as part_fails, extra, name}
+use Rattle.image_parser.specs.Idle.{IsIdle}
+use Rattle.image_parser.specs.AllRegions.{RegionsText, RegionsFail, IsShown, RegionsRead}
+use Rattle.image_parser.specs.AllRegions.RegionsFail.{part as part_fails, extra, name, idle}
 use Rattle.image_parser.specs.TextOrFault.{TextOrFault}
 use Rattle.image_parser.specs.reading.Marks.{Mark, marks_at}
 use Rattle.image_parser.proofs.MarkLawful.{marks_lawful}
 use Rattle.image_parser.proofs.OneOfLemmas.{all_or_first, all_or_not}
-use Rattle.image_parser.proofs.AllRegionsLemmas.{are_marks, all_named, are_regions, left_over, is_nameless}
+use Rattle.image_parser.proofs.AllRegionsLemmas.{are_marks, all_named, filled, whole_regions, few_regions, left_over}
+use Rattle.image_parser.proofs.AllRegionsLemmas.{is_nameless}
+use Rattle.image_parser.proofs.IdleLemmas.{needed_or_idle, one_idle}
 
 -- what reading the marks comes to where there is a fault
-data Blame (family : Family) (bytes : List ℕ) (fault : RegionsFault) : Type 0 where
-  part : (e : MarksFault) → marks_at family bytes ≡ Err e → fault ≡ among_regions e → Blame family bytes fault
-  left : (regions : List Mark) (rest : List ℕ) → marks_at family bytes ≡ Ok (regions, rest) → rest ≢ []
-      → fault ≡ faults.Extra → Blame family bytes fault
-  unnamed : (regions : List Mark) (c : ℕ) → marks_at family bytes ≡ Ok (regions, []) → IsNameless regions c
-      → fault ≡ faults.Name c → Blame family bytes fault
+data Blame (version : Version) (family : Family) (bytes : List ℕ) (fault : RegionsFault) : Type 0 where
+  part : (e : MarksFault) → marks_at version family bytes ≡ Err e → fault ≡ among_regions e → Blame version family bytes fault
+  left : (regions : List Mark) (rest : List ℕ) → marks_at version family bytes ≡ Ok (regions, rest) → rest ≢ []
+      → fault ≡ faults.Extra → Blame version family bytes fault
+  unnamed : (regions : List Mark) (c : ℕ) → marks_at version family bytes ≡ Ok (regions, []) → IsNameless regions c
+      → fault ≡ faults.Name c → Blame version family bytes fault
+  unused : (regions : List Mark) (c : ℕ) → marks_at version family bytes ≡ Ok (regions, []) → version ≡ versions.Two
+      → All (MarkNames regions) regions → IsIdle regions c → fault ≡ faults.Idle c
+      → Blame version family bytes fault
 
-read_whole : (family : Family) → IsFamily family → (bytes : List ℕ) (regions : List Mark)
-    → AreMarks family regions bytes
-    → marks_at family bytes ≡ Ok (regions, [])
-read_whole family fam bytes regions m =
-    ap (marks_at family) (sym (append-nil bytes)) ∙ (marks_lawful family fam).again regions bytes [] m
+read_whole : (version : Version) (family : Family) → IsFamily family → (bytes : List ℕ) (regions : List Mark)
+    → AreMarks version family regions bytes
+    → marks_at version family bytes ≡ Ok (regions, [])
+read_whole version family fam bytes regions m =
+    ap (marks_at version family) (sym (append-nil bytes)) ∙ (marks_lawful version family fam).again regions bytes [] m
 
-blame : (family : Family) → IsFamily family → (bytes : List ℕ) → IsBytes bytes → (f : RegionsFault)
-    → RegionsFail family bytes f → Blame family bytes f
-blame family fam bytes fits f (part_fails e h) = part e ((marks_lawful family fam).blamed bytes e fits h) refl
-blame family fam bytes fits f (extra regions text rest m parts some) =
-    left regions rest (ap (marks_at family) parts ∙ (marks_lawful family fam).again regions text rest m) some refl
-blame family fam bytes fits f (name regions {c} m least) = unnamed regions c
-    (read_whole family fam bytes regions m) least refl
+blame : (version : Version) (family : Family) → IsFamily family → (bytes : List ℕ) → IsBytes bytes → (f : RegionsFault)
+    → RegionsFail version family bytes f → Blame version family bytes f
+blame version family fam bytes fits f (part_fails e h) = part e ((marks_lawful version family fam).blamed bytes e fits h) refl
+blame version family fam bytes fits f (extra regions text rest m parts some) =
+    left regions rest (ap (marks_at version family) parts ∙ (marks_lawful version family fam).again regions text rest m) some refl
+blame version family fam bytes fits f (name regions {c} m least) = unnamed regions c
+    (read_whole version family fam bytes regions m) least refl
+blame version family fam bytes fits f (idle regions {c} two m all least) = unused regions c
+    (read_whole version family fam bytes regions m) two all least refl
 
 same_read : (r : Result (List Mark × List ℕ) MarksFault) (a b : List Mark) (s t : List ℕ) → r ≡ Ok (a, s)
     → r ≡ Ok (b, t) → (a ≡ b) × (s ≡ t)
@@ -79,51 +93,81 @@ one_class regions c d a b =
 nameless_moved : (a b : List Mark) (c : ℕ) → a ≡ b → IsNameless a c → IsNameless b c
 nameless_moved a b c e h = let P : List Mark → Type 0 = λ z. IsNameless z c in subst P e h
 
--- ---- never both, and one of each
-
-no_fault : (family : Family) → IsFamily family → (bytes : List ℕ) (regions : List Mark) (f : RegionsFault)
-    → RegionsText family bytes regions → Blame family bytes f → ⊥
-no_fault family fam bytes regions f t (part e read is) =
-    let whole = read_whole family fam bytes regions (are_marks family bytes regions t) in absurd cc
-no_fault family fam bytes regions f t (left other rest read some is) =
-    let whole = read_whole family fam bytes regions (are_marks family bytes regions t) in
-    some (same_read (marks_at family bytes) other regions rest [] read whole).1
-no_fault family fam bytes regions f t (unnamed other c read least is) =
-    let whole = read_whole family fam bytes regions (are_marks family bytes regions t) in
-    let h = nameless_moved other regions c (same_read
-    (marks_at family bytes) other regions [] [] read whole).0 least in
+names_all : (regions : List Mark) (c : ℕ) → All (MarkNames regions) regions → IsNameless regions c → ⊥
+names_all regions c all h =
     let within = slice_get_within regions c h.mark h.is in
     let mark : get_or regions c h.mark ≡ h.mark =
     same_Some (get_or regions c h.mark) h.mark (sym (slice_get-get_or regions c h.mark within) ∙ h.is) in
     let P : Mark → Type 0 = λ z. MarkNames regions z in
-    h.names (subst P mark (all_named family regions t.fits c h.mark within))
+    h.names (subst P mark (all c h.mark within))
 
-one_blame : (family : Family) (bytes : List ℕ) (f g : RegionsFault) → Blame family bytes f → Blame family bytes g
+idle_moved : (a b : List Mark) (c : ℕ) → a ≡ b → IsIdle a c → IsIdle b c
+idle_moved a b c e h = let P : List Mark → Type 0 = λ z. IsIdle z c in subst P e h
+
+-- ---- never both, and one of each
+
+no_fault : (version : Version) (family : Family) → IsFamily family → (bytes : List ℕ) (regions : List Mark) (f : RegionsFault)
+    → RegionsText version family bytes regions → Blame version family bytes f → ⊥
+no_fault version family fam bytes regions f t (part e read is) =
+    let whole = read_whole version family fam bytes regions (are_marks version family bytes regions t) in absurd cc
+no_fault version family fam bytes regions f t (left other rest read some is) =
+    let whole = read_whole version family fam bytes regions (are_marks version family bytes regions t) in
+    some (same_read (marks_at version family bytes) other regions rest [] read whole).1
+no_fault version family fam bytes regions f t (unnamed other c read least is) =
+    let whole = read_whole version family fam bytes regions (are_marks version family bytes regions t) in
+    let h = nameless_moved other regions c (same_read
+    (marks_at version family bytes) other regions [] [] read whole).0 least in
+    names_all regions c (all_named version family regions t.fits) h
+no_fault version family fam bytes regions f t (unused other c read two all least is) =
+    let whole = read_whole version family fam bytes regions (are_marks version family bytes regions t) in
+    let h = idle_moved other regions c (same_read
+    (marks_at version family bytes) other regions [] [] read whole).0 least in
+    let P : Version → Type 0 = λ v. NeedsAll v regions in
+    h.some (subst P two t.fits.needed c)
+
+one_blame : (version : Version) (family : Family) (bytes : List ℕ) (f g : RegionsFault) → Blame version family bytes f → Blame version family bytes g
     → f ≡ g
-one_blame family bytes f g (part a read is) (part b read2 is2) =
+one_blame version family bytes f g (part a read is) (part b read2 is2) =
     let done : Result (List Mark × List ℕ) MarksFault = Err a in
     let other : Result (List Mark × List ℕ) MarksFault = Err b in
     let same : done ≡ other = sym read ∙ read2 in
     let e : a ≡ b = cc in is ∙ ap among_regions e ∙ sym is2
-one_blame family bytes f g (part a read is) (left regions rest read2 some is2) = absurd cc
-one_blame family bytes f g (part a read is) (unnamed regions c read2 least is2) = absurd cc
-one_blame family bytes f g (left regions rest read some is) (part b read2 is2) = absurd cc
-one_blame family bytes f g (left regions rest read some is) (left others back read2 more is2) = is ∙ sym is2
-one_blame family bytes f g (left regions rest read some is) (unnamed others c read2 least is2) =
-    absurd (some (same_read (marks_at family bytes) regions others rest [] read read2).1)
-one_blame family bytes f g (unnamed regions c read least is) (part b read2 is2) = absurd cc
-one_blame family bytes f g (unnamed regions c read least is) (left others rest read2 some is2) =
-    absurd (some (same_read (marks_at family bytes) others regions rest [] read2 read).1)
-one_blame family bytes f g (unnamed regions c read least is) (unnamed others d read2 more is2) =
-    let same = (same_read (marks_at family bytes) others regions [] [] read2 read).0 in
+one_blame version family bytes f g (part a read is) (left regions rest read2 some is2) = absurd cc
+one_blame version family bytes f g (part a read is) (unnamed regions c read2 least is2) = absurd cc
+one_blame version family bytes f g (left regions rest read some is) (part b read2 is2) = absurd cc
+one_blame version family bytes f g (left regions rest read some is) (left others back read2 more is2) = is ∙ sym is2
+one_blame version family bytes f g (left regions rest read some is) (unnamed others c read2 least is2) =
+    absurd (some (same_read (marks_at version family bytes) regions others rest [] read read2).1)
+one_blame version family bytes f g (unnamed regions c read least is) (part b read2 is2) = absurd cc
+one_blame version family bytes f g (unnamed regions c read least is) (left others rest read2 some is2) =
+    absurd (some (same_read (marks_at version family bytes) others regions rest [] read2 read).1)
+one_blame version family bytes f g (unnamed regions c read least is) (unnamed others d read2 more is2) =
+    let same = (same_read (marks_at version family bytes) others regions [] [] read2 read).0 in
     let e = one_class regions c d least (nameless_moved others regions d same more) in
     is ∙ ap (λ (k : ℕ). faults.Name k) e ∙ sym is2
 
-one_text : (family : Family) → IsFamily family → (bytes : List ℕ) (a b : List Mark) → RegionsText family bytes a
-    → RegionsText family bytes b → a ≡ b
-one_text family fam bytes a b s t =
-    (same_read (marks_at family bytes) a b [] [] (read_whole family fam bytes a (are_marks family bytes a s))
-    (read_whole family fam bytes b (are_marks family bytes b t))).0
+one_blame version family bytes f g (part a read is) (unused regions c read2 two all least is2) = absurd cc
+one_blame version family bytes f g (left regions rest read some is) (unused others c read2 two all least is2) =
+    absurd (some (same_read (marks_at version family bytes) regions others rest [] read read2).1)
+one_blame version family bytes f g (unnamed regions c read least is) (unused others d read2 two all more is2) =
+    let same = (same_read (marks_at version family bytes) regions others [] [] read read2).0 in
+    absurd (names_all others c all (nameless_moved regions others c same least))
+one_blame version family bytes f g (unused regions c read two all least is) (part b read2 is2) = absurd cc
+one_blame version family bytes f g (unused regions c read two all least is) (left others rest read2 some is2) =
+    absurd (some (same_read (marks_at version family bytes) others regions rest [] read2 read).1)
+one_blame version family bytes f g (unused regions c read two all least is) (unnamed others d read2 more is2) =
+    let same = (same_read (marks_at version family bytes) others regions [] [] read2 read).0 in
+    absurd (names_all regions d all (nameless_moved others regions d same more))
+one_blame version family bytes f g (unused regions c read two all least is) (unused others d read2 two2 all2 more is2) =
+    let same = (same_read (marks_at version family bytes) others regions [] [] read2 read).0 in
+    let e = one_idle regions c d least (idle_moved others regions d same more) in
+    is ∙ ap (λ (k : ℕ). faults.Idle k) e ∙ sym is2
+
+one_text : (version : Version) (family : Family) → IsFamily family → (bytes : List ℕ) (a b : List Mark) → RegionsText version family bytes a
+    → RegionsText version family bytes b → a ≡ b
+one_text version family fam bytes a b s t =
+    (same_read (marks_at version family bytes) a b [] [] (read_whole version family fam bytes a (are_marks version family bytes a s))
+    (read_whole version family fam bytes b (are_marks version family bytes b t))).0
 
 -- ---- one of both
 
@@ -133,15 +177,16 @@ there_or_not regions (values.Int n) = inl tt
 there_or_not regions (values.Long n) = inl tt
 there_or_not regions (values.Text units) = inl tt
 there_or_not regions values.Out = inl tt
-there_or_not regions (values.Object c n) =
-    elim (cases_lt n (count_of (region_in regions c))) [
-      | inl lt ↦ inl lt
-      | inr le ↦ inr (λ lt. omega (arith, le, lt))
-    ]
+there_or_not regions (values.Object c n) = by (is_some (object_of regions c n)) refl
+  where
+    by : (b : Bool) → is_some (object_of regions c n) ≡ b
+        → (is_some (object_of regions c n) ≡ true) ⊎ ((is_some (object_of regions c n) ≡ true) → ⊥)
+    by true e = inl e
+    by false e = inr (λ h. let clash : true ≡ false = sym h ∙ e in absurd cc)
 
-slots_or_not : (regions : List Mark) (object : ImageObject) → SlotsAreThere regions object
-    ⊎ (SlotsAreThere regions object → ⊥)
-slots_or_not regions object = all_or_not (IsThere regions) (there_or_not regions) object.slots
+slots_or_not : (regions : List Mark) (kept : KeptObject) → SlotsAreThere regions kept
+    ⊎ (SlotsAreThere regions kept → ⊥)
+slots_or_not regions kept = all_or_not (IsThere regions) (there_or_not regions) kept.object.slots
 
 mark_or_not : (regions : List Mark) (mark : Mark) → MarkNames regions mark ⊎ (MarkNames regions mark → ⊥)
 mark_or_not regions None = inl tt
@@ -155,39 +200,77 @@ mark_or_not regions (Some region) =
           ]
     ]
 
-abbrev OneOf : Family → List ℕ → Type 0
-OneOf family bytes = ((regions : List Mark) × RegionsText family bytes regions)
-    ⊎ ((fault : RegionsFault) × RegionsFail family bytes fault)
+abbrev OneOf : Version → Family → List ℕ → Type 0
+OneOf version family bytes = ((regions : List Mark) × RegionsText version family bytes regions)
+    ⊎ ((fault : RegionsFault) × RegionsFail version family bytes fault)
 
-filled_or_fault : (family : Family) (bytes : List ℕ) (regions : List Mark) (rest : List ℕ)
-    → Begins (AreMarks family) bytes regions rest → OneOf family bytes
-filled_or_fault family bytes regions [] b =
+used_or_fault : (version : Version) (family : Family) (bytes : List ℕ) (regions : List Mark)
+    → AreMarks version family regions bytes → All (MarkNames regions) regions → OneOf version family bytes
+used_or_fault versions.One family bytes regions m all =
+    inl (regions, whole_regions versions.One family bytes regions m all tt)
+used_or_fault versions.Two family bytes regions m all = elim (needed_or_idle regions) [
+  | inl needed ↦ inl (regions, whole_regions versions.Two family bytes regions m all needed)
+  | inr some ↦ inr (faults.Idle some.0, idle regions refl m all some.1)
+]
+
+filled_or_fault : (version : Version) (family : Family) (bytes : List ℕ) (regions : List Mark) (rest : List ℕ)
+    → Begins (AreMarks version family) bytes regions rest → OneOf version family bytes
+filled_or_fault version family bytes regions [] b =
     elim (all_or_first (MarkNames regions) (mark_or_not regions) regions) [
-      | inl all ↦ inl (regions, are_regions family bytes [] regions b refl all)
+      | inl all ↦ used_or_fault version family bytes regions (filled version family bytes [] regions b refl) all
       | inr first ↦
           inr (
             faults.Name first.place,
-            is_nameless family bytes [] regions first.place b refl
+            is_nameless version family bytes [] regions first.place b refl
                 (record { mark = first.item; is = first.is; names = first.misses; least = first.least }),
           )
     ]
-filled_or_fault family bytes regions (x ∷ rest) b =
-    inr (faults.Extra, left_over family bytes (x ∷ rest) regions b (λ e. absurd cc))
+filled_or_fault version family bytes regions (x ∷ rest) b =
+    inr (faults.Extra, left_over version family bytes (x ∷ rest) regions b (λ e. absurd cc))
 
-text_or_fault : (family : Family) → IsFamily family → (bytes : List ℕ) → IsBytes bytes
-    → (o : Result (List Mark × List ℕ) MarksFault) → marks_at family bytes ≡ o → OneOf family bytes
-text_or_fault family fam bytes fits (Ok p) e =
-    let t = (marks_lawful family fam).takes bytes p.0 p.1 fits e in
-    filled_or_fault family bytes p.0 p.1 (record { text = t.text; spelled = t.spelled; parts = t.parts })
-text_or_fault family fam bytes fits (Err f) e =
-    inr (among_regions f, part_fails f ((marks_lawful family fam).blames bytes f fits e))
+text_or_fault : (version : Version) (family : Family) → IsFamily family → (bytes : List ℕ) → IsBytes bytes
+    → (o : Result (List Mark × List ℕ) MarksFault) → marks_at version family bytes ≡ o → OneOf version family bytes
+text_or_fault version family fam bytes fits (Ok p) e =
+    let t = (marks_lawful version family fam).takes bytes p.0 p.1 fits e in
+    filled_or_fault version family bytes p.0 p.1 (record { text = t.text; spelled = t.spelled; parts = t.parts })
+text_or_fault version family fam bytes fits (Err f) e =
+    inr (among_regions f, part_fails f ((marks_lawful version family fam).blames bytes f fits e))
 
-pub one_of : (family : Family) (bytes : List ℕ) → IsFamily family → IsBytes bytes
-    → TextOrFault (RegionsText family bytes) (RegionsFail family bytes)
-one_of family bytes fam fits = record {
-  some = text_or_fault family fam bytes fits (marks_at family bytes) refl;
-  not_both = λ regions f t h. no_fault family fam bytes regions f t (blame family fam bytes fits f h);
-  one_text = λ a b s t. one_text family fam bytes a b s t;
+pub one_of : (version : Version) (family : Family) (bytes : List ℕ) → IsFamily family → IsBytes bytes
+    → TextOrFault (RegionsText version family bytes) (RegionsFail version family bytes)
+one_of version family bytes fam fits = record {
+  some = text_or_fault version family fam bytes fits (marks_at version family bytes) refl;
+  not_both = λ regions f t h. no_fault version family fam bytes regions f t (blame version family fam bytes fits f h);
+  one_text = λ a b s t. one_text version family fam bytes a b s t;
   one_fault = λ f g p q.
-      one_blame family bytes f g (blame family fam bytes fits f p) (blame family fam bytes fits g q);
+      one_blame version family bytes f g (blame version family fam bytes fits f p) (blame version family fam bytes fits g q);
 }
+
+-- ---- what is shown of a text
+
+pub shown_of : (version : Version) (all : List Mark) → (regions : List Mark) × IsShown version all regions
+shown_of versions.One all = (kept_from (keeps_of all) 0 all, dropped_of all)
+shown_of versions.Two all = (all, refl)
+
+pub one_shown : (version : Version) (all a b : List Mark) → IsShown version all a → IsShown version all b → a ≡ b
+one_shown versions.One all a b s t = one_dropped all a b s t
+one_shown versions.Two all a b s t = s ∙ sym t
+
+pub one_read : (version : Version) (family : Family) (bytes : List ℕ) → IsFamily family → IsBytes bytes
+    → TextOrFault (RegionsRead version family bytes) (RegionsFail version family bytes)
+one_read version family bytes fam fits =
+    let one = one_of version family bytes fam fits in
+    record {
+      some = elim one.some [
+        | inl told ↦
+            let s = shown_of version told.0 in
+            inl (s.0, record { all = told.0; told = told.1; shown = s.1 })
+        | inr fails ↦ inr fails
+      ];
+      not_both = λ regions f r h. one.not_both r.all f r.told h;
+      one_text = λ a b r s.
+          let same : r.all ≡ s.all = one.one_text r.all s.all r.told s.told in
+          let P : List Mark → Type 0 = λ z. IsShown version z a in
+          one_shown version s.all a b (subst P same r.shown) s.shown;
+      one_fault = one.one_fault;
+    }

@@ -3,12 +3,17 @@ use Rattle.std.proofs.Common.{◌≡◌, ℕ, zero, suc, ◌+◌, ◌<◌, ◌�
 use Rattle.std.proofs.Common.{None, slice_get}
 use Rattle.std.proofs.Common.{refl, sym, ap, subst, ◌∙◌, arith, inl, inr}
 use Rattle.std.specs.List.{All, AllZip}
-use Rattle.std.proofs.lemmas.List.{append-nil}
+use Rattle.std.proofs.lemmas.Bool.{cases_lt}
+use Rattle.std.proofs.lemmas.List.{append-nil, get_or_past}
 use Rattle.std.proofs.lemmas.Option.{slice_get_within, slice_get-get_or, same_Some}
 use Rattle.loading.specs.Families.{Family}
 use Rattle.image_format.specs.declared.region.ImageRegion.{ImageRegion}
 use Rattle.image_format.specs.Shapes.{HasShape}
-use Rattle.image_format.specs.Images.{AreRegions, NamesObjects}
+use Rattle.image_format.specs.Objects.{region_in, objects_of}
+use Rattle.image_format.specs.Reached.{AreReached, IsDropped}
+use Rattle.image_format.specs.Images.{AreRegions, NamesObjects, NeedsAll}
+use Rattle.image_format.specs.declared.version.Version.{Version}
+use Rattle.image_format.specs.declared.version.Version.TheVariants as versions
 use Rattle.image_parser.specs.declared.fault.MarksFault.{MarksFault}
 use Rattle.image_parser.specs.declared.fault.MarksFault.TheVariants as marks
 use Rattle.image_parser.specs.declared.fault.RegionsFault.TheVariants as faults
@@ -16,30 +21,32 @@ use Rattle.image_parser.specs.Inside.{among_regions}
 use Rattle.image_parser.specs.Regions.{Begins}
 use Rattle.image_parser.specs.MarkFaults.{numbers, MarkFits, AreMarks, MarksFail, IsMarksFault}
 use Rattle.image_parser.specs.Nameless.{MarkNames, IsNameless}
-use Rattle.image_parser.specs.AllRegions.{RegionsText, RegionsFail}
+use Rattle.image_parser.specs.AllRegions.{RegionsText, RegionsFail, RegionsRead}
+use Rattle.image_parser.specs.reading.Reaching.{Rise, AllRise}
+use Rattle.image_parser.proofs.PlaceLemmas.{numbered_rise}
 use Rattle.image_parser.specs.AllRegions.RegionsFail.{part, extra, name}
 
-as_many : (family : Family) (c n : ℕ) (regions : List (Option ImageRegion))
-    → AllZip (MarkFits family) (numbers c n) regions → length regions ≡ n
-as_many family c zero [] h = refl
-as_many family c zero (r ∷ rs) h = absurd h
-as_many family c (suc n) [] h = absurd h
-as_many family c (suc n) (r ∷ rs) h = let k = as_many family (c + 1) n rs h.1 in omega (arith, k)
+as_many : (version : Version) (family : Family) (c n : ℕ) (regions : List (Option ImageRegion))
+    → AllZip (MarkFits version family) (numbers c n) regions → length regions ≡ n
+as_many version family c zero [] h = refl
+as_many version family c zero (r ∷ rs) h = absurd h
+as_many version family c (suc n) [] h = absurd h
+as_many version family c (suc n) (r ∷ rs) h = let k = as_many version family (c + 1) n rs h.1 in omega (arith, k)
 
-at_place : (family : Family) (c n : ℕ) (regions : List (Option ImageRegion))
-    → AllZip (MarkFits family) (numbers c n) regions → (i : ℕ) (region : ImageRegion)
-    → slice_get regions i ≡ Some (Some region) → HasShape family (c + i) region
-at_place family c zero [] h i region e = absurd cc
-at_place family c zero (r ∷ rs) h i region e = absurd h
-at_place family c (suc n) [] h i region e = absurd h
-at_place family c (suc n) (r ∷ rs) h zero region e =
+at_place : (version : Version) (family : Family) (c n : ℕ) (regions : List (Option ImageRegion))
+    → AllZip (MarkFits version family) (numbers c n) regions → (i : ℕ) (region : ImageRegion)
+    → slice_get regions i ≡ Some (Some region) → HasShape version family (c + i) region
+at_place version family c zero [] h i region e = absurd cc
+at_place version family c zero (r ∷ rs) h i region e = absurd h
+at_place version family c (suc n) [] h i region e = absurd h
+at_place version family c (suc n) (r ∷ rs) h zero region e =
     let same : r ≡ Some region = cc in
-    let here : MarkFits family c (Some region) = subst (MarkFits family c) same h.0 in
-    let P : ℕ → Type 0 = λ k. HasShape family k region in
+    let here : MarkFits version family c (Some region) = subst (MarkFits version family c) same h.0 in
+    let P : ℕ → Type 0 = λ k. HasShape version family k region in
     subst P (let k : c ≡ c + 0 = omega arith in k) here
-at_place family c (suc n) (r ∷ rs) h (suc i) region e =
-    let P : ℕ → Type 0 = λ k. HasShape family k region in
-    subst P (let k : c + 1 + i ≡ c + suc i = omega arith in k) (at_place family (c + 1) n rs h.1 i region e)
+at_place version family c (suc n) (r ∷ rs) h (suc i) region e =
+    let P : ℕ → Type 0 = λ k. HasShape version family k region in
+    subst P (let k : c + 1 + i ≡ c + suc i = omega arith in k) (at_place version family (c + 1) n rs h.1 i region e)
 
 named : (regions : List (Option ImageRegion)) → All (MarkNames regions) regions → (i : ℕ) (region : ImageRegion)
     → slice_get regions i ≡ Some (Some region) → NamesObjects regions region
@@ -50,78 +57,121 @@ named regions all i region e =
     let P : Option ImageRegion → Type 0 = λ z. MarkNames regions z in
     subst P same (all i None lt)
 
-filled : (family : Family) (bytes rest : List ℕ) (regions : List (Option ImageRegion))
-    → Begins (AreMarks family) bytes regions rest → rest ≡ [] → AreMarks family regions bytes
-filled family bytes rest regions b none =
+pub filled : (version : Version) (family : Family) (bytes rest : List ℕ) (regions : List (Option ImageRegion))
+    → Begins (AreMarks version family) bytes regions rest → rest ≡ [] → AreMarks version family regions bytes
+filled version family bytes rest regions b none =
     let whole : bytes ≡ b.text = b.parts ∙ ap (λ (z : List ℕ). b.text ++ z) none ∙ append-nil b.text in
     (b.spelled.0, whole ∙ b.spelled.1)
 
-pub are_regions : (family : Family) (bytes rest : List ℕ) (regions : List (Option ImageRegion))
-    → Begins (AreMarks family) bytes regions rest → rest ≡ [] → All (MarkNames regions) regions
-    → RegionsText family bytes regions
-are_regions family bytes rest regions b none all =
-    let m = filled family bytes rest regions b none in
-    record {
-      fits = record {
-        count = as_many family 0 (length family) regions m.0;
-        shapes = λ c region e.
-            let P : ℕ → Type 0 = λ k. HasShape family k region in
-            subst P (let k : 0 + c ≡ c = omega arith in k) (at_place family 0 (length family) regions m.0 c region e);
-        names = λ c region e. named regions all c region e;
-      };
-      spelled = m.1;
-    }
+-- regions that fill the bytes, and whose names are those of objects that there are
+pub whole_regions : (version : Version) (family : Family) (bytes : List ℕ) (regions : List (Option ImageRegion))
+    → AreMarks version family regions bytes → All (MarkNames regions) regions → NeedsAll version regions
+    → RegionsText version family bytes regions
+whole_regions version family bytes regions m all needed = record {
+  fits = record {
+    count = as_many version family 0 (length family) regions m.0;
+    shapes = λ c region e.
+        let P : ℕ → Type 0 = λ k. HasShape version family k region in
+        subst P (let k : 0 + c ≡ c = omega arith in k)
+        (at_place version family 0 (length family) regions m.0 c region e);
+    names = λ c region e. named regions all c region e;
+    needed = needed;
+  };
+  spelled = m.1;
+}
 
-pub left_over : (family : Family) (bytes rest : List ℕ) (regions : List (Option ImageRegion))
-    → Begins (AreMarks family) bytes regions rest → (rest ≡ [] → ⊥)
-    → RegionsFail family bytes faults.Extra
-left_over family bytes rest regions b some = extra regions b.text rest b.spelled b.parts some
+-- what is answered of regions of version 1, and of version 2
+pub read_one : (version : Version) (family : Family) (bytes : List ℕ) (regions kept : List (Option ImageRegion))
+    → version ≡ versions.One → AreMarks version family regions bytes → All (MarkNames regions) regions
+    → IsDropped regions kept → RegionsRead version family bytes kept
+read_one versions.One family bytes regions kept is m all dropped = record {
+  all = regions;
+  told = whole_regions versions.One family bytes regions m all tt;
+  shown = dropped;
+}
+read_one versions.Two family bytes regions kept is m all dropped = absurd cc
 
-pub is_nameless : (family : Family) (bytes rest : List ℕ) (regions : List (Option ImageRegion)) (c : ℕ)
-    → Begins (AreMarks family) bytes regions rest → rest ≡ [] → IsNameless regions c
-    → RegionsFail family bytes (faults.Name c)
-is_nameless family bytes rest regions c b none least = name regions (filled family bytes rest regions b none) least
+pub read_two : (version : Version) (family : Family) (bytes : List ℕ) (regions : List (Option ImageRegion))
+    → version ≡ versions.Two → AreMarks version family regions bytes → All (MarkNames regions) regions
+    → ((c : ℕ) → AreReached regions c) → RegionsRead version family bytes regions
+read_two versions.One family bytes regions is m all needed = absurd cc
+read_two versions.Two family bytes regions is m all needed = record {
+  all = regions;
+  told = whole_regions versions.Two family bytes regions m all needed;
+  shown = refl;
+}
 
-pub among : (family : Family) (bytes : List ℕ) (f : MarksFault) → IsMarksFault (MarksFail family bytes) f
-    → (among_regions f ≡ faults.Memory) ⊎ RegionsFail family bytes (among_regions f)
-among family bytes marks.Memory h = inl refl
-among family bytes marks.Truncated h = inr (part _ h)
-among family bytes (marks.Shape c) h = inr (part _ h)
+-- numbers of objects rise
+pub marks_rise : (version : Version) (family : Family) (text : List ℕ) (regions : List (Option ImageRegion))
+    → AreMarks version family regions text → AllRise regions
+marks_rise version family text regions m c = by (region_in regions c) refl
+  where
+    by : (r : Option ImageRegion) → region_in regions c ≡ r → Rise 0 (objects_of r)
+    by None is = tt
+    by (Some region) is = elim (cases_lt c (length regions)) [
+      | inl low ↦
+          let at : slice_get regions c ≡ Some (Some region) =
+          slice_get-get_or regions c None low ∙ ap (λ (r : Option ImageRegion). Some r) is in
+          let shape = at_place version family 0 (length family) regions m.0 c region at in
+          numbered_rise version region.count 0 region.objects shape.numbers
+      | inr high ↦
+          let none : None ≡ Some region = sym (get_or_past regions c None high) ∙ is in absurd cc
+    ]
+
+pub few_regions : (version : Version) (family : Family) (text : List ℕ) (regions : List (Option ImageRegion))
+    → AreMarks version family regions text → length regions ≡ length family
+few_regions version family text regions m = as_many version family 0 (length family) regions m.0
+
+pub left_over : (version : Version) (family : Family) (bytes rest : List ℕ) (regions : List (Option ImageRegion))
+    → Begins (AreMarks version family) bytes regions rest → (rest ≡ [] → ⊥)
+    → RegionsFail version family bytes faults.Extra
+left_over version family bytes rest regions b some = extra regions b.text rest b.spelled b.parts some
+
+pub is_nameless : (version : Version) (family : Family) (bytes rest : List ℕ) (regions : List (Option ImageRegion)) (c : ℕ)
+    → Begins (AreMarks version family) bytes regions rest → rest ≡ [] → IsNameless regions c
+    → RegionsFail version family bytes (faults.Name c)
+is_nameless version family bytes rest regions c b none least = name regions (filled version family bytes rest regions b none) least
+
+pub among : (version : Version) (family : Family) (bytes : List ℕ) (f : MarksFault) → IsMarksFault (MarksFail version family bytes) f
+    → (among_regions f ≡ faults.Memory) ⊎ RegionsFail version family bytes (among_regions f)
+among version family bytes marks.Memory h = inl refl
+among version family bytes marks.Truncated h = inr (part _ h)
+among version family bytes (marks.Shape c) h = inr (part _ h)
 
 -- the class of a region that names what there is not is one of the program's
-pub is_within : (family : Family) (bytes rest : List ℕ) (regions : List (Option ImageRegion)) (c : ℕ)
-    → Begins (AreMarks family) bytes regions rest → IsNameless regions c → c < length family
-is_within family bytes rest regions c b least =
-    let many = as_many family 0 (length family) regions b.spelled.0 in
+pub is_within : (version : Version) (family : Family) (bytes rest : List ℕ) (regions : List (Option ImageRegion)) (c : ℕ)
+    → Begins (AreMarks version family) bytes regions rest → IsNameless regions c → c < length family
+is_within version family bytes rest regions c b least =
+    let many = as_many version family 0 (length family) regions b.spelled.0 in
     let lt = slice_get_within regions c least.mark least.is in
     omega (arith, many, lt)
 
 -- ---- marks from regions of an image
 
-mark_back : (family : Family) (c : ℕ) (mark : Option ImageRegion)
-    → ((region : ImageRegion) → mark ≡ Some region → HasShape family c region) → MarkFits family c mark
-mark_back family c None h = tt
-mark_back family c (Some region) h = h region refl
+mark_back : (version : Version) (family : Family) (c : ℕ) (mark : Option ImageRegion)
+    → ((region : ImageRegion) → mark ≡ Some region → HasShape version family c region) → MarkFits version family c mark
+mark_back version family c None h = tt
+mark_back version family c (Some region) h = h region refl
 
-marks_back : (family : Family) (c n : ℕ) (regions : List (Option ImageRegion)) → length regions ≡ n
-    → ((i : ℕ) (region : ImageRegion) → slice_get regions i ≡ Some (Some region) → HasShape family (c + i) region)
-    → AllZip (MarkFits family) (numbers c n) regions
-marks_back family c zero [] many h = tt
-marks_back family c zero (r ∷ rs) many h = absurd cc
-marks_back family c (suc n) [] many h = absurd cc
-marks_back family c (suc n) (r ∷ rs) many h = (
-  mark_back family c r (λ region e. let P : ℕ → Type 0 = λ k. HasShape family k region in
+marks_back : (version : Version) (family : Family) (c n : ℕ) (regions : List (Option ImageRegion)) → length regions ≡ n
+    → ((i : ℕ) (region : ImageRegion) → slice_get regions i ≡ Some (Some region) → HasShape version family (c + i) region)
+    → AllZip (MarkFits version family) (numbers c n) regions
+marks_back version family c zero [] many h = tt
+marks_back version family c zero (r ∷ rs) many h = absurd cc
+marks_back version family c (suc n) [] many h = absurd cc
+marks_back version family c (suc n) (r ∷ rs) many h = (
+  mark_back version family c r (λ region e. let P : ℕ → Type 0 = λ k. HasShape version family k region in
       subst P (let k : c + 0 ≡ c = omega arith in k) (h zero region (ap (λ (z : Option ImageRegion). Some z) e))),
-  marks_back family (c + 1) n rs (omega (arith, many))
-      (λ i region e. let P : ℕ → Type 0 = λ k. HasShape family k region in
+  marks_back version family (c + 1) n rs (omega (arith, many))
+      (λ i region e. let P : ℕ → Type 0 = λ k. HasShape version family k region in
       subst P (let k : c + suc i ≡ c + 1 + i = omega arith in k) (h (suc i) region e)),
 )
 
-pub are_marks : (family : Family) (bytes : List ℕ) (regions : List (Option ImageRegion))
-    → RegionsText family bytes regions → AreMarks family regions bytes
-are_marks family bytes regions t = (
-  marks_back family 0 (length family) regions t.fits.count
-      (λ i region e. let P : ℕ → Type 0 = λ k. HasShape family k region in
+pub are_marks : (version : Version) (family : Family) (bytes : List ℕ) (regions : List (Option ImageRegion))
+    → RegionsText version family bytes regions → AreMarks version family regions bytes
+are_marks version family bytes regions t = (
+  marks_back version family 0 (length family) regions t.fits.count
+      (λ i region e. let P : ℕ → Type 0 = λ k. HasShape version family k region in
       subst P (let k : i ≡ 0 + i = omega arith in k) (t.fits.shapes i region e)),
   t.spelled,
 )
@@ -132,7 +182,7 @@ mark_named : (regions : List (Option ImageRegion))
 mark_named regions names i None e = tt
 mark_named regions names i (Some region) e = names i region e
 
-pub all_named : (family : Family) (regions : List (Option ImageRegion)) → AreRegions family regions
+pub all_named : (version : Version) (family : Family) (regions : List (Option ImageRegion)) → AreRegions version family regions
     → All (MarkNames regions) regions
-all_named family regions fits i d lt =
+all_named version family regions fits i d lt =
     mark_named regions fits.names i (get_or regions i d) (slice_get-get_or regions i d lt)

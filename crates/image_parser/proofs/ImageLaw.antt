@@ -21,8 +21,12 @@ use Rattle.loading.specs.Files.{LinkFails}
 use Rattle.loading.proofs.FilesFaultLemmas.{not_both as link_not_both, one_fault as one_link_fault}
 use Rattle.one_program.proofs.FamiliesLemmas.{one_family}
 use Rattle.image_format.specs.declared.region.ImageRegion.{ImageRegion}
-use Rattle.image_format.specs.Images.{files_of as classes_of, ImageText}
-use Rattle.image_format.specs.Texts.{given_text, mark_text}
+use Rattle.image_format.specs.declared.version.Version.{Version}
+use Rattle.image_format.specs.declared.version.Version.TheVariants as versions
+use Rattle.image_format.specs.Images.{files_of as classes_of, VersionText, ImageText, OldText, SomeText}
+use Rattle.image_format.specs.Reached.{IsDropped}
+use Rattle.image_format.specs.Texts.{given_text, mark_text, version_number}
+use Rattle.image_format.proofs.DroppedLemmas.{one_dropped}
 use Rattle.image_parser.specs.declared.fault.FilesFault.{FilesFault}
 use Rattle.image_parser.specs.declared.fault.RegionFault.{RegionFault}
 use Rattle.image_parser.specs.declared.image_fault.ImageFault.{ImageFault}
@@ -40,13 +44,16 @@ use Rattle.image_parser.specs.reading.Results.{number_at}
 use Rattle.image_parser.proofs.NumberLawful.{number_lawful}
 use Rattle.image_parser.proofs.FileLawful.{files_lawful}
 use Rattle.image_parser.proofs.FamilyOrderLemmas.{family_text, family_ascending, files_ascend, IsShort}
-use Rattle.image_parser.proofs.ImageLemmas.{long_enough, has_files, parts_text, image_text}
+use Rattle.image_parser.proofs.ImageLemmas.{long_enough, has_files, parts_text, image_text, some_text}
 use Rattle.image_parser.proofs.LinkingLemmas.{links_or_fails}
 use Rattle.image_parser.proofs.FrameLaw.{one_of as frame_or_fault}
-use Rattle.image_parser.proofs.AllRegionsLaw.{one_of as regions_or_fault}
+use Rattle.image_parser.proofs.AllRegionsLaw.{one_of as regions_or_fault, shown_of}
 
 abbrev Held : Type 0
 Held = List (Option ImageRegion)
+
+abbrev pair : Version → List ℕ → Version × List ℕ
+pair v parts = (v, parts)
 
 -- ---- the count
 
@@ -134,17 +141,18 @@ module _ (parts : List ℕ) where
 
 -- ---- the parts of an image
 
-rest_of : Family → Held → List ℕ
-rest_of family held = flat_map (mark_text family) held
+rest_of : Version → Family → Held → List ℕ
+rest_of version family held = flat_map (mark_text version family) held
 
-module _ (parts : List ℕ) (family : Family) (held : Held) (text : PartsText parts family held) where
+module _ (version : Version) (parts : List ℕ) (family : Family) (held : Held)
+    (text : PartsText version parts family held) where
   abbrev given : List ClassFile
   given = classes_of family
 
   count : length given ≡ length family
   count = length-map family (λ c. c.file)
 
-  text_has : HasFiles parts given (rest_of family held)
+  text_has : HasFiles parts given (rest_of version family held)
   unfolding rest_of
   text_has =
       let few = text.links.few in
@@ -159,10 +167,10 @@ module _ (parts : List ℕ) (family : Family) (held : Held) (text : PartsText pa
           spelled = sym (family_text family);
         };
         spelled = text.spelled
-            ∙ ap (λ (n : ℕ). u4 n ++ (flat_map given_text family ++ flat_map (mark_text family) held)) (sym count);
+            ∙ ap (λ (n : ℕ). u4 n ++ (flat_map given_text family ++ flat_map (mark_text version family) held)) (sym count);
       }
 
-  text_linked : IsLinked parts family (rest_of family held)
+  text_linked : IsLinked parts family (rest_of version family held)
   text_linked = record {
     files = given;
     has = text_has;
@@ -170,42 +178,42 @@ module _ (parts : List ℕ) (family : Family) (held : Held) (text : PartsText pa
     of = record { fits = text.classes; count = sym count; members = λ f. (λ h. h, λ h. h) };
   }
 
-  text_told : RegionsText family (rest_of family held) held
+  text_told : RegionsText version family (rest_of version family held) held
   unfolding rest_of
   text_told = record { fits = text.fits; spelled = refl }
 
-module _ (parts : List ℕ) (fits : IsBytes parts) where
-  no_parts_fault : (family : Family) (held : Held) (f : ImageFault) → PartsText parts family held
-      → PartsFail parts f → ⊥
+module _ (version : Version) (parts : List ℕ) (fits : IsBytes parts) where
+  no_parts_fault : (family : Family) (held : Held) (f : ImageFault) → PartsText version parts family held
+      → PartsFail version parts f → ⊥
   no_parts_fault family held f text (files n bytes e few is fails) =
-      has_no_fault parts (classes_of family) (rest_of family held) n bytes e fits
-      (text_has parts family held text) few is
+      has_no_fault parts (classes_of family) (rest_of version family held) n bytes e fits
+      (text_has version parts family held text) few is
       fails
   no_parts_fault family held f text (link read rest e has fails) =
-      let same = one_has parts read (classes_of family) rest (rest_of family held) has
-      (text_has parts family held text) in
+      let same = one_has parts read (classes_of family) rest (rest_of version family held) has
+      (text_has version parts family held text) in
       let P : List ClassFile → Type 0 = λ z. LinkFails z e in
       link_not_both (classes_of family) e text.links (subst P same.0 fails)
   no_parts_fault family held f text (regions G rest e linked fails) =
-      let mine = text_linked parts family held text in
-      let same = one_linked parts G family rest (rest_of family held) linked mine in
-      let P : Family → Type 0 = λ z. RegionsFail z rest e in
-      let Q : List ℕ → Type 0 = λ z. RegionsFail family z e in
-      let one = regions_or_fault family (rest_of family held) text.classes
-      (rest_fits parts family (rest_of family held) fits mine) in
-      one.not_both held e (text_told parts family held text) (subst Q same.1 (subst P same.0 fails))
+      let mine = text_linked version parts family held text in
+      let same = one_linked parts G family rest (rest_of version family held) linked mine in
+      let P : Family → Type 0 = λ z. RegionsFail version z rest e in
+      let Q : List ℕ → Type 0 = λ z. RegionsFail version family z e in
+      let one = regions_or_fault version family (rest_of version family held) text.classes
+      (rest_fits parts family (rest_of version family held) fits mine) in
+      one.not_both held e (text_told version parts family held text) (subst Q same.1 (subst P same.0 fails))
 
-  one_parts : (F G : Family) (a b : Held) → PartsText parts F a → PartsText parts G b → (F ≡ G) × (a ≡ b)
+  one_parts : (F G : Family) (a b : Held) → PartsText version parts F a → PartsText version parts G b → (F ≡ G) × (a ≡ b)
   one_parts F G a b s t =
-      let mine = text_linked parts F a s in
-      let same = one_linked parts F G (rest_of F a) (rest_of G b) mine (text_linked parts G b t) in
-      let P : Family → Type 0 = λ z. RegionsText z (rest_of G b) b in
-      let Q : List ℕ → Type 0 = λ z. RegionsText F z b in
-      let one = regions_or_fault F (rest_of F a) s.classes (rest_fits parts F (rest_of F a) fits mine) in
-      let told = subst Q (sym same.1) (subst P (sym same.0) (text_told parts G b t)) in
-      (same.0, one.one_text a b (text_told parts F a s) told)
+      let mine = text_linked version parts F a s in
+      let same = one_linked parts F G (rest_of version F a) (rest_of version G b) mine (text_linked version parts G b t) in
+      let P : Family → Type 0 = λ z. RegionsText version z (rest_of version G b) b in
+      let Q : List ℕ → Type 0 = λ z. RegionsText version F z b in
+      let one = regions_or_fault version F (rest_of version F a) s.classes (rest_fits parts F (rest_of version F a) fits mine) in
+      let told = subst Q (sym same.1) (subst P (sym same.0) (text_told version parts G b t)) in
+      (same.0, one.one_text a b (text_told version parts F a s) told)
 
-  one_parts_fault : (f g : ImageFault) → PartsFail parts f → PartsFail parts g → f ≡ g
+  one_parts_fault : (f g : ImageFault) → PartsFail version parts f → PartsFail version parts g → f ≡ g
   one_parts_fault f g (files n bytes e few is fails) (files m others d less same blames) =
       ap of_files (one_files_fault parts n m bytes others e d fits few less is same fails blames)
   one_parts_fault f g (files n bytes e few is fails) (link read rest d has blames) =
@@ -230,42 +238,48 @@ module _ (parts : List ℕ) (fits : IsBytes parts) where
       absurd (link_not_both linked.files d linked.links (subst P same.0 blames))
   one_parts_fault f g (regions F rest e linked fails) (regions G left d joined blames) =
       let same = one_linked parts F G rest left linked joined in
-      let P : Family → Type 0 = λ z. RegionsFail z left d in
-      let Q : List ℕ → Type 0 = λ z. RegionsFail F z d in
-      let one = regions_or_fault F rest linked.of.fits (rest_fits parts F rest fits linked) in
+      let P : Family → Type 0 = λ z. RegionsFail version z left d in
+      let Q : List ℕ → Type 0 = λ z. RegionsFail version F z d in
+      let one = regions_or_fault version F rest linked.of.fits (rest_fits parts F rest fits linked) in
       ap (of_regions F) (one.one_fault e d fails (subst Q (sym same.1) (subst P (sym same.0) blames)))
       ∙ ap (λ (z : Family). of_regions z d) same.0
 
 -- ---- the whole
 
-parts_of : Family → Held → List ℕ
-parts_of family held = u4 (length family) ++ (flat_map given_text family ++ flat_map (mark_text family) held)
+parts_of : Version → Family → Held → List ℕ
+parts_of version family held =
+    u4 (length family) ++ (flat_map given_text family ++ flat_map (mark_text version family) held)
 
-text_framed : (bytes : List ℕ) (family : Family) (held : Held) → ImageText bytes family held
-    → IsFramed bytes (parts_of family held)
+two_bytes : (version : Version) → length (u2 (version_number version)) ≡ 2
+two_bytes versions.One = refl
+two_bytes versions.Two = refl
+
+text_framed : (bytes : List ℕ) (version : Version) (family : Family) (held : Held)
+    → VersionText version bytes family held → IsFramed bytes version (parts_of version family held)
 unfolding parts_of
-text_framed bytes family held text =
-    let rest : List ℕ = flat_map given_text family ++ flat_map (mark_text family) held in
+text_framed bytes version family held text =
+    let number : List ℕ = u2 (version_number version) in
+    let rest : List ℕ = flat_map given_text family ++ flat_map (mark_text version family) held in
     let parts : List ℕ = u4 (length family) ++ rest in
-    let body : List ℕ = u4 1246775629 ++ (u2 1 ++ parts) in
+    let body : List ℕ = u4 1246775629 ++ (number ++ parts) in
     let all : length bytes ≡ length body + length (sha256 body) = ap length text.spelled
     ∙ length-append body (sha256 body) in
-    let front : length body ≡ length (u4 1246775629) + length (u2 1 ++ parts) = length-append (u4 1246775629)
-    (u2 1 ++ parts) in
-    let next : length (u2 1 ++ parts) ≡ length (u2 1) + length parts = length-append (u2 1) parts in
+    let front : length body ≡ length (u4 1246775629) + length (number ++ parts) = length-append (u4 1246775629)
+    (number ++ parts) in
+    let next : length (number ++ parts) ≡ length number + length parts = length-append number parts in
     let last : length parts ≡ length (u4 (length family)) + length rest = length-append (u4 (length family)) rest in
     let four : length (u4 1246775629) ≡ 4 = refl in
-    let two : length (u2 1) ≡ 2 = refl in
+    let two : length number ≡ 2 = two_bytes version in
     let count : length (u4 (length family)) ≡ 4 = refl in
     record {
       size = omega (arith, all, front, next, last, four, two, count, length-sha256 body);
       framed = text.spelled;
     }
 
-text_parts : (bytes : List ℕ) (family : Family) (held : Held) → ImageText bytes family held
-    → PartsText (parts_of family held) family held
+text_parts : (bytes : List ℕ) (version : Version) (family : Family) (held : Held)
+    → VersionText version bytes family held → PartsText version (parts_of version family held) family held
 unfolding parts_of
-text_parts bytes family held text = record {
+text_parts bytes version family held text = record {
   classes = text.classes;
   files = text.files;
   links = text.links;
@@ -274,62 +288,99 @@ text_parts bytes family held text = record {
   spelled = refl;
 }
 
-parts_fit : (bytes parts : List ℕ) → IsBytes bytes → IsFramed bytes parts → IsBytes parts
-parts_fit bytes parts fits framed =
-    let body : List ℕ = u4 1246775629 ++ (u2 1 ++ parts) in
+parts_fit : (bytes : List ℕ) (version : Version) (parts : List ℕ) → IsBytes bytes → IsFramed bytes version parts
+    → IsBytes parts
+parts_fit bytes version parts fits framed =
+    let number : List ℕ = u2 (version_number version) in
+    let body : List ℕ = u4 1246775629 ++ (number ++ parts) in
     let front = IsBytes-front body (sha256 body) (fits_as bytes (body ++ sha256 body) framed.framed fits) in
-    IsBytes-back (u2 1) parts (IsBytes-back (u4 1246775629) (u2 1 ++ parts) front)
+    IsBytes-back number parts (IsBytes-back (u4 1246775629) (number ++ parts) front)
+
+module _ (bytes : List ℕ) where
+  -- one frame, in two words
+  one_frame : (v w : Version) (p q : List ℕ) → IsFramed bytes v p → IsFramed bytes w q → (v ≡ w) × (p ≡ q)
+  one_frame v w p q s t =
+      let same : pair v p ≡ pair w q = (frame_or_fault bytes).one_text (v, p) (w, q) s t in
+      (ap (λ (z : Version × List ℕ). z.0) same, ap (λ (z : Version × List ℕ). z.1) same)
+
+  one_version : (v w : Version) (F G : Family) (a b : Held) → VersionText v bytes F a → VersionText w bytes G b → v ≡ w
+  one_version v w F G a b s t =
+      (one_frame v w (parts_of v F a) (parts_of w G b) (text_framed bytes v F a s) (text_framed bytes w G b t)).0
+
+  -- texts of two versions
+  pub not_two : (F G : Family) (a b : Held) → ImageText bytes F a → OldText bytes G b → ⊥
+  not_two F G a b s t =
+      let same : versions.Two ≡ versions.One = one_version versions.Two versions.One F G a t.all s t.text in cc
 
 module _ (bytes : List ℕ) (fits : IsBytes bytes) where
-  no_fault : (family : Family) (held : Held) (f : ImageFault) → ImageText bytes family held → ImageFails bytes f → ⊥
-  no_fault family held f text (frame e fails) =
-      (frame_or_fault bytes).not_both (parts_of family held) e (text_framed bytes family held text) fails
-  no_fault family held f text (within parts g framed fails) =
-      let mine = text_framed bytes family held text in
-      let same : parts ≡ parts_of family held =
-      (frame_or_fault bytes).one_text parts (parts_of family held) framed mine in
-      let P : List ℕ → Type 0 = λ z. PartsFail z g in
-      no_parts_fault (parts_of family held) (parts_fit bytes (parts_of family held) fits mine) family held g
-      (text_parts bytes family held text) (subst P same fails)
+  no_fault : (version : Version) (family : Family) (held : Held) (f : ImageFault)
+      → VersionText version bytes family held → ImageFails bytes f → ⊥
+  no_fault version family held f text (frame e fails) =
+      (frame_or_fault bytes).not_both (version, parts_of version family held) e
+      (text_framed bytes version family held text) fails
+  no_fault version family held f text (within other parts g framed fails) =
+      let mine = text_framed bytes version family held text in
+      let same = one_frame bytes other version parts (parts_of version family held) framed mine in
+      let P : Version → Type 0 = λ v. PartsFail v parts g in
+      let Q : List ℕ → Type 0 = λ z. PartsFail version z g in
+      no_parts_fault version (parts_of version family held)
+      (parts_fit bytes version (parts_of version family held) fits mine) family held g
+      (text_parts bytes version family held text) (subst Q same.1 (subst P same.0 fails))
 
-  pub one_image : (F G : Family) (a b : Held) → ImageText bytes F a → ImageText bytes G b → (F ≡ G) × (a ≡ b)
-  one_image F G a b s t =
-      let mine = text_framed bytes F a s in
-      let same : parts_of G b ≡ parts_of F a =
-      (frame_or_fault bytes).one_text (parts_of G b) (parts_of F a) (text_framed bytes G b t) mine in
-      let P : List ℕ → Type 0 = λ z. PartsText z G b in
-      one_parts (parts_of F a) (parts_fit bytes (parts_of F a) fits mine) F G a b (text_parts bytes F a s)
-      (subst P same (text_parts bytes G b t))
+  one_whole : (version : Version) (F G : Family) (a b : Held) → VersionText version bytes F a
+      → VersionText version bytes G b → (F ≡ G) × (a ≡ b)
+  one_whole version F G a b s t =
+      let mine = text_framed bytes version F a s in
+      let same = one_frame bytes version version (parts_of version G b) (parts_of version F a)
+      (text_framed bytes version G b t) mine in
+      let P : List ℕ → Type 0 = λ z. PartsText version z G b in
+      one_parts version (parts_of version F a) (parts_fit bytes version (parts_of version F a) fits mine) F G a b
+      (text_parts bytes version F a s) (subst P same.1 (text_parts bytes version G b t))
 
   one_image_fault : (f g : ImageFault) → ImageFails bytes f → ImageFails bytes g → f ≡ g
   one_image_fault f g (frame e fails) (frame d blames) =
       ap of_header ((frame_or_fault bytes).one_fault e d fails blames)
-  one_image_fault f g (frame e fails) (within parts d framed blames) =
-      absurd ((frame_or_fault bytes).not_both parts e framed fails)
-  one_image_fault f g (within parts e framed fails) (frame d blames) =
-      absurd ((frame_or_fault bytes).not_both parts d framed blames)
-  one_image_fault f g (within parts e framed fails) (within others d around blames) =
-      let same : others ≡ parts = (frame_or_fault bytes).one_text others parts around framed in
-      let P : List ℕ → Type 0 = λ z. PartsFail z d in
-      one_parts_fault parts (parts_fit bytes parts fits framed) e d fails (subst P same blames)
+  one_image_fault f g (frame e fails) (within v parts d framed blames) =
+      absurd ((frame_or_fault bytes).not_both (v, parts) e framed fails)
+  one_image_fault f g (within v parts e framed fails) (frame d blames) =
+      absurd ((frame_or_fault bytes).not_both (v, parts) d framed blames)
+  one_image_fault f g (within v parts e framed fails) (within w others d around blames) =
+      let same = one_frame bytes w v others parts around framed in
+      let P : Version → Type 0 = λ z. PartsFail z others d in
+      let Q : List ℕ → Type 0 = λ z. PartsFail v z d in
+      one_parts_fault v parts (parts_fit bytes v parts fits framed) e d fails
+      (subst Q same.1 (subst P same.0 blames))
 
   one_pair : (x y : ImageParts) → IsImage bytes x → IsImage bytes y → x ≡ y
-  one_pair x y s t = let same = one_image x.0 y.0 x.1 y.1 s t in λ i. (same.0 i, same.1 i)
+  one_pair x y (inl s) (inl t) =
+      let same = one_whole versions.Two x.0 y.0 x.1 y.1 s t in λ i. (same.0 i, same.1 i)
+  one_pair x y (inl s) (inr t) = absurd (not_two bytes x.0 y.0 x.1 y.1 s t)
+  one_pair x y (inr s) (inl t) = absurd (not_two bytes y.0 x.0 y.1 x.1 t s)
+  one_pair x y (inr s) (inr t) =
+      let same = one_whole versions.One x.0 y.0 s.all t.all s.text t.text in
+      let P : Held → Type 0 = λ z. IsDropped z x.1 in
+      let shown = one_dropped t.all x.1 y.1 (subst P same.1 s.dropped) t.dropped in
+      λ i. (same.0 i, shown i)
+
+  no_image_fault : (x : ImageParts) (f : ImageFault) → IsImage bytes x → ImageFails bytes f → ⊥
+  no_image_fault x f (inl s) fails = no_fault versions.Two x.0 x.1 f s fails
+  no_image_fault x f (inr s) fails = no_fault versions.One x.0 s.all f s.text fails
 
 -- ---- one of both
 
-abbrev PartsOr : List ℕ → Type 0
-PartsOr parts = ((image : ImageParts) × PartsText parts image.0 image.1) ⊎ ((f : ImageFault) × PartsFail parts f)
+abbrev PartsOr : Version → List ℕ → Type 0
+PartsOr version parts =
+    ((image : ImageParts) × PartsText version parts image.0 image.1) ⊎ ((f : ImageFault) × PartsFail version parts f)
 
-module _ (parts : List ℕ) (fits : IsBytes parts) where
-  linked_or_fault : (F : Family) (rest : List ℕ) → IsLinked parts F rest → PartsOr parts
+module _ (version : Version) (parts : List ℕ) (fits : IsBytes parts) where
+  linked_or_fault : (F : Family) (rest : List ℕ) → IsLinked parts F rest → PartsOr version parts
   linked_or_fault F rest linked =
-      elim (regions_or_fault F rest linked.of.fits (rest_fits parts F rest fits linked)).some [
-        | inl told ↦ inl ((F, told.0), parts_text parts F rest told.0 linked told.1)
+      elim (regions_or_fault version F rest linked.of.fits (rest_fits parts F rest fits linked)).some [
+        | inl told ↦ inl ((F, told.0), parts_text version parts F rest told.0 linked told.1)
         | inr fails ↦ inr (of_regions F fails.0, regions F rest fails.0 linked fails.1)
       ]
 
-  has_or_fault : (read : List ClassFile) (rest : List ℕ) → HasFiles parts read rest → PartsOr parts
+  has_or_fault : (read : List ClassFile) (rest : List ℕ) → HasFiles parts read rest → PartsOr version parts
   has_or_fault read rest has =
       elim (links_or_fails read (files_ascend read has.are.ascending)
       (λ f in-f. All-contains IsClassFile read f has.are.fits in-f)) [
@@ -339,7 +390,7 @@ module _ (parts : List ℕ) (fits : IsBytes parts) where
       ]
 
   files_or_fault : (n : ℕ) (rest : List ℕ) → n < 2 ^ 32 → parts ≡ u4 n ++ rest → (o : Many)
-      → files_at n 0 None rest ≡ o → PartsOr parts
+      → files_at n 0 None rest ≡ o → PartsOr version parts
   files_or_fault n rest few is (Ok p) e =
       let t = (files_lawful n).takes rest p.0 p.1 (after_count parts n rest fits is) e in
       has_or_fault p.0 p.1 (has_files parts n rest p.0 p.1 few is
@@ -347,7 +398,7 @@ module _ (parts : List ℕ) (fits : IsBytes parts) where
   files_or_fault n rest few is (Err f) e =
       inr (of_files f, files n rest f few is ((files_lawful n).blames rest f (after_count parts n rest fits is) e))
 
-  count_or_fault : 4 ≤ length parts → (o : Result (ℕ × List ℕ) RegionFault) → number_at w32 parts ≡ o → PartsOr parts
+  count_or_fault : 4 ≤ length parts → (o : Result (ℕ × List ℕ) RegionFault) → number_at w32 parts ≡ o → PartsOr version parts
   count_or_fault long (Ok p) e =
       let t = (number_lawful w32 wide32).takes parts p.0 p.1 fits e in
       let few = t.spelled.0 in
@@ -361,22 +412,29 @@ module _ (parts : List ℕ) (fits : IsBytes parts) where
 abbrev ImageOr : List ℕ → Type 0
 ImageOr bytes = ((image : ImageParts) × IsImage bytes image) ⊎ ((f : ImageFault) × ImageFails bytes f)
 
+shown_or_fault : (bytes : List ℕ) (version : Version) (family : Family) (all : Held)
+    → VersionText version bytes family all → ImageOr bytes
+shown_or_fault bytes version family all text =
+    let s = shown_of version all in inl ((family, s.0), some_text version bytes family all s.0 text s.1)
+
 image_or_fault : (bytes : List ℕ) → IsBytes bytes → ImageOr bytes
 image_or_fault bytes fits = elim (frame_or_fault bytes).some [
   | inr fails ↦ inr (of_header fails.0, frame fails.0 fails.1)
   | inl framed ↦
-      let parts : List ℕ = framed.0 in
-      elim (count_or_fault parts (parts_fit bytes parts fits framed.1) (long_enough bytes parts framed.1)
-      (number_at w32 parts) refl) [
-        | inl told ↦ inl (told.0, image_text bytes parts told.0.0 told.0.1 framed.1 told.1)
-        | inr fails ↦ inr (fails.0, within parts fails.0 framed.1 fails.1)
+      let version : Version = framed.0.0 in
+      let parts : List ℕ = framed.0.1 in
+      elim (count_or_fault version parts (parts_fit bytes version parts fits framed.1)
+      (long_enough bytes version parts framed.1) (number_at w32 parts) refl) [
+        | inl told ↦ shown_or_fault bytes version told.0.0 told.0.1
+            (image_text bytes version parts told.0.0 told.0.1 framed.1 told.1)
+        | inr fails ↦ inr (fails.0, within version parts fails.0 framed.1 fails.1)
       ]
 ]
 
 pub one_of : (bytes : List ℕ) → IsBytes bytes → TextOrFault (IsImage bytes) (ImageFails bytes)
 one_of bytes fits = record {
   some = image_or_fault bytes fits;
-  not_both = λ x f text fails. no_fault bytes fits x.0 x.1 f text fails;
+  not_both = no_image_fault bytes fits;
   one_text = one_pair bytes fits;
   one_fault = one_image_fault bytes fits;
 }
@@ -385,9 +443,9 @@ one_of bytes fits = record {
 
 module _ {Y : Type 0} (view : Y → ImageParts) where
   pub only_image : (bytes : List ℕ) (result : Result Y ImageFault) → IsBytes bytes
-      → IfOk result (λ y. ImageText bytes (view y).0 (view y).1)
+      → IfOk result (λ y. SomeText bytes (view y).0 (view y).1)
       → IfErr result (λ f. (f ≡ faults.Memory) ⊎ ImageFails bytes f)
-      → (family : Family) (held : List (Option ImageRegion)) → ImageText bytes family held
+      → (family : Family) (held : List (Option ImageRegion)) → SomeText bytes family held
       → MatchResult result (λ y. ((view y).0 ≡ family) × ((view y).1 ≡ held)) (λ f. f ≡ faults.Memory)
   only_image bytes (Ok y) fits ok err family held text =
       let same = (one_of bytes fits).one_text (view y) (family, held) ok text in
@@ -399,7 +457,7 @@ module _ {Y : Type 0} (view : Y → ImageParts) where
       ]
 
   pub only_image_fault : (bytes : List ℕ) (result : Result Y ImageFault) → IsBytes bytes
-      → IfOk result (λ y. ImageText bytes (view y).0 (view y).1)
+      → IfOk result (λ y. SomeText bytes (view y).0 (view y).1)
       → IfErr result (λ f. (f ≡ faults.Memory) ⊎ ImageFails bytes f)
       → (x : ImageFault) → ImageFails bytes x → (result ≡ Err x) ⊎ (result ≡ Err faults.Memory)
   only_image_fault bytes (Ok y) fits ok err x fails = absurd ((one_of bytes fits).not_both (view y) x ok fails)

@@ -23,18 +23,21 @@ use Rattle.loading.specs.Families.{Family}
 use Rattle.loading.specs.Files.{LinkFails, Links}
 use Rattle.loading.proofs.UnitsLemmas.{same_units}
 use Rattle.image_format.specs.declared.region.ImageRegion.{ImageRegion}
-use Rattle.image_format.specs.Images.{ImageText}
-use Rattle.image_format.specs.Texts.{file_text, given_text, with_digest}
+use Rattle.image_format.specs.declared.version.Version.{Version}
+use Rattle.image_format.specs.declared.version.Version.TheVariants as versions
+use Rattle.image_format.specs.Images.{AreRegions, VersionText, SomeText}
+use Rattle.image_format.specs.Texts.{file_text, given_text, with_digest, version_number}
+use Rattle.image_format.proofs.DroppedLemmas.{dropped_fits}
 use Rattle.image_parser.specs.declared.fault.FilesFault.{FilesFault}
 use Rattle.image_parser.specs.declared.fault.FilesFault.TheVariants as file_faults
 use Rattle.image_parser.specs.declared.fault.RegionsFault.{RegionsFault}
 use Rattle.image_parser.specs.declared.fault.RegionsFault.TheVariants as region_faults
 use Rattle.image_parser.specs.declared.image_fault.ImageFault.{ImageFault}
 use Rattle.image_parser.specs.declared.image_fault.ImageFault.TheVariants as faults
-use Rattle.image_parser.specs.AllRegions.{RegionsText, RegionsFail}
+use Rattle.image_parser.specs.AllRegions.{RegionsText, RegionsFail, IsShown, RegionsRead}
 use Rattle.image_parser.specs.FileFaults.{AreFiles, FilesFail}
 use Rattle.image_parser.specs.HeaderFaults.{IsFramed}
-use Rattle.image_parser.specs.ImageFaults.{of_files, of_link, of_regions, HasFiles, IsLinked, PartsText, PartsFail}
+use Rattle.image_parser.specs.ImageFaults.{of_files, of_link, of_regions, HasFiles, IsLinked, PartsText, PartsFail, PartsRead}
 use Rattle.image_parser.specs.ImageFaults.{ImageParts, ImageFails}
 use Rattle.image_parser.specs.ImageFaults.PartsFail.{files, link, regions}
 use Rattle.image_parser.specs.ImageFaults.ImageFails.{within}
@@ -43,16 +46,22 @@ use Rattle.image_parser.proofs.FamilyOrderLemmas.{same_files, family_text, famil
 
 -- ---- the count
 
-pub long_enough : (bytes parts : List ℕ) → IsFramed bytes parts → 4 ≤ length parts
-long_enough bytes parts f =
-    let body : List ℕ = u4 1246775629 ++ (u2 1 ++ parts) in
+two_bytes : (version : Version) → length (u2 (version_number version)) ≡ 2
+two_bytes versions.One = refl
+two_bytes versions.Two = refl
+
+pub long_enough : (bytes : List ℕ) (version : Version) (parts : List ℕ) → IsFramed bytes version parts
+    → 4 ≤ length parts
+long_enough bytes version parts f =
+    let number : List ℕ = u2 (version_number version) in
+    let body : List ℕ = u4 1246775629 ++ (number ++ parts) in
     let all : length bytes ≡ length body + length (sha256 body) = ap length f.framed
     ∙ length-append body (sha256 body) in
-    let front : length body ≡ length (u4 1246775629) + length (u2 1 ++ parts) = length-append (u4 1246775629)
-    (u2 1 ++ parts) in
-    let next : length (u2 1 ++ parts) ≡ length (u2 1) + length parts = length-append (u2 1) parts in
+    let front : length body ≡ length (u4 1246775629) + length (number ++ parts) = length-append (u4 1246775629)
+    (number ++ parts) in
+    let next : length (number ++ parts) ≡ length number + length parts = length-append number parts in
     let four : length (u4 1246775629) ≡ 4 = refl in
-    let two : length (u2 1) ≡ 2 = refl in
+    let two : length number ≡ 2 = two_bytes version in
     omega (arith, f.size, all, front, next, four, two, length-sha256 body)
 
 pub counted : (parts : List ℕ) → IsBytes parts → 4 ≤ length parts → (n : ℕ) (rest : List ℕ)
@@ -80,31 +89,31 @@ has_files parts n bytes read rest lt is b =
 
 -- ---- faults of parts
 
-pub files_fail : (parts : List ℕ) (n : ℕ) (bytes : List ℕ) (e : FilesFault) → n < 2 ^ 32 → parts ≡ u4 n ++ bytes
-    → (e ≡ file_faults.Memory) ⊎ FilesFail n bytes e → (of_files e ≡ faults.Memory) ⊎ PartsFail parts (of_files e)
-files_fail parts n bytes e lt is h =
+pub files_fail : (version : Version) (parts : List ℕ) (n : ℕ) (bytes : List ℕ) (e : FilesFault) → n < 2 ^ 32 → parts ≡ u4 n ++ bytes
+    → (e ≡ file_faults.Memory) ⊎ FilesFail n bytes e → (of_files e ≡ faults.Memory) ⊎ PartsFail version parts (of_files e)
+files_fail version parts n bytes e lt is h =
     elim h [
       | inl memory ↦ inl (ap of_files memory)
       | inr fails ↦ inr (files n bytes e lt is fails)
     ]
 
-pub link_fails : (parts : List ℕ) (read : List ClassFile) (rest : List ℕ) (e : LinkFault) → HasFiles parts read rest
-    → (e ≡ link_faults.Memory) ⊎ LinkFails read e → (of_link e ≡ faults.Memory) ⊎ PartsFail parts (of_link e)
-link_fails parts read rest e has h =
+pub link_fails : (version : Version) (parts : List ℕ) (read : List ClassFile) (rest : List ℕ) (e : LinkFault) → HasFiles parts read rest
+    → (e ≡ link_faults.Memory) ⊎ LinkFails read e → (of_link e ≡ faults.Memory) ⊎ PartsFail version parts (of_link e)
+link_fails version parts read rest e has h =
     elim h [
       | inl memory ↦ inl (ap of_link memory)
       | inr fails ↦ inr (link read rest e has fails)
     ]
 
-pub regions_fail : (parts : List ℕ) (family : Family) (rest : List ℕ) (e : RegionsFault) (f : ImageFault)
-    → IsLinked parts family rest → (e ≡ region_faults.Memory) ⊎ RegionsFail family rest e
-    → (f ≡ faults.Memory) ⊎ (f ≡ of_regions family e) → (f ≡ faults.Memory) ⊎ PartsFail parts f
-regions_fail parts family rest e f linked h (inl memory) = inl memory
-regions_fail parts family rest e f linked h (inr is) =
+pub regions_fail : (version : Version) (parts : List ℕ) (family : Family) (rest : List ℕ) (e : RegionsFault) (f : ImageFault)
+    → IsLinked parts family rest → (e ≡ region_faults.Memory) ⊎ RegionsFail version family rest e
+    → (f ≡ faults.Memory) ⊎ (f ≡ of_regions family e) → (f ≡ faults.Memory) ⊎ PartsFail version parts f
+regions_fail version parts family rest e f linked h (inl memory) = inl memory
+regions_fail version parts family rest e f linked h (inr is) =
     elim h [
       | inl memory ↦ inl (is ∙ ap (of_regions family) memory)
       | inr fails ↦
-          let P : ImageFault → Type 0 = λ z. PartsFail parts z in
+          let P : ImageFault → Type 0 = λ z. PartsFail version parts z in
           inr (subst P (sym is) (regions family rest e linked fails))
     ]
 
@@ -116,19 +125,21 @@ if_named text (Ok name) modified same spelled =
     same_units name (units_of text) (spelled modified ∙ sym (units_text-units_of text modified)) ∙ same
 if_named text (Err e) modified same spelled = tt
 
-pub parts_fail : (bytes parts : List ℕ) (f : ImageFault) → IsFramed bytes parts
-    → (f ≡ faults.Memory) ⊎ PartsFail parts f → (f ≡ faults.Memory) ⊎ ImageFails bytes f
-parts_fail bytes parts f framed h =
+pub parts_fail : (bytes : List ℕ) (version : Version) (parts : List ℕ) (f : ImageFault)
+    → IsFramed bytes version parts
+    → (f ≡ faults.Memory) ⊎ PartsFail version parts f → (f ≡ faults.Memory) ⊎ ImageFails bytes f
+parts_fail bytes version parts f framed h =
     elim h [
       | inl memory ↦ inl memory
-      | inr fails ↦ inr (within parts f framed fails)
+      | inr fails ↦ inr (within version parts f framed fails)
     ]
 
 -- ---- what is accepted
 
-pub parts_text : (parts : List ℕ) (family : Family) (rest : List ℕ) (held : List (Option ImageRegion))
-    → IsLinked parts family rest → RegionsText family rest held → PartsText parts family held
-parts_text parts family rest held linked told =
+pub parts_text : (version : Version) (parts : List ℕ) (family : Family) (rest : List ℕ)
+    (held : List (Option ImageRegion)) → IsLinked parts family rest → RegionsText version family rest held
+    → PartsText version parts family held
+parts_text version parts family rest held linked told =
     let has = linked.has in
     let same = same_files linked.files family has.are.ascending linked.of in
     let AreGood : List ClassFile → Type 0 = λ z. All IsClassFile z in
@@ -147,28 +158,67 @@ parts_text parts family rest held linked told =
           ∙ ap (λ (z : List ℕ). u4 (length family) ++ (flat_map given_text family ++ z)) told.spelled;
     }
 
-pub image_text : (bytes parts : List ℕ) (family : Family) (held : List (Option ImageRegion)) → IsFramed bytes parts
-    → PartsText parts family held → ImageText bytes family held
-image_text bytes parts family held framed text = record {
+pub parts_read : (version : Version) (parts : List ℕ) (family : Family) (rest : List ℕ)
+    (held : List (Option ImageRegion)) → IsLinked parts family rest → RegionsRead version family rest held
+    → PartsRead version parts family held
+parts_read version parts family rest held linked read = record {
+  all = read.all;
+  told = parts_text version parts family rest read.all linked read.told;
+  shown = read.shown;
+}
+
+pub image_text : (bytes : List ℕ) (version : Version) (parts : List ℕ) (family : Family)
+    (held : List (Option ImageRegion)) → IsFramed bytes version parts → PartsText version parts family held
+    → VersionText version bytes family held
+image_text bytes version parts family held framed text = record {
   classes = text.classes;
   files = text.files;
   links = text.links;
   short = text.short;
   fits = text.fits;
-  spelled = framed.framed ∙ ap (λ (z : List ℕ). with_digest (u4 1246775629 ++ (u2 1 ++ z))) text.spelled;
+  spelled = framed.framed
+      ∙ ap (λ (z : List ℕ). with_digest (u4 1246775629 ++ (u2 (version_number version) ++ z))) text.spelled;
 }
+
+-- what is shown of a text
+pub some_text : (version : Version) (bytes : List ℕ) (family : Family) (all held : List (Option ImageRegion))
+    → VersionText version bytes family all → IsShown version all held → SomeText bytes family held
+some_text versions.One bytes family all held text shown =
+    inr (record { all = all; text = text; dropped = shown })
+some_text versions.Two bytes family all held text shown =
+    let P : List (Option ImageRegion) → Type 0 = λ z. VersionText versions.Two bytes family z in
+    inl (subst P (sym shown) text)
+
+pub shown_fits : (version : Version) (family : Family) (all held : List (Option ImageRegion))
+    → AreRegions version family all → IsShown version all held → AreRegions versions.Two family held
+shown_fits versions.One family all held fits shown = dropped_fits family all held fits shown
+shown_fits versions.Two family all held fits shown =
+    let P : List (Option ImageRegion) → Type 0 = λ z. AreRegions versions.Two family z in subst P (sym shown) fits
+
+pub some_fits : (bytes : List ℕ) (family : Family) (held : List (Option ImageRegion)) → SomeText bytes family held
+    → AreRegions versions.Two family held
+some_fits bytes family held (inl text) = text.fits
+some_fits bytes family held (inr old) = dropped_fits family old.all held old.text.fits old.dropped
 
 -- ---- answers of functions
 
-pub parts_refused : {X : Type 0} (bytes parts : List ℕ) (result : Result X ImageFault) → IsFramed bytes parts
-    → IfErr result (λ f. (f ≡ faults.Memory) ⊎ PartsFail parts f)
+pub parts_refused : {X : Type 0} (bytes : List ℕ) (version : Version) (parts : List ℕ) (result : Result X ImageFault)
+    → IsFramed bytes version parts → IfErr result (λ f. (f ≡ faults.Memory) ⊎ PartsFail version parts f)
     → IfErr result (λ f. (f ≡ faults.Memory) ⊎ ImageFails bytes f)
-parts_refused bytes parts (Ok x) framed h = tt
-parts_refused bytes parts (Err f) framed h = parts_fail bytes parts f framed h
+parts_refused bytes version parts (Ok x) framed h = tt
+parts_refused bytes version parts (Err f) framed h = parts_fail bytes version parts f framed h
 
 module _ {Y : Type 0} (view : Y → ImageParts) where
-  pub parts_accepted : (bytes parts : List ℕ) (result : Result Y ImageFault) → IsFramed bytes parts
-      → IfOk result (λ y. PartsText parts (view y).0 (view y).1)
-      → IfOk result (λ y. ImageText bytes (view y).0 (view y).1)
-  parts_accepted bytes parts (Ok y) framed h = image_text bytes parts (view y).0 (view y).1 framed h
-  parts_accepted bytes parts (Err f) framed h = tt
+  pub parts_accepted : (bytes : List ℕ) (version : Version) (parts : List ℕ) (result : Result Y ImageFault)
+      → IsFramed bytes version parts → IfOk result (λ y. PartsRead version parts (view y).0 (view y).1)
+      → IfOk result (λ y. SomeText bytes (view y).0 (view y).1)
+  parts_accepted bytes version parts (Ok y) framed h =
+      some_text version bytes (view y).0 h.all (view y).1
+      (image_text bytes version parts (view y).0 h.all framed h.told) h.shown
+  parts_accepted bytes version parts (Err f) framed h = tt
+
+  pub all_fit : (bytes : List ℕ) (result : Result Y ImageFault)
+      → IfOk result (λ y. SomeText bytes (view y).0 (view y).1)
+      → IfOk result (λ y. AreRegions versions.Two (view y).0 (view y).1)
+  all_fit bytes (Ok y) h = some_fits bytes (view y).0 (view y).1 h
+  all_fit bytes (Err f) h = tt

@@ -8,6 +8,7 @@ use Rattle.classfile.specs.Faults.{Number, IsBytes}
 use Rattle.classfile.proofs.Lawful.{Lawful, Both, Is, Mapped, wide8, pure_lawful, map_lawful, then_lawful, restated}
 use Rattle.loading.specs.Families.{Family, IsFamily}
 use Rattle.image_format.specs.Texts.{mark_text, region_text}
+use Rattle.image_format.specs.declared.version.Version.{Version}
 use Rattle.image_parser.specs.declared.fault.RegionFault.{RegionFault}
 use Rattle.image_parser.specs.declared.fault.MarksFault.{MarksFault}
 use Rattle.image_parser.specs.declared.fault.MarksFault.TheVariants as marks
@@ -22,38 +23,38 @@ use Rattle.image_parser.specs.reading.Marks.{Mark, marked, marked_at, mark_at, i
 use Rattle.image_parser.proofs.NumberLawful.{number_lawful}
 use Rattle.image_parser.proofs.EachLawful.{each_lawful}
 use Rattle.image_parser.proofs.ValueLawful.{shape_lawful}
-use Rattle.image_parser.proofs.ObjectLawful.{region_lawful}
+use Rattle.image_parser.proofs.RegionLawful.{region_lawful}
 
 -- ---- one mark
 
-abbrev Marked : Family → ℕ → ℕ → Mark → List ℕ → Type 0
-Marked family c zero = Is None
-Marked family c (suc zero) = Mapped marked (IsRegion family c)
-Marked family c (suc (suc n)) = λ mark text. ⊥
+abbrev Marked : Version → Family → ℕ → ℕ → Mark → List ℕ → Type 0
+Marked version family c zero = Is None
+Marked version family c (suc zero) = Mapped marked (IsRegion version family c)
+Marked version family c (suc (suc n)) = λ mark text. ⊥
 
-marked_lawful : (family : Family) → IsFamily family → (c m : ℕ)
-    → Lawful (marked_at family c m) (Marked family c m) (MarkedFails family c m)
-marked_lawful family fits c zero = pure_lawful None
-marked_lawful family fits c (suc zero) =
-    map_lawful marked (region_at family c) (IsRegion family c) (RegionFails family c) (region_lawful family fits c)
-marked_lawful family fits c (suc (suc n)) = shape_lawful
+marked_lawful : (version : Version) (family : Family) → IsFamily family → (c m : ℕ)
+    → Lawful (marked_at version family c m) (Marked version family c m) (MarkedFails version family c m)
+marked_lawful version family fits c zero = pure_lawful None
+marked_lawful version family fits c (suc zero) =
+    map_lawful marked (region_at version family c) (IsRegion version family c) (RegionFails version family c) (region_lawful version family fits c)
+marked_lawful version family fits c (suc (suc n)) = shape_lawful
 
-marked_there : (family : Family) (c m : ℕ) (mark : Mark) (back : List ℕ) → Marked family c m mark back
-    → MarkFits family c mark × (u1 m ++ back ≡ mark_text family mark)
-marked_there family c zero mark back s = rw (s.0, s.1) (tt, refl)
-marked_there family c (suc zero) mark back s =
+marked_there : (version : Version) (family : Family) (c m : ℕ) (mark : Mark) (back : List ℕ) → Marked version family c m mark back
+    → MarkFits version family c mark × (u1 m ++ back ≡ mark_text version family mark)
+marked_there version family c zero mark back s = rw (s.0, s.1) (tt, refl)
+marked_there version family c (suc zero) mark back s =
     rw s.is (s.spelled.0, ap (λ (z : List ℕ). u1 1 ++ z) s.spelled.1)
-marked_there family c (suc (suc n)) mark back s = absurd s
+marked_there version family c (suc (suc n)) mark back s = absurd s
 
-mark_there : (family : Family) (c : ℕ) (mark : Mark) (text : List ℕ) → Both (Number w8) (Marked family c) mark text
-    → IsMark family c mark text
-mark_there family c mark text s =
-    let h = marked_there family c s.value mark s.back s.second in
+mark_there : (version : Version) (family : Family) (c : ℕ) (mark : Mark) (text : List ℕ) → Both (Number w8) (Marked version family c) mark text
+    → IsMark version family c mark text
+mark_there version family c mark text s =
+    let h = marked_there version family c s.value mark s.back s.second in
     (h.0, s.parts ∙ ap (λ (z : List ℕ). z ++ s.back) s.first.1 ∙ h.1)
 
-mark_back : (family : Family) (c : ℕ) (mark : Mark) (text : List ℕ) → IsMark family c mark text
-    → Both (Number w8) (Marked family c) mark text
-mark_back family c None text s = record {
+mark_back : (version : Version) (family : Family) (c : ℕ) (mark : Mark) (text : List ℕ) → IsMark version family c mark text
+    → Both (Number w8) (Marked version family c) mark text
+mark_back version family c None text s = record {
   value = 0;
   front = u1 0;
   back = [];
@@ -61,21 +62,21 @@ mark_back family c None text s = record {
   second = (refl, refl);
   parts = s.1;
 }
-mark_back family c (Some region) text s = record {
+mark_back version family c (Some region) text s = record {
   value = 1;
   front = u1 1;
-  back = region_text family region;
+  back = region_text version family region;
   first = (omega arith, refl);
   second = record { value = region; spelled = (s.0, refl); is = refl };
   parts = s.1;
 }
 
-mark_lawful : (family : Family) → IsFamily family → (c : ℕ)
-    → Lawful (mark_at family c) (IsMark family c) (MarkFails family c)
+mark_lawful : (version : Version) (family : Family) → IsFamily family → (c : ℕ)
+    → Lawful (mark_at version family c) (IsMark version family c) (MarkFails version family c)
 unfolding mark_at
-mark_lawful family fits c =
-    restated (then_lawful (number_at w8) (λ bytes mark. marked_at family c mark.0 mark.1) (number_lawful w8 wide8)
-    (λ bytes m text s. marked_lawful family fits c m)) (mark_there family c) (mark_back family c)
+mark_lawful version family fits c =
+    restated (then_lawful (number_at w8) (λ bytes mark. marked_at version family c mark.0 mark.1) (number_lawful w8 wide8)
+    (λ bytes m text s. marked_lawful version family fits c m)) (mark_there version family c) (mark_back version family c)
 
 -- ---- the same among all
 
@@ -101,46 +102,46 @@ inside_lawful {X} c r S F one = record {
       ∙ ap (λ (z : MarksFault). Err z) (sym h.1.1);
 }
 
-pub marks_lawful : (family : Family) → IsFamily family → Lawful (marks_at family) (AreMarks family) (MarksFail family)
+pub marks_lawful : (version : Version) (family : Family) → IsFamily family → Lawful (marks_at version family) (AreMarks version family) (MarksFail version family)
 unfolding marks_at
-marks_lawful family fits =
-    each_lawful (mark_text family) (MarkFits family) (MarkFailsIn family) (mark_in family)
-    (λ c. inside_lawful c (mark_at family c) (IsMark family c) (MarkFails family c) (mark_lawful family fits c))
+marks_lawful version family fits =
+    each_lawful (mark_text version family) (MarkFits version family) (MarkFailsIn version family) (mark_in version family)
+    (λ c. inside_lawful c (mark_at version family c) (IsMark version family c) (MarkFails version family c) (mark_lawful version family fits c))
     (numbers 0 (length family))
 
 -- ---- what the reader answers, unless memory runs out
 
-pub marks_text : {Y : Type 0} (family : Family) → IsFamily family → (view : Y → List Mark × List ℕ)
-    (result : Result Y MarksFault) (bytes : List ℕ) → IsBytes bytes → GivesIn view result (marks_at family bytes)
-    → IfOk result (λ y. Begins (AreMarks family) bytes (view y).0 (view y).1)
-marks_text family fam view (Ok y) bytes fits e =
-    let t = (marks_lawful family fam).takes bytes (view y).0 (view y).1 fits e in
+pub marks_text : {Y : Type 0} (version : Version) (family : Family) → IsFamily family → (view : Y → List Mark × List ℕ)
+    (result : Result Y MarksFault) (bytes : List ℕ) → IsBytes bytes → GivesIn view result (marks_at version family bytes)
+    → IfOk result (λ y. Begins (AreMarks version family) bytes (view y).0 (view y).1)
+marks_text version family fam view (Ok y) bytes fits e =
+    let t = (marks_lawful version family fam).takes bytes (view y).0 (view y).1 fits e in
     record { text = t.text; spelled = t.spelled; parts = t.parts }
-marks_text family fam view (Err f) bytes fits e = tt
+marks_text version family fam view (Err f) bytes fits e = tt
 
-pub marks_only_text : {Y : Type 0} (family : Family) → IsFamily family → (view : Y → List Mark × List ℕ)
-    (result : Result Y MarksFault) (bytes : List ℕ) → GivesIn view result (marks_at family bytes)
-    → (regions : List Mark) (text rest : List ℕ) → AreMarks family regions text → bytes ≡ text ++ rest
+pub marks_only_text : {Y : Type 0} (version : Version) (family : Family) → IsFamily family → (view : Y → List Mark × List ℕ)
+    (result : Result Y MarksFault) (bytes : List ℕ) → GivesIn view result (marks_at version family bytes)
+    → (regions : List Mark) (text rest : List ℕ) → AreMarks version family regions text → bytes ≡ text ++ rest
     → GivesIn view result (Ok (regions, rest))
-marks_only_text {Y} family fam view result bytes g regions text rest s parts =
+marks_only_text {Y} version family fam view result bytes g regions text rest s parts =
     let P : Result (List Mark × List ℕ) MarksFault → Type 0 = λ z. GivesIn view result z in
-    subst P (ap (marks_at family) parts ∙ (marks_lawful family fam).again regions text rest s) g
+    subst P (ap (marks_at version family) parts ∙ (marks_lawful version family fam).again regions text rest s) g
 
-refused : (family : Family) → IsFamily family → (f : MarksFault) (bytes : List ℕ) → IsBytes bytes
-    → FailsIn f (marks_at family bytes) → IsMarksFault (MarksFail family bytes) f
-refused family fam marks.Memory bytes fits e = tt
-refused family fam marks.Truncated bytes fits e = (marks_lawful family fam).blames bytes marks.Truncated fits e
-refused family fam (marks.Shape c) bytes fits e = (marks_lawful family fam).blames bytes (marks.Shape c) fits e
+refused : (version : Version) (family : Family) → IsFamily family → (f : MarksFault) (bytes : List ℕ) → IsBytes bytes
+    → FailsIn f (marks_at version family bytes) → IsMarksFault (MarksFail version family bytes) f
+refused version family fam marks.Memory bytes fits e = tt
+refused version family fam marks.Truncated bytes fits e = (marks_lawful version family fam).blames bytes marks.Truncated fits e
+refused version family fam (marks.Shape c) bytes fits e = (marks_lawful version family fam).blames bytes (marks.Shape c) fits e
 
-pub marks_fault : {Y : Type 0} (family : Family) → IsFamily family → (view : Y → List Mark × List ℕ)
-    (result : Result Y MarksFault) (bytes : List ℕ) → IsBytes bytes → GivesIn view result (marks_at family bytes)
-    → IfErr result (λ f. IsMarksFault (MarksFail family bytes) f)
-marks_fault family fam view (Ok y) bytes fits e = tt
-marks_fault family fam view (Err f) bytes fits e = refused family fam f bytes fits e
+pub marks_fault : {Y : Type 0} (version : Version) (family : Family) → IsFamily family → (view : Y → List Mark × List ℕ)
+    (result : Result Y MarksFault) (bytes : List ℕ) → IsBytes bytes → GivesIn view result (marks_at version family bytes)
+    → IfErr result (λ f. IsMarksFault (MarksFail version family bytes) f)
+marks_fault version family fam view (Ok y) bytes fits e = tt
+marks_fault version family fam view (Err f) bytes fits e = refused version family fam f bytes fits e
 
-pub marks_only_fault : {Y : Type 0} (family : Family) → IsFamily family → (view : Y → List Mark × List ℕ)
-    (result : Result Y MarksFault) (bytes : List ℕ) → IsBytes bytes → GivesIn view result (marks_at family bytes)
-    → (f : MarksFault) → MarksFail family bytes f → GivesIn view result (Err f)
-marks_only_fault {Y} family fam view result bytes fits g f h =
+pub marks_only_fault : {Y : Type 0} (version : Version) (family : Family) → IsFamily family → (view : Y → List Mark × List ℕ)
+    (result : Result Y MarksFault) (bytes : List ℕ) → IsBytes bytes → GivesIn view result (marks_at version family bytes)
+    → (f : MarksFault) → MarksFail version family bytes f → GivesIn view result (Err f)
+marks_only_fault {Y} version family fam view result bytes fits g f h =
     let P : Result (List Mark × List ℕ) MarksFault → Type 0 = λ z. GivesIn view result z in
-    subst P ((marks_lawful family fam).blamed bytes f fits h) g
+    subst P ((marks_lawful version family fam).blamed bytes f fits h) g

@@ -2,14 +2,18 @@
 use Rattle.std.specs.Prelude.{◌≡◌, ◌≢◌, ℕ, ◌≤◌, ◌<◌, ◌-◌, List, ◌++◌, length, take, drop}
 use Rattle.sha2.specs.Sha256.{sha256}
 use Rattle.classfile.specs.Spelling.{u2, u4}
-use Rattle.image_format.specs.Texts.{with_digest}
+use Rattle.image_format.specs.declared.version.Version.{Version}
+use Rattle.image_format.specs.Texts.{with_digest, version_number}
 use Rattle.image_parser.specs.declared.header.HeaderFault.{HeaderFault}
 use Rattle.image_parser.specs.declared.header.HeaderFault.TheVariants as faults
 
--- The parts of an image, with what stands before and after them: there are 42 bytes at least.
-pub record IsFramed (bytes parts : List ℕ) : Type 0 where
+-- The parts of an image of this version, with what stands before and after them: there are 42 bytes at least.
+pub record IsFramed (bytes : List ℕ) (version : Version) (parts : List ℕ) : Type 0 where
   pub size : 42 ≤ length bytes
-  pub framed : bytes ≡ with_digest (u4 1246775629 ++ (u2 1 ++ parts))
+  pub framed : bytes ≡ with_digest (u4 1246775629 ++ (u2 (version_number version) ++ parts))
+
+abbrev pub IsFrame : List ℕ → Version × List ℕ → Type 0
+IsFrame bytes x = IsFramed bytes x.0 x.1
 
 -- all but the last 32 bytes, and these; of the former the first four bytes, and the two after them
 abbrev pub front_in : List ℕ → List ℕ
@@ -28,7 +32,8 @@ version_in bytes = take 2 (drop 4 (front_in bytes))
 pub data HeaderFails (bytes : List ℕ) : HeaderFault → Type 0 where
   truncated : length bytes < 42 → HeaderFails bytes faults.Truncated
   magic : 42 ≤ length bytes → magic_in bytes ≢ u4 1246775629 → HeaderFails bytes faults.Magic
-  version : 42 ≤ length bytes → magic_in bytes ≡ u4 1246775629 → version_in bytes ≢ u2 1
-      → HeaderFails bytes faults.Version
-  digest : 42 ≤ length bytes → magic_in bytes ≡ u4 1246775629 → version_in bytes ≡ u2 1
-      → digest_in bytes ≢ sha256 (front_in bytes) → HeaderFails bytes faults.Digest
+  version : 42 ≤ length bytes → magic_in bytes ≡ u4 1246775629
+      → ((v : Version) → version_in bytes ≢ u2 (version_number v)) → HeaderFails bytes faults.Version
+  digest : 42 ≤ length bytes → magic_in bytes ≡ u4 1246775629 → (v : Version)
+      → version_in bytes ≡ u2 (version_number v) → digest_in bytes ≢ sha256 (front_in bytes)
+      → HeaderFails bytes faults.Digest

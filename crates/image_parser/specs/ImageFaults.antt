@@ -9,7 +9,8 @@ use Rattle.loading.specs.declared.fault.LinkFault.TheVariants as link_faults
 use Rattle.loading.specs.Families.{Family, IsFamily, IsFamilyOf, name_in}
 use Rattle.loading.specs.Files.{LinkFails, Links}
 use Rattle.image_format.specs.declared.region.ImageRegion.{ImageRegion}
-use Rattle.image_format.specs.Images.{files_of, AreRegions, AreClassFiles, AreShort, ImageText}
+use Rattle.image_format.specs.declared.version.Version.{Version}
+use Rattle.image_format.specs.Images.{files_of, AreRegions, AreClassFiles, AreShort, SomeText}
 use Rattle.image_format.specs.Texts.{given_text, mark_text}
 use Rattle.image_parser.specs.declared.fault.FilesFault.{FilesFault}
 use Rattle.image_parser.specs.declared.fault.FilesFault.TheVariants as file_faults
@@ -19,7 +20,7 @@ use Rattle.image_parser.specs.declared.header.HeaderFault.{HeaderFault}
 use Rattle.image_parser.specs.declared.header.HeaderFault.TheVariants as header_faults
 use Rattle.image_parser.specs.declared.image_fault.ImageFault.{ImageFault}
 use Rattle.image_parser.specs.declared.image_fault.ImageFault.TheVariants as faults
-use Rattle.image_parser.specs.AllRegions.{RegionsFail}
+use Rattle.image_parser.specs.AllRegions.{RegionsFail, IsShown}
 use Rattle.image_parser.specs.FileFaults.{AreFiles, FilesFail}
 use Rattle.image_parser.specs.HeaderFaults.{HeaderFails, IsFramed}
 
@@ -52,6 +53,7 @@ of_regions family region_faults.Truncated = faults.Truncated
 of_regions family (region_faults.Shape c) = faults.Shape (name_units family c)
 of_regions family region_faults.Extra = faults.Extra
 of_regions family (region_faults.Name c) = faults.Name (name_units family c)
+of_regions family (region_faults.Idle c) = faults.Idle (name_units family c)
 
 -- ---- what stands between the version and the digest
 
@@ -70,22 +72,31 @@ pub record IsLinked (parts : List ℕ) (family : Family) (rest : List ℕ) : Typ
   pub of : IsFamilyOf files family
 
 -- class files that make one program, and the regions of its classes, all told
-pub record PartsText (parts : List ℕ) (family : Family) (regions : List (Option ImageRegion)) : Type 0 where
+pub record PartsText (version : Version) (parts : List ℕ) (family : Family) (all : List (Option ImageRegion))
+    : Type 0 where
   pub classes : IsFamily family
   pub files : AreClassFiles family
   pub links : Links (files_of family)
   pub short : AreShort family
-  pub fits : AreRegions family regions
-  pub spelled : parts ≡ u4 (length family) ++ (flat_map given_text family ++ flat_map (mark_text family) regions)
+  pub fits : AreRegions version family all
+  pub spelled : parts
+      ≡ u4 (length family) ++ (flat_map given_text family ++ flat_map (mark_text version family) all)
 
 -- the first of the class files that fails, then the program that they do not make, then what stands after them
-pub data PartsFail (parts : List ℕ) : ImageFault → Type 0 where
+pub data PartsFail (version : Version) (parts : List ℕ) : ImageFault → Type 0 where
   files : (count : ℕ) (rest : List ℕ) (e : FilesFault) → count < 2 ^ 32 → parts ≡ u4 count ++ rest
-      → FilesFail count rest e → PartsFail parts (of_files e)
+      → FilesFail count rest e → PartsFail version parts (of_files e)
   link : (files : List ClassFile) (rest : List ℕ) (e : LinkFault) → HasFiles parts files rest → LinkFails files e
-      → PartsFail parts (of_link e)
+      → PartsFail version parts (of_link e)
   regions : (family : Family) (rest : List ℕ) (e : RegionsFault) → IsLinked parts family rest
-      → RegionsFail family rest e → PartsFail parts (of_regions family e)
+      → RegionsFail version family rest e → PartsFail version parts (of_regions family e)
+
+-- what a reader answers of the parts
+pub record PartsRead (version : Version) (parts : List ℕ) (family : Family) (regions : List (Option ImageRegion))
+    : Type 0 where
+  pub all : List (Option ImageRegion)
+  pub told : PartsText version parts family all
+  pub shown : IsShown version all regions
 
 -- ---- images
 
@@ -94,13 +105,13 @@ abbrev pub ImageParts : Type 0
 ImageParts = Family × List (Option ImageRegion)
 
 abbrev pub IsImage : List ℕ → ImageParts → Type 0
-IsImage bytes image = ImageText bytes image.0 image.1
+IsImage bytes image = SomeText bytes image.0 image.1
 
 -- what is wrong round the parts, and then in them
 pub data ImageFails (bytes : List ℕ) : ImageFault → Type 0 where
   frame : (e : HeaderFault) → HeaderFails bytes e → ImageFails bytes (of_header e)
-  within : (parts : List ℕ) (fault : ImageFault) → IsFramed bytes parts → PartsFail parts fault
-      → ImageFails bytes fault
+  within : (version : Version) (parts : List ℕ) (fault : ImageFault) → IsFramed bytes version parts
+      → PartsFail version parts fault → ImageFails bytes fault
 
 -- this fault is answered, unless memory ran out
 abbrev pub Answers : {X : Type 0} → Result X ImageFault → ImageFault → Type 0

@@ -4,6 +4,7 @@ pub mod RegionFaults
 pub mod Regions
 pub mod HeaderFaults
 pub mod Nameless
+pub mod Idle
 pub mod Inside
 pub mod AllRegions
 pub mod TextOrFault

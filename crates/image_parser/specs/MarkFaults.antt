@@ -5,6 +5,7 @@ use Rattle.std.specs.Int.{w8}
 use Rattle.classfile.specs.Faults.{Either, Number}
 use Rattle.loading.specs.Families.{Family}
 use Rattle.image_format.specs.declared.region.ImageRegion.{ImageRegion}
+use Rattle.image_format.specs.declared.version.Version.{Version}
 use Rattle.image_format.specs.Shapes.{HasShape}
 use Rattle.image_format.specs.Texts.{mark_text}
 use Rattle.image_parser.specs.declared.fault.RegionFault.{RegionFault}
@@ -21,34 +22,36 @@ numbers c zero = []
 numbers c (suc n) = c ∷ numbers (c + 1) n
 
 -- a class that is not initialized, or one whose region has shape
-abbrev pub MarkFits : Family → ℕ → Option ImageRegion → Type 0
-MarkFits family c None = Unit {0}
-MarkFits family c (Some region) = HasShape family c region
+abbrev pub MarkFits : Version → Family → ℕ → Option ImageRegion → Type 0
+MarkFits version family c None = Unit {0}
+MarkFits version family c (Some region) = HasShape version family c region
 
-abbrev pub IsMark : Family → ℕ → Option ImageRegion → List ℕ → Type 0
-IsMark family c mark text = MarkFits family c mark × (text ≡ mark_text family mark)
+abbrev pub IsMark : Version → Family → ℕ → Option ImageRegion → List ℕ → Type 0
+IsMark version family c mark text = MarkFits version family c mark × (text ≡ mark_text version family mark)
 
 -- after a mark of 0 nothing, after 1 a region; there is no other mark
-abbrev pub MarkedFails : Family → ℕ → ℕ → List ℕ → RegionFault → Type 0
-MarkedFails family c zero = λ bytes fault. ⊥
-MarkedFails family c (suc zero) = RegionFails family c
-MarkedFails family c (suc (suc n)) = λ bytes fault. fault ≡ faults.Shape
+abbrev pub MarkedFails : Version → Family → ℕ → ℕ → List ℕ → RegionFault → Type 0
+MarkedFails version family c zero = λ bytes fault. ⊥
+MarkedFails version family c (suc zero) = RegionFails version family c
+MarkedFails version family c (suc (suc n)) = λ bytes fault. fault ≡ faults.Shape
 
-abbrev pub MarkFails : Family → ℕ → List ℕ → RegionFault → Type 0
-MarkFails family c = Either (Number w8) (CutNumber w8) (MarkedFails family c)
+abbrev pub MarkFails : Version → Family → ℕ → List ℕ → RegionFault → Type 0
+MarkFails version family c = Either (Number w8) (CutNumber w8) (MarkedFails version family c)
 
 -- the same among all classes
-abbrev pub MarkFailsIn : Family → ℕ → List ℕ → MarksFault → Type 0
-MarkFailsIn family c bytes fault = (e : RegionFault) × (MarkFails family c bytes e × (fault ≡ inside c e))
+abbrev pub MarkFailsIn : Version → Family → ℕ → List ℕ → MarksFault → Type 0
+MarkFailsIn version family c bytes fault =
+    (e : RegionFault) × (MarkFails version family c bytes e × (fault ≡ inside c e))
 
 -- the first of the classes that fails, in the order of their numbers
-abbrev pub MarksFail : Family → List ℕ → MarksFault → Type 0
-MarksFail family = EachFails (IsMark family) (MarkFailsIn family) (numbers 0 (length family))
+abbrev pub MarksFail : Version → Family → List ℕ → MarksFault → Type 0
+MarksFail version family =
+    EachFails (IsMark version family) (MarkFailsIn version family) (numbers 0 (length family))
 
 -- a mark for each class
-abbrev pub AreMarks : Family → List (Option ImageRegion) → List ℕ → Type 0
-AreMarks family regions text =
-    AllZip (MarkFits family) (numbers 0 (length family)) regions × (text ≡ flat_map (mark_text family) regions)
+abbrev pub AreMarks : Version → Family → List (Option ImageRegion) → List ℕ → Type 0
+AreMarks version family regions text = AllZip (MarkFits version family) (numbers 0 (length family)) regions
+    × (text ≡ flat_map (mark_text version family) regions)
 
 -- memory ran out, or this is the fault
 abbrev pub IsMarksFault : (MarksFault → Type 0) → MarksFault → Type 0

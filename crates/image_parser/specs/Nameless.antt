@@ -1,12 +1,12 @@
 -- Regions that name an object that there is not.
 use Rattle.std.specs.Prelude.{◌≡◌, ℕ, List, take, Option, Some, None, slice_get}
 use Rattle.std.specs.List.{All}
-use Rattle.image_format.specs.declared.object.ImageObject.{ImageObject}
+use Rattle.image_format.specs.declared.object.KeptObject.{KeptObject}
 use Rattle.image_format.specs.declared.region.ImageRegion.{ImageRegion}
 use Rattle.image_format.specs.Images.{IsThere, NamesObjects}
 
-abbrev pub SlotsAreThere : List (Option ImageRegion) → ImageObject → Type 0
-SlotsAreThere regions object = All (IsThere regions) object.slots
+abbrev pub SlotsAreThere : List (Option ImageRegion) → KeptObject → Type 0
+SlotsAreThere regions kept = All (IsThere regions) kept.object.slots
 
 -- a class that is not initialized names nothing
 abbrev pub MarkNames : List (Option ImageRegion) → Option ImageRegion → Type 0

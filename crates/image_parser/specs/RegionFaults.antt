@@ -1,5 +1,5 @@
 -- How bytes fail to begin with a region of a class: the first of the checks, in the order of the format, that fails.
-use Rattle.std.specs.Prelude.{◌≡◌, ℕ, ◌<◌, ◌^◌, true, List, length, Option, Some, None}
+use Rattle.std.specs.Prelude.{◌≡◌, ℕ, ◌+◌, ◌<◌, ◌^◌, true, List, [], length, Option, Some, None}
 use Rattle.std.specs.List.{AllZip, flat_map}
 use Rattle.std.specs.Int.{Width, w8, w16, w32, w64, byte_len, cast_signed}
 use Rattle.classfile.specs.Faults.{Either, Number}
@@ -14,16 +14,20 @@ use Rattle.image_format.specs.declared.value.ImageValue.{ImageValue}
 use Rattle.image_format.specs.declared.object.ImageClass.{ImageClass}
 use Rattle.image_format.specs.declared.object.ImageClass.TheVariants as image
 use Rattle.image_format.specs.declared.object.ImageObject.{ImageObject}
+use Rattle.image_format.specs.declared.object.KeptObject.{KeptObject}
 use Rattle.image_format.specs.declared.region.ImageRegion.{ImageRegion}
+use Rattle.image_format.specs.declared.version.Version.{Version}
+use Rattle.image_format.specs.declared.version.Version.TheVariants as versions
 use Rattle.image_format.specs.Elements.{kind_of_elements}
 use Rattle.image_format.specs.Names.{name_of_class}
-use Rattle.image_format.specs.Shapes.{Suits, is_in_range, HasObjects, ObjectHasShape, HasShape}
-use Rattle.image_format.specs.Texts.{value_text, element_text, object_text, region_text, named_text}
+use Rattle.image_format.specs.Shapes.{Suits, is_in_range, HasObjects, ObjectHasShape, IsNumber, HasShape}
+use Rattle.image_format.specs.Texts.{value_text, element_text, object_text, number_text, kept_text, region_text}
+use Rattle.image_format.specs.Texts.{named_text}
 use Rattle.image_parser.specs.declared.fault.RegionFault.{RegionFault}
 use Rattle.image_parser.specs.declared.fault.RegionFault.TheVariants as faults
 use Rattle.image_parser.specs.declared.tag.Tag.{Tag}
 use Rattle.image_parser.specs.declared.tag.Tag.TheVariants as tags
-use Rattle.image_parser.specs.FirstFailing.{EachFails, times}
+use Rattle.image_parser.specs.FirstFailing.{EachFails, ChainFails, times}
 use Rattle.image_parser.specs.Tags.{tag_of, may_have}
 
 abbrev pub Cut : ℕ → List ℕ → RegionFault → Type 0
@@ -141,22 +145,61 @@ ObjectFails family = Either (Ruled (Number w8) (λ form. form < 2))
 abbrev pub IsObject : Family → ImageObject → List ℕ → Type 0
 IsObject family object text = ObjectHasShape family object × (text ≡ object_text family object)
 
--- ---- regions
+-- ---- objects with their numbers
+
+-- the number of the next object, after those below this one
+abbrev pub IsNumberText : Version → ℕ → ℕ → ℕ → List ℕ → Type 0
+IsNumberText version count least n text = IsNumber version count least n × (text ≡ number_text version n)
+
+-- version 1 spells none
+abbrev pub NumberFails : Version → ℕ → ℕ → List ℕ → RegionFault → Type 0
+NumberFails versions.One count least = λ bytes fault. ⊥
+NumberFails versions.Two count least =
+    RuleFails (Number w32) (CutNumber w32) (IsNumber versions.Two count least) (λ n. faults.Shape)
+
+-- the number, then the object
+abbrev pub KeptFails : Version → Family → ℕ → ℕ → List ℕ → RegionFault → Type 0
+KeptFails version family count least =
+    Either (IsNumberText version count least) (NumberFails version count least) (λ n. ObjectFails family)
+
+abbrev pub KeptFits : Version → Family → ℕ → ℕ → KeptObject → Type 0
+KeptFits version family count least kept =
+    IsNumber version count least kept.number × ObjectHasShape family kept.object
+
+abbrev pub IsKept : Version → Family → ℕ → ℕ → KeptObject → List ℕ → Type 0
+IsKept version family count least kept text =
+    KeptFits version family count least kept × (text ≡ kept_text version family kept)
+
+-- the numbers of later objects are above this one
+abbrev pub above : KeptObject → ℕ
+above kept = kept.number + 1
 
 -- so many objects
-abbrev pub ObjectsFail : Family → ℕ → List ℕ → RegionFault → Type 0
-ObjectsFail family count =
-    EachFails (λ (one : Unit {0}). IsObject family) (λ (one : Unit {0}). ObjectFails family) (times count)
+abbrev pub ObjectsFail : Version → Family → ℕ → ℕ → List ℕ → RegionFault → Type 0
+ObjectsFail version family count many =
+    ChainFails (IsKept version family count) (KeptFails version family count) above many 0
+
+-- ---- regions
+
+-- how many objects there are, which version 1 does not spell
+abbrev pub IsMany : Version → ℕ → ℕ → List ℕ → Type 0
+IsMany versions.One count many text = (many ≡ count) × (text ≡ [])
+IsMany versions.Two count many text = Number w32 many text
+
+abbrev pub ManyFails : Version → List ℕ → RegionFault → Type 0
+ManyFails versions.One = λ bytes fault. ⊥
+ManyFails versions.Two = CutNumber w32
 
 abbrev pub AreStatics : Family → ℕ → List ImageValue → List ℕ → Type 0
 AreStatics family c vs text = AllZip Suits (static_kinds family c) vs × (text ≡ flat_map value_text vs)
 
--- the count of the objects, the statics, the objects
-abbrev pub RegionFails : Family → ℕ → List ℕ → RegionFault → Type 0
-RegionFails family c = Either (Number w32) (CutNumber w32) (λ count.
+-- the count of the objects that were made, the statics, how many objects there are, these
+abbrev pub RegionFails : Version → Family → ℕ → List ℕ → RegionFault → Type 0
+RegionFails version family c = Either (Number w32) (CutNumber w32) (λ count.
     Either (AreStatics family c) (EachFails IsValue ValueFails (static_kinds family c)) (λ statics.
-    ObjectsFail family count))
+    Either (IsMany version count) (ManyFails version) (λ many. ObjectsFail version family count many)))
 
 -- a region of a class
-abbrev pub IsRegion : Family → ℕ → ImageRegion → List ℕ → Type 0
-IsRegion family c region text = HasShape family c region × (text ≡ region_text family region)
+abbrev pub IsRegion : Version → Family → ℕ → ImageRegion → List ℕ → Type 0
+IsRegion version family c region text =
+    HasShape version family c region × (text ≡ region_text version family region)

@@ -5,3 +5,4 @@ pub mod Unknown
 pub mod Objects
 pub mod Marks
 pub mod Files
+pub mod Reaching

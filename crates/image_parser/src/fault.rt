@@ -4,6 +4,7 @@ ghost use Rattle.std.specs.Prelude.{◌≡◌};
 ghost use Rattle.image_parser.specs.declared.fault.RegionFault.TheVariants.{Memory};
 ghost use Rattle.image_parser.specs.declared.fault.MarksFault.TheVariants as marks;
 ghost use Rattle.image_parser.specs.declared.fault.FilesFault.TheVariants as files;
+ghost use Rattle.image_parser.specs.declared.fault.RegionsFault.TheVariants as regions;
 ghost use Rattle.image_parser.specs.FileFaults.{of_class};
 ghost use Rattle.image_parser.specs.Inside.{inside, among_regions};
 ghost use Rattle.image_parser.specs.reading.Files.{of_run};
@@ -41,6 +42,8 @@ pub enum RegionsFault {
     Extra,
     /// The region of this class, and of no lower one, names an object that there is not.
     Name { class: u32 },
+    /// The region of this class, and of no lower one, keeps an object that no static field reaches.
+    Idle { class: u32 },
 }
 
 /// What is wrong with the class files of an image, or that memory ran out.
@@ -117,6 +120,14 @@ impl<T: Drop> From<AllocFailed<T>> for MarksFault {
 
     fn from(_error: AllocFailed<T>) -> MarksFault {
         MarksFault::Memory
+    }
+}
+
+impl From<AllocError> for RegionsFault {
+    ghost from_gives = { λ _ e. e ≡ regions.Memory };
+
+    fn from(_error: AllocError) -> RegionsFault {
+        RegionsFault::Memory
     }
 }
 

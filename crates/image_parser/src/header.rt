@@ -1,10 +1,13 @@
 //! What stands round the parts of an image: its magic number, its version, its digest.
 
-ghost use Rattle.std.specs.Prelude.{◌≡◌, ℕ, List, Err, IfOk, IfErr, IsOkAnd};
+ghost use Rattle.std.specs.Prelude.{◌≡◌, ◌≢◌, ℕ, List, Err, IfOk, IfErr, IsOkAnd, MatchOption};
 ghost use Rattle.std.specs.Bool.{Decides};
 ghost use Rattle.sha2.specs.Sha256.{sha256};
+ghost use Rattle.classfile.specs.Spelling.{u2};
+ghost use Rattle.image_format.specs.declared.version.Version.{Version as Format};
 ghost use Rattle.image_parser.specs.declared.header.HeaderFault.{HeaderFault as Fault};
-ghost use Rattle.image_parser.specs.HeaderFaults.{HeaderFails, IsFramed};
+ghost use Rattle.image_format.specs.Texts.{version_number};
+ghost use Rattle.image_parser.specs.HeaderFaults.{HeaderFails, IsFramed, IsFrame};
 ghost use Rattle.image_parser.specs.TextOrFault.{TextOrFault};
 
 use image_format::version::Version;
@@ -17,7 +20,7 @@ pub enum HeaderFault {
     Truncated,
     /// They do not begin with `JPIM`.
     Magic,
-    /// The version is not 1.
+    /// The version is neither 1 nor 2.
     Version,
     /// The last 32 bytes are not the digest of all before.
     Digest,
@@ -40,15 +43,30 @@ fn is_digest(front: &[u8], digest: &[u8]) -> bool
     is_same(digest, &wanted)
 }
 
+/// The version of this number.
+fn version_of(number: &[u8]) -> Option<Version>
+    ensures { MatchOption result ((v : Format) → number.now ≢ u2 (version_number v))
+        (λ v. number.now ≡ u2 (version_number v)) }
+{
+    if is_same(number, &[0, 1]) {
+        return Some(Version::One);
+    }
+    if is_same(number, &[0, 2]) {
+        return Some(Version::Two);
+    }
+    None
+}
+
 /// The version, and what stands between it and the digest.
 ///
 /// # Errors
 /// The first of these that holds: fewer than 42 bytes, another magic number, another version, another digest.
 pub fn parts_of(bytes: &[u8]) -> Result<(Version, &[u8]), HeaderFault>
     // What is answered is framed by the rest of the bytes.
-    ensures parts { IfOk result (λ x. IsFramed bytes.now x.1.now) }
+    ensures parts { IfOk result (λ x. IsFramed bytes.now x.0 x.1.now) }
     // Of bytes that frame anything that is answered.
-    ensures only_parts { (parts : List ℕ) → IsFramed bytes.now parts → IsOkAnd result (λ x. x.1.now ≡ parts) }
+    ensures only_parts { (version : Format) (parts : List ℕ) → IsFramed bytes.now version parts
+        → IsOkAnd result (λ x. (x.0 ≡ version) × (x.1.now ≡ parts)) }
     // What is refused is refused for what is wrong first.
     ensures fault { IfErr result (HeaderFails bytes.now) }
     // Everything else is refused for what is wrong first.
@@ -59,12 +77,12 @@ pub fn parts_of(bytes: &[u8]) -> Result<(Version, &[u8]), HeaderFault>
 
 /// Bytes frame the parts of an image or have one fault, and never both.
 pub fn frame_or_fault()
-    ensures { (bytes : List ℕ) → TextOrFault (IsFramed bytes) (HeaderFails bytes) }
+    ensures { (bytes : List ℕ) → TextOrFault (IsFrame bytes) (HeaderFails bytes) }
 {}
 
 /// The version, and what stands between it and the digest.
 fn framed_in(bytes: &[u8]) -> Result<(Version, &[u8]), HeaderFault>
-    ensures parts { IfOk result (λ x. IsFramed bytes.now x.1.now) }
+    ensures parts { IfOk result (λ x. IsFramed bytes.now x.0 x.1.now) }
     ensures fault { IfErr result (HeaderFails bytes.now) }
 {
     if bytes.len() < 42 {
@@ -75,12 +93,12 @@ fn framed_in(bytes: &[u8]) -> Result<(Version, &[u8]), HeaderFault>
     if !is_same(magic, &[0x4A, 0x50, 0x49, 0x4D]) {
         return Err(HeaderFault::Magic);
     }
-    let (version, parts) = rest.split_at(2);
-    if !is_same(version, &[0, 1]) {
+    let (number, parts) = rest.split_at(2);
+    let Some(version) = version_of(number) else {
         return Err(HeaderFault::Version);
-    }
+    };
     if !is_digest(front, digest) {
         return Err(HeaderFault::Digest);
     }
-    Ok((Version::One, parts))
+    Ok((version, parts))
 }

@@ -6,10 +6,11 @@ ghost use Rattle.classfile.specs.Faults.{IsBytes};
 ghost use Rattle.loading.specs.Families.{Family as Classes};
 ghost use Rattle.program.specs.Programs.{HasOwnStrings, IsProgram};
 ghost use Rattle.image_format.specs.declared.region.ImageRegion.{ImageRegion as Held};
-ghost use Rattle.image_format.specs.Images.{ImageText};
+ghost use Rattle.image_format.specs.declared.version.Version.TheVariants.{Two};
+ghost use Rattle.image_format.specs.Images.{AreRegions, ImageText, OldText, SomeText};
 ghost use Rattle.image_parser.specs.declared.image_fault.ImageFault.{ImageFault as Fault};
 ghost use Rattle.image_parser.specs.declared.image_fault.ImageFault.TheVariants.{Memory};
-ghost use Rattle.image_parser.specs.ImageFaults.{HasFiles, IsLinked, PartsText, PartsFail, IsImage, ImageFails};
+ghost use Rattle.image_parser.specs.ImageFaults.{HasFiles, IsLinked, PartsRead, PartsFail, IsImage, ImageFails};
 ghost use Rattle.image_parser.specs.ImageFaults.{Answers};
 ghost use Rattle.image_parser.specs.TextOrFault.{TextOrFault};
 
@@ -30,19 +31,21 @@ pub struct Parsed {
     pub regions: ImageRegions,
 }
 
-/// Reads an image of version 1.
+/// Reads an image of version 2, or of version 1: then the objects are left out that no static field reaches.
 ///
 /// # Errors
 /// What is wrong first, from the frame inward and then from front to back; `Memory` where memory runs out.
 pub fn parse(alloc: Global, bytes: &[u8]) -> Result<Parsed, ImageFault>
-    // What is accepted is the text of the class files and of the regions that are answered.
-    ensures text { IfOk result (λ parsed. ImageText bytes.now parsed.program.family parsed.regions) }
+    // What is accepted is a text, of either version, of the class files and of the regions that are answered.
+    ensures text { IfOk result (λ parsed. SomeText bytes.now parsed.program.family parsed.regions) }
     // The program is that of these class files.
     ensures program { IfOk result (λ parsed. IsProgram parsed.program) }
     // It has no strings but theirs.
     ensures own_strings { IfOk result (λ parsed. HasOwnStrings parsed.program) }
-    // Every text of an image is accepted as that image, unless memory runs out.
-    ensures only_text { (family : Classes) (regions : List (Option Held)) → ImageText bytes.now family regions
+    // The regions are such as an image of version 2 has.
+    ensures fits { IfOk result (λ parsed. AreRegions Two parsed.program.family parsed.regions) }
+    // Every text of an image, of either version, is accepted as that image, unless memory runs out.
+    ensures only_text { (family : Classes) (regions : List (Option Held)) → SomeText bytes.now family regions
         → MatchResult result (λ parsed. (parsed.program.family ≡ family) × (parsed.regions ≡ regions))
         (λ x. x ≡ Memory) }
     // What is refused is refused for what is wrong first, or because memory runs out.
@@ -53,14 +56,16 @@ pub fn parse(alloc: Global, bytes: &[u8]) -> Result<Parsed, ImageFault>
     of_bytes(alloc, bytes)
 }
 
-/// Bytes are the text of one image or have one fault, and never both.
+/// Bytes are the text of one image or have one fault, and never both. A text is one of version 2 or one of version 1.
 pub fn image_or_fault()
-    ensures { (bytes : List ℕ) → IsBytes bytes → TextOrFault (IsImage bytes) (ImageFails bytes) }
+    ensures one { (bytes : List ℕ) → IsBytes bytes → TextOrFault (IsImage bytes) (ImageFails bytes) }
+    ensures version { (bytes : List ℕ) (F G : Classes) (a b : List (Option Held)) → ImageText bytes F a
+        → OldText bytes G b → ⊥ }
 {}
 
 /// What the bytes of an image say.
 fn of_bytes(alloc: Global, bytes: &[u8]) -> Result<Parsed, ImageFault>
-    ensures text { IfOk result (λ parsed. ImageText bytes.now parsed.program.family parsed.regions) }
+    ensures text { IfOk result (λ parsed. SomeText bytes.now parsed.program.family parsed.regions) }
     ensures program { IfOk result (λ parsed. IsProgram parsed.program) }
     ensures own_strings { IfOk result (λ parsed. HasOwnStrings parsed.program) }
     ensures fault { IfErr result (λ x. (x ≡ Memory) ⊎ ImageFails bytes.now x) }
@@ -87,10 +92,10 @@ fn count_at(parts: &[u8]) -> (u32, &[u8])
 /// What the parts of an image say.
 fn of_parts(alloc: Global, version: Version, parts: &[u8]) -> Result<Parsed, ImageFault>
     requires { 4 ≤ length parts.now }
-    ensures text { IfOk result (λ parsed. PartsText parts.now parsed.program.family parsed.regions) }
+    ensures text { IfOk result (λ parsed. PartsRead version parts.now parsed.program.family parsed.regions) }
     ensures program { IfOk result (λ parsed. IsProgram parsed.program) }
     ensures own_strings { IfOk result (λ parsed. HasOwnStrings parsed.program) }
-    ensures fault { IfErr result (λ x. (x ≡ Memory) ⊎ PartsFail parts.now x) }
+    ensures fault { IfErr result (λ x. (x ≡ Memory) ⊎ PartsFail version parts.now x) }
 {
     let (count, bytes) = count_at(parts);
     match read_files(alloc, count, bytes) {
@@ -108,10 +113,10 @@ fn of_files(
     rest: &[u8],
 ) -> Result<Parsed, ImageFault>
     requires { HasFiles parts.now files.items rest.now }
-    ensures text { IfOk result (λ parsed. PartsText parts.now parsed.program.family parsed.regions) }
+    ensures text { IfOk result (λ parsed. PartsRead version parts.now parsed.program.family parsed.regions) }
     ensures program { IfOk result (λ parsed. IsProgram parsed.program) }
     ensures own_strings { IfOk result (λ parsed. HasOwnStrings parsed.program) }
-    ensures fault { IfErr result (λ x. (x ≡ Memory) ⊎ PartsFail parts.now x) }
+    ensures fault { IfErr result (λ x. (x ≡ Memory) ⊎ PartsFail version parts.now x) }
 {
     match link(alloc, files) {
         Ok(program) => of_program(alloc, version, program, parts, rest),
@@ -130,10 +135,10 @@ fn of_program(
     requires linked { IsLinked parts.now program.family rest.now }
     requires program { IsProgram program }
     requires own_strings { HasOwnStrings program }
-    ensures text { IfOk result (λ parsed. PartsText parts.now parsed.program.family parsed.regions) }
+    ensures text { IfOk result (λ parsed. PartsRead version parts.now parsed.program.family parsed.regions) }
     ensures program { IfOk result (λ parsed. IsProgram parsed.program) }
     ensures own_strings { IfOk result (λ parsed. HasOwnStrings parsed.program) }
-    ensures fault { IfErr result (λ x. (x ≡ Memory) ⊎ PartsFail parts.now x) }
+    ensures fault { IfErr result (λ x. (x ≡ Memory) ⊎ PartsFail version parts.now x) }
 {
     match read_regions(alloc, version, &program, rest) {
         Ok(regions) => Ok(Parsed { program, regions }),

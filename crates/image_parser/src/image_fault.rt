@@ -26,7 +26,7 @@ pub enum ImageFault {
     /// They do not begin with `JPIM`.
     #[error("Magic")]
     Magic,
-    /// The version is not 1.
+    /// The version is neither 1 nor 2.
     #[error("Version")]
     Version,
     /// The last 32 bytes are not the digest of all before.
@@ -50,6 +50,9 @@ pub enum ImageFault {
     /// Bytes follow the last region.
     #[error("Extra")]
     Extra,
+    /// In version 2: the region of this class, and of no lower one, keeps an object that no static field reaches.
+    #[error("Idle {name}")]
+    Idle { name: ClassName },
 }
 
 /// The name of a class, as its file spells it; none where there is no such class.
@@ -119,6 +122,10 @@ impl ImageFault {
             RegionsFault::Extra => ImageFault::Extra,
             RegionsFault::Name { class } => match class_name(alloc, family, class) {
                 Ok(name) => ImageFault::Name { name },
+                Err(_) => ImageFault::Memory,
+            },
+            RegionsFault::Idle { class } => match class_name(alloc, family, class) {
+                Ok(name) => ImageFault::Idle { name },
                 Err(_) => ImageFault::Memory,
             },
         }

@@ -10,7 +10,7 @@ ghost use Rattle.image_parser.specs.reading.Marks.{marked_at, mark_at, mark_in, 
 
 use crate::fault::{MarksFault, RegionFault};
 use crate::numbers::u8_at;
-use crate::objects::region_at;
+use crate::kept_objects::region_at;
 use image_format::region::{ImageRegion, ImageRegions};
 use image_format::version::Version;
 use program::Program;
@@ -25,7 +25,7 @@ fn marked_at<'a>(
     mark: u8,
     bytes: &'a [u8],
 ) -> Result<(Option<ImageRegion>, &'a [u8]), RegionFault>
-    ensures { Gives (λ x. (x.0, x.1.now)) result (marked_at program.now.family class mark bytes.now) }
+    ensures { Gives (λ x. (x.0, x.1.now)) result (marked_at version program.now.family class mark bytes.now) }
 {
     match mark {
         0 => Ok((None, bytes)),
@@ -42,7 +42,7 @@ fn some_at<'a>(
     class: u32,
     bytes: &'a [u8],
 ) -> Result<(Option<ImageRegion>, &'a [u8]), RegionFault>
-    ensures { Gives (λ x. (x.0, x.1.now)) result (marked_at program.now.family class 1 bytes.now) }
+    ensures { Gives (λ x. (x.0, x.1.now)) result (marked_at version program.now.family class 1 bytes.now) }
 {
     let (region, rest) = region_at(alloc, version, program, class, bytes)?;
     Ok((Some(region), rest))
@@ -57,7 +57,7 @@ fn mark_at<'a>(
     class: u32,
     bytes: &'a [u8],
 ) -> Result<(Option<ImageRegion>, &'a [u8]), RegionFault>
-    ensures { Gives (λ x. (x.0, x.1.now)) result (mark_at program.now.family class bytes.now) }
+    ensures { Gives (λ x. (x.0, x.1.now)) result (mark_at version program.now.family class bytes.now) }
 {
     let (mark, rest) = u8_at(bytes)?;
     marked_at(alloc, version, program, class, mark, rest)
@@ -72,7 +72,7 @@ fn mark_in<'a>(
     class: u32,
     bytes: &'a [u8],
 ) -> Result<(Option<ImageRegion>, &'a [u8]), MarksFault>
-    ensures { GivesIn (λ x. (x.0, x.1.now)) result (mark_in program.now.family class bytes.now) }
+    ensures { GivesIn (λ x. (x.0, x.1.now)) result (mark_in version program.now.family class bytes.now) }
 {
     match mark_at(alloc, version, program, class, bytes) {
         Ok(read) => Ok(read),
@@ -90,7 +90,7 @@ fn push_marks_at<'a>(
     bytes: &'a [u8],
 ) -> Result<&'a [u8], MarksFault>
     ensures { GivesIn (λ rest. (regions.new.items, rest.now)) result
-        (each_at (mark_in program.now.family) (numbers 0 count) regions.old.items bytes.now) }
+        (each_at (mark_in version program.now.family) (numbers 0 count) regions.old.items bytes.now) }
 {
     let mut rest = bytes;
     for class in 0..count {
@@ -109,7 +109,7 @@ fn marks_at<'a>(
     program: &Program,
     bytes: &'a [u8],
 ) -> Result<(ImageRegions, &'a [u8]), MarksFault>
-    ensures { GivesIn (λ x. (x.0, x.1.now)) result (marks_at program.now.family bytes.now) }
+    ensures { GivesIn (λ x. (x.0, x.1.now)) result (marks_at version program.now.family bytes.now) }
 {
     let count = program.family().classes().len() as u32;
     let mut regions = Vec::new(alloc);
@@ -129,15 +129,15 @@ pub fn read_marks<'a>(
     bytes: &'a [u8],
 ) -> Result<(ImageRegions, &'a [u8]), MarksFault>
     // What is accepted is the text of the regions that are answered.
-    ensures text { IfOk result (λ x. Begins (AreMarks program.now.family) bytes.now x.0 x.1.now) }
+    ensures text { IfOk result (λ x. Begins (AreMarks version program.now.family) bytes.now x.0 x.1.now) }
     // Every text of regions of the classes is accepted as those regions, unless memory runs out.
-    ensures only_text { (regions : List (Option Held)) (text rest : List ℕ) → AreMarks program.now.family regions text
+    ensures only_text { (regions : List (Option Held)) (text rest : List ℕ) → AreMarks version program.now.family regions text
         → bytes.now ≡ text ++ rest
         → GivesIn {Y = List (Option Held) × List ℕ} (λ x. (x.0, x.1.now)) result (Ok (regions, rest)) }
     // What is refused is refused for the first part that fails, or because memory runs out.
-    ensures fault { IfErr result (λ fault. IsMarksFault (MarksFail program.now.family bytes.now) fault) }
+    ensures fault { IfErr result (λ fault. IsMarksFault (MarksFail version program.now.family bytes.now) fault) }
     // Everything else is refused for the first part that fails, unless memory runs out.
-    ensures only_fault { (fault : Fault) → MarksFail program.now.family bytes.now fault
+    ensures only_fault { (fault : Fault) → MarksFail version program.now.family bytes.now fault
         → GivesIn {Y = List (Option Held) × List ℕ} (λ x. (x.0, x.1.now)) result (Err fault) }
 {
     let _classes = program.family().classes();

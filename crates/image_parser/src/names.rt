@@ -1,37 +1,40 @@
 //! Whether regions name objects alone that there are.
 
-ghost use Rattle.std.specs.Prelude.{◌≡◌, length, ◌<◌, ◌^◌, MatchOption};
+ghost use Rattle.std.specs.Prelude.{◌≡◌, true, is_some, MatchOption};
 ghost use Rattle.std.specs.Bool.{Decides};
 ghost use Rattle.std.specs.List.{All};
-ghost use Rattle.image_format.specs.Images.{count_of, region_in, IsThere, NamesObjects};
+ghost use Rattle.image_format.specs.Objects.{object_of};
+ghost use Rattle.image_format.specs.Images.{IsThere, NamesObjects};
+ghost use Rattle.image_parser.specs.reading.Reaching.{AllRise};
 ghost use Rattle.image_parser.specs.Nameless.{MarkNames, SlotsAreThere, IsNameless};
 
-use image_format::object::ImageObject;
+use crate::reaching::{objects_of, place_of};
+use image_format::object::KeptObject;
 use image_format::region::ImageRegion;
 use image_format::value::ImageValue;
 
-/// How many objects there are in the region of a class.
-fn count_of(regions: &[Option<ImageRegion>], class: u32) -> usize
-    ensures { result ≡ count_of (region_in regions.now class) }
+/// Whether there is an object of a class and a number.
+fn has_object(regions: &[Option<ImageRegion>], class: u32, number: u32) -> bool
+    requires { AllRise regions.now }
+    ensures { Decides result (is_some (object_of regions.now class number) ≡ true) }
 {
-    match regions.get(class as usize) {
-        Some(Some(region)) => region.objects.as_slice().len(),
-        _ => 0,
-    }
+    place_of(objects_of(regions, class), number).is_some()
 }
 
 /// Whether the object that a value names is there.
 fn is_there(regions: &[Option<ImageRegion>], value: &ImageValue) -> bool
+    requires { AllRise regions.now }
     ensures { Decides result (IsThere regions.now value.now) }
 {
     match value {
-        ImageValue::Object { class, number } => (*number as usize) < count_of(regions, *class),
+        ImageValue::Object { class, number } => has_object(regions, *class, *number),
         _ => true,
     }
 }
 
 /// Whether the objects that some values name are there.
 fn are_there(regions: &[Option<ImageRegion>], values: &[ImageValue]) -> bool
+    requires { AllRise regions.now }
     ensures { Decides result (All (IsThere regions.now) values.now) }
 {
     for value in values {
@@ -43,11 +46,12 @@ fn are_there(regions: &[Option<ImageRegion>], values: &[ImageValue]) -> bool
 }
 
 /// Whether those that the slots of some objects name are.
-fn slots_are_there(regions: &[Option<ImageRegion>], objects: &[ImageObject]) -> bool
+fn slots_are_there(regions: &[Option<ImageRegion>], objects: &[KeptObject]) -> bool
+    requires { AllRise regions.now }
     ensures { Decides result (All (SlotsAreThere regions.now) objects.now) }
 {
-    for object in objects {
-        if !are_there(regions, object.slots.as_slice()) {
+    for kept in objects {
+        if !are_there(regions, kept.object.slots.as_slice()) {
             return false;
         }
     }
@@ -56,6 +60,7 @@ fn slots_are_there(regions: &[Option<ImageRegion>], objects: &[ImageObject]) -> 
 
 /// Whether a region names objects alone that there are.
 fn names_objects(regions: &[Option<ImageRegion>], region: &ImageRegion) -> bool
+    requires { AllRise regions.now }
     ensures { Decides result (NamesObjects regions.now region.now) }
 {
     are_there(regions, region.statics.as_slice())
@@ -64,6 +69,7 @@ fn names_objects(regions: &[Option<ImageRegion>], region: &ImageRegion) -> bool
 
 /// The same of the region of a class, if it has one.
 fn mark_names(regions: &[Option<ImageRegion>], mark: &Option<ImageRegion>) -> bool
+    requires { AllRise regions.now }
     ensures { Decides result (MarkNames regions.now mark.now) }
 {
     match mark {
@@ -74,6 +80,7 @@ fn mark_names(regions: &[Option<ImageRegion>], mark: &Option<ImageRegion>) -> bo
 
 /// The least class whose region names an object that there is not.
 pub fn nameless(regions: &[Option<ImageRegion>]) -> Option<usize>
+    requires { AllRise regions.now }
     ensures { MatchOption result (All (MarkNames regions.now) regions.now) (IsNameless regions.now) }
 {
     for (class, mark) in regions.iter().enumerate() {

@@ -1,9 +1,8 @@
-//! Reads objects and regions.
+//! Reads objects.
 
 ghost use Rattle.std.specs.Prelude.{◌≡◌, [], ◌<◌, ◌^◌, length};
 ghost use Rattle.loading.specs.Families.{IsFamily};
 ghost use Rattle.image_format.specs.Shapes.{has_objects, has_values};
-ghost use Rattle.image_parser.specs.FirstFailing.{times};
 ghost use Rattle.image_parser.specs.reading.Results.{Gives, number_at, each_at};
 ghost use Rattle.image_parser.specs.reading.Values.{value_at};
 ghost use Rattle.image_parser.specs.reading.ClassNames.{class_of};
@@ -11,7 +10,7 @@ ghost use Rattle.image_parser.specs.reading.Unknown.{unknown_of};
 ghost use Rattle.image_parser.specs.reading.Objects.{is_form, may_be, good_class, known_if, unknown_if};
 ghost use Rattle.image_parser.specs.reading.Objects.{class_if, class_for, name_at, class_at, known_slots_at};
 ghost use Rattle.image_parser.specs.reading.Objects.{elements_at, count_at, array_at, slots_at, formed_at, form_at};
-ghost use Rattle.image_parser.specs.reading.Objects.{object_at, objects_at, counted_region_at, region_at};
+ghost use Rattle.image_parser.specs.reading.Objects.{object_at};
 
 use crate::fault::RegionFault;
 use crate::numbers::{run_at, u8_at, u16_at, u32_at};
@@ -19,10 +18,8 @@ use crate::unknown::unknown_of;
 use crate::values::{push_elements_at, push_values_at};
 use built_in::class_id::{BuiltIn, ClassId};
 use image_format::elements::kind_of_elements;
-use image_format::object::{ImageClass, ImageObject, ImageObjects, UnknownName};
-use image_format::region::ImageRegion;
-use image_format::value::{ImageValue, ImageValues};
-use image_format::version::Version;
+use image_format::object::{ImageClass, ImageObject, UnknownName};
+use image_format::value::ImageValues;
 use loading::class_named;
 use loading::family::Family;
 use program::Program;
@@ -181,7 +178,7 @@ fn array_at(
 }
 
 /// A value for each of these kinds.
-fn values_at<'a>(
+pub(crate) fn values_at<'a>(
     alloc: Global,
     kinds: &[FieldKind],
     bytes: &'a [u8],
@@ -257,7 +254,7 @@ fn form_at(bytes: &[u8]) -> Result<(u8, &[u8]), RegionFault>
 
 /// An object: its form, and what follows it.
 #[tactic(auto, unfolding(crate::specs::reading::Objects::object_at))]
-fn object_at<'a>(
+pub(crate) fn object_at<'a>(
     alloc: Global,
     program: &Program,
     bytes: &'a [u8],
@@ -266,85 +263,4 @@ fn object_at<'a>(
 {
     let (form, rest) = form_at(bytes)?;
     formed_at(alloc, program, form, rest)
-}
-
-/// Reads so many objects after those that stand before.
-fn push_objects_at<'a>(
-    alloc: Global,
-    program: &Program,
-    count: u32,
-    objects: &mut Vec<ImageObject>,
-    bytes: &'a [u8],
-) -> Result<&'a [u8], RegionFault>
-    ensures { Gives (λ rest. (objects.new.items, rest.now)) result
-        (each_at (λ (one : Unit {0}). object_at program.now.family) (times count) objects.old.items bytes.now) }
-{
-    let mut rest = bytes;
-    for _index in 0..count {
-        let (object, after) = object_at(alloc, program, rest)?;
-        objects.push(object)?;
-        rest = after;
-    }
-    Ok(rest)
-}
-
-/// So many objects. No room is asked for beyond the bytes that are left.
-#[tactic(auto, unfolding(crate::specs::reading::Objects::objects_at))]
-fn objects_at<'a>(
-    alloc: Global,
-    program: &Program,
-    count: u32,
-    bytes: &'a [u8],
-) -> Result<(ImageObjects, &'a [u8]), RegionFault>
-    ensures { Gives (λ x. (x.0, x.1.now)) result (objects_at program.now.family count bytes.now) }
-{
-    let mut objects = Vec::with_capacity(alloc, (count as usize).min(bytes.len()))?;
-    let rest = push_objects_at(alloc, program, count, &mut objects, bytes)?;
-    Ok((ImageObjects::of_vec(objects), rest))
-}
-
-/// The statics of a class and so many objects.
-#[tactic(auto, unfolding(crate::specs::reading::Objects::counted_region_at))]
-fn counted_region_at<'a>(
-    alloc: Global,
-    program: &Program,
-    class: u32,
-    count: u32,
-    bytes: &'a [u8],
-) -> Result<(ImageRegion, &'a [u8]), RegionFault>
-    ensures { Gives (λ x. (x.0, x.1.now)) result (counted_region_at program.now.family class count bytes.now) }
-{
-    let kinds = program.static_kinds(alloc, class)?;
-    let (statics, rest) = values_at(alloc, &kinds, bytes)?;
-    let (objects, rest) = objects_at(alloc, program, count, rest)?;
-    Ok((ImageRegion { statics, objects }, rest))
-}
-
-/// The count of the objects, then the statics and these.
-#[tactic(auto, unfolding(crate::specs::reading::Objects::region_at))]
-fn whole_region_at<'a>(
-    alloc: Global,
-    program: &Program,
-    class: u32,
-    bytes: &'a [u8],
-) -> Result<(ImageRegion, &'a [u8]), RegionFault>
-    ensures { Gives (λ x. (x.0, x.1.now)) result (region_at program.now.family class bytes.now) }
-{
-    let (count, rest) = u32_at(bytes)?;
-    counted_region_at(alloc, program, class, count, rest)
-}
-
-/// The region of a class, as this version lists it.
-pub(crate) fn region_at<'a>(
-    alloc: Global,
-    version: Version,
-    program: &Program,
-    class: u32,
-    bytes: &'a [u8],
-) -> Result<(ImageRegion, &'a [u8]), RegionFault>
-    ensures { Gives (λ x. (x.0, x.1.now)) result (region_at program.now.family class bytes.now) }
-{
-    match version {
-        Version::One => whole_region_at(alloc, program, class, bytes),
-    }
 }

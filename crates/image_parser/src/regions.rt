@@ -1,45 +1,55 @@
 //! All that stands after the class files.
 
-ghost use Rattle.std.specs.Prelude.{◌≡◌, ◌≤◌, ◌⊎◌, [], ℕ, List, Option, Ok, Err, length, IfOk, IfErr};
+ghost use Rattle.std.specs.Prelude.{◌≡◌, ◌↔◌, ◌≤◌, ◌⊎◌, [], ℕ, List, Option, Ok, Err, length, IfOk, IfErr};
 ghost use Rattle.std.specs.Bool.{Decides};
+ghost use Rattle.std.specs.List.{All, Contains};
+ghost use Rattle.place_set.specs.declared.set.Place.{Place as Found};
 ghost use Rattle.classfile.specs.Faults.{IsBytes};
 ghost use Rattle.loading.specs.Families.{Family as Classes, IsFamily};
 ghost use Rattle.image_format.specs.declared.region.ImageRegion.{ImageRegion as Held};
+ghost use Rattle.image_format.specs.declared.version.Version.{Version as Format};
+ghost use Rattle.image_format.specs.declared.version.Version.TheVariants.{One, Two};
 ghost use Rattle.image_parser.specs.declared.fault.RegionsFault.{RegionsFault as Fault};
 ghost use Rattle.image_parser.specs.declared.fault.RegionsFault.TheVariants.{Memory};
 ghost use Rattle.image_parser.specs.Regions.{Begins};
 ghost use Rattle.image_parser.specs.MarkFaults.{AreMarks};
-ghost use Rattle.image_parser.specs.AllRegions.{RegionsText, RegionsFail};
+ghost use Rattle.image_parser.specs.AllRegions.{RegionsText, RegionsFail, RegionsRead};
+ghost use Rattle.image_parser.specs.Nameless.{MarkNames};
+ghost use Rattle.image_parser.specs.reading.Reaching.{IsReachedAt};
 ghost use Rattle.image_parser.specs.TextOrFault.{TextOrFault};
 
+use crate::dropping::{first_idle, without_idle};
 use crate::fault::RegionsFault;
 use crate::marks::read_marks;
 use crate::names::nameless;
+use crate::reaching::reached;
 use image_format::region::ImageRegions;
 use image_format::version::Version;
+use place_set::PlaceSet;
 use program::Program;
 use std::alloc::Global;
 
-/// Reads the marks and regions of all classes of a program, which fill the bytes.
+/// Reads the marks and regions of all classes of a program, which fill the bytes. Of version 1 the objects are left out
+/// that no static field reaches.
 ///
 /// # Errors
-/// The first fault of a part, in order; then `Extra`; then the least class that names an object that there is not.
-/// `Memory` where memory runs out.
+/// The first fault of a part, in order; then `Extra`; then the least class that names an object that there is not; then,
+/// in version 2, the least class that keeps an object which no static field reaches. `Memory` where memory runs out.
 pub fn read_regions(
     alloc: Global,
     version: Version,
     program: &Program,
     bytes: &[u8],
 ) -> Result<ImageRegions, RegionsFault>
-    // What is accepted is the text of the regions that are answered.
-    ensures text { IfOk result (λ regions. RegionsText program.now.family bytes.now regions) }
-    // Every text of regions of the classes is accepted as those regions, unless memory runs out.
-    ensures only_text { (regions : List (Option Held)) → RegionsText program.now.family bytes.now regions
+    // What is accepted is the text of regions, of which those that are answered are shown.
+    ensures text { IfOk result (λ regions. RegionsRead version program.now.family bytes.now regions) }
+    // Every text of regions of the classes is accepted, unless memory runs out.
+    ensures only_text { (regions : List (Option Held)) → RegionsRead version program.now.family bytes.now regions
         → (result ≡ Ok regions) ⊎ (result ≡ Err Memory) }
     // What is refused is refused for what is wrong first, or because memory runs out.
-    ensures fault { IfErr result (λ x. (x ≡ Memory) ⊎ RegionsFail program.now.family bytes.now x) }
+    ensures fault { IfErr result (λ x. (x ≡ Memory) ⊎ RegionsFail version program.now.family bytes.now x) }
     // Everything else is refused for what is wrong first, unless memory runs out.
-    ensures only_fault { (x : Fault) → RegionsFail program.now.family bytes.now x
+    ensures only_fault { (x : Fault) → RegionsFail version program.now.family bytes.now x
         → (result ≡ Err x) ⊎ (result ≡ Err Memory) }
 {
     let _classes = program.family().classes();
@@ -48,8 +58,8 @@ pub fn read_regions(
 
 /// Bytes are the text of the marks and regions of a program's classes or have one fault, and never both.
 pub fn regions_or_fault()
-    ensures { (family : Classes) (bytes : List ℕ) → IsFamily family → IsBytes bytes
-        → TextOrFault (RegionsText family bytes) (RegionsFail family bytes) }
+    ensures { (version : Format) (family : Classes) (bytes : List ℕ) → IsFamily family → IsBytes bytes
+        → TextOrFault (RegionsText version family bytes) (RegionsFail version family bytes) }
 {}
 
 /// The marks and regions of all classes, which fill the bytes.
@@ -60,11 +70,11 @@ fn regions_of(
     program: &Program,
     bytes: &[u8],
 ) -> Result<ImageRegions, RegionsFault>
-    ensures text { IfOk result (λ regions. RegionsText program.now.family bytes.now regions) }
-    ensures fault { IfErr result (λ x. (x ≡ Memory) ⊎ RegionsFail program.now.family bytes.now x) }
+    ensures text { IfOk result (λ regions. RegionsRead version program.now.family bytes.now regions) }
+    ensures fault { IfErr result (λ x. (x ≡ Memory) ⊎ RegionsFail version program.now.family bytes.now x) }
 {
     match read_marks(alloc, version, program, bytes) {
-        Ok((regions, rest)) => whole(program, regions, bytes, rest),
+        Ok((regions, rest)) => whole(alloc, version, program, regions, bytes, rest),
         Err(fault) => Err(fault.among_regions()),
     }
 }
@@ -84,16 +94,19 @@ fn count_of(program: &Program) -> usize
     program.family().classes().len()
 }
 
-/// Regions that were read, if nothing is left and each name is one of an object that there is.
+/// Regions that were read, if nothing is left, each name is one of an object that there is, and in version 2 each
+/// object is reached.
 fn whole(
+    alloc: Global,
+    version: Version,
     program: &Program,
     regions: ImageRegions,
     bytes: &[u8],
     rest: &[u8],
 ) -> Result<ImageRegions, RegionsFault>
-    requires { Begins (AreMarks program.now.family) bytes.now regions rest.now }
-    ensures text { IfOk result (λ regions. RegionsText program.now.family bytes.now regions) }
-    ensures fault { IfErr result (λ x. (x ≡ Memory) ⊎ RegionsFail program.now.family bytes.now x) }
+    requires { Begins (AreMarks version program.now.family) bytes.now regions rest.now }
+    ensures text { IfOk result (λ regions. RegionsRead version program.now.family bytes.now regions) }
+    ensures fault { IfErr result (λ x. (x ≡ Memory) ⊎ RegionsFail version program.now.family bytes.now x) }
 {
     let _count = count_of(program);
     if !is_done(rest) {
@@ -103,6 +116,72 @@ fn whole(
         Some(class) => Err(RegionsFault::Name {
             class: class as u32,
         }),
+        None => shown(alloc, version, program, regions, bytes),
+    }
+}
+
+/// The same of regions that fill the bytes, and whose names are those of objects that there are.
+fn shown(
+    alloc: Global,
+    version: Version,
+    program: &Program,
+    regions: ImageRegions,
+    bytes: &[u8],
+) -> Result<ImageRegions, RegionsFault>
+    requires marks { AreMarks version program.now.family regions bytes.now }
+    requires names { All (MarkNames regions) regions }
+    requires few { length regions ≤ 65535 }
+    ensures text { IfOk result (λ regions. RegionsRead version program.now.family bytes.now regions) }
+    ensures fault { IfErr result (λ x. (x ≡ Memory) ⊎ RegionsFail version program.now.family bytes.now x) }
+{
+    let found = reached(alloc, regions.as_slice())?;
+    match version {
+        Version::One => reduced(alloc, version, program, regions, &found, bytes),
+        Version::Two => used(version, program, regions, &found, bytes),
+    }
+}
+
+/// Regions of version 1 without the objects that are not reached, where these are the places of those that are.
+fn reduced(
+    alloc: Global,
+    version: Version,
+    program: &Program,
+    regions: ImageRegions,
+    found: &PlaceSet,
+    bytes: &[u8],
+) -> Result<ImageRegions, RegionsFault>
+    requires version { version ≡ One }
+    requires marks { AreMarks version program.now.family regions bytes.now }
+    requires names { All (MarkNames regions) regions }
+    requires few { length regions ≤ 65535 }
+    requires found { (x : Found) → Contains found.now x ↔ IsReachedAt regions x }
+    ensures text { IfOk result (λ regions. RegionsRead version program.now.family bytes.now regions) }
+    ensures fault { IfErr result (λ x. x ≡ Memory) }
+{
+    match without_idle(alloc, regions, found) {
+        Ok(kept) => Ok(kept),
+        Err(_) => Err(RegionsFault::Memory),
+    }
+}
+
+/// Regions of version 2, if each object is reached, where these are the places of those that are.
+fn used(
+    version: Version,
+    program: &Program,
+    regions: ImageRegions,
+    found: &PlaceSet,
+    bytes: &[u8],
+) -> Result<ImageRegions, RegionsFault>
+    requires version { version ≡ Two }
+    requires marks { AreMarks version program.now.family regions bytes.now }
+    requires names { All (MarkNames regions) regions }
+    requires few { length regions ≤ 65535 }
+    requires found { (x : Found) → Contains found.now x ↔ IsReachedAt regions x }
+    ensures text { IfOk result (λ regions. RegionsRead version program.now.family bytes.now regions) }
+    ensures fault { IfErr result (RegionsFail version program.now.family bytes.now) }
+{
+    match first_idle(regions.as_slice(), found) {
+        Some(class) => Err(RegionsFault::Idle { class }),
         None => Ok(regions),
     }
 }

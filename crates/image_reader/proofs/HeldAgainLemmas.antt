@@ -1,9 +1,9 @@
 -- An image holds what its text tells of it, under the strings of its program.
-use Rattle.std.proofs.Common.{◌≡◌, ◌∙◌, inl, inr, ℕ, zero, suc, ◌+◌, ◌<◌, ◌≤◌, true, leb}
+use Rattle.std.proofs.Common.{◌≡◌, ◌∙◌, inl, inr, ℕ, zero, suc, ◌+◌, ◌<◌, ◌≤◌, true, false, leb}
 use Rattle.std.proofs.Common.{List, [], ◌∷◌, ◌++◌, length, map, get_or}
 use Rattle.std.proofs.Common.{Option, Some, None, is_some, slice_get, option_map, refl, sym, ap, subst, arith, add-zero}
 use Rattle.std.specs.List.{AllByRecursion, flat_map, range_with_len}
-use Rattle.std.proofs.lemmas.Bool.{and_parts, cases_lt, ltb-true}
+use Rattle.std.proofs.lemmas.Bool.{and_parts, cases_lt}
 use Rattle.std.proofs.lemmas.List.{get_or_past}
 use Rattle.std.proofs.lemmas.List.FromFn.{length-map-range_with_len, get_or-map-range_with_len}
 use Rattle.std.proofs.lemmas.Option.{get_or_from_slice_get, slice_get-get_or, slice_get_past}
@@ -34,52 +34,16 @@ use Rattle.image_format.specs.declared.object.ImageObject.{ImageObject}
 use Rattle.image_format.specs.declared.region.ImageRegion.{ImageRegion}
 use Rattle.image_format.specs.declared.value.ImageValue.{ImageValue}
 use Rattle.image_format.specs.declared.value.ImageValue.TheVariants as values
-use Rattle.image_format.specs.Images.{region_in}
-use Rattle.image_format.specs.Told.{told_array, told_class, told_value, told_object, told_if, told_objects}
+use Rattle.image_format.specs.Objects.{region_in}
+use Rattle.image_format.specs.Told.{told_array, told_class, told_value, told_object, told_objects}
 use Rattle.image_format.specs.Told.{told_fields, told_region, told_regions}
 use Rattle.image_writer.specs.steps.Sizes.{HasFiles}
 use Rattle.image_writer.proofs.FilesLemmas.{text_fits, units_are}
+use Rattle.image_format.proofs.RowsLemmas.{told_at}
 use Rattle.image_writer.proofs.ProgramsLemmas.{class_count, static_count}
-use Rattle.image_writer.proofs.SizesLemmas.{told_count}
 use Rattle.image_reader.specs.steps.Held.{HoldsValue, HoldsValues, HoldsField, HoldsFields, HoldsText, HoldsType}
 use Rattle.image_reader.specs.steps.Held.{HoldsObject, HoldsNumber, HoldsObjects, HoldsRegion, HoldsClass}
 use Rattle.image_reader.specs.steps.Held.{HoldsRegions}
-
--- one that is held comes before those of higher numbers
-object_before : (S : List (List ℕ)) (at : ℕ → Option Object) (a n : ℕ) (o : Object) → at a ≡ Some o
-    → ((k : ℕ) → k < n → slice_get (flat_map (told_if S) (map at (range_with_len (a + 1) n))) k
-    ≡ option_map (told_object S) (at (a + 1 + k)))
-    → (k : ℕ) → k < suc n → slice_get (flat_map (told_if S) (map at (range_with_len a (suc n)))) k
-    ≡ option_map (told_object S) (at (a + k))
-object_before S at a n o is higher k low =
-    subst (λ (x : Option Object). slice_get (told_if S x ++ more) k ≡ option_map (told_object S) (at (a + k))) (sym is)
-    (by k low)
-  where
-    more : List ImageObject
-    more = flat_map (told_if S) (map at (range_with_len (a + 1) n))
-
-    by : (k : ℕ) → k < suc n → slice_get (told_object S o ∷ more) k ≡ option_map (told_object S) (at (a + k))
-    by zero low = sym (ap (option_map (told_object S)) (ap at (add-zero a) ∙ is))
-    by (suc k) low =
-        let next : a + 1 + k ≡ a + suc k = omega arith in
-        higher k (omega (arith, low)) ∙ ap (λ (m : ℕ). option_map (told_object S) (at m)) next
-
-one_held : (o : Option Object) → is_some o ≡ true → (object : Object) × (o ≡ Some object)
-one_held None held = absurd cc
-one_held (Some object) held = (object, refl)
-
--- the objects of each number from one on, where all are held
-objects_from : (S : List (List ℕ)) (at : ℕ → Option Object) (a n : ℕ)
-    → ((k : ℕ) → k < n → is_some (at (a + k)) ≡ true) → (k : ℕ) → k < n
-    → slice_get (flat_map (told_if S) (map at (range_with_len a n))) k ≡ option_map (told_object S) (at (a + k))
-objects_from S at a zero held k low = absurd (omega (arith, low))
-objects_from S at a (suc n) held k low =
-    let here = one_held (at a) (subst (λ (m : ℕ). is_some (at m) ≡ true) (add-zero a) (held 0 (omega arith))) in
-    object_before S at a n here.0 here.1
-    (objects_from S at (a + 1) n (λ j less.
-    let step : a + suc j ≡ a + 1 + j = omega arith in
-    subst (λ (m : ℕ). is_some (at m) ≡ true) step (held (suc j) (omega (arith, less)))))
-    k low
 
 module _ (P : Tables) (has : HasFiles P) where
   abbrev S : List (List ℕ)
@@ -106,7 +70,7 @@ module _ (P : Tables) (has : HasFiles P) where
     value_again (machine.Text s) text known = text_again s text
     value_again (machine.OfClass d n) text known = refl
     value_again (machine.OfThread t n) text known =
-        let less : n < 0 = ltb-true n 0 known in absurd (omega (arith, less))
+        let no : false ≡ true = known in absurd cc
     value_again machine.Out text known = refl
 
     values_again : (vs : List Value) → AllByRecursion (HasText P) vs → KnowsAll (is_there env c own) vs
@@ -167,31 +131,12 @@ module _ (P : Tables) (has : HasFiles P) where
       number_again n None at = refl
       number_again n (Some o) at = object_again n o at
 
-      objects_again : HoldsObjects S (told_objects S r.pool) r.pool
-      objects_again = record { count = sym count; each = each }
-        where
-          held : (n : ℕ) → n < r.pool.count → is_some (r.pool.at n) ≡ true
-          held = (whole.shape c r here).held
-
-          count : length (told_objects S r.pool) ≡ r.pool.count
-          count = told_count S r.pool.at r.pool.count held
-
-          within : (n : ℕ) → n < r.pool.count
-              → slice_get (told_objects S r.pool) n ≡ option_map (told_object S) (r.pool.at n)
-          within n low =
-              let zero_on : (k : ℕ) → 0 + k ≡ k = λ k. omega arith in
-              objects_from S r.pool.at 0 r.pool.count
-              (λ k less. subst (λ (m : ℕ). is_some (r.pool.at m) ≡ true) (sym (zero_on k)) (held k less)) n low
-              ∙ ap (λ (m : ℕ). option_map (told_object S) (r.pool.at m)) (zero_on n)
-
-          each : (n : ℕ) → HoldsNumber S (slice_get (told_objects S r.pool) n) (r.pool.at n)
-          each n = elim (cases_lt n r.pool.count) [
-            | inl low ↦ subst (λ (x : Option ImageObject). HoldsNumber S x (r.pool.at n)) (sym (within n low))
-                (number_again n (r.pool.at n) refl)
-            | inr high ↦ subst (λ (x : Option ImageObject). HoldsNumber S x (r.pool.at n))
-                (sym (slice_get_past (told_objects S r.pool) n (omega (arith, high, count))))
-                ((whole.shape c r here).no_more n high)
-          ]
+      objects_again : HoldsObjects S r.pool.count (told_objects S r.pool) r.pool
+      objects_again = record {
+        count = refl;
+        each = λ n. subst (λ (x : Option ImageObject). HoldsNumber S x (r.pool.at n))
+            (sym (told_at S r.pool n (whole.shape c r here).no_more)) (number_again n (r.pool.at n) refl);
+      }
 
       abbrev statics : ℕ
       statics = length (statics_in P c)

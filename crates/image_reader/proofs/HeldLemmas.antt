@@ -1,5 +1,5 @@
 -- What the machine holds stays held as strings come in, and grows value by value.
-use Rattle.std.proofs.Common.{◌≡◌, ◌≢◌, ◌∙◌, ◌⊎◌, inl, inr, ℕ, zero, suc, ◌+◌, ◌<◌, ◌==◌}
+use Rattle.std.proofs.Common.{◌≡◌, ◌≢◌, ◌∙◌, ◌⊎◌, inl, inr, ℕ, zero, suc, ◌+◌, ◌<◌, ◌≤◌, ◌==◌}
 use Rattle.std.proofs.Common.{true, false}
 use Rattle.std.proofs.Common.{List, [], ◌∷◌, ◌++◌, length, take, get_or, Option, Some, None, slice_get, option_map}
 use Rattle.std.proofs.Common.{refl, sym, ap, subst, arith, append_assoc, append-nil, length-append, eqb-true, eq-eqb}
@@ -16,7 +16,8 @@ use Rattle.vm_state.specs.declared.value.Value.TheVariants as machine
 use Rattle.built_in.specs.declared.class_id.ClassId.{ClassId}
 use Rattle.built_in.specs.declared.class_id.ClassId.TheVariants as classes
 use Rattle.loading.specs.Families.{Family}
-use Rattle.vm_state.specs.Objects.{empty_row}
+use Rattle.vm_state.specs.Objects.{ObjectRow, AscendsFrom, object_in}
+use Rattle.vm_state.proofs.ObjectLemmas.{none_below}
 use Rattle.vm_state.specs.Pools.{pool_by}
 use Rattle.vm_state.specs.SharedState.{Pool, Region, with_new}
 use Rattle.vm_state.specs.Statics.{field_in, with_value}
@@ -35,11 +36,13 @@ use Rattle.image_format.specs.declared.object.ImageObject.{ImageObject}
 use Rattle.image_format.specs.declared.region.ImageRegion.{ImageRegion}
 use Rattle.image_format.specs.declared.value.ImageValue.{ImageValue}
 use Rattle.image_format.specs.declared.value.ImageValue.TheVariants as values
-use Rattle.image_format.specs.Images.{region_in}
-use Rattle.image_format.specs.Shapes.{AreKnownSlots, AreSlots, AreUnits, Suits}
+use Rattle.image_format.specs.declared.object.KeptObject.{KeptObject}
+use Rattle.image_format.specs.declared.version.Version.TheVariants as versions
+use Rattle.image_format.specs.Objects.{region_in, object_with}
+use Rattle.image_format.specs.Shapes.{AreNumbered, AreKnownSlots, AreSlots, AreUnits, Suits}
 use Rattle.image_reader.specs.steps.Held.{AddsStrings, HasUnits, HoldsValue, HoldsValues, HoldsField}
 use Rattle.image_reader.specs.steps.Held.{HoldsFields, HoldsType}
-use Rattle.image_reader.specs.steps.Held.{HoldsObject, HoldsNumber, HoldsObjects, HoldsRegion, HoldsClass}
+use Rattle.image_reader.specs.steps.Held.{HoldsObject, HoldsNumber, HoldsKept, HoldsObjects, HoldsRegion, HoldsClass}
 use Rattle.image_reader.specs.steps.Held.{HoldsRegions}
 use Rattle.image_reader.proofs.ReferencesLemmas.{reference_is}
 
@@ -122,10 +125,19 @@ module _ (S T added : List (List ℕ)) (grown : T ≡ S ++ added) where
   number_kept (Some told) None holds = holds
   number_kept (Some told) (Some object) holds = object_kept told object holds
 
-  pub objects_kept : (told : List ImageObject) (pool : Pool) → HoldsObjects S told pool → HoldsObjects T told pool
-  objects_kept told pool holds = record {
+  pub kept_kept : (told : List KeptObject) (row : List (ℕ × Object)) → AllZip (HoldsKept S) told row
+      → AllZip (HoldsKept T) told row
+  kept_kept [] [] holds = holds
+  kept_kept [] (o ∷ os) holds = absurd holds
+  kept_kept (t ∷ ts) [] holds = absurd holds
+  kept_kept (t ∷ ts) (o ∷ os) holds =
+      ((holds.0.0, object_kept t.object o.1 holds.0.1), kept_kept ts os holds.1)
+
+  pub objects_kept : (made : ℕ) (told : List KeptObject) (pool : Pool) → HoldsObjects S made told pool
+      → HoldsObjects T made told pool
+  objects_kept made told pool holds = record {
     count = holds.count;
-    each = λ n. number_kept (slice_get told n) (pool.at n) (holds.each n);
+    each = λ n. number_kept (object_with told n) (pool.at n) (holds.each n);
   }
 
   class_kept : (told : Option ImageRegion) (region : Option Region) → HoldsClass S told region
@@ -134,7 +146,7 @@ module _ (S T added : List (List ℕ)) (grown : T ≡ S ++ added) where
   class_kept (Some told) None holds = holds
   class_kept (Some told) (Some region) holds = record {
     fields = fields_kept told.statics region.fields holds.fields;
-    objects = objects_kept told.objects region.pool holds.objects;
+    objects = objects_kept told.count told.objects region.pool holds.objects;
   }
 
   pub regions_kept : (told : List (Option ImageRegion)) (env : Environment) → HoldsRegions S told env
@@ -198,32 +210,85 @@ pub last_at : {X : Type 0} (xs : List X) (x : X) → slice_get (xs ++ x ∷ []) 
 last_at [] x = refl
 last_at (y ∷ ys) x = last_at ys x
 
-other_at : {X : Type 0} (xs : List X) (x : X) (k : ℕ) → k ≢ length xs
-    → slice_get (xs ++ x ∷ []) k ≡ slice_get xs k
-other_at [] x zero other = absurd (other refl)
-other_at [] x (suc k) other = refl
-other_at (y ∷ ys) x zero other = refl
-other_at (y ∷ ys) x (suc k) other = other_at ys x k (λ e. other (ap suc e))
+-- one more at the end of each
+zip_more : {X Y : Type 0} (R : X → Y → Type 0) (xs : List X) (ys : List Y) (x : X) (y : Y) → AllZip R xs ys → R x y
+    → AllZip R (xs ++ x ∷ []) (ys ++ y ∷ [])
+zip_more R [] [] x y all one = (one, tt)
+zip_more R [] (b ∷ bs) x y all one = absurd all
+zip_more R (a ∷ more) [] x y all one = absurd all
+zip_more R (a ∷ more) (b ∷ bs) x y all one = (all.0, zip_more R more bs x y all.1 one)
 
-pub no_objects : (S : List (List ℕ)) → HoldsObjects S [] (pool_by empty_row)
-no_objects S = record { count = refl; each = λ n. refl }
+-- the step of a loop over objects
+pub next_kept : (P Q R : Tables) (told : List KeptObject) (i : ℕ) (t : KeptObject) (held new : List (ℕ × Object))
+    (o : ℕ × Object) → i < length told → t ≡ get_or told i t
+    → AllZip (HoldsKept Q.strings) (take i told) held → AddsStrings P Q → AddsStrings Q R → HoldsKept R.strings t o
+    → new ≡ held ++ o ∷ [] → AllZip (HoldsKept R.strings) (take (i + 1) told) new
+next_kept P Q R told i t held new o within item so_far before adds one is =
+    let F : List KeptObject → List (ℕ × Object) → Type 0 = λ ts os. AllZip (HoldsKept R.strings) ts os in
+    subst (λ (os : List (ℕ × Object)). F (take (i + 1) told) os) (sym is)
+    (subst (λ (ts : List KeptObject). F ts (held ++ o ∷ [])) (sym (taken told i t within item))
+    (zip_more (HoldsKept R.strings) (take i told) held t o
+    (kept_kept Q.strings R.strings adds.added adds.strings (take i told) held so_far) one))
 
-pub next_object : (S : List (List ℕ)) (told : List ImageObject) (t : ImageObject) (pool : Pool) (class : ClassId)
-    (slots : List Value) → HoldsObjects S told pool → HoldsType S t.class class → HoldsValues S t.slots slots
-    → HoldsObjects S (told ++ t ∷ []) (with_new pool class slots)
-next_object S told t pool class slots objects named holds = record {
-  count = omega (arith, objects.count, length-append told (t ∷ []));
-  each = λ n. by n (tested (n == pool.count));
-}
+-- ---- rows
+
+pub row_ascends : (S : List (List ℕ)) (count least : ℕ) (told : List KeptObject) (row : List (ℕ × Object))
+    → least ≤ count → AreNumbered versions.Two count least told → AllZip (HoldsKept S) told row
+    → AscendsFrom least row count
+row_ascends S count least [] [] le numbers holds = le
+row_ascends S count least [] (o ∷ os) le numbers holds = absurd holds
+row_ascends S count least (t ∷ ts) [] le numbers holds = absurd holds
+row_ascends S count least (t ∷ ts) (o ∷ os) le numbers holds =
+    let low = numbers.0.0 in
+    let lt = numbers.0.1 in
+    let is = holds.0.0 in
+    let Q : ℕ → Type 0 = λ n. AscendsFrom (n + 1) os count in
+    (omega (arith, low, is),
+    subst Q (sym is) (row_ascends S count (t.number + 1) ts os (omega (arith, lt)) numbers.1 holds.1))
+
+row_holds : (S : List (List ℕ)) (count least : ℕ) (told : List KeptObject) (row : List (ℕ × Object))
+    → AreNumbered versions.Two count least told → AscendsFrom least row count → AllZip (HoldsKept S) told row → (n : ℕ)
+    → HoldsNumber S (object_with told n) (object_in row n)
+row_holds S count least [] [] numbers rises holds n = refl
+row_holds S count least [] (o ∷ os) numbers rises holds n = absurd holds
+row_holds S count least (t ∷ ts) [] numbers rises holds n = absurd holds
+row_holds S count least (t ∷ ts) (o ∷ os) numbers rises holds n = elim (tested (t.number == n)) [
+  | inl same ↦
+      let at : t.number ≡ n = eqb-true t.number n same in
+      let here : (n == o.0) ≡ true = eq-eqb n o.0 (sym at ∙ sym holds.0.0) in
+      let low : n < o.0 + 1 = (let is = holds.0.0 in omega (arith, at, is)) in
+      let none : object_in os n ≡ None = none_below (o.0 + 1) os count n rises.1 low in
+      rw (same, none, here) holds.0.1
+  | inr other ↦
+      let apart : (n == o.0) ≡ false =
+      not_equal n o.0 (λ e. let clash : false ≡ true = sym other ∙ eq-eqb t.number n (sym (e ∙ holds.0.0)) in cc) in
+      let Q : ℕ → Type 0 = λ k. AscendsFrom (k + 1) os count in
+      rw (other, past o os n apart)
+      (row_holds S count (t.number + 1) ts os numbers.1 (subst Q holds.0.0 rises.1) holds.1 n)
+]
   where
-    by : (n : ℕ) → ((n == pool.count) ≡ true) ⊎ ((n == pool.count) ≡ false)
-        → HoldsNumber S (slice_get (told ++ t ∷ []) n) ((with_new pool class slots).at n)
-    by n (inl same) =
-        let at : n ≡ length told = eqb-true n pool.count same ∙ objects.count in
-        rw (same, at, last_at told t) (record { class = named; slots = holds; monitor = refl })
-    by n (inr apart) =
-        let other : n ≢ length told = λ e. unequal n pool.count apart (e ∙ sym objects.count) in
-        rw (apart, other_at told t n other) (objects.each n)
+    not_equal : (a b : ℕ) → (a ≡ b → ⊥) → (a == b) ≡ false
+    not_equal a b never = elim (tested (a == b)) [
+      | inl on ↦ absurd (never (eqb-true a b on))
+      | inr off ↦ off
+    ]
+
+    past : (o : ℕ × Object) (os : List (ℕ × Object)) (k : ℕ) → (k == o.0) ≡ false
+        → object_in (o ∷ os) k ≡ object_in os k
+    past o os k apart = by (object_in os k) refl
+      where
+        by : (r : Option Object) → object_in os k ≡ r → object_in (o ∷ os) k ≡ r
+        by None e = rw (e, apart) refl
+        by (Some x) e = rw e refl
+
+pub row_holds_all : (S : List (List ℕ)) (count : ℕ) (told : List KeptObject) (row : ObjectRow)
+    (objects : List (ℕ × Object)) → row ≡ record { count = count; objects = objects }
+    → AreNumbered versions.Two count 0 told → AllZip (HoldsKept S) told objects
+    → HoldsObjects S count told (pool_by row)
+row_holds_all S count told row objects is numbers holds =
+    let rises = row_ascends S count 0 told objects (omega arith) numbers holds in
+    let Q : ObjectRow → Type 0 = λ r. HoldsObjects S count told (pool_by r) in
+    subst Q (sym is) (record { count = refl; each = row_holds S count 0 told objects numbers rises holds })
 
 -- ---- regions
 

@@ -1,8 +1,8 @@
 -- A text of an image of a program with no strings but its class files' is read as that image.
-use Rattle.std.proofs.Common.{◌≡◌, ◌∙◌, ℕ, List, Option, slice_get, sym, subst}
+use Rattle.std.proofs.Common.{◌≡◌, ◌∙◌, inl, inr, ℕ, List, Option, slice_get, sym, subst}
 use Rattle.classfile.specs.Class.{IsClassFile}
 use Rattle.loading.specs.declared.given.GivenClass.{GivenClass}
-use Rattle.loading.specs.Families.{IsFamily}
+use Rattle.loading.specs.Families.{Family, IsFamily}
 use Rattle.semantics.specs.Quiet.{Environment}
 use Rattle.program.specs.Programs.{HasOwnStrings, IsProgram}
 use Rattle.program.specs.Tables.{Tables}
@@ -12,7 +12,7 @@ use Rattle.evaluator.specs.Regions.{environment_of}
 use Rattle.region_shape.specs.Laws.{IsFromFile}
 use Rattle.object_graph.specs.Images.{ImageTables}
 use Rattle.image_format.specs.declared.region.ImageRegion.{ImageRegion}
-use Rattle.image_format.specs.Images.{AreClassFiles}
+use Rattle.image_format.specs.Images.{AreClassFiles, SomeText}
 use Rattle.image_writer.specs.ImageTexts.{told_of}
 use Rattle.image_writer.specs.steps.Sizes.{HasFiles}
 use Rattle.image_reader.specs.Readings.{IsOfOwnStrings, IsSameImage}
@@ -49,3 +49,15 @@ module _ (I : ImageTables) (P : Tables) (told : List (Option ImageRegion)) (J : 
             one_environment J.program.strings whole.distinct told (environment_of J.regions) env holds
             (subst (λ (x : Tables). HoldsRegions x.strings told env) (sym program) again);
       }
+
+-- ---- texts of either version
+
+pub some_files : (bytes : List ℕ) (family : Family) (regions : List (Option ImageRegion))
+    → SomeText bytes family regions → AreClassFiles family
+some_files bytes family regions (inl text) = text.files
+some_files bytes family regions (inr old) = old.text.files
+
+pub some_classes : (bytes : List ℕ) (family : Family) (regions : List (Option ImageRegion))
+    → SomeText bytes family regions → IsFamily family
+some_classes bytes family regions (inl text) = text.classes
+some_classes bytes family regions (inr old) = old.text.classes

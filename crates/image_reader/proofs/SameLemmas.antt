@@ -3,6 +3,7 @@ use Rattle.std.proofs.Common.{◌≡◌, ◌∙◌, ◌⊎◌, inl, inr, ℕ, ze
 use Rattle.std.proofs.Common.{Option, Some, None, slice_get, refl, sym, ap, ap₂, subst, arith}
 use Rattle.std.specs.Prelude.{Result, Ok, Err, OnOk}
 use Rattle.std.proofs.Math.Path.{fun_ext}
+use Rattle.std.specs.List.{All}
 use Rattle.std.proofs.lemmas.Option.{slice_get_within, slice_get-get_or}
 use Rattle.classfile.specs.Units.{units_text}
 use Rattle.built_in.specs.declared.class_id.ClassId.{ClassId}
@@ -26,9 +27,10 @@ use Rattle.image_format.specs.declared.object.ImageObject.{ImageObject}
 use Rattle.image_format.specs.declared.region.ImageRegion.{ImageRegion}
 use Rattle.image_format.specs.declared.value.ImageValue.{ImageValue}
 use Rattle.image_format.specs.declared.value.ImageValue.TheVariants as values
-use Rattle.image_format.specs.Images.{region_in}
+use Rattle.image_format.specs.declared.object.KeptObject.{KeptObject}
+use Rattle.image_format.specs.Objects.{region_in, object_with}
 use Rattle.image_reader.specs.steps.Held.{HoldsValue, HoldsValues, HoldsField, HoldsFields, HoldsType}
-use Rattle.image_reader.specs.steps.Held.{HoldsObject, HoldsNumber, HoldsObjects, HoldsRegion, HoldsClass}
+use Rattle.image_reader.specs.steps.Held.{HoldsObject, HoldsNumber, HoldsAt, HoldsObjects, HoldsRegion, HoldsClass}
 use Rattle.image_reader.specs.steps.Held.{HoldsArray, HoldsElement, HoldsRegions}
 use Rattle.image_reader.proofs.HeldLemmas.{at_front, last_at}
 
@@ -71,13 +73,16 @@ module _ (S : List (List ℕ)) where
   value_at (u ∷ told) (v ∷ vs) (suc i) t within item holds =
       value_at told vs i t (omega (arith, within)) item holds.1
 
-  pub object_at : (told : List ImageObject) (pool : Pool) (i : ℕ) (t : ImageObject) → i < length told
-      → t ≡ get_or told i t → HoldsObjects S told pool → (o : Object) × HoldsObject S t o
-  object_at told pool i t within item holds = by (pool.at i)
-      (subst (λ (x : Option ImageObject). HoldsNumber S x (pool.at i))
-      (slice_get-get_or told i t within ∙ ap Some (sym item)) (holds.each i))
+  pub object_at : (told : List KeptObject) (pool : Pool) (i : ℕ) (t : KeptObject) → i < length told
+      → t ≡ get_or told i t → All (λ (kept : KeptObject). object_with told kept.number ≡ Some kept.object) told
+      → HoldsAt S told pool → (o : Object) × HoldsObject S t.object o
+  object_at told pool i t within item found holds = by (pool.at t.number)
+      (subst (λ (x : Option ImageObject). HoldsNumber S x (pool.at t.number)) at (holds t.number))
     where
-      by : (o : Option Object) → HoldsNumber S (Some t) o → (o : Object) × HoldsObject S t o
+      at : object_with told t.number ≡ Some t.object
+      at = subst (λ (k : KeptObject). object_with told k.number ≡ Some k.object) (sym item) (found i t within)
+
+      by : (o : Option Object) → HoldsNumber S (Some t.object) o → (o : Object) × HoldsObject S t.object o
       by None held = absurd held
       by (Some o) held = (o, held)
 
@@ -111,18 +116,18 @@ module _ (P Q R : Tables) (before : Q ≡ P) where
       same vs (subst (λ (x : Tables). HoldsValues x.strings told vs) (sym before) holds) ∙ before
 
   -- after one more object
-  pub next_object : (told : List ImageObject) (pool : Pool) (i : ℕ) (t : ImageObject) → i < length told
-      → t ≡ get_or told i t → HoldsObjects P.strings told pool
-      → ((o : Object) → HoldsObject Q.strings t o → R ≡ Q) → R ≡ P
-  next_object told pool i t within item holds same =
-      let o = object_at P.strings told pool i t within item holds in
-      same o.0 (subst (λ (x : Tables). HoldsObject x.strings t o.0) (sym before) o.1) ∙ before
+  pub next_object : (told : List KeptObject) (pool : Pool) (i : ℕ) (t : KeptObject) → i < length told
+      → t ≡ get_or told i t → All (λ (kept : KeptObject). object_with told kept.number ≡ Some kept.object) told
+      → HoldsAt P.strings told pool → ((o : Object) → HoldsObject Q.strings t.object o → R ≡ Q) → R ≡ P
+  next_object told pool i t within item found holds same =
+      let o = object_at P.strings told pool i t within item found holds in
+      same o.0 (subst (λ (x : Tables). HoldsObject x.strings t.object o.0) (sym before) o.1) ∙ before
 
   -- after all objects of a region
-  pub next_objects : (told : List ImageObject) (pool : Pool) → HoldsObjects P.strings told pool
-      → ((p : Pool) → HoldsObjects Q.strings told p → R ≡ Q) → R ≡ P
+  pub next_objects : (told : List KeptObject) (pool : Pool) → HoldsAt P.strings told pool
+      → ((p : Pool) → HoldsAt Q.strings told p → R ≡ Q) → R ≡ P
   next_objects told pool holds same =
-      same pool (subst (λ (x : Tables). HoldsObjects x.strings told pool) (sym before) holds) ∙ before
+      same pool (subst (λ (x : Tables). HoldsAt x.strings told pool) (sym before) holds) ∙ before
 
   -- after one more class
   pub next_class : (told : List (Option ImageRegion)) (env : Environment) (c : ℕ) (t : Option ImageRegion)
@@ -208,10 +213,11 @@ module _ (S : List (List ℕ)) (distinct : AreDistinct S) where
   abbrev pool : ℕ → (ℕ → Option Object) → Pool
   pool count at = record { count = count; at = at }
 
-  one_pool : (told : List ImageObject) (p q : Pool) → HoldsObjects S told p → HoldsObjects S told q → p ≡ q
-  one_pool told p q first second =
+  one_pool : (made : ℕ) (told : List KeptObject) (p q : Pool) → HoldsObjects S made told p → HoldsObjects S made told q
+      → p ≡ q
+  one_pool made told p q first second =
       ap₂ pool (first.count ∙ sym second.count)
-      (fun_ext (λ n. one_number (slice_get told n) (p.at n) (q.at n) (first.each n) (second.each n)))
+      (fun_ext (λ n. one_number (object_with told n) (p.at n) (q.at n) (first.each n) (second.each n)))
 
   abbrev region : (ℕ → Value) → Pool → Region
   region fields pool = record { fields = fields; pool = pool }
@@ -223,7 +229,7 @@ module _ (S : List (List ℕ)) (distinct : AreDistinct S) where
   one_class (Some t) (Some r) (Some s) first second =
       ap Some (ap₂ region
       (fun_ext (λ k. one_field (slice_get t.statics k) (r.fields k) (s.fields k) (first.fields k) (second.fields k)))
-      (one_pool t.objects r.pool s.pool first.objects second.objects))
+      (one_pool t.count t.objects r.pool s.pool first.objects second.objects))
 
   -- what is told of all classes is held in one way
   pub one_environment : (told : List (Option ImageRegion)) (env other : Environment) → HoldsRegions S told env

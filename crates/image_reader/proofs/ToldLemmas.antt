@@ -1,8 +1,8 @@
 -- What the machine holds tells what the image's text says.
-use Rattle.std.proofs.Common.{◌≡◌, ◌∙◌, ℕ, suc, ◌+◌, ◌<◌, List, [], ◌∷◌, length, map, get_or, Option, Some, None}
-use Rattle.std.proofs.Common.{true, is_some, slice_get, option_map, refl, sym, ap, ap₂, subst, arith, add-zero}
+use Rattle.std.proofs.Common.{◌≡◌, ◌∙◌, inl, inr, ℕ, zero, suc, ◌+◌, ◌<◌, ◌≤◌, ◌==◌, List, [], ◌∷◌, length, map, get_or, Option, Some, None}
+use Rattle.std.proofs.Common.{true, false, eq-eqb, is_some, slice_get, option_map, refl, sym, ap, ap₂, subst, arith, add-zero}
 use Rattle.std.specs.List.{All, flat_map, range_with_len}
-use Rattle.std.specs.Option.{option_to_list}
+use Rattle.std.proofs.lemmas.Bool.{cases_lt}
 use Rattle.std.proofs.lemmas.List.FromFn.{fill_by_all}
 use Rattle.std.proofs.lemmas.List.Elements.{All-get_or, All-head, All-tail}
 use Rattle.std.proofs.lemmas.Option.{get_or_from_slice_get, slice_get-get_or}
@@ -28,11 +28,16 @@ use Rattle.image_format.specs.declared.object.ImageObject.{ImageObject}
 use Rattle.image_format.specs.declared.region.ImageRegion.{ImageRegion}
 use Rattle.image_format.specs.declared.value.ImageValue.{ImageValue}
 use Rattle.image_format.specs.declared.value.ImageValue.TheVariants as values
-use Rattle.image_format.specs.Images.{AreRegions, region_in}
+use Rattle.image_format.specs.Images.{AreRegions}
 use Rattle.image_format.specs.Shapes.{HasObjects, HasShape, KnownHasObjects, ObjectHasShape, Suits}
-use Rattle.image_format.specs.Told.{told_array, told_class, told_value, told_if}
-use Rattle.image_format.specs.Told.{told_objects, told_fields, told_region, told_regions}
-use Rattle.image_reader.specs.steps.Held.{HasUnits, HoldsValue, HoldsValues, HoldsField, HoldsFields}
+use Rattle.image_format.specs.Told.{told_array, told_class, told_value}
+use Rattle.image_format.specs.declared.object.KeptObject.{KeptObject}
+use Rattle.image_format.specs.declared.version.Version.TheVariants as versions
+use Rattle.image_format.specs.Objects.{region_in, object_with}
+use Rattle.image_format.specs.Shapes.{AreNumbered}
+use Rattle.image_format.proofs.RowsLemmas.{told_from}
+use Rattle.image_format.specs.Told.{told_object, told_kept, told_objects, told_fields, told_region, told_regions}
+use Rattle.image_reader.specs.steps.Held.{HoldsObject, HasUnits, HoldsValue, HoldsValues, HoldsField, HoldsFields}
 use Rattle.image_reader.specs.steps.Held.{HoldsNumber, HoldsObjects, HoldsRegion, HoldsClass, HoldsRegions, HoldsType}
 use Rattle.image_reader.proofs.HeldLemmas.{values_units, slots_units}
 use Rattle.image_reader.proofs.ClassesLemmas.{is_in}
@@ -96,60 +101,107 @@ module _ (S : List (List ℕ)) where
       ∙ ap (told_array S (record { dimensions = dimensions; element = holds.element })) holds.holds.is
       ∙ ap (image.UnknownArray dimensions) (get_or_from_slice_get S holds.holds.number name [] holds.holds.named)
 
-  number_told : (family : Family) (t : Option ImageObject) (o : Option Object)
-      → ((x : ImageObject) → t ≡ Some x → ObjectHasShape family x) → HoldsNumber S t o → told_if S o ≡ option_to_list t
-  number_told family None o shape holds = ap (told_if S) holds
-  number_told family (Some t) None shape holds = absurd holds
-  number_told family (Some t) (Some o) shape holds =
-      ap (λ (x : ImageObject). x ∷ [])
-      (ap₂ object (type_told family t.class o.class (shape t refl).class holds.class)
-      (values_told t.slots o.slots (slots_units family t.class t.slots (shape t refl).slots) holds.slots))
+  object_told : (family : Family) (t : ImageObject) (o : Object) → ObjectHasShape family t → HoldsObject S t o
+      → told_object S o ≡ t
+  object_told family t o shape holds =
+      ap₂ object (type_told family t.class o.class shape.class holds.class)
+      (values_told t.slots o.slots (slots_units family t.class t.slots shape.slots) holds.slots)
 
-  told_from : (at : ℕ → Option Object) (told : List ImageObject) (a : ℕ)
-      → ((k : ℕ) → told_if S (at (a + k)) ≡ option_to_list (slice_get told k))
-      → flat_map (told_if S) (map at (range_with_len a (length told))) ≡ told
-  told_from at [] a each = refl
-  told_from at (t ∷ told) a each =
-      let first : told_if S (at a) ≡ t ∷ [] =
-      ap (λ (k : ℕ). told_if S (at k)) (sym (add-zero a)) ∙ each 0 in
-      rw first (ap (λ (xs : List ImageObject). t ∷ xs) (told_from at told (a + 1) (λ k.
-      let next : a + 1 + k ≡ a + suc k = omega arith in
-      ap (λ (m : ℕ). told_if S (at m)) next ∙ each (suc k))))
+  none_under : (count least : ℕ) (told : List KeptObject) (n : ℕ) → AreNumbered versions.Two count least told
+      → n < least → object_with told n ≡ None
+  none_under count least [] n numbers lt = refl
+  none_under count least (t ∷ ts) n numbers lt =
+      let low = numbers.0.0 in
+      let less : n < t.number = omega (arith, low, lt) in
+      let other : (t.number == n) ≡ false = grind arith in
+      let later : object_with ts n ≡ None =
+      none_under count (t.number + 1) ts n numbers.1 (omega (arith, less)) in
+      rw (other, later) refl
 
-  objects_told : (family : Family) (told : List ImageObject) (pool : Pool) → All (ObjectHasShape family) told
-      → HoldsObjects S told pool → told ≡ told_objects S pool
-  objects_told family told pool shape holds =
+  past_first : (t : KeptObject) (ts : List KeptObject) (n : ℕ) → t.number < n
+      → object_with (t ∷ ts) n ≡ object_with ts n
+  past_first t ts n less = let other : (t.number == n) ≡ false = grind arith in rw other refl
+
+  told_again : (family : Family) (at : ℕ → Option Object) (told : List KeptObject) (k low count : ℕ) → low + k ≡ count
+      → AreNumbered versions.Two count low told
+      → All (λ (kept : KeptObject). ObjectHasShape family kept.object) told
+      → ((n : ℕ) → low ≤ n → HoldsNumber S (object_with told n) (at n)) → told_from S at low k ≡ told
+  told_again family at [] zero low count is numbers shape holds = refl
+  told_again family at (t ∷ ts) zero low count is numbers shape holds =
+      let a = numbers.0.0 in let b = numbers.0.1 in absurd (omega (arith, a, b, is))
+  told_again family at [] (suc k) low count is numbers shape holds =
+      let none : at low ≡ None = holds low (omega arith) in
+      rw none (told_again family at [] k (low + 1) count (omega (arith, is)) tt shape
+      (λ n le. holds n (omega (arith, le))))
+  told_again family at (t ∷ ts) (suc k) low count is numbers shape holds = elim (cases_lt low t.number) [
+    | inl less ↦
+        let under : object_with (t ∷ ts) low ≡ None =
+        none_under count t.number (t ∷ ts) low ((omega arith, numbers.0.1), numbers.1) less in
+        let none : at low ≡ None =
+        subst (λ (x : Option ImageObject). HoldsNumber S x (at low)) under (holds low (omega arith)) in
+        rw none (told_again family at (t ∷ ts) k (low + 1) count (omega (arith, is))
+        ((omega (arith, less), numbers.0.1), numbers.1) shape (λ n le. holds n (omega (arith, le))))
+    | inr high ↦
+        let a = numbers.0.0 in
+        let same : t.number ≡ low = omega (arith, a, high) in
+        let first : (t.number == low) ≡ true = eq-eqb t.number low same in
+        let here : object_with (t ∷ ts) low ≡ Some t.object = rw first refl in
+        let one = subst (λ (x : Option ImageObject). HoldsNumber S x (at low)) here (holds low (omega arith)) in
+        let rest : told_from S at (low + 1) k ≡ ts =
+        told_again family at ts k (low + 1) count (omega (arith, is))
+        (subst (λ z. AreNumbered versions.Two count (z + 1) ts) same numbers.1)
+        (All-tail (λ (kept : KeptObject). ObjectHasShape family kept.object) t ts shape)
+        (λ n le. subst (λ (x : Option ImageObject). HoldsNumber S x (at n))
+        (past_first t ts n (omega (arith, le, same))) (holds n (omega (arith, le)))) in
+        by one rest same (at low) refl
+  ]
+    where
+      by : HoldsNumber S (Some t.object) (at low) → told_from S at (low + 1) k ≡ ts → t.number ≡ low
+          → (o : Option Object) → at low ≡ o → told_from S at low (suc k) ≡ t ∷ ts
+      by one rest same None e = absurd (subst (λ (x : Option Object). HoldsNumber S (Some t.object) x) e one)
+      by one rest same (Some o) e =
+          let held : HoldsObject S t.object o =
+          subst (λ (x : Option Object). HoldsNumber S (Some t.object) x) e one in
+          let object : told_object S o ≡ t.object = object_told family t.object o (shape 0 t (omega arith)) held in
+          let kept : told_kept S (low, o) ≡ t = λ i. record { number = same' i; object = object i } in
+          rw e (ap (λ (xs : List KeptObject). told_kept S (low, o) ∷ xs) rest
+          ∙ ap (λ (x : KeptObject). x ∷ ts) kept)
+        where
+          same' : low ≡ t.number
+          same' = sym same
+
+  objects_told : (family : Family) (made : ℕ) (told : List KeptObject) (pool : Pool)
+      → AreNumbered versions.Two made 0 told → All (λ (kept : KeptObject). ObjectHasShape family kept.object) told
+      → HoldsObjects S made told pool → told ≡ told_objects S pool
+  objects_told family made told pool numbers shape holds =
       rw holds.count
-      (sym (told_from pool.at told 0 (λ k.
-      let start : 0 + k ≡ k = omega arith in
-      ap (λ (m : ℕ). told_if S (pool.at m)) start
-      ∙ number_told family (slice_get told k) (pool.at k) (λ x at. is_in (ObjectHasShape family) told k x shape at)
-      (holds.each k))))
+      (sym (told_again family pool.at told made 0 made (omega arith) numbers shape (λ n le. holds.each n)))
 
 -- ---- regions
 
-abbrev region : List ImageValue → List ImageObject → ImageRegion
-region statics objects = record { statics = statics; objects = objects }
+abbrev region : ℕ → List ImageValue → List KeptObject → ImageRegion
+region count statics objects = record { count = count; statics = statics; objects = objects }
 
 module _ (P : Tables) (statics : (c : ℕ) → length (statics_in P c) ≡ length (static_kinds P.family c)) where
-  region_told : (c : ℕ) (t : ImageRegion) (r : Region) → HasShape P.family c t → HoldsRegion P.strings t r
-      → t ≡ told_region P c r
+  region_told : (c : ℕ) (t : ImageRegion) (r : Region) → HasShape versions.Two P.family c t
+      → HoldsRegion P.strings t r → t ≡ told_region P c r
   region_told c t r shape holds =
       let count : length t.statics ≡ length (statics_in P c) =
       AllZip-long Suits (static_kinds P.family c) t.statics shape.statics ∙ sym (statics c) in
-      ap₂ region
+      ap (λ (n : ℕ). region n t.statics t.objects) (sym holds.objects.count)
+      ∙ ap₂ (region r.pool.count)
       (fields_told P.strings t.statics r.fields (length (statics_in P c)) count
       (values_units (static_kinds P.family c) t.statics shape.statics) holds.fields)
-      (objects_told P.strings P.family t.objects r.pool shape.objects holds.objects)
+      (objects_told P.strings P.family t.count t.objects r.pool shape.numbers shape.objects holds.objects)
 
   class_told : (c : ℕ) (o : Option ImageRegion) (r : Option Region)
-      → ((t : ImageRegion) → o ≡ Some t → HasShape P.family c t) → HoldsClass P.strings o r
+      → ((t : ImageRegion) → o ≡ Some t → HasShape versions.Two P.family c t) → HoldsClass P.strings o r
       → o ≡ option_map (told_region P c) r
   class_told c None r shape holds = sym (ap (option_map (told_region P c)) holds)
   class_told c (Some t) None shape holds = absurd holds
   class_told c (Some t) (Some r) shape holds = ap Some (region_told c t r (shape t refl) holds)
 
-  pub regions_told : (told : List (Option ImageRegion)) (env : Environment) → AreRegions P.family told
+  pub regions_told : (told : List (Option ImageRegion)) (env : Environment) → AreRegions versions.Two P.family told
       → HoldsRegions P.strings told env → told_regions P env ≡ told
   regions_told told env fits holds =
       sym (fill_by_all (λ c. option_map (told_region P c) (env c)) told (length P.family) None fits.count (λ c low.

@@ -4,11 +4,11 @@ use Rattle.std.proofs.Common.{true, false, List, [], ◌∷◌, ◌++◌, length
 use Rattle.std.proofs.Common.{is_some, slice_get, option_map, unwrap_or, refl, sym, ap, subst, arith, ltb, leb}
 use Rattle.std.proofs.Common.{length-append, eqb-true}
 use Rattle.std.specs.Prelude.{int_le}
-use Rattle.std.specs.List.{All, AllByRecursion, AllZip}
+use Rattle.std.specs.List.{All, AllByRecursion, AllZip, Contains}
 use Rattle.std.proofs.lemmas.Bool.{and_parts, lt-ltb, leb-true, le-leb}
 use Rattle.std.proofs.lemmas.List.{length-replicate}
 use Rattle.std.proofs.lemmas.List.Elements.{All-head, All-tail}
-use Rattle.std.proofs.lemmas.Option.{slice_get_past, slice_get_within}
+use Rattle.std.proofs.lemmas.Option.{slice_get_past, slice_get_within, slice_get-get_or}
 use Rattle.std.proofs.lemmas.Slice.Zip.{AllZip-long}
 use Rattle.classfile.specs.Units.{units_text}
 use Rattle.built_in.specs.declared.class_id.ArrayType.{ArrayType}
@@ -24,7 +24,7 @@ use Rattle.vm_state.specs.declared.object.Object.{Object}
 use Rattle.vm_state.specs.declared.value.Value.{Value}
 use Rattle.vm_state.specs.declared.value.Value.TheVariants as machine
 use Rattle.vm_state.specs.declared.value.Maker.TheVariants.{Class}
-use Rattle.vm_state.specs.SharedState.{Region}
+use Rattle.vm_state.specs.SharedState.{Pool, Region}
 use Rattle.vm_state.proofs.ListLemmas.{tested}
 use Rattle.semantics.specs.Lawful.{HoldsOfSlots, Knows, KnowsAll, KnowsSlots}
 use Rattle.semantics.specs.Quiet.{Environment, pool_seen, elements_in}
@@ -32,17 +32,19 @@ use Rattle.program.specs.declared.runtime_constant.FieldKind.{FieldKind}
 use Rattle.program.specs.declared.runtime_constant.FieldKind.TheVariants as kinds
 use Rattle.program.specs.Arrays.{is_array_class, is_name}
 use Rattle.program.specs.InstanceFields.{static_kinds, slots_of}
-use Rattle.program.specs.Tables.{Tables}
+use Rattle.program.specs.Tables.{Tables, statics_in}
 use Rattle.machine.specs.Arrays.{kind_of_component, kind_of_element}
 use Rattle.machine.proofs.ListLemmas.{right_of_pair}
 use Rattle.region_shape.specs.Suits.{suits}
 use Rattle.region_shape.specs.Shapes.{SuitsField, AreElements}
 use Rattle.region_shape.specs.Shapes.{has_objects as has_instances, HasObjects as HasInstances, AreSlots as HaveSlots}
 use Rattle.region_shape.specs.Shapes.{ObjectHasShape as IsShaped, HasShape as RegionIsShaped}
-use Rattle.region_shape.specs.Counts.{count_of as seen_count, is_there, NamesObjects as Names}
+use Rattle.region_shape.specs.Counts.{is_held, is_there, NamesObjects as Names}
 use Rattle.region_shape.specs.Texts.{HasText, HasTexts}
 use Rattle.region_shape.specs.Wholes.{AreWhole}
+use Rattle.object_graph.specs.Cuts.{AreReached}
 use Rattle.object_graph.specs.Images.{AreSmall}
+use Rattle.object_graph.specs.Reached.{object_among, IsReached, static, held as machine_held}
 use Rattle.image_format.specs.declared.object.ImageClass.{ImageClass}
 use Rattle.image_format.specs.declared.object.ImageClass.TheVariants as image
 use Rattle.image_format.specs.declared.object.ImageObject.{ImageObject}
@@ -51,7 +53,12 @@ use Rattle.image_format.specs.declared.value.ImageValue.{ImageValue}
 use Rattle.image_format.specs.declared.value.ImageValue.TheVariants as values
 use Rattle.image_format.specs.Elements.{kind_of_type, kind_of_elements}
 use Rattle.image_format.specs.Names.{class_name, name_of_class}
-use Rattle.image_format.specs.Images.{AreRegions, IsThere, count_of, region_in}
+use Rattle.image_format.specs.declared.object.KeptObject.{KeptObject}
+use Rattle.image_format.specs.declared.version.Version.TheVariants as versions
+use Rattle.image_format.specs.Images.{AreRegions, IsThere}
+use Rattle.image_format.specs.Objects.{region_in, statics_of, objects_of, object_with, object_of}
+use Rattle.image_format.specs.Reached.{IsReached as IsToldReached, static as told_static, held as told_held}
+use Rattle.image_format.proofs.RowsLemmas.{kept_is, none_past}
 use Rattle.image_format.specs.Shapes.{Suits, IsArrayType, IsArrayOfUnknown, HasObjects, KnownHasObjects, AreSlots}
 use Rattle.image_format.specs.Shapes.{AreKnownSlots, ObjectHasShape, HasShape, has_objects, has_values}
 use Rattle.image_reader.specs.steps.Held.{HoldsValue, HoldsValues, HoldsField, HoldsFields, HoldsObject, HoldsNumber}
@@ -268,36 +275,22 @@ module _ (P : Tables) where
   told_at None o holds = absurd cc
   told_at (Some t) o holds = (t, refl, holds)
 
-  held_at : (t : ImageObject) (o : Option Object) → HoldsNumber P.strings (Some t) o → is_some o ≡ true
-  held_at t None holds = absurd holds
-  held_at t (Some o) holds = refl
-
   -- ---- regions
 
-  region_shaped : (c : ℕ) (t : ImageRegion) (r : Region) → HasShape P.family c t → HoldsRegion P.strings t r
-      → RegionIsShaped P c r
+  region_shaped : (c : ℕ) (t : ImageRegion) (r : Region) → HasShape versions.Two P.family c t
+      → HoldsRegion P.strings t r → RegionIsShaped P c r
   region_shaped c t r shape holds = record {
     statics = field_suits P.strings (static_kinds P.family c) t.statics r.fields shape.statics holds.fields;
     objects = λ n o at.
-        let number : HoldsNumber P.strings (slice_get t.objects n) (Some o) =
-        subst (HoldsNumber P.strings (slice_get t.objects n)) at (holds.objects.each n) in
-        let told = told_at (slice_get t.objects n) o number in
-        object_shaped told.0 o (is_in (ObjectHasShape P.family) t.objects n told.0 shape.objects told.1) told.2;
-    held = λ n low. held_below n (omega (arith, low, holds.objects.count));
+        let number : HoldsNumber P.strings (object_with t.objects n) (Some o) =
+        subst (HoldsNumber P.strings (object_with t.objects n)) at (holds.objects.each n) in
+        let told = told_at (object_with t.objects n) o number in
+        object_shaped told.0 o (kept_is (ObjectHasShape P.family) t.objects n told.0 shape.objects told.1) told.2;
     no_more = λ n past.
-        let none : slice_get t.objects n ≡ None =
-        slice_get_past t.objects n (omega (arith, past, holds.objects.count)) in
+        let none : object_with t.objects n ≡ None =
+        none_past t.count 0 t.objects n shape.numbers (omega (arith, past, holds.objects.count)) in
         subst (λ (x : Option ImageObject). HoldsNumber P.strings x (r.pool.at n)) none (holds.objects.each n);
   }
-    where
-      held_below : (n : ℕ) → n < length t.objects → is_some (r.pool.at n) ≡ true
-      held_below n within = by t.objects n within (holds.objects.each n)
-        where
-          by : (objects : List ImageObject) (k : ℕ) → k < length objects
-              → HoldsNumber P.strings (slice_get objects k) (r.pool.at n) → is_some (r.pool.at n) ≡ true
-          by [] k low number = absurd (omega arith)
-          by (x ∷ xs) zero low number = held_at x (r.pool.at n) number
-          by (x ∷ xs) (suc k) low number = by xs k (omega (arith, low)) number
 
 -- ---- strings
 
@@ -332,12 +325,12 @@ module _ (P : Tables) where
   region_has_texts : (t : ImageRegion) (r : Region) → HoldsRegion P.strings t r → HasTexts P r
   region_has_texts t r held = record {
     statics = λ k. field_has_text (slice_get t.statics k) (r.fields k) (held.fields k);
-    slots = λ n. slots_have_texts (slice_get t.objects n) (r.pool.at n) (held.objects.each n);
+    slots = λ n. slots_have_texts (object_with t.objects n) (r.pool.at n) (held.objects.each n);
   }
 
 -- ---- all regions
 
-module _ (P : Tables) (told : List (Option ImageRegion)) (env : Environment) (fits : AreRegions P.family told)
+module _ (P : Tables) (told : List (Option ImageRegion)) (env : Environment) (fits : AreRegions versions.Two P.family told)
     (holds : HoldsRegions P.strings told env) where
   record IsTold (c : ℕ) (r : Region) : Type 0 where
     region : ImageRegion
@@ -351,28 +344,33 @@ module _ (P : Tables) (told : List (Option ImageRegion)) (env : Environment) (fi
       by None is held = absurd cc
       by (Some t) is now = record { region = t; at = place_of told c t is; held = now }
 
-  -- how many objects there are, by the machine and by the text
-  same_count : (c : ℕ) → seen_count (option_map (λ (r : Region). r.pool) (env c)) ≡ count_of (region_in told c)
-  same_count c = by (region_in told c) (env c) (holds c)
+  -- whether there is an object, by the machine and by the text
+  same_there : (c n : ℕ) → is_held (option_map (λ (r : Region). r.pool) (env c)) n ≡ is_some (object_of told c n)
+  same_there c n = by (region_in told c) (env c) (holds c)
     where
+      one : (t : Option ImageObject) (o : Option Object) → HoldsNumber P.strings t o → is_some o ≡ is_some t
+      one None o held = rw held refl
+      one (Some t) None held = absurd held
+      one (Some t) (Some o) held = refl
+
       by : (t : Option ImageRegion) (o : Option Region) → HoldsClass P.strings t o
-          → seen_count (option_map (λ (r : Region). r.pool) o) ≡ count_of t
+          → is_held (option_map (λ (r : Region). r.pool) o) n ≡ is_some (object_with (objects_of t) n)
       by None o held = rw held refl
       by (Some t) None held = absurd held
-      by (Some t) (Some r) held = held.objects.count
+      by (Some t) (Some r) held = one (object_with t.objects n) (r.pool.at n) (held.objects.each n)
 
   module _ (d : ℕ) (own : Region) (here : env d ≡ Some own) where
-    seen : (c : ℕ) → seen_count (pool_seen env d own (Class c)) ≡ count_of (region_in told c)
-    seen c = by (tested (c == d))
+    seen : (c n : ℕ) → is_held (pool_seen env d own (Class c)) n ≡ is_some (object_of told c n)
+    seen c n = by (tested (c == d))
       where
         by : ((c == d) ≡ true) ⊎ ((c == d) ≡ false)
-            → seen_count (pool_seen env d own (Class c)) ≡ count_of (region_in told c)
+            → is_held (pool_seen env d own (Class c)) n ≡ is_some (object_of told c n)
         by (inl same) =
             let at : c ≡ d = eqb-true c d same in
             let pool : option_map (λ (r : Region). r.pool) (env c) ≡ Some own.pool =
             ap (λ (o : Option Region). option_map (λ (r : Region). r.pool) o) (ap env at ∙ here) in
-            rw same (ap seen_count (sym pool) ∙ same_count c)
-        by (inr apart) = rw apart (same_count c)
+            rw same (ap (λ (o : Option Pool). is_held o n) (sym pool) ∙ same_there c n)
+        by (inr apart) = rw apart (same_there c n)
 
     value_known : (t : ImageValue) (v : Value) → IsThere told t → HoldsValue P.strings t v
         → Knows (is_there env d own) v
@@ -381,7 +379,7 @@ module _ (P : Tables) (told : List (Option ImageRegion)) (env : Environment) (fi
     value_known (values.Long n) v there held = rw held tt
     value_known (values.Text us) v there held = rw held.is tt
     value_known (values.Object c n) v there held =
-        rw held (lt-ltb n (seen_count (pool_seen env d own (Class c))) (omega (arith, there, seen c)))
+        rw held (seen c n ∙ there)
     value_known values.Out v there held = rw held tt
 
     values_known : (ts : List ImageValue) (vs : List Value) → All (IsThere told) ts → HoldsValues P.strings ts vs
@@ -416,10 +414,86 @@ module _ (P : Tables) (told : List (Option ImageRegion)) (env : Environment) (fi
         let names = fits.names d t.region t.at in
         record {
           statics = field_known t.region.statics own.fields names.statics t.held.fields;
-          slots = λ n. slots_known (slice_get t.region.objects n) (own.pool.at n)
-              (λ x at. is_in (λ (o : ImageObject). All (IsThere told) o.slots) t.region.objects n x names.slots at)
+          slots = λ n. slots_known (object_with t.region.objects n) (own.pool.at n)
+              (λ x at. kept_is (λ (o : ImageObject). All (IsThere told) o.slots) t.region.objects n x names.slots at)
               (t.held.objects.each n);
         }
+
+  -- ---- what static fields reach
+
+  held_static : (statics : (c : ℕ) → length (statics_in P c) ≡ length (static_kinds P.family c)) (d c n : ℕ)
+      → Contains (statics_of (region_in told d)) (values.Object c n) → IsReached P env (record { class = c; number = n })
+  held_static statics d c n h = by (region_in told d) (env d) refl refl (holds d) h
+    where
+      by : (t : Option ImageRegion) (o : Option Region) → region_in told d ≡ t → env d ≡ o → HoldsClass P.strings t o
+          → Contains (statics_of t) (values.Object c n) → IsReached P env (record { class = c; number = n })
+      by None o is at held (k, lt, same) = absurd (omega (arith, lt))
+      by (Some t) None is at held has = absurd held
+      by (Some t) (Some r) is at held (k, lt, same) =
+          let value : slice_get t.statics k ≡ Some (values.Object c n) =
+          slice_get-get_or t.statics k (values.Object c n) lt ∙ ap (λ (v : ImageValue). Some v) same in
+          let field : r.fields k ≡ machine.OfClass c n =
+          subst (λ (x : Option ImageValue). HoldsField P.strings x (r.fields k)) value (held.fields k) in
+          let shape = fits.shapes d t (place_of told d t is) in
+          let long = AllZip-long Suits (static_kinds P.family d) t.statics shape.statics in
+          static d (r, at, (k, omega (arith, lt, long, statics d), field))
+
+  slot_held : (ts : List ImageValue) (vs : List Value) (c n : ℕ) → HoldsValues P.strings ts vs
+      → Contains ts (values.Object c n) → Contains vs (machine.OfClass c n)
+  slot_held [] vs c n held (k, lt, same) = absurd (omega (arith, lt))
+  slot_held (t ∷ ts) [] c n held has = absurd held
+  slot_held (t ∷ ts) (v ∷ vs) c n held (zero, lt, same) =
+      (zero, omega arith, subst (λ (x : ImageValue). HoldsValue P.strings x v) same held.0)
+  slot_held (t ∷ ts) (v ∷ vs) c n held (suc k, lt, same) =
+      let later = slot_held ts vs c n held.1 (k, omega (arith, lt), same) in
+      (suc later.0, (let low = later.1 in omega (arith, low)), later.2)
+
+  held_reached : (statics : (c : ℕ) → length (statics_in P c) ≡ length (static_kinds P.family c)) (c n : ℕ)
+      → IsToldReached told c n → IsReached P env (record { class = c; number = n })
+  held_reached statics c n (told_static d h) = held_static statics d c n h
+  held_reached statics c n (told_held {d = d} {m = m} t from at has) =
+      by (held_reached statics d m from) (region_in told d) (env d) refl refl (holds d)
+    where
+      by : IsReached P env (record { class = d; number = m }) → (q : Option ImageRegion) (o : Option Region)
+          → region_in told d ≡ q → env d ≡ o → HoldsClass P.strings q o
+          → IsReached P env (record { class = c; number = n })
+      by before None o is here held = absurd (
+        let none : None ≡ Some t = ap (λ (r : Option ImageRegion). object_with (objects_of r) m) (sym is) ∙ at in cc)
+      by before (Some q) None is here held = absurd held
+      by before (Some q) (Some r) is here held =
+          let told_one : object_with q.objects m ≡ Some t =
+          ap (λ (r : Option ImageRegion). object_with (objects_of r) m) (sym is) ∙ at in
+          let number : HoldsNumber P.strings (Some t) (r.pool.at m) =
+          subst (λ (x : Option ImageObject). HoldsNumber P.strings x (r.pool.at m)) told_one (held.objects.each m) in
+          one (r.pool.at m) refl number
+        where
+          one : (o : Option Object) → r.pool.at m ≡ o → HoldsNumber P.strings (Some t) o
+              → IsReached P env (record { class = c; number = n })
+          one None is_at number = absurd number
+          one (Some o) is_at number =
+              machine_held before (
+                o,
+                ap (λ (x : Option Region). object_among x m) here ∙ is_at,
+                slot_held t.slots o.slots c n number.slots has,
+              )
+
+  pub regions_reached : ((c : ℕ) → length (statics_in P c) ≡ length (static_kinds P.family c)) → AreReached P env
+  regions_reached statics x object at =
+      by (object_of told x.class x.number) refl (same_there x.class x.number ∙ refl)
+    where
+      there : is_some (object_of told x.class x.number) ≡ true
+      there = sym (same_there x.class x.number) ∙ of_pool (env x.class) at
+        where
+          of_pool : (o : Option Region) → object_among o x.number ≡ Some object
+              → is_held (option_map (λ (r : Region). r.pool) o) x.number ≡ true
+          of_pool None e = absurd cc
+          of_pool (Some r) e = ap is_some e
+
+      by : (t : Option ImageObject) → object_of told x.class x.number ≡ t
+          → is_held (option_map (λ (r : Region). r.pool) (env x.class)) x.number
+          ≡ is_some (object_of told x.class x.number) → IsReached P env x
+      by None e same = absurd (let clash : false ≡ true = sym (ap is_some e) ∙ there in cc)
+      by (Some t) e same = held_reached statics x.class x.number (fits.needed x.class x.number t e)
 
   pub regions_whole : AreWhole P env
   regions_whole = record {
@@ -464,9 +538,9 @@ module _ (P : Tables) (told : List (Option ImageRegion)) (env : Environment) (fi
         omega (arith, (fits.shapes c t.region t.at).count, t.held.objects.count);
     elements = λ c n r o here at.
         let t = told_of c r here in
-        let number : HoldsNumber P.strings (slice_get t.region.objects n) (Some o) =
-        subst (HoldsNumber P.strings (slice_get t.region.objects n)) at (t.held.objects.each n) in
-        let x = told_at P (slice_get t.region.objects n) o number in
+        let number : HoldsNumber P.strings (object_with t.region.objects n) (Some o) =
+        subst (HoldsNumber P.strings (object_with t.region.objects n)) at (t.held.objects.each n) in
+        let x = told_at P (object_with t.region.objects n) o number in
         few_elements x.0 o
-        (is_in (ObjectHasShape P.family) t.region.objects n x.0 (fits.shapes c t.region t.at).objects x.1) x.2;
+        (kept_is (ObjectHasShape P.family) t.region.objects n x.0 (fits.shapes c t.region t.at).objects x.1) x.2;
   }

@@ -1,33 +1,35 @@
 //! Regions that an image says, as the machine holds them.
 
-ghost use Rattle.std.specs.Prelude.{◌≡◌, ◌<◌, ◌^◌, ◌++◌, ◌∷◌, [], List, Option, length, IfOk, OnOk};
-ghost use Rattle.std.specs.List.{All};
+ghost use Rattle.std.specs.Prelude.{◌≡◌, ◌<◌, ◌^◌, ◌++◌, ◌∷◌, [], List, Option, Some, length, IfOk, OnOk};
+ghost use Rattle.std.specs.List.{All, AllZip};
 ghost use Rattle.classfile.specs.Units.{IsModifiedUtf8};
 ghost use Rattle.built_in.specs.declared.class_id.ClassId.{ClassId as Class};
 ghost use Rattle.built_in.specs.declared.class_id.ElementType.{ElementType as Element};
-ghost use Rattle.vm_state.specs.declared.object.Object.{Object};
-ghost use Rattle.vm_state.specs.SharedState.{Pool, Region as Held};
+ghost use Rattle.vm_state.specs.declared.object.Object.{Object as Held};
+ghost use Rattle.vm_state.specs.SharedState.{Pool, Region as HeldRegion};
 ghost use Rattle.semantics.specs.Quiet.{Environment};
-ghost use Rattle.vm_state.specs.Objects.{empty_row};
 ghost use Rattle.vm_state.specs.Pools.{pool_by};
 ghost use Rattle.evaluator.specs.Regions.{environment_of, region_of};
-ghost use Rattle.image_format.specs.declared.object.ImageObject.{ImageObject as ToldObject};
+ghost use Rattle.image_format.specs.declared.object.KeptObject.{KeptObject as ToldKept};
 ghost use Rattle.image_format.specs.declared.region.ImageRegion.{ImageRegion as ToldRegion};
+ghost use Rattle.image_format.specs.declared.version.Version.TheVariants.{Two};
 ghost use Rattle.image_format.specs.Names.{name_of_class};
-ghost use Rattle.image_format.specs.Shapes.{HasObjects, HasShape, ObjectHasShape};
-ghost use Rattle.image_reader.specs.steps.Held.{AddsStrings, HaveShape, HoldsClass, HoldsObject, HoldsObjects};
+ghost use Rattle.image_format.specs.Objects.{object_with};
+ghost use Rattle.image_format.specs.Shapes.{AreNumbered, HasObjects, HasShape, ObjectHasShape};
+ghost use Rattle.image_reader.specs.steps.Held.{AddsStrings, HaveShape, HoldsAt, HoldsClass, HoldsKept, HoldsObject, HoldsObjects};
 ghost use Rattle.image_reader.specs.steps.Held.{HoldsElement, HoldsRegion, HoldsRegions, HoldsType, MayHaveShape};
 
 use crate::held_values::{held_fields, held_values};
+use crate::rows::row_of;
 use built_in::class_id::{ArrayType, ClassId, ElementType};
 use classfile::ClassName;
 use evaluator::regions::{Region, Regions};
-use image_format::object::{ImageClass, ImageObject, UnknownName};
+use image_format::object::{ImageClass, KeptObject, UnknownName};
 use image_format::region::ImageRegion;
 use program::Program;
 use std::alloc::{AllocError, Global};
 use vm_state::heap::Row;
-use vm_state::object::Slots;
+use vm_state::object::{Monitor, Object, Slots};
 
 /// An element type that is neither given nor built in, by the number of its name among the program's strings.
 fn unknown_element(
@@ -74,63 +76,66 @@ fn held_type(
     }
 }
 
-/// Adds an object after those that a row has.
-fn add_object(
+/// An object with its number. Its monitor is free.
+fn held_object(
     alloc: Global,
     program: &mut Program,
-    object: &ImageObject,
-    row: &mut Row,
-) -> Result<(), AllocError>
-    requires { ObjectHasShape program.old.family object.now }
-    ensures holds { (objects : List ToldObject) → HoldsObjects program.old.strings objects (pool_by row.old)
-        → OnOk result (HoldsObjects program.new.strings (objects ++ object.now ∷ []) (pool_by row.new)) }
+    kept: &KeptObject,
+) -> Result<(u64, Object), AllocError>
+    requires { ObjectHasShape program.old.family kept.now.object }
+    ensures holds { IfOk result (HoldsKept program.new.strings kept.now) }
     ensures adds { OnOk result (AddsStrings program.old program.new) }
-    ensures same { (o : Object) → HoldsObject program.old.strings object.now o
+    ensures same { (o : Held) → HoldsObject program.old.strings kept.now.object o
         → OnOk result (program.new ≡ program.old) }
 {
-    let class = held_type(alloc, program, &object.class)?;
-    let values = held_values(alloc, program, object.slots.as_slice())?;
-    row.make(class, Slots::of_vec(values))?;
-    Ok(())
+    let class = held_type(alloc, program, &kept.object.class)?;
+    let values = held_values(alloc, program, kept.object.slots.as_slice())?;
+    let object = Object {
+        class,
+        slots: Slots::of_vec(values),
+        monitor: Monitor::Free,
+    };
+    Ok((u64::from(kept.number), object))
 }
 
-/// Objects, whose numbers are their places, put where there are none.
-fn add_objects(
+/// Objects with their numbers, put where there are none.
+fn push_objects(
     alloc: Global,
     program: &mut Program,
-    objects: &[ImageObject],
-    row: &mut Row,
+    objects: &[KeptObject],
+    held: &mut Vec<(u64, Object)>,
 ) -> Result<(), AllocError>
-    requires none { row.old ≡ empty_row }
-    requires shape { All (ObjectHasShape program.old.family) objects.now }
-    ensures holds { OnOk result (HoldsObjects program.new.strings objects.now (pool_by row.new)) }
+    requires none { held.old.items ≡ [] }
+    requires shape { All (λ (kept : ToldKept). ObjectHasShape program.old.family kept.object) objects.now }
+    requires found { All (λ (kept : ToldKept). object_with objects.now kept.number ≡ Some kept.object) objects.now }
+    ensures holds { OnOk result (AllZip (HoldsKept program.new.strings) objects.now held.new.items) }
     ensures adds { OnOk result (AddsStrings program.old program.new) }
-    ensures same { (pool : Pool) → HoldsObjects program.old.strings objects.now pool
+    ensures same { (pool : Pool) → HoldsAt program.old.strings objects.now pool
         → OnOk result (program.new ≡ program.old) }
 {
-    for object in objects {
-        add_object(alloc, program, object, row)?;
+    for kept in objects {
+        held.push(held_object(alloc, program, kept)?)?;
     }
     Ok(())
 }
 
-/// Objects, whose numbers are their places.
+/// The objects that are held, of so many that were made.
 fn held_objects(
     alloc: Global,
     program: &mut Program,
-    objects: &[ImageObject],
+    count: u32,
+    objects: &[KeptObject],
 ) -> Result<Row, AllocError>
-    requires { All (ObjectHasShape program.old.family) objects.now }
-    ensures holds { IfOk result (λ row. HoldsObjects program.new.strings objects.now (pool_by row)) }
+    requires shape { All (λ (kept : ToldKept). ObjectHasShape program.old.family kept.object) objects.now }
+    requires numbers { AreNumbered Two count 0 objects.now }
+    ensures holds { IfOk result (λ row. HoldsObjects program.new.strings count objects.now (pool_by row)) }
     ensures adds { OnOk result (AddsStrings program.old program.new) }
-    ensures same { (pool : Pool) → HoldsObjects program.old.strings objects.now pool
+    ensures same { (pool : Pool) → HoldsAt program.old.strings objects.now pool
         → OnOk result (program.new ≡ program.old) }
 {
-    let mut row = Row::new(alloc);
-    match add_objects(alloc, program, objects, &mut row) {
-        Ok(()) => Ok(row),
-        Err(error) => Err(error),
-    }
+    let mut held = Vec::with_capacity(alloc, objects.len())?;
+    push_objects(alloc, program, objects, &mut held)?;
+    Ok(row_of(u64::from(count), held))
 }
 
 /// The region of a class.
@@ -140,14 +145,14 @@ fn held_region(
     class: u32,
     region: &ImageRegion,
 ) -> Result<Region, AllocError>
-    requires { HasShape program.old.family class region.now }
+    requires { HasShape Two program.old.family class region.now }
     ensures holds { IfOk result (λ held. HoldsRegion program.new.strings region.now (region_of held)) }
     ensures adds { OnOk result (AddsStrings program.old program.new) }
-    ensures same { (r : Held) → HoldsRegion program.old.strings region.now r → OnOk result (program.new ≡ program.old) }
+    ensures same { (r : HeldRegion) → HoldsRegion program.old.strings region.now r → OnOk result (program.new ≡ program.old) }
 {
     let _classes = program.classes();
     let fields = held_fields(alloc, program, region.statics.as_slice())?;
-    let objects = held_objects(alloc, program, region.objects.as_slice())?;
+    let objects = held_objects(alloc, program, region.count, region.objects.as_slice())?;
     Ok(Region { fields, objects })
 }
 
@@ -164,7 +169,7 @@ fn add_region(
         → HoldsRegions program.old.strings lower (environment_of held.old)
         → OnOk result (HoldsRegions program.new.strings (lower ++ region.now ∷ []) (environment_of held.new)) }
     ensures adds { OnOk result (AddsStrings program.old program.new) }
-    ensures same { (r : Option Held) → HoldsClass program.old.strings region.now r
+    ensures same { (r : Option HeldRegion) → HoldsClass program.old.strings region.now r
         → OnOk result (program.new ≡ program.old) }
 {
     match region {

@@ -6,7 +6,8 @@ ghost use Rattle.program.specs.Programs.{IsProgram};
 ghost use Rattle.semantics.specs.Quiet.{Environment};
 ghost use Rattle.evaluator.specs.Regions.{environment_of};
 ghost use Rattle.image_format.specs.declared.region.ImageRegion.{ImageRegion as Told};
-ghost use Rattle.image_format.specs.Images.{AreRegions, ImageText};
+ghost use Rattle.image_format.specs.declared.version.Version.TheVariants.{Two};
+ghost use Rattle.image_format.specs.Images.{AreRegions, ImageText, SomeText};
 ghost use Rattle.image_parser.specs.declared.image_fault.ImageFault.{ImageFault as Fault};
 ghost use Rattle.image_parser.specs.declared.image_fault.ImageFault.TheVariants.{Memory};
 ghost use Rattle.image_parser.specs.ImageFaults.{Answers, ImageFails};
@@ -17,27 +18,29 @@ ghost use Rattle.image_reader.specs.steps.Held.{HoldsRegions};
 
 use crate::held_regions::held_regions;
 use image_parser::{ImageFault, Parsed, parse};
+use object_graph::laws::nothing_left_out;
 use object_graph::{Image, gather};
 use std::alloc::{AllocError, Global};
 
-/// Reads an image of version 1: the program of its class files, with the strings that its classes hold, and what its
-/// classes that are initialized hold.
+/// Reads an image of version 2, or of version 1 without the objects that no static field reaches: the program of its
+/// class files, with the strings that its classes hold, and what its classes that are initialized hold.
 ///
 /// # Errors
 /// What is wrong first, from the frame inward and then from front to back; `Memory` where memory runs out.
 pub fn read(alloc: Global, bytes: &[u8]) -> Result<Image, ImageFault>
-    // What is accepted is the text of the image that is answered.
-    ensures text { IfOk result (λ image. ImageText bytes.now image.program.family (told_of image)) }
-    // Every text of an image is accepted as that image, unless memory runs out.
-    ensures only_text { (family : Classes) (regions : List (Option Told)) → ImageText bytes.now family regions
+    // What is accepted is a text, of either version, of the image that is answered.
+    ensures text { IfOk result (λ image. SomeText bytes.now image.program.family (told_of image)) }
+    // Every text of an image, of either version, is accepted as that image, unless memory runs out.
+    ensures only_text { (family : Classes) (regions : List (Option Told)) → SomeText bytes.now family regions
         → MatchResult result (λ image. (image.program.family ≡ family) × (told_of image ≡ regions))
         (λ x. x ≡ Memory) }
     // What is written of an image is read back as that image, unless memory runs out.
     ensures written { (I : ImageTables) → ImageText (text_of I) I.program.family (told_of I) → bytes.now ≡ text_of I
         → MatchResult result (λ image. (image.program.family ≡ I.program.family) × (told_of image ≡ told_of I))
         (λ x. x ≡ Memory) }
-    // A text of an image of a linked program, with no strings but its class files', is read as that image.
-    ensures same { (I : ImageTables) → IsOfOwnStrings I → ImageText bytes.now I.program.family (told_of I)
+    // A text, of either version, of an image of a linked program, with no strings but its class files', is read as that
+    // image.
+    ensures same { (I : ImageTables) → IsOfOwnStrings I → SomeText bytes.now I.program.family (told_of I)
         → IfOk result (λ image. IsSameImage I image) }
     // What is refused is refused for what is wrong first, or because memory runs out.
     ensures fault { IfErr result (λ x. (x ≡ Memory) ⊎ ImageFails bytes.now x) }
@@ -55,7 +58,7 @@ pub fn read(alloc: Global, bytes: &[u8]) -> Result<Image, ImageFault>
 
 /// The image that a text says.
 fn image_of(alloc: Global, parsed: Parsed) -> Result<Image, AllocError>
-    requires { AreRegions parsed.program.family parsed.regions }
+    requires { AreRegions Two parsed.program.family parsed.regions }
     ensures family { IfOk result (λ image. image.program.family ≡ parsed.program.family) }
     ensures told { IfOk result (λ image. told_of image ≡ parsed.regions) }
     ensures program { IfOk result (λ image. IsProgram image.program) }
@@ -72,5 +75,7 @@ fn image_of(alloc: Global, parsed: Parsed) -> Result<Image, AllocError>
     let _linked = program.classes();
     let held = held_regions(alloc, &mut program, regions.as_slice())?;
     let _classes = program.classes();
-    gather(program, held)
+    nothing_left_out();
+    let image = gather(alloc, program, held)?;
+    Ok(image)
 }

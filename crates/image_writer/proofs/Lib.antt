@@ -4,4 +4,5 @@ pub mod SizesLemmas
 pub mod ProgramsLemmas
 pub mod LinksLemmas
 pub mod SuitsLemmas
+pub mod ReachedLemmas
 pub mod RegionsLemmas

@@ -1,6 +1,6 @@
 -- What an image's text tells of whole regions are regions of an image.
 use Rattle.std.proofs.Common.{◌≡◌, ◌∙◌, ◌⊎◌, inl, inr, ℕ, zero, suc, ◌+◌, ◌<◌, ◌≤◌, ◌==◌, true, false}
-use Rattle.std.proofs.Common.{List, [], ◌∷◌, ◌++◌, length, map, Option, Some, None, slice_get, option_map}
+use Rattle.std.proofs.Common.{List, [], ◌∷◌, ◌++◌, length, map, Option, Some, None, is_some, slice_get, option_map}
 use Rattle.std.proofs.Common.{refl, sym, ap, subst, arith, eqb-true}
 use Rattle.std.specs.List.{All, AllZip, flat_map, range_with_len}
 use Rattle.std.proofs.lemmas.Bool.{cases_lt, ltb-true}
@@ -24,35 +24,28 @@ use Rattle.semantics.specs.Quiet.{Environment, pool_seen}
 use Rattle.program.specs.declared.runtime_constant.FieldKind.{FieldKind}
 use Rattle.program.specs.InstanceFields.{static_kinds}
 use Rattle.program.specs.Tables.{Tables, statics_in}
-use Rattle.region_shape.specs.Counts.{count_of as seen_count, is_there}
+use Rattle.region_shape.specs.Counts.{is_held, is_there}
 use Rattle.region_shape.specs.Shapes.{SuitsField}
 use Rattle.region_shape.specs.Wholes.{AreWhole}
+use Rattle.object_graph.specs.Cuts.{AreReached}
 use Rattle.object_graph.specs.Images.{AreSmall}
-use Rattle.image_format.specs.declared.object.ImageObject.{ImageObject}
+use Rattle.object_graph.specs.Reached.{object_among}
+use Rattle.image_format.specs.declared.object.KeptObject.{KeptObject}
 use Rattle.image_format.specs.declared.region.ImageRegion.{ImageRegion}
 use Rattle.image_format.specs.Images.{AreRegions, AreClassFiles, AreShort, ImageText, files_of}
-use Rattle.image_format.specs.Images.{IsThere, NamesObjects, count_of, region_in}
+use Rattle.image_format.specs.Images.{IsThere, NamesObjects}
+use Rattle.image_format.specs.Objects.{region_in, objects_of, object_with, object_of}
+use Rattle.image_format.specs.declared.version.Version.TheVariants as versions
 use Rattle.image_format.specs.Shapes.{HasShape, ObjectHasShape, Suits}
-use Rattle.image_format.specs.Told.{told_value, told_object, told_if, told_region, told_regions}
+use Rattle.image_format.specs.Told.{told_value, told_object, told_region, told_regions}
 use Rattle.image_format.specs.Texts.{image_text}
 use Rattle.image_writer.specs.steps.Fits.{ClassFits}
 use Rattle.image_writer.specs.steps.Sizes.{HasFiles}
 use Rattle.image_writer.proofs.ProgramsLemmas.{class_count, static_count}
-use Rattle.image_writer.proofs.SizesLemmas.{region_sized, told_count}
+use Rattle.image_writer.proofs.SizesLemmas.{region_sized}
+use Rattle.image_format.proofs.RowsLemmas.{numbered_told, all_told, told_at}
+use Rattle.image_writer.proofs.ReachedLemmas.{told_reached}
 use Rattle.image_writer.proofs.SuitsLemmas.{fields_suit, object_told, value_suits}
-
--- what holds of what is told of each object that is held holds of all that is told
-all_told : (S : List (List ℕ)) (Q : ImageObject → Type 0) (at : ℕ → Option Object) (ns : List ℕ)
-    → ((n : ℕ) (o : Object) → at n ≡ Some o → Q (told_object S o)) → All Q (flat_map (told_if S) (map at ns))
-all_told S Q at [] each = All-nil Q
-all_told S Q at (n ∷ ns) each =
-    All-same Q (flat_map (told_if S) (map at (n ∷ ns))) (told_if S (at n) ++ flat_map (told_if S) (map at ns))
-    (flat_map-cons (told_if S) (at n) (map at ns))
-    (All-append Q (told_if S (at n)) (flat_map (told_if S) (map at ns)) (one (at n) refl) (all_told S Q at ns each))
-  where
-    one : (o : Option Object) → at n ≡ o → All Q (told_if S o)
-    one None is = All-nil Q
-    one (Some o) is = All-cons Q (told_object S o) [] (each n o is) (All-nil Q)
 
 module _ (P : Tables) (env : Environment) (has : HasFiles P) (whole : AreWhole P env) (small : AreSmall P env)
     (fits : (c : ℕ) → c < length P.family → ClassFits P env c) where
@@ -70,27 +63,33 @@ module _ (P : Tables) (env : Environment) (has : HasFiles P) (whole : AreWhole P
       let start : 0 + c ≡ c = omega arith in
       get_or-map-range_with_len (λ k. option_map (told_region P k) (env k)) 0 (length P.family) c c None low start
 
-  -- ---- how many objects there are, by the machine and by the text
+  -- ---- objects, by the machine and by the text
 
-  all_told_count : (c : ℕ) (r : Region) → env c ≡ Some r → length (told_region P c r).objects ≡ r.pool.count
-  all_told_count c r here = told_count P.strings r.pool.at r.pool.count (whole.shape c r here).held
-
-  same_count : (c : ℕ) → count_of (region_in told c) ≡ seen_count (option_map (λ (r : Region). r.pool) (env c))
-  same_count c = elim (cases_lt c (length P.family)) [
-    | inl low ↦ ap count_of (told_of_class c low) ∙ within (env c) refl
-    | inr high ↦
-        ap count_of (get_or_past told c None (omega (arith, high, count))) ∙ past (env c) refl high
+  told_object_of : (c n : ℕ) → object_of told c n ≡ option_map (told_object P.strings) (object_among (env c) n)
+  told_object_of c n = elim (cases_lt c (length P.family)) [
+    | inl low ↦ ap (λ (o : Option ImageRegion). object_with (objects_of o) n) (told_of_class c low)
+        ∙ within (env c) refl
+    | inr high ↦ ap (λ (o : Option ImageRegion). object_with (objects_of o) n)
+        (get_or_past told c None (omega (arith, high, count))) ∙ past (env c) refl high
   ]
     where
       within : (o : Option Region) → env c ≡ o
-          → count_of (option_map (told_region P c) o) ≡ seen_count (option_map (λ (r : Region). r.pool) o)
+          → object_with (objects_of (option_map (told_region P c) o)) n
+          ≡ option_map (told_object P.strings) (object_among o n)
       within None is = refl
-      within (Some r) is = all_told_count c r is
+      within (Some r) is = told_at P.strings r.pool n (whole.shape c r is).no_more
 
       past : (o : Option Region) → env c ≡ o → length P.family ≤ c
-          → 0 ≡ seen_count (option_map (λ (r : Region). r.pool) o)
+          → None ≡ option_map (told_object P.strings) (object_among o n)
       past None is high = refl
       past (Some r) is high = absurd (omega (arith, high, small.classes c r is, classes))
+
+  pub told_some : (c n : ℕ) → is_some (object_of told c n) ≡ is_some (object_among (env c) n)
+  told_some c n = ap is_some (told_object_of c n) ∙ same (object_among (env c) n)
+    where
+      same : (o : Option Object) → is_some (option_map (told_object P.strings) o) ≡ is_some o
+      same None = refl
+      same (Some o) = refl
 
   module _ (c : ℕ) (r : Region) (here : env c ≡ Some r) where
     low : c < length P.family
@@ -119,42 +118,41 @@ module _ (P : Tables) (env : Environment) (has : HasFiles P) (whole : AreWhole P
         let start : k ≡ 0 + k = omega arith in
         subst (λ (m : ℕ). Suits kind (told_value P.strings (r.fields m))) start (field_suits k kind at)))
 
-    number_low : (n : ℕ) (o : Object) → r.pool.at n ≡ Some o → n < r.pool.count
-    number_low n o at = elim (cases_lt n r.pool.count) [
-      | inl less ↦ less
-      | inr past ↦ absurd (let none = (whole.shape c r here).no_more n past in cc)
-    ]
-
     one_told : (n : ℕ) (o : Object) → r.pool.at n ≡ Some o → ObjectHasShape P.family (told_object P.strings o)
     one_told n o at =
         object_told P has o ((whole.shape c r here).objects n o at)
-        ((fits c low r here).slots n o (number_low n o at) at)
+        ((fits c low r here).slots n o at)
         ((region_sized P env has whole small c r here).objects n o at).slots (small.elements c n r o here at)
 
-    shape_told : HasShape P.family c (told_region P c r)
+    shape_told : HasShape versions.Two P.family c (told_region P c r)
     shape_told = record {
-      count = omega (arith, all_told_count c r here, small.objects c r here);
+      count = small.objects c r here;
       statics = statics_suit;
-      objects = all_told P.strings (ObjectHasShape P.family) r.pool.at (range_with_len 0 r.pool.count) one_told;
+      many = tt;
+      numbers = numbered_told P.strings r.pool.at 0 r.pool.count r.pool.count (omega arith);
+      objects = all_told P.strings r.pool.at (λ (kept : KeptObject). ObjectHasShape P.family kept.object) 0 r.pool.count
+          one_told;
     }
 
     -- ---- names
 
-    seen : (d : ℕ) → count_of (region_in told d) ≡ seen_count (pool_seen env c r (Class d))
-    seen d = by (tested (d == c))
+    seen : (d n : ℕ) → is_some (object_of told d n) ≡ is_held (pool_seen env c r (Class d)) n
+    seen d n = told_some d n ∙ by (tested (d == c))
       where
         by : ((d == c) ≡ true) ⊎ ((d == c) ≡ false)
-            → count_of (region_in told d) ≡ seen_count (pool_seen env c r (Class d))
+            → is_some (object_among (env d) n) ≡ is_held (pool_seen env c r (Class d)) n
         by (inl same) =
             let at : d ≡ c = eqb-true d c same in
-            let pool : option_map (λ (x : Region). x.pool) (env d) ≡ Some r.pool =
-            ap (λ (o : Option Region). option_map (λ (x : Region). x.pool) o) (ap env at ∙ here) in
-            rw same (same_count d ∙ ap seen_count pool)
-        by (inr apart) = rw apart (same_count d)
+            rw same (ap (λ (o : Option Region). is_some (object_among o n)) (ap env at ∙ here))
+        by (inr other) = rw other (of_pool (env d))
+          where
+            of_pool : (o : Option Region)
+                → is_some (object_among o n) ≡ is_held (option_map (λ (x : Region). x.pool) o) n
+            of_pool None = refl
+            of_pool (Some x) = refl
 
     value_there : (v : Value) → Knows (is_there env c r) v → IsThere told (told_value P.strings v)
-    value_there (machine.OfClass d n) known =
-        let less = ltb-true n (seen_count (pool_seen env c r (Class d))) known in omega (arith, less, seen d)
+    value_there (machine.OfClass d n) known = seen d n ∙ known
     value_there v known = tt
 
     values_there : (vs : List Value) → KnowsAll (is_there env c r) vs
@@ -182,7 +180,7 @@ module _ (P : Tables) (env : Environment) (has : HasFiles P) (whole : AreWhole P
     names_told = record {
       statics = statics_there (range_with_len 0 (length (statics_in P c)));
       slots =
-          all_told P.strings (λ (o : ImageObject). All (IsThere told) o.slots) r.pool.at (range_with_len 0 r.pool.count)
+          all_told P.strings r.pool.at (λ (kept : KeptObject). All (IsThere told) kept.object.slots) 0 r.pool.count
           slots_there;
     }
 
@@ -202,15 +200,16 @@ module _ (P : Tables) (env : Environment) (has : HasFiles P) (whole : AreWhole P
       by None is same = absurd cc
       by (Some r) is same = record { region = r; here = is; is = same_Some (told_region P c r) t same }
 
-  pub regions_are : AreRegions P.family told
-  regions_are = record {
+  pub regions_are : AreReached P env → AreRegions versions.Two P.family told
+  regions_are reached = record {
     count = count;
     shapes = λ c t at.
         let held = held_of c t at in
-        subst (HasShape P.family c) held.is (shape_told c held.region held.here);
+        subst (HasShape versions.Two P.family c) held.is (shape_told c held.region held.here);
     names = λ c t at.
         let held = held_of c t at in
         subst (NamesObjects told) held.is (names_told c held.region held.here);
+    needed = told_reached P env told told_of_class told_object_of count reached small.classes classes;
   }
 
 -- ---- the text
@@ -224,13 +223,13 @@ class_files (given ∷ family) files =
     (class_files family (λ c g at. files (suc c) g at))
 
 pub is_text : (P : Tables) (env : Environment) → HasFiles P → IsFamily P.family → AreWhole P env → AreSmall P env
-    → ((c : ℕ) → c < length P.family → ClassFits P env c) → AreShort P.family → Links (files_of P.family)
-    → ImageText (image_text P.family (told_regions P env)) P.family (told_regions P env)
-is_text P env has family whole small fits short links = record {
+    → AreReached P env → ((c : ℕ) → c < length P.family → ClassFits P env c) → AreShort P.family → Links (files_of P.family)
+    → ImageText (image_text versions.Two P.family (told_regions P env)) P.family (told_regions P env)
+is_text P env has family whole small reached fits short links = record {
   classes = family;
   files = class_files P.family (λ c given at. has.files c given.file (ap file_of at));
   links = links;
   short = short;
-  fits = regions_are P env has whole small fits;
+  fits = regions_are P env has whole small fits reached;
   spelled = refl;
 }

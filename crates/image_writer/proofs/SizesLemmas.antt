@@ -1,11 +1,11 @@
 -- The parts of an image have sizes that fit.
-use Rattle.std.proofs.Common.{◌≡◌, ℕ, zero, suc, ◌+◌, ◌<◌, ◌^◌, ◌==◌, true, inl, inr}
+use Rattle.std.proofs.Common.{◌≡◌, ◌∙◌, ℕ, zero, suc, ◌+◌, ◌<◌, ◌^◌, ◌==◌, true, false, inl, inr}
 use Rattle.std.proofs.Common.{ltb, leb}
 use Rattle.std.proofs.Common.{List, [], ◌∷◌, ◌++◌, length, map, replicate, Option, Some, None, is_some, option_map}
 use Rattle.std.proofs.Common.{get_or, slice_get, unwrap_or}
 use Rattle.std.proofs.Common.{refl, sym, ap, subst, arith, length-append}
 use Rattle.std.specs.List.{flat_map, range_with_len}
-use Rattle.std.proofs.lemmas.Bool.{and_parts, ltb-true, leb-true}
+use Rattle.std.proofs.lemmas.Bool.{cases_lt, and_parts, ltb-true, leb-true}
 use Rattle.std.proofs.lemmas.List.{length-replicate}
 use Rattle.std.proofs.lemmas.Option.{get_or_from_slice_get}
 use Rattle.std.proofs.lemmas.List.Concat.{flat_map-append}
@@ -33,12 +33,12 @@ use Rattle.semantics.specs.Lawful.{Knows, KnowsAll, KnowsSlots}
 use Rattle.semantics.specs.Quiet.{Environment, pool_seen}
 use Rattle.program.specs.Arrays.{is_name}
 use Rattle.program.specs.Tables.{Tables}
-use Rattle.region_shape.specs.Counts.{count_of, is_there}
+use Rattle.region_shape.specs.Counts.{is_held, is_there}
 use Rattle.region_shape.specs.Shapes.{HasObjects}
 use Rattle.region_shape.specs.Wholes.{AreWhole}
 use Rattle.object_graph.specs.Images.{AreSmall}
 use Rattle.image_format.specs.Names.{class_name, name_of_class}
-use Rattle.image_format.specs.Told.{told_array, told_class, told_if}
+use Rattle.image_format.specs.Told.{told_array, told_class}
 use Rattle.image_writer.specs.steps.Sizes.{HasFiles, IsSizedValue, IsSizedObject, IsSizedRegion}
 use Rattle.image_format.proofs.NamesLemmas.{name_fits}
 
@@ -102,19 +102,26 @@ module _ (P : Tables) (has : HasFiles P) where
 
 module _ (P : Tables) (env : Environment) (has : HasFiles P) (whole : AreWhole P env) (small : AreSmall P env) (c : ℕ)
     (region : Region) (here : env c ≡ Some region) where
-  few : (d : ℕ) → count_of (pool_seen env c region (Class d)) < 2 ^ 32
-  few d = elim (tested (d == c)) [
-    | inl e ↦ rw e (small.objects c region here)
+  held_few : (d n : ℕ) (r : Region) → env d ≡ Some r → is_some (r.pool.at n) ≡ true → n < 2 ^ 32
+  held_few d n r at held = elim (cases_lt n r.pool.count) [
+    | inl less ↦ omega (arith, less, small.objects d r at)
+    | inr high ↦
+        let none = ap is_some ((whole.shape d r at).no_more n high) in
+        absurd (let clash : true ≡ false = sym held ∙ none in cc)
+  ]
+
+  few : (d n : ℕ) → is_held (pool_seen env c region (Class d)) n ≡ true → n < 2 ^ 32
+  few d n = elim (tested (d == c)) [
+    | inl e ↦ rw e (λ held. held_few c n region here held)
     | inr e ↦ rw e (by (env d) refl)
   ]
     where
-      by : (o : Option Region) → env d ≡ o → count_of (option_map (λ (r : Region). r.pool) o) < 2 ^ 32
-      by None at = omega arith
-      by (Some r) at = small.objects d r at
+      by : (o : Option Region) → env d ≡ o → is_held (option_map (λ (r : Region). r.pool) o) n ≡ true → n < 2 ^ 32
+      by None at held = absurd cc
+      by (Some r) at held = held_few d n r at held
 
   value_sized : (v : Value) → Knows (is_there env c region) v → IsSizedValue v
-  value_sized (values.OfClass d n) known =
-      let less = ltb-true n (count_of (pool_seen env c region (Class d))) known in omega (arith, less, few d)
+  value_sized (values.OfClass d n) known = few d n known
   value_sized other known = tt
 
   object_sized : (n : ℕ) (object : Object) → region.pool.at n ≡ Some object → IsSizedObject P object
@@ -136,30 +143,4 @@ module _ (P : Tables) (env : Environment) (has : HasFiles P) (whole : AreWhole P
   region_sized = record {
     statics = λ k. value_sized (region.fields k) ((whole.closed c region here).statics k);
     objects = object_sized;
-    held = (whole.shape c region here).held;
   }
-
--- ---- how many objects are told
-
-one_held : (strings : List (List ℕ)) (o : Option Object) → is_some o ≡ true → length (told_if strings o) ≡ 1
-one_held strings None held = absurd cc
-one_held strings (Some object) held = refl
-
-pub told_count : (strings : List (List ℕ)) (at : ℕ → Option Object) (n : ℕ)
-    → ((k : ℕ) → k < n → is_some (at k) ≡ true)
-    → length (flat_map (told_if strings) (map at (range_with_len 0 n))) ≡ n
-told_count strings at zero held = refl
-told_count strings at (suc n) held =
-    let next : n + 1 ≡ suc n = omega arith in
-    let more : map at (range_with_len 0 (suc n)) ≡ map at (range_with_len 0 n) ++ at n ∷ [] =
-    subst (λ m. map at (range_with_len 0 m) ≡ map at (range_with_len 0 n) ++ at n ∷ []) next
-    (map-range_with_len_more at 0 n n (omega arith)) in
-    omega (
-      arith,
-      ap (λ (os : List (Option Object)). length (flat_map (told_if strings) os)) more,
-      ap length (flat_map-append (told_if strings) (map at (range_with_len 0 n)) (at n ∷ [])),
-      length-append (flat_map (told_if strings) (map at (range_with_len 0 n))) (told_if strings (at n) ++ []),
-      length-append (told_if strings (at n)) [],
-      one_held strings (at n) (held n (omega arith)),
-      told_count strings at n (λ k low. held k (omega (arith, low))),
-    )

@@ -3,6 +3,7 @@ use Rattle.std.specs.Prelude.{ℕ, List, Option}
 use Rattle.evaluator.specs.Regions.{environment_of}
 use Rattle.object_graph.specs.Images.{ImageTables}
 use Rattle.image_format.specs.declared.region.ImageRegion.{ImageRegion}
+use Rattle.image_format.specs.declared.version.Version.TheVariants as versions
 use Rattle.image_format.specs.Texts.{image_text}
 use Rattle.image_format.specs.Told.{told_regions}
 
@@ -12,4 +13,4 @@ told_of I = told_regions I.program (environment_of I.regions)
 
 -- the text of its class files and of what it tells of its regions
 abbrev pub text_of : ImageTables → List ℕ
-text_of I = image_text I.program.family (told_of I)
+text_of I = image_text versions.Two I.program.family (told_of I)

@@ -1,17 +1,17 @@
 //! Numbers in an image fit their types: what the types of its values say, which the definition of regions leaves out.
 //! The first two functions do nothing; the others go over what there is.
 
-ghost use Rattle.std.specs.Prelude.{◌≡◌, ℕ, ◌<◌, Some, length};
+ghost use Rattle.std.specs.Prelude.{ℕ, ◌<◌, length};
 ghost use Rattle.std.specs.List.{All};
 ghost use Rattle.vm_state.specs.declared.object.Object.{Object as Held};
-ghost use Rattle.vm_state.specs.Pools.{pool_by};
 ghost use Rattle.vm_state.specs.Statics.{field_in};
 ghost use Rattle.evaluator.specs.Regions.{environment_of};
 ghost use Rattle.image_writer.specs.steps.Fits.{ClassFits, FitsType};
 
+use crate::rows::objects_of;
 use object_graph::Image;
 use vm_state::classes::Fields;
-use vm_state::heap::Row;
+use vm_state::object::Object;
 use vm_state::value::Value;
 
 /// A value's number fits.
@@ -39,22 +39,12 @@ fn fields_fit(fields: &Fields, count: u32)
     }
 }
 
-/// Those in the object of a number, if it is held.
-fn object_fits(objects: &Row, number: u32)
-    ensures { (object : Held) → (pool_by objects.now).at number ≡ Some object → All FitsType object.slots }
+/// Those in objects.
+fn objects_fit(objects: &[(u64, Object)])
+    ensures { All (λ (o : ℕ × Held). All FitsType o.1.slots) objects.now }
 {
-    if let Some(object) = objects.object(u64::from(number)) {
-        values_fit(object.slots.as_slice());
-    }
-}
-
-/// Those in the objects below a number.
-fn objects_fit(objects: &Row, count: u32)
-    ensures { (n : ℕ) (object : Held) → n < count → (pool_by objects.now).at n ≡ Some object
-        → All FitsType object.slots }
-{
-    for number in 0..count {
-        object_fits(objects, number);
+    for held in objects {
+        values_fit(held.1.slots.as_slice());
     }
 }
 
@@ -64,7 +54,7 @@ fn class_fits(image: &Image, class: u32)
 {
     if let Some(region) = image.region(class) {
         fields_fit(&region.fields, image.static_count(class));
-        objects_fit(&region.objects, image.object_count(class));
+        objects_fit(objects_of(&region.objects));
     }
 }
 

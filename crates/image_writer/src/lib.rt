@@ -5,6 +5,7 @@ mod files;
 mod fitting;
 mod numbers;
 mod objects;
+mod rows;
 mod sending;
 mod text;
 mod values;

@@ -1,21 +1,20 @@
 //! Objects and regions.
 
-ghost use Rattle.std.specs.Prelude.{◌≡◌, ℕ, ◌++◌, ◌<◌, ◌^◌, length, map, replicate, Some, option_map, IfOk, OnOk};
+ghost use Rattle.std.specs.Prelude.{◌≡◌, ℕ, ◌++◌, ◌<◌, ◌^◌, length, map, replicate, option_map, IfOk, OnOk};
 ghost use Rattle.std.specs.List.{flat_map, All};
-ghost use Rattle.classfile.specs.Spelling.{u4};
 ghost use Rattle.vm_state.specs.declared.object.Object.{Object as Held};
-ghost use Rattle.vm_state.specs.Pools.{pool_by};
-ghost use Rattle.program.specs.Tables.{statics_in};
 ghost use Rattle.evaluator.specs.Regions.{region_of, environment_of};
 ghost use Rattle.loading.specs.ClassIds.{object_type};
+ghost use Rattle.image_format.specs.declared.version.Version.TheVariants.{Two};
 ghost use Rattle.image_format.specs.Names.{name_of_class};
-ghost use Rattle.image_format.specs.Texts.{instance_text, array_text, object_text, value_text, region_text, mark_text};
-ghost use Rattle.image_format.specs.Told.{told_value, told_array, told_class, told_object, told_if, told_objects};
+ghost use Rattle.image_format.specs.Texts.{instance_text, array_text, object_text, kept_text, region_text, mark_text};
+ghost use Rattle.image_format.specs.Told.{told_value, told_array, told_class, told_object, told_kept};
 ghost use Rattle.image_format.specs.Told.{told_region, told_regions};
 ghost use Rattle.image_writer.specs.steps.Sizes.{HasFiles, IsSizedValue, IsSizedObject, IsSizedRegion};
 
 use crate::files::has_files;
 use crate::numbers::{push_named, push_u8, push_u32};
+use crate::rows::{count_of, objects_of};
 use crate::values::{push_elements, push_fields, push_values, string_of};
 use built_in::class_id::{ArrayType, ClassId, ElementType};
 use evaluator::regions::Region;
@@ -25,7 +24,6 @@ use object_graph::Image;
 use program::Program;
 use program::runtime_constant::FieldKind;
 use std::alloc::{AllocError, Global};
-use vm_state::heap::Row;
 use vm_state::object::Object;
 use vm_state::value::Value;
 
@@ -127,48 +125,44 @@ fn push_object(
     }
 }
 
-/// The object of a number, if it is held.
-fn push_if_held(
+/// The number of an object, and the object.
+fn push_kept(
     alloc: Global,
     out: &mut Vec<u8>,
     program: &Program,
-    objects: &Row,
     number: u32,
+    object: &Object,
 ) -> Result<(), AllocError>
     requires files { HasFiles program.now }
-    requires sized { (object : Held) → (pool_by objects.now).at number ≡ Some object
-        → IsSizedObject program.now object }
-    ensures { OnOk result (out.new.items ≡ out.old.items ++ flat_map (object_text program.now.family)
-        (told_if program.now.strings ((pool_by objects.now).at number))) }
+    requires sized { IsSizedObject program.now object.now }
+    ensures { OnOk result (out.new.items
+        ≡ out.old.items ++ kept_text Two program.now.family (told_kept program.now.strings (number, object.now))) }
 {
-    match objects.object(u64::from(number)) {
-        Some(object) => push_object(alloc, out, program, object),
-        None => Ok(()),
-    }
+    push_u32(out, number)?;
+    push_object(alloc, out, program, object)
 }
 
-/// The objects of a region, of which there are so many.
+/// Objects with their numbers.
 fn push_objects(
     alloc: Global,
     out: &mut Vec<u8>,
     program: &Program,
-    objects: &Row,
-    count: u32,
+    objects: &[(u64, Object)],
 ) -> Result<(), AllocError>
     requires files { HasFiles program.now }
-    requires sized { (n : ℕ) (object : Held) → (pool_by objects.now).at n ≡ Some object
-        → IsSizedObject program.now object }
-    requires count { count ≡ (pool_by objects.now).count }
-    ensures { OnOk result (out.new.items ≡ out.old.items ++ flat_map (object_text program.now.family)
-        (told_objects program.now.strings (pool_by objects.now))) }
+    requires sized { All (λ (o : ℕ × Held). IsSizedObject program.now o.1) objects.now }
+    requires numbers { All (λ (o : ℕ × Held). o.0 < 2 ^ 32) objects.now }
+    ensures { OnOk result (out.new.items ≡ out.old.items
+        ++ flat_map (kept_text Two program.now.family) (map (told_kept program.now.strings) objects.now)) }
 {
-    for number in 0..count {
-        push_if_held(alloc, out, program, objects, number)?;
+    for held in objects {
+        let number = held.0 as u32;
+        push_kept(alloc, out, program, number, &held.1)?;
     }
     Ok(())
 }
 
-/// A region: the count of its objects, its statics, its objects.
+/// A region: the count of the objects that were made, its statics, how many objects are held, and these.
 fn push_region(
     alloc: Global,
     out: &mut Vec<u8>,
@@ -178,13 +172,14 @@ fn push_region(
 ) -> Result<(), AllocError>
     requires files { HasFiles image.now.program }
     requires sized { IsSizedRegion image.now.program (region_of region.now) }
-    requires held { environment_of image.now.regions class ≡ Some (region_of region.now) }
-    ensures { OnOk result (out.new.items ≡ out.old.items ++ region_text image.now.program.family
+    requires few { (region_of region.now).pool.count < 2 ^ 32 }
+    ensures { OnOk result (out.new.items ≡ out.old.items ++ region_text Two image.now.program.family
         (told_region image.now.program class (region_of region.now))) }
 {
     let program = image.program();
-    let count = image.object_count(class);
-    push_u32(out, count)?;
+    let objects = objects_of(&region.objects);
+    let made = count_of(&region.objects) as u32;
+    push_u32(out, made)?;
     push_fields(
         alloc,
         out,
@@ -192,13 +187,15 @@ fn push_region(
         &region.fields,
         image.static_count(class),
     )?;
-    push_objects(alloc, out, program, &region.objects, count)
+    let kept = objects.len() as u32;
+    push_u32(out, kept)?;
+    push_objects(alloc, out, program, objects)
 }
 
 /// The mark of a class: 1 and its region where it is initialized, and else 0.
 fn push_mark(alloc: Global, out: &mut Vec<u8>, image: &Image, class: u32) -> Result<(), AllocError>
     requires { HasFiles image.now.program }
-    ensures { OnOk result (out.new.items ≡ out.old.items ++ mark_text image.now.program.family
+    ensures { OnOk result (out.new.items ≡ out.old.items ++ mark_text Two image.now.program.family
         (option_map (told_region image.now.program class) (environment_of image.now.regions class))) }
 {
     match image.region(class) {
@@ -219,7 +216,7 @@ fn push_marks_below(
 ) -> Result<(), AllocError>
     requires files { HasFiles image.now.program }
     requires count { count ≡ length image.now.program.family }
-    ensures { OnOk result (out.new.items ≡ out.old.items ++ flat_map (mark_text image.now.program.family)
+    ensures { OnOk result (out.new.items ≡ out.old.items ++ flat_map (mark_text Two image.now.program.family)
         (told_regions image.now.program (environment_of image.now.regions))) }
 {
     for class in 0..count {
@@ -230,7 +227,7 @@ fn push_marks_below(
 
 /// The marks and regions of all classes.
 pub(crate) fn push_marks(alloc: Global, out: &mut Vec<u8>, image: &Image) -> Result<(), AllocError>
-    ensures { OnOk result (out.new.items ≡ out.old.items ++ flat_map (mark_text image.now.program.family)
+    ensures { OnOk result (out.new.items ≡ out.old.items ++ flat_map (mark_text Two image.now.program.family)
         (told_regions image.now.program (environment_of image.now.regions))) }
 {
     has_files(image.program());

@@ -6,6 +6,7 @@ ghost use Rattle.sha2.specs.Sha256.{sha256};
 ghost use Rattle.classfile.specs.Spelling.{u2, u4};
 ghost use Rattle.classfile.specs.Text.{class_text};
 ghost use Rattle.evaluator.specs.Regions.{environment_of};
+ghost use Rattle.image_format.specs.declared.version.Version.TheVariants.{Two};
 ghost use Rattle.image_format.specs.Texts.{given_text, body_text, file_text};
 ghost use Rattle.loading.specs.Files.{Links};
 ghost use Rattle.image_format.specs.Images.{AreShort, ImageText, files_of};
@@ -51,10 +52,10 @@ fn push_files(out: &mut Vec<u8>, classes: &[GivenClass]) -> Result<(), AllocErro
 
 /// `JPIM`, the version, and the count of classes.
 fn push_header(out: &mut Vec<u8>, count: u32) -> Result<(), AllocError>
-    ensures { OnOk result (out.new.items ≡ out.old.items ++ (u4 1246775629 ++ (u2 1 ++ u4 count))) }
+    ensures { OnOk result (out.new.items ≡ out.old.items ++ (u4 1246775629 ++ (u2 2 ++ u4 count))) }
 {
     push_u32(out, 0x4A50_494D)?;
-    push_u16(out, 1)?;
+    push_u16(out, 2)?;
     push_u32(out, count)
 }
 
@@ -77,7 +78,7 @@ fn room_for(image: &Image) -> usize {
 /// All before the digest.
 fn push_body(alloc: Global, out: &mut Vec<u8>, image: &Image) -> Result<(), AllocError>
     requires { AreShort image.now.program.family }
-    ensures { OnOk result (out.new.items ≡ out.old.items ++ body_text image.now.program.family
+    ensures { OnOk result (out.new.items ≡ out.old.items ++ body_text Two image.now.program.family
         (told_regions image.now.program (environment_of image.now.regions))) }
 {
     let classes = image.program().family().classes();

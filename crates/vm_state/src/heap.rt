@@ -107,10 +107,26 @@ impl Row {
         }
     }
 
+    /// How many objects were made.
+    pub fn count(&self) -> u64
+        ensures { result ≡ (pool_by self.now).count }
+    {
+        self.count
+    }
+
+    /// So many objects were made, and these are held.
+    pub fn of_objects(count: u64, objects: Vec<(u64, Object)>) -> Row
+        requires { AscendsFrom 0 objects.items count }
+        ensures { result ≡ record { count = count; objects = objects.items } }
+    {
+        Row { count, objects }
+    }
+
     /// The objects with their numbers, in the order of the numbers, none left out.
-    fn objects(&self) -> &[(u64, Object)]
+    pub fn objects(&self) -> &[(u64, Object)]
         ensures all { result.now ≡ self.now.objects }
         ensures ascending { AscendsFrom 0 result.now self.now.count }
+        ensures row { IsRowOf result.now (pool_by self.now) }
     {
         self.objects.as_slice()
     }

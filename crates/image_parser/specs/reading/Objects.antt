@@ -1,6 +1,6 @@
 -- Readers of objects and regions.
 use Rattle.std.specs.Prelude.{ℕ, Bool, ◌&&◌, nat_lt, nat_eq, List, [], Option, Some, None, Result, Ok, Err}
-use Rattle.std.specs.Prelude.{cond}
+use Rattle.std.specs.Prelude.{cond, not}
 use Rattle.std.specs.Int.{w8, w16, w32}
 use Rattle.classfile.specs.reading.Numbers.{◌>>=◌}
 use Rattle.built_in.specs.declared.class_id.ClassId.{ClassId}
@@ -13,13 +13,17 @@ use Rattle.image_format.specs.declared.value.ImageValue.{ImageValue}
 use Rattle.image_format.specs.declared.object.ImageClass.{ImageClass}
 use Rattle.image_format.specs.declared.object.ImageClass.TheVariants as image
 use Rattle.image_format.specs.declared.object.ImageObject.{ImageObject}
+use Rattle.image_format.specs.declared.object.KeptObject.{KeptObject}
 use Rattle.image_format.specs.declared.region.ImageRegion.{ImageRegion}
+use Rattle.image_format.specs.declared.version.Version.{Version}
+use Rattle.image_format.specs.declared.version.Version.TheVariants as versions
 use Rattle.image_format.specs.Elements.{kind_of_elements}
 use Rattle.image_format.specs.Shapes.{has_objects, has_values}
 use Rattle.image_parser.specs.declared.fault.RegionFault.{RegionFault}
 use Rattle.image_parser.specs.declared.fault.RegionFault.TheVariants as faults
 use Rattle.image_parser.specs.FirstFailing.{times}
-use Rattle.image_parser.specs.reading.Results.{number_at, run_at, each_at}
+use Rattle.image_parser.specs.RegionFaults.{above}
+use Rattle.image_parser.specs.reading.Results.{number_at, run_at, each_at, chain_at}
 use Rattle.image_parser.specs.reading.Values.{value_at, element_at}
 use Rattle.image_parser.specs.reading.ClassNames.{class_of}
 use Rattle.image_parser.specs.reading.Unknown.{unknown_of}
@@ -101,18 +105,46 @@ form_at bytes = number_at w8 bytes >>= λ form. cond (nat_lt form.0 2) (Ok form)
 unfoldable pub object_at : Family → List ℕ → Result (ImageObject × List ℕ) RegionFault
 object_at family bytes = form_at bytes >>= λ form. formed_at family form.0 form.1
 
+-- ---- objects with their numbers
+
+abbrev pub is_number : ℕ → ℕ → ℕ → Bool
+is_number count least n = not (nat_lt n least) && nat_lt n count
+
+abbrev pub object_number_at : Version → ℕ → ℕ → List ℕ → Result (ℕ × List ℕ) RegionFault
+object_number_at versions.One count least bytes = Ok (least, bytes)
+object_number_at versions.Two count least bytes =
+    number_at w32 bytes >>= λ n. cond (is_number count least n.0) (Ok n) (Err faults.Shape)
+
+abbrev pub kept_of : ℕ → ImageObject → KeptObject
+kept_of number object = record { number = number; object = object }
+
+unfoldable pub kept_at : Version → Family → ℕ → ℕ → List ℕ → Result (KeptObject × List ℕ) RegionFault
+kept_at version family count least bytes = object_number_at version count least bytes
+    >>= λ n. object_at family n.1
+    >>= λ object. Ok (kept_of n.0 object.0, object.1)
+
 -- ---- regions
 
-abbrev pub region_of : List ImageValue → List ImageObject → ImageRegion
-region_of statics objects = record { statics = statics; objects = objects }
+abbrev pub region_of : ℕ → List ImageValue → List KeptObject → ImageRegion
+region_of count statics objects = record { count = count; statics = statics; objects = objects }
 
-unfoldable pub objects_at : Family → ℕ → List ℕ → Result (List ImageObject × List ℕ) RegionFault
-objects_at family count = each_at (λ (one : Unit {0}). object_at family) (times count) []
+-- how many objects there are
+abbrev pub many_at : Version → ℕ → List ℕ → Result (ℕ × List ℕ) RegionFault
+many_at versions.One count bytes = Ok (count, bytes)
+many_at versions.Two count bytes = number_at w32 bytes
 
-unfoldable pub counted_region_at : Family → ℕ → ℕ → List ℕ → Result (ImageRegion × List ℕ) RegionFault
-counted_region_at family c count bytes = each_at value_at (static_kinds family c) [] bytes
-    >>= λ statics. objects_at family count statics.1
-    >>= λ objects. Ok (region_of statics.0 objects.0, objects.1)
+unfoldable pub so_many_at : Version → Family → ℕ → ℕ → List ℕ → Result (List KeptObject × List ℕ) RegionFault
+so_many_at version family count many = chain_at (kept_at version family count) above many 0 []
 
-unfoldable pub region_at : Family → ℕ → List ℕ → Result (ImageRegion × List ℕ) RegionFault
-region_at family c bytes = number_at w32 bytes >>= λ count. counted_region_at family c count.0 count.1
+unfoldable pub objects_at : Version → Family → ℕ → List ℕ → Result (List KeptObject × List ℕ) RegionFault
+objects_at version family count bytes =
+    many_at version count bytes >>= λ many. so_many_at version family count many.0 many.1
+
+unfoldable pub counted_region_at : Version → Family → ℕ → ℕ → List ℕ → Result (ImageRegion × List ℕ) RegionFault
+counted_region_at version family c count bytes = each_at value_at (static_kinds family c) [] bytes
+    >>= λ statics. objects_at version family count statics.1
+    >>= λ objects. Ok (region_of count statics.0 objects.0, objects.1)
+
+unfoldable pub region_at : Version → Family → ℕ → List ℕ → Result (ImageRegion × List ℕ) RegionFault
+region_at version family c bytes =
+    number_at w32 bytes >>= λ count. counted_region_at version family c count.0 count.1

@@ -1,5 +1,5 @@
 -- What reading functions answer: a value and the bytes after it, or a fault.
-use Rattle.std.specs.Prelude.{◌≡◌, ℕ, List, [], ◌∷◌, ◌++◌, length, take, drop, Result, Ok, Err, nat_lt, if◌then◌else◌}
+use Rattle.std.specs.Prelude.{◌≡◌, ℕ, zero, suc, List, [], ◌∷◌, ◌++◌, length, take, drop, Result, Ok, Err, nat_lt, if◌then◌else◌}
 use Rattle.std.specs.Int.{Width, byte_len, from_be_bytes}
 use Rattle.classfile.specs.reading.Numbers.{◌>>=◌}
 use Rattle.image_parser.specs.declared.fault.RegionFault.{RegionFault}
@@ -21,6 +21,13 @@ number_at w bytes = if nat_lt (length bytes) (byte_len w) then Err faults.Trunca
 abbrev pub run_at : ℕ → List ℕ → Result (List ℕ × List ℕ) RegionFault
 run_at count bytes = if nat_lt (length bytes) count then Err faults.Truncated
     else Ok (take count bytes, drop count bytes)
+
+-- so many parts, each by what the one before leads to, after those that were read
+unfoldable pub chain_at : {S X E : Type 0} → (S → List ℕ → Result (X × List ℕ) E) → (X → S) → ℕ → S → List X → List ℕ
+    → Result (List X × List ℕ) E
+chain_at read next zero s items bytes = Ok (items, bytes)
+chain_at read next (suc n) s items bytes =
+    read s bytes >>= λ x. chain_at read next n (next x.0) (items ++ x.0 ∷ []) x.1
 
 -- some parts, each by what is wanted there, after those that were read
 unfoldable pub each_at : {K X E : Type 0} → (K → List ℕ → Result (X × List ℕ) E) → List K → List X → List ℕ

@@ -17,10 +17,12 @@ use Rattle.program.specs.Tables.{Tables}
 use Rattle.image_format.specs.declared.object.ImageClass.{ImageClass}
 use Rattle.image_format.specs.declared.object.ImageClass.TheVariants as image
 use Rattle.image_format.specs.declared.object.ImageObject.{ImageObject}
+use Rattle.image_format.specs.declared.object.KeptObject.{KeptObject}
 use Rattle.image_format.specs.declared.region.ImageRegion.{ImageRegion}
+use Rattle.image_format.specs.declared.version.Version.TheVariants as versions
 use Rattle.image_format.specs.declared.value.ImageValue.{ImageValue}
 use Rattle.image_format.specs.declared.value.ImageValue.TheVariants as values
-use Rattle.image_format.specs.Images.{region_in}
+use Rattle.image_format.specs.Objects.{region_in, object_with}
 use Rattle.image_format.specs.Shapes.{AreUnits, HasShape}
 
 -- ---- the program
@@ -94,15 +96,24 @@ HoldsNumber strings None object = object ≡ None
 HoldsNumber strings (Some told) None = ⊥
 HoldsNumber strings (Some told) (Some object) = HoldsObject strings told object
 
-pub record HoldsObjects (strings : List (List ℕ)) (told : List ImageObject) (pool : Pool) : Type 0 where
-  pub count : pool.count ≡ length told
-  pub each : (n : ℕ) → HoldsNumber strings (slice_get told n) (pool.at n)
+-- an object with its number
+abbrev pub HoldsKept : List (List ℕ) → KeptObject → ℕ × Object → Type 0
+HoldsKept strings kept o = (o.0 ≡ kept.number) × HoldsObject strings kept.object o.1
+
+-- the objects by their numbers
+abbrev pub HoldsAt : List (List ℕ) → List KeptObject → Pool → Type 0
+HoldsAt strings told pool = (n : ℕ) → HoldsNumber strings (object_with told n) (pool.at n)
+
+-- so many were made, and these are held
+pub record HoldsObjects (strings : List (List ℕ)) (made : ℕ) (told : List KeptObject) (pool : Pool) : Type 0 where
+  pub count : pool.count ≡ made
+  pub each : HoldsAt strings told pool
 
 -- ---- regions
 
 pub record HoldsRegion (strings : List (List ℕ)) (told : ImageRegion) (region : Region) : Type 0 where
   pub fields : HoldsFields strings told.statics region.fields
-  pub objects : HoldsObjects strings told.objects region.pool
+  pub objects : HoldsObjects strings told.count told.objects region.pool
 
 -- the region of a class, if it is initialized
 abbrev pub HoldsClass : List (List ℕ) → Option ImageRegion → Option Region → Type 0
@@ -117,7 +128,7 @@ HoldsRegions strings told env = (c : ℕ) → HoldsClass strings (region_in told
 
 abbrev pub MayHaveShape : Family → ℕ → Option ImageRegion → Type 0
 MayHaveShape family c None = Unit {0}
-MayHaveShape family c (Some region) = HasShape family c region
+MayHaveShape family c (Some region) = HasShape versions.Two family c region
 
 -- the regions of classes, by their numbers
 abbrev pub HaveShape : Family → List (Option ImageRegion) → Type 0

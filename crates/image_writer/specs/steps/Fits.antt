@@ -16,11 +16,10 @@ FitsType (values.Long n) = FitsSigned w64 n
 FitsType (values.OfClass c n) = c < 2 ^ 32
 FitsType _ = Unit {0}
 
--- the first so many static fields, and the slots of the objects below the count
+-- the first so many static fields, and the slots of the objects
 pub record RegionFits (count : ℕ) (region : Region) : Type 0 where
   pub statics : (k : ℕ) → k < count → FitsType (region.fields k)
-  pub slots : (n : ℕ) (object : Object) → n < region.pool.count → region.pool.at n ≡ Some object
-      → All FitsType object.slots
+  pub slots : (n : ℕ) (object : Object) → region.pool.at n ≡ Some object → All FitsType object.slots
 
 -- a class's region, if there is one
 abbrev pub ClassFits : Tables → Environment → ℕ → Type 0

@@ -1,5 +1,5 @@
 -- Counts that fit the numbers before them: what writing needs to know of a program and its regions.
-use Rattle.std.specs.Prelude.{◌≡◌, ℕ, ◌<◌, ◌^◌, true, length, Some, is_some}
+use Rattle.std.specs.Prelude.{◌≡◌, ℕ, ◌<◌, ◌^◌, length, Some}
 use Rattle.std.specs.List.{All}
 use Rattle.vm_state.specs.declared.value.Value.{Value}
 use Rattle.vm_state.specs.declared.value.Value.TheVariants as values
@@ -30,4 +30,3 @@ pub record IsSizedObject (P : Tables) (object : Object) : Type 0 where
 pub record IsSizedRegion (P : Tables) (region : Region) : Type 0 where
   pub statics : (k : ℕ) → IsSizedValue (region.fields k)
   pub objects : (n : ℕ) (object : Object) → region.pool.at n ≡ Some object → IsSizedObject P object
-  pub held : (n : ℕ) → n < region.pool.count → is_some (region.pool.at n) ≡ true

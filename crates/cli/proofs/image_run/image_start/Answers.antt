@@ -1,3 +1,4 @@
+use Rattle.std.proofs.Common.{inl}
 use Rattle.cli.proofs.ImageRunLemmas.{refused_image, refused_entry_of}
 use Rattle.cli.proofs.ReadBackLemmas.{read_back}
 use Rattle.cli.proofs.image_run.image_start.Goals as goal
@@ -14,5 +15,5 @@ returns-in-Err-clause-refusal c =
 
 pub returns-in-Ok-world-clause-built : goal.returns-in-Ok-world-clause-built
 returns-in-Ok-world-clause-built c texts run_time build_time budget is =
-    let same = c.in-Ok.ensures.same is.image is.own_strings is.text in
+    let same = c.in-Ok.ensures.same is.image is.own_strings (inl is.text) in
     read_back is.image c.in-Ok.image same texts run_time build_time budget is.of

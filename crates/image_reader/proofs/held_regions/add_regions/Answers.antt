@@ -1,7 +1,7 @@
 use Rattle.std.proofs.Common.{◌≡◌, ◌∙◌, ◌<◌, None, Some, ap, arith, length, rules, sym, take}
 use Rattle.std.proofs.lemmas.List.{length-take-le}
 use Rattle.std.proofs.lemmas.Option.{get_or_from_slice_get, slice_get-get_or}
-use Rattle.image_format.specs.Images.{region_in}
+use Rattle.image_format.specs.Objects.{region_in}
 use Rattle.image_reader.proofs.HeldLemmas.{adds_more, taken}
 use Rattle.image_reader.proofs.SameLemmas.{next_class}
 use Rattle.image_reader.proofs.held_regions.add_regions.Goals as goal

@@ -23,4 +23,4 @@ pub returns-clause-same : goal.returns-clause-same
 returns-clause-same c r holds =
     next_objects c.args.program.now c.held_fields.new.program c.held_objects.new.program
     ((rw c.as_slice.ensures at c.in_ok-fields.ensures.same) r.fields holds.fields) c.args.region.now.objects r.pool
-    holds.objects (rw c.as_slice-2.ensures at c.in_ok-objects.ensures.same)
+    holds.objects.each (rw c.as_slice-2.ensures at c.in_ok-objects.ensures.same)

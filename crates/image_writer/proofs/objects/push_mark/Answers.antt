@@ -8,3 +8,7 @@ push_region-requires-clause-sized c =
     region_sized c.args.image.now.program (environment_of c.args.image.now.regions) c.requires
     c.in-Some.ensures.whole c.in-Some.ensures.small c.args.class (region_of c.in-Some.region.now)
     (sym c.in-Some.ensures.value)
+
+pub push_region-requires-clause-few : goal.push_region-requires-clause-few
+push_region-requires-clause-few c =
+    c.in-Some.ensures.small.objects c.args.class (region_of c.in-Some.region.now) (sym c.in-Some.ensures.value)

@@ -1,29 +1,34 @@
-use Rattle.std.proofs.Common.{◌≡◌, ◌∙◌, ◌++◌, ℕ, List, map, ap, arith}
-use Rattle.std.specs.List.{flat_map, range_with_len}
-use Rattle.vm_state.specs.Pools.{pool_by}
-use Rattle.image_format.specs.Texts.{object_text}
-use Rattle.image_format.specs.Told.{told_if}
-use Rattle.image_writer.proofs.TextLemmas.{number_one_more, flat_map_twice}
+use Rattle.std.proofs.Common.{◌≡◌, ◌∙◌, ◌++◌, ◌<◌, ◌^◌, ℕ, List, map, ap, subst, sym, arith}
+use Rattle.std.specs.List.{flat_map}
+use Rattle.std.proofs.lemmas.List.{take_all}
+use Rattle.vm_state.specs.declared.object.Object.{Object}
+use Rattle.image_format.specs.declared.version.Version.TheVariants.{Two}
+use Rattle.image_format.specs.Texts.{kept_text}
+use Rattle.image_format.specs.Told.{told_kept}
+use Rattle.image_writer.specs.steps.Sizes.{IsSizedObject}
+use Rattle.image_writer.proofs.TextLemmas.{told_one_more}
 use Rattle.image_writer.proofs.objects.push_objects.Goals as goal
-
-pub push_if_held-requires-clause-sized : goal.push_if_held-requires-clause-sized
-push_if_held-requires-clause-sized c = c.requires.sized c.loop-number.number
-
-pub loop-number-preserved : goal.loop-number-preserved
-loop-number-preserved c =
-    number_one_more
-    (λ o. flat_map (object_text c.args.program.now.family) (told_if c.args.program.now.strings o))
-    (pool_by c.args.objects.now).at c.loop-number.number c.loop-number.out.items c.push_if_held.new.out.items
-    c.args.out.now.items c.loop-number.invariant c.in_ok-push_if_held.ensures
 
 pub returns : goal.returns
 returns c =
-    let family = c.args.program.now.family in
-    let strings = c.args.program.now.strings in
-    let pool = pool_by c.args.objects.now in
-    let same : c.loop-number.number ≡ pool.count = omega (arith, c.requires.count) in
-    c.loop-number.invariant
-    ∙ ap (λ (z : List ℕ). c.args.out.now.items ++ z)
-    (flat_map_twice (object_text family) (told_if strings) (map pool.at (range_with_len 0 c.loop-number.number))
-    ∙ ap (λ (n : ℕ). flat_map (object_text family) (flat_map (told_if strings) (map pool.at (range_with_len 0 n))))
-    same)
+    c.loop-held.invariant
+    ∙ ap (λ (z : List (ℕ × Object)). c.args.out.now.items
+    ++ flat_map (kept_text Two c.args.program.now.family) (map (told_kept c.args.program.now.strings) z))
+    (take_all c.loop-held.held-index c.args.objects.now c.loop-held-test.false)
+
+pub loop-held-preserved : goal.loop-held-preserved
+loop-held-preserved c =
+    told_one_more (kept_text Two c.args.program.now.family) (told_kept c.args.program.now.strings) c.args.objects.now
+    c.loop-held.held-index c.held-item.result c.loop-held.out.items c.push_kept.new.out.items c.args.out.now.items
+    c.loop-held-test.true c.held-item.is c.loop-held.invariant c.in_ok-push_kept.ensures
+
+pub push_kept-requires-clause-sized : goal.push_kept-requires-clause-sized
+push_kept-requires-clause-sized c =
+    subst (λ (o : ℕ × Object). IsSizedObject c.args.program.now o.1) (sym c.held-item.is)
+    (c.requires.sized c.loop-held.held-index c.held-item.result c.loop-held-test.true)
+
+pub overflow_cast-number : goal.overflow_cast-number
+overflow_cast-number c =
+    let low : c.held-item.result.0 < 2 ^ 32 = subst (λ (o : ℕ × Object). o.0 < 2 ^ 32) (sym c.held-item.is)
+    (c.requires.numbers c.loop-held.held-index c.held-item.result c.loop-held-test.true) in
+    omega (arith, low)

@@ -1,12 +1,11 @@
-use Rattle.std.proofs.Common.{◌≡◌, ◌++◌, map}
-use Rattle.std.specs.List.{flat_map, range_with_len}
-use Rattle.vm_state.specs.Pools.{pool_by}
-use Rattle.image_format.specs.Texts.{object_text}
-use Rattle.image_format.specs.Told.{told_if}
+use Rattle.std.proofs.Common.{◌≡◌, ◌++◌, map, take}
+use Rattle.std.specs.List.{flat_map}
+use Rattle.image_format.specs.declared.version.Version.TheVariants.{Two}
+use Rattle.image_format.specs.Texts.{kept_text}
+use Rattle.image_format.specs.Told.{told_kept}
 use Rattle.image_writer.proofs.objects.push_objects.Given as goal
 
-abbrev pub invariant-loop-number : goal.invariant-loop-number
-invariant-loop-number l =
+abbrev pub invariant-loop-held : goal.invariant-loop-held
+invariant-loop-held l =
     l.out.items ≡ l.fn.out.items
-    ++ flat_map (λ o. flat_map (object_text l.program.family) (told_if l.program.strings o))
-    (map (pool_by l.objects).at (range_with_len 0 l.number))
+    ++ flat_map (kept_text Two l.program.family) (map (told_kept l.program.strings) (take l.held-index l.objects))

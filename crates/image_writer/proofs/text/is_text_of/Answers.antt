@@ -14,4 +14,4 @@ returns c links =
     subst IsFamily (c.family.ensures ∙ ap (λ (Q : Tables). Q.family) c.program-2.ensures)
     c.classes-classes.ensures.fits in
     is_text P (environment_of c.args.image.now.regions) files family c.region-region.ensures.whole
-    c.region-region.ensures.small c.classes_fit.ensures c.requires links
+    c.region-region.ensures.small c.region-region.ensures.reached c.classes_fit.ensures c.requires links

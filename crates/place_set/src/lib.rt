@@ -1,0 +1,6 @@
+//! Sets of places in rows.
+#![tactic(auto)]
+
+mod set;
+
+pub use set::{Place, PlaceSet};

@@ -1,0 +1,167 @@
+//! Sets of places in rows, in the order in which they were found.
+
+ghost use Rattle.std.specs.Prelude.{◌≡◌, ◌↔◌, ℕ, ◌<◌, [], length, slice_get, slice_index_or, false, Some, IsTrue, OnOk};
+ghost use Rattle.std.specs.List.{Contains};
+ghost use Rattle.place_set.specs.declared.set.Place.{Place as Found};
+ghost use Rattle.place_set.specs.Distinct.{AreDistinct};
+ghost use Rattle.place_set.specs.steps.Adds.{Adds};
+ghost use Rattle.place_set.specs.steps.Marks.{rows_of, is_marked, marks_in, HasPlace, Sets};
+
+use std::alloc::{AllocError, Global};
+use std::marker::Model;
+
+/// A place: a row, and the index of an item there.
+#[derive(Clone, Copy, Debug)]
+pub struct Place {
+    pub row: u32,
+    pub index: u64,
+}
+
+/// Places, each once. They take memory by the greatest index of each row.
+#[derive(Drop)]
+pub struct PlaceSet {
+    /// By row and index: whether the place is a member.
+    marks: Vec<Vec<bool>>,
+    names: Vec<Place>,
+}
+
+impl Model for PlaceSet {
+    ghost use Rattle.std.specs.Prelude.{List};
+    ghost use Rattle.place_set.specs.declared.set.Place.{Place};
+    ghost use Rattle.place_set.specs.steps.Marks.{AreMarks};
+
+    ghost Value = { List Place };
+
+    ghost view = { λ s. s.names.items };
+
+    ghost invariant = { λ s. AreMarks s.marks.items s.names.items };
+}
+
+impl PlaceSet {
+    /// No place.
+    pub fn new(alloc: Global) -> PlaceSet
+        ensures { result ≡ [] }
+    {
+        PlaceSet {
+            marks: Vec::new(alloc),
+            names: Vec::new(alloc),
+        }
+    }
+
+    /// Whether it has the place of a row and an index.
+    pub fn has(&self, row: u32, index: u64) -> bool
+        ensures { IsTrue result ↔ Contains self.now (record { row = row; index = index }) }
+    {
+        is_marked(&self.marks, Place { row, index })
+    }
+
+    /// How many places it has.
+    pub fn len(&self) -> usize
+        ensures value { result ≡ length self.now }
+        ensures distinct { AreDistinct self.now }
+    {
+        self.names.len()
+    }
+
+    /// The places, in the order in which they were found.
+    pub fn names(&self) -> &[Place]
+        ensures { result.now ≡ self.now }
+    {
+        self.names.as_slice()
+    }
+
+    /// The one that was found after so many others.
+    pub fn at(&self, index: usize) -> Place
+        requires { index < length self.now }
+        ensures { slice_get self.now index ≡ Some result }
+    {
+        self.names[index]
+    }
+
+    /// Adds a place, if it is new.
+    ///
+    /// # Errors
+    /// Where memory runs out.
+    pub fn add(&mut self, alloc: Global, name: Place) -> Result<(), AllocError>
+        ensures { OnOk result (Adds self.old (λ x. x ≡ name) self.new) }
+    {
+        if is_marked(&self.marks, name) {
+            return Ok(());
+        }
+        keep_place(alloc, &mut self.marks, name)?;
+        self.names.push(name)?;
+        set_mark(&mut self.marks, name);
+        Ok(())
+    }
+}
+
+/// The marks of a row; none where no room was kept for them.
+fn row_of(marks: &[Vec<bool>], row: usize) -> &[bool]
+    ensures { result.now ≡ slice_index_or (rows_of marks.now) row [] }
+{
+    match marks.get(row) {
+        Some(row) => row.as_slice(),
+        None => &[],
+    }
+}
+
+/// Whether a place is marked.
+fn is_marked(marks: &[Vec<bool>], name: Place) -> bool
+    ensures { result ≡ is_marked (rows_of marks.now) name }
+{
+    mark_in(row_of(marks, name.row as usize), name.index as usize)
+}
+
+/// The mark of an index; none past the end.
+fn mark_in(row: &[bool], index: usize) -> bool
+    ensures { result ≡ marks_in row.now index }
+{
+    match row.get(index) {
+        Some(mark) => *mark,
+        None => false,
+    }
+}
+
+/// Keeps room for the marks of a row; nothing more is marked.
+fn keep_row(alloc: Global, marks: &mut Vec<Vec<bool>>, row: u32) -> Result<(), AllocError>
+    ensures same { (x : Found) → is_marked (rows_of marks.new.items) x ≡ is_marked (rows_of marks.old.items) x }
+    ensures ok { OnOk result (row < length marks.new.items) }
+{
+    while marks.len() <= row as usize {
+        marks.push(Vec::new(alloc))?;
+    }
+    Ok(())
+}
+
+/// Keeps room for the mark of an index; nothing more is marked.
+fn keep_number(row: &mut Vec<bool>, index: u64) -> Result<(), AllocError>
+    ensures same { (n : ℕ) → marks_in row.new.items n ≡ marks_in row.old.items n }
+    ensures ok { OnOk result (index < length row.new.items) }
+{
+    let Some(count) = (index as usize).checked_add(1) else {
+        return Err(AllocError);
+    };
+    if row.len() < count {
+        row.resize(count, false)?;
+    }
+    Ok(())
+}
+
+/// Keeps room for the mark of a place; nothing more is marked.
+fn keep_place(alloc: Global, marks: &mut Vec<Vec<bool>>, name: Place) -> Result<(), AllocError>
+    ensures same { (x : Found) → is_marked (rows_of marks.new.items) x ≡ is_marked (rows_of marks.old.items) x }
+    ensures ok { OnOk result (HasPlace (rows_of marks.new.items) name) }
+{
+    keep_row(alloc, marks, name.row)?;
+    let row = &mut marks[name.row as usize];
+    keep_number(row, name.index)
+}
+
+/// Marks a place that has room.
+fn set_mark(marks: &mut Vec<Vec<bool>>, name: Place)
+    requires { HasPlace (rows_of marks.old.items) name }
+    ensures { Sets (rows_of marks.old.items) name (rows_of marks.new.items) }
+{
+    let row = &mut marks[name.row as usize];
+    row[name.index as usize] = true;
+}
