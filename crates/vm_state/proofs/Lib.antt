@@ -6,5 +6,5 @@ pub mod StackLemmas
 pub mod PoolLemmas
 pub mod ObjectLemmas
 pub mod SlotLemmas
-pub mod KeptLemmas
+pub mod HeldCountLemmas
 pub mod VariableLemmas

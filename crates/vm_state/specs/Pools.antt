@@ -1,6 +1,6 @@
 -- The objects of each maker of a kind, as functions of their numbers.
 use Rattle.std.specs.List.{count_by, range_with_len}
-use Rattle.std.specs.Prelude.{◌≡◌, ℕ, Bool, false, List, None, is_some, slice_index_or, ◌==◌, if◌then◌else◌}
+use Rattle.std.specs.Prelude.{◌≡◌, ℕ, List, is_some, slice_index_or, ◌==◌, if◌then◌else◌}
 use Rattle.vm_state.specs.declared.heap.Heap.{Heap}
 use Rattle.vm_state.specs.declared.object.Object.{Object}
 use Rattle.vm_state.specs.declared.value.Maker.{Maker}
@@ -22,17 +22,9 @@ pool_in rows m = pool_by (row_at rows m)
 abbrev pub with_pool : (ℕ → Pool) → ℕ → Pool → ℕ → Pool
 with_pool pools m p k = if m == k then p else pools k
 
--- whether a number is marked: none is past the end
-abbrev pub is_marked : List Bool → ℕ → Bool
-is_marked marks n = slice_index_or marks n false
-
 -- how many objects are held
 abbrev pub held_count : Pool → ℕ
 held_count p = count_by (λ n. is_some (p.at n)) (range_with_len 0 p.count)
-
--- without the objects whose numbers are not marked
-abbrev pub with_marked : List Bool → Pool → Pool
-with_marked marks p = record p { at = λ n. if is_marked marks n then p.at n else None }
 
 -- the objects of a maker
 abbrev pub pool_at : Heap → Maker → Pool

@@ -8,7 +8,7 @@ ghost use Rattle.vm_state.specs.Objects.{empty_row, row_of, object_in};
 ghost use Rattle.vm_state.specs.steps.Objects.{with_next, object_at_place};
 ghost use Rattle.vm_state.specs.SharedState.{with_new, with_slot, with_monitor};
 ghost use Rattle.vm_state.specs.Objects.{AscendsFrom};
-ghost use Rattle.vm_state.specs.Pools.{IsRowOf, held_count, is_marked, pool_at, pool_by, pool_in, with_marked, with_pool};
+ghost use Rattle.vm_state.specs.Pools.{IsRowOf, pool_at, pool_by, pool_in, with_pool};
 
 use crate::object::{Monitor, Object, Slots};
 use crate::value::{Maker, Value};
@@ -69,16 +69,6 @@ fn copy_objects(
     Ok(())
 }
 
-/// Whether a number is marked: none is past the end.
-fn is_marked(marks: &[bool], number: u64) -> bool
-    ensures { result ≡ is_marked marks.now number }
-{
-    match marks.get(number as usize) {
-        Some(mark) => *mark,
-        None => false,
-    }
-}
-
 impl Row {
     /// The row of a maker that made nothing.
     pub fn new(alloc: Global) -> Row
@@ -122,6 +112,15 @@ impl Row {
         Row { count, objects }
     }
 
+    /// How many objects were made, and those that are held with their numbers, in the order of the numbers.
+    pub fn into_parts(self) -> (u64, Vec<(u64, Object)>)
+        ensures parts { (result.0 ≡ self.count) × (result.1.items ≡ self.objects) }
+        ensures ascending { AscendsFrom 0 result.1.items result.0 }
+    {
+        let Row { count, objects } = self;
+        (count, objects)
+    }
+
     /// The objects with their numbers, in the order of the numbers, none left out.
     pub fn objects(&self) -> &[(u64, Object)]
         ensures all { result.now ≡ self.now.objects }
@@ -145,7 +144,7 @@ impl Row {
 
     /// The place of the object of a number, if it is held. Where no number is left out it is the number.
     #[inline(always)]
-    fn place(&self, number: u64) -> Option<usize>
+    pub fn place(&self, number: u64) -> Option<usize>
         ensures held { IfSome result (λ place. IsSome (object_at_place self.now.objects place number)) }
         ensures none { IfNone result (object_in self.now.objects number ≡ None) }
     {
@@ -180,20 +179,6 @@ impl Row {
             let held = &mut self.objects[place];
             held.1.monitor = monitor;
         }
-    }
-
-    /// How many objects are held.
-    pub fn len(&self) -> usize
-        ensures { result ≡ held_count (pool_by self.now) }
-    {
-        self.objects.len()
-    }
-
-    /// Leaves out the objects whose numbers are not marked. How many were made stays.
-    pub fn keep(&mut self, marks: &[bool])
-        ensures { pool_by self.new ≡ with_marked marks.now (pool_by self.old) }
-    {
-        self.objects.retain(|held| is_marked(marks, held.0));
     }
 
     /// One more object, of the next number, which it answers. Where memory is refused nothing changes.
