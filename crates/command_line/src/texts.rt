@@ -57,12 +57,12 @@ within a budget. A class may, where its code does nothing that another class or 
 that it uses are initialized before it.
 
 Standard output gets a line for each class, in the order of their names:
-  app/Table build 0 12              initialized at build time, in wave 0; 12 objects of it are in the image
+  app/Table build 0 12              initialized at build time, in wave 0; the image keeps 12 objects of it
   app/Main run Prints               initialized at run time, since its initializer may print
 The other reasons: Forced (by an option), Throws, Monitors, ForeignWrite, ForeignRead (a field of another class that is
 not final), Unsupported, Missing, Cycle, DependsOn CLASS (a class that it uses is initialized at run time), and of the
 run of its initializer Raised (an exception, also one that is caught), ForeignObject (it looks into an object of
-another class), Budget and Faulted.
+another class, at more than an array's length or an enum constant's name and ordinal), Budget and Faulted.
 
 An option's fault is told by its text: Empty and the place of an item, Unknown and the item, Both and a class that is
 asked for at both times, Demanded and a class that can't be initialized at build time, with the reason.
