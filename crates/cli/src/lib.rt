@@ -27,7 +27,9 @@ mod threads;
 pub use building::{BuildFault, BuildOptions, Built};
 pub use builds::{build, build_here};
 pub use class_files::linked_program;
-pub use command_line::{Build, Building, Lazy, Renew, Replay, Request, Run, WordsFault, request_of};
+pub use command_line::{
+    Build, Building, Lazy, Renew, Replay, Request, Run, WordsFault, request_of,
+};
 pub use fault::Refusal;
 pub use files::{FileFault, Files};
 pub use image_build::{GREATEST_LENGTH, build_image};

@@ -38,7 +38,11 @@ pub fn renewed_image(alloc: Global, bytes: &[u8]) -> Result<Vec<u8>, Refusal>
 ///
 /// # Errors
 /// The first refusal: the image's file, the image, the new file, or memory.
-pub(crate) fn run<F: Files>(alloc: Global, words: &Renew<'_>, files: &mut F) -> Result<(), Refusal> {
+pub(crate) fn run<F: Files>(
+    alloc: Global,
+    words: &Renew<'_>,
+    files: &mut F,
+) -> Result<(), Refusal> {
     match files.get(words.image) {
         Ok(bytes) => {
             let renewed = renewed_image(alloc, bytes.as_slice())?;

@@ -211,9 +211,13 @@ region_before keeps all c region e = by (region_in all c) refl
         absurd cc
     by (Some before) is =
         let some : Some (kept_in (keeps c) before) ≡ Some region =
-        sym (region_here keeps all c ∙ ap (option_map (kept_in (keeps c))) is) ∙ here in
-        (before, (slice_get-get_or all c None low ∙ ap (λ (r : Option ImageRegion). Some r) is,
-        same_Some (kept_in (keeps c) before) region some))
+        sym (region_here keeps all c ∙ ap (option_map (kept_in (keeps c))) is) ∙ here in (
+          before,
+          (
+            slice_get-get_or all c None low ∙ ap (λ (r : Option ImageRegion). Some r) is,
+            same_Some (kept_in (keeps c) before) region some,
+          ),
+        )
 
 module _ (family : Family) (all : Held) (fits : AreRegions versions.One family all) (keeps : Keeps)
     (reached : (c n : ℕ) → (keeps c n ≡ true) ↔ IsReached all c n) where

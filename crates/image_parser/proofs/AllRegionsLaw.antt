@@ -145,7 +145,6 @@ one_blame version family bytes f g (unnamed regions c read least is) (unnamed ot
     let same = (same_read (marks_at version family bytes) others regions [] [] read2 read).0 in
     let e = one_class regions c d least (nameless_moved others regions d same more) in
     is ∙ ap (λ (k : ℕ). faults.Name k) e ∙ sym is2
-
 one_blame version family bytes f g (part a read is) (unused regions c read2 two all least is2) = absurd cc
 one_blame version family bytes f g (left regions rest read some is) (unused others c read2 two all least is2) =
     absurd (some (same_read (marks_at version family bytes) regions others rest [] read read2).1)

@@ -155,8 +155,10 @@ long_or_fault bytes size =
             | inl known ↦
                 elim (same (digest_in bytes) (sha256 (front_in bytes))) [
                   | inr differs ↦ inr (faults.Digest, digest size m known.0 known.1 differs)
-                  | inl d ↦ inl ((known.0, drop 2 (drop 4 (front_in bytes))),
-                      framed bytes size m known.0 known.1 d)
+                  | inl d ↦ inl (
+                    (known.0, drop 2 (drop 4 (front_in bytes))),
+                    framed bytes size m known.0 known.1 d,
+                  )
                 ]
           ]
     ]

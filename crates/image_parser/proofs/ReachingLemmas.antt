@@ -311,6 +311,8 @@ all_found regions found next rise all s c n (held {d = d} {m = m} object from at
 
 pub searching_done : (regions : Held) (found : List Place) (next : ℕ) → AllRise regions → length found ≤ next
     → Searching regions found next → (x : Place) → Contains found x ↔ IsReachedAt regions x
-searching_done regions found next rise all s x =
-    (s.sound x, λ r. all_found regions found next rise all s x.row r.kept.number r.reached x
-    (refl, is_at (objects_of (region_in regions x.row)) r.kept.number x.index r.kept r.at refl))
+searching_done regions found next rise all s x = (
+  s.sound x,
+  λ r. all_found regions found next rise all s x.row r.kept.number r.reached x
+      (refl, is_at (objects_of (region_in regions x.row)) r.kept.number x.index r.kept r.at refl),
+)

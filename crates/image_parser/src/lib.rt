@@ -1,6 +1,7 @@
 //! Reads images.
 #![tactic(auto)]
 
+mod dropping;
 mod fault;
 mod files;
 mod header;
@@ -10,9 +11,8 @@ mod kept_objects;
 mod marks;
 mod names;
 mod numbers;
-mod reaching;
-mod dropping;
 mod objects;
+mod reaching;
 mod region;
 mod regions;
 mod tag;

@@ -9,8 +9,8 @@ ghost use Rattle.image_parser.specs.reading.Results.{Gives, each_at};
 ghost use Rattle.image_parser.specs.reading.Marks.{marked_at, mark_at, mark_in, marks_at};
 
 use crate::fault::{MarksFault, RegionFault};
-use crate::numbers::u8_at;
 use crate::kept_objects::region_at;
+use crate::numbers::u8_at;
 use image_format::region::{ImageRegion, ImageRegions};
 use image_format::version::Version;
 use program::Program;

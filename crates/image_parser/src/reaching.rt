@@ -194,7 +194,10 @@ fn search(
 
 /// The places of the objects that static fields reach. It looks at each static field once, and at each slot of each
 /// object that is reached.
-pub(crate) fn reached(alloc: Global, regions: &[Option<ImageRegion>]) -> Result<PlaceSet, AllocError>
+pub(crate) fn reached(
+    alloc: Global,
+    regions: &[Option<ImageRegion>],
+) -> Result<PlaceSet, AllocError>
     requires rise { AllRise regions.now }
     requires few { length regions.now ≤ 65535 }
     ensures { IfOk result (λ found. (x : Found) → Contains found x ↔ IsReachedAt regions.now x) }

@@ -242,9 +242,10 @@ row_ascends S count least (t ∷ ts) (o ∷ os) le numbers holds =
     let low = numbers.0.0 in
     let lt = numbers.0.1 in
     let is = holds.0.0 in
-    let Q : ℕ → Type 0 = λ n. AscendsFrom (n + 1) os count in
-    (omega (arith, low, is),
-    subst Q (sym is) (row_ascends S count (t.number + 1) ts os (omega (arith, lt)) numbers.1 holds.1))
+    let Q : ℕ → Type 0 = λ n. AscendsFrom (n + 1) os count in (
+      omega (arith, low, is),
+      subst Q (sym is) (row_ascends S count (t.number + 1) ts os (omega (arith, lt)) numbers.1 holds.1),
+    )
 
 row_holds : (S : List (List ℕ)) (count least : ℕ) (told : List KeptObject) (row : List (ℕ × Object))
     → AreNumbered versions.Two count least told → AscendsFrom least row count → AllZip (HoldsKept S) told row → (n : ℕ)

@@ -458,7 +458,7 @@ module _ (P : Tables) (told : List (Option ImageRegion)) (env : Environment) (fi
           → region_in told d ≡ q → env d ≡ o → HoldsClass P.strings q o
           → IsReached P env (record { class = c; number = n })
       by before None o is here held = absurd (
-        let none : None ≡ Some t = ap (λ (r : Option ImageRegion). object_with (objects_of r) m) (sym is) ∙ at in cc)
+          let none : None ≡ Some t = ap (λ (r : Option ImageRegion). object_with (objects_of r) m) (sym is) ∙ at in cc)
       by before (Some q) None is here held = absurd held
       by before (Some q) (Some r) is here held =
           let told_one : object_with q.objects m ≡ Some t =

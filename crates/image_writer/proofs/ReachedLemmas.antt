@@ -45,8 +45,12 @@ module _ (P : Tables) (env : Environment) (told : List (Option ImageRegion))
       let start : 0 + k ≡ k = omega arith in
       told_static d (subst Q (sym statics) (
         k,
-        omega (arith, low, length-map-range_with_len (λ j. told_value P.strings (region.fields j)) 0
-        (length (statics_in P d))),
+        omega (
+          arith,
+          low,
+          length-map-range_with_len (λ j. told_value P.strings (region.fields j)) 0
+              (length (statics_in P d)),
+        ),
         get_or-map-range_with_len (λ j. told_value P.strings (region.fields j)) 0 (length (statics_in P d)) k k
             (values.Object x.class x.number) low start ∙ ap (told_value P.strings) holds,
       ))
