@@ -1,12 +1,12 @@
 -- Regions whose objects are left out class by class.
-use Rattle.std.proofs.Common.{◌≡◌, ◌≢◌, ◌∙◌, ◌↔◌, ◌⊎◌, ℕ, ◌+◌, ◌<◌, ◌≤◌, ◌==◌, true, false, List, length, Option, Some, None, slice_get}
+use Rattle.std.proofs.Common.{◌≡◌, ◌≢◌, ◌∙◌, ◌↔◌, ◌⊎◌, ℕ, ◌+◌, ◌<◌, ◌≤◌, ◌==◌, true, false, List, length, Option, Some}
+use Rattle.std.proofs.Common.{None, slice_get}
 use Rattle.std.proofs.Common.{slice_set, option_map, if◌then◌else◌, refl, sym, ap, subst, eq-eqb, eqb-true, ne_eqb, inl}
 use Rattle.std.proofs.Common.{inr, arith}
 use Rattle.std.specs.List.{Contains}
 use Rattle.std.proofs.lemmas.Bool.{cases_lt}
 use Rattle.std.proofs.lemmas.List.{length-set, set_past, get_or_past}
 use Rattle.vm_state.specs.declared.object.Object.{Object}
-use Rattle.vm_state.specs.Objects.{object_in}
 use Rattle.vm_state.specs.SharedState.{Region}
 use Rattle.vm_state.proofs.ListLemmas.{get_or-slice_set, tested}
 use Rattle.semantics.specs.Quiet.{Environment}
@@ -16,7 +16,6 @@ use Rattle.region_shape.specs.Wholes.{AreWhole}
 use Rattle.place_set.specs.declared.set.Place.{Place}
 use Rattle.evaluator.specs.declared.regions.Region.{Region as Held}
 use Rattle.evaluator.specs.Regions.{region_of, region_in, environment_of}
-use Rattle.object_graph.specs.declared.name_set.ObjectName.{ObjectName}
 use Rattle.object_graph.specs.Cuts.{IsCutRegion, IsCutAt, IsCutOf, AreReached}
 use Rattle.object_graph.specs.Images.{AreSmall}
 use Rattle.object_graph.specs.Reached.{IsReached}
@@ -71,7 +70,8 @@ none_taken old new c taken none d = elim (cases_lt c (length old)) [
 -- ---- class by class
 
 -- the first so many classes have those objects alone whose places are found, and the others all of theirs
-pub record IsCutBelow (found : List Place) (old : List (Option Held)) (count : ℕ) (new : List (Option Held)) : Type 0 where
+pub record IsCutBelow (found : List Place) (old : List (Option Held)) (count : ℕ)
+    (new : List (Option Held)) : Type 0 where
   pub cut : (c : ℕ) → c < count → region_in new c ≡ kept_region found c (region_in old c)
   pub other : (c : ℕ) → count ≤ c → region_in new c ≡ region_in old c
 
@@ -116,7 +116,8 @@ module _ (P : Tables) (regions : List (Option Held)) (found : List Place)
     reached_found i o at is =
         (among found (place c i)).1 ((are (place c i)).1 (record { held = o; at = stood i o at; reached = is }))
 
-    region_cut : IsCutRegion (IsReached P (environment_of regions)) c (region_of held) (region_of (kept_in found c held))
+    region_cut : IsCutRegion (IsReached P (environment_of regions)) c (region_of held)
+        (region_of (kept_in found c held))
     region_cut = record {
       fields = refl;
       count = refl;

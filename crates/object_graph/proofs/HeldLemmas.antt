@@ -1,7 +1,6 @@
 -- What is reached is held, where regions name objects of one another alone.
 use Rattle.std.proofs.Common.{◌≡◌, ℕ, true, Option, Some, None, is_some, option_map, refl, subst}
 use Rattle.vm_state.specs.declared.object.Object.{Object}
-use Rattle.vm_state.specs.declared.value.Value.{Value}
 use Rattle.vm_state.specs.SharedState.{Pool, Region}
 use Rattle.semantics.specs.Lawful.{Knows, KnowsSlots}
 use Rattle.semantics.specs.Quiet.{Environment}

@@ -1,26 +1,26 @@
 -- The names of the objects of regions: each once, and those of what is reached.
-use Rattle.std.proofs.Common.{◌≡◌, ◌∙◌, ◌↔◌, ◌⊎◌, inl, inr, ℕ, zero, suc, ◌+◌, ◌-◌, ◌<◌, ◌≤◌, true, false, List, [], ◌∷◌, ◌++◌}
-use Rattle.std.proofs.Common.{length, map, take, get_or, Option, Some, None, is_some, option_map, slice_get, refl, sym, ap}
+use Rattle.std.proofs.Common.{◌≡◌, ◌∙◌, ◌↔◌, inl, inr, ℕ, zero, suc, ◌+◌, ◌-◌, ◌<◌, ◌≤◌, true, false, List, ◌++◌}
+use Rattle.std.proofs.Common.{length, Option, Some, None, is_some, option_map, slice_get, refl, sym, ap}
 use Rattle.std.proofs.Common.{subst, arith}
 use Rattle.std.specs.List.{Contains}
 use Rattle.std.proofs.lemmas.Bool.{cases_lt}
-use Rattle.std.proofs.lemmas.List.{append-nil, get_or_append_left, get_or-append_right, length-append, take_more, take_all, map-append}
+use Rattle.std.proofs.lemmas.List.{get_or_append_left, get_or-append_right, length-append}
 use Rattle.std.proofs.lemmas.List.Elements.{Contains-append_cases, Contains-append_left, Contains-append_right}
 use Rattle.std.proofs.lemmas.Option.{slice_get-get_or, slice_get_within, slice_get-map, get_or_from_slice_get}
 use Rattle.vm_state.specs.declared.object.Object.{Object}
-use Rattle.vm_state.specs.Objects.{ObjectRow, object_in, AscendsFrom}
+use Rattle.vm_state.specs.Objects.{ObjectRow, object_in}
 use Rattle.vm_state.specs.SharedState.{Region}
 use Rattle.program.specs.Tables.{Tables}
 use Rattle.region_shape.specs.Wholes.{AreWhole}
 use Rattle.evaluator.specs.declared.regions.Region.{Region as Held}
-use Rattle.evaluator.specs.Regions.{region_of, region_in, environment_of}
+use Rattle.evaluator.specs.Regions.{environment_of}
 use Rattle.object_graph.specs.declared.name_set.ObjectName.{ObjectName}
 use Rattle.object_graph.specs.Cuts.{AreReached}
 use Rattle.object_graph.specs.Images.{AreSmall}
 use Rattle.object_graph.specs.Names.{AreDistinct}
 use Rattle.object_graph.specs.Reached.{object_among, object_of, IsReached}
 use Rattle.object_graph.specs.steps.Listed.{names_of, names_below}
-use Rattle.object_graph.specs.steps.Places.{row_of, row_in, Ascends, name_in}
+use Rattle.object_graph.specs.steps.Places.{row_in, Ascends, name_in}
 use Rattle.object_graph.proofs.HeldLemmas.{reached_held}
 use Rattle.object_graph.proofs.RowLemmas.{stands, some_held, one_index, object_by_row}
 
@@ -56,8 +56,7 @@ pub name_listed : (c : ℕ) (os : List (ℕ × Object)) (i : ℕ) (held : ℕ ×
     → Contains (names_of c os) (name_in c held)
 name_listed c os i held at =
     let named : slice_get (names_of c os) i ≡ Some (name_in c held) =
-    slice_get-map (name_in c) os i ∙ ap (option_map (name_in c)) at in
-    (
+    slice_get-map (name_in c) os i ∙ ap (option_map (name_in c)) at in (
       i,
       slice_get_within (names_of c os) i (name_in c held) named,
       get_or_from_slice_get (names_of c os) i (name_in c held) (name_in c held) named,
@@ -149,7 +148,8 @@ module _ (regions : List (Option Held)) where
         (subst Q same (name_listed c (row_in regions c).objects i held at))
   ]
 
-  pub below_more : (n : ℕ) → names_below regions (n + 1) ≡ names_below regions n ++ names_of n (row_in regions n).objects
+  pub below_more : (n : ℕ)
+      → names_below regions (n + 1) ≡ names_below regions n ++ names_of n (row_in regions n).objects
   below_more n = let k : n + 1 ≡ suc n = omega arith in ap (names_below regions) k
 
   pub names_more : (n : ℕ) (names new : List ObjectName) (os : List (ℕ × Object)) → names ≡ names_below regions n

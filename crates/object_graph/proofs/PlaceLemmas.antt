@@ -1,7 +1,7 @@
 -- The place of the object that a value refers to, and lists to which places were added.
-use Rattle.std.proofs.Common.{◌≡◌, ◌∙◌, ◌⊎◌, ◌↔◌, inl, inr, ℕ, ◌+◌, ◌<◌, ◌≤◌, true, List, [], ◌∷◌, ◌++◌, length, take, get_or}
-use Rattle.std.proofs.Common.{is_some, Option, Some, None, option_map, slice_get, refl, sym, ap, subst, arith}
-use Rattle.std.specs.List.{Contains}
+use Rattle.std.proofs.Common.{◌≡◌, ◌∙◌, ◌⊎◌, ◌↔◌, inl, inr, ℕ, ◌+◌, ◌<◌, ◌≤◌, true, List, [], ◌∷◌, ◌++◌, length, take}
+use Rattle.std.proofs.Common.{get_or}
+use Rattle.std.proofs.Common.{is_some, Option, Some, None, option_map, slice_get, sym, ap, subst, arith}
 use Rattle.std.proofs.lemmas.Bool.{cases_lt}
 use Rattle.std.proofs.lemmas.List.{take_more, take_all}
 use Rattle.std.proofs.lemmas.List.Elements.{Contains-push, Contains-push_cases, Contains-append_left}
@@ -9,7 +9,7 @@ use Rattle.std.proofs.lemmas.Option.{slice_get_past}
 use Rattle.vm_state.specs.declared.object.Object.{Object}
 use Rattle.vm_state.specs.declared.value.Value.{Value}
 use Rattle.vm_state.specs.declared.value.Value.TheVariants as values
-use Rattle.vm_state.specs.Objects.{ObjectRow, object_in}
+use Rattle.vm_state.specs.Objects.{object_in}
 use Rattle.vm_state.specs.steps.Objects.{object_at_place}
 use Rattle.vm_state.specs.SharedState.{Region}
 use Rattle.program.specs.Tables.{Tables, statics_if, statics_in}
@@ -20,7 +20,7 @@ use Rattle.evaluator.specs.declared.regions.Region.{Region as Held}
 use Rattle.evaluator.specs.Regions.{region_of, region_in, environment_of}
 use Rattle.object_graph.specs.declared.name_set.ObjectName.{ObjectName}
 use Rattle.object_graph.specs.Reached.{reference_to}
-use Rattle.object_graph.specs.steps.Places.{row_in, Ascends, name_in, IsPlaceOf, HoldPlace, IsInFields, IsInStaticsOf}
+use Rattle.object_graph.specs.steps.Places.{row_in, Ascends, IsPlaceOf, HoldPlace, IsInFields, IsInStaticsOf}
 use Rattle.object_graph.specs.steps.Places.{HoldsPlace}
 use Rattle.object_graph.proofs.RowLemmas.{standing, one_index, found_in}
 

@@ -1,5 +1,6 @@
 -- A search that adds the places of what objects refer to, from what static fields refer to on, until nothing is left.
-use Rattle.std.proofs.Common.{◌≡◌, ◌∙◌, ◌↔◌, inl, inr, ℕ, ◌+◌, ◌<◌, ◌≤◌, List, [], length, Option, Some, slice_get, refl}
+use Rattle.std.proofs.Common.{◌≡◌, ◌∙◌, ◌↔◌, inl, inr, ℕ, ◌+◌, ◌<◌, ◌≤◌, List, [], length, Option, Some, slice_get}
+use Rattle.std.proofs.Common.{refl}
 use Rattle.std.proofs.Common.{sym, ap, subst, arith}
 use Rattle.std.specs.List.{Contains}
 use Rattle.std.proofs.lemmas.Bool.{cases_lt}
@@ -14,8 +15,7 @@ use Rattle.evaluator.specs.Regions.{environment_of}
 use Rattle.object_graph.specs.declared.name_set.ObjectName.{ObjectName}
 use Rattle.object_graph.specs.Reached.{reference_to, IsReached, static, held}
 use Rattle.object_graph.specs.steps.Places.{row_in, Ascends, name_in, IsPlaceOf, IsInStaticsOf, HoldsPlace, IsReachedAt}
-use Rattle.object_graph.proofs.RowLemmas.{Stands, stands, found_in, object_by_row}
-use Rattle.object_graph.proofs.PlaceLemmas.{same_reference}
+use Rattle.object_graph.proofs.RowLemmas.{stands, found_in, object_by_row}
 
 -- what the objects of the first so many places refer to has been added
 pub record Searching (P : Tables) (regions : List (Option Held)) (found : List Place) (next : ℕ) : Type 0 where
@@ -109,6 +109,8 @@ module _ (P : Tables) (regions : List (Option Held)) where
 
   pub searching_done : (found : List Place) (next : ℕ) → length found ≤ next → Searching P regions found next
       → (x : Place) → Contains found x ↔ IsReachedAt P regions x
-  searching_done found next all s x =
-      (s.sound x, λ r. all_found found next all s (name_in x.row r.held) r.reached x
-      (record { held = r.held; at = r.at; is = refl }))
+  searching_done found next all s x = (
+    s.sound x,
+    λ r. all_found found next all s (name_in x.row r.held) r.reached x
+        (record { held = r.held; at = r.at; is = refl }),
+  )
