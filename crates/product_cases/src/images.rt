@@ -5,14 +5,13 @@ use crate::{image_bytes, image_runs};
 use built_in::class_id::ClassId;
 use cases::add_class_files;
 use cli::{BuildOptions, build_here};
-use object_graph::{Image, reachable};
+use object_graph::{Image, ObjectName, reachable};
 use std::alloc::{AllocError, Global};
 use std::sync::Wait;
 use std::thread::Threads;
-use vm_state::object::Object;
 
-/// Given are classes. Asked is `reached BUDGET`, for the objects of their image, each as its class and its number, how
-/// many of them some static field reaches, and how many were made. Each initializer may cost so much. What is asked of
+/// Given are classes. Asked is `reached BUDGET`, for the objects that some static field of their image reaches, each as
+/// its class and its number, how many they are, and how many were made. Each initializer may cost so much. What is asked of
 /// the bytes of their image stands in `src/image_bytes.rt`, and of runs from it in `src/image_runs.rt`.
 pub fn answer<R: Threads + Wait + Sync>(
     rt: &R,
@@ -44,14 +43,16 @@ fn reached(alloc: Global, files: &[Vec<u8>], budget: u64) -> Result<String, Allo
     }
 }
 
-/// The objects by class and number, how many of them are reached, and how many were made.
+/// The objects that are reached by class and number, how many they are, and how many were made.
 fn reached_in(alloc: Global, image: &Image) -> Result<String, AllocError> {
     let found = reachable(alloc, image)?;
     let mut text = String::new(alloc);
+    for name in found.names() {
+        add_object(alloc, &mut text, image, *name)?;
+    }
     let mut made = 0_u64;
     for class in 0..image.program().given_count() {
         if let Some(region) = image.region(class) {
-            add_objects(alloc, &mut text, image, class, region.objects.objects())?;
             made = made.saturating_add(region.objects.count());
         }
     }
@@ -60,31 +61,17 @@ fn reached_in(alloc: Global, image: &Image) -> Result<String, AllocError> {
     format!(in alloc; "{text}: {count} of {made}")
 }
 
-/// Adds the objects of a class.
-fn add_objects(
-    alloc: Global,
-    text: &mut String,
-    image: &Image,
-    class: u32,
-    objects: &[(u64, Object)],
-) -> Result<(), AllocError> {
-    for (number, _object) in objects {
-        add_object(alloc, text, image, class, *number)?;
-    }
-    Ok(())
-}
-
 fn add_object(
     alloc: Global,
     text: &mut String,
     image: &Image,
-    class: u32,
-    number: u64,
+    name: ObjectName,
 ) -> Result<(), AllocError> {
     if !text.is_empty() {
         text.push_str(", ")?;
     }
-    let name = image.program().class_text(alloc, ClassId::Given(class))?;
-    let object = format!(in alloc; "{name} {number}")?;
+    let class = image.program().class_text(alloc, ClassId::Given(name.class))?;
+    let number = name.number;
+    let object = format!(in alloc; "{class} {number}")?;
     text.push_str(&object)
 }
