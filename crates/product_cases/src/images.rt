@@ -5,7 +5,7 @@ use crate::{image_bytes, image_runs};
 use built_in::class_id::ClassId;
 use cases::add_class_files;
 use cli::{BuildOptions, build_here};
-use object_graph::{Image, NameSet, reachable};
+use object_graph::{Image, ObjectName, reachable};
 use std::alloc::{AllocError, Global};
 use std::sync::Wait;
 use std::thread::Threads;
@@ -47,45 +47,29 @@ fn reached(alloc: Global, files: &[Vec<u8>], budget: u64) -> Result<String, Allo
 fn reached_in(alloc: Global, image: &Image) -> Result<String, AllocError> {
     let found = reachable(alloc, image)?;
     let mut text = String::new(alloc);
+    for name in found.names() {
+        add_object(alloc, &mut text, image, *name)?;
+    }
     let mut all = 0_u64;
     for class in 0..image.program().given_count() {
-        let count = image.object_count(class);
-        add_class(alloc, &mut text, image, &found, class, count)?;
-        all = all.saturating_add(u64::from(count));
+        all = all.saturating_add(u64::from(image.object_count(class)));
     }
     let text = or_nothing(text)?;
     let count = found.len();
     format!(in alloc; "{text}: {count} of {all}")
 }
 
-/// Adds the reached ones of the first so many objects of a class.
-fn add_class(
-    alloc: Global,
-    text: &mut String,
-    image: &Image,
-    found: &NameSet,
-    class: u32,
-    count: u32,
-) -> Result<(), AllocError> {
-    for number in 0..count {
-        if found.has(class, u64::from(number)) {
-            add_object(alloc, text, image, class, number)?;
-        }
-    }
-    Ok(())
-}
-
 fn add_object(
     alloc: Global,
     text: &mut String,
     image: &Image,
-    class: u32,
-    number: u32,
+    name: ObjectName,
 ) -> Result<(), AllocError> {
     if !text.is_empty() {
         text.push_str(", ")?;
     }
-    let name = image.program().class_text(alloc, ClassId::Given(class))?;
-    let object = format!(in alloc; "{name} {number}")?;
+    let class = image.program().class_text(alloc, ClassId::Given(name.class))?;
+    let number = name.number;
+    let object = format!(in alloc; "{class} {number}")?;
     text.push_str(&object)
 }
