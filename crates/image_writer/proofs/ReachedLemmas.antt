@@ -96,7 +96,7 @@ module _ (P : Tables) (env : Environment)
 
   -- ---- what is reached is told to be
 
-  reached_told : (x : ObjectName) → IsReached P env x → IsToldReached told x.class x.number
+  pub reached_told : (x : ObjectName) → IsReached P env x → IsToldReached told x.class x.number
   reached_told x (static d (region, here, (k, low, holds))) =
       let statics : statics_of (region_in told d)
       ≡ map (λ j. told_value P.strings (region.fields j)) (range_with_len 0 (length (statics_in P d))) =
@@ -165,7 +165,7 @@ module _ (P : Tables) (env : Environment)
           → option_map (told_object P.strings) o ≡ Some t → IsReached P env (record { class = c; number = n })
       by before None is same = absurd cc
       by before (Some object) is same =
-          let one : told_object P.strings object ≡ t = same_Some (told_object P.strings) object t same in
+          let one : told_object P.strings object ≡ t = same_Some (told_object P.strings object) t same in
           held before (
             object,
             is,
