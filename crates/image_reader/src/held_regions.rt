@@ -20,7 +20,6 @@ ghost use Rattle.image_reader.specs.steps.Held.{AddsStrings, HaveShape, HoldsAt,
 ghost use Rattle.image_reader.specs.steps.Held.{HoldsElement, HoldsRegion, HoldsRegions, HoldsType, MayHaveShape};
 
 use crate::held_values::{held_fields, held_values};
-use crate::rows::row_of;
 use built_in::class_id::{ArrayType, ClassId, ElementType};
 use classfile::ClassName;
 use evaluator::regions::{Region, Regions};
@@ -135,7 +134,7 @@ fn held_objects(
 {
     let mut held = Vec::with_capacity(alloc, objects.len())?;
     push_objects(alloc, program, objects, &mut held)?;
-    Ok(row_of(u64::from(count), held))
+    Ok(Row::of_objects(u64::from(count), held))
 }
 
 /// The region of a class.
