@@ -17,8 +17,9 @@ with that are the text and how the thread ended, of these modes, or of all:
   renewed  `preinit run --turns` from what `preinit renew` makes of an image of version 1, which --old wrote: a program
            from before version 2. It has to be the image of `build`, byte by byte, where that accepts the same classes
 
-It prints each program that differs, and ends in 1 if one does. With --old it also counts the programs in whose images
-classes are initialized that --old refused because they look into objects of other classes.
+It prints each program that differs, and ends in 1 if one does, or if --old initializes a class that is left to run time
+now. With --old it also counts the programs in whose images classes are initialized that --old refused because they look
+into objects of other classes.
 """
 import argparse
 import pathlib
@@ -32,11 +33,10 @@ from collections import Counter
 
 HERE = pathlib.Path(__file__).resolve().parent
 OPTIONS = ["--release", "8", "-g:none", "-nowarn", "-Xlint:none", "-XDstringConcat=inline"]
-THROWN = ["new RuntimeException()", "new Error()", "new Own()", "new Checkless()", "new ArithmeticException()"]
 MODES = ["lazy", "image", "threads", "renewed"]
+THROWN = ["new RuntimeException()", "new Error()", "new Own()", "new Checkless()", "new ArithmeticException()"]
 CAUGHT = ["Throwable", "Throwable", "Throwable", "Exception", "RuntimeException", "Error", "LinkageError",
           "ExceptionInInitializerError", "NoClassDefFoundError", "ArithmeticException", "NullPointerException", "Own"]
-
 
 # What all programs have. `chain` and `grown` throw away half of what they make, or all but the last.
 COMMON = """class Own extends RuntimeException { }
@@ -329,7 +329,7 @@ class Here:
         self.new, self.old = shlex.split(asked.cmd), shlex.split(asked.old or "")
         self.folder, self.entry = folder, ["--entries", f"p{number}.Main"]
         self.files = sorted(str(it) for it in (folder / "classes" / f"p{number}").glob("*.class"))
-        self.now, self.before = self.report(self.new), self.report(self.old) if self.old else {}
+        self.now, self.earlier = self.report(self.new), self.report(self.old) if self.old else {}
         self.refused = self.image()
 
     def report(self, command):
@@ -346,7 +346,7 @@ class Here:
         first, second = str(self.folder / "first"), str(self.folder / "renewed")
         refused = (unless_quiet(called([*self.old, "build", "--out", first, *self.files]))
                    or unless_quiet(called([*self.new, "renew", "--out", second, first])))
-        if refused or built(self.before) != built(self.now):
+        if refused or built(self.earlier) != built(self.now):
             return refused
         same = (self.folder / "image").read_bytes() == (self.folder / "renewed").read_bytes()
         return None if same else ("", "another image than that of build")
@@ -362,13 +362,13 @@ class Here:
     def counts(self):
         """How many classes there are, and are initialized in the image; and which of these --old refused, and how many
         objects more it has of the others."""
-        before = built(self.before)
-        moved = [it for it in built(self.now) if it in self.before and it not in before]
-        looked = sum(self.before[it][1] == "ForeignObject" for it in moved)
-        dropped = sum(int(self.before[it][2]) - int(self.now[it][2]) for it in built(self.now) if it in before)
-        return {"classes": len(self.now), "built": len(built(self.now)), "moved": len(moved), "looked": looked,
-                "programs that look": looked > 0, "dropped": dropped, "programs that drop": dropped > 0,
-                "same images": not moved}
+        now, earlier = built(self.now), built(self.earlier)
+        moved = [it for it in now - earlier if it in self.earlier]
+        looked = sum(self.earlier[it][1] == "ForeignObject" for it in moved)
+        dropped = sum(int(self.earlier[it][2]) - int(self.now[it][2]) for it in now & earlier)
+        return {"classes": len(self.now), "built": len(now), "moved": len(moved), "lost": len(earlier - now),
+                "looked": looked, "programs that look": looked > 0, "dropped": dropped,
+                "programs that drop": dropped > 0, "same images": now == earlier}
 
 
 def built(report):
@@ -401,14 +401,14 @@ def told(asked, count, ends):
     print(f"{count['built']} of {count['classes']} classes are initialized in the images")
     if asked.old:
         print(f"{count['moved']} of them are not in images of --old: {count['looked']} looked into objects of others,"
-              f" in {count['programs that look']} programs")
+              f" in {count['programs that look']} programs; {count['lost']} others are")
         print(f"{count['dropped']} objects of the others are left out, in {count['programs that drop']} programs")
         print(f"{count['same images']} renewed images have to be those of build")
     else:
         print("renewed: passed over without --old")
     for mode in asked.mode:
         print(f"{mode}: {count[mode]} of {asked.count} agree")
-    return all(count[mode] == asked.count for mode in asked.mode)
+    return count["lost"] == 0 and all(count[mode] == asked.count for mode in asked.mode)
 
 
 def words():
