@@ -16,8 +16,9 @@ ghost use Rattle.image_format.specs.declared.version.Version.TheVariants.{Two};
 ghost use Rattle.image_format.specs.Names.{name_of_class};
 ghost use Rattle.image_format.specs.Objects.{object_with};
 ghost use Rattle.image_format.specs.Shapes.{AreNumbered, HasObjects, HasShape, ObjectHasShape};
-ghost use Rattle.image_reader.specs.steps.Held.{AddsStrings, HaveShape, HoldsAt, HoldsClass, HoldsKept, HoldsObject, HoldsObjects};
-ghost use Rattle.image_reader.specs.steps.Held.{HoldsElement, HoldsRegion, HoldsRegions, HoldsType, MayHaveShape};
+ghost use Rattle.image_reader.specs.steps.Held.{AddsStrings, HaveShape, HoldsAt, HoldsClass, HoldsElement};
+ghost use Rattle.image_reader.specs.steps.Held.{HoldsKept, HoldsObject, HoldsObjects, HoldsRegion, HoldsRegions};
+ghost use Rattle.image_reader.specs.steps.Held.{HoldsType, MayHaveShape};
 
 use crate::held_values::{held_fields, held_values};
 use built_in::class_id::{ArrayType, ClassId, ElementType};
@@ -147,7 +148,8 @@ fn held_region(
     requires { HasShape Two program.old.family class region.now }
     ensures holds { IfOk result (λ held. HoldsRegion program.new.strings region.now (region_of held)) }
     ensures adds { OnOk result (AddsStrings program.old program.new) }
-    ensures same { (r : HeldRegion) → HoldsRegion program.old.strings region.now r → OnOk result (program.new ≡ program.old) }
+    ensures same { (r : HeldRegion) → HoldsRegion program.old.strings region.now r
+        → OnOk result (program.new ≡ program.old) }
 {
     let _classes = program.classes();
     let fields = held_fields(alloc, program, region.statics.as_slice())?;

@@ -196,7 +196,8 @@ class_files (given ∷ family) files =
     (class_files family (λ c g at. files (suc c) g at))
 
 pub is_text : (P : Tables) (env : Environment) → HasFiles P → IsFamily P.family → AreWhole P env → AreSmall P env
-    → AreReached P env → ((c : ℕ) → c < length P.family → ClassFits P env c) → AreShort P.family → Links (files_of P.family)
+    → AreReached P env → ((c : ℕ) → c < length P.family → ClassFits P env c) → AreShort P.family
+    → Links (files_of P.family)
     → ImageText (image_text versions.Two P.family (told_regions P env)) P.family (told_regions P env)
 is_text P env has family whole small reached fits short links = record {
   classes = family;

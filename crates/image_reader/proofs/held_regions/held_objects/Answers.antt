@@ -15,4 +15,5 @@ of_objects-requires c =
 pub returns-clause-holds : goal.returns-clause-holds
 returns-clause-holds c =
     row_holds_all c.push_objects.new.program.strings c.args.count c.args.objects.now c.of_objects.result
-    c.push_objects.new.held.items (rw c.from.ensures at c.of_objects.ensures) c.requires.numbers c.in_ok-push_objects.ensures.holds
+    c.push_objects.new.held.items (rw c.from.ensures at c.of_objects.ensures) c.requires.numbers
+    c.in_ok-push_objects.ensures.holds
