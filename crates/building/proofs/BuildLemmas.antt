@@ -1,5 +1,5 @@
 -- What an image is of.
-use Rattle.std.proofs.Common.{◌≡◌, ◌↔◌, ℕ, ◌<◌, ◌^◌, List, length, map, Option, Some, option_map, IsSome, is_some}
+use Rattle.std.proofs.Common.{◌≡◌, ◌↔◌, ℕ, ◌<◌, ◌^◌, List, Option, Some, option_map, IsSome, is_some}
 use Rattle.std.proofs.Common.{slice_get, refl, sym, ap, subst, ◌∙◌, arith}
 use Rattle.std.proofs.Math.Path.{fun_ext}
 use Rattle.std.proofs.lemmas.List.{length-map}
@@ -15,7 +15,7 @@ use Rattle.evaluator.specs.Regions.{environment_of}
 use Rattle.region_shape.specs.Laws.{IsLinked, IsFromFile}
 use Rattle.region_shape.specs.Sizes.{IsWithin}
 use Rattle.region_shape.specs.Wholes.{AreWhole}
-use Rattle.wave_scheduler.specs.Settled.{Outcome, Wave, Settled, HasWave, region_in}
+use Rattle.wave_scheduler.specs.Settled.{Wave, Settled, HasWave, region_in}
 use Rattle.wave_scheduler.specs.Laws.{HasRegions}
 use Rattle.wave_scheduler.specs.Outcomes.{outcome_of, settled_of}
 use Rattle.initializer_analysis.specs.declared.verdict.Verdict.{Verdict}
