@@ -70,7 +70,9 @@ fn add_object(
     if !text.is_empty() {
         text.push_str(", ")?;
     }
-    let class = image.program().class_text(alloc, ClassId::Given(name.class))?;
+    let class = image
+        .program()
+        .class_text(alloc, ClassId::Given(name.class))?;
     let number = name.number;
     let object = format!(in alloc; "{class} {number}")?;
     text.push_str(&object)
