@@ -518,6 +518,34 @@ def long_initializers(count):
     return [class_with("C%05d" % number, [], [(0x8, "<clinit>", "()V", code)]) for number in range(count)]
 
 
+def wasteful(count):
+    """So many classes, the initializer of each of which makes 9,850 objects and keeps the last."""
+    def code(name):
+        def made(pool):
+            new = bytes([187]) + struct.pack(">H", pool.named(7, OBJECT)) + bytes([89])
+            step = new + instruction(pool, 183, OBJECT, "<init>", "()V")
+            step += instruction(pool, 179, name, "kept", "L%s;" % OBJECT)
+            return counting(step, number_of(9850)) + RETURN
+        return made
+    names = ["C%05d" % number for number in range(count)]
+    return [class_with(name, [(0x8, "kept", "L%s;" % OBJECT)], [(0x8, "<clinit>", "()V", code(name))])
+            for name in names]
+
+
+def indexed_service(count):
+    """As `service`, where the tables of routes are as long as an enum has constants, which is another class."""
+    files = service(count)
+    for number in range(0, count, 20):
+        name, verbs = ("org/example/service/C%05d" % one for one in (number, number + 1))
+
+        def code(pool, name=name, verbs=verbs):
+            values = instruction(pool, 178, verbs, "$VALUES", "[L%s;" % verbs) + bytes([190])
+            return values + bytes([188, 10]) + instruction(pool, 179, name, "keys", "[I") + RETURN
+        if number + 1 < count:
+            files[number] = class_with(name, [(0x18, "keys", "[I")], [(0x8, "<clinit>", "()V", code)])
+    return files
+
+
 def deep_names(count):
     """Classes in one package 500 deep, so that their names of 1,005 bytes differ at their ends alone."""
     return [class_file("a/" * 500 + "%05d" % number) for number in range(count)]
@@ -535,7 +563,7 @@ KINDS = {kind.__name__: kind for kind in (small, chain, chain_of_references, int
                                          conflicts_below, initialized_on_top, many_on_top,
                                          alternating, long_orders, initializers, waves, apart, one_cycle,
                                          refused_below, stopped_below, stopped_apart, virtual_calls, deep_names,
-                                         service, long_initializers)}
+                                         service, indexed_service, long_initializers, wasteful)}
 
 
 def main():

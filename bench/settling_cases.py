@@ -5,8 +5,8 @@
 
 Asked are the reports of builds without lists of options. Which classes are refused by their code alone is taken from
 the answer; which class uses which, the waves, the first refused use, and what comes of a run of each initializer, with
-its cost and its objects, is found here, by the instructions of second_instructions.py. It shares no code with the
-crates. It ends in 1 where a class comes out otherwise.
+its cost and the objects of it that static fields reach in the end, is found here, by the instructions of
+second_instructions.py. It shares no code with the crates. It ends in 1 where a class comes out otherwise.
 """
 import os
 import re
@@ -15,7 +15,7 @@ import sys
 import case_files
 import class_model as model
 from second_instructions import new_class, reference
-from second_machine import Ended, Frame, Machine, Raised, sweep
+from second_machine import Ended, Frame, Instance, Machine, Raised, sweep
 
 HERE = os.path.dirname(os.path.realpath(__file__))
 COMMANDS = os.path.join(HERE, "..", "crates", "product_cases", "data", "commands")
@@ -164,9 +164,23 @@ class Program:
             return refusal.args[0]
         return max((self.found[one][0] + 1 for one in uses), default=0), statics, objects
 
+    def reached(self):
+        """The objects that the static fields of the accepted classes reach, by their identity."""
+        accepted = [found for found in map(self.becomes, self.wanted) if isinstance(found, tuple)]
+        waiting, reached = [value for found in accepted for _, value in found[1].values()], set()
+        while waiting:
+            one = waiting.pop()
+            if isinstance(one, Instance) and id(one) not in reached:
+                reached.add(id(one))
+                waiting += [value for _, value in one.slots.values()] + (one.elements or [])
+        return reached
+
     def line(self, name):
         found = self.becomes(name)
-        return f"run {found}" if isinstance(found, str) else f"build {found[0]} {len(found[2])}"
+        if isinstance(found, str):
+            return f"run {found}"
+        reached = self.reached()
+        return f"build {found[0]} {sum(id(one) in reached for one in found[2])}"
 
 
 def program_of(row):

@@ -1,10 +1,12 @@
 -- What is read as an image is written as the text of that image.
-use Rattle.std.proofs.Common.{◌≡◌, ◌≢◌, ◌⊎◌, inl, inr, ℕ, List, Option, sym, subst, refl}
+use Rattle.std.proofs.Common.{◌≡◌, ◌≢◌, ◌⊎◌, ◌∙◌, inl, inr, ℕ, List, Option, sym, subst, refl}
 use Rattle.loading.specs.Families.{Family}
 use Rattle.loading.specs.Files.{Links}
 use Rattle.object_graph.specs.Images.{ImageTables}
 use Rattle.image_format.specs.declared.region.ImageRegion.{ImageRegion}
+use Rattle.image_format.specs.declared.version.Version.TheVariants.{Two}
 use Rattle.image_format.specs.Images.{AreShort, ImageText, SomeText, files_of}
+use Rattle.image_format.specs.Texts.{image_text}
 use Rattle.image_parser.specs.ImageFaults.{ImageFails}
 use Rattle.image_parser.specs.declared.image_fault.ImageFault.{ImageFault}
 use Rattle.image_parser.specs.declared.image_fault.ImageFault.TheVariants as image_faults
@@ -33,6 +35,13 @@ is_renewed bytes renewed I read written e = record {
   written = subst (λ (b : List ℕ). ImageText b I.program.family (told_of I)) (sym e)
       (written (some_links bytes I.program.family (told_of I) read));
 }
+
+-- a text of version 2 is written as it was
+pub same_text : (bytes renewed : List ℕ) (I : ImageTables) (family : Family) (regions : List (Option ImageRegion))
+    → ImageText bytes family regions → (I.program.family ≡ family) × (told_of I ≡ regions) → renewed ≡ text_of I
+    → renewed ≡ bytes
+same_text bytes renewed I family regions is (files, told) e =
+    e ∙ (λ i. image_text Two (files i) (told i)) ∙ sym is.spelled
 
 pub refused_renewal : (bytes : List ℕ) (fault : ImageFault) (r : Refusal)
     → (fault ≡ image_faults.Memory) ⊎ ImageFails bytes fault → (fault ≡ image_faults.Memory → r ≡ Memory)

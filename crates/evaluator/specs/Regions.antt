@@ -1,8 +1,8 @@
 -- Regions of classes, and the environment that they are.
-use Rattle.std.specs.Prelude.{ℕ, Bool, List, Option, Some, None, ◌==◌, if◌then◌else◌, option_map, slice_index_or}
+use Rattle.std.specs.Prelude.{ℕ, List, Option, Some, None, ◌==◌, if◌then◌else◌, option_map, slice_index_or}
 use Rattle.vm_state.specs.SharedState.{Region as RegionOf}
 use Rattle.vm_state.specs.Statics.{field_in}
-use Rattle.vm_state.specs.Pools.{pool_by, with_marked}
+use Rattle.vm_state.specs.Pools.{pool_by}
 use Rattle.semantics.specs.Quiet.{Environment}
 use Rattle.evaluator.specs.declared.regions.Region.{Region}
 
@@ -18,14 +18,6 @@ region_in regions c = slice_index_or regions c None
 abbrev pub with_region : (ℕ → Option Region) → ℕ → Region → ℕ → Option Region
 with_region regions c r d = if d == c then Some r else regions d
 
--- without the objects whose numbers are not marked
-abbrev pub marked_region : List Bool → RegionOf → RegionOf
-marked_region marks r = record r { pool = with_marked marks r.pool }
-
 -- the regions of other classes that an initializer may use
 abbrev pub environment_of : List (Option Region) → Environment
 environment_of regions c = option_map region_of (region_in regions c)
-
--- with the objects of a class alone whose numbers are marked
-abbrev pub with_marks : Environment → ℕ → List Bool → Environment
-with_marks env c marks d = if d == c then option_map (marked_region marks) (env d) else env d

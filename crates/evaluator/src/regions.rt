@@ -1,8 +1,8 @@
 //! What belongs to classes that are settled.
 
-ghost use Rattle.std.specs.Prelude.{◌≡◌, [], ◌<◌, ◌^◌, length, Some, None, replicate, slice_set, option_copied, option_map, IfOk};
+ghost use Rattle.std.specs.Prelude.{◌≡◌, [], ◌<◌, ◌^◌, length, Some, None, replicate, slice_set, option_copied, IfOk};
 ghost use Rattle.std.specs.Prelude.{OnErr, OnOk};
-ghost use Rattle.evaluator.specs.Regions.{environment_of, marked_region, region_in, region_of, with_marks, with_region};
+ghost use Rattle.evaluator.specs.Regions.{region_in, with_region};
 
 use std::alloc::{AllocError, Global};
 use std::marker::Model;
@@ -98,12 +98,14 @@ impl Regions {
         self.regions[class as usize] = Some(region);
     }
 
-    /// Leaves out the objects of a class whose numbers are not marked.
-    pub fn keep_marked(&mut self, class: u32, marks: &[bool])
-        ensures { environment_of self.new ≡ with_marks (environment_of self.old) class marks.now }
+    /// Takes the region of a class out, if it is here. Its place stays.
+    pub fn take(&mut self, class: u32) -> Option<Region>
+        ensures taken { result ≡ region_in self.old class }
+        ensures left { self.new ≡ slice_set self.old class None }
     {
-        if let Some(place) = self.regions.get_mut(class as usize) {
-            keep_marked_in(place, marks);
+        match self.regions.get_mut(class as usize) {
+            Some(place) => place.take(),
+            None => None,
         }
     }
 
@@ -117,15 +119,6 @@ impl Regions {
             self.regions.push(None)?;
         }
         Ok(())
-    }
-}
-
-/// Leaves out the objects whose numbers are not marked, where there is a region.
-fn keep_marked_in(place: &mut Option<Region>, marks: &[bool])
-    ensures { option_map region_of place.new ≡ option_map (marked_region marks.now) (option_map region_of place.old) }
-{
-    if let Some(region) = place {
-        region.objects.keep(marks);
     }
 }
 

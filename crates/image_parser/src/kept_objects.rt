@@ -17,6 +17,9 @@ use image_format::version::Version;
 use program::Program;
 use std::alloc::Global;
 
+/// The least bytes of an object: its form, the length of its class's name, and a name of one byte.
+const LEAST_OBJECT: usize = 4;
+
 /// A number, if it is not below this one, and below the count.
 fn spelled_number_at(count: u32, least: u32, bytes: &[u8]) -> Result<(u32, &[u8]), RegionFault>
     ensures value { Gives (λ x. (x.0, x.1.now)) result (object_number_at Two count least bytes.now) }
@@ -100,7 +103,7 @@ fn many_at(version: Version, count: u32, bytes: &[u8]) -> Result<(u32, &[u8]), R
     }
 }
 
-/// So many objects. No room is asked for beyond the bytes that are left.
+/// So many objects. No room is asked for beyond what the bytes that are left can hold.
 #[tactic(auto, unfolding(crate::specs::reading::Objects::so_many_at))]
 fn so_many_at<'a>(
     alloc: Global,
@@ -113,7 +116,7 @@ fn so_many_at<'a>(
     requires { AreSoMany version count many }
     ensures { Gives (λ x. (x.0, x.1.now)) result (so_many_at version program.now.family count many bytes.now) }
 {
-    let mut objects = Vec::with_capacity(alloc, (many as usize).min(bytes.len()))?;
+    let mut objects = Vec::with_capacity(alloc, (many as usize).min(bytes.len() / LEAST_OBJECT))?;
     let rest = push_objects_at(alloc, version, program, count, many, &mut objects, bytes)?;
     Ok((ImageObjects::of_vec(objects), rest))
 }

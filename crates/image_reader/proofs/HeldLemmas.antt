@@ -2,7 +2,7 @@
 use Rattle.std.proofs.Common.{◌≡◌, ◌≢◌, ◌∙◌, ◌⊎◌, inl, inr, ℕ, zero, suc, ◌+◌, ◌<◌, ◌≤◌, ◌==◌}
 use Rattle.std.proofs.Common.{true, false}
 use Rattle.std.proofs.Common.{List, [], ◌∷◌, ◌++◌, length, take, get_or, Option, Some, None, slice_get, option_map}
-use Rattle.std.proofs.Common.{refl, sym, ap, subst, arith, append_assoc, append-nil, length-append, eqb-true, eq-eqb}
+use Rattle.std.proofs.Common.{refl, sym, ap, subst, arith, append_assoc, append-nil, eqb-true, eq-eqb}
 use Rattle.std.proofs.Math.Path.{fun_ext}
 use Rattle.std.proofs.Math.Seq.{get_or-append_seam}
 use Rattle.std.specs.List.{All, AllZip}
@@ -19,7 +19,7 @@ use Rattle.loading.specs.Families.{Family}
 use Rattle.vm_state.specs.Objects.{ObjectRow, AscendsFrom, object_in}
 use Rattle.vm_state.proofs.ObjectLemmas.{none_below}
 use Rattle.vm_state.specs.Pools.{pool_by}
-use Rattle.vm_state.specs.SharedState.{Pool, Region, with_new}
+use Rattle.vm_state.specs.SharedState.{Pool, Region}
 use Rattle.vm_state.specs.Statics.{field_in, with_value}
 use Rattle.vm_state.proofs.ListLemmas.{tested, unequal}
 use Rattle.semantics.specs.Quiet.{Environment}

@@ -1,12 +1,11 @@
 -- The image of what a text says.
 use Rattle.std.proofs.Common.{◌≡◌, List, Option, Some, None, refl, sym, subst}
-use Rattle.std.proofs.Math.Path.{fun_ext}
 use Rattle.loading.specs.Families.{Family}
 use Rattle.semantics.specs.Quiet.{Environment}
 use Rattle.program.specs.Programs.{IsProgram}
 use Rattle.program.specs.Tables.{Tables}
 use Rattle.region_shape.specs.Wholes.{AreWhole}
-use Rattle.object_graph.specs.Cuts.{AreReached, IsCutOf, NothingLeftOut}
+use Rattle.object_graph.specs.Cuts.{AreReached}
 use Rattle.object_graph.specs.Images.{AreSmall}
 use Rattle.image_format.specs.declared.region.ImageRegion.{ImageRegion}
 use Rattle.image_format.specs.declared.version.Version.TheVariants as versions
@@ -43,8 +42,3 @@ module _ (P : Tables) (told : List (Option ImageRegion)) (fits : AreRegions vers
 
     pub told_again : told_regions Q env ≡ told
     told_again = regions_told Q (static_count Q is) told env fit holds
-
--- regions of which nothing is left out
-pub unchanged : NothingLeftOut → (P : Tables) (env left : Environment) → AreReached P env → IsCutOf P env left
-    → left ≡ env
-unchanged law P env left reached cut = fun_ext (λ c. law P env left reached cut c)

@@ -8,3 +8,4 @@ pub mod ImagesLemmas
 pub mod SameLemmas
 pub mod HeldAgainLemmas
 pub mod ReadAgainLemmas
+pub mod OldTextsLemmas

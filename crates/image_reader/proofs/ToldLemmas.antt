@@ -1,7 +1,8 @@
 -- What the machine holds tells what the image's text says.
-use Rattle.std.proofs.Common.{◌≡◌, ◌∙◌, inl, inr, ℕ, zero, suc, ◌+◌, ◌<◌, ◌≤◌, ◌==◌, List, [], ◌∷◌, length, map, get_or, Option, Some, None}
-use Rattle.std.proofs.Common.{true, false, eq-eqb, is_some, slice_get, option_map, refl, sym, ap, ap₂, subst, arith, add-zero}
-use Rattle.std.specs.List.{All, flat_map, range_with_len}
+use Rattle.std.proofs.Common.{◌≡◌, ◌∙◌, inl, inr, ℕ, zero, suc, ◌+◌, ◌<◌, ◌≤◌, ◌==◌, List, [], ◌∷◌, length, map, get_or}
+use Rattle.std.proofs.Common.{true, false, eq-eqb, Option, Some, None, is_some, option_map}
+use Rattle.std.proofs.Common.{refl, sym, ap, ap₂, subst, arith}
+use Rattle.std.specs.List.{All}
 use Rattle.std.proofs.lemmas.Bool.{cases_lt}
 use Rattle.std.proofs.lemmas.List.FromFn.{fill_by_all}
 use Rattle.std.proofs.lemmas.List.Elements.{All-get_or, All-head, All-tail}
@@ -40,7 +41,6 @@ use Rattle.image_format.specs.Told.{told_object, told_kept, told_objects, told_f
 use Rattle.image_reader.specs.steps.Held.{HoldsObject, HasUnits, HoldsValue, HoldsValues, HoldsField, HoldsFields}
 use Rattle.image_reader.specs.steps.Held.{HoldsNumber, HoldsObjects, HoldsRegion, HoldsClass, HoldsRegions, HoldsType}
 use Rattle.image_reader.proofs.HeldLemmas.{values_units, slots_units}
-use Rattle.image_reader.proofs.ClassesLemmas.{is_in}
 
 -- ---- values and objects, under these strings
 

@@ -8,7 +8,7 @@ use Rattle.std.specs.List.{All, AllByRecursion, AllZip, Contains}
 use Rattle.std.proofs.lemmas.Bool.{and_parts, lt-ltb, leb-true, le-leb}
 use Rattle.std.proofs.lemmas.List.{length-replicate}
 use Rattle.std.proofs.lemmas.List.Elements.{All-head, All-tail}
-use Rattle.std.proofs.lemmas.Option.{slice_get_past, slice_get_within, slice_get-get_or}
+use Rattle.std.proofs.lemmas.Option.{slice_get_within, slice_get-get_or}
 use Rattle.std.proofs.lemmas.Slice.Zip.{AllZip-long}
 use Rattle.classfile.specs.Units.{units_text}
 use Rattle.built_in.specs.declared.class_id.ArrayType.{ArrayType}
@@ -53,7 +53,6 @@ use Rattle.image_format.specs.declared.value.ImageValue.{ImageValue}
 use Rattle.image_format.specs.declared.value.ImageValue.TheVariants as values
 use Rattle.image_format.specs.Elements.{kind_of_type, kind_of_elements}
 use Rattle.image_format.specs.Names.{class_name, name_of_class}
-use Rattle.image_format.specs.declared.object.KeptObject.{KeptObject}
 use Rattle.image_format.specs.declared.version.Version.TheVariants as versions
 use Rattle.image_format.specs.Images.{AreRegions, IsThere}
 use Rattle.image_format.specs.Objects.{region_in, statics_of, objects_of, object_with, object_of}
@@ -330,8 +329,8 @@ module _ (P : Tables) where
 
 -- ---- all regions
 
-module _ (P : Tables) (told : List (Option ImageRegion)) (env : Environment) (fits : AreRegions versions.Two P.family told)
-    (holds : HoldsRegions P.strings told env) where
+module _ (P : Tables) (told : List (Option ImageRegion)) (env : Environment)
+    (fits : AreRegions versions.Two P.family told) (holds : HoldsRegions P.strings told env) where
   record IsTold (c : ℕ) (r : Region) : Type 0 where
     region : ImageRegion
     at : slice_get told c ≡ Some (Some region)
@@ -422,7 +421,8 @@ module _ (P : Tables) (told : List (Option ImageRegion)) (env : Environment) (fi
   -- ---- what static fields reach
 
   held_static : (statics : (c : ℕ) → length (statics_in P c) ≡ length (static_kinds P.family c)) (d c n : ℕ)
-      → Contains (statics_of (region_in told d)) (values.Object c n) → IsReached P env (record { class = c; number = n })
+      → Contains (statics_of (region_in told d)) (values.Object c n)
+      → IsReached P env (record { class = c; number = n })
   held_static statics d c n h = by (region_in told d) (env d) refl refl (holds d) h
     where
       by : (t : Option ImageRegion) (o : Option Region) → region_in told d ≡ t → env d ≡ o → HoldsClass P.strings t o
@@ -479,7 +479,7 @@ module _ (P : Tables) (told : List (Option ImageRegion)) (env : Environment) (fi
 
   pub regions_reached : ((c : ℕ) → length (statics_in P c) ≡ length (static_kinds P.family c)) → AreReached P env
   regions_reached statics x object at =
-      by (object_of told x.class x.number) refl (same_there x.class x.number ∙ refl)
+      by (object_of told x.class x.number) refl
     where
       there : is_some (object_of told x.class x.number) ≡ true
       there = sym (same_there x.class x.number) ∙ of_pool (env x.class) at
@@ -489,11 +489,9 @@ module _ (P : Tables) (told : List (Option ImageRegion)) (env : Environment) (fi
           of_pool None e = absurd cc
           of_pool (Some r) e = ap is_some e
 
-      by : (t : Option ImageObject) → object_of told x.class x.number ≡ t
-          → is_held (option_map (λ (r : Region). r.pool) (env x.class)) x.number
-          ≡ is_some (object_of told x.class x.number) → IsReached P env x
-      by None e same = absurd (let clash : false ≡ true = sym (ap is_some e) ∙ there in cc)
-      by (Some t) e same = held_reached statics x.class x.number (fits.needed x.class x.number t e)
+      by : (t : Option ImageObject) → object_of told x.class x.number ≡ t → IsReached P env x
+      by None e = absurd (let clash : false ≡ true = sym (ap is_some e) ∙ there in cc)
+      by (Some t) e = held_reached statics x.class x.number (fits.needed x.class x.number t e)
 
   pub regions_whole : AreWhole P env
   regions_whole = record {

@@ -16,11 +16,11 @@ ghost use Rattle.image_format.specs.declared.version.Version.TheVariants.{Two};
 ghost use Rattle.image_format.specs.Names.{name_of_class};
 ghost use Rattle.image_format.specs.Objects.{object_with};
 ghost use Rattle.image_format.specs.Shapes.{AreNumbered, HasObjects, HasShape, ObjectHasShape};
-ghost use Rattle.image_reader.specs.steps.Held.{AddsStrings, HaveShape, HoldsAt, HoldsClass, HoldsKept, HoldsObject, HoldsObjects};
-ghost use Rattle.image_reader.specs.steps.Held.{HoldsElement, HoldsRegion, HoldsRegions, HoldsType, MayHaveShape};
+ghost use Rattle.image_reader.specs.steps.Held.{AddsStrings, HaveShape, HoldsAt, HoldsClass, HoldsElement};
+ghost use Rattle.image_reader.specs.steps.Held.{HoldsKept, HoldsObject, HoldsObjects, HoldsRegion, HoldsRegions};
+ghost use Rattle.image_reader.specs.steps.Held.{HoldsType, MayHaveShape};
 
 use crate::held_values::{held_fields, held_values};
-use crate::rows::row_of;
 use built_in::class_id::{ArrayType, ClassId, ElementType};
 use classfile::ClassName;
 use evaluator::regions::{Region, Regions};
@@ -135,7 +135,7 @@ fn held_objects(
 {
     let mut held = Vec::with_capacity(alloc, objects.len())?;
     push_objects(alloc, program, objects, &mut held)?;
-    Ok(row_of(u64::from(count), held))
+    Ok(Row::of_objects(u64::from(count), held))
 }
 
 /// The region of a class.
@@ -148,7 +148,8 @@ fn held_region(
     requires { HasShape Two program.old.family class region.now }
     ensures holds { IfOk result (λ held. HoldsRegion program.new.strings region.now (region_of held)) }
     ensures adds { OnOk result (AddsStrings program.old program.new) }
-    ensures same { (r : HeldRegion) → HoldsRegion program.old.strings region.now r → OnOk result (program.new ≡ program.old) }
+    ensures same { (r : HeldRegion) → HoldsRegion program.old.strings region.now r
+        → OnOk result (program.new ≡ program.old) }
 {
     let _classes = program.classes();
     let fields = held_fields(alloc, program, region.statics.as_slice())?;

@@ -5,7 +5,6 @@ mod held_regions;
 mod held_values;
 pub mod laws;
 mod reading;
-mod rows;
 mod start;
 
 pub use image_parser::ImageFault;

@@ -18,8 +18,7 @@ ghost use Rattle.image_reader.specs.steps.Held.{HoldsRegions};
 
 use crate::held_regions::held_regions;
 use image_parser::{ImageFault, Parsed, parse};
-use object_graph::laws::nothing_left_out;
-use object_graph::{Image, gather};
+use object_graph::Image;
 use std::alloc::{AllocError, Global};
 
 /// Reads an image of version 2, or of version 1 without the objects that no static field reaches: the program of its
@@ -56,7 +55,7 @@ pub fn read(alloc: Global, bytes: &[u8]) -> Result<Image, ImageFault>
     }
 }
 
-/// The image that a text says.
+/// The image that a text says, all of whose objects are reached.
 fn image_of(alloc: Global, parsed: Parsed) -> Result<Image, AllocError>
     requires { AreRegions Two parsed.program.family parsed.regions }
     ensures family { IfOk result (λ image. image.program.family ≡ parsed.program.family) }
@@ -75,7 +74,5 @@ fn image_of(alloc: Global, parsed: Parsed) -> Result<Image, AllocError>
     let _linked = program.classes();
     let held = held_regions(alloc, &mut program, regions.as_slice())?;
     let _classes = program.classes();
-    nothing_left_out();
-    let image = gather(alloc, program, held)?;
-    Ok(image)
+    Ok(Image::of_reached(program, held))
 }

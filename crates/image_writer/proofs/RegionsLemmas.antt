@@ -1,13 +1,9 @@
 -- What an image's text tells of whole regions are regions of an image.
 use Rattle.std.proofs.Common.{◌≡◌, ◌∙◌, ◌⊎◌, inl, inr, ℕ, zero, suc, ◌+◌, ◌<◌, ◌≤◌, ◌==◌, true, false}
-use Rattle.std.proofs.Common.{List, [], ◌∷◌, ◌++◌, length, map, Option, Some, None, is_some, slice_get, option_map}
+use Rattle.std.proofs.Common.{List, [], ◌∷◌, length, map, Option, Some, None, is_some, slice_get, option_map}
 use Rattle.std.proofs.Common.{refl, sym, ap, subst, arith, eqb-true}
-use Rattle.std.specs.List.{All, AllZip, flat_map, range_with_len}
-use Rattle.std.proofs.lemmas.Bool.{cases_lt, ltb-true}
-use Rattle.std.proofs.lemmas.List.{get_or_past}
-use Rattle.std.proofs.lemmas.List.Concat.{flat_map-cons}
-use Rattle.std.proofs.lemmas.List.Elements.{All-nil, All-cons, All-same, All-append}
-use Rattle.std.proofs.lemmas.List.FromFn.{length-map-range_with_len, get_or-map-range_with_len}
+use Rattle.std.specs.List.{All, AllZip, range_with_len}
+use Rattle.std.proofs.lemmas.List.Elements.{All-nil, All-cons}
 use Rattle.std.proofs.lemmas.Option.{get_or_from_slice_get, same_Some, slice_get_within}
 use Rattle.classfile.specs.Class.{IsClassFile}
 use Rattle.loading.specs.declared.given.GivenClass.{GivenClass}
@@ -34,7 +30,7 @@ use Rattle.image_format.specs.declared.object.KeptObject.{KeptObject}
 use Rattle.image_format.specs.declared.region.ImageRegion.{ImageRegion}
 use Rattle.image_format.specs.Images.{AreRegions, AreClassFiles, AreShort, ImageText, files_of}
 use Rattle.image_format.specs.Images.{IsThere, NamesObjects}
-use Rattle.image_format.specs.Objects.{region_in, objects_of, object_with, object_of}
+use Rattle.image_format.specs.Objects.{object_of}
 use Rattle.image_format.specs.declared.version.Version.TheVariants as versions
 use Rattle.image_format.specs.Shapes.{HasShape, ObjectHasShape, Suits}
 use Rattle.image_format.specs.Told.{told_value, told_object, told_region, told_regions}
@@ -43,8 +39,8 @@ use Rattle.image_writer.specs.steps.Fits.{ClassFits}
 use Rattle.image_writer.specs.steps.Sizes.{HasFiles}
 use Rattle.image_writer.proofs.ProgramsLemmas.{class_count, static_count}
 use Rattle.image_writer.proofs.SizesLemmas.{region_sized}
-use Rattle.image_format.proofs.RowsLemmas.{numbered_told, all_told, told_at}
-use Rattle.image_writer.proofs.ReachedLemmas.{told_reached}
+use Rattle.image_format.proofs.RowsLemmas.{numbered_told, all_told}
+use Rattle.image_writer.proofs.ReachedLemmas.{told_count, told_of_class, told_object_of, told_reached}
 use Rattle.image_writer.proofs.SuitsLemmas.{fields_suit, object_told, value_suits}
 
 module _ (P : Tables) (env : Environment) (has : HasFiles P) (whole : AreWhole P env) (small : AreSmall P env)
@@ -55,46 +51,23 @@ module _ (P : Tables) (env : Environment) (has : HasFiles P) (whole : AreWhole P
   abbrev told : List (Option ImageRegion)
   told = told_regions P env
 
+  no_more : (c : ℕ) (r : Region) → env c ≡ Some r → (n : ℕ) → r.pool.count ≤ n → r.pool.at n ≡ None
+  no_more c r here = (whole.shape c r here).no_more
+
+  low : (c : ℕ) (r : Region) → env c ≡ Some r → c < length P.family
+  low c r here = omega (arith, small.classes c r here, classes)
+
   count : length told ≡ length P.family
-  count = length-map-range_with_len (λ k. option_map (told_region P k) (env k)) 0 (length P.family)
-
-  told_of_class : (c : ℕ) → c < length P.family → region_in told c ≡ option_map (told_region P c) (env c)
-  told_of_class c low =
-      let start : 0 + c ≡ c = omega arith in
-      get_or-map-range_with_len (λ k. option_map (told_region P k) (env k)) 0 (length P.family) c c None low start
-
-  -- ---- objects, by the machine and by the text
-
-  told_object_of : (c n : ℕ) → object_of told c n ≡ option_map (told_object P.strings) (object_among (env c) n)
-  told_object_of c n = elim (cases_lt c (length P.family)) [
-    | inl low ↦ ap (λ (o : Option ImageRegion). object_with (objects_of o) n) (told_of_class c low)
-        ∙ within (env c) refl
-    | inr high ↦ ap (λ (o : Option ImageRegion). object_with (objects_of o) n)
-        (get_or_past told c None (omega (arith, high, count))) ∙ past (env c) refl high
-  ]
-    where
-      within : (o : Option Region) → env c ≡ o
-          → object_with (objects_of (option_map (told_region P c) o)) n
-          ≡ option_map (told_object P.strings) (object_among o n)
-      within None is = refl
-      within (Some r) is = told_at P.strings r.pool n (whole.shape c r is).no_more
-
-      past : (o : Option Region) → env c ≡ o → length P.family ≤ c
-          → None ≡ option_map (told_object P.strings) (object_among o n)
-      past None is high = refl
-      past (Some r) is high = absurd (omega (arith, high, small.classes c r is, classes))
+  count = told_count P env no_more low
 
   pub told_some : (c n : ℕ) → is_some (object_of told c n) ≡ is_some (object_among (env c) n)
-  told_some c n = ap is_some (told_object_of c n) ∙ same (object_among (env c) n)
+  told_some c n = ap is_some (told_object_of P env no_more low c n) ∙ same (object_among (env c) n)
     where
       same : (o : Option Object) → is_some (option_map (told_object P.strings) o) ≡ is_some o
       same None = refl
       same (Some o) = refl
 
   module _ (c : ℕ) (r : Region) (here : env c ≡ Some r) where
-    low : c < length P.family
-    low = omega (arith, small.classes c r here, classes)
-
     -- ---- shape
 
     abbrev wanted : List FieldKind
@@ -106,7 +79,7 @@ module _ (P : Tables) (env : Environment) (has : HasFiles P) (whole : AreWhole P
         let suits_it : SuitsField (Some kind) (r.fields k) =
         subst (λ (o : Option FieldKind). SuitsField o (r.fields k)) at ((whole.shape c r here).statics k) in
         value_suits P has kind (r.fields k) suits_it
-        ((fits c low r here).statics k
+        ((fits c (low c r here) r here).statics k
         (omega (arith, slice_get_within wanted k kind at, static_count P has.program c)))
         ((region_sized P env has whole small c r here).statics k)
 
@@ -121,7 +94,7 @@ module _ (P : Tables) (env : Environment) (has : HasFiles P) (whole : AreWhole P
     one_told : (n : ℕ) (o : Object) → r.pool.at n ≡ Some o → ObjectHasShape P.family (told_object P.strings o)
     one_told n o at =
         object_told P has o ((whole.shape c r here).objects n o at)
-        ((fits c low r here).slots n o at)
+        ((fits c (low c r here) r here).slots n o at)
         ((region_sized P env has whole small c r here).objects n o at).slots (small.elements c n r o here at)
 
     shape_told : HasShape versions.Two P.family c (told_region P c r)
@@ -194,7 +167,7 @@ module _ (P : Tables) (env : Environment) (has : HasFiles P) (whole : AreWhole P
   held_of : (c : ℕ) (t : ImageRegion) → slice_get told c ≡ Some (Some t) → IsHeld c t
   held_of c t at =
       let within : c < length P.family = omega (arith, slice_get_within told c (Some t) at, count) in
-      by (env c) refl (sym (told_of_class c within) ∙ get_or_from_slice_get told c (Some t) None at)
+      by (env c) refl (sym (told_of_class P env no_more low c within) ∙ get_or_from_slice_get told c (Some t) None at)
     where
       by : (o : Option Region) → env c ≡ o → option_map (told_region P c) o ≡ Some t → IsHeld c t
       by None is same = absurd cc
@@ -209,7 +182,7 @@ module _ (P : Tables) (env : Environment) (has : HasFiles P) (whole : AreWhole P
     names = λ c t at.
         let held = held_of c t at in
         subst (NamesObjects told) held.is (names_told c held.region held.here);
-    needed = told_reached P env told told_of_class told_object_of count reached small.classes classes;
+    needed = told_reached P env no_more low reached;
   }
 
 -- ---- the text
@@ -223,7 +196,8 @@ class_files (given ∷ family) files =
     (class_files family (λ c g at. files (suc c) g at))
 
 pub is_text : (P : Tables) (env : Environment) → HasFiles P → IsFamily P.family → AreWhole P env → AreSmall P env
-    → AreReached P env → ((c : ℕ) → c < length P.family → ClassFits P env c) → AreShort P.family → Links (files_of P.family)
+    → AreReached P env → ((c : ℕ) → c < length P.family → ClassFits P env c) → AreShort P.family
+    → Links (files_of P.family)
     → ImageText (image_text versions.Two P.family (told_regions P env)) P.family (told_regions P env)
 is_text P env has family whole small reached fits short links = record {
   classes = family;

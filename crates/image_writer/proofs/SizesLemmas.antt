@@ -1,16 +1,13 @@
 -- The parts of an image have sizes that fit.
-use Rattle.std.proofs.Common.{◌≡◌, ◌∙◌, ℕ, zero, suc, ◌+◌, ◌<◌, ◌^◌, ◌==◌, true, false, inl, inr}
+use Rattle.std.proofs.Common.{◌≡◌, ◌∙◌, ℕ, ◌+◌, ◌<◌, ◌^◌, ◌==◌, true, false, inl, inr}
 use Rattle.std.proofs.Common.{ltb, leb}
-use Rattle.std.proofs.Common.{List, [], ◌∷◌, ◌++◌, length, map, replicate, Option, Some, None, is_some, option_map}
+use Rattle.std.proofs.Common.{List, [], ◌++◌, length, replicate, Option, Some, None, is_some, option_map}
 use Rattle.std.proofs.Common.{get_or, slice_get, unwrap_or}
 use Rattle.std.proofs.Common.{refl, sym, ap, subst, arith, length-append}
-use Rattle.std.specs.List.{flat_map, range_with_len}
 use Rattle.std.proofs.lemmas.Bool.{cases_lt, and_parts, ltb-true, leb-true}
 use Rattle.std.proofs.lemmas.List.{length-replicate}
 use Rattle.std.proofs.lemmas.Option.{get_or_from_slice_get}
-use Rattle.std.proofs.lemmas.List.Concat.{flat_map-append}
 use Rattle.std.proofs.lemmas.List.Elements.{All-from_recursion, All-weaker}
-use Rattle.std.proofs.lemmas.List.FromFn.{map-range_with_len_more}
 use Rattle.classfile.specs.ClassFile.{ClassFile}
 use Rattle.built_in.specs.ClassNames.{name_of_built_in}
 use Rattle.built_in.specs.declared.class_id.ArrayType.{ArrayType}

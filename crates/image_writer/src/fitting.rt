@@ -8,7 +8,6 @@ ghost use Rattle.vm_state.specs.Statics.{field_in};
 ghost use Rattle.evaluator.specs.Regions.{environment_of};
 ghost use Rattle.image_writer.specs.steps.Fits.{ClassFits, FitsType};
 
-use crate::rows::objects_of;
 use object_graph::Image;
 use vm_state::classes::Fields;
 use vm_state::object::Object;
@@ -54,7 +53,7 @@ fn class_fits(image: &Image, class: u32)
 {
     if let Some(region) = image.region(class) {
         fields_fit(&region.fields, image.static_count(class));
-        objects_fit(objects_of(&region.objects));
+        objects_fit(region.objects.objects());
     }
 }
 

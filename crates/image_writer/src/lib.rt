@@ -5,7 +5,6 @@ mod files;
 mod fitting;
 mod numbers;
 mod objects;
-mod rows;
 mod sending;
 mod text;
 mod values;

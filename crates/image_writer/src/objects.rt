@@ -14,7 +14,6 @@ ghost use Rattle.image_writer.specs.steps.Sizes.{HasFiles, IsSizedValue, IsSized
 
 use crate::files::has_files;
 use crate::numbers::{push_named, push_u8, push_u32};
-use crate::rows::{count_of, objects_of};
 use crate::values::{push_elements, push_fields, push_values, string_of};
 use built_in::class_id::{ArrayType, ClassId, ElementType};
 use evaluator::regions::Region;
@@ -177,8 +176,8 @@ fn push_region(
         (told_region image.now.program class (region_of region.now))) }
 {
     let program = image.program();
-    let objects = objects_of(&region.objects);
-    let made = count_of(&region.objects) as u32;
+    let objects = region.objects.objects();
+    let made = region.objects.count() as u32;
     push_u32(out, made)?;
     push_fields(
         alloc,

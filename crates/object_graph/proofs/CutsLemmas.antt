@@ -52,7 +52,7 @@ each Q (v ∷ vs) h = (
   each Q vs (λ u is. h u (suc is.0, (let k : is.0 < length vs = is.1 in omega arith), is.2)),
 )
 
-one_of : (Q : Value → Type 0) (vs : List Value) (v : Value) → AllByRecursion Q vs → Contains vs v → Q v
+pub one_of : (Q : Value → Type 0) (vs : List Value) (v : Value) → AllByRecursion Q vs → Contains vs v → Q v
 one_of Q [] v all is = absurd (omega (arith, is.1))
 one_of Q (u ∷ vs) v all (zero, low, is) = subst Q is all.0
 one_of Q (u ∷ vs) v all (suc k, low, is) = one_of Q vs v all.1 (k, omega (arith, low), is)

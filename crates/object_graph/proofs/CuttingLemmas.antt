@@ -1,105 +1,170 @@
 -- Regions whose objects are left out class by class.
-use Rattle.std.proofs.Common.{◌≡◌, ◌≢◌, ◌∙◌, ◌↔◌, ℕ, ◌+◌, ◌<◌, ◌≤◌, Bool, true, List, length, Option, Some, None, IsTrue}
-use Rattle.std.proofs.Common.{option_map, refl, sym, ap, subst, eq-eqb, ne_eqb, inl, inr, arith}
+use Rattle.std.proofs.Common.{◌≡◌, ◌≢◌, ◌∙◌, ◌↔◌, ◌⊎◌, ℕ, ◌+◌, ◌<◌, ◌≤◌, ◌==◌, true, false, List, length, Option, Some}
+use Rattle.std.proofs.Common.{None, slice_get}
+use Rattle.std.proofs.Common.{slice_set, option_map, if◌then◌else◌, refl, sym, ap, subst, eq-eqb, eqb-true, ne_eqb, inl}
+use Rattle.std.proofs.Common.{inr, arith}
 use Rattle.std.specs.List.{Contains}
 use Rattle.std.proofs.lemmas.Bool.{cases_lt}
-use Rattle.vm_state.specs.Pools.{is_marked}
+use Rattle.std.proofs.lemmas.List.{length-set, set_past, get_or_past}
+use Rattle.vm_state.specs.declared.object.Object.{Object}
 use Rattle.vm_state.specs.SharedState.{Region}
-use Rattle.vm_state.proofs.ListLemmas.{tested}
+use Rattle.vm_state.proofs.ListLemmas.{get_or-slice_set, tested}
 use Rattle.semantics.specs.Quiet.{Environment}
 use Rattle.program.specs.Programs.{IsProgram}
 use Rattle.program.specs.Tables.{Tables}
 use Rattle.region_shape.specs.Wholes.{AreWhole}
-use Rattle.evaluator.specs.Regions.{marked_region, with_marks}
-use Rattle.object_graph.specs.declared.name_set.ObjectName.{ObjectName}
+use Rattle.place_set.specs.declared.set.Place.{Place}
+use Rattle.evaluator.specs.declared.regions.Region.{Region as Held}
+use Rattle.evaluator.specs.Regions.{region_of, region_in, environment_of}
 use Rattle.object_graph.specs.Cuts.{IsCutRegion, IsCutAt, IsCutOf, AreReached}
 use Rattle.object_graph.specs.Images.{AreSmall}
 use Rattle.object_graph.specs.Reached.{IsReached}
-use Rattle.object_graph.specs.steps.Marks.{marks_in}
+use Rattle.object_graph.specs.steps.Kept.{is_among, kept_from, kept_in, kept_region}
+use Rattle.object_graph.specs.steps.Places.{row_of, row_in, name_in, IsReachedAt}
 use Rattle.object_graph.proofs.CutsLemmas.{part_whole, part_small, all_reached}
+use Rattle.object_graph.proofs.KeptLemmas.{place, among, from_kept, object_kept}
+use Rattle.object_graph.proofs.RowLemmas.{stands}
 
-module _ (names : List ObjectName) (c : ℕ) (marks : List Bool)
-    (are : (n : ℕ) → IsTrue (marks_in marks n) ↔ Contains names (record { class = c; number = n })) where
-  region_cut : (r : Region) → IsCutRegion (Contains names) c r (marked_region marks r)
-  region_cut r = record {
-    fields = refl;
-    count = refl;
-    kept = λ n has. (let marked : is_marked marks n ≡ true = (are n).1 has in rw marked refl);
-    only = λ n o at. elim (tested (is_marked marks n)) [
-      | inl marked ↦ (are n).0 marked
-      | inr not_marked ↦ absurd (let clash : None ≡ Some o = rw not_marked at at in cc)
-    ];
-  }
+-- ---- one class
 
-  pub marked_cut : (o : Option Region) → IsCutAt (Contains names) c o (option_map (marked_region marks) o)
-  marked_cut None = tt
-  marked_cut (Some r) = region_cut r
+-- a region that is taken out, and put back as another one
+pub put_back : (old mid new : List (Option Held)) (c : ℕ) (held : Held) → mid ≡ slice_set old c None → c < length old
+    → new ≡ slice_set mid c (Some held) → region_in new c ≡ Some held
+put_back old mid new c held taken low put =
+    let same : (c == c) ≡ true = eq-eqb c c refl in
+    ap (λ (rs : List (Option Held)). region_in rs c) put
+    ∙ get_or-slice_set mid c c (Some held) None (omega (arith, low, ap length taken, length-set old c None))
+    ∙ rw same refl
 
-  pub class_cut : (old new : Environment) → new ≡ with_marks old c marks → IsCutAt (Contains names) c (old c) (new c)
-  class_cut old new is =
-      let here : new c ≡ option_map (marked_region marks) (old c) =
-      ap (λ (env : Environment). env c) is ∙ rw (eq-eqb c c refl) refl in
-      subst (IsCutAt (Contains names) c (old c)) (sym here) (marked_cut (old c))
+pub others_stay : (old mid new : List (Option Held)) (c : ℕ) (held : Held) → mid ≡ slice_set old c None → c < length old
+    → new ≡ slice_set mid c (Some held) → (d : ℕ) → d ≢ c → region_in new d ≡ region_in old d
+others_stay old mid new c held taken low put d other =
+    ap (λ (rs : List (Option Held)). region_in rs d) put
+    ∙ (get_or-slice_set mid c d (Some held) None (omega (arith, low, ap length taken, length-set old c None))
+    ∙ (rw (ne_eqb d c other) refl
+    ∙ (ap (λ (rs : List (Option Held)). region_in rs d) taken
+    ∙ (get_or-slice_set old c d None None low ∙ rw (ne_eqb d c other) refl))))
 
-pub others_same : (old new : Environment) (c : ℕ) (marks : List Bool) → new ≡ with_marks old c marks → (d : ℕ) → d ≢ c
-    → new d ≡ old d
-others_same old new c marks is d other = ap (λ (env : Environment). env d) is ∙ rw (ne_eqb d c other) refl
+-- a class that has a region has a place for it
+pub region_low : (regions : List (Option Held)) (c : ℕ) (held : Held) → Some held ≡ region_in regions c
+    → c < length regions
+region_low regions c held here = elim (cases_lt c (length regions)) [
+  | inl less ↦ less
+  | inr high ↦ absurd (let clash : Some held ≡ None = here ∙ get_or_past regions c None high in cc)
+]
+
+-- where there was no region there is none
+pub none_taken : (old new : List (Option Held)) (c : ℕ) → new ≡ slice_set old c None → None ≡ region_in old c → (d : ℕ)
+    → region_in new d ≡ region_in old d
+none_taken old new c taken none d = elim (cases_lt c (length old)) [
+  | inl low ↦
+      ap (λ (rs : List (Option Held)). region_in rs d) taken
+      ∙ (get_or-slice_set old c d None None low ∙ by (tested (d == c)))
+  | inr high ↦ ap (λ (rs : List (Option Held)). region_in rs d) (taken ∙ set_past old c None high)
+]
+  where
+    by : ((d == c) ≡ true) ⊎ ((d == c) ≡ false) → (if d == c then None else region_in old d) ≡ region_in old d
+    by (inl e) = rw e (none ∙ ap (region_in old) (sym (eqb-true d c e)))
+    by (inr e) = rw e refl
 
 -- ---- class by class
 
--- the first so many classes have those objects alone, and the others all of theirs
-pub record IsCutBelow (names : List ObjectName) (old : Environment) (count : ℕ) (new : Environment) : Type 0 where
-  pub cut : (c : ℕ) → c < count → IsCutAt (Contains names) c (old c) (new c)
-  pub other : (c : ℕ) → count ≤ c → new c ≡ old c
+-- the first so many classes have those objects alone whose places are found, and the others all of theirs
+pub record IsCutBelow (found : List Place) (old : List (Option Held)) (count : ℕ)
+    (new : List (Option Held)) : Type 0 where
+  pub cut : (c : ℕ) → c < count → region_in new c ≡ kept_region found c (region_in old c)
+  pub other : (c : ℕ) → count ≤ c → region_in new c ≡ region_in old c
 
-pub cut_none : (names : List ObjectName) (env : Environment) → IsCutBelow names env 0 env
-cut_none names env = record { cut = λ c low. absurd (omega (arith, low)); other = λ c past. refl }
+pub cut_none : (found : List Place) (regions : List (Option Held)) → IsCutBelow found regions 0 regions
+cut_none found regions = record { cut = λ c low. absurd (omega (arith, low)); other = λ c past. refl }
 
-pub cut_more : (names : List ObjectName) (old mid new : Environment) (count : ℕ) → IsCutBelow names old count mid
-    → IsCutAt (Contains names) count (mid count) (new count) → ((c : ℕ) → c ≢ count → new c ≡ mid c)
-    → IsCutBelow names old (count + 1) new
-cut_more names old mid new count before cut same = record {
+pub cut_more : (found : List Place) (old mid new : List (Option Held)) (count : ℕ) → IsCutBelow found old count mid
+    → region_in new count ≡ kept_region found count (region_in mid count)
+    → ((c : ℕ) → c ≢ count → region_in new c ≡ region_in mid c) → IsCutBelow found old (count + 1) new
+cut_more found old mid new count before cut same = record {
   cut = λ c low. elim (cases_lt c count) [
-    | inl less ↦
-        subst (IsCutAt (Contains names) c (old c)) (sym (same c (λ e. omega (arith, less, e)))) (before.cut c less)
+    | inl less ↦ same c (λ e. omega (arith, less, e)) ∙ before.cut c less
     | inr high ↦
         let here : count ≡ c = omega (arith, low, high) in
-        subst (λ (k : ℕ). IsCutAt (Contains names) k (old k) (new k)) here
-        (subst (λ (o : Option Region). IsCutAt (Contains names) count o (new count)) (before.other count (omega arith))
-        cut)
+        subst (λ (k : ℕ). region_in new k ≡ kept_region found k (region_in old k)) here
+        (cut ∙ ap (kept_region found count) (before.other count (omega arith)))
   ];
   other = λ c past. same c (λ e. omega (arith, past, e)) ∙ before.other c (omega (arith, past));
 }
 
 -- ---- all of them
 
-module _ (names : List ObjectName) (These : ObjectName → Type 0) (are : (x : ObjectName) → Contains names x ↔ These x)
-    (c : ℕ) where
-  same_region : (r s : Region) → IsCutRegion (Contains names) c r s → IsCutRegion These c r s
-  same_region r s cut = record {
-    fields = cut.fields;
-    count = cut.count;
-    kept = λ n so. cut.kept n ((are _).1 so);
-    only = λ n o at. (are _).0 (cut.only n o at);
-  }
+module _ (P : Tables) (regions : List (Option Held)) (found : List Place)
+    (are : (x : Place) → Contains found x ↔ IsReachedAt P regions x) (c : ℕ) where
+  module _ (held : Held) (here : region_in regions c ≡ Some held) where
+    -- what stands in the row
+    stood : (i : ℕ) (o : ℕ × Object) → slice_get held.objects.objects i ≡ Some o
+        → slice_get (row_in regions c).objects i ≡ Some o
+    stood i o at = ap (λ (r : Option Held). slice_get (row_of r).objects i) here ∙ at
 
-  same_at : (w p : Option Region) → IsCutAt (Contains names) c w p → IsCutAt These c w p
-  same_at None None is = tt
-  same_at None (Some p) is = absurd is
-  same_at (Some w) None is = absurd is
-  same_at (Some w) (Some p) is = same_region w p is
+    found_reached : (i : ℕ) (o : ℕ × Object) → slice_get held.objects.objects i ≡ Some o
+        → is_among found (place c i) ≡ true → IsReached P (environment_of regions) (name_in c o)
+    found_reached i o at on =
+        let r = (are (place c i)).0 ((among found (place c i)).0 on) in
+        let both : Some r.held ≡ Some o = sym r.at ∙ stood i o at in
+        let same : r.held ≡ o = cc in
+        let Q : ℕ × Object → Type 0 = λ z. IsReached P (environment_of regions) (name_in c z) in
+        subst Q same r.reached
 
-pub all_cut : (P : Tables) (names : List ObjectName) (old new : Environment) (count : ℕ) → AreSmall P old
-    → count ≡ length P.classes → ((x : ObjectName) → Contains names x ↔ IsReached P old x)
-    → ((c : ℕ) → c < count → IsCutAt (Contains names) c (old c) (new c)) → ((c : ℕ) → count ≤ c → new c ≡ old c)
-    → IsCutOf P old new
-all_cut P names old new count small counted are cut other c = elim (cases_lt c count) [
-  | inl less ↦ same_at names (IsReached P old) are c (old c) (new c) (cut c less)
-  | inr high ↦ past high (old c) refl
+    reached_found : (i : ℕ) (o : ℕ × Object) → slice_get held.objects.objects i ≡ Some o
+        → IsReached P (environment_of regions) (name_in c o) → is_among found (place c i) ≡ true
+    reached_found i o at is =
+        (among found (place c i)).1 ((are (place c i)).1 (record { held = o; at = stood i o at; reached = is }))
+
+    region_cut : IsCutRegion (IsReached P (environment_of regions)) c (region_of held)
+        (region_of (kept_in found c held))
+    region_cut = record {
+      fields = refl;
+      count = refl;
+      kept = λ n so. object_kept found c 0 held.objects.objects n (λ j o at number.
+          let Q : ℕ → Type 0 = λ k. IsReached P (environment_of regions) (record { class = c; number = k }) in
+          let k : j ≡ 0 + j = omega arith in
+          let R : ℕ → Type 0 = λ i. is_among found (place c i) ≡ true in
+          subst R k (reached_found j o at (subst Q (sym number) so)));
+      only = λ n o at.
+          let s = stands (kept_from found c 0 held.objects.objects) n o at in
+          let r = from_kept found c 0 held.objects.objects s.0.index s.0.held s.0.at in
+          let k : 0 + r.index ≡ r.index = omega arith in
+          let R : ℕ → Type 0 = λ i. is_among found (place c i) ≡ true in
+          let Q : ℕ → Type 0 = λ z. IsReached P (environment_of regions) (record { class = c; number = z }) in
+          subst Q s.0.number (found_reached r.index s.0.held r.at (subst R k r.wanted));
+    }
+
+  cut_at : (o : Option Held) → region_in regions c ≡ o
+      → IsCutAt (IsReached P (environment_of regions)) c (option_map region_of o)
+      (option_map region_of (kept_region found c o))
+  cut_at None none = tt
+  cut_at (Some held) some = region_cut held some
+
+  pub class_cut : (new : List (Option Held)) → region_in new c ≡ kept_region found c (region_in regions c)
+      → IsCutAt (IsReached P (environment_of regions)) c (environment_of regions c) (environment_of new c)
+  class_cut new is =
+      let same : environment_of new c ≡ option_map region_of (kept_region found c (region_in regions c)) =
+      ap (option_map region_of) is in
+      subst (IsCutAt (IsReached P (environment_of regions)) c (environment_of regions c)) (sym same)
+      (cut_at (region_in regions c) refl)
+
+pub all_cut : (P : Tables) (found : List Place) (old new : List (Option Held)) (count : ℕ)
+    → AreSmall P (environment_of old) → count ≡ length P.classes
+    → ((x : Place) → Contains found x ↔ IsReachedAt P old x)
+    → ((c : ℕ) → c < count → region_in new c ≡ kept_region found c (region_in old c))
+    → ((c : ℕ) → count ≤ c → region_in new c ≡ region_in old c)
+    → IsCutOf P (environment_of old) (environment_of new)
+all_cut P found old new count small counted are cut other c = elim (cases_lt c count) [
+  | inl less ↦ class_cut P old found are c new (cut c less)
+  | inr high ↦ past high (environment_of old c) refl
 ]
   where
-    past : count ≤ c → (o : Option Region) → old c ≡ o → IsCutAt (IsReached P old) c o (new c)
-    past high None none = subst (IsCutAt (IsReached P old) c None) (sym (other c high ∙ none)) tt
+    past : count ≤ c → (o : Option Region) → environment_of old c ≡ o
+        → IsCutAt (IsReached P (environment_of old)) c o (environment_of new c)
+    past high None none =
+        let same : environment_of new c ≡ None = ap (option_map region_of) (other c high) ∙ none in
+        subst (IsCutAt (IsReached P (environment_of old)) c None) (sym same) tt
     past high (Some r) some = absurd (let low = small.classes c r some in omega (arith, low, high, counted))
 
 -- what is left of whole and small regions is whole and small, and all of it is reached

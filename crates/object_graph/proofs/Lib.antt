@@ -1,7 +1,10 @@
-pub mod AddsLemmas
-pub mod CutsLemmas
 pub mod CutStartsLemmas
-pub mod CuttingLemmas
-pub mod MarksLemmas
+pub mod RowLemmas
+pub mod PlaceLemmas
 pub mod SearchLemmas
 pub mod StaticsLemmas
+pub mod CutsLemmas
+pub mod KeptLemmas
+pub mod CuttingLemmas
+pub mod HeldLemmas
+pub mod ListedLemmas

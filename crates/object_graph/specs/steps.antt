@@ -1,2 +1,3 @@
-pub mod Adds
-pub mod Marks
+pub mod Places
+pub mod Kept
+pub mod Listed

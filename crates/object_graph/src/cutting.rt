@@ -1,29 +1,95 @@
 //! Leaves objects out of regions.
 
-ghost use Rattle.std.specs.Prelude.{◌≡◌, ◌≢◌, ℕ, ◌<◌, ◌≤◌};
-ghost use Rattle.std.specs.List.{Contains};
-ghost use Rattle.evaluator.specs.Regions.{environment_of};
-ghost use Rattle.object_graph.specs.Cuts.{IsCutAt};
+ghost use Rattle.std.specs.Prelude.{◌≡◌, ◌≢◌, ◌++◌, ℕ, ◌<◌, ◌≤◌, IfOk, OnOk};
+ghost use Rattle.vm_state.specs.declared.object.Object.{Object};
+ghost use Rattle.evaluator.specs.Regions.{region_in};
+ghost use Rattle.object_graph.specs.steps.Kept.{only_if, kept_from, kept_row, kept_region};
 
-use crate::name_set::NameSet;
-use evaluator::regions::Regions;
+use evaluator::regions::{Region, Regions};
+use place_set::PlaceSet;
+use std::alloc::{AllocError, Global};
+use vm_state::heap::Row;
+use vm_state::object::Object;
 
-/// Leaves out the objects of a class that are not among these.
-fn cut_class(found: &NameSet, class: u32, regions: &mut Regions)
-    ensures cut { IsCutAt (Contains found.now) class (environment_of regions.old class)
-        (environment_of regions.new class) }
-    ensures other { (c : ℕ) → c ≢ class → environment_of regions.new c ≡ environment_of regions.old c }
+/// Adds an object with its number, if it is wanted.
+fn push_if(
+    wanted: bool,
+    held: (u64, Object),
+    objects: &mut Vec<(u64, Object)>,
+) -> Result<(), AllocError>
+    ensures { OnOk result (objects.new.items ≡ objects.old.items ++ only_if wanted held) }
 {
-    regions.keep_marked(class, found.marks_of(class));
+    if wanted {
+        objects.push(held)?;
+    }
+    Ok(())
 }
 
-/// Leaves out the objects of the first so many classes that are not among these.
-pub(crate) fn cut_classes(found: &NameSet, count: u32, regions: &mut Regions)
-    ensures cut { (c : ℕ) → c < count
-        → IsCutAt (Contains found.now) c (environment_of regions.old c) (environment_of regions.new c) }
-    ensures other { (c : ℕ) → count ≤ c → environment_of regions.new c ≡ environment_of regions.old c }
+/// Those of the objects of a class whose places are found.
+fn found_objects(
+    alloc: Global,
+    found: &PlaceSet,
+    class: u32,
+    objects: Vec<(u64, Object)>,
+) -> Result<Vec<(u64, Object)>, AllocError>
+    ensures { IfOk result (λ kept. kept.items ≡ kept_from found.now class 0 objects.items) }
+{
+    let _count = objects.len();
+    let mut kept = Vec::new(alloc);
+    let mut index = 0u64;
+    for held in objects {
+        push_if(found.has(class, index), held, &mut kept)?;
+        index += 1;
+    }
+    Ok(kept)
+}
+
+/// The row of a class with those objects alone whose places are found.
+fn found_row(alloc: Global, found: &PlaceSet, class: u32, row: Row) -> Result<Row, AllocError>
+    ensures { IfOk result (λ kept. kept ≡ kept_row found.now class row) }
+{
+    let (count, objects) = row.into_parts();
+    match found_objects(alloc, found, class, objects) {
+        Ok(kept) => Ok(Row::of_objects(count, kept)),
+        Err(error) => Err(error),
+    }
+}
+
+/// Leaves out the objects of a class whose places are not found.
+fn cut_class(
+    alloc: Global,
+    found: &PlaceSet,
+    class: u32,
+    regions: &mut Regions,
+) -> Result<(), AllocError>
+    ensures cut { OnOk result (region_in regions.new class
+        ≡ kept_region found.now class (region_in regions.old class)) }
+    ensures other { OnOk result ((c : ℕ) → c ≢ class → region_in regions.new c ≡ region_in regions.old c) }
+{
+    match regions.take(class) {
+        Some(region) => {
+            let Region { fields, objects } = region;
+            let objects = found_row(alloc, found, class, objects)?;
+            regions.set(class, Region { fields, objects });
+            Ok(())
+        }
+        None => Ok(()),
+    }
+}
+
+/// Leaves out the objects of the first so many classes whose places are not found.
+pub(crate) fn cut_classes(
+    alloc: Global,
+    found: &PlaceSet,
+    count: u32,
+    regions: &mut Regions,
+) -> Result<(), AllocError>
+    ensures cut { OnOk result ((c : ℕ) → c < count
+        → region_in regions.new c ≡ kept_region found.now c (region_in regions.old c)) }
+    ensures other { OnOk result ((c : ℕ) → count ≤ c → region_in regions.new c ≡ region_in regions.old c) }
 {
     for class in 0..count {
-        cut_class(found, class, regions);
+        cut_class(alloc, found, class, regions)?;
     }
+    Ok(())
 }

@@ -105,6 +105,8 @@ pub fn gather(alloc: Global, program: Program, regions: Regions) -> Result<Image
     let _classes = program.classes();
     let found = reached(alloc, &program, &regions)?;
     let mut regions = regions;
-    cut_classes(&found, program.given_count(), &mut regions);
-    Ok(Image::of_reached(program, regions))
+    match cut_classes(alloc, &found, program.given_count(), &mut regions) {
+        Ok(()) => Ok(Image::of_reached(program, regions)),
+        Err(error) => Err(error),
+    }
 }

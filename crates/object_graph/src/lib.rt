@@ -5,9 +5,11 @@ mod counting;
 mod cutting;
 mod image;
 pub mod laws;
+mod listing;
 mod name_set;
 mod reach;
+mod rows;
 
 pub use image::{Image, gather};
+pub use listing::reachable;
 pub use name_set::{NameSet, ObjectName};
-pub use reach::reachable;

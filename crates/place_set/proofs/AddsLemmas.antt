@@ -1,4 +1,4 @@
--- Lists to which names were added, one part after the other.
+-- Lists to which places were added, one part after the other.
 use Rattle.std.proofs.Common.{◌≡◌, ◌∙◌, ◌⊎◌, inl, inr, ℕ, ◌+◌, ◌<◌, ◌≤◌, List, [], ◌∷◌, ◌++◌, length, take, get_or}
 use Rattle.std.proofs.Common.{Some, None, slice_get, refl, sym, ap, subst, arith}
 use Rattle.std.specs.List.{Contains}
@@ -9,11 +9,11 @@ use Rattle.std.proofs.lemmas.Option.{slice_get-get_or, slice_get_past}
 use Rattle.place_set.specs.declared.set.Place.{Place}
 use Rattle.place_set.specs.steps.Adds.{Adds}
 
--- ---- nothing, and one name
+-- ---- nothing, and one place
 
-pub adds_none : (names : List Place) (these : Place → Type 0) → ((x : Place) → these x → ⊥)
-    → Adds names these names
-adds_none names these none = record {
+pub adds_none : (places : List Place) (these : Place → Type 0) → ((x : Place) → these x → ⊥)
+    → Adds places these places
+adds_none places these none = record {
   grows = omega arith;
   same = λ k low. refl;
   keeps = λ x has. has;
@@ -21,31 +21,31 @@ adds_none names these none = record {
   only = λ x has. inl has;
 }
 
-pub adds_known : (names : List Place) (name : Place) → Contains names name
-    → Adds names (λ x. x ≡ name) names
-adds_known names name known = record {
+pub adds_known : (places : List Place) (place : Place) → Contains places place
+    → Adds places (λ x. x ≡ place) places
+adds_known places place known = record {
   grows = omega arith;
   same = λ k low. refl;
   keeps = λ x has. has;
-  added = λ x e. subst (λ y. Contains names y) (sym e) known;
+  added = λ x e. subst (λ y. Contains places y) (sym e) known;
   only = λ x has. inl has;
 }
 
-pushed_same : (names : List Place) (name : Place) (k : ℕ) → k < length names
-    → slice_get (names ++ name ∷ []) k ≡ slice_get names k
-pushed_same names name k low =
-    slice_get-get_or (names ++ name ∷ []) k name (omega (arith, length_push names name))
-    ∙ ap (λ y. Some y) (get_or_append_left names (name ∷ []) name k low)
-    ∙ sym (slice_get-get_or names k name low)
+pushed_same : (places : List Place) (place : Place) (k : ℕ) → k < length places
+    → slice_get (places ++ place ∷ []) k ≡ slice_get places k
+pushed_same places place k low =
+    slice_get-get_or (places ++ place ∷ []) k place (omega (arith, length_push places place))
+    ∙ ap (λ y. Some y) (get_or_append_left places (place ∷ []) place k low)
+    ∙ sym (slice_get-get_or places k place low)
 
-pub adds_new : (names new : List Place) (name : Place) → new ≡ names ++ name ∷ []
-    → Adds names (λ x. x ≡ name) new
-adds_new names new name pushed = rw pushed (record {
-  grows = omega (arith, length_push names name);
-  same = λ k low. pushed_same names name k low;
-  keeps = λ x has. Contains-append_left names (name ∷ []) x has;
-  added = λ x e. subst (λ y. Contains (names ++ name ∷ []) y) (sym e) (Contains-push names name);
-  only = λ x has. elim (Contains-push_cases names name x has) [ inl old ↦ inl old | inr e ↦ inr (sym e) ];
+pub adds_new : (places new : List Place) (place : Place) → new ≡ places ++ place ∷ []
+    → Adds places (λ x. x ≡ place) new
+adds_new places new place pushed = rw pushed (record {
+  grows = omega (arith, length_push places place);
+  same = λ k low. pushed_same places place k low;
+  keeps = λ x has. Contains-append_left places (place ∷ []) x has;
+  added = λ x e. subst (λ y. Contains (places ++ place ∷ []) y) (sym e) (Contains-push places place);
+  only = λ x has. elim (Contains-push_cases places place x has) [ inl old ↦ inl old | inr e ↦ inr (sym e) ];
 })
 
 -- ---- one part after the other

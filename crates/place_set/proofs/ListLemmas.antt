@@ -1,4 +1,4 @@
--- Lists seen as functions from places, with a value past the end.
+-- Lists seen as functions of indices, with a value past the end.
 use Rattle.std.proofs.Common.{◌≡◌, ◌≢◌, ℕ, ◌<◌, ◌⊎◌, inl, inr, Bool, true, false, List, ◌++◌, length, get_or, slice_set}
 use Rattle.std.proofs.Common.{replicate, refl, sym, ◌∙◌, ◌==◌, eqb-true, eq-eqb, if◌then◌else◌, arith}
 use Rattle.std.proofs.Common.{get_or-set_same, get_or-set_other}
@@ -13,7 +13,7 @@ tested false = inr refl
 pub unequal : (i j : ℕ) → (i == j) ≡ false → i ≢ j
 unequal i j e q = let clash : false ≡ true = sym e ∙ eq-eqb i j q in cc
 
--- a place written
+-- an item written
 pub get_or-slice_set : {X : Type 0} (xs : List X) (i j : ℕ) (x d : X) → i < length xs
     → get_or (slice_set xs i x) j d ≡ (if j == i then x else get_or xs j d)
 get_or-slice_set xs i j x d h = elim (tested (j == i)) [

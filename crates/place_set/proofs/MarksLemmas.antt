@@ -1,4 +1,4 @@
--- Marks of objects beside the names that they mark.
+-- Marks of indices by row, beside the places that they mark.
 use Rattle.std.proofs.Common.{◌≡◌, ◌∙◌, ◌⊎◌, ◌↔◌, inl, inr, ℕ, ◌+◌, ◌<◌, ◌≤◌, ◌==◌, Bool, true, false, IsTrue}
 use Rattle.std.proofs.Common.{List, [], ◌∷◌, ◌++◌, length, get_or, set, replicate, Some, slice_get, Vec, Global, refl}
 use Rattle.std.proofs.Common.{◌-◌, take, sym, ap, subst, arith, eqb-true, eq-eqb, if◌then◌else◌}
@@ -12,7 +12,7 @@ use Rattle.std.proofs.lemmas.Option.{slice_get-get_or, slice_get_within, get_or_
 use Rattle.place_set.proofs.ListLemmas.{tested, get_or-slice_set, get_or-filled}
 use Rattle.place_set.specs.declared.set.Place.{Place}
 use Rattle.place_set.specs.Distinct.{AreDistinct}
-use Rattle.place_set.specs.steps.Marks.{rows_of, marks_in, is_marked, HasPlace, Sets, AreMarks}
+use Rattle.place_set.specs.steps.Marks.{rows_of, marks_in, is_marked, HasRoom, Sets, AreMarks}
 
 abbrev pub Rows : Type 0
 Rows = List (Vec Bool Global)
@@ -65,153 +65,153 @@ row_kept rows c row new low is same x = elim (tested (x.row == c)) [
   | inr e ↦ set_reads rows c new x low ∙ rw e refl
 ]
 
--- there is a place where the changed row has one
-pub place_kept : (rows : Rows) (name : Place) (new : Vec Bool Global) → name.row < length rows
-    → name.index < length new.items → HasPlace (rows_of (set rows name.row new)) name
-place_kept rows name new low place =
-    let row : get_or (rows_of (set rows name.row new)) name.row [] ≡ new.items =
-    ap (λ (g : List (List Bool)). get_or g name.row [])
-    (map-set (λ (r : Vec Bool Global). r.items) rows name.row new)
-    ∙ get_or-slice_set (rows_of rows) name.row name.row new.items [] (omega (arith, length-rows_of rows))
-    ∙ ap (λ b. if b then new.items else get_or (rows_of rows) name.row []) (eq-eqb name.row name.row refl) in
+-- there is room where the changed row has some
+pub room_kept : (rows : Rows) (place : Place) (new : Vec Bool Global) → place.row < length rows
+    → place.index < length new.items → HasRoom (rows_of (set rows place.row new)) place
+room_kept rows place new low room =
+    let row : get_or (rows_of (set rows place.row new)) place.row [] ≡ new.items =
+    ap (λ (g : List (List Bool)). get_or g place.row [])
+    (map-set (λ (r : Vec Bool Global). r.items) rows place.row new)
+    ∙ get_or-slice_set (rows_of rows) place.row place.row new.items [] (omega (arith, length-rows_of rows))
+    ∙ ap (λ b. if b then new.items else get_or (rows_of rows) place.row []) (eq-eqb place.row place.row refl) in
     omega (arith, ap length row)
 
--- a place is in a row that is there
-pub placed_row : (rows : Rows) (name : Place) → HasPlace (rows_of rows) name → name.row < length rows
-placed_row rows name place = elim (cases_lt name.row (length rows)) [
+-- what has room is in a row that is there
+pub row_there : (rows : Rows) (place : Place) → HasRoom (rows_of rows) place → place.row < length rows
+row_there rows place room = elim (cases_lt place.row (length rows)) [
   | inl less ↦ less
   | inr high ↦ absurd (let none = ap length
-      (get_or_past (rows_of rows) name.row [] (omega (arith, length-rows_of rows))) in omega (arith, none, place))
+      (get_or_past (rows_of rows) place.row [] (omega (arith, length-rows_of rows))) in omega (arith, none, room))
 ]
 
-same_name : (x y : Place) → x.row ≡ y.row → x.index ≡ y.index → x ≡ y
-same_name x y p q = λ i. record { row = p i; index = q i }
+same_place : (x y : Place) → x.row ≡ y.row → x.index ≡ y.index → x ≡ y
+same_place x y p q = λ i. record { row = p i; index = q i }
 
-pub row_marked : (rows : Rows) (name : Place) (row new : Vec Bool Global) → HasPlace (rows_of rows) name
-    → row ≡ get_or rows name.row row → new.items ≡ set row.items name.index true
-    → Sets (rows_of rows) name (rows_of (set rows name.row new))
-row_marked rows name row new place is marked x = (there, back)
+pub row_marked : (rows : Rows) (place : Place) (row new : Vec Bool Global) → HasRoom (rows_of rows) place
+    → row ≡ get_or rows place.row row → new.items ≡ set row.items place.index true
+    → Sets (rows_of rows) place (rows_of (set rows place.row new))
+row_marked rows place row new room is marked x = (there, back)
   where
-    low : name.row < length rows
-    low = placed_row rows name place
+    low : place.row < length rows
+    low = row_there rows place room
 
-    row_is : row.items ≡ get_or (rows_of rows) name.row []
-    row_is = row_read rows name.row row low is
+    row_is : row.items ≡ get_or (rows_of rows) place.row []
+    row_is = row_read rows place.row row low is
 
-    number_in : name.index < length row.items
-    number_in = omega (arith, ap length row_is, place)
+    index_in : place.index < length row.items
+    index_in = omega (arith, ap length row_is, room)
 
-    new_reads : (n : ℕ) → marks_in new.items n ≡ (if n == name.index then true else marks_in row.items n)
+    new_reads : (n : ℕ) → marks_in new.items n ≡ (if n == place.index then true else marks_in row.items n)
     new_reads n = ap (λ (r : List Bool). marks_in r n) marked
-        ∙ get_or-slice_set row.items name.index n true false number_in
+        ∙ get_or-slice_set row.items place.index n true false index_in
 
-    old_reads : x.row ≡ name.row → marks_in row.items x.index ≡ is_marked (rows_of rows) x
+    old_reads : x.row ≡ place.row → marks_in row.items x.index ≡ is_marked (rows_of rows) x
     old_reads here = ap (λ (r : List Bool). marks_in r x.index)
         (row_is ∙ ap (λ c. get_or (rows_of rows) c []) (sym here))
 
-    there : is_marked (rows_of (set rows name.row new)) x ≡ true
-        → (is_marked (rows_of rows) x ≡ true) ⊎ (x ≡ name)
-    there h = elim (tested (x.row == name.row)) [
+    there : is_marked (rows_of (set rows place.row new)) x ≡ true
+        → (is_marked (rows_of rows) x ≡ true) ⊎ (x ≡ place)
+    there h = elim (tested (x.row == place.row)) [
       | inl e ↦
-          let here : x.row ≡ name.row = eqb-true x.row name.row e in
+          let here : x.row ≡ place.row = eqb-true x.row place.row e in
           let read : marks_in new.items x.index ≡ true =
           ap (λ b. if b then marks_in new.items x.index else is_marked (rows_of rows) x) (sym e)
-          ∙ sym (set_reads rows name.row new x low) ∙ h in
-          elim (tested (x.index == name.index)) [
-            | inl q ↦ inr (same_name x name here (eqb-true x.index name.index q))
+          ∙ sym (set_reads rows place.row new x low) ∙ h in
+          elim (tested (x.index == place.index)) [
+            | inl q ↦ inr (same_place x place here (eqb-true x.index place.index q))
             | inr q ↦ inl (sym (old_reads here)
                 ∙ ap (λ b. if b then true else marks_in row.items x.index) (sym q) ∙ sym (new_reads x.index) ∙ read)
           ]
       | inr e ↦ inl (ap (λ b. if b then marks_in new.items x.index else is_marked (rows_of rows) x) (sym e)
-          ∙ sym (set_reads rows name.row new x low) ∙ h)
+          ∙ sym (set_reads rows place.row new x low) ∙ h)
     ]
 
-    back : (is_marked (rows_of rows) x ≡ true) ⊎ (x ≡ name)
-        → is_marked (rows_of (set rows name.row new)) x ≡ true
-    back (inl was) = set_reads rows name.row new x low ∙ elim (tested (x.row == name.row)) [
+    back : (is_marked (rows_of rows) x ≡ true) ⊎ (x ≡ place)
+        → is_marked (rows_of (set rows place.row new)) x ≡ true
+    back (inl was) = set_reads rows place.row new x low ∙ elim (tested (x.row == place.row)) [
       | inl e ↦
-          let here : x.row ≡ name.row = eqb-true x.row name.row e in
+          let here : x.row ≡ place.row = eqb-true x.row place.row e in
           ap (λ b. if b then marks_in new.items x.index else is_marked (rows_of rows) x) e
-          ∙ new_reads x.index ∙ elim (tested (x.index == name.index)) [
+          ∙ new_reads x.index ∙ elim (tested (x.index == place.index)) [
             | inl q ↦ ap (λ b. if b then true else marks_in row.items x.index) q
             | inr q ↦ ap (λ b. if b then true else marks_in row.items x.index) q ∙ old_reads here ∙ was
           ]
       | inr e ↦ ap (λ b. if b then marks_in new.items x.index else is_marked (rows_of rows) x) e ∙ was
     ]
     back (inr same) =
-        set_reads rows name.row new x low
+        set_reads rows place.row new x low
         ∙ ap (λ b. if b then marks_in new.items x.index else is_marked (rows_of rows) x)
-        (eq-eqb x.row name.row (ap (λ (y : Place). y.row) same))
+        (eq-eqb x.row place.row (ap (λ (y : Place). y.row) same))
         ∙ new_reads x.index
         ∙ ap (λ b. if b then true else marks_in row.items x.index)
-        (eq-eqb x.index name.index (ap (λ (y : Place). y.index) same))
+        (eq-eqb x.index place.index (ap (λ (y : Place). y.index) same))
 
--- ---- the marks of names
+-- ---- the marks of places
 
-pub mark_tells : (rows : Rows) (names now : List Place) (x : Place) (b : Bool) → names ≡ now
-    → AreMarks rows names → b ≡ is_marked (rows_of rows) x → IsTrue b ↔ Contains now x
-mark_tells rows names now x b same are read =
+pub mark_tells : (rows : Rows) (places now : List Place) (x : Place) (b : Bool) → places ≡ now
+    → AreMarks rows places → b ≡ is_marked (rows_of rows) x → IsTrue b ↔ Contains now x
+mark_tells rows places now x b same are read =
     subst (λ (ns : List Place). IsTrue b ↔ Contains ns x) same
     (λ h. (are.marked x).0 (sym read ∙ h), λ has. read ∙ (are.marked x).1 has)
 
-pub marks_kept : (old new : Rows) (names : List Place) → MarkSame old new → AreMarks old names
-    → AreMarks new names
-marks_kept old new names same are = record {
+pub marks_kept : (old new : Rows) (places : List Place) → MarkSame old new → AreMarks old places
+    → AreMarks new places
+marks_kept old new places same are = record {
   marked = λ x. (λ h. (are.marked x).0 (sym (same x) ∙ h), λ has. same x ∙ (are.marked x).1 has);
   distinct = are.distinct;
 }
 
-distinct_push : (names : List Place) (name : Place) → AreDistinct names → (Contains names name → ⊥)
-    → AreDistinct (names ++ name ∷ [])
-distinct_push names name distinct absent i j x at_i at_j =
-    elim (cases_lt i (length names)) [
-      | inl low ↦ elim (cases_lt j (length names)) [
+distinct_push : (places : List Place) (place : Place) → AreDistinct places → (Contains places place → ⊥)
+    → AreDistinct (places ++ place ∷ [])
+distinct_push places place distinct absent i j x at_i at_j =
+    elim (cases_lt i (length places)) [
+      | inl low ↦ elim (cases_lt j (length places)) [
         | inl less ↦ distinct i j x (old i low at_i) (old j less at_j)
         | inr high ↦ absurd (absent (clash i j low high at_i at_j))
       ]
-      | inr up ↦ elim (cases_lt j (length names)) [
+      | inr up ↦ elim (cases_lt j (length places)) [
         | inl less ↦ absurd (absent (clash j i less up at_j at_i))
         | inr high ↦ omega (arith, within i at_i, within j at_j)
       ]
     ]
   where
-    within : (k : ℕ) → slice_get (names ++ name ∷ []) k ≡ Some x → k < length names + 1
-    within k at = omega (arith, slice_get_within (names ++ name ∷ []) k x at, length_push names name)
+    within : (k : ℕ) → slice_get (places ++ place ∷ []) k ≡ Some x → k < length places + 1
+    within k at = omega (arith, slice_get_within (places ++ place ∷ []) k x at, length_push places place)
 
-    old : (k : ℕ) → k < length names → slice_get (names ++ name ∷ []) k ≡ Some x → slice_get names k ≡ Some x
+    old : (k : ℕ) → k < length places → slice_get (places ++ place ∷ []) k ≡ Some x → slice_get places k ≡ Some x
     old k low at =
-        slice_get-get_or names k x low
-        ∙ ap (λ y. Some y) (sym (get_or_append_left names (name ∷ []) x k low)
-        ∙ get_or_from_slice_get (names ++ name ∷ []) k x x at)
+        slice_get-get_or places k x low
+        ∙ ap (λ y. Some y) (sym (get_or_append_left places (place ∷ []) x k low)
+        ∙ get_or_from_slice_get (places ++ place ∷ []) k x x at)
 
-    last : (k : ℕ) → length names ≤ k → slice_get (names ++ name ∷ []) k ≡ Some x → name ≡ x
+    last : (k : ℕ) → length places ≤ k → slice_get (places ++ place ∷ []) k ≡ Some x → place ≡ x
     last k high at =
-        sym (get_or_push names name x k (omega (arith, within k at)))
-        ∙ get_or_from_slice_get (names ++ name ∷ []) k x x at
+        sym (get_or_push places place x k (omega (arith, within k at)))
+        ∙ get_or_from_slice_get (places ++ place ∷ []) k x x at
 
-    clash : (k l : ℕ) → k < length names → length names ≤ l → slice_get (names ++ name ∷ []) k ≡ Some x
-        → slice_get (names ++ name ∷ []) l ≡ Some x → Contains names name
+    clash : (k l : ℕ) → k < length places → length places ≤ l → slice_get (places ++ place ∷ []) k ≡ Some x
+        → slice_get (places ++ place ∷ []) l ≡ Some x → Contains places place
     clash k l low high at_k at_l =
-        subst (λ y. Contains names y) (sym (last l high at_l))
-        (k, low, get_or_from_slice_get names k x x (old k low at_k))
+        subst (λ y. Contains places y) (sym (last l high at_l))
+        (k, low, get_or_from_slice_get places k x x (old k low at_k))
 
-pub marks_set : (old mid new : Rows) (names more : List Place) (name : Place) → MarkSame old mid
-    → Sets (rows_of mid) name (rows_of new) → is_marked (rows_of old) name ≡ false → more ≡ names ++ name ∷ []
-    → AreMarks old names → AreMarks new more
-marks_set old mid new names more name same sets unmarked pushed are = rw pushed (record {
+pub marks_set : (old mid new : Rows) (places more : List Place) (place : Place) → MarkSame old mid
+    → Sets (rows_of mid) place (rows_of new) → is_marked (rows_of old) place ≡ false → more ≡ places ++ place ∷ []
+    → AreMarks old places → AreMarks new more
+marks_set old mid new places more place same sets unmarked pushed are = rw pushed (record {
   marked = λ x. (there x, back x);
-  distinct = distinct_push names name are.distinct
-      (λ has. absurd (let clash : false ≡ true = sym unmarked ∙ (are.marked name).1 has in cc));
+  distinct = distinct_push places place are.distinct
+      (λ has. absurd (let clash : false ≡ true = sym unmarked ∙ (are.marked place).1 has in cc));
 })
   where
-    there : (x : Place) → is_marked (rows_of new) x ≡ true → Contains (names ++ name ∷ []) x
+    there : (x : Place) → is_marked (rows_of new) x ≡ true → Contains (places ++ place ∷ []) x
     there x h = elim ((sets x).0 h) [
-      | inl was ↦ Contains-append_left names (name ∷ []) x ((are.marked x).0 (sym (same x) ∙ was))
-      | inr e ↦ subst (λ y. Contains (names ++ name ∷ []) y) (sym e) (Contains-push names name)
+      | inl was ↦ Contains-append_left places (place ∷ []) x ((are.marked x).0 (sym (same x) ∙ was))
+      | inr e ↦ subst (λ y. Contains (places ++ place ∷ []) y) (sym e) (Contains-push places place)
     ]
 
-    back : (x : Place) → Contains (names ++ name ∷ []) x → is_marked (rows_of new) x ≡ true
-    back x has = elim (Contains-push_cases names name x has) [
+    back : (x : Place) → Contains (places ++ place ∷ []) x → is_marked (rows_of new) x ≡ true
+    back x has = elim (Contains-push_cases places place x has) [
       | inl old_one ↦ (sets x).1 (inl (same x ∙ (are.marked x).1 old_one))
       | inr e ↦ (sets x).1 (inr (sym e))
     ]

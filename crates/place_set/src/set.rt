@@ -5,7 +5,7 @@ ghost use Rattle.std.specs.List.{Contains};
 ghost use Rattle.place_set.specs.declared.set.Place.{Place as Found};
 ghost use Rattle.place_set.specs.Distinct.{AreDistinct};
 ghost use Rattle.place_set.specs.steps.Adds.{Adds};
-ghost use Rattle.place_set.specs.steps.Marks.{rows_of, is_marked, marks_in, HasPlace, Sets};
+ghost use Rattle.place_set.specs.steps.Marks.{rows_of, is_marked, marks_in, HasRoom, Sets};
 
 use std::alloc::{AllocError, Global};
 use std::marker::Model;
@@ -22,7 +22,7 @@ pub struct Place {
 pub struct PlaceSet {
     /// By row and index: whether the place is a member.
     marks: Vec<Vec<bool>>,
-    names: Vec<Place>,
+    places: Vec<Place>,
 }
 
 impl Model for PlaceSet {
@@ -32,9 +32,9 @@ impl Model for PlaceSet {
 
     ghost Value = { List Place };
 
-    ghost view = { λ s. s.names.items };
+    ghost view = { λ s. s.places.items };
 
-    ghost invariant = { λ s. AreMarks s.marks.items s.names.items };
+    ghost invariant = { λ s. AreMarks s.marks.items s.places.items };
 }
 
 impl PlaceSet {
@@ -44,7 +44,7 @@ impl PlaceSet {
     {
         PlaceSet {
             marks: Vec::new(alloc),
-            names: Vec::new(alloc),
+            places: Vec::new(alloc),
         }
     }
 
@@ -60,14 +60,14 @@ impl PlaceSet {
         ensures value { result ≡ length self.now }
         ensures distinct { AreDistinct self.now }
     {
-        self.names.len()
+        self.places.len()
     }
 
     /// The places, in the order in which they were found.
-    pub fn names(&self) -> &[Place]
+    pub fn places(&self) -> &[Place]
         ensures { result.now ≡ self.now }
     {
-        self.names.as_slice()
+        self.places.as_slice()
     }
 
     /// The one that was found after so many others.
@@ -75,22 +75,22 @@ impl PlaceSet {
         requires { index < length self.now }
         ensures { slice_get self.now index ≡ Some result }
     {
-        self.names[index]
+        self.places[index]
     }
 
     /// Adds a place, if it is new.
     ///
     /// # Errors
     /// Where memory runs out.
-    pub fn add(&mut self, alloc: Global, name: Place) -> Result<(), AllocError>
-        ensures { OnOk result (Adds self.old (λ x. x ≡ name) self.new) }
+    pub fn add(&mut self, alloc: Global, place: Place) -> Result<(), AllocError>
+        ensures { OnOk result (Adds self.old (λ x. x ≡ place) self.new) }
     {
-        if is_marked(&self.marks, name) {
+        if is_marked(&self.marks, place) {
             return Ok(());
         }
-        keep_place(alloc, &mut self.marks, name)?;
-        self.names.push(name)?;
-        set_mark(&mut self.marks, name);
+        keep_room(alloc, &mut self.marks, place)?;
+        self.places.push(place)?;
+        set_mark(&mut self.marks, place);
         Ok(())
     }
 }
@@ -106,10 +106,10 @@ fn row_of(marks: &[Vec<bool>], row: usize) -> &[bool]
 }
 
 /// Whether a place is marked.
-fn is_marked(marks: &[Vec<bool>], name: Place) -> bool
-    ensures { result ≡ is_marked (rows_of marks.now) name }
+fn is_marked(marks: &[Vec<bool>], place: Place) -> bool
+    ensures { result ≡ is_marked (rows_of marks.now) place }
 {
-    mark_in(row_of(marks, name.row as usize), name.index as usize)
+    mark_in(row_of(marks, place.row as usize), place.index as usize)
 }
 
 /// The mark of an index; none past the end.
@@ -134,7 +134,7 @@ fn keep_row(alloc: Global, marks: &mut Vec<Vec<bool>>, row: u32) -> Result<(), A
 }
 
 /// Keeps room for the mark of an index; nothing more is marked.
-fn keep_number(row: &mut Vec<bool>, index: u64) -> Result<(), AllocError>
+fn keep_index(row: &mut Vec<bool>, index: u64) -> Result<(), AllocError>
     ensures same { (n : ℕ) → marks_in row.new.items n ≡ marks_in row.old.items n }
     ensures ok { OnOk result (index < length row.new.items) }
 {
@@ -148,20 +148,20 @@ fn keep_number(row: &mut Vec<bool>, index: u64) -> Result<(), AllocError>
 }
 
 /// Keeps room for the mark of a place; nothing more is marked.
-fn keep_place(alloc: Global, marks: &mut Vec<Vec<bool>>, name: Place) -> Result<(), AllocError>
+fn keep_room(alloc: Global, marks: &mut Vec<Vec<bool>>, place: Place) -> Result<(), AllocError>
     ensures same { (x : Found) → is_marked (rows_of marks.new.items) x ≡ is_marked (rows_of marks.old.items) x }
-    ensures ok { OnOk result (HasPlace (rows_of marks.new.items) name) }
+    ensures ok { OnOk result (HasRoom (rows_of marks.new.items) place) }
 {
-    keep_row(alloc, marks, name.row)?;
-    let row = &mut marks[name.row as usize];
-    keep_number(row, name.index)
+    keep_row(alloc, marks, place.row)?;
+    let row = &mut marks[place.row as usize];
+    keep_index(row, place.index)
 }
 
 /// Marks a place that has room.
-fn set_mark(marks: &mut Vec<Vec<bool>>, name: Place)
-    requires { HasPlace (rows_of marks.old.items) name }
-    ensures { Sets (rows_of marks.old.items) name (rows_of marks.new.items) }
+fn set_mark(marks: &mut Vec<Vec<bool>>, place: Place)
+    requires { HasRoom (rows_of marks.old.items) place }
+    ensures { Sets (rows_of marks.old.items) place (rows_of marks.new.items) }
 {
-    let row = &mut marks[name.row as usize];
-    row[name.index as usize] = true;
+    let row = &mut marks[place.row as usize];
+    row[place.index as usize] = true;
 }

@@ -71,6 +71,25 @@ pub fn file_after<R: Threads + Wait + Sync>(
     }
 }
 
+/// The status of a command, and `same` where two files are there and hold the same bytes after it, or else `others`.
+pub fn same_after<R: Threads + Wait + Sync>(
+    rt: &R,
+    alloc: Global,
+    shelf: &mut Shelf,
+    name: &str,
+    other: &str,
+    text: &str,
+) -> Result<String, AllocError> {
+    let words = words_of(alloc, text)?;
+    let mut errors = Vec::new(alloc);
+    let (status, _out) = command(rt, alloc, &words, shelf, Vec::new(alloc), &mut errors);
+    let found = match (shelf.find(name), shelf.find(other)) {
+        (Some(one), Some(another)) if one == another => "same",
+        _ => "others",
+    };
+    format!(in alloc; "{status} {found}")
+}
+
 /// What a command writes to standard output, or, where that is nothing, to standard error.
 pub fn output<R: Threads + Wait + Sync>(
     rt: &R,

@@ -4,8 +4,8 @@ use crate::class_bytes::number;
 use crate::command_runs::{self, words_of};
 use crate::shelf::Shelf;
 use cli::{
-    Build, Building, Lazy, Refusal, Replay, Request, Rest, Run, Status, entries_of, linked_program,
-    request_of, status_of, thread_lines,
+    Build, Building, Lazy, Refusal, Renew, Replay, Request, Rest, Run, Status, entries_of,
+    linked_program, request_of, status_of, thread_lines,
 };
 use init_engine::Ending;
 use program::Program;
@@ -23,7 +23,8 @@ use vm_state::ends::FaultKind;
 /// stream, that is the answer. After the words may stand ` | ` and `begins LENGTH`, for that many bytes of the answer;
 /// `has TEXT`, for the status and which of the two has the text where the other has nothing; `output ROOM` or `errors
 /// ROOM`, for what is answered when that stream fails after so many bytes; `file NAME`, for the status and what a file
-/// holds then, and `file NAME ROOM` for that where standard output fails after so many bytes.
+/// holds then, and `file NAME ROOM` for that where standard output fails after so many bytes; `same NAME NAME`, for the
+/// status and whether two files hold the same bytes then.
 ///
 /// `line WORDS` asks what the words ask for, and `entries LIST` for the names of a list. `program FILE ..` asks why
 /// files make no program, `lines ENDING ..` for the lines of threads, and `ended ENDING ..`, `stuck ENDING ..` and
@@ -75,6 +76,7 @@ fn of_command<R: Threads + Wait + Sync>(
         Some(("output", room)) => command_runs::with_output(rt, alloc, shelf, number(room), words),
         Some(("errors", room)) => command_runs::with_errors(rt, alloc, shelf, number(room), words),
         Some(("file", about)) => file_after(rt, alloc, shelf, about, words),
+        Some(("same", names)) => same_after(rt, alloc, shelf, names, words),
         Some(("begins", length)) => beginning(rt, alloc, shelf, number(length), words),
         Some(("has", text)) => command_runs::whether_with(rt, alloc, shelf, text, words),
         _ => String::from_str(alloc, "no question"),
@@ -95,6 +97,18 @@ fn file_after<R: Threads + Wait + Sync>(
         }
         None => command_runs::file_after(rt, alloc, shelf, about, usize::MAX, words),
     }
+}
+
+/// The status, and whether two files hold the same then, whose names stand in a text.
+fn same_after<R: Threads + Wait + Sync>(
+    rt: &R,
+    alloc: Global,
+    shelf: &mut Shelf,
+    names: &str,
+    words: &str,
+) -> Result<String, AllocError> {
+    let (name, other) = names.split_once(' ').unwrap_or((names, ""));
+    command_runs::same_after(rt, alloc, shelf, name, other, words)
 }
 
 /// The first bytes of an answer.
@@ -133,6 +147,7 @@ fn request(alloc: Global, text: &str) -> Result<String, AllocError> {
         Ok(Request::Build(build)) => build_text(alloc, &build),
         Ok(Request::Lazy(lazy)) => lazy_text(alloc, &lazy),
         Ok(Request::Report(building)) => building_text(alloc, "report", &building),
+        Ok(Request::Renew(renew)) => renew_text(alloc, &renew),
         Ok(Request::Replay(replay)) => replay_text(alloc, &replay),
         Ok(Request::Run(run)) => run_text(alloc, &run),
         Err(_) => String::from_str(alloc, "no command"),
@@ -159,6 +174,12 @@ fn run_text(alloc: Global, run: &Run<'_>) -> Result<String, AllocError> {
         write!(text, " journal [{journal}]")?;
     }
     Ok(text)
+}
+
+fn renew_text(alloc: Global, renew: &Renew<'_>) -> Result<String, AllocError> {
+    let new = renew.new;
+    let image = renew.image;
+    format!(in alloc; "renew [{new}] [{image}]")
 }
 
 fn replay_text(alloc: Global, replay: &Replay<'_>) -> Result<String, AllocError> {

@@ -5,13 +5,13 @@ use crate::{image_bytes, image_runs};
 use built_in::class_id::ClassId;
 use cases::add_class_files;
 use cli::{BuildOptions, build_here};
-use object_graph::{Image, NameSet, reachable};
+use object_graph::{Image, ObjectName, reachable};
 use std::alloc::{AllocError, Global};
 use std::sync::Wait;
 use std::thread::Threads;
 
 /// Given are classes. Asked is `reached BUDGET`, for the objects that some static field of their image reaches, each as
-/// its class and its number, and how many objects the image has. Each initializer may cost so much. What is asked of
+/// its class and its number, how many they are, and how many were made. Each initializer may cost so much. What is asked of
 /// the bytes of their image stands in `src/image_bytes.rt`, and of runs from it in `src/image_runs.rt`.
 pub fn answer<R: Threads + Wait + Sync>(
     rt: &R,
@@ -43,49 +43,35 @@ fn reached(alloc: Global, files: &[Vec<u8>], budget: u64) -> Result<String, Allo
     }
 }
 
-/// The objects by class and number, and how many there are of how many.
+/// The objects that are reached by class and number, how many they are, and how many were made.
 fn reached_in(alloc: Global, image: &Image) -> Result<String, AllocError> {
     let found = reachable(alloc, image)?;
     let mut text = String::new(alloc);
-    let mut all = 0_u64;
+    for name in found.names() {
+        add_object(alloc, &mut text, image, *name)?;
+    }
+    let mut made = 0_u64;
     for class in 0..image.program().given_count() {
-        let count = image.object_count(class);
-        add_class(alloc, &mut text, image, &found, class, count)?;
-        all = all.saturating_add(u64::from(count));
+        if let Some(region) = image.region(class) {
+            made = made.saturating_add(region.objects.count());
+        }
     }
     let text = or_nothing(text)?;
     let count = found.len();
-    format!(in alloc; "{text}: {count} of {all}")
-}
-
-/// Adds the reached ones of the first so many objects of a class.
-fn add_class(
-    alloc: Global,
-    text: &mut String,
-    image: &Image,
-    found: &NameSet,
-    class: u32,
-    count: u32,
-) -> Result<(), AllocError> {
-    for number in 0..count {
-        if found.has(class, u64::from(number)) {
-            add_object(alloc, text, image, class, number)?;
-        }
-    }
-    Ok(())
+    format!(in alloc; "{text}: {count} of {made}")
 }
 
 fn add_object(
     alloc: Global,
     text: &mut String,
     image: &Image,
-    class: u32,
-    number: u32,
+    name: ObjectName,
 ) -> Result<(), AllocError> {
     if !text.is_empty() {
         text.push_str(", ")?;
     }
-    let name = image.program().class_text(alloc, ClassId::Given(class))?;
-    let object = format!(in alloc; "{name} {number}")?;
+    let class = image.program().class_text(alloc, ClassId::Given(name.class))?;
+    let number = name.number;
+    let object = format!(in alloc; "{class} {number}")?;
     text.push_str(&object)
 }

@@ -1,4 +1,4 @@
--- Marks of objects, by row and index, beside the names that they mark.
+-- Marks of indices by row, beside the places that they mark.
 use Rattle.std.specs.Prelude.{◌≡◌, ◌↔◌, ◌⊎◌, ℕ, ◌<◌, Bool, true, false, List, [], length, map, slice_index_or}
 use Rattle.std.specs.List.{Contains}
 use Rattle.std.specs.declared.vec.Vec.{Vec}
@@ -17,15 +17,15 @@ marks_in row n = slice_index_or row n false
 abbrev pub is_marked : List (List Bool) → Place → Bool
 is_marked rows x = marks_in (slice_index_or rows x.row []) x.index
 
--- a place is kept for the mark of an object
-abbrev pub HasPlace : List (List Bool) → Place → Type 0
-HasPlace rows x = x.index < length (slice_index_or rows x.row [])
+-- room is kept for the mark of a place
+abbrev pub HasRoom : List (List Bool) → Place → Type 0
+HasRoom rows x = x.index < length (slice_index_or rows x.row [])
 
--- Exactly one more object is marked.
+-- Exactly one more place is marked.
 abbrev pub Sets : List (List Bool) → Place → List (List Bool) → Type 0
-Sets old name new = (x : Place) → (is_marked new x ≡ true) ↔ ((is_marked old x ≡ true) ⊎ (x ≡ name))
+Sets old place new = (x : Place) → (is_marked new x ≡ true) ↔ ((is_marked old x ≡ true) ⊎ (x ≡ place))
 
--- The marks are those of the names, each of which stands at one place.
-pub record AreMarks (rows : List (Vec Bool Global)) (names : List Place) : Type 0 where
-  pub marked : (x : Place) → (is_marked (rows_of rows) x ≡ true) ↔ Contains names x
-  pub distinct : AreDistinct names
+-- The marks are those of the places, none of which is listed twice.
+pub record AreMarks (rows : List (Vec Bool Global)) (places : List Place) : Type 0 where
+  pub marked : (x : Place) → (is_marked (rows_of rows) x ≡ true) ↔ Contains places x
+  pub distinct : AreDistinct places

@@ -27,7 +27,8 @@ returns-in-Ok-image_of-clause-same c I own text =
     let image = c.in-Ok-image_of.ensures in
     read_again I c.in-Ok.parsed.program c.in-Ok.parsed.regions c.in-Ok-image_of.image own
     (some_files c.args.bytes.now I.program.family (told_of I) text)
-    (some_classes c.args.bytes.now c.in-Ok.parsed.program.family c.in-Ok.parsed.regions parsed.text) parsed.program parsed.own_strings told.0 told.1 image.program image.holds image.same
+    (some_classes c.args.bytes.now c.in-Ok.parsed.program.family c.in-Ok.parsed.regions parsed.text)
+    parsed.program parsed.own_strings told.0 told.1 image.program image.holds image.same
 
 pub returns-in-Err-clause-written : goal.returns-in-Err-clause-written
 returns-in-Err-clause-written c I text same =

@@ -1,7 +1,5 @@
-use Rattle.std.proofs.Common.{◌≡◌, ◌∙◌, ◌<◌, ℕ, Option, Some, length, subst, sym, ap}
+use Rattle.std.proofs.Common.{◌≡◌, ◌∙◌, ℕ, Option, Some, length, subst, ap}
 use Rattle.vm_state.specs.declared.object.Object.{Object}
-use Rattle.vm_state.specs.Pools.{pool_by}
-use Rattle.vm_state.specs.SharedState.{Region}
 use Rattle.program.specs.Tables.{statics_in}
 use Rattle.evaluator.specs.Regions.{region_of}
 use Rattle.std.specs.List.{All}
@@ -13,11 +11,10 @@ pub returns-in-Some : goal.returns-in-Some
 returns-in-Some c = λ region at.
     let both : Some (region_of c.in-Some.region.now) ≡ Some region = c.in-Some.ensures.value ∙ at in
     let same : region_of c.in-Some.region.now ≡ region = cc in
-    let row = c.objects_of.ensures in
-    let pool = pool_by c.in-Some.region.now.objects in
+    let row = c.objects.ensures.row in
     subst (RegionFits (length (statics_in c.args.image.now.program c.args.class))) same
     (record {
       statics = rw (← c.static_count.ensures) c.fields_fit.ensures;
-      slots = λ n object here. from_row (λ (m : ℕ) (o : Object). All FitsType o.slots) c.objects_of.result.now
+      slots = λ n object here. from_row (λ (m : ℕ) (o : Object). All FitsType o.slots) c.objects.result.now
           c.objects_fit.ensures n object (ap (λ (f : ℕ → Option Object). f n) row.all ∙ here);
     })

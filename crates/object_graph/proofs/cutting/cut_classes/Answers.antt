@@ -1,16 +1,14 @@
 use Rattle.std.proofs.Common.{arith}
-use Rattle.evaluator.specs.Regions.{environment_of}
 use Rattle.object_graph.proofs.CuttingLemmas.{cut_none, cut_more}
 use Rattle.object_graph.proofs.cutting.cut_classes.Goals as goal
 
 pub loop-class-init : goal.loop-class-init
-loop-class-init c = cut_none c.args.found.now (environment_of c.args.regions.now)
+loop-class-init c = cut_none c.args.found.now c.args.regions.now
 
 pub loop-class-preserved : goal.loop-class-preserved
 loop-class-preserved c =
-    cut_more c.args.found.now (environment_of c.args.regions.now) (environment_of c.loop-class.regions)
-    (environment_of c.cut_class.new.regions) c.loop-class.class c.loop-class.invariant c.cut_class.ensures.cut
-    c.cut_class.ensures.other
+    cut_more c.args.found.now c.args.regions.now c.loop-class.regions c.cut_class.new.regions c.loop-class.class
+    c.loop-class.invariant c.in_ok-cut_class.ensures.cut c.in_ok-cut_class.ensures.other
 
 pub returns-clause-cut : goal.returns-clause-cut
 returns-clause-cut c d low = c.loop-class.invariant.cut d (omega (arith, low))

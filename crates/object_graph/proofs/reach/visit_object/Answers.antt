@@ -1,11 +1,14 @@
 use Rattle.std.proofs.lemmas.Result.{on_ok_weaker}
-use Rattle.evaluator.specs.Regions.{environment_of}
-use Rattle.object_graph.proofs.AddsLemmas.{object_holds}
+use Rattle.object_graph.proofs.PlaceLemmas.{object_holds, holds_nothing}
 use Rattle.object_graph.proofs.reach.visit_object.Goals as goal
 
-pub returns-in-Some : goal.returns-in-Some
-returns-in-Some c =
+pub returns-in-Some-clause-added : goal.returns-in-Some-clause-added
+returns-in-Some-clause-added c =
     on_ok_weaker c.visit_values.result
-    (object_holds (environment_of c.args.regions.now) c.args.name c.in-Some.object.now c.as_slice.result.now
-    c.args.found.now c.visit_values.new.found c.in-Some.ensures c.as_slice.ensures)
+    (object_holds c.args.regions.now c.args.place c.in-Some.held.now c.as_slice.result.now c.args.found.now
+    c.visit_values.new.found c.in-Some.ensures.value c.as_slice.ensures)
     c.visit_values.ensures
+
+pub returns-in-None-clause-added : goal.returns-in-None-clause-added
+returns-in-None-clause-added c =
+    holds_nothing c.args.regions.now c.args.place c.args.found.now c.in-None.ensures.value

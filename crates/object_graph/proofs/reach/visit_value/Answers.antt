@@ -1,14 +1,14 @@
-use Rattle.std.proofs.Common.{◌≡◌, ◌∙◌, ap, sym}
 use Rattle.std.proofs.lemmas.Result.{on_ok_weaker}
-use Rattle.object_graph.specs.declared.name_set.ObjectName.{ObjectName}
-use Rattle.object_graph.specs.Reached.{reference_to}
-use Rattle.object_graph.proofs.AddsLemmas.{adds_same, same_reference}
+use Rattle.place_set.proofs.AddsLemmas.{adds_none}
+use Rattle.object_graph.specs.steps.Places.{IsPlaceOf}
+use Rattle.object_graph.proofs.PlaceLemmas.{one_place}
 use Rattle.object_graph.proofs.reach.visit_value.Goals as goal
 
-pub returns-in-OfClass : goal.returns-in-OfClass
-returns-in-OfClass c =
-    let name : ObjectName = record { class = c.in-OfClass.class; number = c.in-OfClass.number } in
+pub returns-in-Some : goal.returns-in-Some
+returns-in-Some c =
     on_ok_weaker c.add.result
-    (adds_same c.args.found.now c.add.new.self (λ x. x ≡ name) (λ x. c.args.value ≡ reference_to x)
-    (λ x e. c.in-OfClass.is ∙ ap reference_to (sym e)) (λ x e. same_reference x name (sym e ∙ c.in-OfClass.is)))
+    (one_place c.args.regions.now c.args.value c.in-Some.place c.args.found.now c.add.new.self c.in-Some.ensures)
     c.add.ensures
+
+pub returns-in-None : goal.returns-in-None
+returns-in-None c = adds_none c.args.found.now (IsPlaceOf c.args.regions.now c.args.value) c.in-None.ensures

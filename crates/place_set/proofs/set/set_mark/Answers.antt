@@ -5,5 +5,5 @@ use Rattle.place_set.proofs.set.set_mark.Goals as goal
 
 pub returns : goal.returns
 returns c =
-    row_marked c.args.marks.now.items c.args.name c.index_mut-row.result.now
-    (with_item c.index_mut-row.result.now c.args.name.index true) c.requires c.index_mut-row.ensures.value refl
+    row_marked c.args.marks.now.items c.args.place c.index_mut-row.result.now
+    (with_item c.index_mut-row.result.now c.args.place.index true) c.requires c.index_mut-row.ensures.value refl

@@ -1,0 +1,66 @@
+//! The objects of an image, by their names.
+
+ghost use Rattle.std.specs.Prelude.{◌≡◌, ◌↔◌, ◌++◌, [], IfOk, OnOk};
+ghost use Rattle.std.specs.List.{Contains};
+ghost use Rattle.evaluator.specs.Regions.{environment_of};
+ghost use Rattle.object_graph.specs.declared.name_set.ObjectName.{ObjectName as Name};
+ghost use Rattle.object_graph.specs.Names.{AreDistinct};
+ghost use Rattle.object_graph.specs.Reached.{IsReached};
+ghost use Rattle.object_graph.specs.steps.Listed.{names_of, names_below};
+
+use crate::image::Image;
+use crate::name_set::{NameSet, ObjectName};
+use crate::rows::objects_of;
+use evaluator::regions::Regions;
+use std::alloc::{AllocError, Global};
+use vm_state::object::Object;
+
+/// Adds the names of the objects of a class.
+fn add_names(
+    class: u32,
+    objects: &[(u64, Object)],
+    names: &mut Vec<ObjectName>,
+) -> Result<(), AllocError>
+    ensures { OnOk result (names.new.items ≡ names.old.items ++ names_of class objects.now) }
+{
+    for held in objects {
+        names.push(ObjectName {
+            class,
+            number: held.0,
+        })?;
+    }
+    Ok(())
+}
+
+/// Adds the names of the objects of the first so many classes, where there are none yet.
+fn add_all_names(
+    regions: &Regions,
+    count: u32,
+    names: &mut Vec<ObjectName>,
+) -> Result<(), AllocError>
+    requires { names.old.items ≡ [] }
+    ensures listed { OnOk result (names.new.items ≡ names_below regions.now count) }
+    ensures distinct { OnOk result (AreDistinct names.new.items) }
+{
+    for class in 0..count {
+        add_names(class, objects_of(regions, class), names)?;
+    }
+    Ok(())
+}
+
+/// The objects that some static field of an image reaches: those that it holds.
+///
+/// # Errors
+/// Where memory runs out.
+pub fn reachable(alloc: Global, image: &Image) -> Result<NameSet, AllocError>
+    ensures reached { IfOk result (λ found. (x : Name)
+        → Contains found x ↔ IsReached image.now.program (environment_of image.now.regions) x) }
+    ensures distinct { IfOk result AreDistinct }
+{
+    let _fits = image.region(0);
+    let mut names = Vec::new(alloc);
+    match add_all_names(image.regions(), image.program().given_count(), &mut names) {
+        Ok(()) => Ok(NameSet::of_distinct(names)),
+        Err(error) => Err(error),
+    }
+}
