@@ -17,7 +17,7 @@ returns-in-Ok-image_text-clause-same c = λ family regions is.
     same_text c.args.bytes.now c.in-Ok-image_text.renewed.items c.in-Ok.image family regions is
     (c.in-Ok.ensures.only_text family regions (inl is)) c.in-Ok-image_text.ensures.text
 
-pub returns-in-Err-clause-refusal : goal.returns-in-Err-clause-refusal
-returns-in-Err-clause-refusal c =
+pub returns-clause-refusal : goal.returns-clause-refusal
+returns-clause-refusal c =
     refused_renewal c.args.bytes.now c.in-Err.fault c.of_image.result c.in-Err.ensures.fault
     c.of_image.ensures.memory c.of_image.ensures.other
