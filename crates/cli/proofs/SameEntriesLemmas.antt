@@ -1,5 +1,5 @@
 -- What is wrong with entries in a linked program is wrong with them in every linked program of the same family.
-use Rattle.std.proofs.Common.{◌≡◌, ◌≢◌, ◌∙◌, ℕ, zero, suc, List, [], ◌∷◌, Option, Some, None, IsSome, slice_get}
+use Rattle.std.proofs.Common.{◌≡◌, ◌∙◌, ℕ, zero, suc, List, [], ◌∷◌, Option, Some, IsSome, slice_get}
 use Rattle.std.proofs.Common.{refl, sym, subst, take}
 use Rattle.std.specs.List.{AllZip}
 use Rattle.classfile.specs.Units.{units_text}
