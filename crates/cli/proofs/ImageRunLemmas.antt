@@ -4,6 +4,7 @@ use Rattle.object_graph.specs.Images.{ImageTables}
 use Rattle.image_parser.specs.ImageFaults.{ImageFails}
 use Rattle.image_parser.specs.declared.image_fault.ImageFault.{ImageFault}
 use Rattle.image_parser.specs.declared.image_fault.ImageFault.TheVariants as image_faults
+use Rattle.program.specs.Programs.{IsProgram}
 use Rattle.init_engine.specs.Starts.{EntriesFail}
 use Rattle.init_engine.specs.declared.fault.EntryFault.{EntryFault}
 use Rattle.init_engine.specs.declared.fault.EntryFault.TheVariants as entry_faults
@@ -20,10 +21,10 @@ refused_image bytes names fault r (inr fails) memory other =
     inr (subst (λ (x : Refusal). IsNoRun bytes names x) (sym (other (λ e. cc))) (image fails))
 
 pub refused_entry_of : (bytes : List ℕ) (names : List (List ℕ)) (I : ImageTables) (fault : EntryFault) (r : Refusal)
-    → IsSomeTextOf bytes I → (fault ≡ entry_faults.Memory) ⊎ EntriesFail I.program names fault
+    → IsProgram I.program → IsSomeTextOf bytes I → (fault ≡ entry_faults.Memory) ⊎ EntriesFail I.program names fault
     → (fault ≡ entry_faults.Memory → r ≡ Memory) → (fault ≢ entry_faults.Memory → r ≡ Entry fault)
     → (r ≡ Memory) ⊎ IsNoRun bytes names r
-refused_entry_of bytes names I fault r of (inl e) memory other = inl (memory e)
-refused_entry_of bytes names I entry_faults.Memory r of (inr fails) memory other = inl (memory refl)
-refused_entry_of bytes names I fault r of (inr fails) memory other =
-    inr (subst (λ (x : Refusal). IsNoRun bytes names x) (sym (other (λ e. cc))) (entry I of fails))
+refused_entry_of bytes names I fault r program of (inl e) memory other = inl (memory e)
+refused_entry_of bytes names I entry_faults.Memory r program of (inr fails) memory other = inl (memory refl)
+refused_entry_of bytes names I fault r program of (inr fails) memory other =
+    inr (subst (λ (x : Refusal). IsNoRun bytes names x) (sym (other (λ e. cc))) (entry I program of fails))

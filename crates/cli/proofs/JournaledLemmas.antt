@@ -1,5 +1,5 @@
 -- Runs with their journals, and what of their text has gone out.
-use Rattle.std.proofs.Common.{◌≡◌, ◌∙◌, ℕ, List, Option, Some, None, length, sym, subst, arith}
+use Rattle.std.proofs.Common.{◌≡◌, ◌∙◌, ℕ, List, Option, Some, None, length, refl, sym, subst, arith}
 use Rattle.std.proofs.Math.Seq.{take-length}
 use Rattle.std.specs.Io.KnownBytes.{Appends, Keeps}
 use Rattle.vm_state.specs.declared.text.Line.{Line}
@@ -11,20 +11,21 @@ use Rattle.cli.specs.declared.by_threads.Journaled.{Journaled}
 use Rattle.cli.specs.declared.running.RunFault.TheVariants.{Device}
 use Rattle.cli.specs.declared.status.Status.{Status}
 use Rattle.cli.specs.declared.status.Status.TheVariants.{Refused}
+use Rattle.cli.specs.Begins.{IsFirst, from_image}
 use Rattle.cli.specs.Journaled.{IsJournaled, IsReplayed}
 use Rattle.cli.specs.Running.{IsCutShort, IsOfRun, cut_of, lines_text}
 use Rattle.cli.proofs.RunningLemmas.{appends_nothing, of_cut, of_whole}
 
 pub of_journaled : (P : Tables) (first : World) (before after : Option (List ℕ)) (ran : Journaled)
-    → IsJournaled P first before after ran → IsOfRun before after
-of_journaled P first before after ran is =
-    of_whole P first (schedule_of ran.journal) is.last before after is.run is.sent
+    → IsFirst P first → IsJournaled P first before after ran → IsOfRun before after
+of_journaled P first before after ran begun is =
+    of_whole P first (schedule_of ran.journal) is.last before after begun is.run is.sent
 
 -- a run that was cut short where its command was refused
 pub of_refused : (P : Tables) (first : World) (before after : Option (List ℕ)) (status : Status)
-    → IsCutShort P first before after (cut_of status) → status ≡ Refused → IsOfRun before after
-of_refused P first before after status is refused =
-    of_cut P first before after
+    → IsFirst P first → IsCutShort P first before after (cut_of status) → status ≡ Refused → IsOfRun before after
+of_refused P first before after status begun is refused =
+    of_cut P first before after begun
     (subst (λ (s : Status). IsCutShort P first before after (cut_of s)) refused is)
 
 -- a replay all of whose text has gone out
@@ -32,7 +33,8 @@ pub of_replayed : (before after : Option (List ℕ)) (replayed : ImageSeen) (sta
     → IsReplayed replayed status → Appends before after (lines_text replayed.seen.printed.items)
     → IsOfRun before after
 of_replayed before after replayed status is sent =
-    of_whole replayed.image.program is.first (schedule_of is.runs) is.shown.last before after is.shown.run
+    of_whole replayed.image.program is.first (schedule_of is.runs) is.shown.last before after
+    (from_image replayed.image refl is.begun) is.shown.run
     (subst (λ (lines : List Line). Appends before after (lines_text lines)) is.shown.observed.0 sent)
 
 -- a replay of which nothing has
@@ -41,6 +43,7 @@ pub of_no_text : (before after : Option (List ℕ)) (replayed : ImageSeen) (stat
 of_no_text before after replayed status is same = record {
   program = replayed.image.program;
   first = is.first;
+  begun = from_image replayed.image refl is.begun;
   schedule = schedule_of is.runs;
   last = is.shown.last;
   run = is.shown.run;

@@ -13,3 +13,6 @@ pub mod HeadlineLemmas
 pub mod BeginsLemmas
 pub mod ReadBackLemmas
 pub mod JournaledLemmas
+pub mod SameEntriesLemmas
+pub mod OneRunLemmas
+pub mod OneBuildRefusalLemmas

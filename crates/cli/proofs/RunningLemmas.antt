@@ -19,6 +19,7 @@ use Rattle.init_engine.specs.Threads.{thread_of}
 use Rattle.init_engine.specs.Turnings.{Midway, IsUnderWay, HasTurned, IsSlice}
 use Rattle.init_engine.specs.Turns.{world_of}
 use Rattle.init_engine.proofs.RoundLemmas.{run_so_far}
+use Rattle.cli.specs.Begins.{IsFirst}
 use Rattle.cli.specs.declared.running.Ran.{Ran}
 use Rattle.cli.specs.declared.running.RunFault.{RunFault}
 use Rattle.cli.specs.declared.running.RunFault.TheVariants.{Memory, Device}
@@ -185,11 +186,12 @@ stands_there P s t ran same threads rest =
 
 -- ---- what went out where a command was refused
 
-pub of_cut : (P : Tables) (first : World) (before after : Option (List ℕ)) → IsCutShort P first before after Memory
-    → IsOfRun before after
-of_cut P first before after is = record {
+pub of_cut : (P : Tables) (first : World) (before after : Option (List ℕ)) → IsFirst P first
+    → IsCutShort P first before after Memory → IsOfRun before after
+of_cut P first before after begun is = record {
   program = P;
   first = first;
+  begun = begun;
   schedule = is.schedule;
   last = is.last;
   run = is.run;
@@ -198,13 +200,14 @@ of_cut P first before after is = record {
 
 -- a run all of whose text has gone out
 pub of_whole : (P : Tables) (first : World) (schedule : List ℕ) (last : World) (before after : Option (List ℕ))
-    → Run (program_of P) first schedule last → Appends before after (lines_text last.shared.printed)
-    → IsOfRun before after
-of_whole P first schedule last before after run sent =
+    → IsFirst P first → Run (program_of P) first schedule last
+    → Appends before after (lines_text last.shared.printed) → IsOfRun before after
+of_whole P first schedule last before after begun run sent =
     let lines = last.shared.printed in
     record {
       program = P;
       first = first;
+      begun = begun;
       schedule = schedule;
       last = last;
       run = run;
@@ -216,6 +219,6 @@ of_whole P first schedule last before after run sent =
     }
 
 pub of_run : (P : Tables) (first : World) (limit : ℕ) (before after : Option (List ℕ)) (ran : Ran)
-    → HasRun P first limit before after ran → IsOfRun before after
-of_run P first limit before after ran run =
-    of_whole P first (schedule_of ran.schedule.items) run.last before after run.run run.sent
+    → IsFirst P first → HasRun P first limit before after ran → IsOfRun before after
+of_run P first limit before after ran begun run =
+    of_whole P first (schedule_of ran.schedule.items) run.last before after begun run.run run.sent

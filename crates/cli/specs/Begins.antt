@@ -1,5 +1,5 @@
 -- What the command of a run begins with.
-use Rattle.std.specs.Prelude.{ℕ, List}
+use Rattle.std.specs.Prelude.{◌≡◌, ℕ, List}
 use Rattle.semantics.specs.Worlds.{World}
 use Rattle.program.specs.Tables.{Tables}
 use Rattle.object_graph.specs.Images.{ImageTables}
@@ -21,3 +21,8 @@ pub record IsBegunFromImage (I : ImageTables) (w : World) : Type 0 where
   pub names : List (List ℕ)
   pub text : IsSomeTextOf bytes I
   pub start : IsImageStart I names w
+
+-- What the command of a run of a program begins with: a lazy start of class files, or a start of an image.
+pub data IsFirst (P : Tables) (w : World) : Type 0 where
+  lazily : IsBegun P w → IsFirst P w
+  from_image : (I : ImageTables) → I.program ≡ P → IsBegunFromImage I w → IsFirst P w

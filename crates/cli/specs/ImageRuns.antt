@@ -4,6 +4,7 @@ use Rattle.semantics.specs.Worlds.{World}
 use Rattle.object_graph.specs.Images.{ImageTables}
 use Rattle.image_format.specs.Images.{ImageText, SomeText}
 use Rattle.image_parser.specs.ImageFaults.{ImageFails}
+use Rattle.program.specs.Programs.{IsProgram}
 use Rattle.image_parser.specs.declared.image_fault.ImageFault.{ImageFault}
 use Rattle.image_writer.specs.ImageTexts.{told_of}
 use Rattle.image_reader.specs.Starts.{IsImageStart}
@@ -31,5 +32,5 @@ pub record IsShownFromImage (I : ImageTables) (names : List (List ℕ)) (limit :
 -- why there is no run, but for want of memory: the bytes are no image, or else the entries can't be run in it
 pub data IsNoRun (bytes : List ℕ) (names : List (List ℕ)) : Refusal → Type 0 where
   image : {fault : ImageFault} → ImageFails bytes fault → IsNoRun bytes names (Image fault)
-  entry : (I : ImageTables) {fault : EntryFault} → IsSomeTextOf bytes I → EntriesFail I.program names fault
-      → IsNoRun bytes names (Entry fault)
+  entry : (I : ImageTables) {fault : EntryFault} → IsProgram I.program → IsSomeTextOf bytes I
+      → EntriesFail I.program names fault → IsNoRun bytes names (Entry fault)

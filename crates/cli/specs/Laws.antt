@@ -1,10 +1,15 @@
--- What holds of class files' bytes: they make a program, or are refused for one fault.
-use Rattle.std.specs.Prelude.{◌≡◌, ℕ, List}
+-- What holds of bytes: they make a program, or are refused for one fault; and so are runs and builds of them.
+use Rattle.std.specs.Prelude.{◌≡◌, ℕ, List, Option}
 use Rattle.std.specs.List.{All}
 use Rattle.classfile.specs.Faults.{IsBytes}
 use Rattle.program.specs.Tables.{Tables}
+use Rattle.building.specs.Laws.{SaysTheSame}
+use Rattle.building.specs.declared.build.BuildFault.{BuildFault}
+use Rattle.building.specs.declared.build.BuildFault.TheVariants as faults
 use Rattle.cli.specs.declared.fault.Refusal.{Refusal}
-use Rattle.cli.specs.Runs.{IsProgramOf, NotLinked}
+use Rattle.cli.specs.Builds.{BuildFails}
+use Rattle.cli.specs.ImageRuns.{IsNoRun}
+use Rattle.cli.specs.Runs.{IsProgramOf, IsRefused, NotLinked}
 
 -- Texts that make a program are not refused.
 abbrev pub LinkedAreNotRefused : Type 0
@@ -17,3 +22,28 @@ abbrev pub OneRefusal : Type 0
 OneRefusal =
     (texts : List (List ℕ)) (first second : Refusal) → All IsBytes texts → NotLinked texts first
     → NotLinked texts second → first ≡ second
+
+-- A run of class files from some entries is refused for one fault.
+abbrev pub OneRunRefusal : Type 0
+OneRunRefusal =
+    (texts names : List (List ℕ)) (first second : Refusal) → All IsBytes texts → IsRefused texts names first
+    → IsRefused texts names second → first ≡ second
+
+-- A run of an image from some entries is refused for one fault.
+abbrev pub OneImageRunRefusal : Type 0
+OneImageRunRefusal =
+    (bytes : List ℕ) (names : List (List ℕ)) (first second : Refusal) → IsBytes bytes → IsNoRun bytes names first
+    → IsNoRun bytes names second → first ≡ second
+
+-- Two faults of a build are the same, with the place of a text that is no class file. Of a pattern its bytes are looked
+-- at, and not where they are kept.
+abbrev pub AreTheSame : BuildFault → BuildFault → Type 0
+AreTheSame (faults.Option fault) (faults.Option other) = SaysTheSame fault other
+AreTheSame fault other = fault ≡ other
+
+-- A build of class files by some options is refused for one fault.
+abbrev pub OneBuildRefusal : Type 0
+OneBuildRefusal =
+    (texts : List (List ℕ)) (run_time build_time : Option (List ℕ)) (budget : ℕ) (first second : BuildFault)
+    → All IsBytes texts → BuildFails texts run_time build_time budget first
+    → BuildFails texts run_time build_time budget second → AreTheSame first second

@@ -9,6 +9,7 @@ use Rattle.machine.specs.Linked.{program_of}
 use Rattle.init_engine.specs.Rests.{IsRest}
 use Rattle.init_engine.specs.Rounds.{Turns}
 use Rattle.init_engine.specs.Schedules.{AreRuns, schedule_of}
+use Rattle.cli.specs.Begins.{IsFirst}
 use Rattle.cli.specs.declared.running.Ran.{Ran}
 use Rattle.cli.specs.declared.running.RunFault.{RunFault}
 use Rattle.cli.specs.declared.running.RunFault.TheVariants.{Memory, Device}
@@ -59,10 +60,11 @@ abbrev pub cut_of : Status → RunFault
 cut_of Refused = Memory
 cut_of _ = Device
 
--- the first lines of what some run of a program printed have gone out, whole
+-- The first lines of what a run printed have gone out, whole: a run from what its command begins with.
 pub record IsOfRun (before after : Option (List ℕ)) : Type 0 where
   pub program : Tables
   pub first : World
+  pub begun : IsFirst program first
   pub schedule : List ℕ
   pub last : World
   pub run : Reaches (program_of program) first schedule last

@@ -1,7 +1,7 @@
 //! From class files' bytes to an image's bytes, and the command `build` over it.
 ghost use Rattle.std.specs.Prelude.{◌≡◌, ◌↔◌, ◌⊎◌, Err, IfErr, IfOk};
 ghost use Rattle.building.specs.Builds.{text_of as list_of};
-ghost use Rattle.building.specs.declared.build.BuildFault.TheVariants.{Memory, Wave};
+ghost use Rattle.building.specs.declared.build.BuildFault.TheVariants.{Budget, Memory, Wave};
 ghost use Rattle.wave_scheduler.specs.Outcomes.{CanWork};
 ghost use Rattle.wave_scheduler.specs.declared.outcome.WaveFault.TheVariants.{Workers};
 ghost use Rattle.cli.specs.Builds.{BuildFails, IsBudget};
@@ -41,6 +41,8 @@ pub fn build_image<G: Gate, R: Threads + Wait + Sync>(
     // Nothing is built but for want of memory, or for the first that is wrong.
     ensures fault { IfErr result (λ fault. (fault ≡ Memory) ⊎ (fault ≡ Wave Workers) ⊎ BuildFails (texts_of files.now)
         (list_of options.now.run_time) (list_of options.now.build_time) options.now.budget fault) }
+    // The budget is refused just where it is wrong, and nothing else is told then: it takes no memory to see.
+    ensures budget { (result ≡ Err Budget) ↔ (¬ IsBudget options.now.budget) }
     // The number of workers is refused just where it is wrong and the budget is right.
     ensures workers { (result ≡ Err (Wave Workers)) ↔ (IsBudget options.now.budget × ¬ CanWork workers) }
 {

@@ -73,10 +73,13 @@ fn image_start(alloc: Global, bytes: &[u8], entries: &[ClassName]) -> Result<Ima
     ensures refusal { IfErr result (λ refusal. (refusal ≡ Memory) ⊎ IsNoRun bytes.now entries.now refusal) }
 {
     match read(alloc, bytes) {
-        Ok(image) => match world(alloc, &image, entries) {
-            Ok(world) => Ok(ImageStart { image, world }),
-            Err(fault) => Err(Refusal::of_entry(fault)),
-        },
+        Ok(image) => {
+            let _classes = image.program().classes();
+            match world(alloc, &image, entries) {
+                Ok(world) => Ok(ImageStart { image, world }),
+                Err(fault) => Err(Refusal::of_entry(fault)),
+            }
+        }
         Err(fault) => Err(Refusal::of_image(fault)),
     }
 }

@@ -1,6 +1,7 @@
-//! What holds of class files' bytes: they make a program, or are refused for one fault.
+//! What holds of bytes: they make a program, or are refused for one fault; and so are runs and builds of them.
 
 ghost use Rattle.cli.specs.Laws.{LinkedAreNotRefused, OneRefusal};
+ghost use Rattle.cli.specs.Laws.{OneBuildRefusal, OneImageRunRefusal, OneRunRefusal};
 
 /// Bytes that make a program are not refused.
 pub fn linked_are_not_refused()
@@ -10,4 +11,19 @@ pub fn linked_are_not_refused()
 /// Bytes are refused for one fault.
 pub fn one_refusal()
     ensures { OneRefusal }
+{}
+
+/// A run of class files is refused for one fault.
+pub fn one_run_refusal()
+    ensures { OneRunRefusal }
+{}
+
+/// A run of an image is refused for one fault.
+pub fn one_image_run_refusal()
+    ensures { OneImageRunRefusal }
+{}
+
+/// A build of class files is refused for one fault, with the place of a text that is no class file.
+pub fn one_build_refusal()
+    ensures { OneBuildRefusal }
 {}

@@ -2,6 +2,7 @@
 ghost use Rattle.std.specs.Prelude.{◌≡◌, ◌≢◌, ◌≤◌, ◌⊎◌};
 ghost use Rattle.init_engine.specs.Schedules.{AreRuns};
 ghost use Rattle.init_engine.specs.Turns.{world_of};
+ghost use Rattle.cli.specs.Begins.{IsBegun, IsFirst};
 ghost use Rattle.cli.specs.Journaled.{IsOutcome, IsReplayed};
 ghost use Rattle.cli.specs.Refusal.{refusal_status};
 ghost use Rattle.cli.specs.Running.{IsOfRun};
@@ -218,8 +219,8 @@ fn run_told<R: Threads + Wait + Sync, F: Files, W: Write + Send + Drop, E: Write
     out: W,
     errors: &mut E,
 ) -> (Status, W)
-    ensures refused { result.0 ≡ Status.Refused
-        → IsOfRun (W.contents out) (W.contents result.1) }
+    requires { IsFirst program.now (world_of world) }
+    ensures refused { result.0 ≡ Status.Refused → IsOfRun (W.contents out) (W.contents result.1) }
     ensures words { result.0 ≢ Status.Words }
 {
     let (outcome, out) = run_as_said(rt, alloc, program, world, words, out);
@@ -398,6 +399,7 @@ fn run_from<W: Write, E: Write>(
     out: &mut W,
     errors: &mut E,
 ) -> Status
+    requires { IsBegun program.now (world_of world) }
     ensures refused { result ≡ Status.Refused → IsOfRun (W.contents out.old) (W.contents out.new) }
     ensures words { result ≢ Status.Words }
 {

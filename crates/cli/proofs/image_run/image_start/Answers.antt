@@ -6,7 +6,8 @@ use Rattle.cli.proofs.image_run.image_start.Goals as goal
 pub returns-in-Err-world-clause-refusal : goal.returns-in-Err-world-clause-refusal
 returns-in-Err-world-clause-refusal c =
     refused_entry_of c.args.bytes.now c.args.entries.now c.in-Ok.image c.in-Err-world.fault c.of_entry.result
-    c.in-Ok.ensures.text c.in-Err-world.ensures.fault c.of_entry.ensures.memory c.of_entry.ensures.other
+    (rw c.program.ensures at c.classes-classes.ensures.fits) c.in-Ok.ensures.text c.in-Err-world.ensures.fault
+    c.of_entry.ensures.memory c.of_entry.ensures.other
 
 pub returns-in-Err-clause-refusal : goal.returns-in-Err-clause-refusal
 returns-in-Err-clause-refusal c =
