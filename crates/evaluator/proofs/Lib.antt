@@ -5,3 +5,4 @@ pub mod MakesLastLemmas
 pub mod SettlesLemmas
 pub mod WiderStopsLemmas
 pub mod LentLemmas
+pub mod PutLemmas

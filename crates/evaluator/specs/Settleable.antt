@@ -1,5 +1,5 @@
 -- When a class can be settled, and what holds then of the region that its initializer leaves.
-use Rattle.std.specs.Prelude.{◌≡◌, ℕ, ◌<◌, length, Some, None, IsSome}
+use Rattle.std.specs.Prelude.{◌≡◌, ℕ, ◌<◌, List, length, Option, Some, None, IsSome}
 use Rattle.vm_state.specs.SharedState.{Region}
 use Rattle.semantics.specs.Quiet.{Environment}
 use Rattle.program.specs.Tables.{Tables}
@@ -14,7 +14,8 @@ use Rattle.use_graph.specs.declared.mark.Mark.{Mark}
 use Rattle.use_graph.specs.Uses.{IsUse, HasMark}
 use Rattle.evaluator.specs.declared.outcome.Outcome.{Outcome}
 use Rattle.evaluator.specs.declared.outcome.Outcome.TheVariants as outcomes
-use Rattle.evaluator.specs.Regions.{region_of}
+use Rattle.evaluator.specs.declared.regions.Region.{Region as Held}
+use Rattle.evaluator.specs.Regions.{environment_of, region_in, region_of, with_region}
 use Rattle.evaluator.specs.Outcomes.{IsUnbarred}
 
 -- A given class can be settled: its code bears no mark, and its initializer is lent some of the regions at hand, those
@@ -50,3 +51,12 @@ abbrev pub SettleableAreUnbarred : Type 0
 SettleableAreUnbarred =
     (P : Tables) → IsLinked P → (env : Environment) (c budget : ℕ) → IsSettleable P env c
     → IsUnbarred (program_of P) env c budget
+
+-- Whole regions stay whole where such a region as is left is put among them, of a class that had none: so classes can
+-- be settled one by one.
+abbrev pub WholeStayWhole : Type 0
+WholeStayWhole =
+    (P : Tables) (before after : List (Option Held)) (c budget : ℕ) (region : Held)
+    → AreWhole P (environment_of before) → region_in before c ≡ None
+    → IsWhole P (environment_of before) c budget (region_of region)
+    → region_in after ≡ with_region (region_in before) c region → AreWhole P (environment_of after)

@@ -19,7 +19,7 @@ pub trait Sink {
     ghost failures: { Self → ℕ };
 
     /// Takes the first of these bytes, and answers how many. None are taken of a list that is not empty where it
-    /// failed.
+    /// failed. An empty list counts as no failure.
     ///
     /// # Errors
     /// `SinkFault` where it failed; nothing was taken then.
@@ -29,7 +29,8 @@ pub trait Sink {
         ensures nothing { OnErr result (Keeps (got self.old) (got self.new)) }
         ensures failed { OnErr result (failures self.new ≢ failures self.old) }
         ensures stalled { IfOk result (λ n. n ≡ 0 → 0 < length bytes.now → failures self.new ≢ failures self.old) }
-        ensures well { IfOk result (λ n. 0 < n → failures self.new ≡ failures self.old) };
+        ensures well { IfOk result (λ n. 0 < n → failures self.new ≡ failures self.old) }
+        ensures empty { length bytes.now ≡ 0 → failures self.new ≡ failures self.old };
 }
 
 /// A sink over a writer. It retries nothing.
@@ -61,6 +62,9 @@ impl<W: Write> Sink for Out<W> {
     ghost failures = { λ o. o.faults };
 
     fn put(&mut self, bytes: &[u8]) -> Result<usize, SinkFault> {
+        if bytes.is_empty() {
+            return Ok(0);
+        }
         match self.to.write(bytes) {
             Ok(0) => {
                 self.faults = self.faults.wrapping_add(1);
