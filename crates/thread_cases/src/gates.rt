@@ -100,6 +100,34 @@ fn sixty_four_threads_meet(rt: HostRuntime) -> Result<(), Fail> {
     Ok(())
 }
 
+/// The same, but it says that it is open. Threads of which several go on ask it all the same.
+#[derive(Drop)]
+struct OpenMeet<'a, R: Clock> {
+    meet: Meet<'a, R>,
+}
+
+impl<'a, R: Clock + Sync> Gate for OpenMeet<'a, R> {
+    fn ready(&self, who: u32, job: u64, turn: u32) -> bool {
+        self.meet.ready(who, job, turn)
+    }
+
+    fn done(&self, _who: u32, _job: u64) {}
+
+    fn is_open(&self) -> bool {
+        true
+    }
+}
+
+#[test]
+fn two_threads_meet_at_an_open_gate(rt: HostRuntime) -> Result<(), Fail> {
+    let gate = OpenMeet {
+        meet: Meet::new(&rt, 2),
+    };
+    get_through(&rt, &["T", "T"], &gate)?;
+    all_met(&rt, &gate.meet);
+    Ok(())
+}
+
 /// Holds threads after their first stretch, which is not yet committed, until all are there.
 #[derive(Drop)]
 struct After<'a, R: Clock> {
@@ -193,7 +221,7 @@ impl<'a, R: Clock> Sink for SlowTape<'a, R> {
 fn a_stretch_is_made_while_the_sink_has_the_lock(rt: HostRuntime) -> Result<(), Fail> {
     let text = format!(in rt.alloc(); "{SPIN}\n{M}")?;
     let program = program_of(rt.alloc(), &text)?;
-    let world = start_of(rt.alloc(), &program, &["Spin", "M"])?;
+    let world = start_with(rt.alloc(), &program, &["Spin", "M"], &["Spin", "M"])?;
     let cross = Cross {
         rt: &rt,
         asked: AtomicU64::new(0),

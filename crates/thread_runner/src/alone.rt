@@ -19,7 +19,7 @@ use sinks::Sink;
 use std::alloc::Global;
 
 /// How many steps are made at most before what was printed goes out.
-pub(crate) const STEPS: u64 = 1_000_000;
+pub(crate) const STEPS: u64 = 50_000;
 
 /// After how many bytes of text these go out.
 pub(crate) const BYTES: u64 = 65_536;

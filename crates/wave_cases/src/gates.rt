@@ -23,11 +23,13 @@ use wave_scheduler::{Gate, settle_all};
 /// How often a wait sleeps for a millisecond at most.
 const SLEEPS: u32 = 10_000;
 
-/// Holds the first so many calls of `settle`, one for each worker, until all of them are inside.
+/// Holds the first so many calls of `settle`, one for each worker, until all of them are inside. It is ready when it is
+/// asked for the second time.
 #[derive(Drop)]
 struct Meet<'a, R: Clock> {
     rt: &'a R,
     workers: u32,
+    asked: AtomicU64,
     inside: AtomicU64,
     late: AtomicU64,
     by_workers: AtomicU64,
@@ -39,6 +41,7 @@ impl<'a, R: Clock> Meet<'a, R> {
         Meet {
             rt,
             workers,
+            asked: AtomicU64::new(0),
             inside: AtomicU64::new(0),
             late: AtomicU64::new(0),
             by_workers: AtomicU64::new(0),
@@ -64,6 +67,7 @@ impl<'a, R: Clock> Meet<'a, R> {
 
 impl<'a, R: Clock + Sync> Gate for Meet<'a, R> {
     fn ready(&self, _who: u32, _job: u32, turn: u32) -> bool {
+        self.asked.fetch_add(1, Ordering::SeqCst);
         turn > 0
     }
 
@@ -114,6 +118,7 @@ fn workers_meet<R: Threads + Wait + Abort + Clock + AllocGlobal + Sync>(
     };
     each_is_settled(rt, &settled)?;
     assert_eq!(rt; gate.late.load(Ordering::SeqCst), 0);
+    assert_eq!(rt; gate.asked.load(Ordering::SeqCst), 128);
     assert_eq!(rt; gate.by_workers.load(Ordering::SeqCst), 64);
     assert_eq!(rt; gate.by_caller.load(Ordering::SeqCst), 0);
     Ok(())
