@@ -155,7 +155,8 @@ module _ (P : Tables) (options : BuildOptions) (s : Answer)
         let whole =
         shows_by P (text_of options.run_time) (text_of options.build_time) options.budget linked (settled_of s)
         (record { program = P; regions = s.regions }) refl by seen_in entries o in
-        let unseen = cut_unseen_lem P (environment_of s.regions) (environment_of left) entries linked.program fits cut o in
+        let unseen = cut_unseen_lem P (environment_of s.regions) (environment_of left) entries linked.program fits
+        cut o in
         (λ shown. unseen.0 (whole.0 shown), λ shown. whole.1 (unseen.1 shown))
 
     waves_left : (c : ℕ) → IsAccepted s.verdicts c ↔ IsSome (environment_of left c)

@@ -66,7 +66,8 @@ pub record IsSettledAs (P : Tables) (run_time build_time : Option (List ℕ)) (b
   pub build_list : IsRead build_time
   pub patterns : IsSettledBy P (patterns_in run_time) (patterns_in build_time) budget S
 
--- The image has the regions of the classes that are accepted then, without the objects that no static field reaches, and
+-- The image has the regions of the classes that are accepted then, without the objects that no static field reaches,
+-- and
 -- this became of all classes.
 pub record IsBuilt (run_time build_time : Option (List ℕ)) (budget : ℕ) (I : ImageTables) (outcomes : List Outcome)
     : Type 0 where

@@ -38,16 +38,19 @@ kept_named c n (k ∷ ks) o e = elim (tested (k.number == n)) [
       subst Q is (in_front (name c k.number) (map (λ (kept : KeptObject). name c kept.number) ks))
   | inr other ↦
       let later : object_with ks n ≡ Some o = rw other at e in
-      in_rest (name c k.number) (map (λ (kept : KeptObject). name c kept.number) ks) (name c n) (kept_named c n ks o later)
+      in_rest (name c k.number) (map (λ (kept : KeptObject). name c kept.number) ks) (name c n)
+      (kept_named c n ks o later)
 ]
 
 object_named : (from : ℕ) (regions : Held) (i n : ℕ) (o : ImageObject)
-    → object_with (objects_of (region_in regions i)) n ≡ Some o → Contains (objects_from from regions) (name (from + i) n)
+    → object_with (objects_of (region_in regions i)) n ≡ Some o
+    → Contains (objects_from from regions) (name (from + i) n)
 object_named from [] i n o e = absurd cc
 object_named from (r ∷ rs) zero n o e =
     let Q : ℕ → Type 0 = λ z. Contains (objects_from from (r ∷ rs)) (name z n) in
     subst Q (let k : from ≡ from + 0 = omega arith in k)
-    (Contains-append_left (map (λ (kept : KeptObject). name from kept.number) (objects_of r)) (objects_from (from + 1) rs)
+    (Contains-append_left (map (λ (kept : KeptObject). name from kept.number) (objects_of r))
+    (objects_from (from + 1) rs)
     (name from n) (kept_named from n (objects_of r) o e))
 object_named from (r ∷ rs) (suc i) n o e =
     let Q : ℕ → Type 0 = λ z. Contains (objects_from from (r ∷ rs)) (name z n) in

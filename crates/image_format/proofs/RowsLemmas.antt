@@ -107,7 +107,8 @@ pub numbers_low : (low : ℕ) (row : Row) (count : ℕ) → AscendsFrom low row 
 numbers_low low [] count h few = All-nil (λ (o : ℕ × Object). o.0 < 2 ^ 32)
 numbers_low low (o ∷ os) count h few =
     let later = ends (o.0 + 1) os count h.1 in
-    All-cons (λ (x : ℕ × Object). x.0 < 2 ^ 32) o os (omega (arith, later, few)) (numbers_low (o.0 + 1) os count h.1 few)
+    All-cons (λ (x : ℕ × Object). x.0 < 2 ^ 32) o os (omega (arith, later, few))
+    (numbers_low (o.0 + 1) os count h.1 few)
 
 pub row_few : (low : ℕ) (row : Row) (count : ℕ) → AscendsFrom low row count → low + length row ≤ count
 row_few low [] count h = omega (arith, h)

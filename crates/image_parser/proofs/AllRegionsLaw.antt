@@ -36,7 +36,8 @@ use Rattle.image_parser.proofs.IdleLemmas.{needed_or_idle, one_idle}
 
 -- what reading the marks comes to where there is a fault
 data Blame (version : Version) (family : Family) (bytes : List ℕ) (fault : RegionsFault) : Type 0 where
-  part : (e : MarksFault) → marks_at version family bytes ≡ Err e → fault ≡ among_regions e → Blame version family bytes fault
+  part : (e : MarksFault) → marks_at version family bytes ≡ Err e → fault ≡ among_regions e
+      → Blame version family bytes fault
   left : (regions : List Mark) (rest : List ℕ) → marks_at version family bytes ≡ Ok (regions, rest) → rest ≢ []
       → fault ≡ faults.Extra → Blame version family bytes fault
   unnamed : (regions : List Mark) (c : ℕ) → marks_at version family bytes ≡ Ok (regions, []) → IsNameless regions c
@@ -53,9 +54,11 @@ read_whole version family fam bytes regions m =
 
 blame : (version : Version) (family : Family) → IsFamily family → (bytes : List ℕ) → IsBytes bytes → (f : RegionsFault)
     → RegionsFail version family bytes f → Blame version family bytes f
-blame version family fam bytes fits f (part_fails e h) = part e ((marks_lawful version family fam).blamed bytes e fits h) refl
+blame version family fam bytes fits f (part_fails e h) = part e
+    ((marks_lawful version family fam).blamed bytes e fits h) refl
 blame version family fam bytes fits f (extra regions text rest m parts some) =
-    left regions rest (ap (marks_at version family) parts ∙ (marks_lawful version family fam).again regions text rest m) some refl
+    left regions rest (ap (marks_at version family) parts
+    ∙ (marks_lawful version family fam).again regions text rest m) some refl
 blame version family fam bytes fits f (name regions {c} m least) = unnamed regions c
     (read_whole version family fam bytes regions m) least refl
 blame version family fam bytes fits f (idle regions {c} two m all least) = unused regions c
@@ -106,7 +109,8 @@ idle_moved a b c e h = let P : List Mark → Type 0 = λ z. IsIdle z c in subst 
 
 -- ---- never both, and one of each
 
-no_fault : (version : Version) (family : Family) → IsFamily family → (bytes : List ℕ) (regions : List Mark) (f : RegionsFault)
+no_fault : (version : Version) (family : Family) → IsFamily family
+    → (bytes : List ℕ) (regions : List Mark) (f : RegionsFault)
     → RegionsText version family bytes regions → Blame version family bytes f → ⊥
 no_fault version family fam bytes regions f t (part e read is) =
     let whole = read_whole version family fam bytes regions (are_marks version family bytes regions t) in absurd cc
@@ -125,7 +129,8 @@ no_fault version family fam bytes regions f t (unused other c read two all least
     let P : Version → Type 0 = λ v. NeedsAll v regions in
     h.some (subst P two t.fits.needed c)
 
-one_blame : (version : Version) (family : Family) (bytes : List ℕ) (f g : RegionsFault) → Blame version family bytes f → Blame version family bytes g
+one_blame : (version : Version) (family : Family) (bytes : List ℕ) (f g : RegionsFault)
+    → Blame version family bytes f → Blame version family bytes g
     → f ≡ g
 one_blame version family bytes f g (part a read is) (part b read2 is2) =
     let done : Result (List Mark × List ℕ) MarksFault = Err a in
@@ -162,10 +167,12 @@ one_blame version family bytes f g (unused regions c read two all least is) (unu
     let e = one_idle regions c d least (idle_moved others regions d same more) in
     is ∙ ap (λ (k : ℕ). faults.Idle k) e ∙ sym is2
 
-one_text : (version : Version) (family : Family) → IsFamily family → (bytes : List ℕ) (a b : List Mark) → RegionsText version family bytes a
+one_text : (version : Version) (family : Family) → IsFamily family → (bytes : List ℕ) (a b : List Mark)
+    → RegionsText version family bytes a
     → RegionsText version family bytes b → a ≡ b
 one_text version family fam bytes a b s t =
-    (same_read (marks_at version family bytes) a b [] [] (read_whole version family fam bytes a (are_marks version family bytes a s))
+    (same_read (marks_at version family bytes) a b [] []
+    (read_whole version family fam bytes a (are_marks version family bytes a s))
     (read_whole version family fam bytes b (are_marks version family bytes b t))).0
 
 -- ---- one of both
@@ -242,7 +249,8 @@ one_of version family bytes fam fits = record {
   not_both = λ regions f t h. no_fault version family fam bytes regions f t (blame version family fam bytes fits f h);
   one_text = λ a b s t. one_text version family fam bytes a b s t;
   one_fault = λ f g p q.
-      one_blame version family bytes f g (blame version family fam bytes fits f p) (blame version family fam bytes fits g q);
+      one_blame version family bytes f g (blame version family fam bytes fits f p)
+      (blame version family fam bytes fits g q);
 }
 
 -- ---- what is shown of a text

@@ -127,19 +127,23 @@ pub left_over : (version : Version) (family : Family) (bytes rest : List ℕ) (r
     → RegionsFail version family bytes faults.Extra
 left_over version family bytes rest regions b some = extra regions b.text rest b.spelled b.parts some
 
-pub is_nameless : (version : Version) (family : Family) (bytes rest : List ℕ) (regions : List (Option ImageRegion)) (c : ℕ)
+pub is_nameless : (version : Version) (family : Family) (bytes rest : List ℕ) (regions : List (Option ImageRegion))
+    (c : ℕ)
     → Begins (AreMarks version family) bytes regions rest → rest ≡ [] → IsNameless regions c
     → RegionsFail version family bytes (faults.Name c)
-is_nameless version family bytes rest regions c b none least = name regions (filled version family bytes rest regions b none) least
+is_nameless version family bytes rest regions c b none least = name regions
+    (filled version family bytes rest regions b none) least
 
-pub among : (version : Version) (family : Family) (bytes : List ℕ) (f : MarksFault) → IsMarksFault (MarksFail version family bytes) f
+pub among : (version : Version) (family : Family) (bytes : List ℕ) (f : MarksFault)
+    → IsMarksFault (MarksFail version family bytes) f
     → (among_regions f ≡ faults.Memory) ⊎ RegionsFail version family bytes (among_regions f)
 among version family bytes marks.Memory h = inl refl
 among version family bytes marks.Truncated h = inr (part _ h)
 among version family bytes (marks.Shape c) h = inr (part _ h)
 
 -- the class of a region that names what there is not is one of the program's
-pub is_within : (version : Version) (family : Family) (bytes rest : List ℕ) (regions : List (Option ImageRegion)) (c : ℕ)
+pub is_within : (version : Version) (family : Family) (bytes rest : List ℕ) (regions : List (Option ImageRegion))
+    (c : ℕ)
     → Begins (AreMarks version family) bytes regions rest → IsNameless regions c → c < length family
 is_within version family bytes rest regions c b least =
     let many = as_many version family 0 (length family) regions b.spelled.0 in
@@ -154,7 +158,8 @@ mark_back version family c None h = tt
 mark_back version family c (Some region) h = h region refl
 
 marks_back : (version : Version) (family : Family) (c n : ℕ) (regions : List (Option ImageRegion)) → length regions ≡ n
-    → ((i : ℕ) (region : ImageRegion) → slice_get regions i ≡ Some (Some region) → HasShape version family (c + i) region)
+    → ((i : ℕ) (region : ImageRegion) → slice_get regions i ≡ Some (Some region)
+    → HasShape version family (c + i) region)
     → AllZip (MarkFits version family) (numbers c n) regions
 marks_back version family c zero [] many h = tt
 marks_back version family c zero (r ∷ rs) many h = absurd cc
@@ -182,7 +187,8 @@ mark_named : (regions : List (Option ImageRegion))
 mark_named regions names i None e = tt
 mark_named regions names i (Some region) e = names i region e
 
-pub all_named : (version : Version) (family : Family) (regions : List (Option ImageRegion)) → AreRegions version family regions
+pub all_named : (version : Version) (family : Family) (regions : List (Option ImageRegion))
+    → AreRegions version family regions
     → All (MarkNames regions) regions
 all_named version family regions fits i d lt =
     mark_named regions fits.names i (get_or regions i d) (slice_get-get_or regions i d lt)

@@ -26,7 +26,8 @@ ChainAfter Spells next zero s items = Is items
 ChainAfter Spells next (suc n) s items = Both (Spells s) (λ x. ChainAfter Spells next n (next x) (items ++ x ∷ []))
 
 after_lawful : {E S X : Type 0} (read : S → List ℕ → Result (X × List ℕ) E) (Spells : S → X → List ℕ → Type 0)
-    (Fails : S → List ℕ → E → Type 0) (next : X → S) → ((s : S) → Lawful (read s) (Spells s) (Fails s)) → (n : ℕ) (s : S)
+    (Fails : S → List ℕ → E → Type 0) (next : X → S) → ((s : S) → Lawful (read s) (Spells s) (Fails s))
+    → (n : ℕ) (s : S)
     (items : List X)
     → Lawful (chain_at read next n s items) (ChainAfter Spells next n s items) (ChainFails Spells Fails next n s)
 unfolding chain_at

@@ -168,7 +168,8 @@ one_region_kept found all yielded kept new region made class keeps turn count ma
     slice_get-get_or all (length yielded) region turn.0 ∙ ap (λ (r : Option ImageRegion). Some r) (sym turn.1) in
     let here : region_in all class ≡ region =
     ap (λ (n : ℕ). region_in all n) count
-    ∙ same_Some (region_in all (length yielded)) region (sym (slice_get-get_or all (length yielded) None turn.0) ∙ at) in
+    ∙ same_Some (region_in all (length yielded)) region
+    (sym (slice_get-get_or all (length yielded) None turn.0) ∙ at) in
     let P : Option ImageRegion → Type 0 = λ r. Agree found class (objects_of r) (keeps class) in
     let one : made ≡ option_map (kept_in (keeps class)) region = makes (keeps class) (subst P here (agree class)) in
     let k : class ≡ 0 + length yielded = omega (arith, count) in

@@ -167,7 +167,8 @@ module _ (version : Version) (parts : List ℕ) (family : Family) (held : Held)
           spelled = sym (family_text family);
         };
         spelled = text.spelled
-            ∙ ap (λ (n : ℕ). u4 n ++ (flat_map given_text family ++ flat_map (mark_text version family) held)) (sym count);
+            ∙ ap (λ (n : ℕ). u4 n ++ (flat_map given_text family ++ flat_map (mark_text version family) held))
+            (sym count);
       }
 
   text_linked : IsLinked parts family (rest_of version family held)
@@ -203,13 +204,16 @@ module _ (version : Version) (parts : List ℕ) (fits : IsBytes parts) where
       (rest_fits parts family (rest_of version family held) fits mine) in
       one.not_both held e (text_told version parts family held text) (subst Q same.1 (subst P same.0 fails))
 
-  one_parts : (F G : Family) (a b : Held) → PartsText version parts F a → PartsText version parts G b → (F ≡ G) × (a ≡ b)
+  one_parts : (F G : Family) (a b : Held) → PartsText version parts F a → PartsText version parts G b
+      → (F ≡ G) × (a ≡ b)
   one_parts F G a b s t =
       let mine = text_linked version parts F a s in
-      let same = one_linked parts F G (rest_of version F a) (rest_of version G b) mine (text_linked version parts G b t) in
+      let same = one_linked parts F G (rest_of version F a) (rest_of version G b) mine
+      (text_linked version parts G b t) in
       let P : Family → Type 0 = λ z. RegionsText version z (rest_of version G b) b in
       let Q : List ℕ → Type 0 = λ z. RegionsText version F z b in
-      let one = regions_or_fault version F (rest_of version F a) s.classes (rest_fits parts F (rest_of version F a) fits mine) in
+      let one = regions_or_fault version F (rest_of version F a) s.classes
+      (rest_fits parts F (rest_of version F a) fits mine) in
       let told = subst Q (sym same.1) (subst P (sym same.0) (text_told version parts G b t)) in
       (same.0, one.one_text a b (text_told version parts F a s) told)
 
@@ -398,7 +402,8 @@ module _ (version : Version) (parts : List ℕ) (fits : IsBytes parts) where
   files_or_fault n rest few is (Err f) e =
       inr (of_files f, files n rest f few is ((files_lawful n).blames rest f (after_count parts n rest fits is) e))
 
-  count_or_fault : 4 ≤ length parts → (o : Result (ℕ × List ℕ) RegionFault) → number_at w32 parts ≡ o → PartsOr version parts
+  count_or_fault : 4 ≤ length parts → (o : Result (ℕ × List ℕ) RegionFault) → number_at w32 parts ≡ o
+      → PartsOr version parts
   count_or_fault long (Ok p) e =
       let t = (number_lawful w32 wide32).takes parts p.0 p.1 fits e in
       let few = t.spelled.0 in

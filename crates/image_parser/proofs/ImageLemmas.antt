@@ -89,15 +89,18 @@ has_files parts n bytes read rest lt is b =
 
 -- ---- faults of parts
 
-pub files_fail : (version : Version) (parts : List ℕ) (n : ℕ) (bytes : List ℕ) (e : FilesFault) → n < 2 ^ 32 → parts ≡ u4 n ++ bytes
-    → (e ≡ file_faults.Memory) ⊎ FilesFail n bytes e → (of_files e ≡ faults.Memory) ⊎ PartsFail version parts (of_files e)
+pub files_fail : (version : Version) (parts : List ℕ) (n : ℕ) (bytes : List ℕ) (e : FilesFault) → n < 2 ^ 32
+    → parts ≡ u4 n ++ bytes
+    → (e ≡ file_faults.Memory) ⊎ FilesFail n bytes e
+    → (of_files e ≡ faults.Memory) ⊎ PartsFail version parts (of_files e)
 files_fail version parts n bytes e lt is h =
     elim h [
       | inl memory ↦ inl (ap of_files memory)
       | inr fails ↦ inr (files n bytes e lt is fails)
     ]
 
-pub link_fails : (version : Version) (parts : List ℕ) (read : List ClassFile) (rest : List ℕ) (e : LinkFault) → HasFiles parts read rest
+pub link_fails : (version : Version) (parts : List ℕ) (read : List ClassFile) (rest : List ℕ) (e : LinkFault)
+    → HasFiles parts read rest
     → (e ≡ link_faults.Memory) ⊎ LinkFails read e → (of_link e ≡ faults.Memory) ⊎ PartsFail version parts (of_link e)
 link_fails version parts read rest e has h =
     elim h [
@@ -105,7 +108,8 @@ link_fails version parts read rest e has h =
       | inr fails ↦ inr (link read rest e has fails)
     ]
 
-pub regions_fail : (version : Version) (parts : List ℕ) (family : Family) (rest : List ℕ) (e : RegionsFault) (f : ImageFault)
+pub regions_fail : (version : Version) (parts : List ℕ) (family : Family) (rest : List ℕ) (e : RegionsFault)
+    (f : ImageFault)
     → IsLinked parts family rest → (e ≡ region_faults.Memory) ⊎ RegionsFail version family rest e
     → (f ≡ faults.Memory) ⊎ (f ≡ of_regions family e) → (f ≡ faults.Memory) ⊎ PartsFail version parts f
 regions_fail version parts family rest e f linked h (inl memory) = inl memory

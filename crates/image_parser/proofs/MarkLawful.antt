@@ -36,23 +36,27 @@ marked_lawful : (version : Version) (family : Family) → IsFamily family → (c
     → Lawful (marked_at version family c m) (Marked version family c m) (MarkedFails version family c m)
 marked_lawful version family fits c zero = pure_lawful None
 marked_lawful version family fits c (suc zero) =
-    map_lawful marked (region_at version family c) (IsRegion version family c) (RegionFails version family c) (region_lawful version family fits c)
+    map_lawful marked (region_at version family c) (IsRegion version family c) (RegionFails version family c)
+    (region_lawful version family fits c)
 marked_lawful version family fits c (suc (suc n)) = shape_lawful
 
-marked_there : (version : Version) (family : Family) (c m : ℕ) (mark : Mark) (back : List ℕ) → Marked version family c m mark back
+marked_there : (version : Version) (family : Family) (c m : ℕ) (mark : Mark) (back : List ℕ)
+    → Marked version family c m mark back
     → MarkFits version family c mark × (u1 m ++ back ≡ mark_text version family mark)
 marked_there version family c zero mark back s = rw (s.0, s.1) (tt, refl)
 marked_there version family c (suc zero) mark back s =
     rw s.is (s.spelled.0, ap (λ (z : List ℕ). u1 1 ++ z) s.spelled.1)
 marked_there version family c (suc (suc n)) mark back s = absurd s
 
-mark_there : (version : Version) (family : Family) (c : ℕ) (mark : Mark) (text : List ℕ) → Both (Number w8) (Marked version family c) mark text
+mark_there : (version : Version) (family : Family) (c : ℕ) (mark : Mark) (text : List ℕ)
+    → Both (Number w8) (Marked version family c) mark text
     → IsMark version family c mark text
 mark_there version family c mark text s =
     let h = marked_there version family c s.value mark s.back s.second in
     (h.0, s.parts ∙ ap (λ (z : List ℕ). z ++ s.back) s.first.1 ∙ h.1)
 
-mark_back : (version : Version) (family : Family) (c : ℕ) (mark : Mark) (text : List ℕ) → IsMark version family c mark text
+mark_back : (version : Version) (family : Family) (c : ℕ) (mark : Mark) (text : List ℕ)
+    → IsMark version family c mark text
     → Both (Number w8) (Marked version family c) mark text
 mark_back version family c None text s = record {
   value = 0;
@@ -75,8 +79,10 @@ mark_lawful : (version : Version) (family : Family) → IsFamily family → (c :
     → Lawful (mark_at version family c) (IsMark version family c) (MarkFails version family c)
 unfolding mark_at
 mark_lawful version family fits c =
-    restated (then_lawful (number_at w8) (λ bytes mark. marked_at version family c mark.0 mark.1) (number_lawful w8 wide8)
-    (λ bytes m text s. marked_lawful version family fits c m)) (mark_there version family c) (mark_back version family c)
+    restated (then_lawful (number_at w8) (λ bytes mark. marked_at version family c mark.0 mark.1)
+    (number_lawful w8 wide8)
+    (λ bytes m text s. marked_lawful version family fits c m)) (mark_there version family c)
+    (mark_back version family c)
 
 -- ---- the same among all
 
@@ -102,24 +108,29 @@ inside_lawful {X} c r S F one = record {
       ∙ ap (λ (z : MarksFault). Err z) (sym h.1.1);
 }
 
-pub marks_lawful : (version : Version) (family : Family) → IsFamily family → Lawful (marks_at version family) (AreMarks version family) (MarksFail version family)
+pub marks_lawful : (version : Version) (family : Family) → IsFamily family
+    → Lawful (marks_at version family) (AreMarks version family) (MarksFail version family)
 unfolding marks_at
 marks_lawful version family fits =
-    each_lawful (mark_text version family) (MarkFits version family) (MarkFailsIn version family) (mark_in version family)
-    (λ c. inside_lawful c (mark_at version family c) (IsMark version family c) (MarkFails version family c) (mark_lawful version family fits c))
+    each_lawful (mark_text version family) (MarkFits version family) (MarkFailsIn version family)
+    (mark_in version family)
+    (λ c. inside_lawful c (mark_at version family c) (IsMark version family c) (MarkFails version family c)
+    (mark_lawful version family fits c))
     (numbers 0 (length family))
 
 -- ---- what the reader answers, unless memory runs out
 
 pub marks_text : {Y : Type 0} (version : Version) (family : Family) → IsFamily family → (view : Y → List Mark × List ℕ)
-    (result : Result Y MarksFault) (bytes : List ℕ) → IsBytes bytes → GivesIn view result (marks_at version family bytes)
+    (result : Result Y MarksFault) (bytes : List ℕ) → IsBytes bytes
+    → GivesIn view result (marks_at version family bytes)
     → IfOk result (λ y. Begins (AreMarks version family) bytes (view y).0 (view y).1)
 marks_text version family fam view (Ok y) bytes fits e =
     let t = (marks_lawful version family fam).takes bytes (view y).0 (view y).1 fits e in
     record { text = t.text; spelled = t.spelled; parts = t.parts }
 marks_text version family fam view (Err f) bytes fits e = tt
 
-pub marks_only_text : {Y : Type 0} (version : Version) (family : Family) → IsFamily family → (view : Y → List Mark × List ℕ)
+pub marks_only_text : {Y : Type 0} (version : Version) (family : Family) → IsFamily family
+    → (view : Y → List Mark × List ℕ)
     (result : Result Y MarksFault) (bytes : List ℕ) → GivesIn view result (marks_at version family bytes)
     → (regions : List Mark) (text rest : List ℕ) → AreMarks version family regions text → bytes ≡ text ++ rest
     → GivesIn view result (Ok (regions, rest))
@@ -130,17 +141,22 @@ marks_only_text {Y} version family fam view result bytes g regions text rest s p
 refused : (version : Version) (family : Family) → IsFamily family → (f : MarksFault) (bytes : List ℕ) → IsBytes bytes
     → FailsIn f (marks_at version family bytes) → IsMarksFault (MarksFail version family bytes) f
 refused version family fam marks.Memory bytes fits e = tt
-refused version family fam marks.Truncated bytes fits e = (marks_lawful version family fam).blames bytes marks.Truncated fits e
-refused version family fam (marks.Shape c) bytes fits e = (marks_lawful version family fam).blames bytes (marks.Shape c) fits e
+refused version family fam marks.Truncated bytes fits e = (marks_lawful version family fam).blames bytes
+    marks.Truncated fits e
+refused version family fam (marks.Shape c) bytes fits e = (marks_lawful version family fam).blames bytes
+    (marks.Shape c) fits e
 
 pub marks_fault : {Y : Type 0} (version : Version) (family : Family) → IsFamily family → (view : Y → List Mark × List ℕ)
-    (result : Result Y MarksFault) (bytes : List ℕ) → IsBytes bytes → GivesIn view result (marks_at version family bytes)
+    (result : Result Y MarksFault) (bytes : List ℕ) → IsBytes bytes
+    → GivesIn view result (marks_at version family bytes)
     → IfErr result (λ f. IsMarksFault (MarksFail version family bytes) f)
 marks_fault version family fam view (Ok y) bytes fits e = tt
 marks_fault version family fam view (Err f) bytes fits e = refused version family fam f bytes fits e
 
-pub marks_only_fault : {Y : Type 0} (version : Version) (family : Family) → IsFamily family → (view : Y → List Mark × List ℕ)
-    (result : Result Y MarksFault) (bytes : List ℕ) → IsBytes bytes → GivesIn view result (marks_at version family bytes)
+pub marks_only_fault : {Y : Type 0} (version : Version) (family : Family) → IsFamily family
+    → (view : Y → List Mark × List ℕ)
+    (result : Result Y MarksFault) (bytes : List ℕ) → IsBytes bytes
+    → GivesIn view result (marks_at version family bytes)
     → (f : MarksFault) → MarksFail version family bytes f → GivesIn view result (Err f)
 marks_only_fault {Y} version family fam view result bytes fits g f h =
     let P : Result (List Mark × List ℕ) MarksFault → Type 0 = λ z. GivesIn view result z in

@@ -188,7 +188,8 @@ module _ (version : Version) (family : Family) where
       → Lawful (counted_region_at version family c count) (Counted c count) (CountedFails c count)
   unfolding counted_region_at
   counted_lawful fits c count few =
-      then_lawful (each_at value_at (static_kinds family c) []) (λ bytes statics. objects_at version family count statics.1
+      then_lawful (each_at value_at (static_kinds family c) [])
+      (λ bytes statics. objects_at version family count statics.1
       >>= λ objects. Ok (region_of count statics.0 objects.0, objects.1))
       (each_lawful value_text Suits ValueFails value_at value_lawful (static_kinds family c))
       (λ bytes statics text s. map_lawful (region_of count statics) (objects_at version family count)

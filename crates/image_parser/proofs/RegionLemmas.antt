@@ -65,13 +65,16 @@ read_or_not version family fam c bytes fits (Ok p) e =
       p.0,
       (
         p.1,
-        begins (region_at version family c) (IsRegion version family c) (RegionFails version family c) (region_lawful version family fam c)
+        begins (region_at version family c) (IsRegion version family c) (RegionFails version family c)
+            (region_lawful version family fam c)
             bytes fits p e,
       ),
     )
-read_or_not version family fam c bytes fits (Err f) e = inr (f, (region_lawful version family fam c).blames bytes f fits e)
+read_or_not version family fam c bytes fits (Err f) e = inr
+    (f, (region_lawful version family fam c).blames bytes f fits e)
 
-read_again : (version : Version) (family : Family) → IsFamily family → (c : ℕ) (bytes : List ℕ) (region : ImageRegion) (rest : List ℕ)
+read_again : (version : Version) (family : Family) → IsFamily family
+    → (c : ℕ) (bytes : List ℕ) (region : ImageRegion) (rest : List ℕ)
     → Begins (IsRegion version family c) bytes region rest → region_at version family c bytes ≡ Ok (region, rest)
 read_again version family fam c bytes region rest b =
     ap (region_at version family c) b.parts ∙ (region_lawful version family fam c).again region b.text rest b.spelled

@@ -26,4 +26,5 @@ pub record ExactlyOne (version : Version) (family : Family) (c : ℕ) (bytes : L
       → Begins (IsRegion version family c) bytes region rest → RegionFails version family c bytes fault → ⊥
   pub one_region : (a b : ImageRegion) (s t : List ℕ) → Begins (IsRegion version family c) bytes a s
       → Begins (IsRegion version family c) bytes b t → (a ≡ b) × (s ≡ t)
-  pub one_fault : (f g : RegionFault) → RegionFails version family c bytes f → RegionFails version family c bytes g → f ≡ g
+  pub one_fault : (f g : RegionFault) → RegionFails version family c bytes f → RegionFails version family c bytes g
+      → f ≡ g

@@ -131,7 +131,8 @@ pub fn read_marks<'a>(
     // What is accepted is the text of the regions that are answered.
     ensures text { IfOk result (λ x. Begins (AreMarks version program.now.family) bytes.now x.0 x.1.now) }
     // Every text of regions of the classes is accepted as those regions, unless memory runs out.
-    ensures only_text { (regions : List (Option Held)) (text rest : List ℕ) → AreMarks version program.now.family regions text
+    ensures only_text { (regions : List (Option Held)) (text rest : List ℕ)
+        → AreMarks version program.now.family regions text
         → bytes.now ≡ text ++ rest
         → GivesIn {Y = List (Option Held) × List ℕ} (λ x. (x.0, x.1.now)) result (Ok (regions, rest)) }
     // What is refused is refused for the first part that fails, or because memory runs out.

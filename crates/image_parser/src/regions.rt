@@ -33,7 +33,8 @@ use std::alloc::Global;
 /// that no static field reaches.
 ///
 /// # Errors
-/// The first fault of a part, in order; then `Extra`; then the least class that names an object that there is not; then,
+/// The first fault of a part, in order; then `Extra`; then the least class that names an object that there is not;
+/// then,
 /// in version 2, the least class that keeps an object which no static field reaches. `Memory` where memory runs out.
 pub fn read_regions(
     alloc: Global,

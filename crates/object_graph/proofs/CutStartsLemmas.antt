@@ -44,7 +44,8 @@ held_or_past r n kept = elim (tested (nat_lt n r.pool.count)) [
     by None at h = cc
     by (Some x) at h = (x, at)
 
-pub same_some : (These : ObjectName → Type 0) (c : ℕ) (w p : Option Region) → IsCutAt These c w p → is_some p ≡ is_some w
+pub same_some : (These : ObjectName → Type 0) (c : ℕ) (w p : Option Region) → IsCutAt These c w p
+    → is_some p ≡ is_some w
 same_some These c None None is = refl
 same_some These c None (Some p) is = absurd is
 same_some These c (Some w) None is = absurd is

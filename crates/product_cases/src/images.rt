@@ -11,7 +11,8 @@ use std::sync::Wait;
 use std::thread::Threads;
 
 /// Given are classes. Asked is `reached BUDGET`, for the objects that some static field of their image reaches, each as
-/// its class and its number, how many they are, and how many were made. Each initializer may cost so much. What is asked of
+/// its class and its number, how many they are, and how many were made. Each initializer may cost so much. What is
+/// asked of
 /// the bytes of their image stands in `src/image_bytes.rt`, and of runs from it in `src/image_runs.rt`.
 pub fn answer<R: Threads + Wait + Sync>(
     rt: &R,

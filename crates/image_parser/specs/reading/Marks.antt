@@ -21,7 +21,8 @@ marked region = Some region
 
 abbrev pub marked_at : Version → Family → ℕ → ℕ → List ℕ → Result (Mark × List ℕ) RegionFault
 marked_at version family c zero bytes = Ok (None, bytes)
-marked_at version family c (suc zero) bytes = region_at version family c bytes >>= λ region. Ok (marked region.0, region.1)
+marked_at version family c (suc zero) bytes = region_at version family c bytes >>= λ region. Ok
+    (marked region.0, region.1)
 marked_at version family c (suc (suc n)) bytes = Err faults.Shape
 
 unfoldable pub mark_at : Version → Family → ℕ → List ℕ → Result (Mark × List ℕ) RegionFault

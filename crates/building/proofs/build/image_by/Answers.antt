@@ -32,7 +32,8 @@ returns-in-Ok-clause-build c =
     c.image_of.ensures.gathered
 
 pub returns-in-Ok-clause-fault : goal.returns-in-Ok-clause-fault
-returns-in-Ok-clause-fault c = IfErr-weaker c.image_of.result (λ f. f ≡ Memory) _ (λ f e. inl e) c.image_of.ensures.memory
+returns-in-Ok-clause-fault c = IfErr-weaker c.image_of.result (λ f. f ≡ Memory) _ (λ f e. inl e)
+    c.image_of.ensures.memory
 
 pub returns-in-Err-clause-fault : goal.returns-in-Err-clause-fault
 returns-in-Err-clause-fault c = rw c.in-Err.is at c.requires.settled.fault

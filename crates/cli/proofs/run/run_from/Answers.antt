@@ -11,4 +11,5 @@ returns-in-Ok-clause-refused g c = λ refused.
 pub returns-in-Err-Memory-clause-refused : goal.returns-in-Err-Memory-clause-refused
 returns-in-Err-Memory-clause-refused g c = λ refused.
     of_cut c.args.program.now (world_of c.args.world) (g.W.Write.contents c.args.out.now)
-    (g.W.Write.contents c.run_world.new.out) (lazily c.requires) (rw c.in-Err-Memory.field-0-is at c.in-Err-Memory.ensures.cut)
+    (g.W.Write.contents c.run_world.new.out) (lazily c.requires)
+    (rw c.in-Err-Memory.field-0-is at c.in-Err-Memory.ensures.cut)

@@ -15,7 +15,8 @@ loop-object-preserved c =
     let turn = YieldsList-turn (YieldsList-from_vec {s = c.into_iter-object-iterator.result} c.args.objects.items
     c.into_iter-object-iterator.ensures.into_iter_gives.0
     (c.into_iter-object-iterator.ensures.into_iter_gives.1 ∙ c.args.objects.ok.0))
-    c.loop-object.yielded c.loop-object.object-iterator c.loop-object.yielded_by c.next.result c.next.new.self c.in-Some.object c.in-Some.is c.next.ensures.steps in
+    c.loop-object.yielded c.loop-object.object-iterator c.loop-object.yielded_by c.next.result c.next.new.self
+    c.in-Some.object c.in-Some.is c.next.ensures.steps in
     record {
       index = omega (arith, c.loop-object.invariant.index, length_push c.loop-object.yielded c.in-Some.object);
       kept = λ keeps agree. one_kept c.args.found.now c.args.class c.args.objects.items c.loop-object.yielded
@@ -29,7 +30,8 @@ overflow_add-index c =
     let turn = YieldsList-turn (YieldsList-from_vec {s = c.into_iter-object-iterator.result} c.args.objects.items
     c.into_iter-object-iterator.ensures.into_iter_gives.0
     (c.into_iter-object-iterator.ensures.into_iter_gives.1 ∙ c.args.objects.ok.0))
-    c.loop-object.yielded c.loop-object.object-iterator c.loop-object.yielded_by c.next.result c.next.new.self c.in-Some.object c.in-Some.is c.next.ensures.steps in
+    c.loop-object.yielded c.loop-object.object-iterator c.loop-object.yielded_by c.next.result c.next.new.self
+    c.in-Some.object c.in-Some.is c.next.ensures.steps in
     omega (arith, turn.0, c.loop-object.invariant.index, c.args.objects.small, c.args.objects.ok.0)
 
 pub returns : goal.returns
@@ -37,7 +39,8 @@ returns c = λ keeps agree.
     let end = YieldsList-end (YieldsList-from_vec {s = c.into_iter-object-iterator.result} c.args.objects.items
     c.into_iter-object-iterator.ensures.into_iter_gives.0
     (c.into_iter-object-iterator.ensures.into_iter_gives.1 ∙ c.args.objects.ok.0))
-    c.loop-object.yielded c.loop-object.object-iterator c.loop-object.yielded_by c.next.result c.next.new.self c.in-None.is c.next.ensures.steps in
+    c.loop-object.yielded c.loop-object.object-iterator c.loop-object.yielded_by c.next.result c.next.new.self
+    c.in-None.is c.next.ensures.steps in
     c.loop-object.invariant.kept keeps agree
     ∙ ap (λ (ks : List KeptObject). filter (λ (k : KeptObject). keeps k.number) ks)
     (sym (map-id c.loop-object.yielded) ∙ end.0)

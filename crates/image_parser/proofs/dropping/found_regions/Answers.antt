@@ -15,7 +15,8 @@ loop-region-preserved c =
     let turn = YieldsList-turn (YieldsList-from_vec {s = c.into_iter-region-iterator.result} c.args.regions.items
     c.into_iter-region-iterator.ensures.into_iter_gives.0
     (c.into_iter-region-iterator.ensures.into_iter_gives.1 ∙ c.args.regions.ok.0))
-    c.loop-region.yielded c.loop-region.region-iterator c.loop-region.yielded_by c.next.result c.next.new.self c.in-Some.region c.in-Some.is c.next.ensures.steps in
+    c.loop-region.yielded c.loop-region.region-iterator c.loop-region.yielded_by c.next.result c.next.new.self
+    c.in-Some.region c.in-Some.is c.next.ensures.steps in
     record {
       class = omega (arith, c.loop-region.invariant.class, length_push c.loop-region.yielded c.in-Some.region);
       kept = λ keeps agree. one_region_kept c.args.found.now c.args.regions.items c.loop-region.yielded
@@ -29,7 +30,8 @@ overflow_add-class c =
     let turn = YieldsList-turn (YieldsList-from_vec {s = c.into_iter-region-iterator.result} c.args.regions.items
     c.into_iter-region-iterator.ensures.into_iter_gives.0
     (c.into_iter-region-iterator.ensures.into_iter_gives.1 ∙ c.args.regions.ok.0))
-    c.loop-region.yielded c.loop-region.region-iterator c.loop-region.yielded_by c.next.result c.next.new.self c.in-Some.region c.in-Some.is c.next.ensures.steps in
+    c.loop-region.yielded c.loop-region.region-iterator c.loop-region.yielded_by c.next.result c.next.new.self
+    c.in-Some.region c.in-Some.is c.next.ensures.steps in
     omega (arith, turn.0, c.loop-region.invariant.class, c.requires)
 
 pub returns : goal.returns
@@ -37,7 +39,8 @@ returns c = λ keeps agree.
     let end = YieldsList-end (YieldsList-from_vec {s = c.into_iter-region-iterator.result} c.args.regions.items
     c.into_iter-region-iterator.ensures.into_iter_gives.0
     (c.into_iter-region-iterator.ensures.into_iter_gives.1 ∙ c.args.regions.ok.0))
-    c.loop-region.yielded c.loop-region.region-iterator c.loop-region.yielded_by c.next.result c.next.new.self c.in-None.is c.next.ensures.steps in
+    c.loop-region.yielded c.loop-region.region-iterator c.loop-region.yielded_by c.next.result c.next.new.self
+    c.in-None.is c.next.ensures.steps in
     c.loop-region.invariant.kept keeps agree
     ∙ ap (λ (rs : List (Option ImageRegion)). kept_from keeps 0 rs)
     (sym (map-id c.loop-region.yielded) ∙ end.0)

@@ -20,5 +20,6 @@ returns-in-Err-clause-fault c =
     let short : read.result.0 < 2 ^ 32 = omega arith in
     let is = counted c.args.parts.now fits c.requires read.result.0 read.result.1.now
     read.ensures.count read.ensures.rest in
-    rw (c.of_files-in-Err.ensures) (files_fail c.args.version c.args.parts.now read.result.0 read.result.1.now c.in-Err.fault short is
+    rw (c.of_files-in-Err.ensures) (files_fail c.args.version c.args.parts.now read.result.0 read.result.1.now
+    c.in-Err.fault short is
     c.in-Err.ensures.fault)

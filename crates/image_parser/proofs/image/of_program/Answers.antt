@@ -8,6 +8,7 @@ returns-in-Ok-clause-text c =
 
 pub returns-in-Err-clause-fault : goal.returns-in-Err-clause-fault
 returns-in-Err-clause-fault c =
-    regions_fail c.args.version c.args.parts.now c.args.program.family c.args.rest.now c.in-Err.fault c.of_regions.result
+    regions_fail c.args.version c.args.parts.now c.args.program.family c.args.rest.now c.in-Err.fault
+    c.of_regions.result
     c.requires.linked c.in-Err.ensures.fault
     (rw c.family.ensures at c.of_regions.ensures)

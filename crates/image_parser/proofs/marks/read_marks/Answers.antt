@@ -4,22 +4,26 @@ use Rattle.image_parser.proofs.marks.read_marks.Goals as goal
 
 pub returns-clause-text : goal.returns-clause-text
 returns-clause-text c =
-    marks_text c.args.version c.args.program.now.family (rw (← c.family.ensures) c.classes-classes.ensures.fits) _ _ c.args.bytes.now
+    marks_text c.args.version c.args.program.now.family (rw (← c.family.ensures) c.classes-classes.ensures.fits) _ _
+    c.args.bytes.now
     (λ i. omega (arith, c.type_inv.bytes i)) c.marks_at.ensures
 
 pub returns-clause-only_text : goal.returns-clause-only_text
 returns-clause-only_text c =
-    marks_only_text c.args.version c.args.program.now.family (rw (← c.family.ensures) c.classes-classes.ensures.fits) _ _
+    marks_only_text c.args.version c.args.program.now.family (rw (← c.family.ensures) c.classes-classes.ensures.fits)
+    _ _
     c.args.bytes.now
     c.marks_at.ensures
 
 pub returns-clause-fault : goal.returns-clause-fault
 returns-clause-fault c =
-    marks_fault c.args.version c.args.program.now.family (rw (← c.family.ensures) c.classes-classes.ensures.fits) _ _ c.args.bytes.now
+    marks_fault c.args.version c.args.program.now.family (rw (← c.family.ensures) c.classes-classes.ensures.fits) _ _
+    c.args.bytes.now
     (λ i. omega (arith, c.type_inv.bytes i)) c.marks_at.ensures
 
 pub returns-clause-only_fault : goal.returns-clause-only_fault
 returns-clause-only_fault c =
-    marks_only_fault c.args.version c.args.program.now.family (rw (← c.family.ensures) c.classes-classes.ensures.fits) _ _
+    marks_only_fault c.args.version c.args.program.now.family
+    (rw (← c.family.ensures) c.classes-classes.ensures.fits) _ _
     c.args.bytes.now
     (λ i. omega (arith, c.type_inv.bytes i)) c.marks_at.ensures
