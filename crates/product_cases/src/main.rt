@@ -21,6 +21,7 @@ mod commands;
 mod graphs;
 mod image_bytes;
 mod image_runs;
+mod image_sinks;
 mod images;
 mod members;
 mod patterns;

@@ -26,3 +26,43 @@ impl Write for Narrow {
         }
     }
 }
+
+/// A stream that takes one byte a call, so many of them, and then fails, or answers 0. It holds them against those that
+/// are wanted.
+#[derive(Drop)]
+pub struct OneByOne<'a> {
+    pub wanted: &'a [u8],
+    pub taken: usize,
+    pub room: usize,
+    pub stalls: bool,
+    pub is_same: bool,
+}
+
+impl<'a> Write for OneByOne<'a> {
+    fn write(&mut self, bytes: &[u8]) -> io::Result<usize> {
+        let Some(first) = bytes.first() else {
+            return Ok(0);
+        };
+        if self.room <= self.taken {
+            if self.stalls {
+                return Ok(0);
+            }
+            return Err(io::Error::from(ErrorKind::BrokenPipe));
+        }
+        self.is_same = self.is_same && is_at(self.wanted, self.taken, *first);
+        self.taken += 1;
+        Ok(1)
+    }
+
+    fn flush(&mut self) -> io::Result<()> {
+        Ok(())
+    }
+}
+
+/// Whether a byte stands at a place.
+fn is_at(bytes: &[u8], place: usize, byte: u8) -> bool {
+    match bytes.get(place) {
+        Some(found) => *found == byte,
+        None => false,
+    }
+}
