@@ -94,7 +94,7 @@ impl Program {
     pub fn links(&self)
         ensures { Links (files_of self.now.family) }
     {
-        let _family = self.family();
+        let _classes = self.classes.as_slice();
     }
 
     /// How many classes were given.

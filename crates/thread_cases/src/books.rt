@@ -209,27 +209,42 @@ fn a_call_is_committed_where_its_class_is_not_known(rt: HostRuntime) -> Result<(
     Ok(())
 }
 
-/// What two stretches answer that were both made where the thread is after so many commits, and the journal's text.
+/// What two stretches answer that were both made where the thread is, and the journal's text.
+fn commit_both<O: Origin>(
+    alloc: Global,
+    program: &Program,
+    book: &mut Book<O>,
+    way: Way,
+) -> Result<(Commit, Commit, Vec<u8>), Fail>
+    requires program { program.now ≡ O.program }
+    requires thread { 0 < length book.old.past.world.threads }
+{
+    let first = make::<O>(alloc, program, book, way, DoneSet::none())?;
+    let other = make::<O>(alloc, program, book, way, DoneSet::none())?;
+    let counts = commit(alloc, program, book, first)?;
+    let stale = commit(alloc, program, book, other)?;
+    Ok((counts, stale, text_of(alloc, book)?))
+}
+
+/// The same at a start, or after a first commit.
 fn commit_twice<O: Origin>(
     alloc: Global,
     program: &Program,
     world: World,
     way: Way,
-    after: u32,
+    later: bool,
 ) -> Result<(Commit, Commit, Vec<u8>), Fail>
     requires program { program.now ≡ O.program }
     requires start { world_of world ≡ O.start }
     requires thread { 0 < length world.threads }
 {
     let mut book = Book::<O>::new(alloc, world, 10_000);
-    for _ in 0..after {
-        let _answer = commit_next(alloc, program, &mut book, way, true)?;
+    if later {
+        let _first = commit_next(alloc, program, &mut book, way, true)?;
+        commit_both(alloc, program, &mut book, way)
+    } else {
+        commit_both(alloc, program, &mut book, way)
     }
-    let first = make::<O>(alloc, program, &book, way, DoneSet::none())?;
-    let other = make::<O>(alloc, program, &book, way, DoneSet::none())?;
-    let counts = commit(alloc, program, &mut book, first)?;
-    let stale = commit(alloc, program, &mut book, other)?;
-    Ok((counts, stale, text_of(alloc, &book)?))
 }
 
 /// Of two stretches from one place of a thread the first counts, and the other does not.
@@ -238,7 +253,7 @@ fn counts_once<R: AllocGlobal + Abort>(
     text: &str,
     entry: &str,
     way: Way,
-    after: u32,
+    later: bool,
     journal: &[u8],
 ) -> Result<(), Fail> {
     let program = program_of(rt.alloc(), text)?;
@@ -246,7 +261,7 @@ fn counts_once<R: AllocGlobal + Abort>(
     if world.thread_count() == 0 {
         return Err(Fail::new("no thread"));
     }
-    let (counts, stale, text) = commit_twice::<Brand>(rt.alloc(), &program, world, way, after)?;
+    let (counts, stale, text) = commit_twice::<Brand>(rt.alloc(), &program, world, way, later)?;
     assert!(rt; matches!(counts, Commit::Moved));
     assert!(rt; matches!(stale, Commit::Stale));
     assert_eq!(rt; text.as_slice(), journal);
@@ -255,9 +270,9 @@ fn counts_once<R: AllocGlobal + Abort>(
 
 #[test]
 fn frames_that_were_taken_twice_count_once(rt: HostRuntime) -> Result<(), Fail> {
-    counts_once(&rt, M, "M", Way::Frames, 0, b"0 1\n".as_slice())?;
+    counts_once(&rt, M, "M", Way::Frames, false, b"0 1\n".as_slice())?;
     for way in WAYS.iter() {
-        counts_once(&rt, SPIN, "Spin", *way, 1, b"0 1025\n".as_slice())?;
+        counts_once(&rt, SPIN, "Spin", *way, true, b"0 1025\n".as_slice())?;
     }
     Ok(())
 }
