@@ -1,7 +1,7 @@
 //! Whether a thread's next instruction waits for another thread.
 
 ghost use Rattle.std.specs.Prelude.{◌≡◌, List};
-ghost use Rattle.vm_state.specs.declared.text.Line.{Line};
+ghost use Rattle.vm_state.specs.Output.{Print};
 ghost use Rattle.vm_state.specs.declared.value.Maker.{Maker};
 ghost use Rattle.vm_state.specs.Shares.{shared_of};
 ghost use Rattle.semantics.specs.Rows.{run_row};
@@ -105,7 +105,7 @@ fn trigger_of(program: &Program, frame: &Frame) -> Trigger
 
 /// Whether another thread holds it.
 fn is_held(trigger: Trigger, thread: u32, shared: &Shared) -> bool
-    ensures { (p : List Line) → result ≡ is_held trigger thread (shared_of shared.now p) }
+    ensures { (p : List Print) → result ≡ is_held trigger thread (shared_of shared.now p) }
 {
     match trigger {
         Trigger::Nothing => false,
@@ -123,7 +123,7 @@ fn is_held(trigger: Trigger, thread: u32, shared: &Shared) -> bool
 /// Whether another thread is in the way of a thread's next instruction, in this frame: whether its row waits. It takes
 /// no memory.
 pub fn has_to_wait(program: &Program, thread: u32, frame: &Frame, shared: &Shared) -> bool
-    ensures { (maker : Maker) (p : List Line)
+    ensures { (maker : Maker) (p : List Print)
         → result ≡ waits (run_row thread maker (shared_of shared.now p) (row program.now frame.now)) }
 {
     is_held(trigger_of(program, frame), thread, shared)
