@@ -7,7 +7,7 @@ use Rattle.init_engine.specs.Turns.{world_of}
 use Rattle.thread_runner.specs.Fronts.{with_top}
 use Rattle.thread_runner.proofs.BookLemmas.{front_counts_if}
 use Rattle.thread_runner.proofs.FrontLemmas.{front_led}
-use Rattle.thread_runner.proofs.history.History.commit_front.Goals as goal
+use Rattle.thread_runner.proofs.history.History.commit_on_front.Goals as goal
 
 pub settle-requires-clause-may : goal.settle-requires-clause-may
 settle-requires-clause-may g c =

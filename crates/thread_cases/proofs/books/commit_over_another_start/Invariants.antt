@@ -1,5 +1,5 @@
 use Rattle.init_engine.specs.Turns.{world_of}
-use Rattle.thread_cases.proofs.books.a_stretch_over_another_start_is_stale.Given as goal
+use Rattle.thread_cases.proofs.books.commit_over_another_start.Given as goal
 
 abbrev pub ghosts-done_in : goal.ghosts-done_in
 ghosts-done_in g a = record { program = a.program.now; start = world_of a.world }
