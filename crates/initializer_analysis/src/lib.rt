@@ -17,6 +17,7 @@ pub mod verdict;
 mod vertex_tables;
 mod waves;
 
+pub use cycles::cycles;
 pub use dependence::{class_vertex, dependence_graph};
 pub use judging::judge;
 pub use refused_uses::first_refused;
