@@ -1,9 +1,9 @@
 //! A class's class initialization method at build time, alone and within a budget.
 #![tactic(auto)]
 
-pub mod build;
+mod build;
 pub mod laws;
 pub mod outcome;
 pub mod regions;
 pub mod settling;
-pub mod turn;
+mod turn;

@@ -24,10 +24,7 @@ use vm_state::heap::Row;
 
 /// A class's region before its initializer runs: each static field is zero, null or its ConstantValue, and no object
 /// was made (JVMS 5.5, step 6).
-///
-/// # Errors
-/// `AllocError` where memory is refused.
-pub fn constant_region(alloc: Global, program: &Program, class: u32) -> Result<Region, AllocError>
+fn constant_region(alloc: Global, program: &Program, class: u32) -> Result<Region, AllocError>
     ensures { IfOk result (λ region. region_of region ≡ constant_region (program_of program.now) class) }
 {
     let statics = program.statics(class);

@@ -120,7 +120,7 @@ fn cycles_by(
 }
 
 /// For each given class whether it uses itself by way of others.
-pub fn cycles(
+pub(crate) fn cycles(
     alloc: Global,
     program: &Program,
     uses: &UseGraph,

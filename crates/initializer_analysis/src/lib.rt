@@ -17,7 +17,6 @@ pub mod verdict;
 mod vertex_tables;
 mod waves;
 
-pub use cycles::cycles;
 pub use dependence::{class_vertex, dependence_graph};
 pub use judging::judge;
 pub use refused_uses::first_refused;

@@ -102,11 +102,6 @@ pc_of _ place = None
 abbrev pub pc_at : Tables → ℕ → ℕ → ℕ → Option ℕ
 pc_at P d k place = pc_of (implementation_at P d k) place
 
--- the instruction at this pc of a method may call another method
-abbrev pub CallsAt : Tables → ℕ → ℕ → ℕ → ℕ → ℕ → Type 0
-CallsAt P d k pc e j = (place : ℕ) × (o : Operation) × (pc_at P d k place ≡ Some pc)
-    × (operation_at P d k place ≡ Some o) × MayRunFor P (callee_of o) e j
-
 -- a method that may run has an instruction at this pc which bears the mark
 abbrev pub IsEvidence : Tables → ℕ → Mark → Evidence → Type 0
 IsEvidence P c mark evidence = MayRun P c evidence.class evidence.index

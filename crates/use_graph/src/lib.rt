@@ -3,7 +3,6 @@
 
 pub mod body;
 mod call_graph;
-mod call_sites;
 pub mod callee;
 pub mod class_uses;
 mod code;
@@ -16,6 +15,5 @@ pub mod numbers;
 mod search;
 pub mod whole_program;
 
-pub use call_sites::call_site;
-pub use search::{marks_of, start_of, uses};
+pub use search::{start_of, uses};
 pub use whole_program::UseGraph;

@@ -287,8 +287,8 @@ fn evidence(graph: &UseGraph, reached: &Visited, class: u32, mark: Mark) -> Opti
     None
 }
 
-/// Evidence for each mark in the methods among some vertices: of each that of the vertex that came first.
-pub fn marks_of(graph: &UseGraph, reached: &Visited, class: u32) -> Marks
+/// Evidence for each mark in the methods among some vertices.
+fn marks_of(graph: &UseGraph, reached: &Visited, class: u32) -> Marks
     ensures prints { IsFound graph.now reached.now.items class marks.Prints result.prints }
     ensures throws { IsFound graph.now reached.now.items class marks.Throws result.throws }
     ensures monitors { IsFound graph.now reached.now.items class marks.Monitors result.monitors }
