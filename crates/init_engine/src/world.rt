@@ -219,14 +219,16 @@ impl World {
         }
     }
 
-    pub(crate) fn threads(&self) -> &[Thread]
+    /// The threads with their stacks, by their numbers.
+    pub fn threads(&self) -> &[Thread]
         ensures value { result.now ≡ self.now.threads }
         ensures numbered { AreNumbered result.now }
     {
         self.threads.as_slice()
     }
 
-    pub(crate) fn shared(&self) -> &Shared
+    /// What the threads share.
+    pub fn shared(&self) -> &Shared
         ensures { result.now ≡ self.now.shared }
     {
         &self.shared

@@ -10,6 +10,7 @@ ghost use Rattle.frame_instructions.specs.OperandKinds.{top_as as top_of_kind};
 ghost use Rattle.machine.specs.Effects.{waits};
 ghost use Rattle.machine.specs.Operations.{meaning, operation_at};
 ghost use Rattle.machine.specs.Table.{row};
+ghost use Rattle.machine.specs.Waiting.{holder, other_than};
 ghost use Rattle.machine.specs.steps.Triggers.{is_held, monitor_trigger, object_trigger, call_trigger};
 ghost use Rattle.machine.specs.steps.Triggers.{operation_trigger, fetched_trigger, trigger_of};
 
@@ -19,13 +20,14 @@ use crate::references::name_of;
 use crate::resolved::{Resolved, resolved_operation};
 use frame_instructions::operand_kind::{OperandKind, top_as};
 use program::Program;
-use vm_state::classes::Usability;
+use vm_state::classes::{ClassState, Usability};
 use vm_state::frame::{Activity, Frame};
 use vm_state::object::Monitor;
 use vm_state::shared::Shared;
 use vm_state::value::Name;
 
 /// What another thread may hold that an instruction needs.
+#[derive(Clone, Copy)]
 pub enum Trigger {
     Nothing,
     /// The class of this number, which the instruction, or a thread's start, needs (JVMS 5.5).
@@ -94,12 +96,38 @@ fn next_trigger(program: &Program, frame: &Frame, class: u32, method: u16) -> Tr
 }
 
 /// What the next instruction of a frame needs, or a thread's start.
-fn trigger_of(program: &Program, frame: &Frame) -> Trigger
+pub fn trigger_of(program: &Program, frame: &Frame) -> Trigger
     ensures { result ≡ trigger_of program.now frame.now }
 {
     match frame.activity {
         Activity::Start(class) => Trigger::Class(class),
         Activity::Method { class, index } => next_trigger(program, frame, class, index),
+    }
+}
+
+/// A thread, where it is not this one.
+fn other_than(thread: u32, owner: u32) -> Option<u32>
+    ensures { result ≡ other_than thread owner }
+{
+    if thread == owner { None } else { Some(owner) }
+}
+
+/// The other thread that holds it, if one does.
+pub fn holder(trigger: Trigger, thread: u32, shared: &Shared) -> Option<u32>
+    ensures { (p : List Print) → result ≡ holder trigger thread (shared_of shared.now p) }
+{
+    match trigger {
+        Trigger::Nothing => None,
+        Trigger::Class(class) => match shared.state(class) {
+            ClassState::InProgress(owner) => other_than(thread, owner),
+            ClassState::Uninitialized => None,
+            ClassState::Initialized => None,
+            ClassState::Erroneous => None,
+        },
+        Trigger::Monitor(object) => match shared.monitor(object) {
+            Monitor::Owned { thread: owner, .. } => other_than(thread, owner),
+            Monitor::Free => None,
+        },
     }
 }
 
