@@ -44,7 +44,7 @@ impl MemberTable {
         }
     }
 
-    /// Gives the texts of all classes numbers. Unless they are few, it depends on them all by what they are hashed then.
+    /// Gives the texts of all classes numbers. Unless they are few, they are hashed by a digest of them all then.
     fn add_all(&mut self, alloc: Global, classes: &[GivenClass]) -> Result<(), AllocError>
         requires { HavePools [] self.old.texts self.old.pools.items }
         ensures { OnOk result (HavePools classes.now self.new.texts self.new.pools.items) }

@@ -1,7 +1,5 @@
 //! How texts are hashed.
 
-ghost use Rattle.std.specs.Prelude.{◌<◌};
-
 use crate::texts::Texts;
 use classfile::Constant;
 use loading::given::GivenClass;
