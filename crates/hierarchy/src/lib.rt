@@ -14,6 +14,7 @@ mod declarations;
 mod defaults;
 mod depth_first;
 mod found_ahead;
+mod guesses;
 pub mod hierarchy;
 pub mod initialization;
 mod initialized_first;

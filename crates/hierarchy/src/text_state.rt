@@ -1,8 +1,7 @@
 //! How texts are hashed.
 
-ghost use Rattle.std.specs.Prelude.{◌<◌};
-
-use classfile::{ClassFile, Constant};
+use crate::texts::Texts;
+use classfile::Constant;
 use loading::given::GivenClass;
 use sha2::{Digest, Sha256};
 use std::hash::{BuildHasher, FoldHasher, Hasher};
@@ -30,8 +29,8 @@ impl BuildHasher for TextState {
 }
 
 impl TextState {
-    /// For few texts: it is the same in each run.
-    pub fn of_few() -> Self {
+    /// What is known to all: it is the same in each run.
+    pub(crate) fn known() -> Self {
         TextState {
             start: FoldHasher::default(),
         }
@@ -44,19 +43,38 @@ impl TextState {
         TextState { start }
     }
 
-    /// For the texts of these classes. Where they may be many it depends on each of them by a digest, so who chooses
-    /// them can't know by what they will be hashed.
-    pub fn of_classes(classes: &[GivenClass]) -> Self {
-        if has_few(classes) {
-            TextState::of_few()
-        } else {
-            TextState::of_digest(&digest_of(classes))
+    /// By the digest of these texts and those of classes. So who chooses them can't know by what they will be hashed.
+    pub(crate) fn of_all(texts: &Texts, classes: &[GivenClass]) -> Self {
+        let mut hasher = Sha256::new();
+        for text in texts.all() {
+            feed(&mut hasher, text.as_slice());
+        }
+        for given in classes {
+            feed_others(&mut hasher, texts, given.file.constants());
+        }
+        TextState::of_digest(&hasher.finalize())
+    }
+}
+
+/// Feeds the texts of constants. One that is guessed right is among the texts that were fed.
+fn feed_others(hasher: &mut Sha256, texts: &Texts, constants: &[Constant]) {
+    for constant in constants {
+        if let Constant::Utf8 { text } = constant {
+            if texts.guess(text.bytes()).is_none() {
+                feed(hasher, text.bytes());
+            }
         }
     }
 }
 
+/// Feeds a text and its end.
+fn feed(hasher: &mut Sha256, text: &[u8]) {
+    hasher.update(text);
+    hasher.update(&END);
+}
+
 /// Whether these classes have few constants.
-fn has_few(classes: &[GivenClass]) -> bool {
+pub(crate) fn has_few(classes: &[GivenClass]) -> bool {
     let mut left = FEW;
     for given in classes {
         let count = given.file.constants().len();
@@ -66,49 +84,4 @@ fn has_few(classes: &[GivenClass]) -> bool {
         left -= count;
     }
     true
-}
-
-/// The digest of the texts of these classes, of each at least once.
-fn digest_of(classes: &[GivenClass]) -> [u8; 32] {
-    let mut hasher = Sha256::new();
-    let mut latest: [&[u8]; 256] = [b"".as_slice(); 256];
-    for given in classes {
-        feed(&mut hasher, &mut latest, &given.file);
-    }
-    hasher.finalize()
-}
-
-/// Feeds the texts of a class file.
-fn feed<'a>(hasher: &mut Sha256, latest: &mut [&'a [u8]; 256], file: &'a ClassFile) {
-    let constants = file.constants();
-    for constant in constants {
-        if let Constant::Utf8 { text } = constant {
-            feed_text(hasher, latest, text.bytes());
-        }
-    }
-}
-
-/// Feeds a text and its end, unless it is the latest of those of its slot: most stand in many classes.
-fn feed_text<'a>(hasher: &mut Sha256, latest: &mut [&'a [u8]; 256], text: &'a [u8]) {
-    let slot = slot_of(text);
-    if latest[slot] != text {
-        hasher.update(text);
-        hasher.update(&END);
-        latest[slot] = text;
-    }
-}
-
-/// The slot of a text, by its length and its ends.
-fn slot_of(text: &[u8]) -> usize
-    ensures { result < 256 }
-{
-    let first = text.first().copied().unwrap_or(0);
-    let last = text.last().copied().unwrap_or(0);
-    let length = (text.len() % 256) as u8;
-    usize::from(
-        first
-            .wrapping_mul(7)
-            .wrapping_add(last)
-            .wrapping_add(length.wrapping_mul(31)),
-    )
 }

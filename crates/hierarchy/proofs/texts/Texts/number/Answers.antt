@@ -7,8 +7,8 @@ use Rattle.hierarchy.proofs.texts.Texts.number.Goals as goal
 pub returns-clause-number : goal.returns-clause-number
 returns-clause-number c =
     let text = c.args.text.now in
-    subst (λ ts. MatchOption c.get_index_of.result (¬ Contains ts text) (λ n. slice_get ts n ≡ Some text)) c.self.view_is
-    (numbered c.self.inside.texts.keys text c.get_index_of.result c.get_index_of.ensures.index
+    subst (λ ts. MatchOption c.get_index_of.result (¬ Contains ts text) (λ n. slice_get ts n ≡ Some text))
+    c.self.view_is (numbered c.self.inside.texts.keys text c.get_index_of.result c.get_index_of.ensures.index
     c.get_index_of.ensures.found)
 
 pub returns-clause-distinct : goal.returns-clause-distinct
