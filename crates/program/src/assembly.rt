@@ -52,7 +52,6 @@ use std::alloc::{AllocError, Global};
 /// # Errors
 /// The first of `Memory`, `Limit`, `Twice`, `BuiltIn`, `Parent` and `Circle` that holds; among several of one kind the
 /// one of the least name, and then of the least kind of bad parent.
-#[tactic(auto, using(crate::proofs::LinksLemmas::family_links))]
 pub fn link(alloc: Global, files: Vec<ClassFile>) -> Result<Program, LinkFault>
     // The classes of the program are those of the files.
     ensures family { IfOk result (λ program. IsFamilyOf files.items program.family) }

@@ -70,7 +70,7 @@ fn make<O: Origin>(
     match way {
         Way::Frames => {
             let frames = book.frames(alloc, 0)?;
-            Ok(Made::Frames(stretch::<O>(alloc, program, frames, done)?))
+            Ok(Made::Frames(stretch::<O>(alloc, program, frames, &done)?))
         }
         Way::Front => match book.front(alloc, 0)? {
             Some(frame) => Ok(Made::Front(front_stretch::<O>(

@@ -24,10 +24,10 @@ pub fn stretch<O: Origin>(
     alloc: Global,
     program: &Program,
     frames: Frames,
-    done: DoneSet,
+    done: &DoneSet,
 ) -> Result<Stretch<O>, AllocError>
     requires { program.now ≡ O.program }
-    ensures from { IfOk result (λ s. (s.from ≡ frames) × (s.done ≡ done)) }
+    ensures from { IfOk result (λ s. (s.from ≡ frames) × (s.done ≡ done.now)) }
     // It ends only where there were 1,023, or where the next instruction is not local.
     ensures ends { IfOk result (λ s. (s.count ≡ 1023) ⊎ (local_step O.program s.done (going s.to) ≡ None)) }
     // In each world in which the thread has these frames and the classes are initialized, these steps lead to that
@@ -35,7 +35,10 @@ pub fn stretch<O: Origin>(
     ensures leads { IfOk result (λ s. Leads O.program s) }
 {
     match frames.copy(alloc) {
-        Ok(copy) => stretch_of(alloc, program, frames, copy, done),
+        Ok(copy) => match done.copy(alloc) {
+            Ok(done) => stretch_of(alloc, program, frames, copy, done),
+            Err(error) => Err(error),
+        },
         Err(error) => Err(error),
     }
 }
