@@ -9,6 +9,7 @@ ghost use Rattle.hierarchy.specs.MemberNames.{named_in};
 use crate::member_key::MemberKey;
 use crate::member_name::MemberName;
 use crate::pool_texts::PoolTexts;
+use crate::text_state::TextState;
 use crate::texts::Texts;
 use loading::given::GivenClass;
 use std::alloc::{AllocError, Global};
@@ -32,7 +33,7 @@ impl MemberTable {
     pub(crate) fn of_classes(alloc: Global, classes: &[GivenClass]) -> Result<Self, AllocError>
         ensures { IfOk result (IsTableOf classes.now) }
     {
-        let texts = Texts::with_empty(alloc)?;
+        let texts = Texts::with_empty(alloc, TextState::of_classes(classes))?;
         let mut table = MemberTable {
             texts,
             pools: Vec::new(alloc),
@@ -63,6 +64,11 @@ impl MemberTable {
         let pool = PoolTexts::of_file(alloc, &mut self.texts, &given.file)?;
         self.pools.push(pool)?;
         Ok(())
+    }
+
+    /// What the texts are hashed by.
+    pub(crate) fn text_state(&self) -> TextState {
+        self.texts.state()
     }
 
     /// The numbers of a name and a descriptor, if both have some.

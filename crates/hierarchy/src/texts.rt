@@ -6,36 +6,33 @@ ghost use Rattle.std.specs.List.{Contains};
 ghost use Rattle.hierarchy.specs.Texts.{AreDistinct};
 ghost use Rattle.hierarchy.specs.steps.GrowingTexts.{KeepsNumbers};
 
-use crate::finder::Finder;
+use crate::text_state::TextState;
+use indexmap::IndexSet;
 use std::alloc::{AllocError, Global};
 use std::marker::Model;
 
 /// Texts in the order in which they came, each once. A text's number is its place.
 #[derive(Drop)]
 pub struct Texts {
-    texts: Vec<Vec<u8>>,
-    finder: Finder,
+    texts: IndexSet<Vec<u8>, TextState>,
 }
 
 impl Model for Texts {
     ghost use Rattle.std.specs.Prelude.{List, ℕ};
-    ghost use Rattle.hierarchy.specs.steps.FoundTexts.{texts_of, AreFoundBy};
+    ghost use Rattle.hierarchy.specs.steps.HeldTexts.{texts_of};
 
     ghost Value = { List (List ℕ) };
 
-    ghost view = { λ s. texts_of s.texts.items };
-
-    ghost invariant = { λ s. AreFoundBy (texts_of s.texts.items) s.finder };
+    ghost view = { λ s. texts_of s.texts.keys };
 }
 
 impl Texts {
-    /// No texts.
-    pub fn new(alloc: Global) -> Self
+    /// No texts. They are hashed by a state.
+    pub fn new(alloc: Global, state: TextState) -> Self
         ensures { result ≡ [] }
     {
         Texts {
-            texts: Vec::new(alloc),
-            finder: Finder::new(alloc),
+            texts: IndexSet::with_hasher(alloc, state),
         }
     }
 
@@ -43,11 +40,11 @@ impl Texts {
     ///
     /// # Errors
     /// Where memory runs out.
-    pub(crate) fn with_empty(alloc: Global) -> Result<Self, AllocError>
+    pub(crate) fn with_empty(alloc: Global, state: TextState) -> Result<Self, AllocError>
         ensures first { IfOk result (λ texts. slice_get texts 0 ≡ Some []) }
         ensures distinct { IfOk result AreDistinct }
     {
-        let mut texts = Texts::new(alloc);
+        let mut texts = Texts::new(alloc, state);
         texts.push(alloc, &[])?;
         Ok(texts)
     }
@@ -57,14 +54,15 @@ impl Texts {
         ensures number { MatchOption result (¬ Contains self.now text.now) (λ n. slice_get self.now n ≡ Some text.now) }
         ensures distinct { AreDistinct self.now }
     {
-        self.finder.number(&self.texts, text)
+        let _distinct = self.texts.len();
+        self.texts.get_index_of(text)
     }
 
     /// The text of a number.
     pub fn text(&self, number: usize) -> Option<&[u8]>
         ensures { option_map (λ t. t.now) result ≡ slice_get self.now number }
     {
-        let text = self.texts.get(number)?;
+        let text = self.texts.get_index(number)?;
         Some(text.as_slice())
     }
 
@@ -87,6 +85,25 @@ impl Texts {
         }
     }
 
+    /// What the texts are hashed by.
+    pub fn state(&self) -> TextState {
+        *self.texts.hasher()
+    }
+
+    /// Hashes the texts by another state.
+    ///
+    /// # Errors
+    /// Where memory runs out; they are hashed as before.
+    pub fn rehash(&mut self, alloc: Global, state: TextState) -> Result<(), AllocError>
+        ensures { self.new ≡ self.old }
+    {
+        let _distinct = self.texts.len();
+        let mut texts = IndexSet::with_hasher(alloc, state);
+        texts.append(&mut self.texts)?;
+        self.texts = texts;
+        Ok(())
+    }
+
     /// The number of a new text.
     fn push(&mut self, alloc: Global, text: &[u8]) -> Result<usize, AllocError>
         requires { ¬ Contains self.old text.now }
@@ -97,10 +114,7 @@ impl Texts {
         ensures err { OnErr result (self.new ≡ self.old) }
     {
         let copy = Vec::from_slice(alloc, text)?;
-        self.texts.reserve(1)?;
-        self.finder.add(alloc, &self.texts, text)?;
-        let number = self.texts.len();
-        self.texts.push_reserved(copy);
+        let (number, _) = self.texts.insert_full(copy)?;
         Ok(number)
     }
 }

@@ -4,8 +4,9 @@ ghost use Rattle.std.specs.Prelude.{◌≡◌, ◌≢◌, ◌<◌, ◌≤◌, �
 ghost use Rattle.std.specs.Prelude.{option_map, slice_get};
 ghost use Rattle.classfile.specs.Units.{units_text};
 ghost use Rattle.loading.specs.Families.{name_in};
+ghost use Rattle.loading.specs.Files.{Links};
 ghost use Rattle.hierarchy.specs.Initialization.{IsInitializationOrder};
-ghost use Rattle.program.specs.Programs.{IsProgram};
+ghost use Rattle.program.specs.Programs.{IsProgram, files_of};
 ghost use Rattle.program.specs.Tables.{Tables, implementations_of, instruction_at, implementation_at, constant_at};
 ghost use Rattle.program.specs.Tables.{statics_in, order_in};
 ghost use Rattle.program.specs.Tables.{initializer_in, main_in, signature_at};
@@ -39,7 +40,8 @@ pub struct Program {
 }
 
 impl Model for Program {
-    ghost use Rattle.program.specs.Programs.{IsProgram};
+    ghost use Rattle.loading.specs.Files.{Links};
+    ghost use Rattle.program.specs.Programs.{IsProgram, files_of};
     ghost use Rattle.program.specs.Tables.{Tables};
     ghost use Rattle.program.specs.steps.Slots.{AreSlots};
 
@@ -55,7 +57,7 @@ impl Model for Program {
 
     ghost invariant = { λ s. IsProgram
         (record { family = s.hierarchy.family; orders = s.orders; classes = s.classes.items; strings = s.strings })
-        × AreSlots s.hierarchy.family s.slots };
+        × AreSlots s.hierarchy.family s.slots × Links (files_of s.hierarchy.family) };
 }
 
 // By hand, since a derived one is proved anew wherever a program is let go.
@@ -86,6 +88,13 @@ impl Program {
         ensures { result.now ≡ self.now.family }
     {
         self.hierarchy.family()
+    }
+
+    /// The law that the files of a program's classes make one program. It does nothing.
+    pub fn links(&self)
+        ensures { Links (files_of self.now.family) }
+    {
+        let _family = self.family();
     }
 
     /// How many classes were given.
