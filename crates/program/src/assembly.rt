@@ -194,7 +194,7 @@ fn class_tables(
     ensures distinct { IfOk result (λ tables. AreDistinct tables.1) }
     ensures strings { IfOk result (λ tables. AreFirsts (all_strings hierarchy.now.family) tables.1) }
 {
-    let mut strings = Texts::new(alloc);
+    let mut strings = Texts::new(alloc, hierarchy.text_state());
     match classes_of(alloc, hierarchy, slots, &mut strings) {
         Ok(classes) => Ok((classes, strings)),
         Err(error) => Err(error),

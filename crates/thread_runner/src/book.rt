@@ -11,14 +11,14 @@ ghost use Rattle.thread_runner.specs.Fronts.{IsFrontCommit};
 ghost use Rattle.thread_runner.specs.Kept.{IsKept, printed_text, steps_of};
 ghost use Rattle.thread_runner.specs.Local.{AreDone, is_done};
 ghost use Rattle.courses.specs.steps.StepTables.{KeepsSteps};
-ghost use Rattle.thread_runner.specs.Sendings.{AreOfLines, SendsOn};
+ghost use Rattle.thread_runner.specs.Sendings.{AreOfPrints, SendsOn};
 ghost use Rattle.thread_runner.specs.steps.Alone.{CanRunOn, RunsOn};
 
 use crate::done_set::DoneSet;
 use crate::front::FrontStretch;
 use crate::history::{Commit, History};
 use crate::origin::Origin;
-use crate::sending::{send_lines, text_length};
+use crate::sending::{send_further, text_length};
 use crate::stretch::Stretch;
 use courses::step_table::StepTable;
 use init_engine::World;
@@ -33,8 +33,8 @@ use vm_state::initialization::Frames;
 #[derive(Drop)]
 pub struct Book<O: Origin> {
     history: History<O>,
-    /// So many lines have gone out, and so many bytes of the next.
-    lines: usize,
+    /// So many prints have gone out, and so many bytes of those behind them.
+    prints: usize,
     bytes: usize,
 }
 
@@ -46,11 +46,11 @@ impl<O: Origin> Model for Book<O> {
 
     ghost view = { λ b. record {
       past = b.history;
-      sent = sent_of b.history.world.printed b.lines b.bytes;
+      sent = sent_of b.history.world.printed b.prints b.bytes;
       part = b.bytes;
     } };
 
-    ghost invariant = { λ b. IsPlace b.history.world.printed b.lines b.bytes };
+    ghost invariant = { λ b. IsPlace b.history.world.printed b.prints b.bytes };
 }
 
 impl<O: Origin> Book<O> {
@@ -64,7 +64,7 @@ impl<O: Origin> Book<O> {
     {
         Book {
             history: History::new(alloc, world, limit),
-            lines: 0,
+            prints: 0,
             bytes: 0,
         }
     }
@@ -74,8 +74,8 @@ impl<O: Origin> Book<O> {
         ensures is { result.now ≡ self.now.past.world }
         ensures kept { IsKept O.program O.start self.now.past }
         ensures sent { self.now.sent ≤ length (printed_text self.now) }
-        // Where none of the bytes that have gone out are of a line that has not gone out whole.
-        ensures lines { self.now.part ≡ 0 → AreOfLines self.now.past.world.printed self.now.sent }
+        // Where nothing has gone out behind the prints that have gone out whole.
+        ensures prints { self.now.part ≡ 0 → AreOfPrints self.now.past.world.printed self.now.sent }
     {
         self.history.world()
     }
@@ -96,7 +96,7 @@ impl<O: Origin> Book<O> {
     {
         let Book {
             history,
-            lines: _,
+            prints: _,
             bytes: _,
         } = self;
         history.into_parts()
@@ -189,7 +189,7 @@ impl<O: Origin> Book<O> {
         ensures is { result ≡ self.now.sent }
         ensures within { self.now.sent ≤ length (printed_text self.now) }
     {
-        text_length(self.history.world().printed(), self.lines) + self.bytes as u128
+        text_length(self.history.world().printed(), self.prints) + self.bytes as u128
     }
 
     /// Sends what was printed and has not gone out.
@@ -204,13 +204,13 @@ impl<O: Origin> Book<O> {
         ensures failed { OnErr result (S.failures sink.new ≢ S.failures sink.old) }
         ensures well { OnOk result (S.failures sink.new ≡ S.failures sink.old) }
     {
-        let (lines, bytes, whole) = send_lines(
+        let (prints, bytes, whole) = send_further(
             self.history.world().printed(),
-            self.lines,
+            self.prints,
             self.bytes,
             sink,
         );
-        self.lines = lines;
+        self.prints = prints;
         self.bytes = bytes;
         if whole { Ok(()) } else { Err(SinkFault) }
     }
@@ -246,14 +246,14 @@ impl<O: Origin> Book<O> {
     {
         let Book {
             history,
-            lines,
+            prints,
             bytes: within,
         } = self;
         match history.run_on(alloc, program, table, thread, steps, bytes) {
             Ok((history, made)) => Ok((
                 Book {
                     history,
-                    lines,
+                    prints,
                     bytes: within,
                 },
                 made,
