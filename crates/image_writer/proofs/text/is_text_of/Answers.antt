@@ -11,9 +11,9 @@ use Rattle.image_writer.proofs.text.is_text_of.Goals as goal
 pub returns : goal.returns
 returns c =
     let P : Tables = c.args.image.now.program in
-    let files : HasFiles P = subst HasFiles c.program.ensures c.has_files.ensures in
+    let files : HasFiles P = subst HasFiles c.program-2.ensures c.has_files.ensures in
     let family : IsFamily P.family =
-    subst IsFamily (c.family.ensures ∙ ap (λ (Q : Tables). Q.family) c.program-2.ensures)
+    subst IsFamily (c.family.ensures ∙ ap (λ (Q : Tables). Q.family) c.program-3.ensures)
     c.classes-classes.ensures.fits in
     let links : Links (files_of P.family) =
     subst (λ (Q : Tables). Links (files_of Q.family)) c.program.ensures c.links.ensures in
