@@ -31,10 +31,10 @@ use Rattle.use_graph.specs.Code.{needed_by, callee_of, MayRunFor, feature_of, fe
 use Rattle.use_graph.specs.Uses.{Calls, IsDeclared, MayRun, initializer, called, Needs, MayNeed, IsUse, Means}
 use Rattle.use_graph.specs.Uses.{mark_of, field_class, IsLeftOut}
 use Rattle.use_graph.specs.Uses.{CallsLeftOut, IsTold, itself, calling, Bears, HasMark}
-use Rattle.wave_scheduler.proofs.ReachesLemmas.{Decided, decided_as, decided_both, decided_either, decided_not}
-use Rattle.wave_scheduler.proofs.ReachesLemmas.{decided_same, decided_less, decided_same_some, decided_below, in_first}
-use Rattle.wave_scheduler.proofs.ReachesLemmas.{in_rest, decided_among, decided_in, Through, decided_through}
-use Rattle.wave_scheduler.proofs.ReachesLemmas.{through_edge, through_joined, along}
+use Rattle.initializer_analysis.proofs.ReachesLemmas.{Decided, decided_as, decided_both, decided_either, decided_not}
+use Rattle.initializer_analysis.proofs.ReachesLemmas.{decided_same, decided_less, decided_same_some, decided_below, in_first}
+use Rattle.initializer_analysis.proofs.ReachesLemmas.{in_rest, decided_among, decided_in, Through, decided_through}
+use Rattle.initializer_analysis.proofs.ReachesLemmas.{through_edge, through_joined, along}
 
 -- ---- options
 
@@ -309,7 +309,7 @@ module _ (P : Tables) where
       (decided_both (decided_value (operation_at P d k place) (CallsLeftOut P) decided_calls_left_out)
       (decided_means c features.LeftOut mark))))
 
-  decided_mark : (c : ℕ) (mark : Mark) → Decided (HasMark P c mark)
+  pub decided_mark : (c : ℕ) (mark : Mark) → Decided (HasMark P c mark)
   decided_mark c mark =
       decided_as (λ (d, k, run, (place, bears)). (d, k, place, run, bears))
       (λ (d, k, place, run, bears). (d, k, run, (place, bears)))

@@ -1,6 +1,7 @@
 -- What can be decided, and what follows along the edges of a finite graph.
 use Rattle.std.proofs.Common.{◌≡◌, ◌⊎◌, ◌↔◌, inl, inr, ℕ, zero, suc, ◌<◌, List, [], ◌∷◌, refl, sym, subst}
-use Rattle.std.proofs.Common.{Option, Some, None, arith}
+use Rattle.std.proofs.Common.{◌≤◌, Bool, true, false, length, slice_get, slice_index_or, Option, Some, None, arith}
+use Rattle.std.proofs.lemmas.Bool.{cases_lt}
 use Rattle.std.specs.List.{Contains}
 pub use Rattle.use_graph.proofs.ListLemmas.{one_of, same_lists, same_by_places}
 
@@ -179,3 +180,66 @@ module _ {V : Type 0} (Edge : V → V → Type 0) where
   along Q each [] a b edge q = each a b edge q
   along Q each (v ∷ vs) a b (inl way) q = along Q each vs a b way q
   along Q each (v ∷ vs) a b (inr ways) q = along Q each vs v b ways.1 (along Q each vs a v ways.0 q)
+
+-- ---- the first number that has a property
+
+abbrev pub IsLeast : (ℕ → Type 0) → ℕ → Type 0
+IsLeast Q k = Q k × ((j : ℕ) → Q j → k ≤ j)
+
+pub least_below : (n : ℕ) (Q : ℕ → Type 0) → ((k : ℕ) → Decided (Q k))
+    → ((k : ℕ) × IsLeast Q k) ⊎ ((k : ℕ) → k < n → Q k → ⊥)
+least_below zero Q each = inr (λ k low q. omega arith)
+least_below (suc n) Q each = elim (least_below n Q each) [
+  | inl found ↦ inl found
+  | inr none ↦ elim (each n) [
+    | inl q ↦ inl (
+      n,
+      (
+        q,
+        λ j r. elim (cases_lt j n) [
+          | inl low ↦ absurd (none j low r)
+          | inr high ↦ high
+        ],
+      ),
+    )
+    | inr never ↦ inr (λ k low q. elim (cases_lt k n) [
+      | inl less ↦ none k less q
+      | inr high ↦ (let same : k ≡ n = omega arith in never (subst Q same q))
+    ])
+  ]
+]
+
+-- ---- tables
+
+pub table : {A : Type 0} → ℕ → (ℕ → A) → List A
+table zero f = []
+table (suc n) f = f 0 ∷ table n (λ i. f (suc i))
+
+pub length_table : {A : Type 0} (n : ℕ) (f : ℕ → A) → length (table n f) ≡ n
+unfolding table
+length_table zero f = refl
+length_table (suc n) f = (let rest = length_table n (λ i. f (suc i)) in omega arith)
+
+pub at_table : {A : Type 0} (n : ℕ) (f : ℕ → A) (c : ℕ) → c < n → slice_get (table n f) c ≡ Some (f c)
+unfolding table
+at_table zero f c low = absurd (omega arith)
+at_table (suc n) f zero low = refl
+at_table (suc n) f (suc c) low = at_table n (λ i. f (suc i)) c (omega arith)
+
+pub or_table : {A : Type 0} (n : ℕ) (f : ℕ → A) (c : ℕ) (d : A) → c < n → slice_index_or (table n f) c d ≡ f c
+unfolding table
+or_table zero f c d low = absurd (omega arith)
+or_table (suc n) f zero d low = refl
+or_table (suc n) f (suc c) d low = or_table n (λ i. f (suc i)) c d (omega arith)
+
+pub past_table : {A : Type 0} (n : ℕ) (f : ℕ → A) (c : ℕ) (d : A) → n ≤ c → slice_index_or (table n f) c d ≡ d
+unfolding table
+past_table zero f c d high = refl
+past_table (suc n) f zero d high = absurd (omega arith)
+past_table (suc n) f (suc c) d high = past_table n (λ i. f (suc i)) c d (omega arith)
+
+-- ---- truth values
+
+pub decided_true : (b : Bool) → Decided (b ≡ true)
+decided_true true = inl refl
+decided_true false = inr (λ is. cc)
