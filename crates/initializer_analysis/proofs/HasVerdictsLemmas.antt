@@ -14,11 +14,12 @@ use Rattle.initializer_analysis.specs.declared.verdict.Verdict.{Verdict}
 use Rattle.initializer_analysis.specs.declared.verdict.Verdict.TheVariants.{Wave, Refused}
 use Rattle.initializer_analysis.specs.Verdicts.{UsesAlong, one, more, Holds, rank, rank_of, IsFirstReason, NoneHolds}
 use Rattle.initializer_analysis.specs.Verdicts.{HasWave, IsVerdict, AreVerdicts, HasVerdicts}
-use Rattle.initializer_analysis.proofs.ReachesLemmas.{Decided, decided_as, decided_both, decided_not, decided_same, decided_below}
-use Rattle.initializer_analysis.proofs.ReachesLemmas.{decided_true, decided_among, Through, least_below, IsLeast, table, length_table, at_table}
+use Rattle.initializer_analysis.proofs.ReachesLemmas.{Decided, decided_as, decided_both, decided_not, decided_same}
+use Rattle.initializer_analysis.proofs.ReachesLemmas.{decided_below, decided_true, decided_among, Through, least_below}
+use Rattle.initializer_analysis.proofs.ReachesLemmas.{IsLeast, table, length_table, at_table}
 use Rattle.initializer_analysis.proofs.UsesLemmas.{decided_use, decided_mark}
-use Rattle.initializer_analysis.proofs.AcyclicLemmas.{numbers, Along, decided_along, along_edge, along_joined, IsAcyclic}
-use Rattle.initializer_analysis.proofs.AcyclicLemmas.{height, height_above, height_attained}
+use Rattle.initializer_analysis.proofs.AcyclicLemmas.{numbers, Along, decided_along, along_edge, along_joined}
+use Rattle.initializer_analysis.proofs.AcyclicLemmas.{IsAcyclic, height, height_above, height_attained}
 
 -- ---- reasons
 

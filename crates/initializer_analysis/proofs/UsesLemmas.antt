@@ -32,9 +32,9 @@ use Rattle.use_graph.specs.Uses.{Calls, IsDeclared, MayRun, initializer, called,
 use Rattle.use_graph.specs.Uses.{mark_of, field_class, IsLeftOut}
 use Rattle.use_graph.specs.Uses.{CallsLeftOut, IsTold, itself, calling, Bears, HasMark}
 use Rattle.initializer_analysis.proofs.ReachesLemmas.{Decided, decided_as, decided_both, decided_either, decided_not}
-use Rattle.initializer_analysis.proofs.ReachesLemmas.{decided_same, decided_less, decided_same_some, decided_below, in_first}
-use Rattle.initializer_analysis.proofs.ReachesLemmas.{in_rest, decided_among, decided_in, Through, decided_through}
-use Rattle.initializer_analysis.proofs.ReachesLemmas.{through_edge, through_joined, along}
+use Rattle.initializer_analysis.proofs.ReachesLemmas.{decided_same, decided_less, decided_same_some, decided_below}
+use Rattle.initializer_analysis.proofs.ReachesLemmas.{in_first, in_rest, decided_among, decided_in, Through}
+use Rattle.initializer_analysis.proofs.ReachesLemmas.{decided_through, through_edge, through_joined, along}
 
 -- ---- options
 
