@@ -1,11 +1,12 @@
 -- By options an image is built of a linked program, or one thing is wrong with the options.
-use Rattle.std.proofs.Common.{◌≡◌, ◌⊎◌, inl, inr, ℕ, suc, ◌<◌, Bool, true, false, List, [], ◌∷◌, ◌++◌, length}
+use Rattle.std.proofs.Common.{◌≡◌, ◌⊎◌, ◌^◌, inl, inr, ℕ, suc, ◌<◌, Bool, true, false, List, [], ◌∷◌, ◌++◌, length}
 use Rattle.std.proofs.Common.{Option, Some, None, IsTrue, ◌↔◌, slice_get, take, string_bytes, refl, sym}
 use Rattle.std.proofs.Common.{ap, subst, ◌∙◌, arith, option_map, map}
 use Rattle.std.specs.Global.{Global}
 use Rattle.std.specs.declared.string.String.{String}
 use Rattle.std.specs.List.{All, Contains}
-use Rattle.std.specs.Str.{bytes_eq}
+use Rattle.std.specs.Str.{IsUtf8, bytes_eq}
+use denote.RawPtr.{null_ptr}
 use Rattle.std.proofs.lemmas.Bool.{cases_lt}
 use Rattle.std.proofs.lemmas.List.Elements.{All-nil, All-cons, All-contains, Contains-append_right}
 use Rattle.std.proofs.lemmas.Option.{slice_get_within, get_or_from_slice_get}
@@ -115,6 +116,27 @@ read_or_fault (Some text) = elim (all_or_first IsNonEmpty decided_full (items_of
 
 -- ---- patterns
 
+abbrev IsText : List ℕ → Type 0
+IsText item = IsUtf8 item × (length item < 2 ^ 63)
+
+-- there is a string of each text
+text_of : (item : List ℕ) → IsText item → (text : String Global) × (string_bytes text ≡ item)
+text_of item (is, few) = (
+  record {
+    bytes = record {
+      ptr = null_ptr;
+      len = length item;
+      cap = length item;
+      alloc = record { memory = record {} };
+      items = item;
+      ok = (refl, omega arith);
+      small = few;
+    };
+    ok = ∣ is ∣₁;
+  },
+  refl,
+)
+
 -- what follows a text that another one begins with
 begins_with : (outer name : List ℕ) → Decided ((rest : List ℕ) × (name ≡ outer ++ 46 ∷ rest))
 begins_with [] [] = inr (λ (rest, is). cc)
@@ -174,13 +196,11 @@ module _ (family : Family) (parents : AreParentsWithin family) where
   known_or_fault patterns texts = elim (all_or_first (IsKnown family) decided_known patterns) [
     | inl all ↦ inl all
     | inr first ↦
-        let (text, is) =
-        All-contains (λ (pattern : List ℕ). (text : String Global) × (string_bytes text ≡ pattern)) patterns first.value
-        texts (
+        let (text, is) = text_of first.value (All-contains IsText patterns first.value texts (
           first.place,
           slice_get_within patterns first.place first.value first.here,
           get_or_from_slice_get patterns first.place first.value first.value first.here,
-        ) in
+        )) in
         inr (
           Unknown text,
           wrong.unknown (record {
@@ -446,12 +466,12 @@ module _ (P : Tables) (budget : ℕ) (linked : IsLinked P) (files : (c : ℕ) �
                   met = met;
                 },
               )
-              | inr (fault, unmet) ↦ inr (
+              | inr (fault, off) ↦ inr (
                 fault,
                 fails.unmet demand known are_demanded apart (record {
                   last = S;
                   settled = are;
-                  unmet = unmet;
+                  unmet = off;
                 }),
               )
             ]
