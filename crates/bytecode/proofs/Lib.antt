@@ -17,4 +17,3 @@ pub mod DecidedLemmas
 pub mod DecidedSwitchesLemmas
 pub mod AllCausesLemmas
 pub mod UniquenessLemmas
-pub mod HasBodyLemmas

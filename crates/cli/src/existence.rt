@@ -2,12 +2,13 @@
 
 ghost use Rattle.cli.specs.Existence.{BuildOrFault, ProgramOrRefusal};
 
-/// All bytes make a program, or are refused.
+/// All bytes make a program, or are refused, where each code has a body.
 pub fn program_or_refusal()
     ensures { ProgramOrRefusal }
 {}
 
-/// By all options an image can be built of all bytes, or there is a first fault, and never both.
+/// By all options an image can be built of all bytes, or there is a first fault, and never both, where each code has a
+/// body.
 pub fn build_or_fault()
     ensures { BuildOrFault }
 {}
