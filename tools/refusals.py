@@ -55,13 +55,15 @@ class Program:
     library: str
 
     def run(self, *words, **refused):
-        """Runs it. Answers its status, its lines, and what is told of each call."""
+        """Runs it. Answers its status (none where it hangs), its lines, and what is told of each call."""
         told = os.memfd_create("told")
         try:
             env = {"LD_PRELOAD": self.library, "TOLD": str(told), **{it: str(n) for it, n in refused.items()}}
             how = {"cwd": self.data, "env": env, "pass_fds": [told], "stdin": subprocess.DEVNULL, "timeout": LIMIT}
             ran = subprocess.run([self.path, *words], stdout=subprocess.PIPE, stderr=subprocess.STDOUT, **how)
             text = os.pread(told, 1 << 24, 0).decode()
+        except subprocess.TimeoutExpired:
+            return None, [], []
         finally:
             os.close(told)
         lines = ran.stdout.decode(errors="replace").splitlines()
@@ -71,7 +73,9 @@ class Program:
 def wrong_with(ran, wanted, words):
     """What is wrong with a run in which something was refused in the first call, if anything is."""
     status, lines, told = ran
-    if not told or status:
+    if status is None:
+        return f"it had not ended after {LIMIT} seconds"
+    if status or not told:
         return f"it ended with status {status}"
     call, _, answer = lines[0].partition(": ")
     if lines[0] != wanted[0] and (call != wanted[0].partition(": ")[0] or answer not in words):
@@ -84,9 +88,13 @@ def wrong_with(ran, wanted, words):
 
 def refuse_each(program, word, what):
     """Has one growth or start of the first call of a word after the other refused. Answers how many, and what is wrong."""
-    status, wanted, told = program.run(word)
-    if status or not told or told[0].left:
-        return 0, f"with ample memory it ended with status {status}"
+    ran = program.run(word)
+    wanted, told = ran[1:]
+    wrong = wrong_with(ran, wanted, ())
+    if not wrong and wanted[0].endswith((": Memory", ": Spawn")):
+        wrong = f"it answered {wanted[0]!r}"
+    if wrong:
+        return 0, f"with ample memory: {wrong}"
     words = ["Memory"]
     if what == STARTS and wanted[0].partition(": ")[0] == SPAWNING:
         words.append("Spawn")
