@@ -56,18 +56,22 @@ class Program:
 
     def run(self, *words, **refused):
         """Runs it. Answers its status (none where it hangs), its lines, and what is told of each call."""
+        status, out, errors, told = self.ended(*words, **refused)
+        return status, (out + errors).decode(errors="replace").splitlines(), told
+
+    def ended(self, *words, **refused):
+        """The same, with what it wrote to each stream."""
         told = os.memfd_create("told")
         try:
             env = {"LD_PRELOAD": self.library, "TOLD": str(told), **{it: str(n) for it, n in refused.items()}}
             how = {"cwd": self.data, "env": env, "pass_fds": [told], "stdin": subprocess.DEVNULL, "timeout": LIMIT}
-            ran = subprocess.run([self.path, *words], stdout=subprocess.PIPE, stderr=subprocess.STDOUT, **how)
+            ran = subprocess.run([self.path, *words], capture_output=True, **how)
             text = os.pread(told, 1 << 24, 0).decode()
         except subprocess.TimeoutExpired:
-            return None, [], []
+            return None, b"", b"", []
         finally:
             os.close(told)
-        lines = ran.stdout.decode(errors="replace").splitlines()
-        return ran.returncode, lines, [Told(*map(int, line.split())) for line in text.splitlines()]
+        return ran.returncode, ran.stdout, ran.stderr, [Told(*map(int, line.split())) for line in text.splitlines()]
 
 
 def wrong_with(ran, wanted, words):
