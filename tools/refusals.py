@@ -3,8 +3,8 @@
 A line of that program is the name of a call, `: ` and what it answered. Each call is made twice over what it is lent.
 With ample memory the lines are those of its file `stdout`. Then, for each of the growths that the first call asks for,
 the program is run again with that one refused (`tools/refusing.c`): the first line has to be the same, or to have
-`Memory` in the place of the answer, and all others have to be the same. So it is with the starts of threads, where
-`run_threads` may answer `Spawn`. No thread may be left running when a call has answered.
+`Memory` in the place of the answer, or `Spawn` of `run_threads`, and all others have to be the same. So it is with the
+starts of threads. No thread may be left running when a call has answered.
 
 The words `feed ..` have inputs fed to a reader, and what it holds is measured.
 """
@@ -16,7 +16,7 @@ import subprocess
 
 GROWTHS, STARTS = "growths", "starts"
 REFUSED = {GROWTHS: "REFUSED_GROWTH", STARTS: "REFUSED_START"}
-# This call answers a word of its own where a thread is not started.
+# This call answers a word of its own where a thread is not started, which takes memory, too.
 SPAWNING = "run_threads"
 # A reader may hold so many bytes for each byte of its input, and so many beyond.
 BYTES_A_BYTE, BYTES = 40, 1 << 20
@@ -55,23 +55,31 @@ class Program:
     library: str
 
     def run(self, *words, **refused):
-        """Runs it. Answers its status, its lines, and what is told of each call."""
+        """Runs it. Answers its status (none where it hangs), its lines, and what is told of each call."""
+        status, out, errors, told = self.ended(*words, **refused)
+        return status, (out + errors).decode(errors="replace").splitlines(), told
+
+    def ended(self, *words, **refused):
+        """The same, with what it wrote to each stream."""
         told = os.memfd_create("told")
         try:
             env = {"LD_PRELOAD": self.library, "TOLD": str(told), **{it: str(n) for it, n in refused.items()}}
             how = {"cwd": self.data, "env": env, "pass_fds": [told], "stdin": subprocess.DEVNULL, "timeout": LIMIT}
-            ran = subprocess.run([self.path, *words], stdout=subprocess.PIPE, stderr=subprocess.STDOUT, **how)
+            ran = subprocess.run([self.path, *words], capture_output=True, **how)
             text = os.pread(told, 1 << 24, 0).decode()
+        except subprocess.TimeoutExpired:
+            return None, b"", b"", []
         finally:
             os.close(told)
-        lines = ran.stdout.decode(errors="replace").splitlines()
-        return ran.returncode, lines, [Told(*map(int, line.split())) for line in text.splitlines()]
+        return ran.returncode, ran.stdout, ran.stderr, [Told(*map(int, line.split())) for line in text.splitlines()]
 
 
 def wrong_with(ran, wanted, words):
     """What is wrong with a run in which something was refused in the first call, if anything is."""
     status, lines, told = ran
-    if not told or status:
+    if status is None:
+        return f"it had not ended after {LIMIT} seconds"
+    if status or not told:
         return f"it ended with status {status}"
     call, _, answer = lines[0].partition(": ")
     if lines[0] != wanted[0] and (call != wanted[0].partition(": ")[0] or answer not in words):
@@ -84,11 +92,15 @@ def wrong_with(ran, wanted, words):
 
 def refuse_each(program, word, what):
     """Has one growth or start of the first call of a word after the other refused. Answers how many, and what is wrong."""
-    status, wanted, told = program.run(word)
-    if status or not told or told[0].left:
-        return 0, f"with ample memory it ended with status {status}"
+    ran = program.run(word)
+    wanted, told = ran[1:]
+    wrong = wrong_with(ran, wanted, ())
+    if not wrong and wanted[0].endswith((": Memory", ": Spawn")):
+        wrong = f"it answered {wanted[0]!r}"
+    if wrong:
+        return 0, f"with ample memory: {wrong}"
     words = ["Memory"]
-    if what == STARTS and wanted[0].partition(": ")[0] == SPAWNING:
+    if wanted[0].partition(": ")[0] == SPAWNING:
         words.append("Spawn")
     # How many there are may depend on which thread comes first.
     number, most = 0, getattr(told[0], what)
@@ -104,24 +116,21 @@ def refuse_each(program, word, what):
 
 
 def fed(program, word):
-    """Feeds inputs. Answers how many bytes were held at most for a byte of the longest, and what is wrong."""
+    """Feeds inputs. Answers how many bytes were held at most, and what is wrong."""
     status, lines, told = program.run(word)
     if status or len(told) != len(lines):
         return 0, f"it ended with status {status}"
-    greatest = 0
     for line, call in zip(lines, told):
-        longest = int(LONGEST.search(line)[1])
-        greatest = max(greatest, call.most // max(longest, 1))
-        if call.most > BYTES_A_BYTE * longest + BYTES:
-            return greatest, f"{line.partition(':')[0]}: {call.most} bytes were held"
-    return greatest, None
+        if call.most > BYTES_A_BYTE * int(LONGEST.search(line)[1]) + BYTES:
+            return call.most, f"{line.partition(':')[0]}: {call.most} bytes were held"
+    return max(call.most for call in told), None
 
 
 def tried(program, word):
     """Tries a word. Answers lines, each with whether all is well."""
     if word.startswith("feed "):
-        greatest, wrong = fed(program, word)
-        return [(wrong is None, f"{word}: {wrong or f'at most {greatest} bytes held for a byte of the longest input'}")]
+        most, wrong = fed(program, word)
+        return [(wrong is None, f"{word}: {wrong or f'at most {most} bytes were held'}")]
     answers = []
     for what in (GROWTHS, STARTS):
         count, wrong = refuse_each(program, word, what)

@@ -2,8 +2,8 @@
 
    The program writes the name of a call and ": ", makes the call, and writes what it answered. From the one write to
    the other its growths (malloc and realloc) and starts of threads are counted. The environment says which is refused:
-   REFUSED_CALL, the number of the call, from 1, and REFUSED_GROWTH or REFUSED_START, a number from 1 in that call.
-   Of each call a line goes to the file descriptor TOLD: how many growths it asked for, how many starts, how many of
+   REFUSED_CALL, the number of the call, from 1, and REFUSED_GROWTH or REFUSED_START, a number from 1 in that call. Where
+   it says WHOLE_RUN=1 the whole run is one call, of the number 0. Of each call a line goes to the file descriptor TOLD: how many growths it asked for, how many starts, how many of
    these were refused, how many threads were left running, and the most bytes that it held beyond those before it. */
 typedef unsigned long size;
 extern void *__libc_malloc(size), *__libc_realloc(void *, size), __libc_free(void *);
@@ -18,7 +18,7 @@ extern int *__errno_location(void);
 
 enum { WRITE = 1, OUTPUT = 1, NO_MEMORY = 12, TRY_AGAIN = 11, LONGEST_WAIT = 2000 };
 
-static long refused_call, refused_growth, refused_start, told;
+static long whole_run, refused_call, refused_growth, refused_start, told;
 static _Atomic long is_open, calls, growths, starts, refusals, running, held, before, most;
 
 static long asked(const char *name)
@@ -33,6 +33,7 @@ __attribute__((constructor)) static void begin(void)
     refused_growth = asked("REFUSED_GROWTH");
     refused_start = asked("REFUSED_START");
     told = asked("TOLD");
+    is_open = whole_run = asked("WHOLE_RUN");
 }
 
 static int is_refused(_Atomic long *count, long number)
@@ -136,11 +137,19 @@ static void close_call(void)
         dprintf(told, "%ld %ld %ld %ld %ld\n", growths, starts, refusals, running, most - before);
 }
 
+__attribute__((destructor)) static void end(void)
+{
+    if (whole_run)
+        close_call();
+}
+
 long write(int to, const char *bytes, size n)
 {
-    if (to == OUTPUT && is_open)
+    if (whole_run || to != OUTPUT)
+        ;
+    else if (is_open)
         close_call();
-    else if (to == OUTPUT && n >= 2 && bytes[n - 2] == ':' && bytes[n - 1] == ' ')
+    else if (n >= 2 && bytes[n - 2] == ':' && bytes[n - 1] == ' ')
         open_call();
     return syscall(WRITE, to, bytes, n);
 }

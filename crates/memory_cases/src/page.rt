@@ -36,6 +36,11 @@ impl<'a, W: Write> Page<'a, W> {
         self.out.write_all(b"Memory\n")
     }
 
+    /// Ends the line of a run whose sink failed after so many bytes.
+    pub fn device(&mut self, sent: u128) -> io::Result<()> {
+        writeln!(self.out, "Device {sent}")
+    }
+
     /// Ends the line by another fault.
     pub fn fault<F: Display>(&mut self, fault: &F) -> io::Result<()> {
         writeln!(self.out, "{fault}")

@@ -97,14 +97,9 @@ fn tell_answer<W: Write>(
         Ok(ended) if stream.is_whole() => tell_ended(page, ended),
         Err(RunFault::Memory) if stream.is_same => page.memory(),
         Err(RunFault::Spawn) if stream.is_same => page.end("Spawn"),
-        Err(RunFault::Device(sent)) if stream.has_all(*sent) => tell_device(page, *sent),
+        Err(RunFault::Device(sent)) if stream.has_all(*sent) => page.device(*sent),
         _ => page.end("another fault, or another text"),
     }
-}
-
-fn tell_device<W: Write>(page: &mut Page<'_, W>, sent: u128) -> io::Result<()> {
-    let text = format!(in page.alloc; "Device {sent}")?;
-    page.end(&text)
 }
 
 fn tell_ended<W: Write>(page: &mut Page<'_, W>, ended: &Ended) -> io::Result<()> {
