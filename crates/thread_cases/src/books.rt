@@ -73,9 +73,7 @@ fn make<O: Origin>(
             Ok(Made::Frames(stretch::<O>(alloc, program, frames, &done)?))
         }
         Way::Front => match book.front(alloc, 0)? {
-            Some(frame) => Ok(Made::Front(front_stretch::<O>(
-                alloc, program, 0, frame, &done,
-            )?)),
+            Some(frame) => Ok(Made::Front(front_stretch::<O>(alloc, program, 0, frame, &done)?)),
             None => Ok(Made::Front(None)),
         },
     }
