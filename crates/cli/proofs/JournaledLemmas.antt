@@ -2,7 +2,7 @@
 use Rattle.std.proofs.Common.{◌≡◌, ◌∙◌, ℕ, List, Option, Some, None, length, refl, sym, subst, arith}
 use Rattle.std.proofs.Math.Seq.{take-length}
 use Rattle.std.specs.Io.KnownBytes.{Appends, Keeps}
-use Rattle.vm_state.specs.declared.text.Line.{Line}
+use Rattle.vm_state.specs.Output.{Print, text_of}
 use Rattle.semantics.specs.Worlds.{World}
 use Rattle.program.specs.Tables.{Tables}
 use Rattle.init_engine.specs.Schedules.{schedule_of}
@@ -13,7 +13,7 @@ use Rattle.cli.specs.declared.status.Status.{Status}
 use Rattle.cli.specs.declared.status.Status.TheVariants.{Refused}
 use Rattle.cli.specs.Begins.{IsFirst, from_image}
 use Rattle.cli.specs.Journaled.{IsJournaled, IsReplayed}
-use Rattle.cli.specs.Running.{IsCutShort, IsOfRun, cut_of, lines_text}
+use Rattle.cli.specs.Running.{IsCutShort, IsOfRun, cut_of}
 use Rattle.cli.proofs.RunningLemmas.{appends_nothing, of_cut, of_whole}
 
 pub of_journaled : (P : Tables) (first : World) (before after : Option (List ℕ)) (ran : Journaled)
@@ -30,12 +30,12 @@ of_refused P first before after status begun is refused =
 
 -- a replay all of whose text has gone out
 pub of_replayed : (before after : Option (List ℕ)) (replayed : ImageSeen) (status : Status)
-    → IsReplayed replayed status → Appends before after (lines_text replayed.seen.printed.items)
+    → IsReplayed replayed status → Appends before after (text_of replayed.seen.printed)
     → IsOfRun before after
 of_replayed before after replayed status is sent =
     of_whole replayed.image.program is.first (schedule_of is.runs) is.shown.last before after
     (from_image replayed.image refl is.begun) is.shown.run
-    (subst (λ (lines : List Line). Appends before after (lines_text lines)) is.shown.observed.0 sent)
+    (subst (λ (prints : List Print). Appends before after (text_of prints)) is.shown.observed.0 sent)
 
 -- a replay of which nothing has
 pub of_no_text : (before after : Option (List ℕ)) (replayed : ImageSeen) (status : Status)
@@ -62,7 +62,7 @@ appends_kept (Some xs) (Some ys) (Some zs) text a kept = kept ∙ a
 pub flush_failed : (P : Tables) (first : World) (before mid after : Option (List ℕ)) (ran : Journaled)
     → IsJournaled P first before mid ran → Keeps mid after → IsCutShort P first before after Device
 flush_failed P first before mid after ran is kept =
-    let text = lines_text is.last.shared.printed in
+    let text = text_of is.last.shared.printed in
     record {
       schedule = schedule_of ran.journal;
       last = is.last;

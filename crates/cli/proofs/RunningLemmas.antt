@@ -3,11 +3,10 @@ use Rattle.std.proofs.Common.{◌≡◌, ◌+◌, ◌≤◌, ◌∙◌, ℕ, suc
 use Rattle.std.proofs.Common.{ap}
 use Rattle.std.proofs.Common.{sym, subst, refl, arith, append_assoc, append-nil, length-append, Bool, true, Err}
 use Rattle.std.proofs.Math.Seq.{take-add, take-length}
-use Rattle.std.proofs.lemmas.Grind.{flat_map-append}
 use Rattle.std.proofs.lemmas.List.{length-map, take-append-drop, take-append-le}
 use Rattle.std.specs.Io.KnownBytes.{Appends}
 use Rattle.vm_state.specs.Shares.{shared_of}
-use Rattle.vm_state.specs.declared.text.Line.{Line}
+use Rattle.vm_state.specs.Output.{Print, text_of}
 use Rattle.semantics.specs.Worlds.{World, Run, seen}
 use Rattle.program.specs.Tables.{Tables}
 use Rattle.machine.specs.Linked.{program_of}
@@ -19,11 +18,12 @@ use Rattle.init_engine.specs.Threads.{thread_of}
 use Rattle.init_engine.specs.Turnings.{Midway, IsUnderWay, HasTurned, IsSlice}
 use Rattle.init_engine.specs.Turns.{world_of}
 use Rattle.init_engine.proofs.RoundLemmas.{run_so_far}
+use Rattle.thread_runner.proofs.SendingLemmas.{text_join}
 use Rattle.cli.specs.Begins.{IsFirst}
 use Rattle.cli.specs.declared.running.Ran.{Ran}
 use Rattle.cli.specs.declared.running.RunFault.{RunFault}
 use Rattle.cli.specs.declared.running.RunFault.TheVariants.{Memory, Device}
-use Rattle.cli.specs.Running.{HasRun, IsCutShort, IsOfRun, IsStanding, SendsTo, lines_text}
+use Rattle.cli.specs.Running.{HasRun, IsCutShort, IsOfRun, IsStanding, SendsTo}
 
 pub appends_nothing : (old : Option (List ℕ)) → Appends old old []
 appends_nothing None = tt
@@ -47,18 +47,18 @@ appends_more old now new text at n a b =
 pub threads_counted : (s : Standing) → length (world_of s).threads ≡ length s.threads
 threads_counted s = length-map s.threads thread_of
 
--- lines that went out, and the rest of them
-all_lines : (sent : ℕ) (lines : List Line)
-    → lines_text (take sent lines) ++ lines_text (drop sent lines) ≡ lines_text lines
-all_lines sent lines =
-    sym (flat_map-append (λ (line : Line). line.text) (take sent lines) (drop sent lines))
-    ∙ ap (λ (ls : List Line). lines_text ls) (take-append-drop sent lines)
+-- prints that went out, and the rest of them
+all_prints : (sent : ℕ) (prints : List Print)
+    → text_of (take sent prints) ++ text_of (drop sent prints) ≡ text_of prints
+all_prints sent prints =
+    sym (text_join (take sent prints) (drop sent prints))
+    ∙ ap (λ (ls : List Print). text_of ls) (take-append-drop sent prints)
 
--- lines that went out stay the first where more are printed
-first_lines : (sent : ℕ) (lines more new : List Line) → sent ≤ length lines → new ≡ lines ++ more
-    → take sent new ≡ take sent lines
-first_lines sent lines more new within is =
-    ap (λ (ls : List Line). take sent ls) is ∙ take-append-le sent lines more within
+-- prints that went out stay the first where more are printed
+first_prints : (sent : ℕ) (prints more new : List Print) → sent ≤ length prints → new ≡ prints ++ more
+    → take sent new ≡ take sent prints
+first_prints sent prints more new within is =
+    ap (λ (ls : List Print). take sent ls) is ∙ take-append-le sent prints more within
 
 -- the first bytes of two texts, past those of the first
 take_past : (a b : List ℕ) (n : ℕ) → take (length a + n) (a ++ b) ≡ a ++ take n b
@@ -71,47 +71,47 @@ take_past (x ∷ xs) b n =
 
 -- ---- a run, slice by slice
 
--- the lines that went out before a slice are the first of those after it
+-- the prints that went out before a slice are the first of those after it
 pub still_sent : (steps bytes sent : ℕ) (over : Bool) (old new : Midway) (before now : Option (List ℕ))
     → IsSlice steps bytes over old new → sent ≤ length old.world.printed →
-    Appends before now (lines_text (take sent old.world.printed)) →
-    (sent ≤ length new.world.printed) × Appends before now (lines_text (take sent new.world.printed))
+    Appends before now (text_of (take sent old.world.printed)) →
+    (sent ≤ length new.world.printed) × Appends before now (text_of (take sent new.world.printed))
 still_sent steps bytes sent over old new before now s within got = (
   omega (arith, ap length s.lines, length-append old.world.printed s.printed),
-  subst (λ (ls : List Line). Appends before now (lines_text ls))
-      (sym (first_lines sent old.world.printed s.printed new.world.printed within s.lines)) got,
+  subst (λ (ls : List Print). Appends before now (text_of ls))
+      (sym (first_prints sent old.world.printed s.printed new.world.printed within s.lines)) got,
 )
 
--- all lines have gone out
-all_sent : (sent count : ℕ) (lines : List Line) (before now after : Option (List ℕ))
-    → Appends before now (lines_text (take sent lines)) → Appends now after (lines_text (drop sent lines)) →
-    count ≡ length lines →
-    (count ≤ length lines) × Appends before after (lines_text (take count lines))
-    × Appends before after (lines_text lines)
-all_sent sent count lines before now after first second all =
-    let whole = subst (λ (text : List ℕ). Appends before after text) (all_lines sent lines)
-    (appends_then before now after (lines_text (take sent lines)) (lines_text (drop sent lines)) first second) in (
+-- all prints have gone out
+all_sent : (sent count : ℕ) (prints : List Print) (before now after : Option (List ℕ))
+    → Appends before now (text_of (take sent prints)) → Appends now after (text_of (drop sent prints)) →
+    count ≡ length prints →
+    (count ≤ length prints) × Appends before after (text_of (take count prints))
+    × Appends before after (text_of prints)
+all_sent sent count prints before now after first second all =
+    let whole = subst (λ (text : List ℕ). Appends before after text) (all_prints sent prints)
+    (appends_then before now after (text_of (take sent prints)) (text_of (drop sent prints)) first second) in (
       omega (arith, all),
-      subst (λ (ls : List Line). Appends before after (lines_text ls))
-          (sym (ap (λ k. take k lines) all ∙ take-length lines)) whole,
+      subst (λ (ls : List Print). Appends before after (text_of ls))
+          (sym (ap (λ k. take k prints) all ∙ take-length prints)) whole,
       whole,
     )
 
--- after a slice all lines have gone out, since what was new was sent
-pub slice_sent : (steps bytes sent count : ℕ) (over : Bool) (old new : Midway) (lines : List Line)
+-- after a slice all prints have gone out, since what was new was sent
+pub slice_sent : (steps bytes sent count : ℕ) (over : Bool) (old new : Midway) (prints : List Print)
     (before now after : Option (List ℕ)) → IsSlice steps bytes over old new → sent ≤ length old.world.printed
-    → Appends before now (lines_text (take sent old.world.printed)) → lines ≡ new.world.printed
-    → Appends now after (lines_text (drop sent lines)) → count ≡ length lines →
-    (count ≤ length new.world.printed) × Appends before after (lines_text (take count new.world.printed))
-    × Appends before after (lines_text new.world.printed)
-slice_sent steps bytes sent count over old new lines before now after slice within got same sends all =
+    → Appends before now (text_of (take sent old.world.printed)) → prints ≡ new.world.printed
+    → Appends now after (text_of (drop sent prints)) → count ≡ length prints →
+    (count ≤ length new.world.printed) × Appends before after (text_of (take count new.world.printed))
+    × Appends before after (text_of new.world.printed)
+slice_sent steps bytes sent count over old new prints before now after slice within got same sends all =
     let still = still_sent steps bytes sent over old new before now slice within got in
     all_sent sent count new.world.printed before now after still.1 (rw same at sends) (rw same at all)
 
--- memory was refused where the first lines had gone out
+-- memory was refused where the first prints had gone out
 pub cut_by_memory : (P : Tables) (first : World) (limit sent : ℕ) (t : Midway) (before now : Option (List ℕ))
     → IsUnderWay (program_of P) first limit t → sent ≤ length t.world.printed →
-    Appends before now (lines_text (take sent t.world.printed)) → IsCutShort P first before now Memory
+    Appends before now (text_of (take sent t.world.printed)) → IsCutShort P first before now Memory
 unfolding shared_of
 cut_by_memory P first limit sent t before now under within got = record {
   schedule = schedule_of t.schedule;
@@ -122,17 +122,17 @@ cut_by_memory P first limit sent t before now under within got = record {
 }
 
 cut_by_device : (P : Tables) (first : World) (limit sent : ℕ) (t : Midway) (before now after : Option (List ℕ))
-    → IsUnderWay (program_of P) first limit t → Appends before now (lines_text (take sent t.world.printed)) →
-    SendsTo {A = ℕ} now after (lines_text (drop sent t.world.printed)) (Err Device) →
+    → IsUnderWay (program_of P) first limit t → Appends before now (text_of (take sent t.world.printed)) →
+    SendsTo {A = ℕ} now after (text_of (drop sent t.world.printed)) (Err Device) →
     IsCutShort P first before after Device
 unfolding shared_of
 cut_by_device P first limit sent t before now after under got (count, within, further) =
-    let a = lines_text (take sent t.world.printed) in
-    let b = lines_text (drop sent t.world.printed) in
-    let all : a ++ b ≡ lines_text t.world.printed = all_lines sent t.world.printed in
-    let part : take (length a + count) (lines_text t.world.printed) ≡ a ++ take count b =
+    let a = text_of (take sent t.world.printed) in
+    let b = text_of (drop sent t.world.printed) in
+    let all : a ++ b ≡ text_of t.world.printed = all_prints sent t.world.printed in
+    let part : take (length a + count) (text_of t.world.printed) ≡ a ++ take count b =
     ap (λ (text : List ℕ). take (length a + count) text) (sym all) ∙ take_past a b count in
-    let inside : length a + count ≤ length (lines_text t.world.printed) =
+    let inside : length a + count ≤ length (text_of t.world.printed) =
     omega (arith, within, sym (ap length all), length-append a b) in
     record {
       schedule = schedule_of t.schedule;
@@ -147,15 +147,15 @@ cut_by_device P first limit sent t before now after under got (count, within, fu
       );
     }
 
--- the rest of the lines did not go out whole
+-- the rest of the prints did not go out whole
 pub cut_in_sending : (P : Tables) (first : World) (limit sent : ℕ) (t : Midway) (before now after : Option (List ℕ))
     (fault : RunFault) → IsUnderWay (program_of P) first limit t → sent ≤ length t.world.printed →
-    Appends before now (lines_text (take sent t.world.printed)) →
-    SendsTo {A = ℕ} now after (lines_text (drop sent t.world.printed)) (Err fault) →
+    Appends before now (text_of (take sent t.world.printed)) →
+    SendsTo {A = ℕ} now after (text_of (drop sent t.world.printed)) (Err fault) →
     IsCutShort P first before after fault
 cut_in_sending P first limit sent t before now after Memory under within got none =
     cut_by_memory P first limit sent t before after under within
-    (subst (λ (o : Option (List ℕ)). Appends before o (lines_text (take sent t.world.printed))) (sym none) got)
+    (subst (λ (o : Option (List ℕ)). Appends before o (text_of (take sent t.world.printed))) (sym none) got)
 cut_in_sending P first limit sent t before now after Device under within got part =
     cut_by_device P first limit sent t before now after under got part
 
@@ -163,7 +163,7 @@ cut_in_sending P first limit sent t before now after Device under within got par
 pub run_ends : (P : Tables) (start : Standing) (limit : ℕ) (t : Midway) (before after : Option (List ℕ)) (ran : Ran)
     → HasTurned (program_of P) (world_of start) limit true t → length t.world.threads ≡ length start.threads →
     IsStanding P (world_of t.world) ran → ran.schedule.items ≡ t.schedule → AreRuns ran.schedule.items →
-    Appends before after (lines_text t.world.printed) → HasRun P (world_of start) limit before after ran
+    Appends before after (text_of t.world.printed) → HasRun P (world_of start) limit before after ran
 unfolding shared_of
 run_ends P start limit t before after ran turned threads stands schedule apart sent =
     let count : length t.world.threads ≡ length (world_of start).threads = threads ∙ sym (threads_counted start) in
@@ -201,9 +201,9 @@ of_cut P first before after begun is = record {
 -- a run all of whose text has gone out
 pub of_whole : (P : Tables) (first : World) (schedule : List ℕ) (last : World) (before after : Option (List ℕ))
     → IsFirst P first → Run (program_of P) first schedule last
-    → Appends before after (lines_text last.shared.printed) → IsOfRun before after
+    → Appends before after (text_of last.shared.printed) → IsOfRun before after
 of_whole P first schedule last before after begun run sent =
-    let lines = last.shared.printed in
+    let prints = last.shared.printed in
     record {
       program = P;
       first = first;
@@ -212,9 +212,9 @@ of_whole P first schedule last before after begun run sent =
       last = last;
       run = run;
       sent = (
-        length lines,
+        length prints,
         omega arith,
-        subst (λ (all : List Line). Appends before after (lines_text all)) (sym (take-length lines)) sent,
+        subst (λ (all : List Print). Appends before after (text_of all)) (sym (take-length prints)) sent,
       );
     }
 

@@ -1,6 +1,7 @@
 -- Runs whose text went out, with their journals, and replays.
 use Rattle.std.specs.Prelude.{◌≡◌, ℕ, List, Option, Result, Ok, Err}
 use Rattle.std.specs.Io.KnownBytes.{Appends}
+use Rattle.vm_state.specs.Output.{text_of}
 use Rattle.semantics.specs.Worlds.{World, Run, seen}
 use Rattle.program.specs.Tables.{Tables}
 use Rattle.machine.specs.Linked.{program_of}
@@ -15,7 +16,7 @@ use Rattle.cli.specs.declared.fault.Refusal.{Refusal}
 use Rattle.cli.specs.declared.status.Status.{Status}
 use Rattle.cli.specs.Begins.{IsBegunFromImage}
 use Rattle.cli.specs.Refusal.{refusal_status}
-use Rattle.cli.specs.Running.{IsCutShort, cut_of, lines_text}
+use Rattle.cli.specs.Running.{IsCutShort, cut_of}
 use Rattle.cli.specs.Status.{replay_status, run_status}
 
 -- The journal's run leads from a world to the one that is told, whose text has gone out whole.
@@ -26,7 +27,7 @@ pub record IsJournaled (P : Tables) (first : World) (before after : Option (List
   pub rest : Rest
   pub stands : IsRest (program_of P) last rest
   pub status : ran.status ≡ run_status ran.threads.items rest
-  pub sent : Appends before after (lines_text last.shared.printed)
+  pub sent : Appends before after (text_of last.shared.printed)
 
 -- what a run comes to: it is told, or was cut short, where so much of what some run printed has gone out as its
 -- refusal says

@@ -13,3 +13,4 @@ pub mod Renewals
 pub mod Headline
 pub mod Begins
 pub mod Journaled
+pub mod Existence

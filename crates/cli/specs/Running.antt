@@ -1,8 +1,7 @@
 -- What goes out while a world runs.
 use Rattle.std.specs.Prelude.{◌≡◌, ℕ, ◌≤◌, List, Option, Result, Ok, Err, length, take}
 use Rattle.std.specs.Io.KnownBytes.{Appends}
-use Rattle.std.specs.List.{flat_map}
-use Rattle.vm_state.specs.declared.text.Line.{Line}
+use Rattle.vm_state.specs.Output.{Print, text_of}
 use Rattle.semantics.specs.Worlds.{World, Run as Reaches, seen}
 use Rattle.program.specs.Tables.{Tables}
 use Rattle.machine.specs.Linked.{program_of}
@@ -16,10 +15,6 @@ use Rattle.cli.specs.declared.running.RunFault.TheVariants.{Memory, Device}
 use Rattle.cli.specs.declared.status.Status.{Status}
 use Rattle.cli.specs.declared.status.Status.TheVariants.{Refused}
 
--- the text of lines, one after the other
-abbrev pub lines_text : List Line → List ℕ
-lines_text lines = flat_map (λ (line : Line). line.text) lines
-
 -- how far the threads of a world have come, and whether it goes on
 pub record IsStanding (P : Tables) (w : World) (ran : Ran) : Type 0 where
   pub threads : ran.threads.items ≡ (seen w).threads
@@ -32,17 +27,17 @@ pub record HasRun (P : Tables) (first : World) (limit : ℕ) (before after : Opt
   pub turns : Turns (program_of P) (length first.threads) limit first (schedule_of ran.schedule.items) last
   pub apart : AreRuns ran.schedule.items
   pub stands : IsStanding P last ran
-  pub sent : Appends before after (lines_text last.shared.printed)
+  pub sent : Appends before after (text_of last.shared.printed)
 
--- What has gone out of lines where a run was cut short: the first of them, whole, where memory was refused, and the
--- first bytes of their text where the sink failed.
-abbrev pub HaveGoneOut : List Line → Option (List ℕ) → Option (List ℕ) → RunFault → Type 0
-HaveGoneOut lines before after Memory =
-    (count : ℕ) × (count ≤ length lines) × Appends before after (lines_text (take count lines))
-HaveGoneOut lines before after Device =
-    (count : ℕ) × (count ≤ length (lines_text lines)) × Appends before after (take count (lines_text lines))
+-- What has gone out of some prints where a run was cut short: the first of them, whole, where memory was refused, and
+-- the first bytes of their text where the sink failed.
+abbrev pub HaveGoneOut : List Print → Option (List ℕ) → Option (List ℕ) → RunFault → Type 0
+HaveGoneOut printed before after Memory =
+    (count : ℕ) × (count ≤ length printed) × Appends before after (text_of (take count printed))
+HaveGoneOut printed before after Device =
+    (count : ℕ) × (count ≤ length (text_of printed)) × Appends before after (take count (text_of printed))
 
--- A run from a world was cut short at a world of whose lines so much has gone out.
+-- A run from a world was cut short at a world of whose prints so much has gone out.
 pub record IsCutShort (P : Tables) (first : World) (before after : Option (List ℕ)) (fault : RunFault) : Type 0 where
   pub schedule : List ℕ
   pub last : World

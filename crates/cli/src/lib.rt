@@ -10,6 +10,7 @@ pub mod any_order;
 mod builds;
 mod by_threads;
 mod class_files;
+pub mod existence;
 mod fault;
 mod files;
 mod image_build;

@@ -355,7 +355,7 @@ fn tell_replay<W: Write, E: Write>(
     ensures words { result ≢ Status.Words }
 {
     let program = replayed.image.program();
-    match send_seen(alloc, &replayed.seen, out) {
+    match send_seen(&replayed.seen, out) {
         Ok(()) => tell_endings(
             alloc,
             program,

@@ -2,12 +2,13 @@
 
 ghost use Rattle.std.specs.Prelude.{◌≡◌, ◌≤◌, length, drop, take, true, IfOk, IfErr};
 ghost use Rattle.std.specs.Io.KnownBytes.{Appends};
+ghost use Rattle.vm_state.specs.Output.{text_of};
 ghost use Rattle.init_engine.specs.Schedules.{AreRuns};
 ghost use Rattle.init_engine.specs.Turns.{world_of};
 ghost use Rattle.cli.specs.declared.running.RunFault.TheVariants.{Memory};
-ghost use Rattle.cli.specs.Running.{HasRun, IsCutShort, IsStanding, SendsTo, lines_text};
+ghost use Rattle.cli.specs.Running.{HasRun, IsCutShort, IsStanding, SendsTo};
 
-use init_engine::{Ending, Line, Rest, Seen, Turning, World};
+use init_engine::{Ending, Output, Rest, Seen, Turning, World};
 use program::Program;
 use std::alloc::{AllocError, Global};
 use std::io::Write;
@@ -69,7 +70,7 @@ pub fn run_world<W: Write>(
             Ok(over) => over,
             Err(_) => return Err(RunFault::Memory),
         };
-        match send_further(alloc, turning.printed(), sent, out) {
+        match send_further(turning.printed(), sent, out) {
             Ok(count) => sent = count,
             Err(fault) => return Err(fault),
         }
@@ -98,38 +99,21 @@ fn what_is_left(alloc: Global, program: &Program, turning: Turning) -> Result<Ra
     })
 }
 
-/// Sends the lines that are new after so many, and answers how many there are.
-fn send_further<W: Write>(
-    alloc: Global,
-    lines: &[Line],
-    sent: usize,
-    out: &mut W,
-) -> Result<usize, RunFault>
-    requires { sent ≤ length lines.now }
-    ensures all { IfOk result (λ count. count ≡ length lines.now) }
-    ensures sends { SendsTo (W.contents out.old) (W.contents out.new) (lines_text (drop sent lines.now)) result }
+/// Sends what was printed after so many prints, and answers how many there are.
+fn send_further<W: Write>(printed: &Output, sent: usize, out: &mut W) -> Result<usize, RunFault>
+    requires { sent ≤ length printed.now }
+    ensures all { IfOk result (λ count. count ≡ length printed.now) }
+    ensures sends { SendsTo (W.contents out.old) (W.contents out.new) (text_of (drop sent printed.now)) result }
 {
-    let (_, fresh) = lines.split_at(sent);
-    if fresh.is_empty() {
-        return Ok(sent);
+    let text = printed.text_from(sent);
+    if text.is_empty() {
+        return Ok(printed.count());
     }
-    let bytes = printed_bytes(alloc, fresh)?;
-    let (_, whole) = send_all(bytes.as_slice(), out);
+    let (_, whole) = send_all(text, out);
     if !whole || out.flush().is_err() {
         return Err(RunFault::Device);
     }
-    Ok(lines.len())
-}
-
-/// What was printed, line after line.
-fn printed_bytes(alloc: Global, lines: &[Line]) -> Result<Vec<u8>, AllocError>
-    ensures { IfOk result (λ bytes. bytes.items ≡ lines_text lines.now) }
-{
-    let mut bytes = Vec::new(alloc);
-    for line in lines {
-        bytes.extend_from_slice(line.text.as_bytes())?;
-    }
-    Ok(bytes)
+    Ok(printed.count())
 }
 
 /// Sends bytes, and answers how many went out, and whether all did.
@@ -151,10 +135,10 @@ fn send_all<W: Write>(bytes: &[u8], out: &mut W) -> (usize, bool)
 }
 
 /// Sends what was printed.
-pub(crate) fn send_seen<W: Write>(alloc: Global, seen: &Seen, out: &mut W) -> Result<(), RunFault>
-    ensures { SendsTo (W.contents out.old) (W.contents out.new) (lines_text seen.now.printed.items) result }
+pub(crate) fn send_seen<W: Write>(seen: &Seen, out: &mut W) -> Result<(), RunFault>
+    ensures { SendsTo (W.contents out.old) (W.contents out.new) (text_of seen.now.printed) result }
 {
-    match send_further(alloc, seen.printed.as_slice(), 0, out) {
+    match send_further(&seen.printed, 0, out) {
         Ok(_) => Ok(()),
         Err(fault) => Err(fault),
     }

@@ -9,7 +9,7 @@ use Rattle.vm_state.specs.declared.initialization.Level.{Level}
 use Rattle.vm_state.specs.declared.initialization.Levels.{Levels}
 use Rattle.vm_state.specs.declared.initialization.Frames.{Frames}
 use Rattle.vm_state.specs.SharedTables.{SharedTables}
-use Rattle.vm_state.specs.declared.text.Line.{Line}
+use Rattle.vm_state.specs.Output.{Print}
 use Rattle.vm_state.specs.SharedState.{SharedState}
 use Rattle.vm_state.specs.Shares.{shared_of}
 use Rattle.vm_state.specs.Stacks.{segment_of, levels_of, levels_in}
@@ -64,7 +64,7 @@ module _ (P : Tables) (t : ℕ) (ls : List Level) where
 
 -- ---- what the code's run of one thread is
 
-module _ (P : Tables) (n : ℕ) (threads : List Thread) (before after : SharedTables) (printed : List Line) (t : ℕ) where
+module _ (P : Tables) (n : ℕ) (threads : List Thread) (before after : SharedTables) (printed : List Print) (t : ℕ) where
   -- a run that leaves this thread so
   abbrev RunsTo : Thread → Type 0
   RunsTo new = Run (program_of P) (world_with threads before printed) (replicate n t)
@@ -78,7 +78,7 @@ module _ (P : Tables) (n : ℕ) (threads : List Thread) (before after : SharedTa
       ∙ ap (λ (s : SharedTables). world_with (slice_set threads t old) s printed) (sym same))
 
   top_runs : (s r : Frames) → slice_get threads t ≡ Some (Going s) →
-      ((p : List Line) → Course P t (maker_of t (levels_of s)) n (above (segment_of s) before p)
+      ((p : List Print) → Course P t (maker_of t (levels_of s)) n (above (segment_of s) before p)
       (above (segment_of r) after p)) → r.levels ≡ s.levels → RunsTo (Going r)
   top_runs s r stands run same =
       let left : Thread = Going r in
@@ -100,7 +100,7 @@ module _ (P : Tables) (n : ℕ) (threads : List Thread) (before after : SharedTa
   thread_runs (Going s) (Going r) stands numbered (run, number, levels) =
       let same : s.thread ≡ t = numbered t (Going s) stands in
       top_runs s r stands
-      (subst (λ k. (p : List Line) → Course P k (maker_of k (levels_of s)) n (above (segment_of s) before p)
+      (subst (λ k. (p : List Print) → Course P k (maker_of k (levels_of s)) n (above (segment_of s) before p)
       (above (segment_of r) after p)) same run) levels
 
   pub world_runs : (old new : Thread) → t < length threads → old ≡ get_or threads t old → AreNumbered threads →

@@ -13,7 +13,7 @@ use Rattle.vm_state.specs.declared.frame.Frame.{Frame}
 use Rattle.vm_state.specs.declared.initialization.Frames.{Frames}
 use Rattle.vm_state.specs.declared.initialization.Initialization.{Initialization}
 use Rattle.vm_state.specs.declared.initialization.Levels.{Levels}
-use Rattle.vm_state.specs.declared.text.Line.{Line}
+use Rattle.vm_state.specs.Output.{Print}
 use Rattle.vm_state.specs.SharedTables.{SharedTables}
 use Rattle.vm_state.specs.Shares.{shared_of}
 use Rattle.vm_state.specs.declared.initialization.Level.{Level}
@@ -104,7 +104,7 @@ some_by : {X : Type 0} (o : Option X) → not (is_some o) ≡ false → IsSome o
 some_by None none = cc
 some_by (Some x) none = refl
 
-module _ (P : Program) (thread : Thread) (s : Frames) (t : ℕ) (shared : SharedTables) (p : List Line)
+module _ (P : Program) (thread : Thread) (s : Frames) (t : ℕ) (shared : SharedTables) (p : List Print)
     (is : thread ≡ GoesOn s) (number : HasNumber thread t) where
   own : s.thread ≡ t
   own = rw is at number

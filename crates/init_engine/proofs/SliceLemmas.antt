@@ -5,7 +5,7 @@ use Rattle.std.proofs.Common.{append-nil, length-append, replicate, None}
 use Rattle.std.proofs.Math.Seq.{get_or-append_seam}
 use Rattle.std.proofs.lemmas.Option.{slice_get-get_or}
 use Rattle.std.proofs.lemmas.List.Sums.{sum_by-append}
-use Rattle.vm_state.specs.declared.text.Line.{Line}
+use Rattle.vm_state.specs.Output.{Print}
 use Rattle.semantics.specs.Programs.{Program}
 use Rattle.semantics.specs.Worlds.{World, Run, step}
 use Rattle.init_engine.specs.Turns.{Prints, world_of}
@@ -26,22 +26,22 @@ use Rattle.init_engine.proofs.RoundLemmas.{stop_of_turns}
 
 -- ---- text
 
-text_joined : (ls ms : List Line) → text_length (ls ++ ms) ≡ text_length ls + text_length ms
-text_joined ls ms = sum_by-append (λ (line : Line). length line.text) ls ms
+text_joined : (ls ms : List Print) → text_length (ls ++ ms) ≡ text_length ls + text_length ms
+text_joined ls ms = sum_by-append (λ (line : Print). length line.text) ls ms
 
-within_then : (had mid : ℕ) (ls ms : List Line) → IsWithin had ls → mid ≡ had - text_length ls → IsWithin mid ms
+within_then : (had mid : ℕ) (ls ms : List Print) → IsWithin had ls → mid ≡ had - text_length ls → IsWithin mid ms
     → IsWithin had (ls ++ ms)
 within_then had mid ls ms first less (inl none) =
-    subst (λ (ks : List Line). IsWithin had (ls ++ ks)) (sym none)
-    (subst (λ (ks : List Line). IsWithin had ks) (sym (append-nil ls)) first)
+    subst (λ (ks : List Print). IsWithin had (ls ++ ks)) (sym none)
+    (subst (λ (ks : List Print). IsWithin had ks) (sym (append-nil ls)) first)
 within_then had mid ls ms first less (inr last) = inr (record {
   before = ls ++ last.before;
   last = last.last;
-  are = ap (λ (ks : List Line). ls ++ ks) last.are ∙ sym (append_assoc ls last.before (last.last ∷ []));
+  are = ap (λ (ks : List Print). ls ++ ks) last.are ∙ sym (append_assoc ls last.before (last.last ∷ []));
   fewer = omega (arith, text_joined ls last.before, last.fewer, less);
 })
 
-pub prints_nothing : (n had : ℕ) (before now : List Line) → now ≡ before → PrintsBy n before now had had
+pub prints_nothing : (n had : ℕ) (before now : List Print) → now ≡ before → PrintsBy n before now had had
 prints_nothing n had before now same = record {
   lines = [];
   are = same ∙ sym (append-nil before);
@@ -50,21 +50,21 @@ prints_nothing n had before now same = record {
   silent = λ none. refl;
 }
 
-pub prints_then : (m n k had mid left : ℕ) (a b c : List Line) → k ≡ m + n → PrintsBy m a b had mid
+pub prints_then : (m n k had mid left : ℕ) (a b c : List Print) → k ≡ m + n → PrintsBy m a b had mid
     → PrintsBy n b c mid left → PrintsBy k a c had left
 prints_then m n k had mid left a b c all p q = record {
   lines = p.lines ++ q.lines;
-  are = q.are ∙ (ap (λ (ks : List Line). ks ++ q.lines) p.are ∙ append_assoc a p.lines q.lines);
+  are = q.are ∙ (ap (λ (ks : List Print). ks ++ q.lines) p.are ∙ append_assoc a p.lines q.lines);
   counted = omega (arith, p.counted, q.counted, text_joined p.lines q.lines);
   prompt = within_then had mid p.lines q.lines p.prompt p.counted q.prompt;
   silent = λ none.
       let first : m ≡ 0 = omega (arith, all, none) in
       let second : n ≡ 0 = omega (arith, all, none) in
-      ap (λ (ks : List Line). ks ++ q.lines) (p.silent first) ∙ q.silent second;
+      ap (λ (ks : List Print). ks ++ q.lines) (p.silent first) ∙ q.silent second;
 }
 
 -- steps that print nothing, of so many that were left
-pub quiet_further : (most left count had text : ℕ) (a b c : List Line) → left ≤ most → count ≤ left → c ≡ b
+pub quiet_further : (most left count had text : ℕ) (a b c : List Print) → left ≤ most → count ≤ left → c ≡ b
     → PrintsBy (most - left) a b had text → PrintsBy (most - (left - count)) a c had text
 quiet_further most left count had text a b c within few same before =
     let joined : most - (left - count) ≡ most - left + count = omega (arith, within, few) in
@@ -72,30 +72,30 @@ quiet_further most left count had text a b c within few same before =
     (prints_nothing count text b c same)
 
 -- no step
-pub prints_no_more : (k had mid left : ℕ) (a b c : List Line) → PrintsBy k a b had mid → PrintsBy 0 b c mid left
+pub prints_no_more : (k had mid left : ℕ) (a b c : List Print) → PrintsBy k a b had mid → PrintsBy 0 b c mid left
     → PrintsBy k a c had left
 prints_no_more k had mid left a b c before none =
     let same : k ≡ k + 0 = omega arith in
     prints_then k 0 k had mid left a b c same before none
 
 -- the line at the end is the one that is counted
-last_line : (old : List Line) (line : Line) → slice_get (old ++ line ∷ []) (length old) ≡ Some line
+last_line : (old : List Print) (line : Print) → slice_get (old ++ line ∷ []) (length old) ≡ Some line
 last_line old line =
     let inside : length old < length (old ++ line ∷ []) = omega (arith, length-append old (line ∷ [])) in
     slice_get-get_or (old ++ line ∷ []) (length old) line inside ∙ ap Some (get_or-append_seam old line [] line)
 
-no_line : (n had bytes left : ℕ) (old new : List Line) → new ≡ old → left ≡ had - bytes
+no_line : (n had bytes left : ℕ) (old new : List Print) → new ≡ old → left ≡ had - bytes
     → (length new ≤ length old → bytes ≡ 0) → PrintsBy n old new had left
 no_line n had bytes left old new same counted none =
     let few : length new ≤ length old = omega (arith, ap length same) in
     let all : had ≡ left = omega (arith, counted, none few) in
     subst (λ k. PrintsBy n old new had k) all (prints_nothing n had old new same)
 
-one_line : (had bytes left : ℕ) (old new : List Line) (line : Line) → 0 < had → new ≡ old ++ line ∷ []
-    → left ≡ had - bytes → ((l : Line) → slice_get new (length old) ≡ Some l → bytes ≡ length l.text) →
+one_line : (had bytes left : ℕ) (old new : List Print) (line : Print) → 0 < had → new ≡ old ++ line ∷ []
+    → left ≡ had - bytes → ((l : Print) → slice_get new (length old) ≡ Some l → bytes ≡ length l.text) →
     PrintsBy 1 old new had left
 one_line had bytes left old new line some is counted all =
-    let found = subst (λ (ls : List Line). slice_get ls (length old) ≡ Some line) (sym is) (last_line old line) in
+    let found = subst (λ (ls : List Print). slice_get ls (length old) ≡ Some line) (sym is) (last_line old line) in
     record {
       lines = line ∷ [];
       are = is;
@@ -105,9 +105,9 @@ one_line had bytes left old new line some is counted all =
     }
 
 -- a turn's line is counted
-pub turn_prints : (turn : Turn) (had bytes left : ℕ) (old new : List Line) → 0 < had → Prints turn old new
+pub turn_prints : (turn : Turn) (had bytes left : ℕ) (old new : List Print) → 0 < had → Prints turn old new
     → left ≡ had - bytes → (length new ≤ length old → bytes ≡ 0) →
-    ((l : Line) → slice_get new (length old) ≡ Some l → bytes ≡ length l.text) →
+    ((l : Print) → slice_get new (length old) ≡ Some l → bytes ≡ length l.text) →
     PrintsBy (steps_of turn) old new had left
 turn_prints Moved had bytes left old new some (inl same) counted none all =
     no_line 1 had bytes left old new same counted none
@@ -120,7 +120,7 @@ turn_prints Ended had bytes left old new some same counted none all =
 
 -- ---- steps, and what they printed
 
-pub spends_nothing : (p : Place) (schedule : List ℕ) (lines : List Line) (a : Allowance)
+pub spends_nothing : (p : Place) (schedule : List ℕ) (lines : List Print) (a : Allowance)
     → Spends p p schedule schedule lines lines a a
 spends_nothing p schedule lines a = record {
   made = 0;
@@ -130,7 +130,7 @@ spends_nothing p schedule lines a = record {
   prints = prints_nothing 0 a.text lines lines refl;
 }
 
-pub spends_then : (x y z : Place) (r s t : List ℕ) (a b c : List Line) (had mid left : Allowance)
+pub spends_then : (x y z : Place) (r s t : List ℕ) (a b c : List Print) (had mid left : Allowance)
     → Spends x y r s a b had mid → Spends y z s t b c mid left → Spends x z r t a c had left
 spends_then x y z r s t a b c had mid left p q = record {
   made = p.made + q.made;
@@ -203,7 +203,7 @@ place_of_turn turn made count p is made_is more room =
     }
 
 pub spends_turn : (P : Program) (turn : Turn) (made : ℕ) (from p : Place) (w next : World)
-    (before now after : List ℕ) (old mid new : List Line) (had left : Allowance) (text : ℕ) →
+    (before now after : List ℕ) (old mid new : List Print) (had left : Allowance) (text : ℕ) →
     Spends from p before now old mid had left → made ≡ steps_of turn → p.done < p.left → 0 < left.steps →
     IsAsking P w p.asked turn next now after → PrintsBy (steps_of turn) mid new left.text text →
     Spends from (after_turn p made) before after old new had (record { steps = left.steps - made; text = text })
@@ -235,7 +235,7 @@ place_ahead count n p is fits midst = record {
 }
 
 pub spends_ahead : (P : Program) (count most n : ℕ) (from p : Place) (w next : World) (before now after : List ℕ)
-    (old mid new : List Line) (had left : Allowance) (text : ℕ) → Spends from p before now old mid had left →
+    (old mid new : List Print) (had left : Allowance) (text : ℕ) → Spends from p before now old mid had left →
     p.done ≤ p.left → p.done ≤ p.asked → IsRunAhead P count w most n next now after →
     PrintsBy n mid new left.text text → n ≤ p.left → n ≤ left.steps → (0 < p.asked → n ≡ 0) →
     Spends from (after_rounds p n) before after old new had (record { steps = left.steps - n; text = text })
@@ -281,7 +281,7 @@ goes_to_next P count from p old now before after on all some first limit t =
 pub place_of_next : (count : ℕ) (p : Place) → IsPlace count (after_round p)
 place_of_next count p = record { within = omega arith; bounded = omega arith; few = omega arith }
 
-pub spends_to_next : (from p : Place) (before after : List ℕ) (old new : List Line) (had left : Allowance)
+pub spends_to_next : (from p : Place) (before after : List ℕ) (old new : List Print) (had left : Allowance)
     → Spends from p before after old new had left → Spends from (after_round p) before after old new had left
 spends_to_next from p before after old new had left s = record {
   made = s.made;
@@ -305,7 +305,7 @@ goes_round P count threads most n from p to old w mid new before now further aft
     goes_by_round P count from (after_rounds p n) to old mid new before further after ahead asks same within
 
 pub spends_round : (P : Program) (count threads most n : ℕ) (from p to : Place) (w mid : World)
-    (before now further after : List ℕ) (a b c d : List Line) (had left spent : Allowance) (text : ℕ) →
+    (before now further after : List ℕ) (a b c d : List Print) (had left spent : Allowance) (text : ℕ) →
     Spends from p before now a b had left → IsPlace count p → IsRunAhead P threads w most n mid now further →
     PrintsBy n b c left.text text → n ≤ p.left → n ≤ left.steps → (0 < p.asked → n ≡ 0) →
     Spends (after_rounds p n) to further after c d (record { steps = left.steps - n; text = text }) spent →
@@ -330,7 +330,7 @@ spent_of count true p a halted is = cc
 spent_of count false p a halted is = halted
 
 -- what was spent whole was as many steps, or as much text
-pub spent_whole : (from to : Place) (before after : List ℕ) (old new : List Line) (had left : Allowance)
+pub spent_whole : (from to : Place) (before after : List ℕ) (old new : List Print) (had left : Allowance)
     (s : Spends from to before after old new had left) → IsSpent left →
     (s.made ≡ had.steps) ⊎ (had.text ≤ text_length s.prints.lines)
 spent_whole from to before after old new had left s (inl steps) = inl (omega (arith, s.counted, steps))
@@ -383,7 +383,7 @@ is_slice steps bytes count over old new a s halted = record {
 
 -- ---- one thread alone
 
-whole_ahead : (P : Program) (w : World) (thread steps bytes made left : ℕ) (lines : List Line)
+whole_ahead : (P : Program) (w : World) (thread steps bytes made left : ℕ) (lines : List Print)
     → left ≡ bytes - text_length lines → HasRunOut P w thread steps made left
     → (made ≡ steps) ⊎ (bytes ≤ text_length lines) ⊎ (step P w thread ≡ None)
 whole_ahead P w thread steps bytes made left lines counted (inl all) = inl all

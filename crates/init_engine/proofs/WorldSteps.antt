@@ -6,7 +6,7 @@ use Rattle.std.proofs.lemmas.Option.{slice_get-map, get_or_from_slice_get}
 use Rattle.std.proofs.Math.Seq.{map-set_same}
 use Rattle.vm_state.proofs.ListLemmas.{item_at}
 use Rattle.vm_state.specs.SharedTables.{SharedTables}
-use Rattle.vm_state.specs.declared.text.Line.{Line}
+use Rattle.vm_state.specs.Output.{Print}
 use Rattle.vm_state.specs.SharedState.{SharedState}
 use Rattle.vm_state.specs.Shares.{shared_of}
 use Rattle.semantics.specs.Programs.{Program}
@@ -27,7 +27,7 @@ use Rattle.semantics.specs.Steps.{Thread as DefinedThread, Going as IsGoingOn}
 use Rattle.machine.specs.Effects.{going}
 use Rattle.init_engine.specs.Stacks.{with_thread}
 
-abbrev pub world_with : List Thread → SharedTables → List Line → World
+abbrev pub world_with : List Thread → SharedTables → List Print → World
 world_with threads shared printed = world_of (record { threads = threads; shared = shared; printed = printed })
 
 -- the world in which thread i is as in this view
@@ -141,7 +141,7 @@ map-seen_of (t ∷ ts) = ap (λ es. ending (thread_of t) ∷ es) (map-seen_of ts
 same_some : (a b : DefinedThread) → Some a ≡ Some b → a ≡ b
 same_some a b h = cc
 
-pub exchanged_world : (threads : List Thread) (shared : SharedTables) (printed : List Line) (t : ℕ) (old new : Thread)
+pub exchanged_world : (threads : List Thread) (shared : SharedTables) (printed : List Print) (t : ℕ) (old new : Thread)
     (given taken : Frames) → slice_get threads t ≡ Some old
     → ((fs : List Frame) (ls : List Level) → thread_of old ≡ IsGoingOn fs ls
     → (thread_of new ≡ going given) × (going taken ≡ IsGoingOn fs ls))

@@ -4,4 +4,4 @@ use Rattle.semantics.specs.Worlds.{Observation}
 use Rattle.init_engine.specs.declared.world.Seen.{Seen}
 
 abbrev pub IsObservation : Seen → Observation → Type 0
-IsObservation s observation = (s.printed.items ≡ observation.printed) × (s.threads.items ≡ observation.threads)
+IsObservation s observation = (s.printed ≡ observation.printed) × (s.threads.items ≡ observation.threads)

@@ -1,7 +1,7 @@
 -- Turns that go on by slices: where they stand between two of them, and what a slice promises.
 use Rattle.std.specs.Prelude.{◌≡◌, ℕ, ◌+◌, ◌-◌, ◌<◌, ◌≤◌, ◌^◌, ◌⊎◌, Bool, true, false, List, [], ◌∷◌, ◌++◌, length}
 use Rattle.std.specs.Prelude.{None, replicate, sum_by}
-use Rattle.vm_state.specs.declared.text.Line.{Line}
+use Rattle.vm_state.specs.Output.{Print}
 use Rattle.semantics.specs.Programs.{Program}
 use Rattle.semantics.specs.Worlds.{World, Run, step}
 use Rattle.courses.specs.steps.StepTables.{Kept, KeepsSteps}
@@ -42,18 +42,18 @@ pub record CanGoOn (P : Tables) (t : Midway) : Type 0 where
 -- ---- text
 
 -- how many bytes lines have
-abbrev pub text_length : List Line → ℕ
-text_length lines = sum_by (λ (line : Line). length line.text) lines
+abbrev pub text_length : List Print → ℕ
+text_length lines = sum_by (λ (line : Print). length line.text) lines
 
 -- the last of these lines, before which there were fewer than so many bytes
-pub record EndsAfter (bytes : ℕ) (lines : List Line) : Type 0 where
-  pub before : List Line
-  pub last : Line
+pub record EndsAfter (bytes : ℕ) (lines : List Print) : Type 0 where
+  pub before : List Print
+  pub last : Print
   pub are : lines ≡ before ++ last ∷ []
   pub fewer : text_length before < bytes
 
 -- there are no lines, or fewer than so many bytes before the last of them
-abbrev pub IsWithin : ℕ → List Line → Type 0
+abbrev pub IsWithin : ℕ → List Print → Type 0
 IsWithin bytes lines = (lines ≡ []) ⊎ EndsAfter bytes lines
 
 -- ---- a slice
@@ -62,7 +62,7 @@ IsWithin bytes lines = (lines ≡ []) ⊎ EndsAfter bytes lines
 -- turns are not over it made that many steps, or printed that many bytes.
 pub record IsSlice (steps bytes : ℕ) (over : Bool) (old new : Midway) : Type 0 where
   pub made : ℕ
-  pub printed : List Line
+  pub printed : List Print
   pub scheduled : length (schedule_of new.schedule) ≡ length (schedule_of old.schedule) + made
   pub fewer_to_go : to_go new + made ≡ to_go old
   pub few : made ≤ steps
@@ -78,7 +78,7 @@ pub record IsSlice (steps bytes : ℕ) (over : Bool) (old new : Midway) : Type 0
 pub record RunsAhead (P : Program) (thread steps bytes made : ℕ) (old new : Standing) : Type 0 where
   pub run : Run P (world_of old) (replicate made thread) (world_of new)
   pub few : made ≤ steps
-  pub printed : List Line
+  pub printed : List Print
   pub lines : new.printed ≡ old.printed ++ printed
   pub prompt : IsWithin bytes printed
   pub silent : made ≡ 0 → printed ≡ []

@@ -1,6 +1,6 @@
 -- Worlds as the definition has them, and what a turn of a thread answers.
 use Rattle.std.specs.Prelude.{◌≡◌, ◌⊎◌, ℕ, List, [], ◌∷◌, ◌++◌, map, Option, Some, None, slice_get}
-use Rattle.vm_state.specs.declared.text.Line.{Line}
+use Rattle.vm_state.specs.Output.{Print}
 use Rattle.vm_state.specs.Shares.{shared_of}
 use Rattle.semantics.specs.Programs.{Program}
 use Rattle.semantics.specs.Steps.{Thread as DefinedThread, Going as IsGoingOn, Ended as HasEnded}
@@ -31,7 +31,7 @@ IsTurn P w t Waiting new = Goes (slice_get w.threads t) × (step P w t ≡ None)
 IsTurn P w t Ended new = IsOver (slice_get w.threads t) × (step P w t ≡ None) × (new ≡ w)
 
 -- What a turn printed: a step prints one line at most.
-abbrev pub Prints : Turn → List Line → List Line → Type 0
-Prints Moved old new = (new ≡ old) ⊎ ((line : Line) × (new ≡ old ++ line ∷ []))
+abbrev pub Prints : Turn → List Print → List Print → Type 0
+Prints Moved old new = (new ≡ old) ⊎ ((line : Print) × (new ≡ old ++ line ∷ []))
 Prints Waiting old new = new ≡ old
 Prints Ended old new = new ≡ old

@@ -15,5 +15,5 @@ pub use fault::EntryFault;
 pub use stuck::Rest;
 pub use turning::{Turning, turns};
 pub use vm_state::ends::Ending;
-pub use vm_state::text::{Line, Text};
+pub use vm_state::output::Output;
 pub use world::{Seen, Turn, World};

@@ -2,7 +2,7 @@
 
 ghost use Rattle.std.specs.Prelude.{◌≡◌, ◌∷◌, List, IfOk, OnOk, OnErr, Some, None, IsSome};
 ghost use Rattle.vm_state.specs.declared.initialization.Level.{Level};
-ghost use Rattle.vm_state.specs.declared.text.Line.{Line};
+ghost use Rattle.vm_state.specs.Output.{Print};
 ghost use Rattle.vm_state.specs.Shares.{shared_of, SharesTheSame};
 ghost use Rattle.vm_state.specs.Stacks.{segment_of, levels_of};
 ghost use Rattle.vm_state.specs.declared.value.Maker.{Maker};
@@ -10,7 +10,7 @@ ghost use Rattle.semantics.specs.Rows.{run_row};
 ghost use Rattle.semantics.specs.Steps.{Going, standing, finishes, initializes, fails, step_thread};
 ghost use Rattle.machine.specs.Failures.{failure};
 ghost use Rattle.machine.specs.Linked.{program_of, initializer_frame};
-ghost use Rattle.init_engine.specs.steps.Progress.{HasBegun, HasRoomFor, PrintsNothing, Stands, Steps, StaysPut};
+ghost use Rattle.init_engine.specs.steps.Progress.{HasBegun, HasPrinted, PrintsNothing, Stands, Steps, StaysPut};
 ghost use Rattle.init_engine.specs.steps.Progress.{left_by_step};
 
 use machine::entering::initializer_frame;
@@ -21,8 +21,9 @@ use std::alloc::{AllocError, Global};
 use vm_state::classes::{ClassState, Usability};
 use vm_state::ends::End;
 use vm_state::initialization::{Frames, Initialization, Parents};
+use vm_state::output::Output;
 use vm_state::shared::Shared;
-use vm_state::text::{Line, Text};
+use vm_state::text::Text;
 use vm_state::value::Name;
 
 /// What a step of a thread did.
@@ -93,23 +94,23 @@ fn step_begin(
     Ok(Progress::Moved)
 }
 
-/// An instruction, or the begin that it needs, of a thread on top of whose stack a frame stands. Where it prints, the
-/// list of lines has room for one more.
+/// An instruction, or the begin that it needs, of a thread on top of whose stack a frame stands. What it prints comes
+/// behind what was printed before.
 #[tactic(auto, using(crate::proofs::FrameSteps::frame_steps))]
 fn step_frame(
     alloc: Global,
     program: &Program,
     frames: &mut Frames,
     shared: &mut Shared,
-    printed: &mut Vec<Line>,
+    printed: &mut Output,
 ) -> Result<Progress, AllocError>
     requires { IsSome frames.old.segment }
     ensures thread { frames.new.thread ≡ frames.old.thread }
     ensures steps { IfOk result (λ r. Steps (program_of program.now) frames.old shared.old r frames.new shared.new) }
     ensures stays { IfOk result (λ r. StaysPut r frames.old frames.new shared.old shared.new) }
     ensures err { OnErr result ((frames.new ≡ frames.old) × (SharesTheSame shared.old shared.new)) }
-    ensures printed { printed.new.items ≡ printed.old.items }
-    ensures room { IfOk result (λ r. HasRoomFor r printed.new) }
+    ensures printed { IfOk result (λ r. HasPrinted r frames.old.thread printed.old printed.new) }
+    ensures kept { OnErr result (printed.new ≡ printed.old) }
 {
     match effect(alloc, program, frames, shared, printed)? {
         Effect::Next | Effect::Raise => Ok(Progress::Moved),
@@ -133,7 +134,7 @@ fn finish(
     class: u32,
 ) -> Result<Progress, AllocError>
     ensures thread { frames.new.thread ≡ frames.old.thread }
-    ensures finishes { IfOk result (λ r. (l : Level) (ls : List Level) (p : List Line) → levels_of frames.old ≡ l ∷ ls
+    ensures finishes { IfOk result (λ r. (l : Level) (ls : List Level) (p : List Print) → levels_of frames.old ≡ l ∷ ls
         → left_by_step r frames.old.thread frames.new (shared_of shared.new p)
         ≡ Some (finishes (shared_of shared.old p) class l.under ls)) }
     ensures stays { IfOk result (λ r. StaysPut r frames.old frames.new shared.old shared.new) }
@@ -162,7 +163,7 @@ fn step_fail(
 ) -> Result<Progress, AllocError>
     requires { IsSome frames.old.levels }
     ensures thread { frames.new.thread ≡ frames.old.thread }
-    ensures fails { IfOk result (λ r. (l : Level) (ls : List Level) (p : List Line) → levels_of frames.old ≡ l ∷ ls
+    ensures fails { IfOk result (λ r. (l : Level) (ls : List Level) (p : List Print) → levels_of frames.old ≡ l ∷ ls
         → fails (program_of program.now) class l.under ls
         (run_row frames.old.thread (Maker.Class class) (shared_of shared.old p) (failure program.now cause))
         ≡ left_by_step r frames.old.thread frames.new (shared_of shared.new p)) }
@@ -189,7 +190,7 @@ fn initialize(
     requires levels { IsSome frames.old.levels }
     requires segment { frames.old.segment ≡ None }
     ensures thread { frames.new.thread ≡ frames.old.thread }
-    ensures initializes { IfOk result (λ r. (l : Level) (ls : List Level) (p : List Line) → levels_of frames.old
+    ensures initializes { IfOk result (λ r. (l : Level) (ls : List Level) (p : List Print) → levels_of frames.old
         ≡ l ∷ ls → l.initialization.class ≡ class → left_by_step r frames.old.thread frames.new (shared_of shared.new p)
         ≡ Some (initializes (shared_of shared.old p) l.initialization l.under ls
         (initializer_frame program.now class))) }
@@ -250,8 +251,8 @@ fn step_initialization(
     }
 }
 
-/// One step of a thread (JVMS 5.5). Where there is none nothing changes. Where it prints, the list of lines has room
-/// for one more.
+/// One step of a thread (JVMS 5.5). Where there is none nothing changes. What it prints comes behind what was printed
+/// before.
 ///
 /// # Errors
 /// `AllocError` where memory is refused; nothing has changed then.
@@ -261,14 +262,14 @@ pub fn step_thread(
     program: &Program,
     frames: &mut Frames,
     shared: &mut Shared,
-    printed: &mut Vec<Line>,
+    printed: &mut Output,
 ) -> Result<Progress, AllocError>
     ensures thread { frames.new.thread ≡ frames.old.thread }
     ensures steps { IfOk result (λ r. Steps (program_of program.now) frames.old shared.old r frames.new shared.new) }
     ensures stays { IfOk result (λ r. StaysPut r frames.old frames.new shared.old shared.new) }
     ensures err { OnErr result ((frames.new ≡ frames.old) × (SharesTheSame shared.old shared.new)) }
-    ensures printed { printed.new.items ≡ printed.old.items }
-    ensures room { IfOk result (λ r. HasRoomFor r printed.new) }
+    ensures printed { IfOk result (λ r. HasPrinted r frames.old.thread printed.old printed.new) }
+    ensures kept { OnErr result (printed.new ≡ printed.old) }
 {
     if frames.segment.is_some() {
         return step_frame(alloc, program, frames, shared, printed);

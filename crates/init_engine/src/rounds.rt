@@ -2,7 +2,7 @@
 
 ghost use Rattle.std.specs.Prelude.{◌≡◌, ◌+◌, ◌<◌, ◌≤◌, ◌≢◌, ◌^◌, length, replicate, slice_get, Some, IfOk, OnOk};
 ghost use Rattle.std.specs.Bool.{OnFalse, OnTrue};
-ghost use Rattle.vm_state.specs.declared.text.Line.{Line};
+ghost use Rattle.vm_state.specs.Output.{Print};
 ghost use Rattle.semantics.specs.Worlds.{Run};
 ghost use Rattle.machine.specs.Linked.{program_of};
 ghost use Rattle.courses.specs.steps.StepTables.{KeepsSteps};
@@ -18,7 +18,7 @@ use crate::world::{Turn, World};
 use courses::step_table::StepTable;
 use program::Program;
 use std::alloc::{AllocError, Global};
-use vm_state::text::Line;
+use vm_state::output::Output;
 
 /// Where rounds stand.
 #[derive(Clone, Copy)]
@@ -82,16 +82,15 @@ impl Allowance {
     }
 }
 
-/// How many bytes the line of a number has, if there is one.
-fn text_at(lines: &[Line], number: usize) -> u64
-    ensures none { length lines.now ≤ number → result ≡ 0 }
-    ensures some { (line : Line) → slice_get lines.now number ≡ Some line → result ≡ length line.text }
+/// How many bytes the print of a number has, if there is one.
+fn text_at(printed: &Output, number: usize) -> u64
+    ensures none { length printed.now ≤ number → result ≡ 0 }
+    ensures some { (print : Print) → slice_get printed.now number ≡ Some print → result ≡ length print.text }
 {
-    if lines.len() <= number {
-        return 0;
+    match printed.print(number) {
+        Some((_, text)) => text.len() as u64,
+        None => 0,
     }
-    let line = &lines[number];
-    line.text.as_bytes().len() as u64
 }
 
 /// One step of a thread, where it has one, and what it printed taken from so many bytes.
@@ -111,9 +110,9 @@ fn step(
         text.new) }
     ensures threads { length world.new.threads ≡ length world.old.threads }
 {
-    let lines = world.printed().len();
+    let prints = world.printed().count();
     let turn = world.step(alloc, program, thread)?;
-    *text = text.saturating_sub(text_at(world.printed(), lines));
+    *text = text.saturating_sub(text_at(world.printed(), prints));
     Ok(turn)
 }
 

@@ -1,7 +1,7 @@
 //! Whether a world goes on: a thread has a step, none has, or all have ended.
 
 ghost use Rattle.std.specs.Prelude.{◌≡◌, ◌↔◌, ℕ, List, IsTrue, not, is_some};
-ghost use Rattle.vm_state.specs.declared.text.Line.{Line};
+ghost use Rattle.vm_state.specs.Output.{Print};
 ghost use Rattle.vm_state.specs.Shares.{shared_of};
 ghost use Rattle.vm_state.specs.Stacks.{first_of};
 ghost use Rattle.semantics.specs.Steps.{step_thread};
@@ -34,7 +34,7 @@ pub enum Rest {
 
 /// Whether the highest initialization of a thread has no step: another thread initializes its next parent.
 fn initialization_waits(thread: u32, level: &Level, shared: &Shared) -> bool
-    ensures { (p : List Line) → result ≡ waits_for thread (shared_of shared.now p) level.now.initialization.pending
+    ensures { (p : List Print) → result ≡ waits_for thread (shared_of shared.now p) level.now.initialization.pending
         (first_of level.now.initialization.left) }
 {
     if level.initialization.pending.is_some() {
@@ -52,7 +52,7 @@ fn initialization_waits(thread: u32, level: &Level, shared: &Shared) -> bool
 /// Whether a thread that stands so has no step.
 #[tactic(auto, unfolding(semantics::specs::Steps::step_thread))]
 fn has_no_step(program: &Program, frames: &Frames, shared: &Shared) -> bool
-    ensures { (p : List Line) → result ≡ not (is_some
+    ensures { (p : List Print) → result ≡ not (is_some
         (step_thread (program_of program.now) frames.now.thread (shared_of shared.now p) (going frames.now))) }
 {
     match (&frames.segment, &frames.levels) {
@@ -65,7 +65,7 @@ fn has_no_step(program: &Program, frames: &Frames, shared: &Shared) -> bool
 /// Whether a thread has ended, or has no step, or has one.
 #[tactic(auto, unfolding(semantics::specs::Steps::step_thread))]
 fn thread_rest(program: &Program, thread: &Thread, shared: &Shared) -> Rest
-    ensures { (t : ℕ) (p : List Line) → HasNumber thread.now t
+    ensures { (t : ℕ) (p : List Print) → HasNumber thread.now t
         → IsThreadRest (program_of program.now) t (view_of thread.now shared.now p) result }
 {
     match thread {
@@ -94,7 +94,7 @@ fn joined(before: Rest, here: Rest) -> Rest
 /// Whether some threads go on, over what they share.
 fn rest_of(program: &Program, threads: &[Thread], shared: &Shared) -> Rest
     requires { AreNumbered threads.now }
-    ensures { (p : List Line) → IsRest (program_of program.now)
+    ensures { (p : List Print) → IsRest (program_of program.now)
         (world_of (record { threads = threads.now; shared = shared.now; printed = p })) result }
 {
     let mut rest = Rest::Ended;

@@ -17,7 +17,7 @@ use courses::step_table::StepTable;
 use program::Program;
 use std::alloc::{AllocError, Global};
 use std::marker::Model;
-use vm_state::text::Line;
+use vm_state::output::Output;
 
 /// Turns of a world that go on by slices, so that what was printed can be sent in between. A contract sees where they
 /// stand.
@@ -110,7 +110,7 @@ impl Turning {
     }
 
     /// What was printed so far, in order.
-    pub fn printed(&self) -> &[Line]
+    pub fn printed(&self) -> &Output
         ensures { result.now ≡ self.now.world.printed }
     {
         self.world.printed()

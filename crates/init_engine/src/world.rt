@@ -2,7 +2,7 @@
 
 ghost use Rattle.std.specs.Prelude.{◌≡◌, ◌<◌, ◌≤◌, replicate, ◌∷◌, [], ℕ, List, length, map, slice_get};
 ghost use Rattle.std.specs.Prelude.{IfOk, OnOk, OnErr, Some, None};
-ghost use Rattle.vm_state.specs.declared.text.Line.{Line};
+ghost use Rattle.vm_state.specs.Output.{Print};
 ghost use Rattle.vm_state.specs.Shares.{shared_of, SharesTheSame};
 ghost use Rattle.semantics.specs.Steps.{Going, step_thread};
 ghost use Rattle.semantics.specs.Worlds.{Run, seen};
@@ -29,8 +29,8 @@ use std::mem;
 use vm_state::ends::{End, Ending};
 use vm_state::frame::{Frame, FrameList, Segment};
 use vm_state::initialization::Frames;
+use vm_state::output::Output;
 use vm_state::shared::Shared;
-use vm_state::text::{Line, Text};
 
 /// A thread with its stack, or how it ended.
 #[derive(Drop)]
@@ -87,31 +87,24 @@ fn take_turn(
     number: u32,
     thread: &mut Thread,
     shared: &mut Shared,
-    printed: &mut Vec<Line>,
+    printed: &mut Output,
 ) -> Result<Turn, AllocError>
     requires number { HasNumber thread.old number }
     ensures number { HasNumber thread.new number }
     ensures turn { IfOk result
-        (λ turn. IsTurnOf (program_of program.now) number turn (view_of thread.old shared.old printed.old.items)
-        (view_of thread.new shared.new printed.new.items)) }
+        (λ turn. IsTurnOf (program_of program.now) number turn (view_of thread.old shared.old printed.old)
+        (view_of thread.new shared.new printed.new)) }
     ensures thread { OnErr result (thread_of thread.new ≡ thread_of thread.old) }
     ensures shared { OnErr result (SharesTheSame shared.old shared.new) }
-    ensures printed { OnErr result (printed.new.items ≡ printed.old.items) }
-    ensures prints { IfOk result (λ turn. Prints turn printed.old.items printed.new.items) }
+    ensures printed { OnErr result (printed.new ≡ printed.old) }
+    ensures prints { IfOk result (λ turn. Prints turn printed.old printed.new) }
 {
     let Thread::Going(frames) = thread else {
         return Ok(Turn::Ended);
     };
     match step_thread(alloc, program, frames, shared, printed)? {
         Progress::Moved => Ok(Turn::Moved),
-        Progress::Printed(text) => {
-            let line = Line {
-                thread: number,
-                text,
-            };
-            printed.push_reserved(line);
-            Ok(Turn::Moved)
-        }
+        Progress::Printed(_) => Ok(Turn::Moved),
         Progress::Ended(end) => {
             *thread = Thread::Ended(end);
             Ok(Turn::Moved)
@@ -125,7 +118,7 @@ fn take_turn(
 pub struct World {
     threads: Vec<Thread>,
     shared: Shared,
-    printed: Vec<Line>,
+    printed: Output,
 }
 
 impl Model for World {
@@ -135,7 +128,7 @@ impl Model for World {
 
     ghost Value = { Standing };
 
-    ghost view = { λ w. record { threads = w.threads.items; shared = w.shared; printed = w.printed.items } };
+    ghost view = { λ w. record { threads = w.threads.items; shared = w.shared; printed = w.printed } };
 
     // Each thread's stack has the thread's number, and there are at most 64.
     ghost invariant = { λ w. AreNumbered w.threads.items × (length w.threads.items ≤ 64) };
@@ -156,7 +149,7 @@ impl Drop for World {
 #[derive(Drop)]
 pub struct Seen {
     /// What was printed, in order.
-    pub printed: Vec<Line>,
+    pub printed: Output,
     /// How far each thread has come, by its number.
     pub threads: Vec<Ending>,
 }
@@ -186,7 +179,7 @@ fn exchange_in(thread: &mut Thread, frames: &mut Frames)
 }
 
 impl World {
-    /// What the world has shown. Its lines are handed over.
+    /// What the world has shown. What it printed is handed over.
     ///
     /// # Errors
     /// `AllocError` where memory is refused.
@@ -222,28 +215,30 @@ impl World {
         World {
             threads,
             shared,
-            printed: Vec::new(alloc),
+            printed: Output::new(alloc),
         }
     }
 
-    pub(crate) fn threads(&self) -> &[Thread]
+    /// The threads with their stacks, by their numbers.
+    pub fn threads(&self) -> &[Thread]
         ensures value { result.now ≡ self.now.threads }
         ensures numbered { AreNumbered result.now }
     {
         self.threads.as_slice()
     }
 
-    pub(crate) fn shared(&self) -> &Shared
+    /// What the threads share.
+    pub fn shared(&self) -> &Shared
         ensures { result.now ≡ self.now.shared }
     {
         &self.shared
     }
 
     /// What was printed, in order.
-    pub fn printed(&self) -> &[Line]
+    pub fn printed(&self) -> &Output
         ensures { result.now ≡ self.now.printed }
     {
-        self.printed.as_slice()
+        &self.printed
     }
 
     /// Exchanges the frames of a thread that has not ended for these.

@@ -2,7 +2,7 @@
 use Rattle.std.proofs.Common.{◌≡◌, ℕ, Bool, false, List, Ok, Err, refl, ap, ◌∙◌}
 use Rattle.std.specs.declared.result.Result.{Result}
 use Rattle.vm_state.specs.declared.frame.Frame.{Frame}
-use Rattle.vm_state.specs.declared.text.Line.{Line}
+use Rattle.vm_state.specs.Output.{Print}
 use Rattle.machine.specs.declared.kinds.Stop.{Stop}
 use Rattle.machine.specs.declared.kinds.Stop.TheVariants.{Needs, Waits, ForeignObject, Barred, OverBudget, Memory}
 use Rattle.machine.specs.declared.kinds.Conclusion.{Conclusion}
@@ -12,7 +12,7 @@ use Rattle.built_in.specs.declared.class_id.BuiltIn.TheVariants.{NoClassDefFound
 use Rattle.machine.specs.RowParts.{raises, if_usable}
 use Rattle.machine.specs.Accesses.{Kept, KeptBy, Untouched, Gives, Leads, unless_refused}
 
-module _ {S T : Type 0} (state : S → List Line → T) where
+module _ {S T : Type 0} (state : S → List Print → T) where
   -- a store that nothing was done to
   pub kept_same : (stop : Stop) (s : S) → Kept state stop s s
   kept_same Memory s = λ p. refl
@@ -23,7 +23,7 @@ module _ {S T : Type 0} (state : S → List Line → T) where
   kept_same OverBudget s = refl
 
   -- whatever stopped it, the state is as it was
-  pub kept_state : (stop : Stop) (old new : S) → Kept state stop old new → (p : List Line) → state new p ≡ state old p
+  pub kept_state : (stop : Stop) (old new : S) → Kept state stop old new → (p : List Print) → state new p ≡ state old p
   kept_state Memory old new kept p = kept p
   kept_state (Needs c) old new kept p = ap (λ s. state s p) kept
   kept_state Waits old new kept p = ap (λ s. state s p) kept

@@ -1,6 +1,6 @@
 -- What rows lead to in the store of all threads.
 use Rattle.std.specs.Prelude.{◌≡◌, ℕ, List}
-use Rattle.vm_state.specs.declared.text.Line.{Line}
+use Rattle.vm_state.specs.Output.{Print}
 use Rattle.vm_state.specs.SharedTables.{SharedTables}
 use Rattle.vm_state.specs.declared.classes.Usability.TheVariants.{Ready}
 use Rattle.vm_state.specs.Statics.{usable}
@@ -19,4 +19,4 @@ stopped_shared (Needs c) = NeedsClass c
 stopped_shared stop = WaitsFor
 
 abbrev pub CanUseShared : Actor → SharedTables → ℕ → Type 0
-CanUseShared by s c = (p : List Line) → usable by.thread ((shared_of s p).states c) ≡ Ready
+CanUseShared by s c = (p : List Print) → usable by.thread ((shared_of s p).states c) ≡ Ready

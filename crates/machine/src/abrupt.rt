@@ -2,7 +2,7 @@
 
 ghost use Rattle.std.specs.Prelude.{◌≡◌, List};
 ghost use Rattle.vm_state.specs.declared.frame.Frame.{Frame};
-ghost use Rattle.vm_state.specs.declared.text.Line.{Line};
+ghost use Rattle.vm_state.specs.Output.{Print};
 ghost use Rattle.semantics.specs.Rows.{Row};
 ghost use Rattle.machine.specs.Accesses.{Gives, KeptBy, Untouched};
 ghost use Rattle.machine.specs.steps.ArrayAccesses.{EndsSo};
@@ -64,7 +64,7 @@ pub fn end_early<S: Store>(
     store: &mut S,
     abrupt: Abrupt,
 ) -> Result<Conclusion, Stop>
-    ensures gives { (p : List Line) (row : Row) (f : Frame)
+    ensures gives { (p : List Print) (row : Row) (f : Frame)
         → EndsSo S.stopped (S.run by (S.state store.old p)) row abrupt
         → Gives S.stopped (S.run by (S.state store.old p)) (S.run by (S.state store.new p)) row f result }
     ensures same { KeptBy S.state result store.old store.new }

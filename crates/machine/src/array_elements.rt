@@ -1,7 +1,7 @@
 //! Loads and stores of elements of arrays (JVMS 6.5), over any store.
 
 ghost use Rattle.std.specs.Prelude.{◌≡◌, List};
-ghost use Rattle.vm_state.specs.declared.text.Line.{Line};
+ghost use Rattle.vm_state.specs.Output.{Print};
 ghost use Rattle.machine.specs.Accesses.{Gives, Keeps};
 ghost use Rattle.machine.specs.Arrays.{is_checked, check_store, load_element, store_element};
 ghost use Rattle.machine.specs.steps.ArrayAccesses.{Finds, PassesOn, reach_loaded, reach_stored};
@@ -41,7 +41,7 @@ pub fn loaded<S: Store>(
     store: &S,
     kind: ElementKind,
 ) -> Result<Value, Abrupt>
-    ensures { (p : List Line) → Finds S.stopped (S.run by (S.state store.now p)) (reach_loaded kind frame.now)
+    ensures { (p : List Print) → Finds S.stopped (S.run by (S.state store.now p)) (reach_loaded kind frame.now)
         result }
 {
     let index = frame.operands.top_int()?;
@@ -65,7 +65,7 @@ pub fn load_element<S: Store>(
     store: &mut S,
     kind: ElementKind,
 ) -> Result<Conclusion, Stop>
-    ensures gives { (p : List Line) → Gives S.stopped (S.run by (S.state store.old p)) (S.run by (S.state store.new p))
+    ensures gives { (p : List Print) → Gives S.stopped (S.run by (S.state store.old p)) (S.run by (S.state store.new p))
         (load_element kind frame.old) frame.new result }
     ensures kept { Keeps S.state result store.old store.new frame.old frame.new }
 {
@@ -92,7 +92,7 @@ pub fn check_store<S: Store>(
     array: ArrayType,
     value: Value,
 ) -> Result<(), Abrupt>
-    ensures { (p : List Line) → PassesOn S.stopped (S.run by (S.state store.now p))
+    ensures { (p : List Print) → PassesOn S.stopped (S.run by (S.state store.now p))
         (check_store program.now array value) result }
 {
     if !is_checked(value) {
@@ -119,7 +119,7 @@ pub fn stored<S: Store>(
     store: &S,
     kind: ElementKind,
 ) -> Result<Assignment, Abrupt>
-    ensures { (p : List Line) → Finds S.stopped (S.run by (S.state store.now p))
+    ensures { (p : List Print) → Finds S.stopped (S.run by (S.state store.now p))
         (reach_stored program.now kind frame.now) result }
 {
     let value = top_stored(&frame.operands, stored_as(kind))?;
@@ -143,7 +143,7 @@ pub fn store_element<S: Store>(
     store: &mut S,
     kind: ElementKind,
 ) -> Result<Conclusion, Stop>
-    ensures gives { (p : List Line) → Gives S.stopped (S.run by (S.state store.old p)) (S.run by (S.state store.new p))
+    ensures gives { (p : List Print) → Gives S.stopped (S.run by (S.state store.old p)) (S.run by (S.state store.new p))
         (store_element program.now kind frame.old) frame.new result }
     ensures kept { Keeps S.state result store.old store.new frame.old frame.new }
 {

@@ -1,7 +1,7 @@
 //! What instructions check of a reference to an array, and what they find there, over any store (JVMS 6.5).
 
 ghost use Rattle.std.specs.Prelude.{◌≡◌, List, Some, None, IfOk, OnErr};
-ghost use Rattle.vm_state.specs.declared.text.Line.{Line};
+ghost use Rattle.vm_state.specs.Output.{Print};
 ghost use Rattle.vm_state.specs.Operands.{rest};
 ghost use Rattle.frame_instructions.specs.OperandKinds.{top_as};
 ghost use Rattle.vm_state.specs.declared.value.Name.{Name as ObjectName};
@@ -72,7 +72,7 @@ pub fn slot_at(index: i32, length: Option<i32>) -> Result<usize, Trap>
 
 /// The object that a reference is to which has to be an array's, with its class.
 fn array_at<S: Store>(by: Actor, store: &S, array: Value) -> Result<(Name, Option<ClassId>), Abrupt>
-    ensures { (p : List Line) → Finds S.stopped (S.run by (S.state store.now p)) (reach_array array) result }
+    ensures { (p : List Print) → Finds S.stopped (S.run by (S.state store.now p)) (reach_array array) result }
 {
     let name = object_of(array)?;
     let class = store.class_of(by, name)?;
@@ -90,7 +90,7 @@ pub fn element_at<S: Store>(
     array: Value,
     index: i32,
 ) -> Result<Element, Abrupt>
-    ensures { (p : List Line) → Finds S.stopped (S.run by (S.state store.now p)) (reach_element kind array index)
+    ensures { (p : List Print) → Finds S.stopped (S.run by (S.state store.now p)) (reach_element kind array index)
         result }
 {
     let (name, class) = array_at(by, store, array)?;
@@ -105,7 +105,7 @@ pub fn element_at<S: Store>(
 /// # Errors
 /// What ends the instruction.
 pub fn length_of_top<S: Store>(by: Actor, frame: &Frame, store: &S) -> Result<i32, Abrupt>
-    ensures { (p : List Line) → Finds S.stopped (S.run by (S.state store.now p)) (reach_length frame.now) result }
+    ensures { (p : List Print) → Finds S.stopped (S.run by (S.state store.now p)) (reach_length frame.now) result }
 {
     let array = top_as(&frame.operands, OperandKind::Reference)?;
     let (name, class) = array_at(by, store, array)?;

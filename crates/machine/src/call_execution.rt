@@ -1,7 +1,7 @@
 //! The instructions that call methods, over any store.
 
 ghost use Rattle.std.specs.Prelude.{List};
-ghost use Rattle.vm_state.specs.declared.text.Line.{Line};
+ghost use Rattle.vm_state.specs.Output.{Print};
 ghost use Rattle.machine.specs.Table.{call_row};
 ghost use Rattle.machine.specs.Accesses.{Gives, Keeps};
 
@@ -29,7 +29,7 @@ pub fn execute_call<S: Store>(
     store: &mut S,
     operation: CallOperation,
 ) -> Result<Conclusion, Stop>
-    ensures gives { (p : List Line) → Gives S.stopped (S.run by (S.state store.old p)) (S.run by (S.state store.new p))
+    ensures gives { (p : List Print) → Gives S.stopped (S.run by (S.state store.old p)) (S.run by (S.state store.new p))
         (call_row program.now operation frame.old) frame.new result }
     ensures kept { Keeps S.state result store.old store.new frame.old frame.new }
 {

@@ -1,9 +1,8 @@
 //! One instruction of a thread.
 
-ghost use Rattle.std.specs.Prelude.{◌≡◌, ◌<◌, ◌∷◌, ℕ, List, IfOk, OnOk, OnErr, IsSome, Some, None, Ok};
-ghost use Rattle.std.specs.Prelude.{vec_len, vec_capacity};
+ghost use Rattle.std.specs.Prelude.{◌≡◌, ◌∷◌, ◌++◌, [], ℕ, List, IfOk, OnOk, OnErr, IsSome, Some, None, Ok};
 ghost use Rattle.vm_state.specs.declared.frame.Frame.{Frame};
-ghost use Rattle.vm_state.specs.declared.text.Line.{Line};
+ghost use Rattle.vm_state.specs.Output.{Print};
 ghost use Rattle.vm_state.specs.Shares.{shared_of, SharesTheSame};
 ghost use Rattle.vm_state.specs.Stacks.{levels_of};
 ghost use Rattle.program.specs.Tables.{Tables};
@@ -20,7 +19,7 @@ ghost use Rattle.machine.specs.Accesses.{Kept, KeptBy, Untouched, concluded, unl
 ghost use Rattle.vm_state.specs.declared.initialization.Frames.{Frames};
 ghost use Rattle.vm_state.specs.declared.initialization.Level.{Level};
 ghost use Rattle.machine.specs.Sharing.{stopped_shared};
-ghost use Rattle.machine.specs.Effects.{HasRoom, IsEmpty, IsStep, IsStopped, IsEffect, PrintsNothing, Stays};
+ghost use Rattle.machine.specs.Effects.{HasPrinted, IsEmpty, IsStep, IsStopped, IsEffect, PrintsNothing, Stays};
 
 use crate::execute::execute;
 use crate::kinds::{Actor, Conclusion, Effect, Stop};
@@ -32,8 +31,9 @@ use std::alloc::{AllocError, Global};
 use vm_state::ends::{End, FaultKind};
 use vm_state::frame::{Frame, FrameList, Segment};
 use vm_state::initialization::Frames;
+use vm_state::output::Output;
 use vm_state::shared::Shared;
-use vm_state::text::{Line, Text};
+use vm_state::text::Text;
 use vm_state::value::{Fault, Maker, Name, Value};
 
 /// Who executes the instructions of a thread. Its objects are counted by the class of its highest initialization, or by
@@ -195,18 +195,18 @@ fn call(
     }
 }
 
-/// A print: the frame goes on at the next instruction without so many operands, and the list of lines has room for one
-/// more.
+/// A print: the frame goes on at the next instruction without so many operands, and the text comes behind what was
+/// printed before.
 ///
 /// # Errors
-/// `AllocError` where memory is refused: then the stack is as it was.
+/// `AllocError` where memory is refused: then the stack is as it was, and so is what was printed.
 fn print(
     frames: &mut Frames,
     frame: Frame,
     callers: FrameList,
     text: Text,
     operands: usize,
-    printed: &mut Vec<Line>,
+    printed: &mut Output,
 ) -> Result<Effect, AllocError>
     ensures ok { OnOk result
         (frames.new ≡ record frames.old {
@@ -216,13 +216,14 @@ fn print(
           });
         }) }
     ensures text { IfOk result (λ e. e ≡ Effect.Print text) }
-    ensures room { OnOk result (vec_len printed.new < vec_capacity printed.new) }
-    ensures printed { printed.new.items ≡ printed.old.items }
+    ensures printed { OnOk result
+        (printed.new ≡ printed.old ++ record { thread = frames.old.thread; text = text } ∷ []) }
+    ensures kept { OnErr result (printed.new ≡ printed.old) }
     ensures err { OnErr result
         (frames.new ≡ record frames.old { segment = Some (record { innermost = frame; callers = callers }) }) }
 {
     let mut frame = frame;
-    match printed.reserve(1) {
+    match printed.add(frames.thread, text.as_bytes()) {
         Ok(()) => {
             frame.operands.drop_many(operands);
             advance(&mut frame);
@@ -237,17 +238,17 @@ fn print(
 }
 
 /// What the conclusion of an instruction makes of its thread, of whose stack its frame and the callers were taken.
-/// Where it prints, the list of lines has room for one more.
+/// What it prints comes behind what was printed before.
 ///
 /// # Errors
-/// `AllocError` where memory is refused to a call or a print: then the stack is as it was.
+/// `AllocError` where memory is refused to a call or a print: then the stack is as it was, and so is what was printed.
 fn conclude(
     program: &Program,
     frames: &mut Frames,
     frame: Frame,
     callers: FrameList,
     conclusion: Conclusion,
-    printed: &mut Vec<Line>,
+    printed: &mut Output,
 ) -> Result<Effect, AllocError>
     ensures step { IfOk result
         (λ e. (maker : Maker) (f : Frame) (before after : SharedState) → f.activity ≡ frame.activity
@@ -260,8 +261,8 @@ fn conclude(
     ensures err { OnErr result (((f : Frame) → Untouched (Ok conclusion) f frame → frames.new
         ≡ record frames.old { segment = Some (record { innermost = f; callers = callers }) })
         × ((old new : SharedTables) → KeptBy shared_of (Ok conclusion) old new → SharesTheSame old new)) }
-    ensures room { IfOk result (λ e. HasRoom e printed.new) }
-    ensures printed { printed.new.items ≡ printed.old.items }
+    ensures printed { IfOk result (λ e. HasPrinted e frames.old.thread printed.old printed.new) }
+    ensures kept { OnErr result (printed.new ≡ printed.old) }
 {
     match conclusion {
         Conclusion::Stays => {
@@ -302,24 +303,24 @@ fn stopped(stop: Stop) -> Result<Effect, AllocError>
     }
 }
 
-/// One instruction of a thread, on top of whose stack a frame stands. Where it prints, the list of lines has room for
-/// one more. Where it ends the thread nothing is left of the stack. Where memory is refused nothing changes.
+/// One instruction of a thread, on top of whose stack a frame stands. What it prints comes behind what was printed
+/// before. Where it ends the thread nothing is left of the stack. Where memory is refused nothing changes.
 ///
 /// # Errors
-/// `AllocError` where memory is refused: then the thread's stack is as it was, and so is what definitions see of
-/// what threads share.
+/// `AllocError` where memory is refused: then the thread's stack is as it was, and so is what was printed, and what
+/// definitions see of what threads share.
 pub fn effect(
     alloc: Global,
     program: &Program,
     frames: &mut Frames,
     shared: &mut Shared,
-    printed: &mut Vec<Line>,
+    printed: &mut Output,
 ) -> Result<Effect, AllocError>
     requires { IsSome frames.old.segment }
 
     // What it answers and leaves is what the row of the table gives.
     ensures gives { IfOk result
-        (λ e. (p : List Line) → IsEffect program.now frames.old (shared_of shared.old p) e frames.new
+        (λ e. (p : List Print) → IsEffect program.now frames.old (shared_of shared.old p) e frames.new
         (shared_of shared.new p)) }
 
     ensures thread { frames.new.thread ≡ frames.old.thread }
@@ -329,9 +330,9 @@ pub fn effect(
     ensures stays { IfOk result (λ e. (Stays e frames.old frames.new) × (Stays e shared.old shared.new)) }
     ensures err { OnErr result ((frames.new ≡ frames.old) × (SharesTheSame shared.old shared.new)) }
 
-    // The lines are as they were; where it printed, there is room for its line.
-    ensures printed { printed.new.items ≡ printed.old.items }
-    ensures room { IfOk result (λ e. HasRoom e printed.new) }
+    // What it printed comes behind what was printed before.
+    ensures printed { IfOk result (λ e. HasPrinted e frames.old.thread printed.old printed.new) }
+    ensures kept { OnErr result (printed.new ≡ printed.old) }
 {
     let by = actor_of(frames);
     let Some(segment) = frames.segment.take() else {

@@ -3,7 +3,7 @@
 
 ghost use Rattle.std.specs.Prelude.{◌≡◌, List, OnErr};
 ghost use Rattle.vm_state.specs.declared.frame.Frame.{Frame};
-ghost use Rattle.vm_state.specs.declared.text.Line.{Line};
+ghost use Rattle.vm_state.specs.Output.{Print};
 ghost use Rattle.frame_instructions.specs.Completion.{completed};
 ghost use Rattle.machine.specs.Operations.{meaning, operation_at};
 ghost use Rattle.machine.specs.Table.{local_row, operation_row, fetched, row};
@@ -36,7 +36,7 @@ fn end<S: Store>(
     store: &mut S,
     went: Result<(), Trap>,
 ) -> Result<Conclusion, Stop>
-    ensures gives { (p : List Line) → Gives S.stopped (S.run by (S.state store.old p)) (S.run by (S.state store.new p))
+    ensures gives { (p : List Print) → Gives S.stopped (S.run by (S.state store.old p)) (S.run by (S.state store.new p))
         (local_row (completed went frame.now)) frame.now result }
     ensures same { KeptBy S.state result store.old store.new }
     ensures trapped { (old : Frame) → OnErr went (frame.now ≡ old) → Untouched result old frame.now }
@@ -58,7 +58,7 @@ fn execute_resolved<S: Store>(
     store: &mut S,
     resolved: Resolved,
 ) -> Result<Conclusion, Stop>
-    ensures gives { (p : List Line) → Gives S.stopped (S.run by (S.state store.old p)) (S.run by (S.state store.new p))
+    ensures gives { (p : List Print) → Gives S.stopped (S.run by (S.state store.old p)) (S.run by (S.state store.new p))
         (operation_row program.now (meaning resolved) frame.old) frame.new result }
     ensures kept { Keeps S.state result store.old store.new frame.old frame.new }
 {
@@ -92,7 +92,7 @@ fn execute_next<S: Store>(
     class: u32,
     method: u16,
 ) -> Result<Conclusion, Stop>
-    ensures gives { (p : List Line) → Gives S.stopped (S.run by (S.state store.old p)) (S.run by (S.state store.new p))
+    ensures gives { (p : List Print) → Gives S.stopped (S.run by (S.state store.old p)) (S.run by (S.state store.new p))
         (fetched program.now (operation_at program.now class method frame.old.place) frame.old) frame.new result }
     ensures kept { Keeps S.state result store.old store.new frame.old frame.new }
 {
@@ -121,7 +121,7 @@ pub fn execute<S: Store>(
     frame: &mut Frame,
     store: &mut S,
 ) -> Result<Conclusion, Stop>
-    ensures gives { (p : List Line) → Gives S.stopped (S.run by (S.state store.old p)) (S.run by (S.state store.new p))
+    ensures gives { (p : List Print) → Gives S.stopped (S.run by (S.state store.old p)) (S.run by (S.state store.new p))
         (row program.now frame.old) frame.new result }
     ensures kept { Keeps S.state result store.old store.new frame.old frame.new }
 {

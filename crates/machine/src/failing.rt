@@ -2,7 +2,7 @@
 
 ghost use Rattle.std.specs.Prelude.{◌≡◌, ◌∷◌, ℕ, List, IfOk, OnErr, IsSome, Some, None};
 ghost use Rattle.vm_state.specs.declared.initialization.Level.{Level};
-ghost use Rattle.vm_state.specs.declared.text.Line.{Line};
+ghost use Rattle.vm_state.specs.Output.{Print};
 ghost use Rattle.vm_state.specs.declared.value.Maker.TheVariants.{Class as ByClass};
 ghost use Rattle.vm_state.specs.Shares.{shared_of, SharesTheSame};
 ghost use Rattle.vm_state.specs.Stacks.{segment_of, levels_of};
@@ -34,7 +34,7 @@ fn make_exception(
     shared: &mut Shared,
     class: BuiltIn,
 ) -> Result<(Name, ClassId), AllocError>
-    ensures row { IfOk result (λ r. (t : ℕ) (p : List Line)
+    ensures row { IfOk result (λ r. (t : ℕ) (p : List Print)
         → run_row t maker (shared_of shared.old p) (raises class) ≡ Moved (Raise r.0 r.1) (shared_of shared.new p)) }
     ensures classes { shared.new.classes ≡ shared.old.classes }
     ensures err { OnErr result (SharesTheSame shared.old shared.new) }
@@ -55,7 +55,7 @@ fn raised_by(
     shared: &mut Shared,
     exception: Name,
 ) -> Result<Option<(Name, ClassId)>, AllocError>
-    ensures row { IfOk result (λ r. (t : ℕ) (p : List Line)
+    ensures row { IfOk result (λ r. (t : ℕ) (p : List Print)
         → run_row t maker (shared_of shared.old p) (failing program.now exception)
         ≡ Moved (raised r) (shared_of shared.new p)) }
     ensures classes { shared.new.classes ≡ shared.old.classes }
@@ -82,7 +82,7 @@ fn raised(
     shared: &mut Shared,
     cause: Option<Name>,
 ) -> Result<Option<(Name, ClassId)>, AllocError>
-    ensures row { IfOk result (λ r. (t : ℕ) (p : List Line)
+    ensures row { IfOk result (λ r. (t : ℕ) (p : List Print)
         → run_row t maker (shared_of shared.old p) (failure program.now cause)
         ≡ Moved (raised r) (shared_of shared.new p)) }
     ensures classes { shared.new.classes ≡ shared.old.classes }
@@ -147,7 +147,7 @@ pub fn fail(
     cause: Option<Name>,
 ) -> Result<Option<End>, AllocError>
     requires { IsSome frames.old.levels }
-    ensures fails { IfOk result (λ e. (l : Level) (ls : List Level) (p : List Line) → levels_of frames.old ≡ l ∷ ls
+    ensures fails { IfOk result (λ e. (l : Level) (ls : List Level) (p : List Print) → levels_of frames.old ≡ l ∷ ls
         → fails (program_of program.now) class l.under ls
         (run_row frames.old.thread (ByClass class) (shared_of shared.old p) (failure program.now cause))
         ≡ Some (record { shared = shared_of shared.new p; thread = thread_after e frames.new })) }

@@ -1,7 +1,7 @@
 //! Calls of instance methods (JVMS 6.5, invokevirtual, invokeinterface and invokespecial), over any store.
 
 ghost use Rattle.std.specs.Prelude.{◌≡◌, ◌&&◌, not, List, Some, None, IfOk, OnErr};
-ghost use Rattle.vm_state.specs.declared.text.Line.{Line};
+ghost use Rattle.vm_state.specs.Output.{Print};
 ghost use Rattle.machine.specs.Calls.{receiver_under, runs, runs_chosen, is_out, called_on};
 ghost use Rattle.machine.specs.Calls.{call_instance};
 ghost use Rattle.machine.specs.Accesses.{Gives, Keeps};
@@ -53,7 +53,7 @@ fn run_method<S: Store>(
     receiver: Value,
     count: usize,
 ) -> Result<Conclusion, Stop>
-    ensures gives { (p : List Line) → Gives S.stopped (S.run by (S.state store.old p)) (S.run by (S.state store.new p))
+    ensures gives { (p : List Print) → Gives S.stopped (S.run by (S.state store.old p)) (S.run by (S.state store.new p))
         (runs program.now count receiver frame.old method) frame.new result }
     ensures kept { Keeps S.state result store.old store.new frame.old frame.new }
 {
@@ -81,7 +81,7 @@ fn run_chosen<S: Store>(
     receiver: Value,
     count: usize,
 ) -> Result<Conclusion, Stop>
-    ensures gives { (p : List Line) → Gives S.stopped (S.run by (S.state store.old p)) (S.run by (S.state store.new p))
+    ensures gives { (p : List Print) → Gives S.stopped (S.run by (S.state store.old p)) (S.run by (S.state store.new p))
         (runs_chosen program.now choice count frame.old receiver) frame.new result }
     ensures kept { Keeps S.state result store.old store.new frame.old frame.new }
 {
@@ -130,7 +130,7 @@ pub fn call_on<S: Store>(
     receiver: Value,
     count: usize,
 ) -> Result<Conclusion, Stop>
-    ensures gives { (p : List Line) → Gives S.stopped (S.run by (S.state store.old p)) (S.run by (S.state store.new p))
+    ensures gives { (p : List Print) → Gives S.stopped (S.run by (S.state store.old p)) (S.run by (S.state store.new p))
         (called_on program.now call count frame.old receiver) frame.new result }
     ensures kept { Keeps S.state result store.old store.new frame.old frame.new }
 {
@@ -166,7 +166,7 @@ pub fn call_instance<S: Store>(
     store: &mut S,
     call: InstanceCall,
 ) -> Result<Conclusion, Stop>
-    ensures gives { (p : List Line) → Gives S.stopped (S.run by (S.state store.old p)) (S.run by (S.state store.new p))
+    ensures gives { (p : List Print) → Gives S.stopped (S.run by (S.state store.old p)) (S.run by (S.state store.new p))
         (call_instance program.now call frame.old) frame.new result }
     ensures kept { Keeps S.state result store.old store.new frame.old frame.new }
 {

@@ -1,7 +1,7 @@
 //! Fields of instances (JVMS 6.5, getfield and putfield), over any store.
 
 ghost use Rattle.std.specs.Prelude.{List};
-ghost use Rattle.vm_state.specs.declared.text.Line.{Line};
+ghost use Rattle.vm_state.specs.Output.{Print};
 ghost use Rattle.machine.specs.Objects.{get_field, put_field};
 ghost use Rattle.machine.specs.Accesses.{Gives, Keeps};
 
@@ -34,7 +34,7 @@ pub fn get_field<S: Store>(
     store: &mut S,
     field: InstanceField,
 ) -> Result<Conclusion, Stop>
-    ensures gives { (p : List Line) → Gives S.stopped (S.run by (S.state store.old p)) (S.run by (S.state store.new p))
+    ensures gives { (p : List Print) → Gives S.stopped (S.run by (S.state store.old p)) (S.run by (S.state store.new p))
         (get_field program.now field frame.old) frame.new result }
     ensures kept { Keeps S.state result store.old store.new frame.old frame.new }
 {
@@ -74,7 +74,7 @@ pub fn put_field<S: Store>(
     store: &mut S,
     field: InstanceField,
 ) -> Result<Conclusion, Stop>
-    ensures gives { (p : List Line) → Gives S.stopped (S.run by (S.state store.old p)) (S.run by (S.state store.new p))
+    ensures gives { (p : List Print) → Gives S.stopped (S.run by (S.state store.old p)) (S.run by (S.state store.new p))
         (put_field program.now field frame.old) frame.new result }
     ensures kept { Keeps S.state result store.old store.new frame.old frame.new }
 {

@@ -1,7 +1,7 @@
 //! Methods of built-in classes and of arrays (JVMS 2.9, 6.5; JLS 8.9.3, 10.7), over any store.
 
 ghost use Rattle.std.specs.Prelude.{◌≡◌, List, Ok};
-ghost use Rattle.vm_state.specs.declared.text.Line.{Line};
+ghost use Rattle.vm_state.specs.Output.{Print};
 ghost use Rattle.machine.specs.RowParts.{drops};
 ghost use Rattle.machine.specs.ObjectParts.{look_into_named};
 ghost use Rattle.machine.specs.Members.{new_enum, replaced, or_slot, enum_part, copy_of, clone_array, member_row};
@@ -56,7 +56,7 @@ fn new_enum<S: Store>(
     store: &mut S,
     receiver: Value,
 ) -> Result<Conclusion, Stop>
-    ensures gives { (p : List Line) → Gives S.stopped (S.run by (S.state store.old p)) (S.run by (S.state store.new p))
+    ensures gives { (p : List Print) → Gives S.stopped (S.run by (S.state store.old p)) (S.run by (S.state store.new p))
         (new_enum program.now receiver frame.old) frame.new result }
     ensures kept { Keeps S.state result store.old store.new frame.old frame.new }
 {
@@ -95,7 +95,7 @@ fn read_part<S: Store>(
     object: Name,
     slot: usize,
 ) -> Result<Conclusion, Stop>
-    ensures gives { (p : List Line) → Gives S.stopped (S.run by (S.state store.now p)) (S.run by (S.state store.now p))
+    ensures gives { (p : List Print) → Gives S.stopped (S.run by (S.state store.now p)) (S.run by (S.state store.now p))
         (look_into_named object slot (or_slot object slot frame.old)) frame.new result }
     ensures frame { Untouched result frame.old frame.new }
     ensures activity { frame.new.activity ≡ frame.old.activity }
@@ -120,7 +120,7 @@ fn enum_part<S: Store>(
     receiver: Value,
     slot: usize,
 ) -> Result<Conclusion, Stop>
-    ensures gives { (p : List Line) → Gives S.stopped (S.run by (S.state store.old p)) (S.run by (S.state store.new p))
+    ensures gives { (p : List Print) → Gives S.stopped (S.run by (S.state store.old p)) (S.run by (S.state store.new p))
         (enum_part program.now slot receiver frame.old) frame.new result }
     ensures kept { Keeps S.state result store.old store.new frame.old frame.new }
 {
@@ -147,7 +147,7 @@ fn copy_array<S: Store>(
     object: Name,
     array: ArrayType,
 ) -> Result<Conclusion, Stop>
-    ensures gives { (p : List Line) → Gives S.stopped (S.run by (S.state store.old p)) (S.run by (S.state store.new p))
+    ensures gives { (p : List Print) → Gives S.stopped (S.run by (S.state store.old p)) (S.run by (S.state store.new p))
         (copy_of object array frame.old) frame.new result }
     ensures kept { Keeps S.state result store.old store.new frame.old frame.new }
 {
@@ -167,7 +167,7 @@ fn clone_array<S: Store>(
     store: &mut S,
     receiver: Value,
 ) -> Result<Conclusion, Stop>
-    ensures gives { (p : List Line) → Gives S.stopped (S.run by (S.state store.old p)) (S.run by (S.state store.new p))
+    ensures gives { (p : List Print) → Gives S.stopped (S.run by (S.state store.old p)) (S.run by (S.state store.new p))
         (clone_array receiver frame.old) frame.new result }
     ensures kept { Keeps S.state result store.old store.new frame.old frame.new }
 {
@@ -196,7 +196,7 @@ pub fn run_member<S: Store>(
     receiver: Value,
     count: usize,
 ) -> Result<Conclusion, Stop>
-    ensures gives { (p : List Line) → Gives S.stopped (S.run by (S.state store.old p)) (S.run by (S.state store.new p))
+    ensures gives { (p : List Print) → Gives S.stopped (S.run by (S.state store.old p)) (S.run by (S.state store.new p))
         (member_row program.now member count receiver frame.old) frame.new result }
     ensures kept { Keeps S.state result store.old store.new frame.old frame.new }
 {

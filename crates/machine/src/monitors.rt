@@ -3,7 +3,7 @@
 ghost use Rattle.std.specs.Prelude.{◌≡◌, List};
 ghost use Rattle.vm_state.specs.declared.frame.Frame.{Frame as FrameOf};
 ghost use Rattle.vm_state.specs.declared.object.Monitor.TheVariants.{Owned};
-ghost use Rattle.vm_state.specs.declared.text.Line.{Line};
+ghost use Rattle.vm_state.specs.Output.{Print};
 ghost use Rattle.semantics.specs.Rows.{enter_again, enter_monitor as enter_of, left_once, leave_monitor};
 ghost use Rattle.semantics.specs.Rows.{lock_monitor};
 ghost use Rattle.machine.specs.Accesses.{Gives, KeptBy, Keeps};
@@ -114,7 +114,7 @@ fn without_monitor<S: Store>(
     store: &mut S,
     value: Value,
 ) -> Result<Conclusion, Stop>
-    ensures gives { (p : List Line) (f : FrameOf)
+    ensures gives { (p : List Print) (f : FrameOf)
         → Gives S.stopped (S.run by (S.state store.old p)) (S.run by (S.state store.new p))
         (without_monitor value) f result }
     ensures same { KeptBy S.state result store.old store.new }
@@ -138,7 +138,7 @@ pub fn enter_monitor<S: Store>(
     frame: &mut Frame,
     store: &mut S,
 ) -> Result<Conclusion, Stop>
-    ensures gives { (p : List Line) → Gives S.stopped (S.run by (S.state store.old p)) (S.run by (S.state store.new p))
+    ensures gives { (p : List Print) → Gives S.stopped (S.run by (S.state store.old p)) (S.run by (S.state store.new p))
         (enter_monitor frame.old) frame.new result }
     ensures kept { Keeps S.state result store.old store.new frame.old frame.new }
 {
@@ -168,7 +168,7 @@ pub fn exit_monitor<S: Store>(
     frame: &mut Frame,
     store: &mut S,
 ) -> Result<Conclusion, Stop>
-    ensures gives { (p : List Line) → Gives S.stopped (S.run by (S.state store.old p)) (S.run by (S.state store.new p))
+    ensures gives { (p : List Print) → Gives S.stopped (S.run by (S.state store.old p)) (S.run by (S.state store.new p))
         (exit_monitor frame.old) frame.new result }
     ensures kept { Keeps S.state result store.old store.new frame.old frame.new }
 {

@@ -1,7 +1,7 @@
 //! The instructions on objects, over any store.
 
 ghost use Rattle.std.specs.Prelude.{List};
-ghost use Rattle.vm_state.specs.declared.text.Line.{Line};
+ghost use Rattle.vm_state.specs.Output.{Print};
 ghost use Rattle.machine.specs.Objects.{object_row};
 ghost use Rattle.machine.specs.Accesses.{Gives, Keeps};
 
@@ -28,7 +28,7 @@ pub fn execute_on_object<S: Store>(
     store: &mut S,
     operation: ObjectOperation,
 ) -> Result<Conclusion, Stop>
-    ensures gives { (p : List Line) → Gives S.stopped (S.run by (S.state store.old p)) (S.run by (S.state store.new p))
+    ensures gives { (p : List Print) → Gives S.stopped (S.run by (S.state store.old p)) (S.run by (S.state store.new p))
         (object_row program.now operation frame.old) frame.new result }
     ensures kept { Keeps S.state result store.old store.new frame.old frame.new }
 {

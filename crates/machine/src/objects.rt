@@ -2,7 +2,7 @@
 
 ghost use Rattle.std.specs.Prelude.{◌≡◌, List, []};
 ghost use Rattle.built_in.specs.declared.class_id.ClassId.TheVariants.{BuiltIn as BuiltInId};
-ghost use Rattle.vm_state.specs.declared.text.Line.{Line};
+ghost use Rattle.vm_state.specs.Output.{Print};
 ghost use Rattle.machine.specs.Objects.{new_object, new_given, is_of, is_holder, ask_is_of, check_cast};
 ghost use Rattle.machine.specs.Objects.{int_of_boolean};
 ghost use Rattle.machine.specs.Objects.{instance_of, throw_row};
@@ -35,7 +35,7 @@ fn new_object<S: Store>(
     class: ClassId,
     slots: Slots,
 ) -> Result<Conclusion, Stop>
-    ensures gives { (p : List Line) → Gives S.stopped (S.run by (S.state store.old p)) (S.run by (S.state store.new p))
+    ensures gives { (p : List Print) → Gives S.stopped (S.run by (S.state store.old p)) (S.run by (S.state store.new p))
         (new_object class slots frame.old) frame.new result }
     ensures kept { Keeps S.state result store.old store.new frame.old frame.new }
 {
@@ -62,7 +62,7 @@ pub fn new_built_in<S: Store>(
     store: &mut S,
     class: BuiltIn,
 ) -> Result<Conclusion, Stop>
-    ensures gives { (p : List Line) → Gives S.stopped (S.run by (S.state store.old p)) (S.run by (S.state store.new p))
+    ensures gives { (p : List Print) → Gives S.stopped (S.run by (S.state store.old p)) (S.run by (S.state store.new p))
         (new_object (BuiltInId class) [] frame.old) frame.new result }
     ensures kept { Keeps S.state result store.old store.new frame.old frame.new }
 {
@@ -90,7 +90,7 @@ pub fn new_given<S: Store>(
     store: &mut S,
     class: u32,
 ) -> Result<Conclusion, Stop>
-    ensures gives { (p : List Line) → Gives S.stopped (S.run by (S.state store.old p)) (S.run by (S.state store.new p))
+    ensures gives { (p : List Print) → Gives S.stopped (S.run by (S.state store.old p)) (S.run by (S.state store.new p))
         (new_given program.now class frame.old) frame.new result }
     ensures kept { Keeps S.state result store.old store.new frame.old frame.new }
 {
@@ -141,7 +141,7 @@ fn refers_to<S: Store>(
     class: ClassId,
     value: Value,
 ) -> Result<bool, Stop>
-    ensures { (p : List Line) → Leads S.stopped (S.run by (S.state store.now p)) (S.run by (S.state store.now p))
+    ensures { (p : List Print) → Leads S.stopped (S.run by (S.state store.now p)) (S.run by (S.state store.now p))
         (ask_is_of program.now class value) result }
 {
     let held = class_of(store, by, value)?;
@@ -162,7 +162,7 @@ pub fn check_cast<S: Store>(
     store: &mut S,
     class: ClassId,
 ) -> Result<Conclusion, Stop>
-    ensures gives { (p : List Line) → Gives S.stopped (S.run by (S.state store.old p)) (S.run by (S.state store.new p))
+    ensures gives { (p : List Print) → Gives S.stopped (S.run by (S.state store.old p)) (S.run by (S.state store.new p))
         (check_cast program.now class frame.old) frame.new result }
     ensures kept { Keeps S.state result store.old store.new frame.old frame.new }
 {
@@ -196,7 +196,7 @@ pub fn instance_of<S: Store>(
     store: &mut S,
     class: ClassId,
 ) -> Result<Conclusion, Stop>
-    ensures gives { (p : List Line) → Gives S.stopped (S.run by (S.state store.old p)) (S.run by (S.state store.new p))
+    ensures gives { (p : List Print) → Gives S.stopped (S.run by (S.state store.old p)) (S.run by (S.state store.new p))
         (instance_of program.now class frame.old) frame.new result }
     ensures kept { Keeps S.state result store.old store.new frame.old frame.new }
 {
@@ -224,7 +224,7 @@ pub fn throw<S: Store>(
     frame: &mut Frame,
     store: &mut S,
 ) -> Result<Conclusion, Stop>
-    ensures gives { (p : List Line) → Gives S.stopped (S.run by (S.state store.old p)) (S.run by (S.state store.new p))
+    ensures gives { (p : List Print) → Gives S.stopped (S.run by (S.state store.old p)) (S.run by (S.state store.new p))
         (throw_row program.now frame.old) frame.new result }
     ensures kept { Keeps S.state result store.old store.new frame.old frame.new }
 {

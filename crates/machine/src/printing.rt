@@ -2,7 +2,7 @@
 
 ghost use Rattle.std.specs.Prelude.{◌≡◌, ◌∷◌, [], List, IfOk, slice_get};
 ghost use Rattle.classfile.specs.Printing.{printed_units};
-ghost use Rattle.vm_state.specs.declared.text.Line.{Line};
+ghost use Rattle.vm_state.specs.Output.{Print};
 ghost use Rattle.machine.specs.Printing.{unit_of_int, text_of_string, printed_text, ended, print_on, print_value};
 ghost use Rattle.machine.specs.Printing.{end_line};
 ghost use Rattle.machine.specs.Accesses.{Gives, Keeps};
@@ -93,7 +93,7 @@ fn print_on<S: Store>(
     text: Text,
     count: usize,
 ) -> Result<Conclusion, Stop>
-    ensures gives { (p : List Line) → Gives S.stopped (S.run by (S.state store.old p)) (S.run by (S.state store.new p))
+    ensures gives { (p : List Print) → Gives S.stopped (S.run by (S.state store.old p)) (S.run by (S.state store.new p))
         (print_on program.now text count call frame.old receiver) frame.new result }
     ensures kept { Keeps S.state result store.old store.new frame.old frame.new }
 {
@@ -122,7 +122,7 @@ pub fn print_value<S: Store>(
     line: bool,
     call: InstanceCall,
 ) -> Result<Conclusion, Stop>
-    ensures gives { (p : List Line) → Gives S.stopped (S.run by (S.state store.old p)) (S.run by (S.state store.new p))
+    ensures gives { (p : List Print) → Gives S.stopped (S.run by (S.state store.old p)) (S.run by (S.state store.new p))
         (print_value program.now what line call frame.old) frame.new result }
     ensures kept { Keeps S.state result store.old store.new frame.old frame.new }
 {
@@ -153,7 +153,7 @@ pub fn end_line<S: Store>(
     store: &mut S,
     call: InstanceCall,
 ) -> Result<Conclusion, Stop>
-    ensures gives { (p : List Line) → Gives S.stopped (S.run by (S.state store.old p)) (S.run by (S.state store.new p))
+    ensures gives { (p : List Print) → Gives S.stopped (S.run by (S.state store.old p)) (S.run by (S.state store.new p))
         (end_line program.now call frame.old) frame.new result }
     ensures kept { Keeps S.state result store.old store.new frame.old frame.new }
 {

@@ -2,7 +2,7 @@
 
 ghost use Rattle.std.specs.Prelude.{◌≡◌, List, Err};
 ghost use Rattle.vm_state.specs.declared.frame.Frame.{Frame};
-ghost use Rattle.vm_state.specs.declared.text.Line.{Line};
+ghost use Rattle.vm_state.specs.Output.{Print};
 ghost use Rattle.machine.specs.RowParts.{raises};
 ghost use Rattle.machine.specs.Table.{local_row};
 ghost use Rattle.machine.specs.Accesses.{Gives, KeptBy};
@@ -25,7 +25,7 @@ pub fn raise<S: Store>(
     store: &mut S,
     class: BuiltIn,
 ) -> Result<Conclusion, Stop>
-    ensures gives { (p : List Line) (f : Frame)
+    ensures gives { (p : List Print) (f : Frame)
         → Gives S.stopped (S.run by (S.state store.old p)) (S.run by (S.state store.new p))
         (raises class) f result }
     ensures same { KeptBy S.state result store.old store.new }
@@ -45,7 +45,7 @@ pub fn trap<S: Store>(
     store: &mut S,
     trap: Trap,
 ) -> Result<Conclusion, Stop>
-    ensures gives { (p : List Line) (f : Frame)
+    ensures gives { (p : List Print) (f : Frame)
         → Gives S.stopped (S.run by (S.state store.old p)) (S.run by (S.state store.new p))
         (local_row (Err trap)) f result }
     ensures same { KeptBy S.state result store.old store.new }

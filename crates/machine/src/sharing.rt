@@ -1,7 +1,7 @@
 //! The store of all threads: what they share.
 
 ghost use Rattle.std.specs.Prelude.{◌≡◌, ℕ, List, length, option_map, option_and_then};
-ghost use Rattle.vm_state.specs.declared.text.Line.{Line};
+ghost use Rattle.vm_state.specs.Output.{Print};
 ghost use Rattle.vm_state.specs.Shares.{shared_of};
 ghost use Rattle.vm_state.specs.SharedState.{SharedState};
 ghost use Rattle.semantics.specs.Rows.{Result as Led, Named, part_of, int_length};

@@ -2,7 +2,7 @@
 
 ghost use Rattle.std.specs.Prelude.{◌≡◌, List, Option, Some, None, IfOk, IfSome, IfNone, IfErr, OnErr, replicate};
 ghost use Rattle.vm_state.specs.declared.value.Value.{Value};
-ghost use Rattle.vm_state.specs.declared.text.Line.{Line};
+ghost use Rattle.vm_state.specs.Output.{Print};
 ghost use Rattle.vm_state.specs.Locals.{stored};
 ghost use Rattle.program.specs.Tables.{main_in};
 ghost use Rattle.machine.specs.declared.kinds.Stop.{Stop};
@@ -97,7 +97,7 @@ pub fn start<S: Store>(
     store: &mut S,
     class: u32,
 ) -> Result<Conclusion, Stop>
-    ensures gives { (p : List Line) → Gives S.stopped (S.run by (S.state store.old p)) (S.run by (S.state store.new p))
+    ensures gives { (p : List Print) → Gives S.stopped (S.run by (S.state store.old p)) (S.run by (S.state store.new p))
         (start_row program.now class frame.now) frame.now result }
     ensures same { KeptBy S.state result store.old store.new }
 {

@@ -1,7 +1,7 @@
 //! Static fields (JVMS 6.5, getstatic and putstatic), over any store.
 
 ghost use Rattle.std.specs.Prelude.{List};
-ghost use Rattle.vm_state.specs.declared.text.Line.{Line};
+ghost use Rattle.vm_state.specs.Output.{Print};
 ghost use Rattle.machine.specs.Table.{get_static, put_static};
 ghost use Rattle.machine.specs.Accesses.{Gives, Keeps};
 
@@ -33,7 +33,7 @@ pub fn get_static<S: Store>(
     class: u32,
     field: u32,
 ) -> Result<Conclusion, Stop>
-    ensures gives { (p : List Line) → Gives S.stopped (S.run by (S.state store.old p)) (S.run by (S.state store.new p))
+    ensures gives { (p : List Print) → Gives S.stopped (S.run by (S.state store.old p)) (S.run by (S.state store.new p))
         (get_static class field frame.old) frame.new result }
     ensures kept { Keeps S.state result store.old store.new frame.old frame.new }
 {
@@ -63,7 +63,7 @@ pub fn put_static<S: Store>(
     class: u32,
     field: u32,
 ) -> Result<Conclusion, Stop>
-    ensures gives { (p : List Line) → Gives S.stopped (S.run by (S.state store.old p)) (S.run by (S.state store.new p))
+    ensures gives { (p : List Print) → Gives S.stopped (S.run by (S.state store.old p)) (S.run by (S.state store.new p))
         (put_static kind class field frame.old) frame.new result }
     ensures kept { Keeps S.state result store.old store.new frame.old frame.new }
 {

@@ -2,7 +2,7 @@
 
 ghost use Rattle.std.specs.Prelude.{◌≡◌, ℕ, true, false, List, IfOk, IfErr, replicate};
 ghost use Rattle.built_in.specs.declared.class_id.ClassId.TheVariants.{Array};
-ghost use Rattle.vm_state.specs.declared.text.Line.{Line};
+ghost use Rattle.vm_state.specs.Output.{Print};
 ghost use Rattle.semantics.specs.Rows.{Row, UseClass, ReadStatic, WriteStatic, AskClass, LookInto, Change};
 ghost use Rattle.semantics.specs.Rows.{Make, UseMonitor, Slots as AllSlots};
 ghost use Rattle.machine.specs.Accesses.{Kept, Leads, LeadsOn};
@@ -25,7 +25,7 @@ pub trait Store {
     ghost State: { Type 0 };
 
     // The state of a store, where this was printed so far.
-    ghost state: { Self → List Line → Self.State };
+    ghost state: { Self → List Print → Self.State };
 
     // What a row leads to from a state.
     ghost run: { By → Self.State → Row → Self.Answer };
@@ -41,7 +41,7 @@ pub trait Store {
     /// # Errors
     /// `Needs` where its initialization has to begin, `Waits` where another thread is at it, or the store's own reason.
     fn use_class(&self, by: Actor, class: u32) -> Result<bool, Stop>
-        ensures leads { (p : List Line) → Leads stopped (run by (state self.now p)) (run by (state self.now p))
+        ensures leads { (p : List Print) → Leads stopped (run by (state self.now p)) (run by (state self.now p))
             (UseClass class) result }
         ensures may { IfOk result (λ usable. usable ≡ true → CanUse by self.now class) };
 
@@ -51,7 +51,7 @@ pub trait Store {
     /// The store's reason why it may not be read.
     fn read_static(&self, by: Actor, class: u32, field: u32) -> Result<Value, Stop>
         requires { CanUse by self.now class }
-        ensures { (p : List Line) → Leads stopped (run by (state self.now p)) (run by (state self.now p))
+        ensures { (p : List Print) → Leads stopped (run by (state self.now p)) (run by (state self.now p))
             (ReadStatic class field) result };
 
     /// Sets a static field of a class that was asked for. Where it is stopped nothing changes; where memory stops it,
@@ -68,7 +68,7 @@ pub trait Store {
         value: Value,
     ) -> Result<(), Stop>
         requires { CanUse by self.old class }
-        ensures leads { (p : List Line) → LeadsOn stopped (run by (state self.old p)) (run by (state self.new p))
+        ensures leads { (p : List Print) → LeadsOn stopped (run by (state self.old p)) (run by (state self.new p))
             (WriteStatic class field value) result }
         ensures same { IfErr result (λ stop. Kept state stop self.old self.new) };
 
@@ -77,7 +77,7 @@ pub trait Store {
     /// # Errors
     /// The store's reason why it may not be asked for.
     fn class_of(&self, by: Actor, object: Name) -> Result<Option<ClassId>, Stop>
-        ensures { (p : List Line) → Leads stopped (run by (state self.now p)) (run by (state self.now p))
+        ensures { (p : List Print) → Leads stopped (run by (state self.now p)) (run by (state self.now p))
             (AskClass object) result };
 
     /// The value in a slot of an object, if it is held and has that slot: of an instance field or an element.
@@ -85,7 +85,7 @@ pub trait Store {
     /// # Errors
     /// The store's reason why it may not be looked into.
     fn slot(&self, by: Actor, object: Name, slot: usize) -> Result<Option<Value>, Stop>
-        ensures { (p : List Line) → Leads stopped (run by (state self.now p)) (run by (state self.now p))
+        ensures { (p : List Print) → Leads stopped (run by (state self.now p)) (run by (state self.now p))
             (look_into_slot object slot) result };
 
     /// How many slots an object has, if it is held, before one of them is looked into or changed.
@@ -93,7 +93,7 @@ pub trait Store {
     /// # Errors
     /// The store's reason why it may not be looked into.
     fn size(&self, by: Actor, object: Name) -> Result<Option<i32>, Stop>
-        ensures { (p : List Line) → Leads stopped (run by (state self.now p)) (run by (state self.now p))
+        ensures { (p : List Print) → Leads stopped (run by (state self.now p)) (run by (state self.now p))
             (count_slots object) result };
 
     /// How many slots an object has, if it is held, and nothing else of them: an array's length.
@@ -101,7 +101,7 @@ pub trait Store {
     /// # Errors
     /// The store's reason why it may not be looked into.
     fn length(&self, by: Actor, object: Name) -> Result<Option<i32>, Stop>
-        ensures { (p : List Line) → Leads stopped (run by (state self.now p)) (run by (state self.now p))
+        ensures { (p : List Print) → Leads stopped (run by (state self.now p)) (run by (state self.now p))
             (ask_length object) result };
 
     /// The name or the ordinal of an `Enum` object, by its slot, if it is held and its name is set.
@@ -109,7 +109,7 @@ pub trait Store {
     /// # Errors
     /// The store's reason why it may not be looked into.
     fn named(&self, by: Actor, object: Name, slot: usize) -> Result<Option<Value>, Stop>
-        ensures { (p : List Line) → Leads stopped (run by (state self.now p)) (run by (state self.now p))
+        ensures { (p : List Print) → Leads stopped (run by (state self.now p)) (run by (state self.now p))
             (look_into_named object slot) result };
 
     /// A copy of an object's slots, if it is held.
@@ -117,7 +117,7 @@ pub trait Store {
     /// # Errors
     /// The store's reason why it may not be looked into; `Memory` where memory is refused.
     fn copied_slots(&self, alloc: Global, by: Actor, object: Name) -> Result<Option<Slots>, Stop>
-        ensures { (p : List Line) → Leads stopped (run by (state self.now p)) (run by (state self.now p))
+        ensures { (p : List Print) → Leads stopped (run by (state self.now p)) (run by (state self.now p))
             (LookInto object AllSlots) result };
 
     /// Sets the name and the ordinal of an `Enum` object. Where it is not held nothing changes; nor where it is
@@ -132,7 +132,7 @@ pub trait Store {
         name: Value,
         ordinal: Value,
     ) -> Result<(), Stop>
-        ensures leads { (p : List Line) → LeadsOn stopped (run by (state self.old p)) (run by (state self.new p))
+        ensures leads { (p : List Print) → LeadsOn stopped (run by (state self.old p)) (run by (state self.new p))
             (set_named object name ordinal) result }
         ensures same { IfErr result (λ stop. Kept state stop self.old self.new) };
 
@@ -142,7 +142,7 @@ pub trait Store {
     /// # Errors
     /// The store's reason why it may not be changed.
     fn change(&mut self, by: Actor, object: Name, slot: usize, value: Value) -> Result<(), Stop>
-        ensures leads { (p : List Line) → LeadsOn stopped (run by (state self.old p)) (run by (state self.new p))
+        ensures leads { (p : List Print) → LeadsOn stopped (run by (state self.old p)) (run by (state self.new p))
             (Change object slot value) result }
         ensures same { IfErr result (λ stop. Kept state stop self.old self.new) };
 
@@ -152,7 +152,7 @@ pub trait Store {
     /// # Errors
     /// `Waits` where another thread owns a monitor that is to be entered, or the store's own reason.
     fn use_monitor(&mut self, by: Actor, object: Name, enter: bool) -> Result<bool, Stop>
-        ensures leads { (p : List Line) → Leads stopped (run by (state self.old p)) (run by (state self.new p))
+        ensures leads { (p : List Print) → Leads stopped (run by (state self.old p)) (run by (state self.new p))
             (UseMonitor object enter) result }
         ensures refused { IfOk result (λ done. done ≡ false → self.new ≡ self.old) }
         ensures same { IfErr result (λ stop. Kept state stop self.old self.new) };
@@ -170,7 +170,7 @@ pub trait Store {
         zero: Value,
         size: usize,
     ) -> Result<Name, Stop>
-        ensures leads { (p : List Line) → Leads stopped (run by (state self.old p)) (run by (state self.new p))
+        ensures leads { (p : List Print) → Leads stopped (run by (state self.old p)) (run by (state self.new p))
             (Make (Array array) (replicate size zero)) result }
         ensures same { IfErr result (λ stop. Kept state stop self.old self.new) };
 
@@ -180,7 +180,7 @@ pub trait Store {
     /// # Errors
     /// The store's reason; `Memory` where memory is refused.
     fn make(&mut self, alloc: Global, by: Actor, class: ClassId, slots: Slots) -> Result<Name, Stop>
-        ensures leads { (p : List Line) → Leads stopped (run by (state self.old p)) (run by (state self.new p))
+        ensures leads { (p : List Print) → Leads stopped (run by (state self.old p)) (run by (state self.new p))
             (Make class slots) result }
         ensures same { IfErr result (λ stop. Kept state stop self.old self.new) };
 }

@@ -1,7 +1,7 @@
 //! Whether a thread's next instruction waits for another thread.
 
 ghost use Rattle.std.specs.Prelude.{◌≡◌, List};
-ghost use Rattle.vm_state.specs.declared.text.Line.{Line};
+ghost use Rattle.vm_state.specs.Output.{Print};
 ghost use Rattle.vm_state.specs.declared.value.Maker.{Maker};
 ghost use Rattle.vm_state.specs.Shares.{shared_of};
 ghost use Rattle.semantics.specs.Rows.{run_row};
@@ -10,6 +10,7 @@ ghost use Rattle.frame_instructions.specs.OperandKinds.{top_as as top_of_kind};
 ghost use Rattle.machine.specs.Effects.{waits};
 ghost use Rattle.machine.specs.Operations.{meaning, operation_at};
 ghost use Rattle.machine.specs.Table.{row};
+ghost use Rattle.machine.specs.Waiting.{holder, other_than};
 ghost use Rattle.machine.specs.steps.Triggers.{is_held, monitor_trigger, object_trigger, call_trigger};
 ghost use Rattle.machine.specs.steps.Triggers.{operation_trigger, fetched_trigger, trigger_of};
 
@@ -19,13 +20,14 @@ use crate::references::name_of;
 use crate::resolved::{Resolved, resolved_operation};
 use frame_instructions::operand_kind::{OperandKind, top_as};
 use program::Program;
-use vm_state::classes::Usability;
+use vm_state::classes::{ClassState, Usability};
 use vm_state::frame::{Activity, Frame};
 use vm_state::object::Monitor;
 use vm_state::shared::Shared;
 use vm_state::value::Name;
 
 /// What another thread may hold that an instruction needs.
+#[derive(Clone, Copy)]
 pub enum Trigger {
     Nothing,
     /// The class of this number, which the instruction, or a thread's start, needs (JVMS 5.5).
@@ -94,7 +96,7 @@ fn next_trigger(program: &Program, frame: &Frame, class: u32, method: u16) -> Tr
 }
 
 /// What the next instruction of a frame needs, or a thread's start.
-fn trigger_of(program: &Program, frame: &Frame) -> Trigger
+pub fn trigger_of(program: &Program, frame: &Frame) -> Trigger
     ensures { result ≡ trigger_of program.now frame.now }
 {
     match frame.activity {
@@ -103,9 +105,35 @@ fn trigger_of(program: &Program, frame: &Frame) -> Trigger
     }
 }
 
+/// A thread, where it is not this one.
+fn other_than(thread: u32, owner: u32) -> Option<u32>
+    ensures { result ≡ other_than thread owner }
+{
+    if thread == owner { None } else { Some(owner) }
+}
+
+/// The other thread that holds it, if one does.
+pub fn holder(trigger: Trigger, thread: u32, shared: &Shared) -> Option<u32>
+    ensures { (p : List Print) → result ≡ holder trigger thread (shared_of shared.now p) }
+{
+    match trigger {
+        Trigger::Nothing => None,
+        Trigger::Class(class) => match shared.state(class) {
+            ClassState::InProgress(owner) => other_than(thread, owner),
+            ClassState::Uninitialized => None,
+            ClassState::Initialized => None,
+            ClassState::Erroneous => None,
+        },
+        Trigger::Monitor(object) => match shared.monitor(object) {
+            Monitor::Owned { thread: owner, .. } => other_than(thread, owner),
+            Monitor::Free => None,
+        },
+    }
+}
+
 /// Whether another thread holds it.
 fn is_held(trigger: Trigger, thread: u32, shared: &Shared) -> bool
-    ensures { (p : List Line) → result ≡ is_held trigger thread (shared_of shared.now p) }
+    ensures { (p : List Print) → result ≡ is_held trigger thread (shared_of shared.now p) }
 {
     match trigger {
         Trigger::Nothing => false,
@@ -123,7 +151,7 @@ fn is_held(trigger: Trigger, thread: u32, shared: &Shared) -> bool
 /// Whether another thread is in the way of a thread's next instruction, in this frame: whether its row waits. It takes
 /// no memory.
 pub fn has_to_wait(program: &Program, thread: u32, frame: &Frame, shared: &Shared) -> bool
-    ensures { (maker : Maker) (p : List Line)
+    ensures { (maker : Maker) (p : List Print)
         → result ≡ waits (run_row thread maker (shared_of shared.now p) (row program.now frame.now)) }
 {
     is_held(trigger_of(program, frame), thread, shared)

@@ -2,7 +2,7 @@
 
 use cases::modified_utf8;
 use classfile::ClassName;
-use init_engine::{Ending, Line, World, turns};
+use init_engine::{Ending, Output, World, turns};
 use program::Program;
 use std::alloc::{AllocError, Global};
 use std::str::from_utf8;
@@ -98,7 +98,7 @@ fn add_seen(
 ) -> Result<(), AllocError> {
     let threads = world.endings(alloc)?;
     add_endings(text, threads.as_slice())?;
-    add_lines(text, world.printed())?;
+    add_prints(text, world.printed())?;
     if world.stuck(program) {
         text.push_str(" stuck")?;
     }
@@ -112,13 +112,15 @@ fn add_endings(text: &mut String, endings: &[Ending]) -> Result<(), AllocError> 
     Ok(())
 }
 
-fn add_lines(text: &mut String, lines: &[Line]) -> Result<(), AllocError> {
-    for line in lines {
-        if line.thread != 0 {
-            text.push_str(" another thread printed")?;
+fn add_prints(text: &mut String, printed: &Output) -> Result<(), AllocError> {
+    for number in 0..printed.count() {
+        if let Some((thread, printed)) = printed.print(number) {
+            if thread != 0 {
+                text.push_str(" another thread printed")?;
+            }
+            text.push(' ')?;
+            text.push_str(from_utf8(printed).unwrap_or("no text"))?;
         }
-        text.push(' ')?;
-        text.push_str(from_utf8(line.text.as_bytes()).unwrap_or("no text"))?;
     }
     Ok(())
 }
@@ -143,17 +145,10 @@ pub fn shown_after(alloc: Global, program: &Program, world: World) -> Result<Str
 fn shown_of(alloc: Global, world: &World) -> Result<String, AllocError> {
     let threads = world.endings(alloc)?;
     let mut text = String::new(alloc);
-    add_texts(&mut text, world.printed())?;
+    text.push_str(from_utf8(world.printed().text_from(0)).unwrap_or("no text"))?;
     add_endings(&mut text, threads.as_slice())?;
     text.push('\n')?;
     Ok(text)
-}
-
-fn add_texts(text: &mut String, lines: &[Line]) -> Result<(), AllocError> {
-    for line in lines {
-        text.push_str(from_utf8(line.text.as_bytes()).unwrap_or("no text"))?;
-    }
-    Ok(())
 }
 
 /// Single steps of thread 0, what the last one gave and what is seen then, and what a run by turns does after it.

@@ -1,7 +1,7 @@
 //! Runs of several threads: by turns, and over a schedule that is given.
 
 use crate::runs::entries_of;
-use init_engine::{Line, Turn, World, turns};
+use init_engine::{Turn, World, turns};
 use program::Program;
 use std::alloc::{AllocError, Global};
 use std::str::from_utf8;
@@ -134,18 +134,16 @@ fn add_sight(
         separate(text)?;
         write!(text, "{thread} {ending:?}")?;
     }
-    for line in world.printed() {
-        add_line(text, line)?;
+    let printed = world.printed();
+    for number in 0..printed.count() {
+        if let Some((thread, printed)) = printed.print(number) {
+            separate(text)?;
+            let printed = from_utf8(printed).unwrap_or("no text");
+            write!(text, "{thread}:{printed}")?;
+        }
     }
     if world.stuck(program) {
         text.push_str(" stuck")?;
     }
     Ok(())
-}
-
-fn add_line(text: &mut String, line: &Line) -> Result<(), AllocError> {
-    let thread = line.thread;
-    let printed = from_utf8(line.text.as_bytes()).unwrap_or("no text");
-    separate(text)?;
-    write!(text, "{thread}:{printed}")
 }

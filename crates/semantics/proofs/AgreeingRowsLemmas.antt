@@ -8,11 +8,11 @@ use Rattle.vm_state.specs.declared.value.Maker.TheVariants.{Class, Thread}
 use Rattle.vm_state.specs.declared.ends.FaultKind.TheVariants.{Fault}
 use Rattle.vm_state.specs.declared.classes.ClassState.TheVariants.{Uninitialized, InProgress, Initialized, Erroneous}
 use Rattle.vm_state.specs.declared.classes.Usability.TheVariants.{Ready, Fresh, Busy, Broken}
-use Rattle.vm_state.specs.declared.text.Line.{Line}
+use Rattle.vm_state.specs.Output.{Print as OnePrint}
 use Rattle.vm_state.specs.Statics.{usable}
 use Rattle.vm_state.specs.SharedState.{Pool, Region, SharedState, pool_of, set_pool, set_region, with_field, with_slot}
 use Rattle.vm_state.specs.SharedState.{with_new}
-use Rattle.vm_state.specs.SharedState.{with_line, class_at}
+use Rattle.vm_state.specs.SharedState.{with_print, class_at}
 use Rattle.semantics.specs.Rows.{Outcome, Halt, Row, Ends, UseClass, ReadStatic, WriteStatic, AskClass, LookInto}
 use Rattle.semantics.specs.Rows.{Change, Make}
 use Rattle.semantics.specs.Rows.{UseMonitor, Print, part_at}
@@ -257,8 +257,8 @@ module _ (S : Setting) where
               sound outside (SharedStates.set_pool-hidden S first sh hidden x.maker w _) (fit.1 p.0))
         ]
     agree (Print text next) sh sv sane like sound outside hidden fit =
-        agree next (with_line sh (record { thread = t; text = text }))
-        (with_line sv (record { thread = t; text = text }))
+        agree next (with_print sh (record { thread = t; text = text }))
+        (with_print sv (record { thread = t; text = text }))
         (record { statics = sane.statics; objects = the_objects; finals = sane.finals; classes = sane.classes })
         (record {
           done = like.done;
@@ -266,11 +266,11 @@ module _ (S : Setting) where
           region = like.region;
           regions = like.regions;
           pools = like.pools;
-          printed = ap (λ (ls : List Line). ls ++ record { thread = t; text = text } ∷ []) like.printed;
+          printed = ap (λ (ls : List OnePrint). ls ++ record { thread = t; text = text } ∷ []) like.printed;
         })
         sound outside hidden fit
       where
         the_objects : (m : Maker)
-            → Holds (known S.I sh.states m) (pool_of (with_line sh (record { thread = t; text = text })) m)
+            → Holds (known S.I sh.states m) (pool_of (with_print sh (record { thread = t; text = text })) m)
         the_objects (Class c) k = sane.objects (Class c) k
         the_objects (Thread u) k = sane.objects (Thread u) k

@@ -11,11 +11,11 @@ use Rattle.vm_state.specs.declared.ends.FaultKind.TheVariants.{Fault}
 use Rattle.vm_state.specs.declared.object.Object.{Object}
 use Rattle.vm_state.specs.declared.object.Monitor.{Monitor}
 use Rattle.vm_state.specs.declared.object.Monitor.TheVariants.{Free}
-use Rattle.vm_state.specs.declared.text.Line.{Line}
+use Rattle.vm_state.specs.Output.{Print as OnePrint}
 use Rattle.vm_state.specs.Statics.{usable}
 use Rattle.vm_state.specs.SharedState.{Pool, Region, SharedState, pool_of, set_pool, set_region, set_state, same_maker}
 use Rattle.vm_state.specs.SharedState.{with_object, object_with_slot, with_slot, object_with_monitor, with_monitor}
-use Rattle.vm_state.specs.SharedState.{monitor_of, with_new, with_field, with_line, class_at, slots_at}
+use Rattle.vm_state.specs.SharedState.{monitor_of, with_new, with_field, with_print, class_at, slots_at}
 use Rattle.semantics.specs.Rows.{Outcome, Halt, Row, Ends, UseClass, ReadStatic, WriteStatic, AskClass, LookInto}
 use Rattle.semantics.specs.Rows.{Change, Make, UseMonitor, Print, part_of, part_at}
 use Rattle.semantics.specs.Rows.{Result, Moved, Needs, Waits, lock_monitor, run_row}
@@ -139,14 +139,14 @@ module _ (kept : Names) where
       printed = d.printed;
     }
 
-    with_line-dropped : (line : Line) → IsDroppedState kept (with_line sh line) (with_line sv line)
-    with_line-dropped line = record {
+    with_print-dropped : (line : OnePrint) → IsDroppedState kept (with_print sh line) (with_print sv line)
+    with_print-dropped line = record {
       states = d.states;
       fields = d.fields;
       statics = d.statics;
       regions = d.regions;
       pools = d.pools;
-      printed = ap (λ (ls : List Line). ls ++ line ∷ []) d.printed;
+      printed = ap (λ (ls : List OnePrint). ls ++ line ∷ []) d.printed;
     }
 
   -- ---- the row
@@ -242,4 +242,4 @@ module _ (kept : Names) where
               (set_pool-dropped sh sv d x.maker _ _ (monitor_dropped x.maker _ _ pool x.number p.1 fit.0)) (fit.1 p.0))
         ]
     alike (Print text next) sh sv d fit =
-        alike next _ _ (with_line-dropped sh sv d (record { thread = t; text = text })) fit
+        alike next _ _ (with_print-dropped sh sv d (record { thread = t; text = text })) fit

@@ -5,7 +5,7 @@ use Rattle.std.specs.List.{AllByRecursion}
 use Rattle.vm_state.specs.declared.value.Maker.TheVariants.{Class, Thread}
 use Rattle.vm_state.specs.declared.ends.Ending.{Ending}
 use Rattle.vm_state.specs.declared.object.Object.{Object}
-use Rattle.vm_state.specs.declared.text.Line.{Line}
+use Rattle.vm_state.specs.Output.{Print}
 use Rattle.vm_state.specs.SharedState.{SharedState}
 use Rattle.semantics.specs.Programs.{Program}
 use Rattle.semantics.specs.Steps as steps
@@ -99,7 +99,7 @@ module _ (P : Program) (lawful : IsLawful P) (kept : Names) where
   -- nobody sees what is left out
   seen_same : (w v : World) → IsDropped kept w v → seen v ≡ seen w
   seen_same w v d =
-      ap (λ (p : List Line). record { printed = p; threads = map ending v.threads }) d.shared.printed
+      ap (λ (p : List Print). record { printed = p; threads = map ending v.threads }) d.shared.printed
       ∙ ap (λ (ts : List steps.Thread). record { printed = w.shared.printed; threads = map ending ts }) d.threads
 
 -- ---- the two starts

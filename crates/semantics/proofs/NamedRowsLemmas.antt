@@ -11,7 +11,7 @@ use Rattle.built_in.specs.declared.class_id.ClassId.{ClassId}
 use Rattle.vm_state.specs.declared.ends.FaultKind.TheVariants.{Fault}
 use Rattle.vm_state.specs.Statics.{usable}
 use Rattle.vm_state.specs.SharedState.{Pool, SharedState, same_maker, pool_of, set_pool, set_region, with_field}
-use Rattle.vm_state.specs.SharedState.{with_slot, with_monitor, object_with_monitor, monitor_of, with_new, with_line}
+use Rattle.vm_state.specs.SharedState.{with_slot, with_monitor, object_with_monitor, monitor_of, with_new, with_print}
 use Rattle.semantics.specs.Rows.{Outcome, Halt, Row, Ends, UseClass, ReadStatic, WriteStatic, AskClass, LookInto}
 use Rattle.semantics.specs.Rows.{Change, Make, UseMonitor, Print, Part, Named, part_at}
 use Rattle.semantics.specs.Rows.{Moved, Needs, Waits, lock_monitor, run_row}
@@ -183,9 +183,9 @@ module _ (P : Program) where
 
   pub prints : (text : List ℕ) (next : Row) → LeavesNamed P next → LeavesNamed P (Print text next)
   prints text next on t maker sh =
-      after P t maker sh (with_line sh (record { thread = t; text = text })) next
+      after P t maker sh (with_print sh (record { thread = t; text = text })) next
       (λ m apart. same m) (on t maker _)
     where
-      same : (m : Maker) → pool_of (with_line sh (record { thread = t; text = text })) m ≡ pool_of sh m
+      same : (m : Maker) → pool_of (with_print sh (record { thread = t; text = text })) m ≡ pool_of sh m
       same (Class c) = refl
       same (Thread u) = refl

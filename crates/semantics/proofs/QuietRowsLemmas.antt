@@ -10,7 +10,7 @@ use Rattle.vm_state.specs.declared.value.Maker.TheVariants.{Class, Thread}
 use Rattle.vm_state.specs.declared.classes.ClassState.TheVariants.{Uninitialized, InProgress, Initialized}
 use Rattle.vm_state.specs.declared.classes.Usability.TheVariants.{Ready, Fresh, Busy}
 use Rattle.vm_state.specs.declared.object.Object.{Object}
-use Rattle.vm_state.specs.declared.text.Line.{Line}
+use Rattle.vm_state.specs.Output.{Print as OnePrint}
 use Rattle.vm_state.specs.Statics.{usable}
 use Rattle.vm_state.specs.SharedState.{Pool, Region, SharedState, same_maker, pool_of, set_pool, set_region, with_field}
 use Rattle.vm_state.specs.SharedState.{with_slot}
@@ -37,14 +37,14 @@ use Rattle.semantics.proofs.AgreeingRowsLemmas as AgreeingRows
 
 module _ (S : Setting) where
   -- nothing but c's statics and objects differs from what was there
-  pub record Only (c : ℕ) (regions : ℕ → Region) (pools : ℕ → Pool) (printed : List Line)
+  pub record Only (c : ℕ) (regions : ℕ → Region) (pools : ℕ → Pool) (printed : List OnePrint)
       (sh : SharedState) : Type 0 where
     pub others : (d : ℕ) → (d == c) ≡ false → sh.regions d ≡ regions d
     pub same_pools : (u : ℕ) → sh.pools u ≡ pools u
     pub same_printed : sh.printed ≡ printed
 
   -- the row moves as it does alone
-  pub record MovedQuietly (c : ℕ) (regions : ℕ → Region) (pools : ℕ → Pool) (printed : List Line) (st : States)
+  pub record MovedQuietly (c : ℕ) (regions : ℕ → Region) (pools : ℕ → Pool) (printed : List OnePrint) (st : States)
       (m : QuietMove)
       (outcome : Outcome) (sh : SharedState) : Type 0 where
     pub outcome_is : outcome ≡ Next m.move
@@ -55,7 +55,7 @@ module _ (S : Setting) where
     pub move : KnowsMove (known S.I st (Class c)) m.move
 
   -- for thread t, which is initializing the accepted class c
-  module _ (t c : ℕ) (a : S.I.holds c ≡ true) (regions : ℕ → Region) (pools : ℕ → Pool) (printed : List Line) where
+  module _ (t c : ℕ) (a : S.I.holds c ≡ true) (regions : ℕ → Region) (pools : ℕ → Pool) (printed : List OnePrint) where
     abbrev pub Calm : States → QuietMove → Result → Type 0
     Calm st m (Moved outcome sh) = MovedQuietly c regions pools printed st m outcome sh
     Calm st m (Needs d) = (is_below S.I S.wave c d ≡ true) × (st d ≡ Uninitialized)

@@ -4,7 +4,7 @@ use Rattle.std.proofs.Common.{refl, sym, ap}
 use Rattle.std.proofs.Common.{◌∙◌, subst, eq-eqb, arith}
 use Rattle.vm_state.specs.declared.classes.ClassState.TheVariants.{Uninitialized, InProgress}
 use Rattle.vm_state.specs.declared.ends.Ending.{Ending}
-use Rattle.vm_state.specs.declared.text.Line.{Line}
+use Rattle.vm_state.specs.Output.{Print}
 use Rattle.vm_state.specs.declared.frame.Frame.{Frame}
 use Rattle.vm_state.specs.declared.initialization.Level.{Level}
 use Rattle.semantics.specs.Steps.{Thread, Going, Ended}
@@ -43,7 +43,7 @@ endings-cut I (t ∷ ts) =
 
 pub erased_unseen_lem : ErasedUnseen
 erased_unseen_lem I lazy image erased =
-    ap (λ (p : List Line). record { printed = p; threads = map ending image.threads }) erased.shared.printed
+    ap (λ (p : List Print). record { printed = p; threads = map ending image.threads }) erased.shared.printed
     ∙ (ap (λ (ts : List Thread). record { printed = lazy.shared.printed; threads = map ending ts }) erased.threads
     ∙ ap (λ (es : List Ending). record { printed = lazy.shared.printed; threads = es }) (endings-cut I lazy.threads))
 

@@ -11,7 +11,7 @@ use Rattle.vm_state.specs.declared.classes.Usability.{Usability}
 use Rattle.vm_state.specs.declared.classes.Usability.TheVariants.{Ready, Fresh, Busy, Broken}
 use Rattle.vm_state.specs.Statics.{usable}
 use Rattle.vm_state.specs.SharedState.{SharedState, pool_of, set_pool, set_region, with_field, with_slot, with_new}
-use Rattle.vm_state.specs.SharedState.{with_line, class_at}
+use Rattle.vm_state.specs.SharedState.{with_print, class_at}
 use Rattle.semantics.specs.Rows as rows
 use Rattle.semantics.specs.Rows.{Row, Outcome, Halt, Result, Lock, Blocked, Answered, lock_monitor}
 use Rattle.semantics.specs.Rows.{part_at, run_row}
@@ -85,7 +85,7 @@ change_done t maker sh (Writes c f v) = set_region sh c (with_field (sh.regions 
 change_done t maker sh (Changes x i v) = set_pool sh x.maker (with_slot (pool_of sh x.maker) x.number i v)
 change_done t maker sh (Makes class slots) = set_pool sh maker (with_new (pool_of sh maker) class slots)
 change_done t maker sh (Sets x m) = set_pool sh x.maker (with_monitor (pool_of sh x.maker) x.number m)
-change_done t maker sh (Prints text) = with_line sh (record { thread = t; text = text })
+change_done t maker sh (Prints text) = with_print sh (record { thread = t; text = text })
 
 abbrev pub changes_done : ℕ → Maker → SharedState → List Change → SharedState
 changes_done t maker sh [] = sh

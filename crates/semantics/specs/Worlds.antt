@@ -10,7 +10,7 @@ use Rattle.vm_state.specs.declared.ends.Ending.{Ending}
 use Rattle.vm_state.specs.declared.ends.Ending.TheVariants as endings
 use Rattle.vm_state.specs.declared.object.Object.{Object}
 use Rattle.vm_state.specs.declared.object.Monitor.TheVariants.{Free}
-use Rattle.vm_state.specs.declared.text.Line.{Line}
+use Rattle.vm_state.specs.Output.{Print}
 use Rattle.vm_state.specs.Endings.{ending_of}
 use Rattle.vm_state.specs.Statics.{zeros_of}
 use Rattle.vm_state.specs.SharedState.{Pool, Region, SharedState}
@@ -48,7 +48,7 @@ ending (Ended end) = ending_of end
 
 -- what was printed, and for each thread how far it has come
 pub record Observation : Type 0 where
-  pub printed : List Line
+  pub printed : List Print
   pub threads : List Ending
 
 abbrev pub seen : World → Observation

@@ -6,7 +6,6 @@ use std::process::Abort;
 use std::test::*;
 use thread_runner::replay::replay;
 use thread_runner::{Gate, Open, RunFault, run_threads};
-use vm_state::text::Line;
 
 #[test]
 fn one_thread_prints(rt: HostRuntime) -> Result<(), Fail> {
@@ -94,15 +93,6 @@ fn steps_in(runs: &[(u32, u64)]) -> u64 {
     sum
 }
 
-/// The text of lines.
-fn text_of(alloc: Global, lines: &[Line]) -> Result<Vec<u8>, AllocError> {
-    let mut text = Vec::new(alloc);
-    for line in lines {
-        text.extend_from_slice(line.text.as_bytes())?;
-    }
-    Ok(text)
-}
-
 #[test]
 fn the_last_thread_goes_on_alone(rt: HostRuntime) -> Result<(), Fail> {
     let text = format!(in rt.alloc(); "{LATE}\n{SPIN}\n{M}")?;
@@ -119,10 +109,10 @@ fn the_last_thread_goes_on_alone(rt: HostRuntime) -> Result<(), Fail> {
     let Ok(seen) = replay(rt.alloc(), &program, again, &ended.journal) else {
         return Err(Fail::new("no replay"));
     };
-    assert_eq!(rt; seen.printed.len(), 101);
+    assert_eq!(rt; seen.printed.count(), 101);
     assert_eq!(rt;
         tape.got.as_slice(),
-        text_of(rt.alloc(), seen.printed.as_slice())?.as_slice()
+        seen.printed.text_from(0)
     );
     Ok(())
 }
@@ -144,7 +134,7 @@ fn a_limit_ends_the_last_thread(rt: HostRuntime) -> Result<(), Fail> {
     assert!(rt; EVER_LIMIT <= steps && steps < EVER_LIMIT + 1_024);
     assert_eq!(rt;
         tape.got.as_slice(),
-        text_of(rt.alloc(), ended.seen.printed.as_slice())?.as_slice()
+        ended.seen.printed.text_from(0)
     );
     Ok(())
 }

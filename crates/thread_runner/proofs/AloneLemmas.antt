@@ -1,7 +1,7 @@
 -- A thread goes on alone in the world of a history.
 use Rattle.std.proofs.Common.{◌≡◌, ℕ, ◌+◌, ◌-◌, ◌<◌, ◌≤◌, ◌++◌, List, refl, sym, ap, subst, ◌∙◌, arith, length}
 use Rattle.std.proofs.Common.{replicate}
-use Rattle.vm_state.specs.declared.text.Line.{Line}
+use Rattle.vm_state.specs.Output.{Print}
 use Rattle.semantics.specs.Worlds.{World}
 use Rattle.program.specs.Tables.{Tables}
 use Rattle.machine.specs.Linked.{program_of}
@@ -37,13 +37,13 @@ runs_on P h v j t most bytes made ahead is threads = record {
 }
 
 -- a place among lines of which more are printed
-pub place_on : (old new : List Line) (i n : ℕ) → Grows old new → IsPlace old i n → IsPlace new i n
+pub place_on : (old new : List Print) (i n : ℕ) → Grows old new → IsPlace old i n → IsPlace new i n
 place_on old new i n (more, grown) place = place_grown old new more i n grown place
 
-pub sent_as_before : (old new : List Line) (i n : ℕ) → Grows old new → IsPlace old i n
+pub sent_as_before : (old new : List Print) (i n : ℕ) → Grows old new → IsPlace old i n
     → sent_of new i n ≡ sent_of old i n
 sent_as_before old new i n (more, grown) place =
-    ap (λ (ls : List Line). sent_of ls i n) grown ∙ sent_stays old more i n place
+    ap (λ (ls : List Print). sent_of ls i n) grown ∙ sent_stays old more i n place
 
 -- a book of this history, of whose lines so many have gone out, and so many bytes of the next
 abbrev pub pages_of : Past → ℕ → ℕ → Pages

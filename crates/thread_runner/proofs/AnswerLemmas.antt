@@ -4,7 +4,7 @@ use Rattle.std.proofs.Common.{subst, ◌∙◌, arith, take, length, ◌<◌, �
 use Rattle.std.specs.Prelude.{IsSome}
 use Rattle.std.proofs.Math.Seq.{take-length}
 use Rattle.std.specs.Io.KnownBytes.{Appends}
-use Rattle.vm_state.specs.declared.text.Line.{Line}
+use Rattle.vm_state.specs.Output.{Print, text_of}
 use Rattle.vm_state.specs.Shares.{shared_of}
 use Rattle.semantics.specs.Programs.{Program}
 use Rattle.semantics.specs.Worlds.{World, Run, seen, step, step_of}
@@ -22,14 +22,14 @@ use Rattle.std.proofs.lemmas.Bool.{cases_lt}
 use Rattle.std.proofs.lemmas.List.{length-map}
 use Rattle.std.proofs.lemmas.Option.{slice_get_past}
 use Rattle.init_engine.specs.Rests.{AllEnded, HasStep, IsStuck}
-use Rattle.thread_runner.specs.Answers.{HasEnded, HaveLinesGoneOut, IsAnswer, IsAtLimit, IsBeginning, IsEnd}
+use Rattle.thread_runner.specs.Answers.{HasEnded, HavePrintsGoneOut, IsAnswer, IsAtLimit, IsBeginning, IsEnd}
 use Rattle.thread_runner.specs.Kept.{Grows, IsKept, Past}
-use Rattle.thread_runner.specs.Sendings.{AreOfLines, text_of}
+use Rattle.thread_runner.specs.Sendings.{AreOfPrints}
 use Rattle.thread_runner.specs.declared.answer.Ended.{Ended}
 use Rattle.thread_runner.specs.declared.answer.RunFault.{RunFault}
 use Rattle.thread_runner.specs.declared.answer.RunFault.TheVariants.{Memory, Spawn, Device, Limit, Stuck}
 use Rattle.thread_runner.specs.steps.Verdicts.{IsVerdict}
-use Rattle.thread_runner.proofs.SendingLemmas.{Holds, holds_appends, lines_text, text_stays}
+use Rattle.thread_runner.proofs.SendingLemmas.{Holds, holds_appends, prints_text, text_stays}
 
 -- the first bytes of what was printed
 pub beginning_of : (P : Tables) (start : World) (schedule : List ℕ) (s : Standing) (n : ℕ)
@@ -54,8 +54,8 @@ beginning P start h n sent before got kept is within holds =
 
 -- the first lines of what was printed
 lines_of : (P : Tables) (start : World) (schedule : List ℕ) (s : Standing) (n : ℕ) (before got : Option (List ℕ))
-    → Run (program_of P) start schedule (world_of s) → AreOfLines s.printed n
-    → Appends before got (take n (text_of s.printed)) → HaveLinesGoneOut P start before got
+    → Run (program_of P) start schedule (world_of s) → AreOfPrints s.printed n
+    → Appends before got (take n (text_of s.printed)) → HavePrintsGoneOut P start before got
 unfolding shared_of
 lines_of P start schedule s n before got run (count, within, is) sent = record {
   schedule = schedule;
@@ -63,12 +63,12 @@ lines_of P start schedule s n before got run (count, within, is) sent = record {
   run = run;
   count = count;
   within = within;
-  sent = subst (λ (t : List ℕ). Appends before got t) (lines_text s.printed count n is) sent;
+  sent = subst (λ (t : List ℕ). Appends before got t) (prints_text s.printed count n is) sent;
 }
 
 pub lines_gone : (P : Tables) (start : World) (h : Past) (sent : ℕ) (before got : Option (List ℕ)) → IsKept P start h
-    → AreOfLines h.world.printed sent → Holds before got (take sent (text_of h.world.printed))
-    → HaveLinesGoneOut P start before got
+    → AreOfPrints h.world.printed sent → Holds before got (take sent (text_of h.world.printed))
+    → HavePrintsGoneOut P start before got
 lines_gone P start h sent before got kept whole holds =
     lines_of P start (schedule_of h.journal) h.world sent before got kept.runs whole
     (holds_appends before got (take sent (text_of h.world.printed)) holds)
@@ -89,7 +89,7 @@ answer_of P start limit failed failures schedule s (Ok e) before got run sent v 
 answer_of P start limit failed failures schedule s (Err Memory) before got run sent v =
     let text = text_of s.printed in
     let all : length text ≡ length (text_of (take (length s.printed) s.printed)) =
-    ap (λ (ls : List Line). length (text_of ls)) (sym (take-length s.printed)) in
+    ap (λ (ls : List Print). length (text_of ls)) (sym (take-length s.printed)) in
     lines_of P start schedule s (length text) before got run (length s.printed, omega arith, all)
     (subst (λ (t : List ℕ). Appends before got t) (sym (take-length text)) sent)
 answer_of P start limit failed failures schedule s (Err Spawn) before got run sent v = absurd v
@@ -107,14 +107,14 @@ holds_all before got text n is holds =
     (holds_appends before got (take n text) holds)
 
 -- what was sent stays where more is printed
-pub holds_still : (before got : Option (List ℕ)) (old new : List Line) (n m : ℕ) → Grows old new
+pub holds_still : (before got : Option (List ℕ)) (old new : List Print) (n m : ℕ) → Grows old new
     → n ≤ length (text_of old) → m ≡ n → Holds before got (take n (text_of old))
     → Holds before got (take m (text_of new))
 holds_still before got old new n m (more, grown) within same holds bs is =
     holds bs is
     ∙ ap (λ (t : List ℕ). Some (bs ++ t))
     (sym (text_stays old more n within)
-    ∙ (ap (λ (ls : List Line). take n (text_of ls)) (sym grown)
+    ∙ (ap (λ (ls : List Print). take n (text_of ls)) (sym grown)
     ∙ ap (λ k. take k (text_of new)) (sym same)))
 
 -- ---- turns
@@ -128,8 +128,8 @@ midway P start most n t before got under within sent =
     (schedule_of t.schedule) under) within sent
 
 pub lines_midway : (P : Tables) (start : World) (most n : ℕ) (t : Midway) (before got : Option (List ℕ))
-    → IsUnderWay (program_of P) start most t → AreOfLines t.world.printed n
-    → Appends before got (take n (text_of t.world.printed)) → HaveLinesGoneOut P start before got
+    → IsUnderWay (program_of P) start most t → AreOfPrints t.world.printed n
+    → Appends before got (take n (text_of t.world.printed)) → HavePrintsGoneOut P start before got
 lines_midway P start most n t before got under whole sent =
     lines_of P start (schedule_of t.schedule) t.world n before got
     (run_so_far (program_of P) (length t.world.threads) most t.left t.asked t.done start (world_of t.world)

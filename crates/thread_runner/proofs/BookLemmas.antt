@@ -8,7 +8,7 @@ use Rattle.std.proofs.lemmas.List.{length-replicate}
 use Rattle.vm_state.specs.declared.frame.Frame.{Frame}
 use Rattle.vm_state.specs.declared.initialization.Frames.{Frames}
 use Rattle.vm_state.specs.declared.initialization.Level.{Level}
-use Rattle.vm_state.specs.declared.text.Line.{Line}
+use Rattle.vm_state.specs.Output.{Print}
 use Rattle.vm_state.specs.Shares.{shared_of}
 use Rattle.semantics.specs.Steps.{Thread, Going, Ended}
 use Rattle.semantics.specs.Worlds.{World, Run, step}
@@ -125,10 +125,10 @@ pub printed_same : (a b : Standing) → world_of a ≡ world_of b → a.printed 
 unfolding shared_of
 printed_same a b h = ap (λ (w : World). w.shared.printed) h
 
-pub grows_none : (old new : List Line) → new ≡ old → Grows old new
+pub grows_none : (old new : List Print) → new ≡ old → Grows old new
 grows_none old new same = ([], same ∙ sym (append-nil old))
 
-pub grows_by : (turn : Turn) (old new : List Line) → Prints turn old new → Grows old new
+pub grows_by : (turn : Turn) (old new : List Print) → Prints turn old new → Grows old new
 grows_by turns.Moved old new (inl same) = grows_none old new same
 grows_by turns.Moved old new (inr (line, more)) = (line ∷ [], more)
 grows_by turns.Waiting old new same = grows_none old new same

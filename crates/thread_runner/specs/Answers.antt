@@ -7,7 +7,7 @@ use Rattle.machine.specs.Linked.{program_of}
 use Rattle.init_engine.specs.Observations.{IsObservation}
 use Rattle.init_engine.specs.Rests.{AllEnded, HasStep, IsStuck}
 use Rattle.init_engine.specs.Schedules.{schedule_of}
-use Rattle.thread_runner.specs.Sendings.{text_of}
+use Rattle.vm_state.specs.Output.{text_of}
 use Rattle.thread_runner.specs.declared.answer.Ended.{Ended}
 use Rattle.thread_runner.specs.declared.answer.RunFault.{RunFault}
 use Rattle.thread_runner.specs.declared.answer.RunFault.TheVariants.{Memory, Spawn, Device, Limit, Stuck}
@@ -25,8 +25,8 @@ pub record IsBeginning (P : Tables) (start : World) (n : ℕ) (before after : Op
   pub within : n ≤ length (text_of last.shared.printed)
   pub sent : Appends before after (take n (text_of last.shared.printed))
 
--- the first lines of what some run printed have gone out, each of them whole
-pub record HaveLinesGoneOut (P : Tables) (start : World) (before after : Option (List ℕ)) : Type 0 where
+-- the first prints of some run have gone out, each of them whole
+pub record HavePrintsGoneOut (P : Tables) (start : World) (before after : Option (List ℕ)) : Type 0 where
   pub schedule : List ℕ
   pub last : World
   pub run : Run (program_of P) start schedule last
@@ -51,8 +51,8 @@ pub record HasEnded (P : Tables) (start : World) (e : Ended) (how : World → Ty
   pub sent : Appends before after (text_of last.shared.printed)
 
 abbrev pub IsFault : Tables → World → ℕ → RunFault → Option (List ℕ) → Option (List ℕ) → ℕ → ℕ → Type 0
-IsFault P start limit Memory before after failed failures = HaveLinesGoneOut P start before after
-IsFault P start limit Spawn before after failed failures = HaveLinesGoneOut P start before after
+IsFault P start limit Memory before after failed failures = HavePrintsGoneOut P start before after
+IsFault P start limit Spawn before after failed failures = HavePrintsGoneOut P start before after
 IsFault P start limit (Device n) before after failed failures =
     IsBeginning P start n before after × (failures ≢ failed)
 IsFault P start limit (Limit e) before after failed failures =
@@ -61,7 +61,7 @@ IsFault P start limit (Stuck e) before after failed failures = HasEnded P start 
 
 -- Ok: all threads have ended. Limit: the journal has as many steps as it may, and a thread has a step. Stuck: no thread
 -- has a step, and one has not ended. All that was printed has gone out then. Device: the first bytes of it. Memory and
--- Spawn: the first lines of it.
+-- Spawn: the first prints of it.
 abbrev pub IsAnswer : Tables → World → ℕ → Result Ended RunFault → Option (List ℕ) → Option (List ℕ) → ℕ → ℕ → Type 0
 IsAnswer P start limit (Ok e) before after failed failures = HasEnded P start e AllEnded before after
 IsAnswer P start limit (Err fault) before after failed failures =

@@ -34,7 +34,7 @@ pub record Same (old new : Past) : Type 0 where
   pub journal : new.journal ≡ old.journal
   pub limit : new.limit ≡ old.limit
 
--- what a commit leaves: the lines that were printed, and maybe more, as many threads, and the limit
+-- what a commit leaves: what was printed, and maybe more, as many threads, and the limit
 pub record GoesOn (old new : Past) : Type 0 where
   pub grows : Grows old.world.printed new.world.printed
   pub threads : length new.world.threads ≡ length old.world.threads

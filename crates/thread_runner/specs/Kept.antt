@@ -1,13 +1,12 @@
 -- What a book keeps.
 use Rattle.std.specs.Prelude.{◌≡◌, ℕ, ◌+◌, ◌<◌, ◌≤◌, ◌^◌, ◌++◌, List, length}
-use Rattle.vm_state.specs.declared.text.Line.{Line}
+use Rattle.vm_state.specs.Output.{Print, text_of}
 use Rattle.semantics.specs.Worlds.{World, Run}
 use Rattle.program.specs.Tables.{Tables}
 use Rattle.machine.specs.Linked.{program_of}
 use Rattle.init_engine.specs.Schedules.{schedule_of, AreRuns}
 use Rattle.init_engine.specs.Standing.{Standing}
 use Rattle.init_engine.specs.Turns.{world_of}
-use Rattle.thread_runner.specs.Sendings.{text_of}
 
 -- ---- the history of all threads
 
@@ -28,14 +27,14 @@ pub record IsKept (P : Tables) (start : World) (h : Past) : Type 0 where
   pub room : steps_of h < h.limit + 1024
   pub limit : h.limit ≤ 2 ^ 62
 
--- lines that were printed, and more
-abbrev pub Grows : List Line → List Line → Type 0
-Grows old new = (lines : List Line) × (new ≡ old ++ lines)
+-- what was printed, and more
+abbrev pub Grows : List Print → List Print → Type 0
+Grows old new = (prints : List Print) × (new ≡ old ++ prints)
 
 -- ---- a book
 
 -- a book as contracts see it: its history, how many bytes of what was printed have gone out, and how many of these are
--- of a line that has not gone out whole
+-- behind the prints that have gone out whole
 pub record Pages : Type 0 where
   pub past : Past
   pub sent : ℕ

@@ -11,7 +11,7 @@ ghost use Rattle.thread_runner.specs.Answers.{IsAnswer};
 ghost use Rattle.thread_runner.specs.steps.Verdicts.{IsVerdict};
 
 use crate::answer::{Ended, RunFault, end_with};
-use crate::sending::{send_lines, text_length};
+use crate::sending::{send_further, text_length};
 use init_engine::{Rest, Turning, World};
 use journal::Journal;
 use program::Program;
@@ -55,20 +55,20 @@ pub(crate) fn run_alone<S: Sink>(
 {
     let most = most_steps(limit);
     let mut turning = Turning::new(alloc, world, most);
-    let mut line = 0;
+    let mut prints = 0;
     let mut within = 0;
     'slices: loop {
         let Ok(over) = turning.go_on(alloc, program, STEPS, BYTES) else {
             return Err(RunFault::Memory);
         };
-        let (lines, bytes, whole) = send_lines(turning.printed(), line, within, sink);
+        let (count, bytes, whole) = send_further(turning.printed(), prints, within, sink);
         if !whole {
-            return Err(RunFault::Device(text_length(turning.printed(), lines) + bytes as u128));
+            return Err(RunFault::Device(text_length(turning.printed(), count) + bytes as u128));
         }
         if over {
             return end_of_turns(alloc, program, turning);
         }
-        line = lines;
+        prints = count;
         within = bytes;
     }
 }

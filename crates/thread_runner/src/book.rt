@@ -1,6 +1,6 @@
 //! One history of all threads, and how much of what was printed has gone out.
 
-ghost use Rattle.std.specs.Prelude.{◌≡◌, ◌≢◌, ◌+◌, ◌<◌, ◌≤◌, ◌^◌, ℕ, [], true, false, Some, None, IfOk, OnOk, OnErr};
+ghost use Rattle.std.specs.Prelude.{◌≡◌, ◌≢◌, ◌+◌, ◌<◌, ◌≤◌, ◌^◌, ℕ, [], true, false, IfOk, OnOk, OnErr};
 ghost use Rattle.std.specs.Prelude.{length};
 ghost use Rattle.vm_state.specs.declared.classes.ClassState.TheVariants.{Initialized};
 ghost use Rattle.init_engine.specs.Schedules.{AreRuns};
@@ -11,14 +11,14 @@ ghost use Rattle.thread_runner.specs.Fronts.{IsFrontCommit};
 ghost use Rattle.thread_runner.specs.Kept.{IsKept, printed_text, steps_of};
 ghost use Rattle.thread_runner.specs.Local.{AreDone, is_done};
 ghost use Rattle.courses.specs.steps.StepTables.{KeepsSteps};
-ghost use Rattle.thread_runner.specs.Sendings.{AreOfLines, SendsOn};
+ghost use Rattle.thread_runner.specs.Sendings.{AreOfPrints, SendsOn};
 ghost use Rattle.thread_runner.specs.steps.Alone.{CanRunOn, RunsOn};
 
 use crate::done_set::DoneSet;
 use crate::front::FrontStretch;
 use crate::history::{Commit, History};
 use crate::origin::Origin;
-use crate::sending::{send_lines, text_length};
+use crate::sending::{send_further, text_length};
 use crate::stretch::Stretch;
 use courses::step_table::StepTable;
 use init_engine::World;
@@ -33,8 +33,8 @@ use vm_state::initialization::Frames;
 #[derive(Drop)]
 pub struct Book<O: Origin> {
     history: History<O>,
-    /// So many lines have gone out, and so many bytes of the next.
-    lines: usize,
+    /// So many prints have gone out, and so many bytes of those behind them.
+    prints: usize,
     bytes: usize,
 }
 
@@ -46,11 +46,11 @@ impl<O: Origin> Model for Book<O> {
 
     ghost view = { λ b. record {
       past = b.history;
-      sent = sent_of b.history.world.printed b.lines b.bytes;
+      sent = sent_of b.history.world.printed b.prints b.bytes;
       part = b.bytes;
     } };
 
-    ghost invariant = { λ b. IsPlace b.history.world.printed b.lines b.bytes };
+    ghost invariant = { λ b. IsPlace b.history.world.printed b.prints b.bytes };
 }
 
 impl<O: Origin> Book<O> {
@@ -64,7 +64,7 @@ impl<O: Origin> Book<O> {
     {
         Book {
             history: History::new(alloc, world, limit),
-            lines: 0,
+            prints: 0,
             bytes: 0,
         }
     }
@@ -74,8 +74,8 @@ impl<O: Origin> Book<O> {
         ensures is { result.now ≡ self.now.past.world }
         ensures kept { IsKept O.program O.start self.now.past }
         ensures sent { self.now.sent ≤ length (printed_text self.now) }
-        // Where none of the bytes that have gone out are of a line that has not gone out whole.
-        ensures lines { self.now.part ≡ 0 → AreOfLines self.now.past.world.printed self.now.sent }
+        // Where nothing has gone out behind the prints that have gone out whole.
+        ensures prints { self.now.part ≡ 0 → AreOfPrints self.now.past.world.printed self.now.sent }
     {
         self.history.world()
     }
@@ -96,7 +96,7 @@ impl<O: Origin> Book<O> {
     {
         let Book {
             history,
-            lines: _,
+            prints: _,
             bytes: _,
         } = self;
         history.into_parts()
@@ -157,58 +157,18 @@ impl<O: Origin> Book<O> {
     ///
     /// # Errors
     /// `AllocError` where memory is refused.
-    pub(crate) fn front(&self, alloc: Global, thread: u32) -> Result<Option<Frame>, AllocError>
+    pub fn front(&self, alloc: Global, thread: u32) -> Result<Option<Frame>, AllocError>
         requires { thread < length self.now.past.world.threads }
         ensures { IfOk result (λ f. f ≡ front_of (world_of self.now.past.world) thread) }
     {
         self.history.world().front(alloc, thread)
     }
 
-    /// The steps of a stretch on a front, and one more where there is one.
-    ///
-    /// # Errors
-    /// `AllocError` where memory is refused; nothing has changed then.
-    pub(crate) fn commit_front(
-        &mut self,
-        alloc: Global,
-        program: &Program,
-        thread: u32,
-        stretch: FrontStretch<O>,
-    ) -> Result<Commit, AllocError>
-        requires program { program.now ≡ O.program }
-        requires thread { thread < length self.old.past.world.threads }
-        ensures answer { IfOk result
-            (λ a. IsFrontCommit O.program self.old.past thread (Some stretch) a self.new.past) }
-        ensures goes_on { PagesGoOn self.old self.new }
-        ensures memory { OnErr result (Same self.old.past self.new.past) }
-    {
-        self.history.commit_front(alloc, program, thread, stretch)
-    }
-
-    /// One step of a thread, where there is one.
-    ///
-    /// # Errors
-    /// `AllocError` where memory is refused; nothing has changed then.
-    pub(crate) fn commit_none(
-        &mut self,
-        alloc: Global,
-        program: &Program,
-        thread: u32,
-    ) -> Result<Commit, AllocError>
-        requires program { program.now ≡ O.program }
-        requires thread { thread < length self.old.past.world.threads }
-        ensures answer { IfOk result (λ a. IsFrontCommit O.program self.old.past thread None a self.new.past) }
-        ensures goes_on { PagesGoOn self.old self.new }
-        ensures memory { OnErr result (Same self.old.past self.new.past) }
-    {
-        self.history.commit_none(alloc, program, thread)
-    }
-
     /// The steps of a stretch on a front, if there is one, and one more where there is one.
     ///
     /// # Errors
     /// `AllocError` where memory is refused; nothing has changed then.
-    pub(crate) fn commit_made(
+    pub fn commit_front(
         &mut self,
         alloc: Global,
         program: &Program,
@@ -217,13 +177,11 @@ impl<O: Origin> Book<O> {
     ) -> Result<Commit, AllocError>
         requires program { program.now ≡ O.program }
         requires thread { thread < length self.old.past.world.threads }
+        ensures answer { IfOk result (λ a. IsFrontCommit O.program self.old.past thread made a self.new.past) }
         ensures goes_on { PagesGoOn self.old self.new }
         ensures memory { OnErr result (Same self.old.past self.new.past) }
     {
-        match made {
-            Some(stretch) => self.commit_front(alloc, program, thread, stretch),
-            None => self.commit_none(alloc, program, thread),
-        }
+        self.history.commit_front(alloc, program, thread, made)
     }
 
     /// How many bytes of what was printed have gone out.
@@ -231,7 +189,7 @@ impl<O: Origin> Book<O> {
         ensures is { result ≡ self.now.sent }
         ensures within { self.now.sent ≤ length (printed_text self.now) }
     {
-        text_length(self.history.world().printed(), self.lines) + self.bytes as u128
+        text_length(self.history.world().printed(), self.prints) + self.bytes as u128
     }
 
     /// Sends what was printed and has not gone out.
@@ -246,13 +204,13 @@ impl<O: Origin> Book<O> {
         ensures failed { OnErr result (S.failures sink.new ≢ S.failures sink.old) }
         ensures well { OnOk result (S.failures sink.new ≡ S.failures sink.old) }
     {
-        let (lines, bytes, whole) = send_lines(
+        let (prints, bytes, whole) = send_further(
             self.history.world().printed(),
-            self.lines,
+            self.prints,
             self.bytes,
             sink,
         );
-        self.lines = lines;
+        self.prints = prints;
         self.bytes = bytes;
         if whole { Ok(()) } else { Err(SinkFault) }
     }
@@ -288,14 +246,14 @@ impl<O: Origin> Book<O> {
     {
         let Book {
             history,
-            lines,
+            prints,
             bytes: within,
         } = self;
         match history.run_on(alloc, program, table, thread, steps, bytes) {
             Ok((history, made)) => Ok((
                 Book {
                     history,
-                    lines,
+                    prints,
                     bytes: within,
                 },
                 made,

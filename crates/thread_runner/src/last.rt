@@ -6,7 +6,7 @@ ghost use Rattle.machine.specs.Linked.{program_of};
 ghost use Rattle.courses.specs.steps.StepTables.{KeepsSteps};
 ghost use Rattle.init_engine.specs.Schedules.{schedule_of, AreRuns};
 ghost use Rattle.init_engine.specs.Turnings.{RunsAhead};
-ghost use Rattle.thread_runner.specs.Answers.{HaveLinesGoneOut};
+ghost use Rattle.thread_runner.specs.Answers.{HavePrintsGoneOut};
 ghost use Rattle.thread_runner.specs.Kept.{steps_of};
 
 use crate::alone::{BYTES, STEPS};
@@ -100,7 +100,7 @@ impl<O: Session, S: Sink> Desk<O, S> {
         started: bool,
     ) -> Result<Desk<O, S>, S>
         requires { program.now ≡ O.program }
-        ensures { IfErr result (λ s. HaveLinesGoneOut O.program O.start O.before (S.got s)) }
+        ensures { IfErr result (λ s. HavePrintsGoneOut O.program O.start O.before (S.got s)) }
     {
         if self.failed || self.memory || !started {
             return Ok(self);
@@ -119,7 +119,7 @@ impl<O: Session, S: Sink> Desk<O, S> {
         requires program { program.now ≡ O.program }
         requires thread { thread < length O.start.threads }
         requires failed { self.failed ≡ false }
-        ensures { IfErr result (λ s. HaveLinesGoneOut O.program O.start O.before (S.got s)) }
+        ensures { IfErr result (λ s. HavePrintsGoneOut O.program O.start O.before (S.got s)) }
     {
         let mut desk = self;
         let mut table = StepTable::new(alloc);
@@ -160,7 +160,7 @@ impl<O: Session, S: Sink> Desk<O, S> {
         ensures keeps { OnOk result (KeepsSteps program.now table.new) }
         ensures most { IfOk result (λ r. r.1 ≤ most) }
         ensures room { IfOk result (λ r. steps_of r.0.book.past + (most - r.1) < r.0.book.past.limit + 1024) }
-        ensures memory { IfErr result (λ s. HaveLinesGoneOut O.program O.start O.before (S.got s)) }
+        ensures memory { IfErr result (λ s. HavePrintsGoneOut O.program O.start O.before (S.got s)) }
     {
         let _world = self.book.world();
         let Desk {

@@ -8,3 +8,4 @@ pub mod ObjectLemmas
 pub mod SlotLemmas
 pub mod HeldCountLemmas
 pub mod VariableLemmas
+pub mod OutputLemmas

@@ -3,7 +3,7 @@ use Rattle.std.proofs.Common.{◌≡◌, ℕ, Bool, true, false, List, refl, ap,
 use Rattle.std.proofs.Common.{Result, Ok, Err, OnErr}
 use Rattle.std.proofs.Math.Path.{fun_ext}
 use Rattle.vm_state.specs.declared.value.Value.{Value}
-use Rattle.vm_state.specs.declared.text.Line.{Line}
+use Rattle.vm_state.specs.Output.{Print}
 use Rattle.vm_state.specs.SharedTables.{SharedTables}
 use Rattle.vm_state.specs.declared.classes.ClassArea.{ClassArea}
 use Rattle.vm_state.specs.declared.classes.ClassState.{ClassState}
@@ -21,13 +21,13 @@ use Rattle.vm_state.proofs.PoolLemmas.{equal_turned}
 
 pub shared_of-kept : (s : SharedTables) (b : List ClassArea) → states_of b ≡ states_of s.classes →
     fields_of b ≡ fields_of s.classes →
-    (p : List Line) → shared_of (record s { classes = b }) p ≡ shared_of s p
+    (p : List Print) → shared_of (record s { classes = b }) p ≡ shared_of s p
 unfolding shared_of
 shared_of-kept s b states fields p = rw (states, fields) refl
 
 pub shared_of-state : (s : SharedTables) (b : List ClassArea) (c : ℕ) (state : ClassState) →
     states_of b ≡ with_state (states_of s.classes) c state → fields_of b ≡ fields_of s.classes →
-    (p : List Line) → shared_of (record s { classes = b }) p ≡ set_state (shared_of s p) c state
+    (p : List Print) → shared_of (record s { classes = b }) p ≡ set_state (shared_of s p) c state
 unfolding shared_of
 shared_of-state s b c state states fields p = rw (states, fields) refl
 
@@ -49,12 +49,12 @@ regions_with : (fields : ℕ → ℕ → Value) (pools : ℕ → Pool) (c : ℕ)
 regions_with fields pools c fs b is =
     fun_ext (λ d. ap (λ (g : ℕ → ℕ → Value). region (g d) (pools d)) is ∙ region_with fields pools c fs d)
 
-abbrev shared_by : (ℕ → ClassState) → (ℕ → Region) → (ℕ → Pool) → List Line → SharedState
+abbrev shared_by : (ℕ → ClassState) → (ℕ → Region) → (ℕ → Pool) → List Print → SharedState
 shared_by states regions pools printed = record { states = states; regions = regions; pools = pools; printed = printed }
 
 pub shared_of-fields : (s : SharedTables) (b : List ClassArea) (c : ℕ) (fs : ℕ → Value) →
     states_of b ≡ states_of s.classes → fields_of b ≡ with_fields (fields_of s.classes) c fs →
-    (p : List Line) → shared_of (record s { classes = b }) p ≡ set_region (shared_of s p) c
+    (p : List Print) → shared_of (record s { classes = b }) p ≡ set_region (shared_of s p) c
     (record ((shared_of s p).regions c) { fields = fs })
 unfolding shared_of
 shared_of-fields s b c fs states fields p =
@@ -65,7 +65,7 @@ shared_of-fields s b c fs states fields p =
 pub shared_of-begun : (s : SharedTables) (b : List ClassArea) (c t : ℕ) (statics : List StaticField) →
     states_of b ≡ with_state (states_of s.classes) c (InProgress t) →
     fields_of b ≡ with_fields (fields_of s.classes) c (with_constants statics (fields_of s.classes c)) →
-    (p : List Line) → shared_of (record s { classes = b }) p ≡ begun (shared_of s p) c t statics
+    (p : List Print) → shared_of (record s { classes = b }) p ≡ begun (shared_of s p) c t statics
 unfolding shared_of
 shared_of-begun s b c t statics states fields p =
     ap (λ g. shared_by g (λ d. region (fields_of b d) (pool_in s.heap.classes d)) (pool_in s.heap.threads) p) states
@@ -76,7 +76,7 @@ shared_of-begun s b c t statics states fields p =
 pub shared_of-field : (s : SharedTables) (b : List ClassArea) (c f : ℕ) (v : Value) → states_of b ≡ states_of s.classes
     →
     fields_of b ≡ with_fields (fields_of s.classes) c (with_value (fields_of s.classes c) f v) →
-    (p : List Line) → shared_of (record s { classes = b }) p ≡ set_region (shared_of s p) c
+    (p : List Print) → shared_of (record s { classes = b }) p ≡ set_region (shared_of s p) c
     (with_field ((shared_of s p).regions c) f v)
 unfolding shared_of
 shared_of-field s b c f v states fields = shared_of-fields s b c (with_value (fields_of s.classes c) f v) states fields
@@ -94,7 +94,7 @@ with_one fields pools c p d = chosen (c == d) where
 
 pub changed_by_class : (s : SharedTables) (b : List ObjectRow) (c : ℕ) (change : Pool → Pool) →
     pool_in b ≡ with_pool (pool_in s.heap.classes) c (change (pool_in s.heap.classes c)) →
-    (p : List Line) →
+    (p : List Print) →
     shared_of (record s { heap = record s.heap { classes = b } }) p
     ≡ set_pool (shared_of s p) (Class c) (change (pool_of (shared_of s p) (Class c)))
 unfolding shared_of
@@ -105,7 +105,7 @@ changed_by_class s b c change is p =
 
 pub changed_by_thread : (s : SharedTables) (b : List ObjectRow) (t : ℕ) (change : Pool → Pool) →
     pool_in b ≡ with_pool (pool_in s.heap.threads) t (change (pool_in s.heap.threads t)) →
-    (p : List Line) →
+    (p : List Print) →
     shared_of (record s { heap = record s.heap { threads = b } }) p
     ≡ set_pool (shared_of s p) (Thread t) (change (pool_of (shared_of s p) (Thread t)))
 unfolding shared_of
@@ -113,7 +113,7 @@ changed_by_thread s b t change is p =
     let regions : ℕ → Region = λ d. region (fields_of s.classes d) (pool_in s.heap.classes d) in
     ap (λ (pools : ℕ → Pool). shared_by (states_of s.classes) regions pools p) is
 
-pub made_none_by_class : (s : SharedTables) (b : List ObjectRow) → pool_in b ≡ pool_in s.heap.classes → (p : List Line)
+pub made_none_by_class : (s : SharedTables) (b : List ObjectRow) → pool_in b ≡ pool_in s.heap.classes → (p : List Print)
     →
     shared_of (record s { heap = record s.heap { classes = b } }) p ≡ shared_of s p
 unfolding shared_of
@@ -139,7 +139,7 @@ tables classes rows threads = record { classes = classes; heap = record { classe
 pub shared_of-initialized : (s : SharedTables) (b : List ClassArea) (rows : List ObjectRow) (c : ℕ) (fs : ℕ → Value)
     (pool : Pool) → states_of b ≡ with_state (states_of s.classes) c Initialized →
     fields_of b ≡ with_fields (fields_of s.classes) c fs → pool_in rows ≡ with_pool (pool_in s.heap.classes) c pool →
-    (p : List Line) → shared_of (tables b rows s.heap.threads) p ≡ initialized (shared_of s p) c (region fs pool)
+    (p : List Print) → shared_of (tables b rows s.heap.threads) p ≡ initialized (shared_of s p) c (region fs pool)
 unfolding shared_of
 shared_of-initialized s b rows c fs pool states fields pools p =
     let threads = pool_in s.heap.threads in

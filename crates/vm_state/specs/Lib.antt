@@ -12,5 +12,6 @@ pub mod Pools
 pub mod SharedTables
 pub mod Shares
 pub mod Endings
+pub mod Output
 pub mod Texts
 pub mod steps

@@ -11,7 +11,7 @@ use Rattle.vm_state.specs.declared.object.Object.{Object}
 use Rattle.vm_state.specs.declared.object.Monitor.{Monitor}
 use Rattle.vm_state.specs.declared.object.Monitor.TheVariants.{Free}
 use Rattle.vm_state.specs.declared.classes.ClassState.{ClassState}
-use Rattle.vm_state.specs.declared.text.Line.{Line}
+use Rattle.vm_state.specs.Output.{Print}
 
 -- the objects of one maker, by their numbers
 pub record Pool : Type 0 where
@@ -27,7 +27,7 @@ pub record SharedState : Type 0 where
   pub states : ℕ → ClassState
   pub regions : ℕ → Region
   pub pools : ℕ → Pool
-  pub printed : List Line
+  pub printed : List Print
 
 abbrev pub same_maker : Maker → Maker → Bool
 same_maker (Class c) (Class d) = c == d
@@ -111,5 +111,5 @@ made sh m class slots = set_pool sh m (with_new (pool_of sh m) class slots)
 abbrev pub object_of : SharedState → Name → Option Object
 object_of sh name = (pool_of sh name.maker).at name.number
 
-abbrev pub with_line : SharedState → Line → SharedState
-with_line sh line = record sh { printed = sh.printed ++ line ∷ [] }
+abbrev pub with_print : SharedState → Print → SharedState
+with_print sh line = record sh { printed = sh.printed ++ line ∷ [] }

@@ -1,2 +1,3 @@
 pub mod Objects
 pub mod Statics
+pub mod Output

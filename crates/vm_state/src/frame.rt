@@ -1,6 +1,6 @@
 //! Frames (JVMS 2.6), and lists of them.
 
-ghost use Rattle.std.specs.Prelude.{◌≡◌, ◌∷◌, [], IfOk, IfErr, OnOk, OnErr, None, ◌≢◌, true, false};
+ghost use Rattle.std.specs.Prelude.{◌≡◌, ◌∷◌, [], IfOk, IfErr, OnOk, OnErr, None, ◌≢◌, true, false, reverse};
 ghost use Rattle.vm_state.specs.Segments.{frames_in, first_frame, callers_of};
 ghost use Rattle.vm_state.specs.Operands.{dropped};
 
@@ -109,6 +109,13 @@ impl Model for FrameList {
 }
 
 impl FrameList {
+    /// The frames, the outermost first.
+    pub fn outermost_first(&self) -> &[Frame]
+        ensures { result.now ≡ reverse self.now }
+    {
+        self.frames.as_slice()
+    }
+
     /// Whether these are the same.
     pub fn is_same(&self, other: &FrameList) -> bool
         ensures yes { result ≡ true → self.now ≡ other.now }

@@ -11,6 +11,7 @@ mod items;
 pub mod locals;
 pub mod object;
 pub mod operands;
+pub mod output;
 pub mod shared;
 pub mod spares;
 pub mod text;

@@ -1,7 +1,7 @@
 //! What all threads share.
 
 ghost use Rattle.std.specs.Prelude.{◌≡◌, List, IfOk, IsOk, OnOk, OnErr, option_copied, option_map, ◌<◌, ◌+◌, length};
-ghost use Rattle.vm_state.specs.declared.text.Line.{Line};
+ghost use Rattle.vm_state.specs.Output.{Print};
 ghost use Rattle.vm_state.specs.SharedState.{object_of, class_at, pool_of, set_pool, slots_at, with_slot};
 ghost use Rattle.vm_state.specs.SharedState.{monitor_of, with_monitor};
 ghost use Rattle.vm_state.specs.Statics.{IsPlaced};
@@ -44,7 +44,7 @@ impl Shared {
     #[tactic(auto, unfolding(crate::specs::Shares::shared_of))]
     #[inline(always)]
     pub fn state(&self, class: u32) -> ClassState
-        ensures { (p : List Line) → result ≡ (shared_of self.now p).states class }
+        ensures { (p : List Print) → result ≡ (shared_of self.now p).states class }
     {
         self.classes.state(class)
     }
@@ -53,7 +53,7 @@ impl Shared {
     #[tactic(auto, unfolding(crate::specs::Shares::shared_of))]
     #[inline(always)]
     pub fn field(&self, class: u32, field: u32) -> Value
-        ensures { (p : List Line) → result ≡ ((shared_of self.now p).regions class).fields field }
+        ensures { (p : List Print) → result ≡ ((shared_of self.now p).regions class).fields field }
     {
         self.classes.field(class, field)
     }
@@ -163,7 +163,7 @@ impl Shared {
     #[tactic(auto, unfolding(crate::specs::Shares::shared_of))]
     #[inline(always)]
     pub fn object(&self, name: Name) -> Option<&Object>
-        ensures { (p : List Line) → option_copied result ≡ object_of (shared_of self.now p) name }
+        ensures { (p : List Print) → option_copied result ≡ object_of (shared_of self.now p) name }
     {
         match name.maker {
             Maker::Class(class) => self.heap.classes.object(class, name.number),
@@ -174,7 +174,7 @@ impl Shared {
     /// The objects of a maker with their numbers, in the order of the numbers, none left out.
     #[tactic(auto, unfolding(crate::specs::Shares::shared_of))]
     pub fn row(&self, maker: Maker) -> &[(u64, Object)]
-        ensures { (p : List Line) → IsRowOf result.now (pool_of (shared_of self.now p) maker) }
+        ensures { (p : List Print) → IsRowOf result.now (pool_of (shared_of self.now p) maker) }
     {
         self.heap.row(maker)
     }
@@ -182,7 +182,7 @@ impl Shared {
     /// The class of the object of a name, if it is held.
     #[inline(always)]
     pub fn class_of(&self, name: Name) -> Option<ClassId>
-        ensures { (p : List Line) → result ≡ class_at (pool_of (shared_of self.now p) name.maker) name.number }
+        ensures { (p : List Print) → result ≡ class_at (pool_of (shared_of self.now p) name.maker) name.number }
     {
         match self.object(name) {
             Some(object) => Some(object.class),
@@ -193,7 +193,7 @@ impl Shared {
     /// The slots of the object of a name, if it is held.
     #[inline(always)]
     pub fn slots(&self, name: Name) -> Option<&[Value]>
-        ensures { (p : List Line) → option_map (λ s. s.now) result
+        ensures { (p : List Print) → option_map (λ s. s.now) result
             ≡ slots_at (pool_of (shared_of self.now p) name.maker) name.number }
     {
         match self.object(name) {
@@ -207,7 +207,7 @@ impl Shared {
     #[tactic(auto, unfolding(crate::specs::Shares::shared_of))]
     #[inline(always)]
     pub fn set_slot(&mut self, name: Name, slot: usize, value: Value)
-        ensures { (p : List Line) → shared_of self.new p ≡ set_pool (shared_of self.old p) name.maker
+        ensures { (p : List Print) → shared_of self.new p ≡ set_pool (shared_of self.old p) name.maker
             (with_slot (pool_of (shared_of self.old p) name.maker) name.number slot value) }
     {
         match name.maker {
@@ -218,7 +218,7 @@ impl Shared {
 
     /// The monitor of the object of a name; of one that is not held it is free.
     pub fn monitor(&self, name: Name) -> Monitor
-        ensures { (p : List Line) → result ≡ monitor_of (object_of (shared_of self.now p) name) }
+        ensures { (p : List Print) → result ≡ monitor_of (object_of (shared_of self.now p) name) }
     {
         match self.object(name) {
             Some(object) => object.monitor,
@@ -229,7 +229,7 @@ impl Shared {
     /// Sets the monitor of the object of a name, without memory. Where it is not held nothing changes.
     #[tactic(auto, unfolding(crate::specs::Shares::shared_of))]
     pub fn set_monitor(&mut self, name: Name, monitor: Monitor)
-        ensures { (p : List Line) → shared_of self.new p ≡ set_pool (shared_of self.old p) name.maker
+        ensures { (p : List Print) → shared_of self.new p ≡ set_pool (shared_of self.old p) name.maker
             (with_monitor (pool_of (shared_of self.old p) name.maker) name.number monitor) }
     {
         match name.maker {

@@ -102,11 +102,3 @@ impl Text {
         self.bytes.as_slice()
     }
 }
-
-/// One print of a thread.
-#[derive(Drop)]
-pub struct Line {
-    /// The number of the thread that printed.
-    pub thread: u32,
-    pub text: Text,
-}

@@ -1,11 +1,10 @@
 -- What a step of a thread says, in the words of the definition.
-use Rattle.std.specs.Prelude.{◌≡◌, ◌<◌, ℕ, List, [], ◌∷◌, Option, Some, None, vec_len, vec_capacity}
-use Rattle.std.specs.Global.{Vec}
+use Rattle.std.specs.Prelude.{◌≡◌, ℕ, List, [], ◌∷◌, ◌++◌, Option, Some, None}
 use Rattle.vm_state.specs.declared.ends.End.{End}
 use Rattle.vm_state.specs.declared.initialization.Frames.{Frames}
 use Rattle.vm_state.specs.SharedTables.{SharedTables}
-use Rattle.vm_state.specs.declared.text.Line.{Line}
-use Rattle.vm_state.specs.SharedState.{SharedState, with_line}
+use Rattle.vm_state.specs.Output.{Print}
+use Rattle.vm_state.specs.SharedState.{SharedState, with_print}
 use Rattle.vm_state.specs.Shares.{Begins, shared_of}
 use Rattle.vm_state.specs.Stacks.{segment_of, levels_of}
 use Rattle.semantics.specs.Programs.{Program}
@@ -24,14 +23,14 @@ Stands (Some end) thread s = thread ≡ HasEnded end
 abbrev pub left_by_step : Progress → ℕ → Frames → SharedState → Option After
 left_by_step Moved t s sh = Some (record { shared = sh; thread = going s })
 left_by_step (Printed text) t s sh =
-    Some (record { shared = with_line sh (record { thread = t; text = text }); thread = going s })
+    Some (record { shared = with_print sh (record { thread = t; text = text }); thread = going s })
 left_by_step (Ended end) t s sh = Some (record { shared = sh; thread = HasEnded end })
 left_by_step Waits t s sh = None
 
 -- the code's step is the definition's
 abbrev pub Steps : Program → Frames → SharedTables → Progress → Frames → SharedTables → Type 0
 Steps P old before progress new after =
-    (p : List Line) → step_thread P old.thread (shared_of before p) (going old) ≡ left_by_step progress old.thread new
+    (p : List Print) → step_thread P old.thread (shared_of before p) (going old) ≡ left_by_step progress old.thread new
     (shared_of after p)
 
 -- a thread began the initialization of a class: it stands highest, over the frames that were there
@@ -49,13 +48,13 @@ StaysPut (Printed text) old new before after = Unit {0}
 StaysPut (Ended end) old new before after = Unit {0}
 StaysPut Waits old new before after = (new ≡ old) × (after ≡ before)
 
--- where it printed, the list of lines has room for one more
-abbrev pub HasRoomFor : Progress → Vec Line → Type 0
-HasRoomFor Moved lines = Unit {0}
-HasRoomFor (Printed text) lines = vec_len lines < vec_capacity lines
-HasRoomFor (Ended end) lines = Unit {0}
-HasRoomFor Waits lines = Unit {0}
+-- what thread t printed comes behind what was printed before
+abbrev pub HasPrinted : Progress → ℕ → List Print → List Print → Type 0
+HasPrinted Moved t before after = after ≡ before
+HasPrinted (Printed text) t before after = after ≡ before ++ record { thread = t; text = text } ∷ []
+HasPrinted (Ended end) t before after = after ≡ before
+HasPrinted Waits t before after = after ≡ before
 
 -- it printed nothing
 abbrev pub PrintsNothing : Progress → Type 0
-PrintsNothing r = (lines : Vec Line) → HasRoomFor r lines
+PrintsNothing r = (t : ℕ) (before : List Print) → HasPrinted r t before before

@@ -1,6 +1,6 @@
 -- What the parts of a slice do.
 use Rattle.std.specs.Prelude.{◌≡◌, ℕ, ◌+◌, ◌-◌, ◌≤◌, ◌⊎◌, Bool, true, false, List, [], ◌++◌, None, length}
-use Rattle.vm_state.specs.declared.text.Line.{Line}
+use Rattle.vm_state.specs.Output.{Print}
 use Rattle.semantics.specs.Programs.{Program}
 use Rattle.semantics.specs.Worlds.{World, step}
 use Rattle.init_engine.specs.declared.world.Turn.{Turn}
@@ -18,8 +18,8 @@ steps_of Waiting = 0
 steps_of Ended = 0
 
 -- some steps printed these lines, of which so many bytes less may be printed
-pub record PrintsBy (steps : ℕ) (before after : List Line) (had left : ℕ) : Type 0 where
-  pub lines : List Line
+pub record PrintsBy (steps : ℕ) (before after : List Print) (had left : ℕ) : Type 0 where
+  pub lines : List Print
   pub are : after ≡ before ++ lines
   pub counted : left ≡ had - text_length lines
   pub prompt : IsWithin had lines
@@ -43,7 +43,7 @@ abbrev pub IsSpent : Allowance → Type 0
 IsSpent a = (a.steps ≡ 0) ⊎ (a.text ≡ 0)
 
 -- steps lead from a place to another one, were recorded, and are taken from what may be done
-pub record Spends (from to : Place) (before after : List ℕ) (old new : List Line) (had left : Allowance) : Type 0 where
+pub record Spends (from to : Place) (before after : List ℕ) (old new : List Print) (had left : Allowance) : Type 0 where
   pub made : ℕ
   pub fewer_to_go : to_go_from to + made ≡ to_go_from from
   pub scheduled : length after ≡ length before + made

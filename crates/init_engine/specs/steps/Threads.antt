@@ -1,7 +1,7 @@
 -- What a turn of one thread does, in the words of the definition.
 use Rattle.std.specs.Prelude.{◌≡◌, ℕ, List, Option, Some, None}
 use Rattle.vm_state.specs.SharedTables.{SharedTables}
-use Rattle.vm_state.specs.declared.text.Line.{Line}
+use Rattle.vm_state.specs.Output.{Print}
 use Rattle.vm_state.specs.declared.initialization.Frames.{Frames}
 use Rattle.vm_state.specs.Shares.{shared_of}
 use Rattle.vm_state.specs.Stacks.{segment_of, levels_of}
@@ -28,9 +28,9 @@ HasEndedNow (Ended end) = Unit {0}
 pub record ThreadView : Type 0 where
   pub thread : Thread
   pub shared : SharedTables
-  pub printed : List Line
+  pub printed : List Print
 
-abbrev pub view_of : Thread → SharedTables → List Line → ThreadView
+abbrev pub view_of : Thread → SharedTables → List Print → ThreadView
 view_of thread shared printed = record { thread = thread; shared = shared; printed = printed }
 
 -- what a step of the thread leaves
@@ -54,7 +54,7 @@ IsTurnOf P t EndedTurn old new = HasEndedNow old.thread × (stepped P t old ≡ 
 -- so many steps above the highest initialization
 abbrev pub TopRuns : Tables → ℕ → Frames → SharedTables → Frames → SharedTables → Type 0
 TopRuns P n old before new after =
-    ((p : List Line) → Course P old.thread (maker_of old.thread (levels_of old)) n (above (segment_of old) before p)
+    ((p : List Print) → Course P old.thread (maker_of old.thread (levels_of old)) n (above (segment_of old) before p)
     (above (segment_of new) after p))
     × (new.thread ≡ old.thread) × (new.levels ≡ old.levels)
 

@@ -1,8 +1,8 @@
 use Rattle.std.proofs.Common.{◌∙◌, ℕ, List, Err, arith, drop, subst}
-use Rattle.vm_state.specs.declared.text.Line.{Line}
+use Rattle.vm_state.specs.Output.{Print, text_of}
 use Rattle.machine.specs.Linked.{program_of}
 use Rattle.init_engine.specs.Turns.{world_of}
-use Rattle.cli.specs.Running.{SendsTo, lines_text}
+use Rattle.cli.specs.Running.{SendsTo}
 use Rattle.cli.proofs.RunningLemmas.{appends_nothing, still_sent, slice_sent, cut_by_memory, cut_in_sending, run_ends}
 use Rattle.cli.proofs.running.run_world.Goals as goal
 
@@ -31,8 +31,8 @@ returns-in-Err-send_further-clause-cut g c =
     c.in-Ok.ensures.slice kept.within kept.sent in
     cut_in_sending c.args.program.now (world_of c.args.world) c.args.limit c.slices.sent c.go_on.new.self before now
     (g.W.Write.contents c.send_further.new.out) c.in-Err-send_further.fault turned.under_way still.0 still.1
-    (subst (λ (lines : List Line). SendsTo {A = ℕ} now (g.W.Write.contents c.send_further.new.out)
-    (lines_text (drop c.slices.sent lines)) (Err c.in-Err-send_further.fault)) c.printed.ensures
+    (subst (λ (prints : List Print). SendsTo {A = ℕ} now (g.W.Write.contents c.send_further.new.out)
+    (text_of (drop c.slices.sent prints)) (Err c.in-Err-send_further.fault)) c.printed.ensures
     c.in-Err-send_further.ensures.sends)
 
 pub returns-in-Ok-what_is_left-clause-ran : goal.returns-in-Ok-what_is_left-clause-ran

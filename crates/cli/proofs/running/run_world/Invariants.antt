@@ -3,7 +3,7 @@ use Rattle.std.specs.Io.KnownBytes.{Appends}
 use Rattle.machine.specs.Linked.{program_of}
 use Rattle.init_engine.specs.Turns.{world_of}
 use Rattle.init_engine.specs.Turnings.{CanGoOn, IsUnderWay, to_go}
-use Rattle.cli.specs.Running.{lines_text}
+use Rattle.vm_state.specs.Output.{text_of}
 use Rattle.cli.proofs.running.run_world.Given as goal
 
 abbrev pub invariant-slices : goal.invariant-slices
@@ -13,7 +13,7 @@ invariant-slices g l = record {
   threads : length l.turning.world.threads ≡ length l.fn.world.threads;
   within : l.sent ≤ length l.turning.world.printed;
   sent : Appends (g.W.Write.contents l.fn.out) (g.W.Write.contents l.out)
-      (lines_text (take l.sent l.turning.world.printed));
+      (text_of (take l.sent l.turning.world.printed));
 }
 
 abbrev pub decreases-slices : goal.decreases-slices

@@ -8,7 +8,7 @@ returns-clause-exchanged c =
     let threads = c.self.inside.threads.items in
     let at = item_at threads c.args.thread c.index_mut.result.now (search rules) c.index_mut.ensures.value in
     rw (← c.self.view_is)
-    (exchanged_world threads c.self.inside.shared c.self.inside.printed.items c.args.thread c.index_mut.result.now
+    (exchanged_world threads c.self.inside.shared c.self.inside.printed c.args.thread c.index_mut.result.now
     c.exchange_in.new.thread c.args.frames.now c.exchange_in.new.frames at c.exchange_in.ensures.exchanged)
 
 pub returns-clause-number : goal.returns-clause-number

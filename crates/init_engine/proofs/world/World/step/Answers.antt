@@ -19,11 +19,11 @@ pub returns-in_err-turn-clause-err : goal.returns-in_err-turn-clause-err
 returns-in_err-turn-clause-err c =
     let threads = c.self.inside.threads.items in
     let at = item_at threads c.args.thread _ (search rules) c.index_mut-stepping.ensures.value in
-    let shared = c.in_err-turn.ensures.shared c.take_turn.new.printed.items
+    let shared = c.in_err-turn.ensures.shared c.take_turn.new.printed
     ∙ ap (shared_of c.self.inside.shared) c.in_err-turn.ensures.printed in
     if_refused c.from_residual.result (rw (← c.self.view_is)
-    (stays_same threads c.args.thread (view_of _ c.self.inside.shared c.self.inside.printed.items)
-    (view_of c.take_turn.new.thread c.take_turn.new.shared c.take_turn.new.printed.items) at
+    (stays_same threads c.args.thread (view_of _ c.self.inside.shared c.self.inside.printed)
+    (view_of c.take_turn.new.thread c.take_turn.new.shared c.take_turn.new.printed) at
     c.in_err-turn.ensures.thread shared))
 
 pub invariant_of-self-2 : goal.invariant_of-self-2

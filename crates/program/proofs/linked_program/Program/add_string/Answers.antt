@@ -26,6 +26,7 @@ invariant_of-self c =
           (still_distinct c.add.result old.strings new added.distinct added.err c.self.invariant.0.distinct)
           (same_or_more c.add.result old.strings new text added.same added.last added.err) c.self.invariant.0,
       c.self.invariant.1,
+      c.self.invariant.2,
     )
 
 pub returns-clause-strings : goal.returns-clause-strings

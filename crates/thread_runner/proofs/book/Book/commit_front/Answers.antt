@@ -7,5 +7,5 @@ use Rattle.thread_runner.proofs.book.Book.commit_front.Goals as goal
 pub returns-clause-goes_on : goal.returns-clause-goes_on
 returns-clause-goes_on g c =
     let b = c.self.inside in
-    subst (λ (p : Pages). PagesGoOn p (pages_of c.commit_front.new.self b.lines b.bytes)) c.self.view_is
-    (pages_go_on b.history c.commit_front.new.self b.lines b.bytes c.self.invariant c.commit_front.ensures.goes_on)
+    subst (λ (p : Pages). PagesGoOn p (pages_of c.commit_front.new.self b.prints b.bytes)) c.self.view_is
+    (pages_go_on b.history c.commit_front.new.self b.prints b.bytes c.self.invariant c.commit_front.ensures.goes_on)

@@ -11,11 +11,11 @@ run_on-requires g c =
 
 pub invariant_of-result : goal.invariant_of-result
 invariant_of-result g c =
-    place_on c.self.inside.history.world.printed c.in-Ok.history.world.printed c.self.inside.lines c.self.inside.bytes
+    place_on c.self.inside.history.world.printed c.in-Ok.history.world.printed c.self.inside.prints c.self.inside.bytes
     c.in-Ok.ensures.on.grows c.self.invariant
 
 pub returns-in-Ok-clause-sent : goal.returns-in-Ok-clause-sent
 returns-in-Ok-clause-sent g c =
-    sent_as_before c.self.inside.history.world.printed c.in-Ok.history.world.printed c.self.inside.lines
+    sent_as_before c.self.inside.history.world.printed c.in-Ok.history.world.printed c.self.inside.prints
     c.self.inside.bytes c.in-Ok.ensures.on.grows c.self.invariant
     ∙ ap (λ (b : Pages). b.sent) c.self.view_is

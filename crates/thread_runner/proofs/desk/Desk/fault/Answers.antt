@@ -15,13 +15,13 @@ pub returns-then-self-2-clause-fault : goal.returns-then-self-2-clause-fault
 returns-then-self-2-clause-fault g c =
     let d = c.args.self.now in
     lines_gone g.O.Origin.program g.O.Origin.start d.book.past d.book.sent g.O.Session.before (g.S.Sink.got d.sink)
-    c.world-world.ensures.kept (c.world-world.ensures.lines (d.part c.if-self.false)) d.sent
+    c.world-world.ensures.kept (c.world-world.ensures.prints (d.part c.if-self.false)) d.sent
 
 pub returns-then-not-started-clause-fault : goal.returns-then-not-started-clause-fault
 returns-then-not-started-clause-fault g c =
     let d = c.args.self.now in
     lines_gone g.O.Origin.program g.O.Origin.start d.book.past d.book.sent g.O.Session.before (g.S.Sink.got d.sink)
-    c.world-world.ensures.kept (c.world-world.ensures.lines (d.part c.if-self.false)) d.sent
+    c.world-world.ensures.kept (c.world-world.ensures.prints (d.part c.if-self.false)) d.sent
 
 pub returns-then-not-send-clause-fault : goal.returns-then-not-send-clause-fault
 returns-then-not-send-clause-fault g c =

@@ -1,7 +1,7 @@
 use Rattle.std.proofs.Common.{refl, subst}
 use Rattle.init_engine.specs.Schedules.{schedule_of}
 use Rattle.init_engine.specs.Turns.{world_of}
-use Rattle.thread_runner.specs.Sendings.{text_of}
+use Rattle.vm_state.specs.Output.{text_of}
 use Rattle.thread_runner.specs.steps.Verdicts.{IsVerdict}
 use Rattle.thread_runner.proofs.AnswerLemmas.{answer_of, holds_all}
 use Rattle.thread_runner.proofs.desk.Desk.judge.Goals as goal

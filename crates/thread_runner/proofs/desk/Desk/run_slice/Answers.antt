@@ -32,7 +32,7 @@ pub returns-in-Err-clause-memory : goal.returns-in-Err-clause-memory
 returns-in-Err-clause-memory g c =
     let d = c.args.self in
     lines_gone g.O.Origin.program g.O.Origin.start d.book.past d.book.sent g.O.Session.before (g.S.Sink.got d.sink)
-    c.world-world.ensures.kept (c.world-world.ensures.lines (d.part c.requires.failed)) d.sent
+    c.world-world.ensures.kept (c.world-world.ensures.prints (d.part c.requires.failed)) d.sent
 
 pub returns-in-Ok-clause-room : goal.returns-in-Ok-clause-room
 returns-in-Ok-clause-room g c =
