@@ -118,6 +118,8 @@ def refuse_each(program, word, what):
 def fed(program, word):
     """Feeds inputs. Answers how many bytes were held at most, and what is wrong."""
     status, lines, told = program.run(word)
+    if status is None:
+        return 0, f"it had not ended after {LIMIT} seconds"
     if status or len(told) != len(lines):
         return 0, f"it ended with status {status}"
     for line, call in zip(lines, told):

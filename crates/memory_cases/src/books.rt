@@ -88,7 +88,7 @@ fn commit_one<O: Origin>(
 {
     let frames = book.frames(alloc, 0)?;
     let done = book.done(alloc, program)?;
-    let made = stretch::<O>(alloc, program, frames, done)?;
+    let made = stretch::<O>(alloc, program, frames, &done)?;
     let commit = book.commit(alloc, program, 0, made)?;
     Ok(matches!(commit, Commit::Moved))
 }

@@ -4,7 +4,7 @@ use crate::page::wrong_data;
 use cases::add_class_files;
 use classfile::{ClassFault, ClassFile, read};
 use cli::{entries_of, linked_program};
-use init_engine::{Ending, Line, World};
+use init_engine::{Ending, Output, World};
 use program::Program;
 use std::alloc::{AllocError, Global};
 use std::io;
@@ -56,18 +56,21 @@ pub fn sight_of(alloc: Global, world: &World) -> Result<String, AllocError> {
     sight_text(alloc, &world.endings(alloc)?, world.printed())
 }
 
-/// How threads stand, and lines that were printed, on one line.
-pub fn sight_text(alloc: Global, endings: &[Ending], lines: &[Line]) -> Result<String, AllocError> {
+/// How threads stand, and what they printed, on one line.
+pub fn sight_text(
+    alloc: Global,
+    endings: &[Ending],
+    printed: &Output,
+) -> Result<String, AllocError> {
     let mut text = String::new(alloc);
     for ending in endings {
         write!(text, "{ending:?} ")?;
     }
-    for line in lines {
-        let thread = line.thread;
-        let printed = from_utf8(line.text.as_bytes())
-            .unwrap_or("no text")
-            .trim_end();
-        write!(text, "{thread} prints {printed};")?;
+    for number in 0..printed.count() {
+        if let Some((thread, bytes)) = printed.print(number) {
+            let line = from_utf8(bytes).unwrap_or("no text").trim_end();
+            write!(text, "{thread} prints {line};")?;
+        }
     }
     Ok(text)
 }

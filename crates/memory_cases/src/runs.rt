@@ -7,7 +7,7 @@ use crate::programs::{program_of, sight_of, sight_text, start_of};
 use classfile::ClassName;
 use cli::entries_of;
 use init_engine::starting::lazy_shared;
-use init_engine::{Line, Turn, World, turns};
+use init_engine::{Output, Turn, World, turns};
 use machine::{Effect, Frames, Shared, effect};
 use program::Program;
 use std::alloc::{AllocError, Global};
@@ -192,7 +192,7 @@ fn frames_at_main(alloc: Global, program: &Program) -> io::Result<Frames> {
 fn effect_plain<W: Write>(page: &mut Page<'_, W>, program: &Program) -> io::Result<()> {
     let mut frames = frames_at_main(page.alloc, program)?;
     let mut shared = initialized(page.alloc, program)?;
-    let mut printed = Vec::new(page.alloc);
+    let mut printed = Output::new(page.alloc);
     page.ask("effect")?;
     match effects(page.alloc, program, &mut frames, &mut shared, &mut printed) {
         Ok(()) => page.end("Ok")?,
@@ -207,7 +207,7 @@ fn end_effects<W: Write>(
     program: &Program,
     frames: &mut Frames,
     shared: &mut Shared,
-    printed: &mut Vec<Line>,
+    printed: &mut Output,
 ) -> io::Result<()> {
     effects(page.alloc, program, frames, shared, printed)?;
     let text = sight_text(page.alloc, &[], printed)?;
@@ -220,15 +220,14 @@ fn effects(
     program: &Program,
     frames: &mut Frames,
     shared: &mut Shared,
-    printed: &mut Vec<Line>,
+    printed: &mut Output,
 ) -> Result<(), AllocError> {
     for _ in 0..MANY {
         if frames.segment.is_none() {
             return Ok(());
         }
         match effect(alloc, program, frames, shared, printed)? {
-            Effect::Next | Effect::Raise => {}
-            Effect::Print(text) => printed.push_reserved(Line { thread: 0, text }),
+            Effect::Next | Effect::Raise | Effect::Print(_) => {}
             _ => return Ok(()),
         }
     }

@@ -105,7 +105,7 @@ fn tell_answer<W: Write>(
 fn tell_ended<W: Write>(page: &mut Page<'_, W>, ended: &Ended) -> io::Result<()> {
     page.well()?;
     let returned = all_returned(&ended.seen.threads);
-    let lines = ended.seen.printed.len();
+    let lines = ended.seen.printed.count();
     let steps = steps_in(ended.journal.runs());
     let text = format!(in page.alloc; "all returned: {returned}, {lines} lines, {steps} steps")?;
     page.end(&text)
