@@ -22,3 +22,9 @@ pub mod HasBodiesLemmas
 pub mod LinksOrFaultLemmas
 pub mod ParentsWithinLemmas
 pub mod ExistenceLemmas
+mod DoneLemmas
+mod FileLemmas
+mod SlashLemmas
+mod NotRunLemmas
+mod OutputLemmas
+mod CountLemmas

@@ -14,3 +14,7 @@ pub mod Headline
 pub mod Begins
 pub mod Journaled
 pub mod Existence
+pub mod Files
+pub mod Entries
+pub mod Done
+pub mod Outputs
