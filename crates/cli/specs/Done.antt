@@ -1,6 +1,6 @@
 -- What a command has done that was not refused, by what its words ask for: what its files held and hold, and what
 -- standard output got.
-use Rattle.std.specs.Prelude.{◌≡◌, ◌⊎◌, ℕ, List, Option, Some, None, ⊤, length}
+use Rattle.std.specs.Prelude.{◌≡◌, ◌⊎◌, ℕ, List, Option, Some, None, length}
 use Rattle.std.specs.Borrow.{Bor}
 use Rattle.std.specs.Io.KnownBytes.{Appends}
 use Rattle.semantics.specs.Worlds.{World, Run as Reaches, seen}
