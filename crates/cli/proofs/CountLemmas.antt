@@ -1,5 +1,5 @@
 -- A wrong number of entries is told just where there is one.
-use Rattle.std.proofs.Common.{◌≡◌, ◌↔◌, ◌⊎◌, inl, inr, ℕ, List, Result, Err, length, sym}
+use Rattle.std.proofs.Common.{◌≡◌, ◌↔◌, ◌⊎◌, inl, inr, ℕ, List, Result, Err, length}
 use Rattle.program.specs.Tables.{Tables}
 use Rattle.init_engine.specs.declared.fault.EntryFault.{EntryFault}
 use Rattle.init_engine.specs.declared.fault.EntryFault.TheVariants.{Count}
@@ -16,8 +16,11 @@ use Rattle.cli.proofs.EntriesLemmas.{no_count}
 same_fault : (x y : EntryFault) → Entry x ≡ Entry y → x ≡ y
 same_fault x y is = cc
 
-same_err : {T : Type 0} (r q : Refusal) → Err {T = T} r ≡ Err {T = T} q → r ≡ q
-same_err r q is = cc
+abbrev refused : (T : Type 0) → Refusal → Result T Refusal
+refused T r = Err r
+
+same_refusal : {T : Type 0} (r q : Refusal) → refused T r ≡ refused T q → r ≡ q
+same_refusal r q is = cc
 
 not_at_count : {P : Tables} {name : List ℕ} {place : ℕ} {fault : EntryFault} → IsAtFault P name place fault
     → fault ≡ Count → ⊥
@@ -39,13 +42,13 @@ not_count (runs.unlinked counted (runs.link are fails)) is few = cc
 not_count (runs.entry {fault} counted of fails) is few = few_fail_otherwise fails (same_fault fault Count is) few
 
 pub told_count : {T : Type 0} (texts names : List (List ℕ)) (r : Refusal) → (r ≡ Memory) ⊎ IsRefused texts names r
-    → IsEntryCount (length names) → (Err {T = T} r ≡ Err {T = T} (Entry Count)) ↔ (¬ IsEntryCount (length names))
+    → IsEntryCount (length names) → (refused T r ≡ refused T (Entry Count)) ↔ (¬ IsEntryCount (length names))
 told_count {T} texts names r told few = (not_told told, λ none. absurd (none few))
   where
-    not_told : (r ≡ Memory) ⊎ IsRefused texts names r → Err {T = T} r ≡ Err {T = T} (Entry Count)
+    not_told : (r ≡ Memory) ⊎ IsRefused texts names r → refused T r ≡ refused T (Entry Count)
         → ¬ IsEntryCount (length names)
-    not_told (inl memory) is = let same = same_err {T = T} r (Entry Count) is in absurd cc
-    not_told (inr wrong) is = not_count wrong (same_err {T = T} r (Entry Count) is)
+    not_told (inl memory) is = let same = same_refusal {T = T} r (Entry Count) is in absurd cc
+    not_told (inr wrong) is = not_count wrong (same_refusal {T = T} r (Entry Count) is)
 
 -- ---- of an image
 
@@ -58,10 +61,10 @@ not_count_of_image (image_runs.entry I {fault} counted program of fails) is few 
 
 pub told_count_of_image : {T : Type 0} (bytes : List ℕ) (names : List (List ℕ)) (r : Refusal)
     → (r ≡ Memory) ⊎ IsNoRun bytes names r → IsEntryCount (length names)
-    → (Err {T = T} r ≡ Err {T = T} (Entry Count)) ↔ (¬ IsEntryCount (length names))
+    → (refused T r ≡ refused T (Entry Count)) ↔ (¬ IsEntryCount (length names))
 told_count_of_image {T} bytes names r told few = (not_told told, λ none. absurd (none few))
   where
-    not_told : (r ≡ Memory) ⊎ IsNoRun bytes names r → Err {T = T} r ≡ Err {T = T} (Entry Count)
+    not_told : (r ≡ Memory) ⊎ IsNoRun bytes names r → refused T r ≡ refused T (Entry Count)
         → ¬ IsEntryCount (length names)
-    not_told (inl memory) is = let same = same_err {T = T} r (Entry Count) is in absurd cc
-    not_told (inr wrong) is = not_count_of_image wrong (same_err {T = T} r (Entry Count) is)
+    not_told (inl memory) is = let same = same_refusal {T = T} r (Entry Count) is in absurd cc
+    not_told (inr wrong) is = not_count_of_image wrong (same_refusal {T = T} r (Entry Count) is)

@@ -1,5 +1,5 @@
 -- What was done that words ask for, and its status.
-use Rattle.std.proofs.Common.{◌≡◌, ◌⊎◌, inl, inr, ◌∙◌, ℕ, ◌==◌, List, refl, sym, ap, subst, if◌then◌else◌}
+use Rattle.std.proofs.Common.{◌≡◌, ◌⊎◌, inl, inr, ◌∙◌, ℕ, ◌==◌, List, refl, sym, ap, if◌then◌else◌}
 use Rattle.command_line.specs.Requests.{IsLine}
 use Rattle.command_line.specs.declared.request.Request.{Request}
 use Rattle.cli.specs.declared.status.Status.{Status}

@@ -13,7 +13,8 @@ use Rattle.cli.specs.declared.fault.Refusal.TheVariants.{Image, Entry, Memory}
 use Rattle.cli.specs.ImageRuns.{IsNoRun, IsSomeTextOf, image, entry}
 
 pub refused_image : (bytes : List ℕ) (names : List (List ℕ)) (fault : ImageFault) (r : Refusal)
-    → IsEntryCount (length names) → (fault ≡ image_faults.Memory) ⊎ ImageFails bytes fault → (fault ≡ image_faults.Memory → r ≡ Memory)
+    → IsEntryCount (length names) → (fault ≡ image_faults.Memory) ⊎ ImageFails bytes fault
+    → (fault ≡ image_faults.Memory → r ≡ Memory)
     → (fault ≢ image_faults.Memory → r ≡ Image fault) → (r ≡ Memory) ⊎ IsNoRun bytes names r
 refused_image bytes names fault r counted (inl e) memory other = inl (memory e)
 refused_image bytes names image_faults.Memory r counted (inr fails) memory other = inl (memory refl)
@@ -21,7 +22,8 @@ refused_image bytes names fault r counted (inr fails) memory other =
     inr (subst (λ (x : Refusal). IsNoRun bytes names x) (sym (other (λ e. cc))) (image counted fails))
 
 pub refused_entry_of : (bytes : List ℕ) (names : List (List ℕ)) (I : ImageTables) (fault : EntryFault) (r : Refusal)
-    → IsEntryCount (length names) → IsProgram I.program → IsSomeTextOf bytes I → (fault ≡ entry_faults.Memory) ⊎ EntriesFail I.program names fault
+    → IsEntryCount (length names) → IsProgram I.program → IsSomeTextOf bytes I
+    → (fault ≡ entry_faults.Memory) ⊎ EntriesFail I.program names fault
     → (fault ≡ entry_faults.Memory → r ≡ Memory) → (fault ≢ entry_faults.Memory → r ≡ Entry fault)
     → (r ≡ Memory) ⊎ IsNoRun bytes names r
 refused_entry_of bytes names I fault r counted program of (inl e) memory other = inl (memory e)

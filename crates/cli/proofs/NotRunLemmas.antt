@@ -1,5 +1,5 @@
 -- What is refused is not run.
-use Rattle.std.proofs.Common.{◌≡◌, ◌∙◌, ℕ, List, [], ◌∷◌, Option, Some, None, map, refl, sym, ap, subst}
+use Rattle.std.proofs.Common.{◌≡◌, ◌∙◌, ℕ, List, [], ◌∷◌, Option, Some, None, map, refl, sym, subst}
 use Rattle.std.proofs.lemmas.Option.{same_Some}
 use Rattle.std.specs.List.{All}
 use Rattle.classfile.specs.Faults.{IsBytes}
@@ -11,7 +11,6 @@ use Rattle.init_engine.specs.Starts.{EntriesFail, IsStart}
 use Rattle.image_reader.specs.Starts.{IsImageStart}
 use Rattle.command_line.specs.Requests.{texts}
 use Rattle.cli.specs.declared.fault.Refusal.{Refusal}
-use Rattle.cli.specs.Begins.{IsBegunFromImage}
 use Rattle.cli.specs.Entries.{entry_names}
 use Rattle.cli.specs.Files.{AreBytesOf, AreTextsOf, Contents}
 use Rattle.cli.specs.ImageRuns.{IsNoRun, IsSomeTextOf}

@@ -1,5 +1,6 @@
 -- Texts with slashes for dots.
-use Rattle.std.proofs.Common.{◌≡◌, ◌∙◌, ℕ, Bool, true, false, ◌==◌, ◌&&◌, if◌then◌else◌, List, [], ◌∷◌, ◌++◌, map, refl, sym, ap, subst}
+use Rattle.std.proofs.Common.{◌≡◌, ◌∙◌, ℕ, Bool, true, false, ◌==◌, ◌&&◌, if◌then◌else◌, List, [], ◌∷◌, ◌++◌, map}
+use Rattle.std.proofs.Common.{refl, sym, ap}
 use Rattle.std.proofs.Common.{IsUtf8, encode_utf8, encode_utf8_all, append-nil}
 use Rattle.std.specs.Str.{all_scalars, chars}
 use Rattle.std.proofs.lemmas.Str.{chars-encodes, encodes-append, scalars-chars}

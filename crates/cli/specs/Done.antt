@@ -1,6 +1,6 @@
 -- What a command has done that was not refused, by what its words ask for: what its files held and hold, and what
 -- standard output got.
-use Rattle.std.specs.Prelude.{◌≡◌, ◌⊎◌, ℕ, List, Option, Some, None, ⊤, length}
+use Rattle.std.specs.Prelude.{◌≡◌, ◌⊎◌, ℕ, List, Option, Some, None, length}
 use Rattle.std.specs.Borrow.{Bor}
 use Rattle.std.specs.Io.KnownBytes.{Appends}
 use Rattle.vm_state.specs.Output.{text_of}
@@ -84,7 +84,8 @@ pub record HasEndedWithJournal (old new : Contents) (journal : Option (Bor (List
   pub written : IsWritten old new journal schedule
 
 -- The image ran from the entries of the words, and its journal was written.
-pub record HasRunImage (old new : Contents) (words : Run) (before after : Option (List ℕ)) (status : Status) : Type 0 where
+pub record HasRunImage (old new : Contents) (words : Run) (before after : Option (List ℕ)) (status : Status)
+    : Type 0 where
   pub image : ImageTables
   pub first : World
   pub begun : IsBegunFromImage old words.image.now words.entries.now image first

@@ -53,7 +53,8 @@ pub fn run_image(
 
     // What is answered otherwise is the first that is wrong, or that memory ran out.
     ensures refusal { IfErr result (λ refusal. (refusal ≡ Memory) ⊎ IsNoRun bytes.now entries.now refusal) }
-    // A wrong number of entries is told just where there is one, and nothing else is told then: it takes no memory to see.
+    // A wrong number of entries is told just where there is one, and nothing else is told then: it takes no memory to
+    // see.
     ensures count { (result ≡ Err (Entry Count)) ↔ (¬ IsEntryCount (length entries.now)) }
 {
     if !is_entry_count(entries.len()) {

@@ -3,7 +3,8 @@ ghost use Rattle.std.specs.Prelude.{◌≡◌, ◌≢◌, ◌≤◌, ◌⊎◌, 
 ghost use Rattle.command_line.specs.Requests.{texts};
 ghost use Rattle.init_engine.specs.Schedules.{AreRuns, schedule_of};
 ghost use Rattle.init_engine.specs.Turns.{world_of};
-ghost use Rattle.cli.specs.Done.{AskFor, DidWords, HasEndedByTurns, HasEndedWithJournal, IsDone, IsWritten, IsWrittenTo};
+ghost use Rattle.cli.specs.Done.{AskFor, DidWords, HasEndedByTurns, HasEndedWithJournal, IsDone};
+ghost use Rattle.cli.specs.Done.{IsWritten, IsWrittenTo};
 ghost use Rattle.cli.specs.Journaled.{IsOutcome};
 ghost use Rattle.cli.specs.Running.{IsCutShort, IsOfRun};
 ghost use Rattle.cli.specs.Status.{IsOver, code_of, run_status};
@@ -53,8 +54,8 @@ pub fn command<R: Threads + Wait + Sync, F: Files, W: Write + Send + Drop, E: Wr
     errors: &mut E,
 ) -> (u8, W)
     ensures range { result.0 ≤ 6 }
-    // Lines that a run sent before memory or a thread was refused cannot be taken back: of a run that the words ask for,
-    // of what the files hold that they name.
+    // Lines that a run sent before memory or a thread was refused cannot be taken back. It is a run that the words ask
+    // for, of what the files hold that they name.
     ensures refused { result.0 ≡ 1 → (result.1 ≡ out) ⊎ AskFor (texts words.now)
         (λ request. IsOfRun (F.holds files.old) request (W.contents out) (W.contents result.1)) }
     ensures words { result.0 ≡ 2 → result.1 ≡ out }

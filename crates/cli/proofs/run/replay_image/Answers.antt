@@ -4,7 +4,7 @@ use Rattle.cli.proofs.run.replay_image.Goals as goal
 
 pub tell_replay-status-requires : goal.tell_replay-status-requires
 tell_replay-status-requires g c =
-    let is = c.in-Ok.ensures.replayed in replay_told _ c.in-Ok.status is.leads.status_is
+    let is = c.in-Ok.ensures.replayed in replay_told c.in-Ok.seen.seen.threads.items c.in-Ok.status is.leads.status_is
 
 pub returns-in-Ok-clause-refused : goal.returns-in-Ok-clause-refused
 returns-in-Ok-clause-refused g c = λ refused.

@@ -1,4 +1,4 @@
-use Rattle.std.proofs.Common.{◌≡◌, ◌∙◌, List, ap}
+use Rattle.std.proofs.Common.{◌∙◌, List, ap}
 use Rattle.vm_state.specs.declared.ends.Ending.{Ending}
 use Rattle.init_engine.specs.Turns.{world_of}
 use Rattle.cli.specs.Status.{run_status}

@@ -1,7 +1,5 @@
-use Rattle.std.proofs.Common.{◌≡◌, inr, ap, subst}
+use Rattle.std.proofs.Common.{inr}
 use Rattle.init_engine.specs.Turns.{world_of}
-use Rattle.cli.specs.Done.{HasRunImage}
-use Rattle.cli.specs.Files.{Contents}
 use Rattle.cli.proofs.BeginsLemmas.{has_run_image, of_image_run}
 use Rattle.cli.proofs.run.run_image.Goals as goal
 
