@@ -1,8 +1,8 @@
 """Commands of `preinit` that are refused memory or threads, over files of the system: each growth of a run after the other.
 
 Such a run ends as one with ample memory, or with status 1 and `Memory` (or `Spawn`) as its last line. Then what went to
-standard output is a beginning of what goes there otherwise, so is what went to standard error before that line, and the
-file that it was to write holds what it held before.
+standard output is a beginning of what goes there otherwise, and so is what went to standard error before that line; the
+file that it was to write holds what it held before, or all, and no other file is left.
 """
 import concurrent.futures
 import glob
@@ -43,12 +43,12 @@ def run(program, words, target, **refused):
         with open(f"{program.data}/{target}", "wb") as it:
             it.write(OLD)
     status, out, errors, told = program.ended(*words, WHOLE_RUN=1, **refused)
-    return (status, out, errors, held(program.data, target)), told
+    return (status, out, errors, held(program.data, target), sorted(os.listdir(program.data))), told
 
 
 def wrong_with(ended, wanted, target):
     """What is wrong with a run in which something was refused, if anything is."""
-    status, out, errors, file = ended
+    status, out, errors, file, names = ended
     last = next((it for it in REFUSALS if errors.endswith(it)), None)
     if ended == wanted:
         return None
@@ -56,6 +56,8 @@ def wrong_with(ended, wanted, target):
         return f"it ended with status {status} and {errors!r}"
     if not wanted[1].startswith(out) or not wanted[2].startswith(errors[: len(errors) - len(last)]):
         return f"it wrote {out!r} and {errors!r}"
+    if names != wanted[4]:
+        return f"it left {names}"
     return f"{target} holds {len(file)} other bytes" if target and file not in (OLD, wanted[3]) else None
 
 

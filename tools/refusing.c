@@ -16,7 +16,7 @@ extern int usleep(unsigned);
 extern int dprintf(int, const char *, ...);
 extern int *__errno_location(void);
 
-enum { WRITE = 1, OUTPUT = 1, NO_MEMORY = 12, TRY_AGAIN = 11, LONGEST_WAIT = 2000 };
+enum { WRITE = 1, EXIT_GROUP = 231, OUTPUT = 1, NO_MEMORY = 12, TRY_AGAIN = 11, LONGEST_WAIT = 2000 };
 
 static long whole_run, refused_call, refused_growth, refused_start, told;
 static _Atomic long is_open, calls, growths, starts, refusals, running, held, before, most;
@@ -139,8 +139,16 @@ static void close_call(void)
 
 __attribute__((destructor)) static void end(void)
 {
-    if (whole_run)
+    if (whole_run && is_open)
         close_call();
+}
+
+/* A program may end without its destructors. */
+void _exit(int status)
+{
+    end();
+    for (;;)
+        syscall(EXIT_GROUP, status);
 }
 
 long write(int to, const char *bytes, size n)
