@@ -4,8 +4,8 @@ use crate::class_bytes::number;
 use crate::command_runs::{self, words_of};
 use crate::shelf::Shelf;
 use cli::{
-    Build, Building, Lazy, Refusal, Renew, Replay, Request, Rest, Run, Status, entries_of,
-    line, linked_program, status_of, thread_lines,
+    Build, Building, Lazy, Refusal, Renew, Replay, Request, Rest, Run, Status, entries_of, line,
+    linked_program, status_of, thread_lines,
 };
 use init_engine::Ending;
 use program::Program;

@@ -110,10 +110,7 @@ fn the_last_thread_goes_on_alone(rt: HostRuntime) -> Result<(), Fail> {
         return Err(Fail::new("no replay"));
     };
     assert_eq!(rt; seen.printed.count(), 101);
-    assert_eq!(rt;
-        tape.got.as_slice(),
-        seen.printed.text_from(0)
-    );
+    assert_eq!(rt; tape.got.as_slice(), seen.printed.text_from(0));
     Ok(())
 }
 
@@ -132,10 +129,7 @@ fn a_limit_ends_the_last_thread(rt: HostRuntime) -> Result<(), Fail> {
     };
     let steps = steps_in(ended.journal.runs());
     assert!(rt; EVER_LIMIT <= steps && steps < EVER_LIMIT + 1_024);
-    assert_eq!(rt;
-        tape.got.as_slice(),
-        ended.seen.printed.text_from(0)
-    );
+    assert_eq!(rt; tape.got.as_slice(), ended.seen.printed.text_from(0));
     Ok(())
 }
 
