@@ -6,4 +6,4 @@ mod places;
 mod replaying;
 
 pub use lines::stack_lines;
-pub use replaying::{Stacks, StacksFault, stacks};
+pub use replaying::{Stacks, stacks};

@@ -16,6 +16,7 @@ use vm_state::shared::Shared;
 const TOLD: usize = 20;
 
 /// A place of a stack.
+#[derive(Clone, Copy)]
 enum Place<'a> {
     Frame(&'a Frame),
     /// An initialization that has no frame of its class initialization method above it.
@@ -23,6 +24,7 @@ enum Place<'a> {
 }
 
 /// The lines of one stack, as far as they are written.
+#[derive(Drop)]
 struct StackText {
     text: String,
     thread: u32,
@@ -38,7 +40,7 @@ impl StackText {
         &mut self,
         alloc: Global,
         program: &Program,
-        place: &Place<'_>,
+        place: Place<'_>,
     ) -> Result<(), AllocError> {
         let at = self.past;
         self.past += 1;
@@ -63,7 +65,7 @@ impl StackText {
     ) -> Result<(), AllocError> {
         let frames = frames.outermost_first();
         for place in (0..frames.len()).rev() {
-            self.add(alloc, program, &Place::Frame(&frames[place]))?;
+            self.add(alloc, program, Place::Frame(&frames[place]))?;
         }
         Ok(())
     }
@@ -78,7 +80,7 @@ impl StackText {
     ) -> Result<(), AllocError> {
         if is_told(&level.initialization, above) {
             let class = level.initialization.class;
-            self.add(alloc, program, &Place::Initialization(class))?;
+            self.add(alloc, program, Place::Initialization(class))?;
         }
         self.add_frames(alloc, program, &level.under)
     }
@@ -102,11 +104,11 @@ impl StackText {
     }
 }
 
-fn place_text(alloc: Global, program: &Program, place: &Place<'_>) -> Result<String, AllocError> {
+fn place_text(alloc: Global, program: &Program, place: Place<'_>) -> Result<String, AllocError> {
     match place {
         Place::Frame(frame) => frame_text(alloc, program, frame),
         Place::Initialization(class) => {
-            let class = class_text(alloc, program, *class)?;
+            let class = class_text(alloc, program, class)?;
             format!(in alloc; "initialization of {class}")
         }
     }
@@ -158,7 +160,7 @@ fn stack_text(alloc: Global, program: &Program, frames: &Frames) -> Result<Strin
         past: 0,
     };
     if let Some(segment) = &frames.segment {
-        text.add(alloc, program, &Place::Frame(&segment.innermost))?;
+        text.add(alloc, program, Place::Frame(&segment.innermost))?;
         text.add_frames(alloc, program, &segment.callers)?;
     }
     if let Some(levels) = &frames.levels {
