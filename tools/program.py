@@ -2,6 +2,8 @@
 import contextlib
 import fcntl
 import hashlib
+import importlib.machinery
+import importlib.util
 import os
 import shutil
 import signal
@@ -20,6 +22,19 @@ NOT_BUILT, NO_RT = 126, 127
 def say(text):
     """Writes a line on standard error, at once."""
     print(f"{os.path.basename(sys.argv[0])}: {text}", file=sys.stderr, flush=True)
+
+
+def kit():
+    """The folder of the kit that `rt` is of."""
+    return os.path.dirname(subprocess.run(["rt", "doc"], capture_output=True, text=True, check=True).stdout.strip())
+
+
+def rt():
+    """The kit's own script as a module."""
+    loader = importlib.machinery.SourceFileLoader("rt_module", f"{kit()}/bin/rt")
+    made = importlib.util.module_from_spec(importlib.util.spec_from_loader("rt_module", loader))
+    loader.exec_module(made)
+    return made
 
 
 def listed(root):
@@ -165,7 +180,7 @@ def in_turn(script, tell):
 def end_without_rt():
     """Ends where there is no rt."""
     if not shutil.which("rt"):
-        say("nothing is built yet, and there is no rt on the PATH to build it by: it comes with rattle-kit-13f")
+        say("nothing is built yet, and there is no rt on the PATH to build it by: it comes with rattle-kit-13b or 13f")
         sys.exit(NO_RT)
 
 

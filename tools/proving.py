@@ -1,30 +1,35 @@
 """How the program is proved: by the gate's own command, on a copy of its crates without their wrong bodies.
 
-That command proves crates side by side, and keeps each beside the kit by a checksum of all that its proof read, so the
-gate takes it from there. Unlike it, `rt run` goes one after the other, and the gate knows nothing of what it proved.
+That command proves crates side by side, where `rt run` goes one after the other. With some kits it keeps each beside the
+kit by a checksum of all that its proof read, so that the gate takes it from there; with others `gate.py` keeps it for
+the next run of `./prove`, and the gate proves all anew.
 """
 import collections
+import glob
 import os
 import re
+import shutil
 import subprocess
 import sys
 import threading
 import time
 
+import gate
 import program
 
-PROVED = re.compile(r"rt: (\w+) (?:proved|is kept: .*)")
+KEPT = f"{program.OUT}/kept"
+PROVED = re.compile(r"rt: (\w+) (proved|is kept: .*)")
 
 
 class Progress:
     """How far a proof is."""
 
     def __init__(self, crates):
-        self.crates, self.done, self.began = crates, 0, time.monotonic()
+        self.crates, self.done, self.began = crates, set(), time.monotonic()
 
     def __str__(self):
         minutes = int(time.monotonic() - self.began) // 60
-        return f"{self.done} of {self.crates} crates, {minutes} minute{'s' * (minutes != 1)}"
+        return f"{len(self.done)} of {self.crates} crates, {minutes} minute{'s' * (minutes != 1)}"
 
     def follow(self, lines):
         """Tells of each crate that is proved, and every five minutes. Answers the last lines."""
@@ -33,9 +38,10 @@ class Progress:
         try:
             for line in lines:
                 last.append(line)
-                if PROVED.fullmatch(line.strip()):
-                    self.done += 1
-                    program.say(f"{self}: {PROVED.fullmatch(line.strip())[1]}")
+                found = PROVED.fullmatch(line.strip())
+                if found and found[1] not in self.done:
+                    self.done.add(found[1])
+                    program.say(f"{self}: {found[1]}{', kept' * (found[2] != 'proved')}")
         finally:
             ended.set()
         return last
@@ -43,14 +49,6 @@ class Progress:
     def repeat(self, ended):
         while not ended.wait(300):
             program.say(str(self))
-
-    def tell_kept(self):
-        """Says what of it the next proof finds."""
-        kit = os.path.dirname(subprocess.run(["rt", "doc"], capture_output=True, text=True, check=True).stdout.strip())
-        if not os.access(f"{os.path.dirname(kit)}/rattle-kept", os.W_OK):
-            program.say(f"ended at {self}; beside the kit nothing can be kept, so the next proof begins anew")
-        else:
-            program.say(f"ended at {self}; what is proved is kept, and the next proof begins there")
 
 
 def prove():
@@ -73,13 +71,20 @@ def prove():
         return to
 
 
+def remembers(keeps_by_itself):
+    """Whether what is proved now is found by the next proof."""
+    return not keeps_by_itself or os.access(f"{os.path.dirname(program.kit())}/rattle-kept", os.W_OK)
+
+
 def prove_copy(copy, room):
     """Proves and builds the copy, or ends the script."""
     progress, is_proved = Progress(len(program.listed(copy))), False
     program.say(f"proving {progress.crates} crates, those side by side that do not stand on one another")
+    keeps_by_itself = gate.keeps_by_itself(program.rt())
+    words = ["rt", "ci"] if keeps_by_itself else [sys.executable, gate.__file__, KEPT]
     how = {"cwd": copy, "stdout": subprocess.PIPE, "stderr": subprocess.STDOUT, "text": True, "errors": "replace"}
     try:
-        with program.started(["rt", "ci"], room, **how) as child:
+        with program.started(words, room, **how) as child:
             last = progress.follow(child.stdout)
             is_proved = child.wait() == 0
         if not is_proved:
@@ -87,5 +92,11 @@ def prove_copy(copy, room):
             program.say("not proved: rt's last lines are above")
             sys.exit(program.NOT_BUILT)
     finally:
-        if not is_proved:
-            progress.tell_kept()
+        for part in glob.glob(f"{KEPT}/*.new"):
+            shutil.rmtree(part, ignore_errors=True)
+        if is_proved:
+            pass
+        elif remembers(keeps_by_itself):
+            program.say(f"ended at {progress}; what is proved is kept, and the next proof begins there")
+        else:
+            program.say(f"ended at {progress}; beside the kit nothing can be kept, so the next proof begins anew")

@@ -23,7 +23,7 @@ use Rattle.initializer_analysis.specs.declared.verdict.Verdict.TheVariants as ve
 use Rattle.initializer_analysis.specs.Verdicts.{IsAccepted}
 use Rattle.wave_scheduler.specs.declared.outcome.Settled.{Settled as Answer}
 use Rattle.wave_scheduler.proofs.FindingLemmas.{region_seen, no_wave}
-use Rattle.wave_scheduler.proofs.ReachesLemmas.{one_of}
+use Rattle.initializer_analysis.proofs.ReachesLemmas.{one_of}
 use Rattle.wave_scheduler.proofs.AnalysisLemmas.{has_analysis_lem}
 use Rattle.wave_scheduler.proofs.ExactLemmas.{settled_are_exact_lem}
 use Rattle.wave_scheduler.proofs.HeadlineLemmas.{settled_show_the_same_lem}

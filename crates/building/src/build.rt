@@ -2,7 +2,6 @@
 
 ghost use Rattle.std.specs.Prelude.{◌≡◌, ◌≢◌, ◌↔◌, ◌⊎◌, ℕ, ◌<◌, ◌^◌, Err, IfErr, IfOk};
 ghost use Rattle.evaluator.specs.Regions.{environment_of};
-ghost use Rattle.region_shape.specs.Laws.{IsFromFile};
 ghost use Rattle.region_shape.specs.Wholes.{AreWhole};
 ghost use Rattle.wave_scheduler.specs.Outcomes.{CanWork};
 ghost use Rattle.wave_scheduler.specs.declared.outcome.WaveFault.TheVariants as wave_faults;
@@ -19,6 +18,7 @@ use initializer_analysis::verdict::Verdicts;
 use object_graph::{Image, gather};
 use options::OptionFault;
 use program::{LinkFault, Program};
+use region_shape::{are_from_files, is_linked};
 use std::alloc::{AllocError, Global};
 use std::sync::Wait;
 use std::thread::Threads;
@@ -104,7 +104,6 @@ fn image_by(
     options: &BuildOptions<'_>,
     settled: Result<Settled, BuildFault>,
 ) -> Result<Built, BuildFault>
-    requires files { (class : ℕ) → IsFromFile program class }
     requires budget { options.now.budget < 2 ^ 31 }
     requires settled { SettlesBy program options.now settled }
     ensures build { IfOk result (IsBuildOfProgram program options.now) }
@@ -112,7 +111,8 @@ fn image_by(
     ensures fault { IfErr result (λ fault. (fault ≡ Memory) ⊎ IsOption (OptionsFail program
         (text_of options.now.run_time) (text_of options.now.build_time) options.now.budget) fault) }
 {
-    region_shape::is_linked(&program);
+    is_linked(&program);
+    are_from_files(&program);
     match settled {
         Ok(settled) => image_of(alloc, program, settled),
         Err(fault) => Err(fault),
@@ -130,7 +130,6 @@ pub fn build_program_here(
     program: Program,
     options: &BuildOptions<'_>,
 ) -> Result<Built, BuildFault>
-    requires files { (class : ℕ) → IsFromFile program class }
     requires budget { options.now.budget < 2 ^ 31 }
     ensures build { IfOk result (IsBuildOfProgram program options.now) }
     // Nothing is built but for want of memory, or for what is wrong with the options.
@@ -154,7 +153,6 @@ pub fn build_program<G: Gate, R: Threads + Wait + Sync>(
     workers: u32,
     gate: &G,
 ) -> Result<Built, BuildFault>
-    requires files { (class : ℕ) → IsFromFile program class }
     requires budget { options.now.budget < 2 ^ 31 }
     ensures build { IfOk result (IsBuildOfProgram program options.now) }
     // Nothing is built but for want of memory, or for what is wrong with the number of workers or the options.

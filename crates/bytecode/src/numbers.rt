@@ -4,6 +4,8 @@ ghost use Rattle.std.specs.Prelude.{◌≡◌, [], ◌∷◌, FitsSigned, ◌+�
 ghost use Rattle.std.specs.Int.{w8, w16, w32};
 ghost use Rattle.bytecode.specs.Numbers.{s1, u2, s2, s4};
 
+use byteorder::{BigEndian, ByteOrder};
+
 #[tactic(auto, unfolding(crate::specs::Numbers::s1), using(crate::proofs::NumbersLemmas::s1_back))]
 pub(crate) fn s1(byte: u8) -> i32
     ensures text { s1 result ≡ byte ∷ [] }
@@ -16,7 +18,7 @@ pub(crate) fn s1(byte: u8) -> i32
 pub(crate) fn u2(high: u8, low: u8) -> u16
     ensures { u2 result ≡ high ∷ low ∷ [] }
 {
-    u16::from_be_bytes([high, low])
+    BigEndian::read_u16(&[high, low])
 }
 
 #[tactic(auto, unfolding(crate::specs::Numbers::s2), using(crate::proofs::NumbersLemmas::s2_back))]
@@ -24,7 +26,7 @@ pub(crate) fn s2(high: u8, low: u8) -> i32
     ensures text { s2 result ≡ high ∷ low ∷ [] }
     ensures fits { FitsSigned w16 result }
 {
-    i32::from(i16::from_be_bytes([high, low]))
+    i32::from(BigEndian::read_i16(&[high, low]))
 }
 
 #[tactic(auto, unfolding(crate::specs::Numbers::s4), using(crate::proofs::NumbersLemmas::s4_back))]
@@ -32,7 +34,7 @@ pub(crate) fn s4(a: u8, b: u8, c: u8, d: u8) -> i32
     ensures text { s4 result ≡ a ∷ b ∷ c ∷ d ∷ [] }
     ensures fits { FitsSigned w32 result }
 {
-    i32::from_be_bytes([a, b, c, d])
+    BigEndian::read_i32(&[a, b, c, d])
 }
 
 /// The number at the front of bytes, and what follows it.

@@ -8,7 +8,7 @@ ghost use Rattle.classfile.specs.Faults.{IsBytes};
 ghost use Rattle.classfile.specs.FirstFault.{FirstFault, IsFirstFault, ExactlyOne};
 ghost use Rattle.classfile.specs.Lookup.{utf8_of, class_name_of};
 ghost use Rattle.classfile.specs.Gives.{Gives};
-ghost use Rattle.classfile.specs.ClassFile.{ClassFile};
+ghost use Rattle.classfile.specs.ClassFile.{ClassFile, declares_default, is_default_method};
 ghost use Rattle.classfile.specs.Text.{class_text};
 ghost use Rattle.classfile.specs.Units.{IsModifiedUtf8};
 
@@ -16,6 +16,7 @@ use crate::attribute::Attribute;
 use crate::bytes::Bytes;
 use crate::constant::Constant;
 use crate::fault::ClassFault;
+use crate::flags::{ABSTRACT, STATIC, has_flag};
 use crate::lookup::{class_name_of, utf8_of};
 use crate::member::Member;
 use crate::raw::{RawClassFile, class_of};
@@ -149,6 +150,13 @@ impl ClassFile {
         self.raw.attributes.as_slice()
     }
 
+    /// Whether an interface declares a method that is neither abstract nor static (JVMS 4.6).
+    pub fn declares_default(&self) -> bool
+        ensures { result ≡ declares_default self.now }
+    {
+        self.methods().iter().any(is_default_method)
+    }
+
     /// The constant at an index of the constant pool.
     pub fn constant(&self, index: u16) -> Option<&Constant>
         ensures { option_map (λ c. c.now) result ≡ slice_get self.now.constants index }
@@ -171,4 +179,10 @@ impl ClassFile {
     {
         class_name_of(self.constants(), index)
     }
+}
+
+fn is_default_method(method: &Member) -> bool
+    ensures { result ≡ is_default_method method.now }
+{
+    !(has_flag(method.access_flags, ABSTRACT) || has_flag(method.access_flags, STATIC))
 }

@@ -7,6 +7,7 @@ ghost use Rattle.classfile.specs.reading.Numbers.{number_at, run_at};
 ghost use Rattle.classfile.specs.reading.Class.{pair_at};
 
 use crate::fault::ClassFault;
+use byteorder::{BigEndian, ByteOrder};
 
 pub(crate) fn u8_at(total: usize, bytes: &[u8]) -> Result<(u8, &[u8]), ClassFault>
     ensures { Gives (λ x. (x.0, x.1.now)) result (number_at w8 total bytes.now) }
@@ -29,7 +30,7 @@ pub(crate) fn u16_at(total: usize, bytes: &[u8]) -> Result<(u16, &[u8]), ClassFa
         });
     }
     let (front, rest) = bytes.split_at(2);
-    Ok((u16::from_be_bytes([front[0], front[1]]), rest))
+    Ok((BigEndian::read_u16(front), rest))
 }
 
 /// Two numbers of 16 bits.
@@ -50,10 +51,7 @@ pub(crate) fn u32_at(total: usize, bytes: &[u8]) -> Result<(u32, &[u8]), ClassFa
         });
     }
     let (front, rest) = bytes.split_at(4);
-    Ok((
-        u32::from_be_bytes([front[0], front[1], front[2], front[3]]),
-        rest,
-    ))
+    Ok((BigEndian::read_u32(front), rest))
 }
 
 /// Room for so many items, and no more than the bytes can hold.

@@ -16,3 +16,15 @@ pub mod JournaledLemmas
 pub mod SameEntriesLemmas
 pub mod OneRunLemmas
 pub mod OneBuildRefusalLemmas
+pub mod HasMembersLemmas
+pub mod HasProgramLemmas
+pub mod HasBodiesLemmas
+pub mod LinksOrFaultLemmas
+pub mod ParentsWithinLemmas
+pub mod ExistenceLemmas
+mod DoneLemmas
+mod FileLemmas
+mod SlashLemmas
+mod NotRunLemmas
+mod OutputLemmas
+mod CountLemmas

@@ -1,11 +1,10 @@
 -- What is read as an image is written as the text of that image.
 use Rattle.std.proofs.Common.{◌≡◌, ◌≢◌, ◌⊎◌, ◌∙◌, inl, inr, ℕ, List, Option, sym, subst, refl}
 use Rattle.loading.specs.Families.{Family}
-use Rattle.loading.specs.Files.{Links}
 use Rattle.object_graph.specs.Images.{ImageTables}
 use Rattle.image_format.specs.declared.region.ImageRegion.{ImageRegion}
 use Rattle.image_format.specs.declared.version.Version.TheVariants.{Two}
-use Rattle.image_format.specs.Images.{AreShort, ImageText, SomeText, files_of}
+use Rattle.image_format.specs.Images.{AreShort, ImageText, SomeText}
 use Rattle.image_format.specs.Texts.{image_text}
 use Rattle.image_parser.specs.ImageFaults.{ImageFails}
 use Rattle.image_parser.specs.declared.image_fault.ImageFault.{ImageFault}
@@ -20,20 +19,13 @@ pub some_short : (bytes : List ℕ) (family : Family) (regions : List (Option Im
 some_short bytes family regions (inl text) = text.short
 some_short bytes family regions (inr old) = old.text.short
 
-some_links : (bytes : List ℕ) (family : Family) (regions : List (Option ImageRegion))
-    → SomeText bytes family regions → Links (files_of family)
-some_links bytes family regions (inl text) = text.links
-some_links bytes family regions (inr old) = old.text.links
-
 pub is_renewed : (bytes renewed : List ℕ) (I : ImageTables) → SomeText bytes I.program.family (told_of I)
-    → (Links (files_of I.program.family) → ImageText (text_of I) I.program.family (told_of I)) → renewed ≡ text_of I
-    → IsRenewed bytes renewed
+    → ImageText (text_of I) I.program.family (told_of I) → renewed ≡ text_of I → IsRenewed bytes renewed
 is_renewed bytes renewed I read written e = record {
   family = I.program.family;
   regions = told_of I;
   read = read;
-  written = subst (λ (b : List ℕ). ImageText b I.program.family (told_of I)) (sym e)
-      (written (some_links bytes I.program.family (told_of I) read));
+  written = subst (λ (b : List ℕ). ImageText b I.program.family (told_of I)) (sym e) written;
 }
 
 -- a text of version 2 is written as it was

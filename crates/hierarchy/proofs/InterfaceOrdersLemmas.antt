@@ -12,7 +12,8 @@ use Rattle.loading.specs.declared.given.GivenClass.{GivenClass}
 use Rattle.loading.specs.Families.{Family, IsFamily, parents_in, interfaces_in, is_interface_in, superclasses_in}
 use Rattle.loading.specs.Families.{passes, file_of}
 use Rattle.hierarchy.specs.Search.{SuperinterfacesFirst, none, next}
-use Rattle.hierarchy.specs.Initialization.{is_initialized_first, declares_default, IsInitializationOrder, class}
+use Rattle.classfile.specs.ClassFile.{declares_default}
+use Rattle.hierarchy.specs.Initialization.{is_initialized_first, IsInitializationOrder, class}
 use Rattle.hierarchy.specs.steps.InterfaceOrders.{AddsInterfaces, TellFirst}
 use Rattle.hierarchy.specs.steps.Walks.{ParentsBefore}
 use Rattle.hierarchy.specs.steps.Walks as walks

@@ -1,6 +1,5 @@
 pub mod TextsLemmas
-pub mod ChainsLemmas
-pub mod FoundTextsLemmas
+pub mod HeldTextsLemmas
 pub mod MemberKeysLemmas
 pub mod MemberTablesLemmas
 pub mod FamiliesChainLemmas

@@ -2,20 +2,11 @@
 use Rattle.std.specs.Prelude.{◌≡◌, ℕ, zero, suc, Bool, true, false, not, ◌||◌, List, [], ◌∷◌, ◌++◌, ◌<◌, length}
 use Rattle.std.specs.Prelude.{slice_index_or}
 use Rattle.std.specs.List.{list_any, filter, flat_map}
-use Rattle.classfile.specs.ClassFile.{ClassFile}
-use Rattle.classfile.specs.declared.member.Member.{Member}
+use Rattle.classfile.specs.ClassFile.{declares_default}
 use Rattle.loading.specs.Families.{Family, file_in, passes, is_interface_in, interfaces_in, superclasses_in}
-use Rattle.hierarchy.specs.MemberLookup.{is_abstract, is_static}
 use Rattle.hierarchy.specs.Search.{SuperinterfacesFirst, firsts}
 
--- neither abstract nor static
-abbrev pub is_default_method : Member → Bool
-is_default_method m = not (is_abstract m.access_flags || is_static m.access_flags)
-
 -- whether an interface declares a method that is neither abstract nor static
-abbrev pub declares_default : ClassFile → Bool
-declares_default f = list_any is_default_method f.methods
-
 abbrev pub is_initialized_first : Family → ℕ → Bool
 is_initialized_first family i = passes declares_default (file_in family i)
 

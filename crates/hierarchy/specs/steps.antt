@@ -25,5 +25,4 @@ pub mod Groups
 pub mod FoundAhead
 pub mod Specials
 pub mod Selectable
-pub mod Chains
-pub mod FoundTexts
+pub mod HeldTexts

@@ -21,6 +21,7 @@ use crate::member_name::MemberName;
 use crate::member_table::MemberTable;
 use crate::nearest::NearestMembers;
 use crate::reach_table::Reach;
+use crate::text_state::TextState;
 use crate::wanted::Wanted;
 use built_in::class_id::BuiltIn;
 use classfile::ClassFile;
@@ -124,6 +125,11 @@ impl Hierarchy {
     {
         let nearest = &self.nearest;
         nearest.nearest(wanted, class, key?)
+    }
+
+    /// What the texts of its classes are hashed by.
+    pub fn text_state(&self) -> TextState {
+        self.table.text_state()
     }
 
     /// What was noted of a kind of members by name and descriptor. Each class that declares such a member is named

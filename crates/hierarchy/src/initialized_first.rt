@@ -2,11 +2,9 @@
 
 ghost use Rattle.std.specs.Prelude.{◌≡◌, ◌<◌, ◌≤◌, ◌^◌, false, ◌++◌, length, IfOk, OnOk, slice_index_or};
 ghost use Rattle.std.specs.List.{All, filter};
-ghost use Rattle.hierarchy.specs.Initialization.{is_initialized_first, declares_default, is_default_method};
+ghost use Rattle.hierarchy.specs.Initialization.{is_initialized_first};
 ghost use Rattle.hierarchy.specs.steps.InterfaceOrders.{TellFirst};
 
-use classfile::flags::{ABSTRACT, STATIC, has_flag};
-use classfile::{ClassFile, Member};
 use graph::Visited;
 use loading::family::Family;
 use std::alloc::{AllocError, Global};
@@ -27,22 +25,9 @@ fn is_initialized_first(family: &Family, class: u32) -> bool
     ensures { result ≡ is_initialized_first family.now class }
 {
     match family.file(class) {
-        Some(file) => declares_default(file),
+        Some(file) => file.declares_default(),
         None => false,
     }
-}
-
-/// Whether an interface declares a method that is neither abstract nor static.
-fn declares_default(file: &ClassFile) -> bool
-    ensures { result ≡ declares_default file.now }
-{
-    file.methods().iter().any(is_default_method)
-}
-
-fn is_default_method(method: &Member) -> bool
-    ensures { result ≡ is_default_method method.now }
-{
-    !(has_flag(method.access_flags, ABSTRACT) || has_flag(method.access_flags, STATIC))
 }
 
 /// Adds those members that are marked.

@@ -9,6 +9,7 @@ ghost use Rattle.hierarchy.specs.MemberNames.{named_in};
 use crate::member_key::MemberKey;
 use crate::member_name::MemberName;
 use crate::pool_texts::PoolTexts;
+use crate::text_state::{TextState, has_few};
 use crate::texts::Texts;
 use loading::given::GivenClass;
 use std::alloc::{AllocError, Global};
@@ -37,10 +38,22 @@ impl MemberTable {
             texts,
             pools: Vec::new(alloc),
         };
-        match table.add_classes(alloc, classes) {
+        match table.add_all(alloc, classes) {
             Ok(()) => Ok(table),
             Err(error) => Err(error),
         }
+    }
+
+    /// Gives the texts of all classes numbers. Unless they are few, they are hashed by a digest of them all then.
+    fn add_all(&mut self, alloc: Global, classes: &[GivenClass]) -> Result<(), AllocError>
+        requires { HavePools [] self.old.texts self.old.pools.items }
+        ensures { OnOk result (HavePools classes.now self.new.texts self.new.pools.items) }
+    {
+        self.add_classes(alloc, classes)?;
+        if has_few(classes) {
+            return Ok(());
+        }
+        self.texts.hash_by_all(alloc, &[])
     }
 
     /// Gives the texts of all classes numbers.
@@ -49,7 +62,25 @@ impl MemberTable {
         ensures { OnOk result (HavePools classes.now self.new.texts self.new.pools.items) }
     {
         for given in classes {
+            self.prepare(alloc, classes, given)?;
             self.add_class(alloc, given)?;
+        }
+        Ok(())
+    }
+
+    /// Sees that to seek the texts of the next class costs little, whoever chose them.
+    fn prepare(
+        &mut self,
+        alloc: Global,
+        classes: &[GivenClass],
+        given: &GivenClass,
+    ) -> Result<(), AllocError>
+        ensures texts { self.new.texts ≡ self.old.texts }
+        ensures pools { self.new.pools ≡ self.old.pools }
+    {
+        if self.texts.is_at_risk(given.file.constants().len()) {
+            let coming = classes.get(self.pools.len()..).unwrap_or(classes);
+            return self.texts.hash_by_all(alloc, coming);
         }
         Ok(())
     }
@@ -63,6 +94,11 @@ impl MemberTable {
         let pool = PoolTexts::of_file(alloc, &mut self.texts, &given.file)?;
         self.pools.push(pool)?;
         Ok(())
+    }
+
+    /// What the texts are hashed by.
+    pub(crate) fn text_state(&self) -> TextState {
+        self.texts.state()
     }
 
     /// The numbers of a name and a descriptor, if both have some.

@@ -1,12 +1,12 @@
 -- What an image has to be, and the bytes that are one.
-use Rattle.std.specs.Prelude.{◌≡◌, ◌⊎◌, ℕ, ◌<◌, ◌^◌, true, List, length, map, Option, Some, is_some, slice_get}
+use Rattle.std.specs.Prelude.{◌≡◌, ◌⊎◌, ℕ, ◌<◌, ◌^◌, true, List, length, Option, Some, is_some, slice_get}
 use Rattle.std.specs.List.{All}
 use Rattle.classfile.specs.Class.{IsClassFile}
-use Rattle.classfile.specs.ClassFile.{ClassFile}
 use Rattle.classfile.specs.Text.{class_text}
 use Rattle.loading.specs.declared.given.GivenClass.{GivenClass}
 use Rattle.loading.specs.Families.{Family, IsFamily}
 use Rattle.loading.specs.Files.{Links}
+use Rattle.program.specs.Programs.{files_of}
 use Rattle.image_format.specs.declared.value.ImageValue.{ImageValue}
 use Rattle.image_format.specs.declared.value.ImageValue.TheVariants as values
 use Rattle.image_format.specs.declared.object.KeptObject.{KeptObject}
@@ -43,10 +43,6 @@ pub record AreRegions (version : Version) (family : Family) (regions : List (Opt
       → HasShape version family c region
   pub names : (c : ℕ) (region : ImageRegion) → slice_get regions c ≡ Some (Some region) → NamesObjects regions region
   pub needed : NeedsAll version regions
-
--- the files of the classes, in the order of their names
-abbrev pub files_of : Family → List ClassFile
-files_of family = map (λ (given : GivenClass). given.file) family
 
 -- each is a class file (JVMS 4.1)
 abbrev pub AreClassFiles : Family → Type 0

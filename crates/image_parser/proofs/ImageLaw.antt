@@ -23,7 +23,8 @@ use Rattle.one_program.proofs.FamiliesLemmas.{one_family}
 use Rattle.image_format.specs.declared.region.ImageRegion.{ImageRegion}
 use Rattle.image_format.specs.declared.version.Version.{Version}
 use Rattle.image_format.specs.declared.version.Version.TheVariants as versions
-use Rattle.image_format.specs.Images.{files_of as classes_of, VersionText, ImageText, OldText, SomeText}
+use Rattle.program.specs.Programs.{files_of as classes_of}
+use Rattle.image_format.specs.Images.{VersionText, ImageText, OldText, SomeText}
 use Rattle.image_format.specs.Reached.{IsDropped}
 use Rattle.image_format.specs.Texts.{given_text, mark_text, version_number}
 use Rattle.image_format.proofs.DroppedLemmas.{one_dropped}

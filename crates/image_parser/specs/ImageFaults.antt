@@ -10,7 +10,8 @@ use Rattle.loading.specs.Families.{Family, IsFamily, IsFamilyOf, name_in}
 use Rattle.loading.specs.Files.{LinkFails, Links}
 use Rattle.image_format.specs.declared.region.ImageRegion.{ImageRegion}
 use Rattle.image_format.specs.declared.version.Version.{Version}
-use Rattle.image_format.specs.Images.{files_of, AreRegions, AreClassFiles, AreShort, SomeText}
+use Rattle.program.specs.Programs.{files_of}
+use Rattle.image_format.specs.Images.{AreRegions, AreClassFiles, AreShort, SomeText}
 use Rattle.image_format.specs.Texts.{given_text, mark_text}
 use Rattle.image_parser.specs.declared.fault.FilesFault.{FilesFault}
 use Rattle.image_parser.specs.declared.fault.FilesFault.TheVariants as file_faults

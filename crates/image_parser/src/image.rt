@@ -18,6 +18,7 @@ use crate::files::read_files;
 use crate::header::parts_of;
 use crate::image_fault::ImageFault;
 use crate::regions::read_regions;
+use byteorder::{BigEndian, ByteOrder};
 use classfile::ClassFile;
 use image_format::region::ImageRegions;
 use image_format::version::Version;
@@ -83,10 +84,7 @@ fn count_at(parts: &[u8]) -> (u32, &[u8])
     ensures rest { result.1.now ≡ drop 4 parts.now }
 {
     let (front, rest) = parts.split_at(4);
-    (
-        u32::from_be_bytes([front[0], front[1], front[2], front[3]]),
-        rest,
-    )
+    (BigEndian::read_u32(front), rest)
 }
 
 /// What the parts of an image say.

@@ -5,6 +5,7 @@ ghost use Rattle.std.specs.Int.{w8, w16, w32, w64};
 ghost use Rattle.image_parser.specs.reading.Results.{Gives, number_at, run_at};
 
 use crate::fault::RegionFault;
+use byteorder::{BigEndian, ByteOrder};
 
 /// A number of 8 bits.
 pub(crate) fn u8_at(bytes: &[u8]) -> Result<(u8, &[u8]), RegionFault>
@@ -25,7 +26,7 @@ pub(crate) fn u16_at(bytes: &[u8]) -> Result<(u16, &[u8]), RegionFault>
         return Err(RegionFault::Truncated);
     }
     let (front, rest) = bytes.split_at(2);
-    Ok((u16::from_be_bytes([front[0], front[1]]), rest))
+    Ok((BigEndian::read_u16(front), rest))
 }
 
 /// A number of 32 bits, its highest byte first.
@@ -36,10 +37,7 @@ pub(crate) fn u32_at(bytes: &[u8]) -> Result<(u32, &[u8]), RegionFault>
         return Err(RegionFault::Truncated);
     }
     let (front, rest) = bytes.split_at(4);
-    Ok((
-        u32::from_be_bytes([front[0], front[1], front[2], front[3]]),
-        rest,
-    ))
+    Ok((BigEndian::read_u32(front), rest))
 }
 
 /// A number of 64 bits, its highest byte first.
@@ -50,12 +48,7 @@ pub(crate) fn u64_at(bytes: &[u8]) -> Result<(u64, &[u8]), RegionFault>
         return Err(RegionFault::Truncated);
     }
     let (front, rest) = bytes.split_at(8);
-    Ok((
-        u64::from_be_bytes([
-            front[0], front[1], front[2], front[3], front[4], front[5], front[6], front[7],
-        ]),
-        rest,
-    ))
+    Ok((BigEndian::read_u64(front), rest))
 }
 
 /// That many bytes.

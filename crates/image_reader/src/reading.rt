@@ -47,7 +47,7 @@ pub fn read(alloc: Global, bytes: &[u8]) -> Result<Image, ImageFault>
     ensures only_fault { (x : Fault) → ImageFails bytes.now x → Answers result x }
 {
     match parse(alloc, bytes) {
-        Ok(parsed) => match image_of(alloc, parsed) {
+        Ok(parsed) => match image_of(alloc, parsed, bytes) {
             Ok(image) => Ok(image),
             Err(_) => Err(ImageFault::Memory),
         },
@@ -55,8 +55,8 @@ pub fn read(alloc: Global, bytes: &[u8]) -> Result<Image, ImageFault>
     }
 }
 
-/// The image that a text says, all of whose objects are reached.
-fn image_of(alloc: Global, parsed: Parsed) -> Result<Image, AllocError>
+/// The image that a text says, all of whose objects are reached. Its digest stands at its end.
+fn image_of(alloc: Global, parsed: Parsed, bytes: &[u8]) -> Result<Image, AllocError>
     requires { AreRegions Two parsed.program.family parsed.regions }
     ensures family { IfOk result (λ image. image.program.family ≡ parsed.program.family) }
     ensures told { IfOk result (λ image. told_of image ≡ parsed.regions) }
@@ -72,6 +72,8 @@ fn image_of(alloc: Global, parsed: Parsed) -> Result<Image, AllocError>
         regions,
     } = parsed;
     let _linked = program.classes();
+    let (_, digest) = bytes.split_at(bytes.len().saturating_sub(32));
+    program.hash_strings_by(alloc, digest)?;
     let held = held_regions(alloc, &mut program, regions.as_slice())?;
     let _classes = program.classes();
     Ok(Image::of_reached(program, held))

@@ -2,7 +2,6 @@ pub mod TextLemmas
 pub mod FilesLemmas
 pub mod SizesLemmas
 pub mod ProgramsLemmas
-pub mod LinksLemmas
 pub mod SuitsLemmas
 pub mod ReachedLemmas
 pub mod RegionsLemmas

@@ -28,7 +28,8 @@ use Rattle.object_graph.specs.Images.{AreSmall}
 use Rattle.object_graph.specs.Reached.{object_among}
 use Rattle.image_format.specs.declared.object.KeptObject.{KeptObject}
 use Rattle.image_format.specs.declared.region.ImageRegion.{ImageRegion}
-use Rattle.image_format.specs.Images.{AreRegions, AreClassFiles, AreShort, ImageText, files_of}
+use Rattle.image_format.specs.Images.{AreRegions, AreClassFiles, AreShort, ImageText}
+use Rattle.program.specs.Programs.{files_of}
 use Rattle.image_format.specs.Images.{IsThere, NamesObjects}
 use Rattle.image_format.specs.Objects.{object_of}
 use Rattle.image_format.specs.declared.version.Version.TheVariants as versions

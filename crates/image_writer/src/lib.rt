@@ -11,5 +11,6 @@ mod values;
 mod writing;
 
 pub use sending::{WriteFault, send};
+pub use sinks::{Out, Sink, SinkFault};
 pub use text::image_text;
 pub use writing::write;

@@ -5,6 +5,7 @@ ghost use Rattle.std.specs.List.{flat_map, All};
 ghost use Rattle.classfile.specs.Spelling.{u1, u2, u4};
 ghost use Rattle.image_format.specs.Texts.{u8, units_text, named_text};
 
+use byteorder::{BigEndian, ByteOrder};
 use std::alloc::AllocError;
 
 pub(crate) fn push_u8(out: &mut Vec<u8>, number: u8) -> Result<(), AllocError>
@@ -16,19 +17,25 @@ pub(crate) fn push_u8(out: &mut Vec<u8>, number: u8) -> Result<(), AllocError>
 pub(crate) fn push_u16(out: &mut Vec<u8>, number: u16) -> Result<(), AllocError>
     ensures { OnOk result (out.new.items ≡ out.old.items ++ u2 number) }
 {
-    out.extend_from_slice(&number.to_be_bytes())
+    let mut bytes = [0; 2];
+    BigEndian::write_u16(&mut bytes, number);
+    out.extend_from_slice(&bytes)
 }
 
 pub(crate) fn push_u32(out: &mut Vec<u8>, number: u32) -> Result<(), AllocError>
     ensures { OnOk result (out.new.items ≡ out.old.items ++ u4 number) }
 {
-    out.extend_from_slice(&number.to_be_bytes())
+    let mut bytes = [0; 4];
+    BigEndian::write_u32(&mut bytes, number);
+    out.extend_from_slice(&bytes)
 }
 
 pub(crate) fn push_u64(out: &mut Vec<u8>, number: u64) -> Result<(), AllocError>
     ensures { OnOk result (out.new.items ≡ out.old.items ++ u8 number) }
 {
-    out.extend_from_slice(&number.to_be_bytes())
+    let mut bytes = [0; 8];
+    BigEndian::write_u64(&mut bytes, number);
+    out.extend_from_slice(&bytes)
 }
 
 /// The count of units, and the units.

@@ -8,8 +8,7 @@ ghost use Rattle.classfile.specs.Text.{class_text};
 ghost use Rattle.evaluator.specs.Regions.{environment_of};
 ghost use Rattle.image_format.specs.declared.version.Version.TheVariants.{Two};
 ghost use Rattle.image_format.specs.Texts.{given_text, body_text, file_text};
-ghost use Rattle.loading.specs.Files.{Links};
-ghost use Rattle.image_format.specs.Images.{AreShort, ImageText, files_of};
+ghost use Rattle.image_format.specs.Images.{AreShort, ImageText};
 ghost use Rattle.image_format.specs.Told.{told_regions};
 ghost use Rattle.image_writer.specs.ImageTexts.{text_of, told_of};
 
@@ -100,9 +99,9 @@ fn push_digest(out: &mut Vec<u8>) -> Result<(), AllocError>
 /// The text of an image is one of it.
 fn is_text_of(image: &Image)
     requires { AreShort image.now.program.family }
-    ensures { Links (files_of image.now.program.family)
-        → ImageText (text_of image.now) image.now.program.family (told_of image.now) }
+    ensures { ImageText (text_of image.now) image.now.program.family (told_of image.now) }
 {
+    image.program().links();
     has_files(image.program());
     classes_fit(image);
     let _classes = image.program().family().classes();
@@ -117,8 +116,7 @@ pub fn image_text(alloc: Global, image: &Image) -> Result<Vec<u8>, AllocError>
     requires { AreShort image.now.program.family }
     ensures text { IfOk result (λ bytes. bytes.items ≡ text_of image.now) }
     // It is the text of an image: that of these class files, which make one program, and of these regions.
-    ensures image { Links (files_of image.now.program.family)
-        → ImageText (text_of image.now) image.now.program.family (told_of image.now) }
+    ensures image { ImageText (text_of image.now) image.now.program.family (told_of image.now) }
 {
     is_text_of(image);
     let mut out = Vec::with_capacity(alloc, room_for(image))?;

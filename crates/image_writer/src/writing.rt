@@ -2,8 +2,7 @@
 
 ghost use Rattle.std.specs.Prelude.{◌≡◌, OnOk, IfErr};
 ghost use Rattle.std.specs.Io.KnownBytes.{Appends};
-ghost use Rattle.loading.specs.Files.{Links};
-ghost use Rattle.image_format.specs.Images.{AreShort, ImageText, files_of};
+ghost use Rattle.image_format.specs.Images.{AreShort, ImageText};
 ghost use Rattle.image_writer.specs.ImageTexts.{text_of, told_of};
 ghost use Rattle.image_writer.specs.Sendings.{IsBegun, HasFailed};
 
@@ -24,9 +23,8 @@ pub fn write<S: Sink>(alloc: Global, image: &Image, sink: &mut S) -> Result<(), 
     ensures begun { IfErr result (IsBegun (text_of image.now) (S.got sink.old) (S.got sink.new)) }
     ensures failed { IfErr result (HasFailed (S.failures sink.old) (S.failures sink.new)) }
     ensures well { OnOk result (S.failures sink.new ≡ S.failures sink.old) }
-    // Where the class files make one program, the text is one of the image.
-    ensures image { Links (files_of image.now.program.family)
-        → ImageText (text_of image.now) image.now.program.family (told_of image.now) }
+    // The text is one of the image.
+    ensures image { ImageText (text_of image.now) image.now.program.family (told_of image.now) }
 {
     match image_text(alloc, image) {
         Ok(text) => send(&text, sink),

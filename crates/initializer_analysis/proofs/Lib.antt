@@ -14,3 +14,7 @@ pub mod OthersLemmas
 pub mod CyclesLemmas
 pub mod LabelsOfClassesLemmas
 pub mod JudgingLemmas
+pub mod ReachesLemmas
+pub mod UsesLemmas
+pub mod AcyclicLemmas
+pub mod HasVerdictsLemmas

@@ -1,6 +1,7 @@
 -- Heights of components, found from the last vertex of their order to the first.
 use Rattle.std.proofs.Common.{◌≡◌, ◌≢◌, ℕ, zero, suc, ◌+◌, ◌<◌, ◌≤◌, ◌⊎◌, Bool, true, false, IsTrue, List, length}
-use Rattle.std.proofs.Common.{replicate, take, set, map, max, cond, slice_index, slice_index_or, inl, inr, refl, sym, subst}
+use Rattle.std.proofs.Common.{replicate, take, set, map, max, cond, slice_index, slice_index_or, inl, inr, refl, sym}
+use Rattle.std.proofs.Common.{subst}
 use Rattle.std.proofs.Common.{arith, ap, ◌∙◌}
 use Rattle.std.specs.List.{All, Contains}
 use Rattle.std.proofs.lemmas.Grind.{common_steps}

@@ -83,6 +83,10 @@ pub record AreVerdicts (P : Tables) (forced : List Bool) (verdicts : List Verdic
 
 -- ---- laws
 
+-- There are verdicts, whatever the program is and whichever classes are forced.
+abbrev pub HasVerdicts : Type 0
+HasVerdicts = (P : Tables) (forced : List Bool) → (verdicts : List Verdict) × AreVerdicts P forced verdicts
+
 -- Classes have one verdict each.
 abbrev pub OneVerdict : Type 0
 OneVerdict = (P : Tables) (forced : List Bool) (verdicts others : List Verdict) → AreVerdicts P forced verdicts

@@ -1,6 +1,11 @@
 //! What holds of all verdicts.
 
-ghost use Rattle.initializer_analysis.specs.Verdicts.{OneVerdict, WavesFall};
+ghost use Rattle.initializer_analysis.specs.Verdicts.{HasVerdicts, OneVerdict, WavesFall};
+
+/// There are verdicts on the classes of each program, whichever of them are forced.
+pub fn has_verdicts()
+    ensures { HasVerdicts }
+{}
 
 /// Classes have one verdict each.
 pub fn one_verdict()

@@ -18,3 +18,4 @@ pub mod CountedFieldsLemmas
 pub mod AddedStringsLemmas
 pub mod SparseLemmas
 pub mod KeptConstantsLemmas
+pub mod LinksLemmas

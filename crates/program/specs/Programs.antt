@@ -113,6 +113,10 @@ pub data IsImplementation (family : Family) (f : ClassFile) (m : Member) : Imple
 
 -- ---- a whole class, and the program
 
+-- the files of the classes, in the order of their names
+abbrev pub files_of : Family → List ClassFile
+files_of family = map (λ (given : GivenClass). given.file) family
+
 pub record IsLinkedClass (family : Family) (strings : List (List ℕ)) (f : ClassFile) (class : Class) : Type 0 where
   pub statics : class.statics ≡ map (static_field f class.runtime_pool) (statics_of f)
   pub signatures : AreSignatures f class.signatures

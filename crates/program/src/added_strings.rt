@@ -6,9 +6,20 @@ ghost use Rattle.program.specs.Programs.{IsProgram};
 
 use crate::linked_program::Program;
 use classfile::ModifiedUtf8;
+use hierarchy::text_state::TextState;
 use std::alloc::{AllocError, Global};
 
 impl Program {
+    /// Hashes the strings by a digest, before strings are added that others chose.
+    ///
+    /// # Errors
+    /// Where memory runs out; they are hashed as before.
+    pub fn hash_strings_by(&mut self, alloc: Global, digest: &[u8]) -> Result<(), AllocError>
+        ensures { self.new ≡ self.old }
+    {
+        self.strings.rehash(alloc, TextState::of_digest(digest))
+    }
+
     /// The number of a string among those of the program, which gets one if it had none.
     ///
     /// # Errors

@@ -17,7 +17,7 @@ ghost use Rattle.program.specs.steps.Slots.{AreSlots};
 ghost use Rattle.program.specs.steps.StaticNumbers.{AreStaticNumbersOf};
 ghost use Rattle.hierarchy.specs.Initialization.{AreOrders};
 ghost use Rattle.program.specs.Programs.{AreClasses, HasOwnStrings, IsLinkedClass, IsProgram, IsImplementation};
-ghost use Rattle.program.specs.Programs.{static_field};
+ghost use Rattle.program.specs.Programs.{files_of, static_field};
 ghost use Rattle.hierarchy.specs.Texts.{AreDistinct};
 ghost use Rattle.program.specs.RuntimePool.{IsRuntimePool};
 ghost use Rattle.program.specs.Strings.{strings_of, all_strings, AreFirsts};
@@ -76,6 +76,7 @@ pub fn link(alloc: Global, files: Vec<ClassFile>) -> Result<Program, LinkFault>
 
 /// The program of a family, unless memory runs out.
 fn linked(alloc: Global, family: Family) -> Result<Program, LinkFault>
+    requires { Links (files_of family) }
     ensures family { IfOk result (λ program. program.family ≡ family) }
     ensures program { IfOk result IsProgram }
     ensures orders { IfOk result (λ program. AreOrders program.family program.orders) }
@@ -90,6 +91,7 @@ fn linked(alloc: Global, family: Family) -> Result<Program, LinkFault>
 
 /// The program of a family.
 fn program_of(alloc: Global, family: Family) -> Result<Program, AllocError>
+    requires { Links (files_of family) }
     ensures family { IfOk result (λ program. program.family ≡ family) }
     ensures program { IfOk result IsProgram }
     ensures orders { IfOk result (λ program. AreOrders program.family program.orders) }
@@ -103,6 +105,7 @@ fn program_of(alloc: Global, family: Family) -> Result<Program, AllocError>
 
 /// The program of a hierarchy.
 fn with_slots(alloc: Global, hierarchy: Hierarchy) -> Result<Program, AllocError>
+    requires { Links (files_of hierarchy.family) }
     ensures family { IfOk result (λ program. program.family ≡ hierarchy.family) }
     ensures program { IfOk result IsProgram }
     ensures orders { IfOk result (λ program. AreOrders program.family program.orders) }
@@ -119,7 +122,8 @@ fn with_slots(alloc: Global, hierarchy: Hierarchy) -> Result<Program, AllocError
 
 /// The program of a hierarchy and of the slots of its classes.
 fn with_tables(alloc: Global, hierarchy: Hierarchy, slots: Slots) -> Result<Program, AllocError>
-    requires { AreSlots hierarchy.family slots }
+    requires links { Links (files_of hierarchy.family) }
+    requires slots { AreSlots hierarchy.family slots }
     ensures family { IfOk result (λ program. program.family ≡ hierarchy.family) }
     ensures program { IfOk result IsProgram }
     ensures orders { IfOk result (λ program. AreOrders program.family program.orders) }
@@ -190,7 +194,7 @@ fn class_tables(
     ensures distinct { IfOk result (λ tables. AreDistinct tables.1) }
     ensures strings { IfOk result (λ tables. AreFirsts (all_strings hierarchy.now.family) tables.1) }
 {
-    let mut strings = Texts::new(alloc);
+    let mut strings = Texts::new(alloc, hierarchy.text_state());
     match classes_of(alloc, hierarchy, slots, &mut strings) {
         Ok(classes) => Ok((classes, strings)),
         Err(error) => Err(error),
@@ -200,6 +204,7 @@ fn class_tables(
 /// A program of its parts.
 #[tactic(auto, using(crate::proofs::AddedStringsLemmas::own_alone))]
 fn joined(hierarchy: Hierarchy, slots: Slots, tables: Tables) -> Program
+    requires links { Links (files_of hierarchy.family) }
     requires slots { AreSlots hierarchy.family slots }
     requires order_count { length tables.orders ≡ length hierarchy.family }
     requires orders { AreOrders hierarchy.family tables.orders }

@@ -7,6 +7,7 @@ mod ahead;
 mod arrays;
 mod assembly;
 pub mod class;
+mod class_text;
 mod equal_entries;
 mod field_kinds;
 mod field_slots;

@@ -4,24 +4,25 @@ ghost use Rattle.std.specs.Prelude.{◌≡◌, ◌≢◌, ◌<◌, ◌≤◌, �
 ghost use Rattle.std.specs.Prelude.{option_map, slice_get};
 ghost use Rattle.classfile.specs.Units.{units_text};
 ghost use Rattle.loading.specs.Families.{name_in};
+ghost use Rattle.loading.specs.Files.{Links};
 ghost use Rattle.hierarchy.specs.Initialization.{IsInitializationOrder};
-ghost use Rattle.program.specs.Programs.{IsProgram};
+ghost use Rattle.program.specs.Programs.{IsProgram, files_of};
 ghost use Rattle.program.specs.Tables.{Tables, implementations_of, instruction_at, implementation_at, constant_at};
 ghost use Rattle.program.specs.Tables.{statics_in, order_in};
 ghost use Rattle.program.specs.Tables.{initializer_in, main_in, signature_at};
 
 use crate::class::{Class, Implementation};
+use crate::class_text::class_text;
 use crate::runtime_constant::RuntimeConstant;
 use crate::signature::Signature;
 use crate::slots::Slots;
-use built_in::class_id::{ArrayType, ClassId, ElementType};
+use built_in::class_id::ClassId;
 use bytecode::Instruction;
-use classfile::{ClassName, printed};
+use classfile::ClassName;
 use hierarchy::class_lists::ClassLists;
 use hierarchy::hierarchy::Hierarchy;
 use hierarchy::texts::Texts;
 use loading::family::Family;
-use loading::names::name_of;
 use std::alloc::{AllocError, Global};
 use std::marker::Model;
 use vm_state::classes::StaticField;
@@ -39,7 +40,8 @@ pub struct Program {
 }
 
 impl Model for Program {
-    ghost use Rattle.program.specs.Programs.{IsProgram};
+    ghost use Rattle.loading.specs.Files.{Links};
+    ghost use Rattle.program.specs.Programs.{IsProgram, files_of};
     ghost use Rattle.program.specs.Tables.{Tables};
     ghost use Rattle.program.specs.steps.Slots.{AreSlots};
 
@@ -55,7 +57,7 @@ impl Model for Program {
 
     ghost invariant = { λ s. IsProgram
         (record { family = s.hierarchy.family; orders = s.orders; classes = s.classes.items; strings = s.strings })
-        × AreSlots s.hierarchy.family s.slots };
+        × AreSlots s.hierarchy.family s.slots × Links (files_of s.hierarchy.family) };
 }
 
 // By hand, since a derived one is proved anew wherever a program is let go.
@@ -86,6 +88,13 @@ impl Program {
         ensures { result.now ≡ self.now.family }
     {
         self.hierarchy.family()
+    }
+
+    /// The law that the files of a program's classes make one program. It does nothing.
+    pub fn links(&self)
+        ensures { Links (files_of self.now.family) }
+    {
+        let _classes = self.classes.as_slice();
     }
 
     /// How many classes were given.
@@ -140,16 +149,20 @@ impl Program {
     pub fn signature(&self, class: u32, descriptor: u16) -> Option<&Signature>
         ensures { option_copied result ≡ signature_at self.now class descriptor }
     {
-        let class = self.classes.get(class as usize)?;
-        class.signatures.at(descriptor)
+        match self.classes.get(class as usize) {
+            Some(class) => class.signatures.at(descriptor),
+            None => None,
+        }
     }
 
     /// The constant at an index of a class's run-time constant pool.
     pub fn constant(&self, class: u32, index: u16) -> Option<RuntimeConstant>
         ensures { result ≡ constant_at self.now class index }
     {
-        let class = self.classes.get(class as usize)?;
-        class.runtime_pool.at(index)
+        match self.classes.get(class as usize) {
+            Some(class) => class.runtime_pool.at(index),
+            None => None,
+        }
     }
 
     /// The text of a string, as class files spell it, by its number among the strings of the program.
@@ -181,14 +194,20 @@ impl Program {
     pub fn initializer(&self, class: u32) -> Option<u16>
         ensures { result ≡ initializer_in self.now class }
     {
-        self.classes.get(class as usize)?.initializer
+        match self.classes.get(class as usize) {
+            Some(class) => class.initializer,
+            None => None,
+        }
     }
 
     /// The `main` that a thread calls which begins with a class.
     pub fn main(&self, class: u32) -> Option<u16>
         ensures { result ≡ main_in self.now class }
     {
-        self.classes.get(class as usize)?.main
+        match self.classes.get(class as usize) {
+            Some(class) => class.main,
+            None => None,
+        }
     }
 
     /// The number of the given class of a name, if there is one.
@@ -209,84 +228,6 @@ impl Program {
     /// # Errors
     /// Where memory runs out.
     pub fn class_text(&self, alloc: Global, class: ClassId) -> Result<String, AllocError> {
-        match class {
-            ClassId::Given(number) => self.given_text(alloc, number),
-            ClassId::BuiltIn(class) => String::from_str(alloc, class.name()),
-            ClassId::Array(array) => self.array_text(alloc, array),
-        }
+        class_text(alloc, self.hierarchy.family(), &self.strings, class)
     }
-
-    fn given_text(&self, alloc: Global, number: u32) -> Result<String, AllocError> {
-        match self.hierarchy.family().file(number) {
-            Some(file) => printed(alloc, name_of(file)),
-            None => Ok(String::new(alloc)),
-        }
-    }
-
-    fn array_text(&self, alloc: Global, array: ArrayType) -> Result<String, AllocError> {
-        let mut text = String::new(alloc);
-        self.push_array(alloc, array, &mut text)?;
-        Ok(text)
-    }
-
-    /// Adds the descriptor of an array class.
-    fn push_array(
-        &self,
-        alloc: Global,
-        array: ArrayType,
-        text: &mut String,
-    ) -> Result<(), AllocError> {
-        for _ in 0..array.dimensions {
-            text.push_str("[")?;
-        }
-        self.push_element(alloc, array.element, text)
-    }
-
-    /// Adds the descriptor of an array's elements (JVMS 4.3.2).
-    fn push_element(
-        &self,
-        alloc: Global,
-        element: ElementType,
-        text: &mut String,
-    ) -> Result<(), AllocError> {
-        match element {
-            ElementType::Boolean => text.push_str("Z"),
-            ElementType::Byte => text.push_str("B"),
-            ElementType::Char => text.push_str("C"),
-            ElementType::Short => text.push_str("S"),
-            ElementType::Int => text.push_str("I"),
-            ElementType::Long => text.push_str("J"),
-            ElementType::Float => text.push_str("F"),
-            ElementType::Double => text.push_str("D"),
-            ElementType::Given(number) => self.push_given(alloc, number, text),
-            ElementType::BuiltIn(class) => push_class(class.name(), text),
-            ElementType::Unknown(number) => self.push_unknown(alloc, number, text),
-        }
-    }
-
-    /// Adds the descriptor of a given class.
-    fn push_given(&self, alloc: Global, number: u32, text: &mut String) -> Result<(), AllocError> {
-        let name = self.given_text(alloc, number)?;
-        push_class(&name, text)
-    }
-
-    /// Adds the descriptor of a class that is neither given nor built in, by the number of its name.
-    fn push_unknown(
-        &self,
-        alloc: Global,
-        number: u32,
-        text: &mut String,
-    ) -> Result<(), AllocError> {
-        match self.string(number as usize) {
-            Some(name) => push_class(&printed(alloc, name)?, text),
-            None => Ok(()),
-        }
-    }
-}
-
-/// Adds the descriptor of the class of a name.
-fn push_class(name: &str, text: &mut String) -> Result<(), AllocError> {
-    text.push_str("L")?;
-    text.push_str(name)?;
-    text.push_str(";")
 }

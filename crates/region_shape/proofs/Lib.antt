@@ -18,3 +18,4 @@ pub mod SizesLemmas
 pub mod StaticsLemmas
 pub mod SamplesLemmas
 pub mod LawsLemmas
+pub mod FilesLemmas

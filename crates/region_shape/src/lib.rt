@@ -1,8 +1,9 @@
 //! The regions that class initialization methods leave have the shape that an image wants, and name objects alone that
 //! there are and strings alone that are the program's. Each function here is a law: its contract is what is proved, and
-//! calling it does nothing.
+//! calling it does nothing, but that `are_from_files` looks at each class once.
 #![tactic(auto)]
 
+ghost use Rattle.std.specs.Prelude.{ℕ};
 ghost use Rattle.region_shape.specs.Laws.{SettledHaveShape, SettledAreWithin, SettledNameObjects, IsLinked, IsFromFile};
 ghost use Rattle.region_shape.specs.Laws.{SettledHaveTexts, SettledHoldAll};
 
@@ -22,6 +23,16 @@ pub fn is_from_file(program: &Program, class: u32)
 {
     if let Some(file) = program.family().file(class) {
         let _constants = file.constants();
+    }
+}
+
+/// What they ask of all classes.
+pub fn are_from_files(program: &Program)
+    ensures { (class : ℕ) → IsFromFile program.now class }
+{
+    let classes = program.family().classes();
+    for class in 0..classes.len() as u32 {
+        is_from_file(program, class);
     }
 }
 

@@ -3,7 +3,7 @@
 ghost use Rattle.std.specs.Prelude.{Some};
 
 use crate::programs::{CIRCLE, M, Q_AND_T, SPIN, Tape, program_of, start_of, start_with};
-use init_engine::World;
+use init_engine::{Ending, World};
 use program::Program;
 use std::process::Abort;
 use std::rt::Clock;
@@ -13,7 +13,7 @@ use std::test::*;
 use std::thread;
 use std::thread::Threads;
 use std::time::Duration;
-use thread_runner::{Gate, RunFault, Sink, SinkFault, run_threads};
+use thread_runner::{Gate, Open, RunFault, Sink, SinkFault, run_threads};
 
 /// How often a wait sleeps for a millisecond at most.
 const SLEEPS: u32 = 10_000;
@@ -275,6 +275,9 @@ fn get_stuck<R: Threads + Wait + Abort + Clock + AllocGlobal + Sync>(
     };
     assert_eq!(rt; tape.got.len(), 0);
     assert_eq!(rt; ended.seen.threads.len(), 2);
+    for ending in &ended.seen.threads {
+        assert!(rt; matches!(ending, Ending::Going));
+    }
     assert_eq!(rt; gate.meet.late.load(Ordering::SeqCst), 0);
     Ok(())
 }
@@ -291,4 +294,15 @@ fn two_threads_wait_where_their_entries_are_initialized(rt: HostRuntime) -> Resu
     let program = program_of(rt.alloc(), CIRCLE)?;
     let world = start_with(rt.alloc(), &program, &["Pa", "Pb"], &["Pa", "Pb"])?;
     get_stuck(&rt, &program, world, 3)
+}
+
+#[test]
+fn two_threads_without_a_gate_end_or_wait_for_one_another(rt: HostRuntime) -> Result<(), Fail> {
+    let program = program_of(rt.alloc(), CIRCLE)?;
+    let world = start_with(rt.alloc(), &program, &["Pa", "Pb"], &["Pa", "Pb"])?;
+    let tape = Tape::new(rt.alloc(), 100);
+    let (answer, tape) = run_threads(&rt, rt.alloc(), &program, world, &Open, tape, 10_000);
+    assert!(rt; matches!(answer, Ok(_) | Err(RunFault::Stuck(_))));
+    assert_eq!(rt; tape.got.len(), 0);
+    Ok(())
 }

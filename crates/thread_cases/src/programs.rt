@@ -41,6 +41,13 @@ class Cb: static final y:I, initializer 8 8 getstatic Ca.x:I putstatic Cb.y:I re
 class Pa: main 8 8 getstatic Ca.x:I pop return
 class Pb: main 8 8 getstatic Cb.y:I pop return";
 
+/// A class whose initializer raises, and one that asks for it twice and prints each time: first 1, then 2.
+pub const RAISING: &str =
+    "class D: static v:I, initializer 8 8 iconst_1 iconst_0 idiv putstatic D.v:I return
+class Main8: main 8 8 s: getstatic D.v:I pop e: goto >a h: pop out bipush 1 println a: getstatic D.v:I pop
+  b: return k: pop out bipush 2 println return catch:s,e,h,java/lang/ExceptionInInitializerError
+  catch:a,b,k,java/lang/NoClassDefFoundError";
+
 /// A static method of one class that another calls.
 pub const SQ: &str = "class Sq: static f(I)I 2 8 iload_0 iload_0 imul ireturn
 class Main21: main 8 8 iconst_3 invokestatic Sq.f(I)I pop return";

@@ -1,6 +1,6 @@
 //! Runs of threads, and how they end.
 
-use crate::programs::{EVER, LATE, M, SPIN, TELL, Tape, program_of, start_of, start_with};
+use crate::programs::{EVER, LATE, M, RAISING, SPIN, TELL, Tape, program_of, start_of, start_with};
 use std::alloc::{AllocError, Global};
 use std::process::Abort;
 use std::test::*;
@@ -189,6 +189,22 @@ fn a_sink_that_fails_ends_a_run(rt: HostRuntime) -> Result<(), Fail> {
         };
         assert_eq!(rt; sent, room as u128);
         assert_eq!(rt; tape.got.len(), room);
+    }
+    Ok(())
+}
+
+#[test]
+fn a_raising_initializer_prints_into_sinks_that_fail(rt: HostRuntime) -> Result<(), Fail> {
+    let program = program_of(rt.alloc(), RAISING)?;
+    for room in 0..4 {
+        let world = start_with(rt.alloc(), &program, &["Main8"], &["Main8"])?;
+        let tape = Tape::new(rt.alloc(), room);
+        let (answer, tape) = run_threads(&rt, rt.alloc(), &program, world, &Asked, tape, 10_000);
+        let Err(RunFault::Device(sent)) = answer else {
+            return Err(Fail::new("no fault"));
+        };
+        assert_eq!(rt; sent, room as u128);
+        assert_eq!(rt; Some(tape.got.as_slice()), b"1\n2\n".as_slice().get(..room));
     }
     Ok(())
 }

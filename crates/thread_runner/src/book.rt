@@ -1,6 +1,6 @@
 //! One history of all threads, and how much of what was printed has gone out.
 
-ghost use Rattle.std.specs.Prelude.{◌≡◌, ◌≢◌, ◌+◌, ◌<◌, ◌≤◌, ◌^◌, ℕ, [], true, false, Some, None, IfOk, OnOk, OnErr};
+ghost use Rattle.std.specs.Prelude.{◌≡◌, ◌≢◌, ◌+◌, ◌<◌, ◌≤◌, ◌^◌, ℕ, [], true, false, IfOk, OnOk, OnErr};
 ghost use Rattle.std.specs.Prelude.{length};
 ghost use Rattle.vm_state.specs.declared.classes.ClassState.TheVariants.{Initialized};
 ghost use Rattle.init_engine.specs.Schedules.{AreRuns};
@@ -157,58 +157,18 @@ impl<O: Origin> Book<O> {
     ///
     /// # Errors
     /// `AllocError` where memory is refused.
-    pub(crate) fn front(&self, alloc: Global, thread: u32) -> Result<Option<Frame>, AllocError>
+    pub fn front(&self, alloc: Global, thread: u32) -> Result<Option<Frame>, AllocError>
         requires { thread < length self.now.past.world.threads }
         ensures { IfOk result (λ f. f ≡ front_of (world_of self.now.past.world) thread) }
     {
         self.history.world().front(alloc, thread)
     }
 
-    /// The steps of a stretch on a front, and one more where there is one.
-    ///
-    /// # Errors
-    /// `AllocError` where memory is refused; nothing has changed then.
-    pub(crate) fn commit_front(
-        &mut self,
-        alloc: Global,
-        program: &Program,
-        thread: u32,
-        stretch: FrontStretch<O>,
-    ) -> Result<Commit, AllocError>
-        requires program { program.now ≡ O.program }
-        requires thread { thread < length self.old.past.world.threads }
-        ensures answer { IfOk result
-            (λ a. IsFrontCommit O.program self.old.past thread (Some stretch) a self.new.past) }
-        ensures goes_on { PagesGoOn self.old self.new }
-        ensures memory { OnErr result (Same self.old.past self.new.past) }
-    {
-        self.history.commit_front(alloc, program, thread, stretch)
-    }
-
-    /// One step of a thread, where there is one.
-    ///
-    /// # Errors
-    /// `AllocError` where memory is refused; nothing has changed then.
-    pub(crate) fn commit_none(
-        &mut self,
-        alloc: Global,
-        program: &Program,
-        thread: u32,
-    ) -> Result<Commit, AllocError>
-        requires program { program.now ≡ O.program }
-        requires thread { thread < length self.old.past.world.threads }
-        ensures answer { IfOk result (λ a. IsFrontCommit O.program self.old.past thread None a self.new.past) }
-        ensures goes_on { PagesGoOn self.old self.new }
-        ensures memory { OnErr result (Same self.old.past self.new.past) }
-    {
-        self.history.commit_none(alloc, program, thread)
-    }
-
     /// The steps of a stretch on a front, if there is one, and one more where there is one.
     ///
     /// # Errors
     /// `AllocError` where memory is refused; nothing has changed then.
-    pub(crate) fn commit_made(
+    pub fn commit_front(
         &mut self,
         alloc: Global,
         program: &Program,
@@ -217,13 +177,11 @@ impl<O: Origin> Book<O> {
     ) -> Result<Commit, AllocError>
         requires program { program.now ≡ O.program }
         requires thread { thread < length self.old.past.world.threads }
+        ensures answer { IfOk result (λ a. IsFrontCommit O.program self.old.past thread made a self.new.past) }
         ensures goes_on { PagesGoOn self.old self.new }
         ensures memory { OnErr result (Same self.old.past self.new.past) }
     {
-        match made {
-            Some(stretch) => self.commit_front(alloc, program, thread, stretch),
-            None => self.commit_none(alloc, program, thread),
-        }
+        self.history.commit_front(alloc, program, thread, made)
     }
 
     /// How many bytes of what was printed have gone out.

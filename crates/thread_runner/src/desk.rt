@@ -169,7 +169,7 @@ impl<O: Session, S: Sink> Desk<O, S> {
         if self.over || self.failed {
             return Next::Leave;
         }
-        match self.book.commit_made(alloc, program, thread, made) {
+        match self.book.commit_front(alloc, program, thread, made) {
             Ok(answer) => self.follow(program, answer),
             Err(_) => {
                 self.end_for_memory();

@@ -1,8 +1,9 @@
 //! Classes that are known to be initialized.
 
-ghost use Rattle.std.specs.Prelude.{◌≡◌, ◌<◌, ◌≤◌, ℕ, [], true, length};
+ghost use Rattle.std.specs.Prelude.{◌≡◌, ◌<◌, ◌≤◌, ℕ, [], true, length, IfOk};
 ghost use Rattle.thread_runner.specs.Local.{is_done};
 
+use std::alloc::{AllocError, Global};
 use std::marker::Model;
 
 /// A set of given classes, by number.
@@ -36,6 +37,22 @@ impl DoneSet {
         ensures { result ≡ marks.items }
     {
         DoneSet { marks: Some(marks) }
+    }
+
+    /// The same set.
+    ///
+    /// # Errors
+    /// `AllocError` where memory is refused.
+    pub(crate) fn copy(&self, alloc: Global) -> Result<DoneSet, AllocError>
+        ensures { IfOk result (λ s. s ≡ self.now) }
+    {
+        match &self.marks {
+            Some(marks) => match Vec::from_slice(alloc, marks.as_slice()) {
+                Ok(marks) => Ok(DoneSet { marks: Some(marks) }),
+                Err(error) => Err(error),
+            },
+            None => Ok(DoneSet::none()),
+        }
     }
 
     /// How many classes it tells of: those beyond are none.

@@ -20,7 +20,7 @@ use vm_state::initialization::Frames;
 /// see that frame, the classes that it asked for, how many instructions it did, and the frames in the place of that
 /// one.
 #[derive(Drop)]
-pub(crate) struct FrontStretch<O: Origin> {
+pub struct FrontStretch<O: Origin> {
     from: Frame,
     asked: Vec<u32>,
     count: u64,
@@ -103,7 +103,7 @@ fn run_front<O: Origin>(
 ///
 /// # Errors
 /// `AllocError` where memory is refused.
-pub(crate) fn front_stretch<O: Origin>(
+pub(crate) fn stretch_on<O: Origin>(
     alloc: Global,
     program: &Program,
     tools: &mut Tools<O>,
@@ -142,7 +142,7 @@ pub(crate) fn next_front<O: Origin>(
     requires { program.now ≡ O.program }
 {
     match front {
-        Some(frame) => front_stretch(alloc, program, tools, thread, frame, done),
+        Some(frame) => stretch_on(alloc, program, tools, thread, frame, done),
         None => Ok(None),
     }
 }

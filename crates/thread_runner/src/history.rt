@@ -245,7 +245,7 @@ impl<O: Origin> History<O> {
     ///
     /// # Errors
     /// `AllocError` where memory is refused; nothing has changed then.
-    pub(crate) fn commit_front(
+    fn commit_on_front(
         &mut self,
         alloc: Global,
         program: &Program,
@@ -273,7 +273,7 @@ impl<O: Origin> History<O> {
     ///
     /// # Errors
     /// `AllocError` where memory is refused; nothing has changed then.
-    pub(crate) fn commit_none(
+    fn commit_none(
         &mut self,
         alloc: Global,
         program: &Program,
@@ -294,6 +294,29 @@ impl<O: Origin> History<O> {
             levels: None,
         };
         self.settle(alloc, program, thread, Landing::Whole(none), 0)
+    }
+
+    /// The steps of a stretch on a front, if there is one, and one more where there is one.
+    ///
+    /// # Errors
+    /// `AllocError` where memory is refused; nothing has changed then.
+    pub(crate) fn commit_front(
+        &mut self,
+        alloc: Global,
+        program: &Program,
+        thread: u32,
+        made: Option<FrontStretch<O>>,
+    ) -> Result<Commit, AllocError>
+        requires program { program.now ≡ O.program }
+        requires thread { thread < length self.old.world.threads }
+        ensures answer { IfOk result (λ a. IsFrontCommit O.program self.old thread made a self.new) }
+        ensures goes_on { GoesOn self.old self.new }
+        ensures memory { OnErr result (Same self.old self.new) }
+    {
+        match made {
+            Some(stretch) => self.commit_on_front(alloc, program, thread, stretch),
+            None => self.commit_none(alloc, program, thread),
+        }
     }
 
     /// How many steps it may still have.

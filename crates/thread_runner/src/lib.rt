@@ -30,6 +30,7 @@ mod worker;
 
 pub use answer::{Ended, RunFault};
 pub use book::Book;
+pub use front::FrontStretch;
 pub use gate::{Gate, Open};
 pub use history::Commit;
 pub use journal::Journal;

@@ -11,8 +11,8 @@ use Rattle.use_graph.specs.Uses.{IsUse}
 use Rattle.use_graph.proofs.UsesWithinLemmas.{order_is_used}
 use Rattle.initializer_analysis.specs.Forced.{has_class}
 use Rattle.wave_scheduler.specs.Laws.{IsAllowed, IsAnalysis, HasAnalysis}
-use Rattle.wave_scheduler.proofs.ReachesLemmas.{Decided, decided_both, decided_not, listed}
-use Rattle.wave_scheduler.proofs.UsesLemmas.{decided_use, decided_unmarked}
+use Rattle.initializer_analysis.proofs.ReachesLemmas.{Decided, decided_true, decided_both, decided_not, listed}
+use Rattle.initializer_analysis.proofs.UsesLemmas.{decided_use, decided_unmarked}
 
 -- ---- an analysis
 
@@ -24,10 +24,6 @@ told-is : {Q : Type 0} (d : Decided Q) → (told d ≡ true) ↔ Q
 unfolding told
 told-is (inl q) = (λ is. q, λ q. refl)
 told-is (inr never) = (λ is. cc, λ q. absurd (never q))
-
-decided_true : (b : Bool) → Decided (b ≡ true)
-decided_true true = inl refl
-decided_true false = inr (λ is. cc)
 
 module _ (P : Tables) (forced : List Bool) (budget : ℕ) where
   uses_of : (c : ℕ) → (xs : List ℕ) × ((d : ℕ) → Contains xs d ↔ IsUse P c d)

@@ -16,7 +16,7 @@ use Rattle.semantics.proofs.TestsLemmas.{from_some}
 use Rattle.semantics.proofs.WavesLemmas.{wave_once}
 use Rattle.semantics.proofs.WithinAcceptedLemmas.{lower_still}
 use Rattle.program.specs.Tables.{Tables}
-use Rattle.wave_scheduler.proofs.ReachesLemmas.{one_of}
+use Rattle.initializer_analysis.proofs.ReachesLemmas.{one_of}
 use Rattle.machine.specs.Linked.{program_of}
 use Rattle.use_graph.specs.Uses.{IsUse}
 use Rattle.initializer_analysis.specs.declared.verdict.Reason.TheVariants as reasons

@@ -7,7 +7,7 @@ use Rattle.initializer_analysis.specs.declared.verdict.Verdict.{Verdict}
 use Rattle.initializer_analysis.specs.declared.verdict.Verdict.TheVariants.{Wave}
 use Rattle.initializer_analysis.specs.Verdicts.{HasWave, AreVerdicts}
 use Rattle.wave_scheduler.specs.steps.Judged.{FewWaves}
-use Rattle.wave_scheduler.proofs.ReachesLemmas.{decided_same}
+use Rattle.initializer_analysis.proofs.ReachesLemmas.{decided_same}
 
 -- each of some numbers has a place, and no two of them the same one
 pub record ArePlaced (few places : ℕ) (At : ℕ → ℕ → Type 0) : Type 0 where

@@ -20,7 +20,7 @@ use Rattle.wave_scheduler.specs.steps.Waves.{StartsFrom}
 use Rattle.wave_scheduler.specs.steps.Waves.{AreRefusedIn, dependent}
 use Rattle.wave_scheduler.specs.steps.Finding.{SetsClass}
 use Rattle.wave_scheduler.specs.steps.Finding.{is_refused, TellsBelow}
-use Rattle.wave_scheduler.proofs.ReachesLemmas.{one_of}
+use Rattle.initializer_analysis.proofs.ReachesLemmas.{one_of}
 use Rattle.wave_scheduler.proofs.SpreadingLemmas.{less_or_same}
 
 -- ---- a place of a list

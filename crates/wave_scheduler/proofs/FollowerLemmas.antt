@@ -1,6 +1,6 @@
 -- Something follows the verdicts: wave by wave, each class is tried where all that it uses is at hand.
-use Rattle.std.proofs.Common.{◌≡◌, ◌≢◌, ◌⊎◌, inl, inr, ℕ, zero, suc, ◌<◌, ◌≤◌, Bool, List, []}
-use Rattle.std.proofs.Common.{◌∷◌, length, Option, Some, None, IsSome, is_some, slice_get, slice_index_or, refl, sym}
+use Rattle.std.proofs.Common.{◌≡◌, ◌≢◌, ◌⊎◌, inl, inr, ℕ, zero, suc, ◌<◌, ◌≤◌, Bool, List}
+use Rattle.std.proofs.Common.{length, Option, Some, None, IsSome, is_some, slice_get, refl, sym}
 use Rattle.std.proofs.Common.{ap}
 use Rattle.std.proofs.Common.{subst, ◌∙◌, arith}
 use Rattle.std.proofs.Math.Path.{fun_ext}
@@ -28,69 +28,14 @@ use Rattle.wave_scheduler.specs.Settled.{Outcome, Wave, Refused, Stopped, Settle
 use Rattle.wave_scheduler.specs.Settled.{if_below, below, LeavesRegion}
 use Rattle.wave_scheduler.specs.Laws.{AreSettledBelow, HasSettled}
 use Rattle.wave_scheduler.specs.steps.Judged.{UsesAccepted, IsTried, Follows, FollowVerdicts, HasFollower}
-use Rattle.wave_scheduler.proofs.ReachesLemmas.{Decided, decided_both, decided_same, one_of}
-use Rattle.wave_scheduler.proofs.UsesLemmas.{decided_use}
+use Rattle.initializer_analysis.proofs.HasVerdictsLemmas.{has_verdicts_lem}
+use Rattle.initializer_analysis.proofs.ReachesLemmas.{Decided, decided_both, decided_same, one_of, IsLeast, least_below}
+use Rattle.initializer_analysis.proofs.ReachesLemmas.{table, length_table, at_table, or_table, past_table}
+use Rattle.initializer_analysis.proofs.UsesLemmas.{decided_use}
 use Rattle.wave_scheduler.proofs.SettledLemmas.{below_there}
 use Rattle.wave_scheduler.proofs.FewWavesLemmas.{few_waves_lem}
 use Rattle.wave_scheduler.proofs.JudgedLemmas.{followers_are_settled_lem}
 use Rattle.wave_scheduler.proofs.TriedLemmas.{never_barred_lem}
-
--- ---- tables
-
-table : {A : Type 0} → ℕ → (ℕ → A) → List A
-table zero f = []
-table (suc n) f = f 0 ∷ table n (λ i. f (suc i))
-
-length_table : {A : Type 0} (n : ℕ) (f : ℕ → A) → length (table n f) ≡ n
-unfolding table
-length_table zero f = refl
-length_table (suc n) f = (let rest = length_table n (λ i. f (suc i)) in omega arith)
-
-at_table : {A : Type 0} (n : ℕ) (f : ℕ → A) (c : ℕ) → c < n → slice_get (table n f) c ≡ Some (f c)
-unfolding table
-at_table zero f c low = absurd (omega arith)
-at_table (suc n) f zero low = refl
-at_table (suc n) f (suc c) low = at_table n (λ i. f (suc i)) c (omega arith)
-
-or_table : {A : Type 0} (n : ℕ) (f : ℕ → A) (c : ℕ) (d : A) → c < n → slice_index_or (table n f) c d ≡ f c
-unfolding table
-or_table zero f c d low = absurd (omega arith)
-or_table (suc n) f zero d low = refl
-or_table (suc n) f (suc c) d low = or_table n (λ i. f (suc i)) c d (omega arith)
-
-past_table : {A : Type 0} (n : ℕ) (f : ℕ → A) (c : ℕ) (d : A) → n ≤ c → slice_index_or (table n f) c d ≡ d
-unfolding table
-past_table zero f c d high = refl
-past_table (suc n) f zero d high = absurd (omega arith)
-past_table (suc n) f (suc c) d high = past_table n (λ i. f (suc i)) c d (omega arith)
-
--- ---- the first number that has a property
-
-abbrev IsLeast : (ℕ → Type 0) → ℕ → Type 0
-IsLeast Q k = Q k × ((j : ℕ) → Q j → k ≤ j)
-
-least_below : (n : ℕ) (Q : ℕ → Type 0) → ((k : ℕ) → Decided (Q k))
-    → ((k : ℕ) × IsLeast Q k) ⊎ ((k : ℕ) → k < n → Q k → ⊥)
-least_below zero Q each = inr (λ k low q. omega arith)
-least_below (suc n) Q each = elim (least_below n Q each) [
-  | inl found ↦ inl found
-  | inr none ↦ elim (each n) [
-    | inl q ↦ inl (
-      n,
-      (
-        q,
-        λ j r. elim (cases_lt j n) [
-          | inl low ↦ absurd (none j low r)
-          | inr high ↦ high
-        ],
-      ),
-    )
-    | inr never ↦ inr (λ k low q. elim (cases_lt k n) [
-      | inl less ↦ none k less q
-      | inr high ↦ (let same : k ≡ n = omega arith in never (subst Q same q))
-    ])
-  ]
-]
 
 -- ---- one class
 
@@ -484,6 +429,7 @@ has_follower_lem P forced budget judged is fits within are =
     (S P forced budget judged are, all_follow P forced budget judged are is fits within)
 
 pub has_settled_lem : HasSettled
-has_settled_lem P forced budget judged is fits within are =
+has_settled_lem P forced budget is fits within =
+    let (judged, are) = has_verdicts_lem P forced in
     let (last, follow) = has_follower_lem P forced budget judged is fits within are in
     (last, followers_are_settled_lem P forced budget judged last are follow)

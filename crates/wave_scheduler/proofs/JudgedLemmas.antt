@@ -11,7 +11,7 @@ use Rattle.initializer_analysis.specs.Verdicts.{IsWave}
 use Rattle.wave_scheduler.specs.Settled.{Outcome, Wave, Refused, Stopped, Settled, HasWave}
 use Rattle.wave_scheduler.specs.Settled.{IsOutcome, AreSettled}
 use Rattle.wave_scheduler.specs.steps.Judged.{UsesAccepted, IsTried, Follows, FollowVerdicts, FollowersAreSettled}
-use Rattle.wave_scheduler.proofs.ReachesLemmas.{one_of}
+use Rattle.initializer_analysis.proofs.ReachesLemmas.{one_of}
 
 module _ (P : Tables) (forced : List Bool) (budget : ℕ) (judged : List Verdict) (S : Settled)
     (are : before.AreVerdicts P forced judged) (follow : FollowVerdicts P budget judged S) where

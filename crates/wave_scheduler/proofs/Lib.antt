@@ -1,8 +1,6 @@
-pub mod ReachesLemmas
 pub mod SettledLemmas
 pub mod ExactLemmas
 pub mod OneSettledLemmas
-pub mod UsesLemmas
 pub mod AnalysisLemmas
 pub mod HeadlineLemmas
 pub mod TriedLemmas

@@ -22,7 +22,7 @@ use Rattle.initializer_analysis.proofs.VerdictsLemmas.{same_first}
 use Rattle.wave_scheduler.specs.Settled.{Outcome, Wave, Refused, Stopped, Settled, HasWave, IsAccepted, region_in}
 use Rattle.wave_scheduler.specs.Settled.{below, LeavesRegion, IsOutcome, AreSettled}
 use Rattle.wave_scheduler.specs.Laws.{OneSettled}
-use Rattle.wave_scheduler.proofs.ReachesLemmas.{one_of, same_lists, same_by_places}
+use Rattle.initializer_analysis.proofs.ReachesLemmas.{one_of, same_lists, same_by_places}
 use Rattle.wave_scheduler.proofs.SettledLemmas.{same_wave, below_there, from_below}
 
 -- two environments that extend each other are one

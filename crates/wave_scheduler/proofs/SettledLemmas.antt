@@ -14,7 +14,7 @@ use Rattle.initializer_analysis.specs.Verdicts.{IsWave}
 use Rattle.wave_scheduler.specs.Settled.{Outcome, Wave, Refused, Stopped, Settled, HasWave, region_in, if_below, below}
 use Rattle.wave_scheduler.specs.Settled.{AreSettled}
 use Rattle.wave_scheduler.specs.Laws.{IsAnalysis}
-use Rattle.wave_scheduler.proofs.ReachesLemmas.{in_none, in_rest, first_or_rest}
+use Rattle.initializer_analysis.proofs.ReachesLemmas.{in_none, in_rest, first_or_rest}
 
 -- ---- what is at hand
 

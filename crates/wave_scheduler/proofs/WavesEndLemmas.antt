@@ -24,7 +24,7 @@ use Rattle.wave_scheduler.specs.Settled.{Outcome, Wave, Refused, Stopped, Settle
 use Rattle.wave_scheduler.specs.Settled.{if_below, below}
 use Rattle.wave_scheduler.specs.steps.Judged.{IsTried, Follows, FollowVerdicts}
 use Rattle.wave_scheduler.specs.steps.Waves.{IsTriedIn, StaysRefused, AreTriedBelow, AreRefusedIn, dependent, ToldFirst}
-use Rattle.wave_scheduler.proofs.ReachesLemmas.{one_of}
+use Rattle.initializer_analysis.proofs.ReachesLemmas.{one_of}
 
 -- ---- what is told anew
 

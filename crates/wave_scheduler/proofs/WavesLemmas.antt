@@ -22,7 +22,7 @@ use Rattle.wave_scheduler.specs.Settled.{Outcome, Wave, Refused, Stopped, Settle
 use Rattle.wave_scheduler.specs.Settled.{if_below, below, LeavesRegion}
 use Rattle.wave_scheduler.specs.Outcomes.{outcome_of}
 use Rattle.wave_scheduler.specs.steps.Waves.{IsTriedIn, StaysRefused, AreTriedBelow, TriesWave, StartsFrom}
-use Rattle.wave_scheduler.proofs.ReachesLemmas.{Decided, decided_same, one_of}
+use Rattle.initializer_analysis.proofs.ReachesLemmas.{Decided, decided_same, one_of}
 
 -- whether a class had a wave
 pub had_wave : (judged : List Verdict) (c n : ℕ) → Decided (before.HasWave judged c n)

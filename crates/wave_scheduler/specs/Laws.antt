@@ -15,8 +15,6 @@ use Rattle.machine.specs.Linked.{program_of}
 use Rattle.use_graph.specs.Uses.{IsUse, HasMark}
 use Rattle.use_graph.specs.declared.mark.Mark.{Mark}
 use Rattle.initializer_analysis.specs.Forced.{has_class}
-use Rattle.initializer_analysis.specs.declared.verdict.Verdict.{Verdict}
-use Rattle.initializer_analysis.specs.Verdicts.{AreVerdicts}
 use Rattle.wave_scheduler.specs.Settled.{Settled, HasWave, region_in, below, LeavesRegion, AreSettled}
 
 -- ---- one answer
@@ -27,11 +25,11 @@ OneSettled =
     (P : Tables) (forced : List Bool) (budget : ℕ) (first second : Settled) → AreSettled P forced budget first
     → AreSettled P forced budget second → first ≡ second
 
--- There is an answer, of each linked program and within each budget, where there are verdicts on its classes.
+-- There is an answer, of each linked program, whichever classes are forced, and within each budget.
 abbrev pub HasSettled : Type 0
 HasSettled =
-    (P : Tables) (forced : List Bool) (budget : ℕ) (judged : List Verdict) → IsProgram P → IsFamily P.family
-    → AreParentsWithin P.family → AreVerdicts P forced judged → (S : Settled) × AreSettled P forced budget S
+    (P : Tables) (forced : List Bool) (budget : ℕ) → IsProgram P → IsFamily P.family → AreParentsWithin P.family
+    → (S : Settled) × AreSettled P forced budget S
 
 -- ---- exact images
 

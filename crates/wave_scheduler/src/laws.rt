@@ -9,7 +9,7 @@ pub fn one_settled()
     ensures { OneSettled }
 {}
 
-/// Each linked program has such an answer, where there are verdicts on its classes.
+/// Each linked program has such an answer.
 pub fn has_settled()
     ensures { HasSettled }
 {}

@@ -4,17 +4,13 @@ use Rattle.building.specs.Builds.{text_of}
 use Rattle.building.specs.Refusals.{OptionsFail}
 use Rattle.cli.specs.Runs.{texts_of}
 use Rattle.cli.specs.Builds.{BuildFails, IsBudget, range}
-use Rattle.cli.proofs.BuildLemmas.{is_build, is_from_file, not_built_by, not_linked_build, no_workers_is_budget}
+use Rattle.cli.proofs.BuildLemmas.{is_build, not_built_by, not_linked_build, no_workers_is_budget}
 use Rattle.cli.proofs.BuildLemmas.{of_workers, refused_for_no_budget, refused_for_no_workers, wrong_budget}
 use Rattle.cli.proofs.BuildLemmas.{wrong_number}
 use Rattle.cli.proofs.builds.build.Goals as goal
 
-pub build_program-requires-clause-files : goal.build_program-requires-clause-files
-build_program-requires-clause-files g c = λ κs alive.
-    is_from_file (texts_of c.args.files.now) c.in-Ok.program c.in-Ok.ensures.program
-
-pub build_program-requires-clause-budget : goal.build_program-requires-clause-budget
-build_program-requires-clause-budget g c =
+pub build_program-requires : goal.build_program-requires
+build_program-requires g c =
     let good : IsBudget c.args.options.now.budget = c.is_budget.ensures.0 c.if-not-is_budget.false in
     omega (arith, good.1)
 

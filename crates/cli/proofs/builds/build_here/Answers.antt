@@ -4,16 +4,12 @@ use Rattle.building.specs.Builds.{text_of}
 use Rattle.building.specs.Refusals.{OptionsFail}
 use Rattle.cli.specs.Runs.{texts_of}
 use Rattle.cli.specs.Builds.{IsBudget, range}
-use Rattle.cli.proofs.BuildLemmas.{is_build, is_from_file, not_built, not_linked_build, no_option_is_budget}
+use Rattle.cli.proofs.BuildLemmas.{is_build, not_built, not_linked_build, no_option_is_budget}
 use Rattle.cli.proofs.BuildLemmas.{refused_for_no_budget, wrong_budget}
 use Rattle.cli.proofs.builds.build_here.Goals as goal
 
-pub build_program_here-requires-clause-files : goal.build_program_here-requires-clause-files
-build_program_here-requires-clause-files c =
-    is_from_file (texts_of c.args.files.now) c.in-Ok.program c.in-Ok.ensures.program
-
-pub build_program_here-requires-clause-budget : goal.build_program_here-requires-clause-budget
-build_program_here-requires-clause-budget c =
+pub build_program_here-requires : goal.build_program_here-requires
+build_program_here-requires c =
     let good : IsBudget c.args.options.now.budget = c.is_budget.ensures.0 c.if-not-is_budget.false in
     omega (arith, good.1)
 

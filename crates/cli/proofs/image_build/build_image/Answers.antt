@@ -1,7 +1,6 @@
 use Rattle.std.proofs.Common.{ℕ, List, lit<, map, subst, sym}
 use Rattle.image_format.specs.Images.{ImageText}
 use Rattle.image_writer.specs.ImageTexts.{told_of}
-use Rattle.image_writer.proofs.LinksLemmas.{family_links}
 use Rattle.wave_scheduler.specs.Outcomes.{outcome_of}
 use Rattle.cli.specs.Runs.{texts_of}
 use Rattle.cli.proofs.ImageBuildLemmas.{are_short}
@@ -17,7 +16,6 @@ returns-in-Ok-image_text-clause-image g c =
     let built = c.in-Ok.built in
     let by = c.in-Ok.ensures.build in
     let of = by.program in
-    let text = c.image_text.ensures.image (family_links of.files built.image.program.family of.links of.family) in
     record {
       image = built.image;
       of = record {
@@ -30,7 +28,7 @@ returns-in-Ok-image_text-clause-image g c =
       };
       text =
           subst (λ (bytes : List ℕ). ImageText bytes built.image.program.family (told_of built.image))
-          (sym c.in-Ok-image_text.ensures.text) text;
+          (sym c.in-Ok-image_text.ensures.text) c.image_text.ensures.image;
       own_strings = record {
         program = of.program;
         own_strings = of.own_strings;

@@ -5,10 +5,10 @@ use Rattle.thread_runner.proofs.desk.Desk.turn.Goals as goal
 pub invariant_of-self : goal.invariant_of-self
 invariant_of-self g c =
     let d = c.args.self.now in
-    let on = c.commit_made.ensures.goes_on in
+    let on = c.commit_front.ensures.goes_on in
     record {
       sent = holds_still g.O.Session.before (g.S.Sink.got d.sink) d.book.past.world.printed
-          c.commit_made.new.self.past.world.printed d.book.sent c.commit_made.new.self.sent on.grows on.within on.sent
+          c.commit_front.new.self.past.world.printed d.book.sent c.commit_front.new.self.sent on.grows on.within on.sent
           d.sent;
       part = λ well. on.part ∙ d.part well;
       threads = on.threads ∙ d.threads;

@@ -1,0 +1,34 @@
+use Rattle.std.proofs.Common.{Some, ap, sym, subst, replicate, List}
+use Rattle.vm_state.specs.declared.frame.Frame.{Frame}
+use Rattle.vm_state.specs.Segments.{frames_of}
+use Rattle.semantics.specs.Worlds.{Run}
+use Rattle.machine.specs.Linked.{program_of}
+use Rattle.init_engine.specs.Turns.{world_of}
+use Rattle.thread_runner.specs.Fronts.{with_top}
+use Rattle.thread_runner.proofs.BookLemmas.{front_counts_if}
+use Rattle.thread_runner.proofs.FrontLemmas.{front_led}
+use Rattle.thread_runner.proofs.history.History.commit_on_front.Goals as goal
+
+pub settle-requires-clause-may : goal.settle-requires-clause-may
+settle-requires-clause-may g c =
+    (c.count-count.ensures.some, (c.args.stretch.from, (c.fits_front.ensures.yes c.if-not-fits_front.false).0))
+
+pub settle-requires-clause-led : goal.settle-requires-clause-led
+settle-requires-clause-led g c =
+    let P = g.O.Origin.program in
+    let w = world_of c.args.self.now.world in
+    let t = c.args.thread in
+    let s = c.args.stretch in
+    subst (λ (fs : List Frame). Run (program_of P) w (replicate c.count-count.result t) (with_top w t fs))
+    (sym c.into_top.ensures.is)
+    (subst (λ k. Run (program_of P) w (replicate k t) (with_top w t s.to)) (sym c.count-count.ensures.is)
+    (front_led P w t s (c.fits_front.ensures.yes c.if-not-fits_front.false) c.into_top.ensures.leads))
+
+pub returns-clause-answer : goal.returns-clause-answer
+returns-clause-answer g c =
+    let w = world_of c.args.self.now.world in
+    front_counts_if g.O.Origin.program c.args.self.now c.args.thread (Some c.args.stretch) c.settle.result
+    c.settle.new.self (with_top w c.args.thread (frames_of c.into_top.result)) c.count-count.result
+    c.count-count.ensures.is (ap (with_top w c.args.thread) c.into_top.ensures.is)
+    (c.is_full.ensures.no c.if-is_full.false) (c.fits_front.ensures.yes c.if-not-fits_front.false)
+    c.settle.ensures.answer

@@ -1,0 +1,80 @@
+"""The gate's own command, `rt ci`, with a kit whose command keeps nothing, and takes each crate's checksum anew for
+each path that leads down to it: 24,000 of them in the end.
+
+  python3 tools/gate.py KEPT     in the copy of the crates that `./prove` made
+
+It is the same command but for two things: a checksum is taken once, and what is proved of a crate lies in the folder
+KEPT by its checksum, which is of the kit and of all files that the proof read, and is taken from there. What fails is
+not kept, and tests never are. A run that proves all removes what is kept of other files.
+"""
+import os
+import shutil
+import sys
+
+sys.dont_write_bytecode = True
+import program
+
+
+def keeps_by_itself(rt):
+    """Whether this kit's command, given as a module, keeps what it proved."""
+    return hasattr(rt, "Kept")
+
+
+def take_each_sum_once(rt):
+    """Has the kit take the checksum of each folder's crate once. That of a crate has those of the crates below in it."""
+    sum_of, taken = rt.Crate.stamp, {}
+
+    def stamp(crate):
+        if crate.folder not in taken:
+            taken[crate.folder] = sum_of(crate)
+        return taken[crate.folder]
+
+    rt.Crate.stamp = stamp
+
+
+def place(kept, crate):
+    """Where what is proved of the crate is kept, under the handles that it may take."""
+    return f"{kept}/{crate.stamp()}-{'+'.join(crate.allowed)}"
+
+
+def keep(rt, kept):
+    """Has the kit's proof of a crate begin with what is kept, and end with keeping it. Answers the places, by and by."""
+    prove, places = rt.Crate.ci, set()
+
+    def ci(crate, flags, tests):
+        if tests:
+            return prove(crate, flags, tests)
+        at, out = place(kept, crate), f"{crate.folder}/out"
+        places.add(at)
+        if os.path.isdir(at):
+            shutil.copytree(at, out, dirs_exist_ok=True)
+            rt.say(f"{crate.name} is kept: an earlier run proved these files")
+            return 0
+        status = prove(crate, flags, tests)
+        if status == 0:
+            try:
+                shutil.copytree(out, f"{at}.new")
+                os.rename(f"{at}.new", at)
+            except OSError as error:
+                rt.say(f"{crate.name} cannot be kept: {error}")
+        return status
+
+    rt.Crate.ci = ci
+    return places
+
+
+def main(kept):
+    rt = program.rt()
+    os.makedirs(kept, exist_ok=True)
+    take_each_sum_once(rt)
+    places = keep(rt, kept)
+    status = rt.main(["ci"])
+    if status == 0:
+        for name in os.listdir(kept):
+            if f"{kept}/{name}" not in places:
+                shutil.rmtree(f"{kept}/{name}")
+    return status
+
+
+if __name__ == "__main__":
+    sys.exit(main(sys.argv[1]))
