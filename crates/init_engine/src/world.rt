@@ -104,7 +104,10 @@ fn take_turn(
     };
     match step_thread(alloc, program, frames, shared, printed)? {
         Progress::Moved => Ok(Turn::Moved),
-        Progress::Printed(_) => Ok(Turn::Moved),
+        Progress::Printed(text) => {
+            drop(text);
+            Ok(Turn::Moved)
+        }
         Progress::Ended(end) => {
             *thread = Thread::Ended(end);
             Ok(Turn::Moved)

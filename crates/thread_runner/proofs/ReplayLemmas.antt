@@ -18,7 +18,7 @@ same_world : (a b : World) → Some a ≡ Some b → a ≡ b
 same_world a b h = cc
 
 -- the rest of a run, from where a beginning of it leads
-run_rest : (P : Program) (w m last : World) (before after : List ℕ) → Run P w before m → Run P w (before ++ after) last
+pub run_rest : (P : Program) (w m last : World) (before after : List ℕ) → Run P w before m → Run P w (before ++ after) last
     → Run P m after last
 run_rest P w m last [] after is run = subst (λ (x : World). Run P x after last) is run
 run_rest P w m last (t ∷ ts) after (next, stepped, rest) (other, also, more) =
@@ -99,7 +99,7 @@ parted (x ∷ xs) (suc i) r h =
           ∙ sym (append_assoc (replicate x.1 x.0) (schedule_of (take i xs)) (replicate r.1 r.0 ++ rest)),
     )
 
-run_first : (P : Program) (w last : World) (before after : List ℕ) → Run P w (before ++ after) last
+pub run_first : (P : Program) (w last : World) (before after : List ℕ) → Run P w (before ++ after) last
     → (m : World) × Run P w before m
 run_first P w last [] after run = (w, refl)
 run_first P w last (t ∷ ts) after (next, stepped, rest) =

@@ -5,5 +5,5 @@ pub returns-clause-prints : goal.returns-clause-prints
 returns-clause-prints c =
     turn_prints c.in_ok-turn.turn c.args.text.now c.text_at.result c.saturating_sub.result c.args.world.now.printed
     c.step.new.self.printed c.requires.text c.in_ok-turn.ensures.prints c.saturating_sub.ensures
-    (rw (c.printed.ensures, c.printed-lines.ensures) at c.text_at.ensures.none)
-    (rw (c.printed.ensures, c.printed-lines.ensures) at c.text_at.ensures.some)
+    (rw (c.printed-2.ensures, c.count-prints.ensures, c.printed.ensures) at c.text_at.ensures.none)
+    (rw (c.printed-2.ensures, c.count-prints.ensures, c.printed.ensures) at c.text_at.ensures.some)
