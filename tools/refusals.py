@@ -1,4 +1,4 @@
-"""Calls that are refused memory or threads: the program `memory_cases` makes them, and this refuses one after the other.
+"""Calls that are refused memory or threads: the program `memory_cases` makes them, this refuses one after the other.
 
 A line of that program is the name of a call, `: ` and what it answered. Each call is made twice over what it is lent.
 With ample memory the lines are those of its file `stdout`. Then, for each of the growths that the first call asks for,
@@ -91,7 +91,7 @@ def wrong_with(ran, wanted, words):
 
 
 def refuse_each(program, word, what):
-    """Has one growth or start of the first call of a word after the other refused. Answers how many, and what is wrong."""
+    """Refuses one growth or start of the first call of a word after the other. Answers how many, and what is wrong."""
     ran = program.run(word)
     wanted, told = ran[1:]
     wrong = wrong_with(ran, wanted, ())

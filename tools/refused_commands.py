@@ -1,4 +1,4 @@
-"""Commands of `preinit` that are refused memory or threads, over files of the system: each growth of a run after the other.
+"""Commands of `preinit` that are refused memory or threads, over files of the system: one growth after the other.
 
 Such a run ends as one with ample memory, or with status 1 and `Memory` (or `Spawn`) as its last line. Then what went to
 standard output is a beginning of what goes there otherwise, and so is what went to standard error before that line; the

@@ -2,9 +2,10 @@
 
    The program writes the name of a call and ": ", makes the call, and writes what it answered. From the one write to
    the other its growths (malloc and realloc) and starts of threads are counted. The environment says which is refused:
-   REFUSED_CALL, the number of the call, from 1, and REFUSED_GROWTH or REFUSED_START, a number from 1 in that call. Where
-   it says WHOLE_RUN=1 the whole run is one call, of the number 0. Of each call a line goes to the file descriptor TOLD: how many growths it asked for, how many starts, how many of
-   these were refused, how many threads were left running, and the most bytes that it held beyond those before it. */
+   REFUSED_CALL, the number of the call, from 1, and REFUSED_GROWTH or REFUSED_START, a number from 1 in that call. With
+   WHOLE_RUN=1 the whole run is one call, of the number 0. Of each call a line goes to the file descriptor TOLD: how
+   many growths it asked for, how many starts, how many of these were refused, how many threads were left running, and
+   the most bytes that it held beyond those before it. */
 typedef unsigned long size;
 extern void *__libc_malloc(size), *__libc_realloc(void *, size), __libc_free(void *);
 extern size malloc_usable_size(void *);
