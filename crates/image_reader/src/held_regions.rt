@@ -200,11 +200,13 @@ fn add_regions(
     Ok(())
 }
 
-/// The regions of all classes that are initialized, by their numbers.
+/// The regions of all classes that are initialized, by their numbers. The strings are hashed by a digest first, since an
+/// image may bring some that no class file has.
 pub(crate) fn held_regions(
     alloc: Global,
     program: &mut Program,
     regions: &[Option<ImageRegion>],
+    digest: &[u8],
 ) -> Result<Regions, AllocError>
     requires count { length regions.now ≡ length program.old.classes }
     requires shape { HaveShape program.old.family regions.now }
@@ -213,6 +215,7 @@ pub(crate) fn held_regions(
     ensures same { (env : Environment) → HoldsRegions program.old.strings regions.now env
         → OnOk result (program.new ≡ program.old) }
 {
+    program.hash_strings_by(alloc, digest)?;
     let mut held = Regions::none(alloc);
     match add_regions(alloc, program, regions, &mut held) {
         Ok(()) => Ok(held),

@@ -55,7 +55,13 @@ pub fn read(alloc: Global, bytes: &[u8]) -> Result<Image, ImageFault>
     }
 }
 
-/// The image that a text says, all of whose objects are reached. Its digest stands at its end.
+/// The digest of an image, which stands at its end.
+fn digest_of(bytes: &[u8]) -> &[u8] {
+    let (_, digest) = bytes.split_at(bytes.len().saturating_sub(32));
+    digest
+}
+
+/// The image that a text says, all of whose objects are reached.
 fn image_of(alloc: Global, parsed: Parsed, bytes: &[u8]) -> Result<Image, AllocError>
     requires { AreRegions Two parsed.program.family parsed.regions }
     ensures family { IfOk result (λ image. image.program.family ≡ parsed.program.family) }
@@ -72,9 +78,7 @@ fn image_of(alloc: Global, parsed: Parsed, bytes: &[u8]) -> Result<Image, AllocE
         regions,
     } = parsed;
     let _linked = program.classes();
-    let (_, digest) = bytes.split_at(bytes.len().saturating_sub(32));
-    program.hash_strings_by(alloc, digest)?;
-    let held = held_regions(alloc, &mut program, regions.as_slice())?;
+    let held = held_regions(alloc, &mut program, regions.as_slice(), digest_of(bytes))?;
     let _classes = program.classes();
     Ok(Image::of_reached(program, held))
 }
