@@ -3,7 +3,7 @@
 use Rattle.std.specs.Prelude.{◌≡◌, ◌⊎◌, ℕ, List, Option, Some, None, length}
 use Rattle.std.specs.Borrow.{Bor}
 use Rattle.std.specs.Io.KnownBytes.{Appends}
-use Rattle.vm_state.specs.Output.{text_of}
+use Rattle.vm_state.specs.Output.{text_of as printed_text}
 use Rattle.semantics.specs.Worlds.{World, Run as Reaches, seen}
 use Rattle.program.specs.Tables.{Tables}
 use Rattle.machine.specs.Linked.{program_of}
@@ -44,7 +44,7 @@ pub record HasEnded (P : Tables) (first : World) (schedule : List ℕ) (last : W
   pub rest : Rest
   pub stands : IsRest (program_of P) last rest
   pub status_is : status ≡ run_status (seen last).threads rest
-  pub sent : Appends before after (text_of last.shared.printed)
+  pub sent : Appends before after (printed_text last.shared.printed)
 
 -- The turns of the threads of a world, of at most so many steps, have ended so.
 pub record HasEndedByTurns (P : Tables) (first : World) (limit : ℕ) (before after : Option (List ℕ)) (status : Status)
@@ -104,7 +104,7 @@ pub record HasReplayed (holds : Contents) (words : Replay) (before after : Optio
   pub last : World
   pub run : Reaches (program_of image.program) first (schedule_of runs) last
   pub status_is : status ≡ replay_status (seen last).threads
-  pub sent : Appends before after (text_of last.shared.printed)
+  pub sent : Appends before after (printed_text last.shared.printed)
 
 -- ---- builds
 
