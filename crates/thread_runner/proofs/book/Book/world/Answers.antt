@@ -9,7 +9,7 @@ returns-clause-sent g c =
     subst (λ (b : Pages). b.sent ≤ length (printed_text b)) c.self.view_is
     (place_within c.self.inside.history.world.printed c.self.inside.prints c.self.inside.bytes c.self.invariant)
 
-pub returns-clause-lines : goal.returns-clause-lines
-returns-clause-lines g c =
+pub returns-clause-prints : goal.returns-clause-prints
+returns-clause-prints g c =
     subst (λ (b : Pages). b.part ≡ 0 → AreOfPrints b.past.world.printed b.sent) c.self.view_is
     (prints_sent c.self.inside.history.world.printed c.self.inside.prints c.self.inside.bytes c.self.invariant)
