@@ -1,6 +1,6 @@
 -- Runs with their journals, and what of their text has gone out.
 use Rattle.std.proofs.Common.{◌≡◌, ◌∙◌, ◌≢◌, ◌⊎◌, inl, inr, ℕ, Bool, true, false, List, Option, Some, None, length}
-use Rattle.std.proofs.Common.{refl, sym, ap, subst, arith, if◌then◌else◌}
+use Rattle.std.proofs.Common.{refl, sym, ap, subst, arith, if◌then◌else◌, IfOk, Ok, Err, Result}
 use Rattle.std.proofs.Math.Seq.{take-length}
 use Rattle.std.specs.Borrow.{Bor}
 use Rattle.std.specs.Io.KnownBytes.{Appends, Keeps}
@@ -9,17 +9,21 @@ use Rattle.vm_state.specs.declared.ends.Ending.{Ending}
 use Rattle.vm_state.specs.Output.{Print, text_of}
 use Rattle.semantics.specs.Worlds.{World, seen}
 use Rattle.program.specs.Tables.{Tables}
+use Rattle.object_graph.specs.Images.{ImageTables}
 use Rattle.init_engine.specs.Schedules.{schedule_of}
+use Rattle.journal.specs.Journals.{IsJournalOf}
 use Rattle.command_line.specs.declared.request.Replay.{Replay}
 use Rattle.command_line.specs.declared.request.Request.TheVariants as requests
 use Rattle.cli.specs.declared.by_threads.ImageSeen.{ImageSeen}
 use Rattle.cli.specs.declared.by_threads.Journaled.{Journaled}
+use Rattle.cli.specs.declared.fault.Refusal.{Refusal}
 use Rattle.cli.specs.declared.running.RunFault.TheVariants.{Device, Memory}
 use Rattle.cli.specs.declared.status.Status.{Status}
 use Rattle.cli.specs.declared.status.Status.TheVariants.{Done, Ended, Limit, Refused, Words}
 use Rattle.cli.specs.Done.{HasEndedWithJournal, HasReplayed, IsWritten}
-use Rattle.cli.specs.Files.{Contents}
-use Rattle.cli.specs.Journaled.{IsJournaled, IsReplayOf}
+use Rattle.cli.specs.Begins.{IsBegunFromImage}
+use Rattle.cli.specs.Files.{AreBytesOf, Contents}
+use Rattle.cli.specs.Journaled.{IsJournaled, IsReplayed, IsReplayOf}
 use Rattle.cli.specs.Running.{IsCutShort, IsOfRun, cut_of}
 use Rattle.cli.specs.Status.{is_going, is_return, replay_status, run_status}
 use Rattle.cli.proofs.RunningLemmas.{appends_nothing, cut_at_end}
@@ -53,6 +57,24 @@ ended_with_journal old new journal P first before after ran status is told writt
 }
 
 -- ---- replays
+
+-- a replay of what files hold, where what it is made of is theirs
+pub replay_of : (holds : Contents) (words : Replay) (I : ImageTables) (first : World) (text : List ℕ)
+    (result : Result (ImageSeen × Status) Refusal)
+    → IsBegunFromImage holds words.image.now words.entries.now I first → AreBytesOf (holds words.journal.now) text
+    → IfOk result (λ r. (runs : List (ℕ × ℕ)) × IsJournalOf text runs × IsReplayed first runs r.0 r.1)
+    → IfOk result (λ r. r.0.image ≡ I) → IfOk result (λ r. IsReplayOf holds words r.0 r.1)
+replay_of holds words I first text (Ok r) begun held (runs, journal, leads) image = record {
+  first = first;
+  begun = subst (λ (J : ImageTables). IsBegunFromImage holds words.image.now words.entries.now J first) (sym image)
+      begun;
+  bytes = text;
+  held = held;
+  runs = runs;
+  journal = journal;
+  leads = leads;
+}
+replay_of holds words I first text (Err _) begun held replayed image = tt
 
 -- a replay of which nothing has gone out, or all
 pub of_replay : (holds : Contents) (words : Replay) (before after : Option (List ℕ)) (replayed : ImageSeen)
