@@ -12,7 +12,7 @@ use Rattle.cli.proofs.builds.build.Goals as goal
 pub build_program-requires : goal.build_program-requires
 build_program-requires g c =
     let good : IsBudget c.args.options.now.budget = c.is_budget.ensures.0 c.if-not-is_budget.false in
-    (c.type_bounds.sync-G, c.type_bounds.sync-R, omega (arith, good.1))
+    (c.type_bounds.sync-G, (c.type_bounds.sync-R, omega (arith, good.1)))
 
 -- ---- what is built
 
