@@ -3,15 +3,13 @@
 #![tactic(auto)]
 
 mod disk;
-mod progress;
 
 use cli::{End, Refusal, Status, Unwatched, command_holding};
 use disk::Disk;
-use progress::Progress;
-use std::io::{self, ErrorKind, IsTerminal, Write};
+use std::io::{self, ErrorKind, Write};
 use std::process::ExitCode;
 use std::sync::Wait;
-use std::thread::{self, Threads};
+use std::thread::Threads;
 use std::{env, mem, rt};
 
 /// Why there was no command to do.
@@ -22,16 +20,15 @@ enum Stop {
     Words,
 }
 
-/// Does the command that the words of the process name. A long build tells how far it has come, if it is said where.
-fn run<R, W, E, P>(rt: &R, out: W, errors: &mut E, terminal: Option<P>) -> Result<u8, Stop>
+/// Does the command that the words of the process name.
+fn run<R, W, E>(rt: &R, out: W, errors: &mut E) -> Result<u8, Stop>
 where
-    R: rt::Env + rt::Files + rt::Clock + AllocGlobal + Threads + Wait + Sync,
+    R: rt::Env + rt::Files + AllocGlobal + Threads + Wait + Sync,
     W: Write + Send + Drop,
     E: Write,
-    P: Write + Send + Drop,
 {
     let texts = texts_of(rt)?;
-    run_words(rt, texts.as_slice(), out, errors, terminal)
+    run_words(rt, texts.as_slice(), out, errors)
 }
 
 /// The words of the process, the program's name first.
@@ -50,18 +47,11 @@ fn stop_of(error: io::Error) -> Stop {
 }
 
 /// Does the command that these words name, after the program's name.
-fn run_words<R, W, E, P>(
-    rt: &R,
-    texts: &[String],
-    out: W,
-    errors: &mut E,
-    terminal: Option<P>,
-) -> Result<u8, Stop>
+fn run_words<R, W, E>(rt: &R, texts: &[String], out: W, errors: &mut E) -> Result<u8, Stop>
 where
-    R: rt::Files + rt::Clock + AllocGlobal + Threads + Wait + Sync,
+    R: rt::Files + AllocGlobal + Threads + Wait + Sync,
     W: Write + Send + Drop,
     E: Write,
-    P: Write + Send + Drop,
 {
     let alloc = rt.alloc();
     let words: Vec<&str> = texts
@@ -70,60 +60,28 @@ where
         .map(|text| text.as_str())
         .collect(alloc)
         .map_err(|_| Stop::Memory)?;
-    let words = words.as_slice();
+    let mut disk = Disk::new(rt);
     let End {
         status,
         out: _,
         held,
-    } = match terminal {
-        Some(terminal) if is_build(words) => run_watched(rt, words, out, errors, terminal),
-        _ => command_holding(
-            rt,
-            alloc,
-            words,
-            &mut Disk::new(rt),
-            out,
-            errors,
-            &Unwatched,
-        ),
-    };
+    } = command_holding(
+        rt,
+        alloc,
+        words.as_slice(),
+        &mut disk,
+        out,
+        errors,
+        &Unwatched,
+    );
     // The process ends with it.
     mem::forget(held);
     Ok(status)
 }
 
-fn is_build(words: &[&str]) -> bool {
-    matches!(words.first(), Some(word) if *word == "build")
-}
-
-/// Does a build, while another thread tells on the terminal how far it has come.
-fn run_watched<R, W, E, P>(rt: &R, words: &[&str], out: W, errors: &mut E, terminal: P) -> End<W>
-where
-    R: rt::Files + rt::Clock + AllocGlobal + Threads + Wait + Sync,
-    W: Write + Send + Drop,
-    E: Write,
-    P: Write + Send + Drop,
-{
-    let progress = Progress::new(rt, terminal);
-    let watch = || progress.tell();
-    let build = || {
-        let mut disk = Disk::new(rt);
-        let end = command_holding(rt, rt.alloc(), words, &mut disk, out, errors, &progress);
-        progress.end();
-        end
-    };
-    let ((), end) = thread::join(rt, watch, build);
-    end
-}
-
 fn main(rt: HostRuntime) -> ExitCode {
     let mut errors = rt.stderr();
-    let terminal = if errors.is_terminal() {
-        Some(rt.stderr())
-    } else {
-        None
-    };
-    let status = match run(&rt, rt.stdout(), &mut errors, terminal) {
+    let status = match run(&rt, rt.stdout(), &mut errors) {
         Ok(status) => status,
         Err(Stop::Memory) => {
             let refusal = Refusal::Memory;
