@@ -1,10 +1,10 @@
 -- The places of methods that are reached, one method after another.
-use Rattle.std.proofs.Common.{◌≡◌, ◌↔◌, ◌⊎◌, ℕ, ◌+◌, ◌<◌, ◌≤◌, List, [], length, Option, Some, None, slice_get, refl, sym}
+use Rattle.std.proofs.Common.{◌≡◌, ◌↔◌, ◌⊎◌, ℕ, ◌+◌, ◌<◌, ◌≤◌, List, [], ◌∷◌, ◌++◌, length, Option, Some, None, slice_get, refl, sym}
 use Rattle.std.proofs.Common.{ap, subst, ◌∙◌, inl, inr, arith, is_some}
 use Rattle.std.specs.Prelude.{MatchOption}
 use Rattle.std.specs.List.{Contains}
 use Rattle.std.proofs.lemmas.Option.{slice_get_within}
-use Rattle.semantics.proofs.WavesLemmas.{Contains-nil}
+use Rattle.std.proofs.lemmas.List.Elements.{Contains-push, Contains-push_cases, Contains-append_left}
 use Rattle.vm_state.specs.declared.ends.FaultKind.{FaultKind}
 use Rattle.program.specs.declared.class.Implementation.{Implementation}
 use Rattle.program.specs.Tables.{Tables, implementation_at}
@@ -20,6 +20,47 @@ use Rattle.audit.specs.declared.places.Place.{Place}
 use Rattle.audit.specs.Reach.{Method, MayReach, main, called, initializer}
 use Rattle.audit.specs.Places.{lack_of, IsLackingStart, IsReachedEnd, IsPlace, AreAllPlaces}
 use Rattle.audit.specs.steps.Reaching.{AreReachedMethods, IsToldPlace, IsStartPlace, IsPlaceOf, AreBelow}
+
+pub none_among : {A : Type 0} (x : A) → Contains [] x → ⊥
+none_among x (k, small, at) = omega arith
+
+-- what is added to nothing
+pub from_nothing : {X : Type 0} (none new : List X) (A : X → Type 0) → none ≡ []
+    → ((x : X) → Contains new x ↔ (Contains none x ⊎ A x)) → (x : X) → Contains new x ↔ A x
+from_nothing none new A empty step x = (
+  λ p. elim ((step x).0 p) [
+    | inl was ↦ absurd (none_among x (subst (λ l. Contains l x) empty was))
+    | inr a ↦ a
+  ],
+  λ a. (step x).1 (inr a),
+)
+
+-- one is added, and no other is such a one
+pub one_added : {X : Type 0} (old new : List X) (x : X) (A : X → Type 0) → new ≡ old ++ x ∷ [] → A x
+    → ((y : X) → A y → x ≡ y) → (y : X) → Contains new y ↔ (Contains old y ⊎ A y)
+one_added old new x A is here alone y = (
+  λ p. elim (Contains-push_cases old x y (subst (λ l. Contains l y) is p)) [
+    | inl was ↦ inl was
+    | inr same ↦ inr (subst A same here)
+  ],
+  λ p. subst (λ l. Contains l y) (sym is) (elim p [
+    | inl was ↦ Contains-append_left old (x ∷ []) y was
+    | inr a ↦ subst (Contains (old ++ x ∷ [])) (alone y a) (Contains-push old x)
+  ]),
+)
+
+-- nothing is added where there is none
+pub nothing_added : {X : Type 0} (old : List X) (A : X → Type 0) → ((y : X) → A y → ⊥) → (y : X)
+    → Contains old y ↔ (Contains old y ⊎ A y)
+nothing_added old A none y = (λ was. inl was, λ p. elim p [ inl was ↦ was | inr a ↦ absurd (none y a) ])
+
+pub same_place : (p q : Place) → p.class ≡ q.class → p.index ≡ q.index → p.pc ≡ q.pc → p.kind ≡ q.kind → p ≡ q
+same_place p q a b c d =
+    ap (λ (x : ℕ). (let r : Place = record { class = x; index = p.index; pc = p.pc; kind = p.kind } in r)) a
+    ∙ (ap (λ (x : ℕ). (let r : Place = record { class = q.class; index = x; pc = p.pc; kind = p.kind } in r)) b
+    ∙ (ap (λ (x : Option ℕ). (let r : Place = record { class = q.class; index = q.index; pc = x; kind = p.kind } in r)) c
+    ∙ ap (λ (x : FaultKind). (let r : Place = record { class = q.class; index = q.index; pc = q.pc; kind = x } in r))
+    d))
 
 -- what is added twice
 pub added_twice : {X : Type 0} (old mid new : List X) (A B : X → Type 0)
@@ -169,7 +210,7 @@ module _ (P : Tables) (uses : UseGraph) (whole : IsUseGraph P uses) (entries : L
 
   pub below_none : (places : List Place) → places ≡ [] → AreBelow P entries uses.methods 0 places
   below_none places is p = (
-    λ h. absurd (Contains-nil p (subst (λ (l : List Place). Contains l p) is h)),
+    λ h. absurd (none_among p (subst (λ (l : List Place). Contains l p) is h)),
     λ (n, less, place). absurd (omega arith),
   )
 

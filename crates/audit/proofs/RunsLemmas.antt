@@ -28,6 +28,7 @@ use Rattle.use_graph.proofs.ScopeTableLemmas.{table_is_bounded_lem}
 use Rattle.audit.specs.Reach.{Method, Initialization, MayReach, main, entry, called, needed, before, initializer}
 use Rattle.audit.specs.Runs.{IsOnStack, IsReachedActivity, RunsReached, StartsFrom, ThreadsRunReached}
 use Rattle.audit.proofs.CallsLemmas.{scope_calls, scope_needs, initializer_declared, main_declared}
+use Rattle.audit.proofs.PlacesLemmas.{none_among}
 use Rattle.audit.proofs.ThreadsLemmas.{IsClosed, AllRun, Stack, run_stands, start_stands, stack_of}
 
 past_rows : (rows : List (List ℕ)) (c : ℕ) → length rows ≤ c → slice_index_or rows c [] ≡ []
@@ -107,7 +108,7 @@ module _ (P : Tables) (is : IsProgram P) (entries : List ℕ) where
 
   under_of : (ls : List Level) (l : Level) → Levels ls → Contains ls l
       → Begins l.initialization.class × AllByRecursion (λ (g : Frame). Runs g.activity) l.under
-  under_of [] l stack among = absurd (Contains-nil l among)
+  under_of [] l stack among = absurd (none_among l among)
   under_of (m ∷ ms) l stack (zero, small, at) =
       subst (λ (x : Level). Begins x.initialization.class × AllByRecursion (λ (g : Frame). Runs g.activity) x.under)
       at (stack.0.begins, stack.1)

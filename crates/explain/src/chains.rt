@@ -1,5 +1,7 @@
 //! Classes that stay at run time for others' sake.
 
+ghost use Rattle.use_graph.specs.steps.Bodies.{IsUseGraph};
+
 use graph::components_of;
 use initializer_analysis::first_refused;
 use initializer_analysis::verdict::{Reason, Verdict};
@@ -25,7 +27,9 @@ pub fn first_uses(
     program: &Program,
     uses: &UseGraph,
     verdicts: &[Verdict],
-) -> Result<Vec<Option<u32>>, AllocError> {
+) -> Result<Vec<Option<u32>>, AllocError>
+    requires { IsUseGraph program.now uses.now }
+{
     let components = components_of(alloc, &uses.calls)?;
     let refused = refused_by(alloc, verdicts)?;
     first_refused(alloc, program, uses, &components, &refused)

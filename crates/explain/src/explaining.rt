@@ -1,5 +1,9 @@
 //! All that stands against a class.
 
+ghost use Rattle.std.specs.Prelude.{IfOk};
+ghost use Rattle.explain.specs.Marks.{AreShown};
+ghost use Rattle.explain.specs.steps.Known.{IsKnown};
+
 use crate::chains::first_uses;
 use crate::cycles::cycles_of;
 use crate::marks::{ShownMarks, shown_marks};
@@ -42,7 +46,9 @@ impl Known {
         alloc: Global,
         program: &Program,
         verdicts: &[Verdict],
-    ) -> Result<Known, AllocError> {
+    ) -> Result<Known, AllocError>
+        ensures { IfOk result (IsKnown program.now) }
+    {
         let uses = UseGraph::of_program(alloc, program)?;
         let cycles = cycles_of(alloc, program, &uses)?;
         let first = first_uses(alloc, program, &uses, verdicts)?;
@@ -67,7 +73,11 @@ impl Known {
         forced: &Forced,
         paths: bool,
         class: u32,
-    ) -> Result<Explanation, AllocError> {
+    ) -> Result<Explanation, AllocError>
+        requires { IsKnown program.now self.old }
+        ensures known { IsKnown program.now self.new }
+        ensures marks { IfOk result (λ explanation. AreShown program.now class explanation.marks) }
+    {
         let marks = shown_marks(alloc, program, &self.uses, &mut self.search, paths, class)?;
         Ok(Explanation {
             forced: forced.has(class),

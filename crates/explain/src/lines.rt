@@ -1,5 +1,7 @@
 //! Explanations as lines of text, each of which begins with the name of the class.
 
+ghost use Rattle.explain.specs.steps.Known.{IsKnown};
+
 use crate::blamed::{most_blamed, roots_of};
 use crate::chains::chain_of;
 use crate::explaining::{Explanation, Known};
@@ -185,7 +187,10 @@ fn add_class(
     name: &str,
     class: u32,
     text: &mut String,
-) -> Result<Option<u32>, AllocError> {
+) -> Result<Option<u32>, AllocError>
+    requires { IsKnown build.now.image.now.program known.old }
+    ensures { IsKnown build.now.image.now.program known.new }
+{
     let program = build.image.program();
     if let Some(verdict) = build.verdicts.get(class as usize) {
         add_verdict(alloc, build.image, name, class, *verdict, text)?;

@@ -19,4 +19,4 @@ returns c n m at =
     are_reached c.args.program.now c.args.uses.now c.in_ok-graph.graph c.requires c.in_ok-graph.ensures
     c.args.entries.now c.in_ok-from.from.items c.in_ok-from.ensures c.in_ok-reached.reached.items
     (subst (λ (l : List ℕ). (v : ℕ) → Contains c.in_ok-reached.reached.items v ↔ IsReached c.in_ok-graph.graph l v)
-    c.deref.ensures.value c.in_ok-reached.ensures.members) n m at c.method.ensures.once
+    c.deref.ensures.value c.in_ok-reached.ensures.members) n m at c.method-once.ensures.once
