@@ -1,12 +1,23 @@
 -- What a run begins with.
-use Rattle.std.proofs.Common.{◌≡◌, ℕ, List, Result, Ok, Err, IfOk, sym, subst}
+use Rattle.std.proofs.Common.{◌≡◌, ◌⊎◌, inl, inr, ℕ, List, Option, Result, Ok, Err, IfOk, refl, sym, subst}
 use Rattle.semantics.specs.Worlds.{World}
+use Rattle.program.specs.Programs.{IsProgram}
 use Rattle.program.specs.Tables.{Tables}
 use Rattle.object_graph.specs.Images.{ImageTables}
 use Rattle.init_engine.specs.Starts.{IsStart}
 use Rattle.image_reader.specs.Starts.{IsImageStart}
+use Rattle.command_line.specs.Requests.{texts}
+use Rattle.command_line.specs.declared.request.Lazy.{Lazy}
+use Rattle.command_line.specs.declared.request.Request.TheVariants as requests
+use Rattle.command_line.specs.declared.request.Run.{Run}
+use Rattle.cli.specs.declared.running.RunFault.TheVariants.{Memory}
+use Rattle.cli.specs.declared.status.Status.{Status}
 use Rattle.cli.specs.Begins.{IsBegun, IsBegunFromImage}
+use Rattle.cli.specs.Done.{HasEndedByTurns, HasEndedWithJournal, HasRunImage, HasRunLazily}
+use Rattle.cli.specs.Entries.{entry_names}
+use Rattle.cli.specs.Files.{AreBytesOf, AreTextsOf, Contents}
 use Rattle.cli.specs.ImageRuns.{IsSomeTextOf}
+use Rattle.cli.specs.Running.{IsCutShort, IsOfRun}
 use Rattle.cli.specs.Runs.{IsProgramOf}
 
 -- what holds a program holds one of the same texts
@@ -15,15 +26,52 @@ pub program_kept : {S E : Type 0} (program : S → Tables) (texts : List (List �
 program_kept program texts P (Ok s) is same = subst (IsProgramOf texts) (sym same) is
 program_kept program texts P (Err e) is same = tt
 
-module _ {S E : Type 0} (world : S → World) (names : List (List ℕ)) where
-  pub begun : (program : S → Tables) (texts : List (List ℕ)) (r : Result S E)
-      → IfOk r (λ s. IsProgramOf texts (program s)) → IfOk r (λ s. IsStart (program s) names (world s))
-      → IfOk r (λ s. IsBegun (program s) (world s))
-  begun program texts (Ok s) is start = record { texts = texts; names = names; program = is; start = start }
-  begun program texts (Err e) is start = tt
+module _ {S E : Type 0} (world : S → World) (holds : Contents) where
+  pub begun : (words : Lazy) (program : S → Tables) (files : List (List ℕ)) (r : Result S E)
+      → AreTextsOf holds (texts words.files.items) files → IfOk r (λ s. IsProgramOf files (program s))
+      → IfOk r (λ s. IsStart (program s) (entry_names words.entries.now) (world s))
+      → IfOk r (λ s. IsBegun holds words (program s) (world s))
+  begun words program files (Ok s) held is start =
+      record { files = files; held = held; program = is; start = start }
+  begun words program files (Err e) held is start = tt
 
-  pub begun_from_image : (image : S → ImageTables) (bytes : List ℕ) (r : Result S E)
-      → IfOk r (λ s. IsSomeTextOf bytes (image s)) → IfOk r (λ s. IsImageStart (image s) names (world s))
-      → IfOk r (λ s. IsBegunFromImage (image s) (world s))
-  begun_from_image image bytes (Ok s) is start = record { bytes = bytes; names = names; text = is; start = start }
-  begun_from_image image bytes (Err e) is start = tt
+  pub begun_from_image : (name list : List ℕ) (image : S → ImageTables) (bytes : List ℕ) (r : Result S E)
+      → AreBytesOf (holds name) bytes → IfOk r (λ s. IsSomeTextOf bytes (image s))
+      → IfOk r (λ s. IsProgram (image s).program)
+      → IfOk r (λ s. IsImageStart (image s) (entry_names list) (world s))
+      → IfOk r (λ s. IsBegunFromImage holds name list (image s) (world s))
+  begun_from_image name list image bytes (Ok s) held is program start =
+      record { bytes = bytes; held = held; text = is; program = program; start = start }
+  begun_from_image name list image bytes (Err e) held is program start = tt
+
+-- ---- runs from there
+
+module _ (holds : Contents) (first : World) (before after : Option (List ℕ)) where
+  pub of_lazy_run : (words : Lazy) (P : Tables) → IsBegun holds words P first
+      → IsCutShort P first before after Memory → IsOfRun holds (requests.Lazy words) before after
+  of_lazy_run words P begun cut = record { program = P; first = first; begun = begun; cut = cut }
+
+  pub has_run_lazily : (words : Lazy) (P : Tables) (status : Status) → IsBegun holds words P first
+      → HasEndedByTurns P first words.limit before after status → HasRunLazily holds words before after status
+  has_run_lazily words P status begun ended = record { program = P; first = first; begun = begun; ended = ended }
+
+  pub of_image_run : (words : Run) (I : ImageTables) (P : Tables) → P ≡ I.program
+      → IsBegunFromImage holds words.image.now words.entries.now I first
+      → IsCutShort P first before after Memory → IsOfRun holds (requests.Run words) before after
+  of_image_run words I P same begun cut = record {
+    program = P;
+    first = first;
+    begun = record { image = I; program = sym same; begun = begun };
+    cut = cut;
+  }
+
+  pub has_run_image : (new : Contents) (words : Run) (I : ImageTables) (P : Tables) (status : Status) → P ≡ I.program
+      → IsBegunFromImage holds words.image.now words.entries.now I first
+      → HasEndedWithJournal holds new words.journal P first before after status
+      → HasRunImage holds new words before after status
+  has_run_image new words I P status same begun ended = record {
+    image = I;
+    first = first;
+    begun = begun;
+    ended = subst (λ (Q : Tables). HasEndedWithJournal holds new words.journal Q first before after status) same ended;
+  }

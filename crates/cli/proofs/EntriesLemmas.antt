@@ -128,7 +128,7 @@ entries_told P done (name ∷ left) cs all = elim (entry_told P name (length don
 
 -- ---- how many there are
 
-no_count : {n : ℕ} {fault : EntryFault} → IsEntryCount n → IsCountFault n fault → ⊥
+pub no_count : {n : ℕ} {fault : EntryFault} → IsEntryCount n → IsCountFault n fault → ⊥
 no_count few (starts.none zero_is) = omega (arith, few.0)
 no_count few (starts.many more) = omega (arith, few.1)
 

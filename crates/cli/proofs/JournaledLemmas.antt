@@ -1,54 +1,111 @@
 -- Runs with their journals, and what of their text has gone out.
-use Rattle.std.proofs.Common.{◌≡◌, ◌∙◌, ℕ, List, Option, Some, None, length, refl, sym, subst, arith}
+use Rattle.std.proofs.Common.{◌≡◌, ◌∙◌, ◌≢◌, ◌⊎◌, inl, inr, ℕ, Bool, true, false, List, Option, Some, None, length}
+use Rattle.std.proofs.Common.{refl, sym, ap, subst, arith, if◌then◌else◌}
 use Rattle.std.proofs.Math.Seq.{take-length}
+use Rattle.std.specs.Borrow.{Bor}
 use Rattle.std.specs.Io.KnownBytes.{Appends, Keeps}
+use Rattle.std.specs.List.{list_all, list_any}
+use Rattle.vm_state.specs.declared.ends.Ending.{Ending}
 use Rattle.vm_state.specs.declared.text.Line.{Line}
-use Rattle.semantics.specs.Worlds.{World}
+use Rattle.semantics.specs.Worlds.{World, seen}
 use Rattle.program.specs.Tables.{Tables}
 use Rattle.init_engine.specs.Schedules.{schedule_of}
+use Rattle.command_line.specs.declared.request.Replay.{Replay}
+use Rattle.command_line.specs.declared.request.Request.TheVariants as requests
 use Rattle.cli.specs.declared.by_threads.ImageSeen.{ImageSeen}
 use Rattle.cli.specs.declared.by_threads.Journaled.{Journaled}
-use Rattle.cli.specs.declared.running.RunFault.TheVariants.{Device}
+use Rattle.cli.specs.declared.running.RunFault.TheVariants.{Device, Memory}
 use Rattle.cli.specs.declared.status.Status.{Status}
-use Rattle.cli.specs.declared.status.Status.TheVariants.{Refused}
-use Rattle.cli.specs.Begins.{IsFirst, from_image}
-use Rattle.cli.specs.Journaled.{IsJournaled, IsReplayed}
+use Rattle.cli.specs.declared.status.Status.TheVariants.{Done, Ended, Limit, Refused, Words}
+use Rattle.cli.specs.Done.{HasEndedWithJournal, HasReplayed, IsWritten}
+use Rattle.cli.specs.Files.{Contents}
+use Rattle.cli.specs.Journaled.{IsJournaled, IsReplayOf}
 use Rattle.cli.specs.Running.{IsCutShort, IsOfRun, cut_of, lines_text}
-use Rattle.cli.proofs.RunningLemmas.{appends_nothing, of_cut, of_whole}
+use Rattle.cli.specs.Status.{is_going, is_return, replay_status, run_status}
+use Rattle.cli.proofs.RunningLemmas.{appends_nothing, cut_at_end}
 
-pub of_journaled : (P : Tables) (first : World) (before after : Option (List ℕ)) (ran : Journaled)
-    → IsFirst P first → IsJournaled P first before after ran → IsOfRun before after
-of_journaled P first before after ran begun is =
-    of_whole P first (schedule_of ran.journal) is.last before after begun is.run is.sent
+pub journaled_cut_at_end : (P : Tables) (first : World) (before after : Option (List ℕ)) (ran : Journaled)
+    → IsJournaled P first before after ran → IsCutShort P first before after Memory
+journaled_cut_at_end P first before after ran is =
+    cut_at_end P first (schedule_of ran.journal) is.last before after is.run is.sent
 
 -- a run that was cut short where its command was refused
-pub of_refused : (P : Tables) (first : World) (before after : Option (List ℕ)) (status : Status)
-    → IsFirst P first → IsCutShort P first before after (cut_of status) → status ≡ Refused → IsOfRun before after
-of_refused P first before after status begun is refused =
-    of_cut P first before after begun
-    (subst (λ (s : Status). IsCutShort P first before after (cut_of s)) refused is)
+pub cut_if_refused : (P : Tables) (first : World) (before after : Option (List ℕ)) (status : Status)
+    → IsCutShort P first before after (cut_of status) → status ≡ Refused → IsCutShort P first before after Memory
+cut_if_refused P first before after status is refused =
+    subst (λ (s : Status). IsCutShort P first before after (cut_of s)) refused is
 
--- a replay all of whose text has gone out
-pub of_replayed : (before after : Option (List ℕ)) (replayed : ImageSeen) (status : Status)
-    → IsReplayed replayed status → Appends before after (lines_text replayed.seen.printed.items)
-    → IsOfRun before after
-of_replayed before after replayed status is sent =
-    of_whole replayed.image.program is.first (schedule_of is.runs) is.shown.last before after
-    (from_image replayed.image refl is.begun) is.shown.run
-    (subst (λ (lines : List Line). Appends before after (lines_text lines)) is.shown.observed.0 sent)
+pub ended_with_journal : (old new : Contents) (journal : Option (Bor (List ℕ))) (P : Tables) (first : World)
+    (before after : Option (List ℕ)) (ran : Journaled) (status : Status) → IsJournaled P first before after ran
+    → status ≡ ran.status → IsWritten old new journal (schedule_of ran.journal)
+    → HasEndedWithJournal old new journal P first before after status
+ended_with_journal old new journal P first before after ran status is told written = record {
+  schedule = schedule_of ran.journal;
+  last = is.last;
+  ended = record {
+    run = is.run;
+    rest = is.rest;
+    stands = is.stands;
+    status_is = told ∙ (is.status ∙ ap (λ (threads : List Ending). run_status threads is.rest) is.threads);
+    sent = is.sent;
+  };
+  written = written;
+}
 
--- a replay of which nothing has
-pub of_no_text : (before after : Option (List ℕ)) (replayed : ImageSeen) (status : Status)
-    → IsReplayed replayed status → after ≡ before → IsOfRun before after
-of_no_text before after replayed status is same = record {
+-- ---- replays
+
+-- a replay of which nothing has gone out, or all
+pub of_replay : (holds : Contents) (words : Replay) (before after : Option (List ℕ)) (replayed : ImageSeen)
+    (status : Status) → IsReplayOf holds words replayed status
+    → (after ≡ before) ⊎ Appends before after (lines_text replayed.seen.printed.items)
+    → IsOfRun holds (requests.Replay words) before after
+of_replay holds words before after replayed status is (inl same) = record {
   program = replayed.image.program;
   first = is.first;
-  begun = from_image replayed.image refl is.begun;
-  schedule = schedule_of is.runs;
-  last = is.shown.last;
-  run = is.shown.run;
-  sent = (0, omega arith, rw same (appends_nothing before));
+  begun = record { image = replayed.image; program = refl; begun = is.begun };
+  cut = record {
+    schedule = schedule_of is.runs;
+    last = is.leads.shown.last;
+    run = is.leads.shown.run;
+    sent = (0, omega arith, rw same (appends_nothing before));
+  };
 }
+of_replay holds words before after replayed status is (inr sent) = record {
+  program = replayed.image.program;
+  first = is.first;
+  begun = record { image = replayed.image; program = refl; begun = is.begun };
+  cut = cut_at_end replayed.image.program is.first (schedule_of is.runs) is.leads.shown.last before after
+      is.leads.shown.run
+      (subst (λ (lines : List Line). Appends before after (lines_text lines)) is.leads.shown.observed.0 sent);
+}
+
+pub has_replayed : (holds : Contents) (words : Replay) (before after : Option (List ℕ)) (replayed : ImageSeen)
+    (status told : Status) → IsReplayOf holds words replayed status
+    → (told ≡ status) × Appends before after (lines_text replayed.seen.printed.items)
+    → HasReplayed holds words before after told
+has_replayed holds words before after replayed status told is (same, sent) = record {
+  image = replayed.image;
+  first = is.first;
+  begun = is.begun;
+  bytes = is.bytes;
+  held = is.held;
+  runs = is.runs;
+  journal = is.journal;
+  last = is.leads.shown.last;
+  run = is.leads.shown.run;
+  status_is = same ∙ (is.leads.status_is ∙ ap replay_status is.leads.shown.observed.1);
+  sent = subst (λ (lines : List Line). Appends before after (lines_text lines)) is.leads.shown.observed.0 sent;
+}
+
+-- a replay's status tells of its threads
+pub replay_told : (threads : List Ending) (status : Status) → status ≡ replay_status threads → status ≢ Words
+replay_told threads status is = going (list_any is_going threads) (list_all is_return threads) status is
+  where
+    going : (goes returned : Bool) (status : Status)
+        → status ≡ (if goes then Limit else (if returned then Done else Ended)) → status ≢ Words
+    going true returned status is = λ clash. cc
+    going false true status is = λ clash. cc
+    going false false status is = λ clash. cc
 
 -- ---- a flush after a run
 

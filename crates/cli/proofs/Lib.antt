@@ -16,3 +16,9 @@ pub mod JournaledLemmas
 pub mod SameEntriesLemmas
 pub mod OneRunLemmas
 pub mod OneBuildRefusalLemmas
+mod DoneLemmas
+mod FileLemmas
+mod SlashLemmas
+mod NotRunLemmas
+mod OutputLemmas
+mod CountLemmas

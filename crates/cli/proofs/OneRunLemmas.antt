@@ -1,5 +1,5 @@
 -- A run is refused for one fault.
-use Rattle.std.proofs.Common.{◌≡◌, ℕ, List, inl, inr, sym, ap, subst}
+use Rattle.std.proofs.Common.{◌≡◌, ℕ, List, inl, inr, refl, sym, ap, subst}
 use Rattle.std.specs.List.{All}
 use Rattle.std.proofs.lemmas.List.Sorted.{IsPermutation-refl}
 use Rattle.classfile.specs.Faults.{IsBytes}
@@ -38,12 +38,17 @@ module _ (texts names : List (List ℕ)) (bytes : All IsBytes texts) where
       (subst (λ (R : Tables). EntriesFail R names y) (sym (one_program_of P Q of other)) also)
 
   one : (r q : Refusal) → IsRefused texts names r → IsRefused texts names q → r ≡ q
-  one r q (runs.unlinked wrong) (runs.unlinked other) = one_refusal_lem texts r q bytes wrong other
-  one r q (runs.unlinked wrong) (runs.entry {P} of fails) =
+  one r q (runs.count wrong) (runs.count other) = refl
+  one r q (runs.count wrong) (runs.unlinked counted other) = absurd (wrong counted)
+  one r q (runs.count wrong) (runs.entry counted of fails) = absurd (wrong counted)
+  one r q (runs.unlinked counted wrong) (runs.count other) = absurd (other counted)
+  one r q (runs.unlinked counted wrong) (runs.unlinked also other) = one_refusal_lem texts r q bytes wrong other
+  one r q (runs.unlinked counted wrong) (runs.entry {P} also of fails) =
       absurd (linked_are_not_refused_lem texts P r bytes of wrong)
-  one r q (runs.entry {P} of fails) (runs.unlinked wrong) =
+  one r q (runs.entry counted of fails) (runs.count other) = absurd (other counted)
+  one r q (runs.entry {P} counted of fails) (runs.unlinked also wrong) =
       absurd (linked_are_not_refused_lem texts P q bytes of wrong)
-  one r q (runs.entry {P} {fault = x} of fails) (runs.entry {P = Q} {fault = y} other also) =
+  one r q (runs.entry {P} {fault = x} counted of fails) (runs.entry {P = Q} {fault = y} too other also) =
       ap (λ (fault : EntryFault). Entry fault) (same_entries P Q x y of other fails also)
 
 pub one_run_refusal_lem : OneRunRefusal
@@ -51,7 +56,7 @@ one_run_refusal_lem texts names r q bytes wrong other = one texts names bytes r 
 
 -- ---- of an image
 
-family_fits : (bytes : List ℕ) (I : ImageTables) → IsSomeTextOf bytes I → IsFamily I.program.family
+pub family_fits : (bytes : List ℕ) (I : ImageTables) → IsSomeTextOf bytes I → IsFamily I.program.family
 family_fits bytes I (inl text) = text.classes
 family_fits bytes I (inr old) = old.text.classes
 
@@ -59,10 +64,10 @@ abbrev parts_of : ImageTables → ImageParts
 parts_of I = (I.program.family, told_of I)
 
 module _ (bytes : List ℕ) (names : List (List ℕ)) (fits : IsBytes bytes) where
-  no_image_fault : (I : ImageTables) (x : ImageFault) → IsSomeTextOf bytes I → ImageFails bytes x → ⊥
+  pub no_image_fault : (I : ImageTables) (x : ImageFault) → IsSomeTextOf bytes I → ImageFails bytes x → ⊥
   no_image_fault I x of wrong = (one_of bytes fits).not_both (parts_of I) x of wrong
 
-  one_family : (I J : ImageTables) → IsSomeTextOf bytes I → IsSomeTextOf bytes J
+  pub one_family : (I J : ImageTables) → IsSomeTextOf bytes I → IsSomeTextOf bytes J
       → I.program.family ≡ J.program.family
   one_family I J of also =
       ap (λ (parts : ImageParts). parts.0) ((one_of bytes fits).one_text (parts_of I) (parts_of J) of also)
@@ -75,14 +80,19 @@ module _ (bytes : List ℕ) (names : List (List ℕ)) (fits : IsBytes bytes) whe
       (still_fail J.program I.program linked program (sym (one_family I J of also)) too)
 
   one_of_image : (r q : Refusal) → IsNoRun bytes names r → IsNoRun bytes names q → r ≡ q
-  one_of_image r q (image_runs.image {fault = x} wrong) (image_runs.image {fault = y} other) =
+  one_of_image r q (image_runs.count wrong) (image_runs.count other) = refl
+  one_of_image r q (image_runs.count wrong) (image_runs.image counted other) = absurd (wrong counted)
+  one_of_image r q (image_runs.count wrong) (image_runs.entry I counted program of fails) = absurd (wrong counted)
+  one_of_image r q (image_runs.image counted wrong) (image_runs.count other) = absurd (other counted)
+  one_of_image r q (image_runs.entry I counted program of fails) (image_runs.count other) = absurd (other counted)
+  one_of_image r q (image_runs.image {fault = x} counted wrong) (image_runs.image {fault = y} also other) =
       ap (λ (fault : ImageFault). Image fault) ((one_of bytes fits).one_fault x y wrong other)
-  one_of_image r q (image_runs.image {fault = x} wrong) (image_runs.entry I program of fails) =
+  one_of_image r q (image_runs.image {fault = x} counted wrong) (image_runs.entry I also program of fails) =
       absurd (no_image_fault I x of wrong)
-  one_of_image r q (image_runs.entry I program of fails) (image_runs.image {fault = x} wrong) =
+  one_of_image r q (image_runs.entry I counted program of fails) (image_runs.image {fault = x} also wrong) =
       absurd (no_image_fault I x of wrong)
-  one_of_image r q (image_runs.entry I {fault = x} program of fails)
-      (image_runs.entry J {fault = y} linked also too) =
+  one_of_image r q (image_runs.entry I {fault = x} counted program of fails)
+      (image_runs.entry J {fault = y} again linked also too) =
       ap (λ (fault : EntryFault). Entry fault) (one_entry_fault I J x y program linked of also fails too)
 
 pub one_image_run_refusal_lem : OneImageRunRefusal

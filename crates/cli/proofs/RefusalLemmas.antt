@@ -18,7 +18,7 @@ use Rattle.loading.specs.declared.fault.LinkFault.{LinkFault}
 use Rattle.loading.specs.declared.fault.LinkFault.TheVariants as link_faults
 use Rattle.program.specs.Programs.{HasOwnStrings, IsProgram}
 use Rattle.program.specs.Tables.{Tables}
-use Rattle.init_engine.specs.Starts.{EntriesFail}
+use Rattle.init_engine.specs.Starts.{EntriesFail, IsEntryCount}
 use Rattle.init_engine.specs.declared.fault.EntryFault.{EntryFault}
 use Rattle.init_engine.specs.declared.fault.EntryFault.TheVariants as entry_faults
 use Rattle.cli.specs.declared.fault.Refusal.{Refusal}
@@ -122,19 +122,19 @@ linked_or_not texts files (Err refusal) are links program own (inl memory) =
 linked_or_not texts files (Err refusal) are links program own (inr wrong) =
     record { program = tt; refusal = inr (not_link are wrong) }
 
-pub refused_texts : (texts names : List (List ℕ)) (r : Refusal) → (r ≡ Memory) ⊎ NotLinked texts r
-    → (r ≡ Memory) ⊎ IsRefused texts names r
-refused_texts texts names r (inl memory) = inl memory
-refused_texts texts names r (inr wrong) = inr (unlinked wrong)
+pub refused_texts : (texts names : List (List ℕ)) (r : Refusal) → IsEntryCount (length names)
+    → (r ≡ Memory) ⊎ NotLinked texts r → (r ≡ Memory) ⊎ IsRefused texts names r
+refused_texts texts names r counted (inl memory) = inl memory
+refused_texts texts names r counted (inr wrong) = inr (unlinked counted wrong)
 
-refused_entry : {texts names : List (List ℕ)} {P : Tables} {r : Refusal} → IsProgramOf texts P
-    → IsRefusedEntry P names r → IsRefused texts names r
-refused_entry program (refused fails) = entry program fails
+refused_entry : {texts names : List (List ℕ)} {P : Tables} {r : Refusal} → IsEntryCount (length names)
+    → IsProgramOf texts P → IsRefusedEntry P names r → IsRefused texts names r
+refused_entry counted program (refused fails) = entry counted program fails
 
-pub refused_entries : (texts names : List (List ℕ)) (P : Tables) (r : Refusal) → IsProgramOf texts P
-    → (r ≡ Memory) ⊎ IsRefusedEntry P names r → (r ≡ Memory) ⊎ IsRefused texts names r
-refused_entries texts names P r program (inl memory) = inl memory
-refused_entries texts names P r program (inr wrong) = inr (refused_entry program wrong)
+pub refused_entries : (texts names : List (List ℕ)) (P : Tables) (r : Refusal) → IsEntryCount (length names)
+    → IsProgramOf texts P → (r ≡ Memory) ⊎ IsRefusedEntry P names r → (r ≡ Memory) ⊎ IsRefused texts names r
+refused_entries texts names P r counted program (inl memory) = inl memory
+refused_entries texts names P r counted program (inr wrong) = inr (refused_entry counted program wrong)
 
 -- ---- lines one by one
 

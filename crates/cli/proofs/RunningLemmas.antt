@@ -7,6 +7,7 @@ use Rattle.std.proofs.lemmas.Grind.{flat_map-append}
 use Rattle.std.proofs.lemmas.List.{length-map, take-append-drop, take-append-le}
 use Rattle.std.specs.Io.KnownBytes.{Appends}
 use Rattle.vm_state.specs.Shares.{shared_of}
+use Rattle.vm_state.specs.declared.ends.Ending.{Ending}
 use Rattle.vm_state.specs.declared.text.Line.{Line}
 use Rattle.semantics.specs.Worlds.{World, Run, seen}
 use Rattle.program.specs.Tables.{Tables}
@@ -19,11 +20,13 @@ use Rattle.init_engine.specs.Threads.{thread_of}
 use Rattle.init_engine.specs.Turnings.{Midway, IsUnderWay, HasTurned, IsSlice}
 use Rattle.init_engine.specs.Turns.{world_of}
 use Rattle.init_engine.proofs.RoundLemmas.{run_so_far}
-use Rattle.cli.specs.Begins.{IsFirst}
+use Rattle.cli.specs.Done.{HasEndedByTurns}
 use Rattle.cli.specs.declared.running.Ran.{Ran}
 use Rattle.cli.specs.declared.running.RunFault.{RunFault}
 use Rattle.cli.specs.declared.running.RunFault.TheVariants.{Memory, Device}
-use Rattle.cli.specs.Running.{HasRun, IsCutShort, IsOfRun, IsStanding, SendsTo, lines_text}
+use Rattle.cli.specs.declared.status.Status.{Status}
+use Rattle.cli.specs.Running.{HasRun, IsCutShort, IsStanding, SendsTo, lines_text}
+use Rattle.cli.specs.Status.{run_status}
 
 pub appends_nothing : (old : Option (List ℕ)) → Appends old old []
 appends_nothing None = tt
@@ -184,30 +187,15 @@ pub stands_there : (P : Tables) (s t : Standing) (ran : Ran) → s ≡ t → ran
 stands_there P s t ran same threads rest =
     subst (λ (u : Standing). IsStanding P (world_of u) ran) same (record { threads = threads; rest = rest })
 
--- ---- what went out where a command was refused
+-- ---- a run all of whose text has gone out
 
-pub of_cut : (P : Tables) (first : World) (before after : Option (List ℕ)) → IsFirst P first
-    → IsCutShort P first before after Memory → IsOfRun before after
-of_cut P first before after begun is = record {
-  program = P;
-  first = first;
-  begun = begun;
-  schedule = is.schedule;
-  last = is.last;
-  run = is.run;
-  sent = is.sent;
-}
-
--- a run all of whose text has gone out
-pub of_whole : (P : Tables) (first : World) (schedule : List ℕ) (last : World) (before after : Option (List ℕ))
-    → IsFirst P first → Run (program_of P) first schedule last
-    → Appends before after (lines_text last.shared.printed) → IsOfRun before after
-of_whole P first schedule last before after begun run sent =
+-- it is one whose first lines have gone out, all of them
+pub cut_at_end : (P : Tables) (first : World) (schedule : List ℕ) (last : World) (before after : Option (List ℕ))
+    → Run (program_of P) first schedule last → Appends before after (lines_text last.shared.printed)
+    → IsCutShort P first before after Memory
+cut_at_end P first schedule last before after run sent =
     let lines = last.shared.printed in
     record {
-      program = P;
-      first = first;
-      begun = begun;
       schedule = schedule;
       last = last;
       run = run;
@@ -218,7 +206,23 @@ of_whole P first schedule last before after begun run sent =
       );
     }
 
-pub of_run : (P : Tables) (first : World) (limit : ℕ) (before after : Option (List ℕ)) (ran : Ran)
-    → IsFirst P first → HasRun P first limit before after ran → IsOfRun before after
-of_run P first limit before after ran begun run =
-    of_whole P first (schedule_of ran.schedule.items) run.last before after begun run.run run.sent
+pub run_cut_at_end : (P : Tables) (first : World) (limit : ℕ) (before after : Option (List ℕ)) (ran : Ran)
+    → HasRun P first limit before after ran → IsCutShort P first before after Memory
+run_cut_at_end P first limit before after ran run =
+    cut_at_end P first (schedule_of ran.schedule.items) run.last before after run.run run.sent
+
+pub ended_by_turns : (P : Tables) (first : World) (limit : ℕ) (before after : Option (List ℕ)) (ran : Ran)
+    (status : Status) → HasRun P first limit before after ran → status ≡ run_status ran.threads.items ran.rest
+    → HasEndedByTurns P first limit before after status
+ended_by_turns P first limit before after ran status run is = record {
+  schedule = schedule_of ran.schedule.items;
+  last = run.last;
+  turns = run.turns;
+  ended = record {
+    run = run.run;
+    rest = ran.rest;
+    stands = run.stands.rest;
+    status_is = is ∙ ap (λ (threads : List Ending). run_status threads ran.rest) run.stands.threads;
+    sent = run.sent;
+  };
+}

@@ -1,28 +1,44 @@
--- What the command of a run begins with.
+-- What a run begins with that words ask for, of what the files hold that they name.
 use Rattle.std.specs.Prelude.{◌≡◌, ℕ, List}
 use Rattle.semantics.specs.Worlds.{World}
+use Rattle.program.specs.Programs.{IsProgram}
 use Rattle.program.specs.Tables.{Tables}
 use Rattle.object_graph.specs.Images.{ImageTables}
 use Rattle.init_engine.specs.Starts.{IsStart}
 use Rattle.image_reader.specs.Starts.{IsImageStart}
+use Rattle.command_line.specs.Requests.{texts}
+use Rattle.command_line.specs.declared.request.Lazy.{Lazy}
+use Rattle.command_line.specs.declared.request.Request.{Request}
+use Rattle.command_line.specs.declared.request.Request.TheVariants as requests
+use Rattle.cli.specs.Entries.{entry_names}
+use Rattle.cli.specs.Files.{AreBytesOf, AreTextsOf, Contents}
 use Rattle.cli.specs.ImageRuns.{IsSomeTextOf}
 use Rattle.cli.specs.Runs.{IsProgramOf}
 
--- The lazy start, from entries of some names, of the program of class files of which these are the texts.
-pub record IsBegun (P : Tables) (w : World) : Type 0 where
-  pub texts : List (List ℕ)
-  pub names : List (List ℕ)
-  pub program : IsProgramOf texts P
-  pub start : IsStart P names w
+-- The lazy start, from the entries of the words, of the program of the class files that they name.
+pub record IsBegun (holds : Contents) (words : Lazy) (P : Tables) (w : World) : Type 0 where
+  pub files : List (List ℕ)
+  pub held : AreTextsOf holds (texts words.files.items) files
+  pub program : IsProgramOf files P
+  pub start : IsStart P (entry_names words.entries.now) w
 
--- The start, from entries of some names, of the image of which this is the text.
-pub record IsBegunFromImage (I : ImageTables) (w : World) : Type 0 where
+-- The start, from the entries of a list, of the image that the file of this name holds.
+pub record IsBegunFromImage (holds : Contents) (name list : List ℕ) (I : ImageTables) (w : World) : Type 0 where
   pub bytes : List ℕ
-  pub names : List (List ℕ)
+  pub held : AreBytesOf (holds name) bytes
   pub text : IsSomeTextOf bytes I
-  pub start : IsImageStart I names w
+  pub program : IsProgram I.program
+  pub start : IsImageStart I (entry_names list) w
 
--- What the command of a run of a program begins with: a lazy start of class files, or a start of an image.
-pub data IsFirst (P : Tables) (w : World) : Type 0 where
-  lazily : IsBegun P w → IsFirst P w
-  from_image : (I : ImageTables) → I.program ≡ P → IsBegunFromImage I w → IsFirst P w
+-- The same, and this is the program of the image.
+pub record IsBegunFromFile (holds : Contents) (name list : List ℕ) (P : Tables) (w : World) : Type 0 where
+  pub image : ImageTables
+  pub program : image.program ≡ P
+  pub begun : IsBegunFromImage holds name list image w
+
+-- What a run begins with that is asked for: a lazy start of class files, or a start of an image.
+abbrev pub IsFirst : Contents → Request → Tables → World → Type 0
+IsFirst holds (requests.Lazy words) P w = IsBegun holds words P w
+IsFirst holds (requests.Run words) P w = IsBegunFromFile holds words.image.now words.entries.now P w
+IsFirst holds (requests.Replay words) P w = IsBegunFromFile holds words.image.now words.entries.now P w
+IsFirst _ _ P w = ⊥

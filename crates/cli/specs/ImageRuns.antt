@@ -1,5 +1,5 @@
 -- From an image's bytes to what a run by turns shows, or to why there is none.
-use Rattle.std.specs.Prelude.{ℕ, List}
+use Rattle.std.specs.Prelude.{ℕ, List, length}
 use Rattle.semantics.specs.Worlds.{World}
 use Rattle.object_graph.specs.Images.{ImageTables}
 use Rattle.image_format.specs.Images.{ImageText, SomeText}
@@ -8,8 +8,9 @@ use Rattle.program.specs.Programs.{IsProgram}
 use Rattle.image_parser.specs.declared.image_fault.ImageFault.{ImageFault}
 use Rattle.image_writer.specs.ImageTexts.{told_of}
 use Rattle.image_reader.specs.Starts.{IsImageStart}
-use Rattle.init_engine.specs.Starts.{EntriesFail}
+use Rattle.init_engine.specs.Starts.{EntriesFail, IsEntryCount}
 use Rattle.init_engine.specs.declared.fault.EntryFault.{EntryFault}
+use Rattle.init_engine.specs.declared.fault.EntryFault.TheVariants.{Count}
 use Rattle.cli.specs.declared.fault.Refusal.{Refusal}
 use Rattle.cli.specs.declared.fault.Refusal.TheVariants.{Image, Entry}
 use Rattle.cli.specs.declared.lazy.Shown.{Shown}
@@ -29,8 +30,11 @@ pub record IsShownFromImage (I : ImageTables) (names : List (List ℕ)) (limit :
   pub start : IsImageStart I names first
   pub turns : IsShownFrom I.program first limit shown
 
--- why there is no run, but for want of memory: the bytes are no image, or else the entries can't be run in it
+-- Why there is no run, but for want of memory: there are too few or too many entries; the bytes are no image; or the
+-- entries can't be run in it.
 pub data IsNoRun (bytes : List ℕ) (names : List (List ℕ)) : Refusal → Type 0 where
-  image : {fault : ImageFault} → ImageFails bytes fault → IsNoRun bytes names (Image fault)
-  entry : (I : ImageTables) {fault : EntryFault} → IsProgram I.program → IsSomeTextOf bytes I
-      → EntriesFail I.program names fault → IsNoRun bytes names (Entry fault)
+  count : (¬ IsEntryCount (length names)) → IsNoRun bytes names (Entry Count)
+  image : {fault : ImageFault} → IsEntryCount (length names) → ImageFails bytes fault
+      → IsNoRun bytes names (Image fault)
+  entry : (I : ImageTables) {fault : EntryFault} → IsEntryCount (length names) → IsProgram I.program
+      → IsSomeTextOf bytes I → EntriesFail I.program names fault → IsNoRun bytes names (Entry fault)

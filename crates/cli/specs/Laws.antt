@@ -1,14 +1,22 @@
--- What holds of bytes: they make a program, or are refused for one fault; and so are runs and builds of them.
-use Rattle.std.specs.Prelude.{◌≡◌, ℕ, List, Option}
+-- What holds of bytes: they make a program, or are refused for one fault; and so are runs and builds of them. What is
+-- refused is not run.
+use Rattle.std.specs.Prelude.{◌≡◌, ℕ, List, map, Option, Some}
 use Rattle.std.specs.List.{All}
 use Rattle.classfile.specs.Faults.{IsBytes}
 use Rattle.program.specs.Tables.{Tables}
 use Rattle.building.specs.Laws.{SaysTheSame}
 use Rattle.building.specs.declared.build.BuildFault.{BuildFault}
 use Rattle.building.specs.declared.build.BuildFault.TheVariants as faults
+use Rattle.command_line.specs.Requests.{texts}
+use Rattle.command_line.specs.declared.request.Lazy.{Lazy}
+use Rattle.command_line.specs.declared.request.Request.TheVariants as requests
+use Rattle.command_line.specs.declared.request.Run.{Run}
 use Rattle.cli.specs.declared.fault.Refusal.{Refusal}
 use Rattle.cli.specs.Builds.{BuildFails}
 use Rattle.cli.specs.ImageRuns.{IsNoRun}
+use Rattle.cli.specs.Entries.{entry_names}
+use Rattle.cli.specs.Files.{Contents}
+use Rattle.cli.specs.Running.{IsOfRun}
 use Rattle.cli.specs.Runs.{IsProgramOf, IsRefused, NotLinked}
 
 -- Texts that make a program are not refused.
@@ -47,3 +55,18 @@ OneBuildRefusal =
     (texts : List (List ℕ)) (run_time build_time : Option (List ℕ)) (budget : ℕ) (first second : BuildFault)
     → All IsBytes texts → BuildFails texts run_time build_time budget first
     → BuildFails texts run_time build_time budget second → AreTheSame first second
+
+-- The class files that words name, where it is known what these files hold, are not run if they or the entries are
+-- refused: nothing that goes out then is of a run.
+abbrev pub RefusedFilesAreNotRun : Type 0
+RefusedFilesAreNotRun =
+    (holds : Contents) (words : Lazy) (files : List (List ℕ)) (refusal : Refusal) (before after : Option (List ℕ))
+    → All IsBytes files → map holds (texts words.files.items) ≡ map Some files
+    → IsRefused files (entry_names words.entries.now) refusal → ¬ IsOfRun holds (requests.Lazy words) before after
+
+-- Neither is an image, or what is none.
+abbrev pub RefusedImagesAreNotRun : Type 0
+RefusedImagesAreNotRun =
+    (holds : Contents) (words : Run) (bytes : List ℕ) (refusal : Refusal) (before after : Option (List ℕ))
+    → IsBytes bytes → holds words.image.now ≡ Some bytes → IsNoRun bytes (entry_names words.entries.now) refusal
+    → ¬ IsOfRun holds (requests.Run words) before after

@@ -13,3 +13,7 @@ pub mod Renewals
 pub mod Headline
 pub mod Begins
 pub mod Journaled
+pub mod Files
+pub mod Entries
+pub mod Done
+pub mod Outputs

@@ -9,7 +9,9 @@ use Rattle.machine.specs.Linked.{program_of}
 use Rattle.init_engine.specs.Rests.{IsRest}
 use Rattle.init_engine.specs.Rounds.{Turns}
 use Rattle.init_engine.specs.Schedules.{AreRuns, schedule_of}
+use Rattle.command_line.specs.declared.request.Request.{Request}
 use Rattle.cli.specs.Begins.{IsFirst}
+use Rattle.cli.specs.Files.{Contents}
 use Rattle.cli.specs.declared.running.Ran.{Ran}
 use Rattle.cli.specs.declared.running.RunFault.{RunFault}
 use Rattle.cli.specs.declared.running.RunFault.TheVariants.{Memory, Device}
@@ -60,12 +62,9 @@ abbrev pub cut_of : Status → RunFault
 cut_of Refused = Memory
 cut_of _ = Device
 
--- The first lines of what a run printed have gone out, whole: a run from what its command begins with.
-pub record IsOfRun (before after : Option (List ℕ)) : Type 0 where
+-- The first lines of what a run printed have gone out, whole: a run from what a request asks for, of what files hold.
+pub record IsOfRun (holds : Contents) (request : Request) (before after : Option (List ℕ)) : Type 0 where
   pub program : Tables
   pub first : World
-  pub begun : IsFirst program first
-  pub schedule : List ℕ
-  pub last : World
-  pub run : Reaches (program_of program) first schedule last
-  pub sent : HaveGoneOut last.shared.printed before after Memory
+  pub begun : IsFirst holds request program first
+  pub cut : IsCutShort program first before after Memory

@@ -16,8 +16,9 @@ use Rattle.init_engine.specs.Observations.{IsObservation}
 use Rattle.init_engine.specs.Rests.{IsRest}
 use Rattle.init_engine.specs.Rounds.{Turns}
 use Rattle.init_engine.specs.Schedules.{schedule_of}
-use Rattle.init_engine.specs.Starts.{IsStart, EntriesFail}
+use Rattle.init_engine.specs.Starts.{IsEntryCount, IsStart, EntriesFail}
 use Rattle.init_engine.specs.declared.fault.EntryFault.{EntryFault}
+use Rattle.init_engine.specs.declared.fault.EntryFault.TheVariants.{Count}
 use Rattle.cli.specs.declared.fault.Refusal.{Refusal}
 use Rattle.cli.specs.declared.fault.Refusal.TheVariants.{Class, Link, Entry}
 use Rattle.cli.specs.declared.lazy.Shown.{Shown}
@@ -67,8 +68,11 @@ pub data NotLinked (texts : List (List ℕ)) : Refusal → Type 0 where
   link : {files : List ClassFile} {fault : LinkFault} → AreClassFiles texts files → LinkFails files fault
       → NotLinked texts (Link fault)
 
--- why there is no run, but for want of memory: the texts make no program, or else the entries can't be run in it
+-- Why there is no run, but for want of memory: there are too few or too many entries; the texts make no program; or the
+-- entries can't be run in it.
 pub data IsRefused (bytes names : List (List ℕ)) : Refusal → Type 0 where
-  unlinked : {refusal : Refusal} → NotLinked bytes refusal → IsRefused bytes names refusal
-  entry : {P : Tables} {fault : EntryFault} → IsProgramOf bytes P → EntriesFail P names fault
-      → IsRefused bytes names (Entry fault)
+  count : (¬ IsEntryCount (length names)) → IsRefused bytes names (Entry Count)
+  unlinked : {refusal : Refusal} → IsEntryCount (length names) → NotLinked bytes refusal
+      → IsRefused bytes names refusal
+  entry : {P : Tables} {fault : EntryFault} → IsEntryCount (length names) → IsProgramOf bytes P
+      → EntriesFail P names fault → IsRefused bytes names (Entry fault)

@@ -38,6 +38,13 @@ is_going _ = false
 abbrev pub replay_status : List Ending → Status
 replay_status threads = if list_any is_going threads then Limit else run_status threads rests.Ended
 
+-- the command did what its words ask for: nothing was refused, and nothing failed
+abbrev pub IsOver : Status → Type 0
+IsOver Refused = ⊥
+IsOver Words = ⊥
+IsOver Failed = ⊥
+IsOver _ = ⊤
+
 -- the command was not refused, so standard output may have got something
 abbrev pub IsTold : Status → Type 0
 IsTold Refused = ⊥

@@ -7,10 +7,10 @@ ghost use Rattle.program.specs.Tables.{Tables};
 ghost use Rattle.init_engine.specs.Turns.{world_of};
 ghost use Rattle.journal.specs.Journals.{IsJournalOf};
 ghost use Rattle.thread_runner.specs.Answers.{IsAnswer};
-ghost use Rattle.cli.specs.Begins.{IsBegunFromImage};
-ghost use Rattle.cli.specs.Journaled.{IsOutcome, IsReplayed};
+ghost use Rattle.cli.specs.Journaled.{IsOutcome, IsReplayOf, IsReplayed};
 ghost use Rattle.cli.specs.Status.{is_going, replay_status, run_status};
 
+use crate::files::get;
 use crate::image_run::{ImageStart, start_of};
 use crate::{Files, Refusal, Replay, Status, status_of};
 use init_engine::{Ending, Rest, Seen, World};
@@ -110,14 +110,11 @@ pub(crate) fn replayed<F: Files>(
     words: &Replay<'_>,
     files: &mut F,
 ) -> Result<(ImageSeen, Status), Refusal>
-    ensures { IfOk result (λ r. IsReplayed r.0 r.1) }
+    ensures replayed { IfOk result (λ r. IsReplayOf (F.holds files.old) words.now r.0 r.1) }
+    ensures same { F.holds files.new ≡ F.holds files.old }
 {
-    let image = files
-        .get(words.image)
-        .map_err(|fault| Refusal::of_file(alloc, words.image, fault))?;
-    let journal = files
-        .get(words.journal)
-        .map_err(|fault| Refusal::of_file(alloc, words.journal, fault))?;
+    let image = get(alloc, words.image, files)?;
+    let journal = get(alloc, words.journal, files)?;
     let start = start_of(alloc, words.entries, image.as_slice())?;
     replay_text(alloc, start, journal.as_slice())
 }
@@ -128,8 +125,9 @@ fn replay_text(
     start: ImageStart,
     text: &[u8],
 ) -> Result<(ImageSeen, Status), Refusal>
-    requires { IsBegunFromImage start.image (world_of start.world) }
-    ensures { IfOk result (λ r. IsReplayed r.0 r.1) }
+    ensures replayed { IfOk result (λ r. (runs : List (ℕ × ℕ)) × IsJournalOf text.now runs
+        × IsReplayed (world_of start.world) runs r.0 r.1) }
+    ensures image { IfOk result (λ r. r.0.image ≡ start.image) }
 {
     match Journal::parse(alloc, text) {
         Ok(journal) => replay_journal(alloc, start, &journal),
@@ -143,8 +141,8 @@ fn replay_journal(
     start: ImageStart,
     journal: &Journal,
 ) -> Result<(ImageSeen, Status), Refusal>
-    requires { IsBegunFromImage start.image (world_of start.world) }
-    ensures { (text : List ℕ) → IsJournalOf text journal.now → IfOk result (λ r. IsReplayed r.0 r.1) }
+    ensures replayed { IfOk result (λ r. IsReplayed (world_of start.world) journal.now r.0 r.1) }
+    ensures image { IfOk result (λ r. r.0.image ≡ start.image) }
 {
     let ImageStart { image, world } = start;
     match replay(alloc, image.program(), world, journal) {

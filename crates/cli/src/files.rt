@@ -1,5 +1,7 @@
 //! The files that a command reads and writes.
-ghost use Rattle.std.specs.Prelude.{◌≡◌, ◌≤◌, ◌++◌, ◌∷◌, [], IfOk, OnOk, vec_len};
+ghost use Rattle.std.specs.Prelude.{◌≡◌, ◌≤◌, ◌++◌, ◌∷◌, [], true, IfOk, OnOk, length};
+ghost use Rattle.command_line.specs.Requests.{texts};
+ghost use Rattle.cli.specs.Files.{AreBytesOf, AreTextsOf, OthersStay};
 ghost use Rattle.cli.specs.ImageBuilds.{AreAtMost};
 ghost use Rattle.cli.specs.Runs.{texts_of};
 
@@ -15,20 +17,37 @@ pub enum FileFault {
     Device,
 }
 
-/// The files of a command, by the names that its words give.
+/// The files of a command, by the names that its words give. Contracts see what the file of each name holds, where the
+/// type of the files says so.
 pub trait Files {
-    /// The bytes of a file.
+    ghost use Rattle.std.specs.Prelude.{ℕ, List, Option, None};
+
+    ghost holds: { Self → List ℕ → Option (List ℕ) } = { λ _ _. None };
+
+    /// The bytes of a file. It changes no file.
     ///
     /// # Errors
     /// `Device` where the file can't be read, `Memory` where its bytes can't be held.
-    fn get(&mut self, name: &str) -> Result<Vec<u8>, FileFault>;
+    fn get(&mut self, name: &str) -> Result<Vec<u8>, FileFault>
+        ensures bytes { IfOk result (λ bytes. AreBytesOf (holds self.old name.now) bytes.items) }
+        ensures same { holds self.new ≡ holds self.old };
 
-    /// Makes a file of these bytes, in the place of one of that name.
+    /// Makes a file of these bytes, in the place of one of that name. It changes no other file.
     ///
     /// # Errors
     /// `Device` where the file can't be written, `Memory` where memory was refused. What the file
     /// then holds is open.
-    fn put(&mut self, name: &str, bytes: &[u8]) -> Result<(), FileFault>;
+    fn put(&mut self, name: &str, bytes: &[u8]) -> Result<(), FileFault>
+        ensures made { OnOk result (AreBytesOf (holds self.new name.now) bytes.now) }
+        ensures others { OthersStay (holds self.old) (holds self.new) name.now };
+
+    /// Whether two names are of one file, as far as that can be seen. It changes no file.
+    fn are_one(&mut self, first: &str, second: &str) -> bool
+        ensures same_name { first.now ≡ second.now → result ≡ true }
+        ensures same { holds self.new ≡ holds self.old }
+    {
+        first == second
+    }
 }
 
 /// What the files of these names hold, each at most so many bytes.
@@ -41,7 +60,10 @@ pub(crate) fn contents<F: Files>(
     files: &mut F,
     most: usize,
 ) -> Result<Vec<Vec<u8>>, Refusal>
-    ensures { IfOk result (λ contents. AreAtMost most (texts_of contents.items)) }
+    ensures most { IfOk result (λ contents. AreAtMost most (texts_of contents.items)) }
+    ensures texts { IfOk result
+        (λ contents. AreTextsOf (F.holds files.old) (texts names.now) (texts_of contents.items)) }
+    ensures same { F.holds files.new ≡ F.holds files.old }
 {
     let mut contents = Vec::new(alloc);
     for name in names {
@@ -55,7 +77,9 @@ pub(crate) fn contents<F: Files>(
 
 /// What the file of this name holds, at most so many bytes.
 fn content<F: Files>(name: &str, files: &mut F, most: usize) -> Result<Vec<u8>, FileFault>
-    ensures { IfOk result (λ bytes. vec_len bytes ≤ most) }
+    ensures most { IfOk result (λ bytes. length bytes.items ≤ most) }
+    ensures bytes { IfOk result (λ bytes. AreBytesOf (F.holds files.old name.now) bytes.items) }
+    ensures same { F.holds files.new ≡ F.holds files.old }
 {
     match files.get(name) {
         Ok(bytes) => at_most(bytes, most),
@@ -65,7 +89,8 @@ fn content<F: Files>(name: &str, files: &mut F, most: usize) -> Result<Vec<u8>, 
 
 /// These bytes, where they are at most so many.
 fn at_most(bytes: Vec<u8>, most: usize) -> Result<Vec<u8>, FileFault>
-    ensures { IfOk result (λ bytes. vec_len bytes ≤ most) }
+    ensures most { IfOk result (λ bytes. length bytes.items ≤ most) }
+    ensures same { IfOk result (λ taken. taken ≡ bytes) }
 {
     if most < bytes.len() {
         return Err(FileFault::Device);
@@ -79,13 +104,27 @@ fn add_bytes(contents: &mut Vec<Vec<u8>>, bytes: Vec<u8>) -> Result<(), AllocErr
     Ok(contents.push(bytes)?)
 }
 
+/// The bytes of the file of this name.
+pub(crate) fn get<F: Files>(alloc: Global, name: &str, files: &mut F) -> Result<Vec<u8>, Refusal>
+    ensures bytes { IfOk result (λ bytes. AreBytesOf (F.holds files.old name.now) bytes.items) }
+    ensures same { F.holds files.new ≡ F.holds files.old }
+{
+    match files.get(name) {
+        Ok(bytes) => Ok(bytes),
+        Err(fault) => Err(Refusal::of_file(alloc, name, fault)),
+    }
+}
+
 /// Makes a file of these bytes.
 pub(crate) fn put<F: Files>(
     alloc: Global,
     name: &str,
     bytes: &[u8],
     files: &mut F,
-) -> Result<(), Refusal> {
+) -> Result<(), Refusal>
+    ensures made { OnOk result (AreBytesOf (F.holds files.new name.now) bytes.now) }
+    ensures others { OthersStay (F.holds files.old) (F.holds files.new) name.now }
+{
     match files.put(name, bytes) {
         Ok(()) => Ok(()),
         Err(fault) => Err(Refusal::of_file(alloc, name, fault)),

@@ -1,23 +1,25 @@
 //! From class files' bytes to an image's bytes, and the command `build` over it.
-ghost use Rattle.std.specs.Prelude.{◌≡◌, ◌↔◌, ◌⊎◌, Err, IfErr, IfOk};
+ghost use Rattle.std.specs.Prelude.{◌≡◌, ◌↔◌, ◌⊎◌, Err, IfErr, IfOk, OnOk};
 ghost use Rattle.building.specs.Builds.{text_of as list_of};
 ghost use Rattle.building.specs.declared.build.BuildFault.TheVariants.{Budget, Memory, Wave};
 ghost use Rattle.wave_scheduler.specs.Outcomes.{CanWork};
 ghost use Rattle.wave_scheduler.specs.declared.outcome.WaveFault.TheVariants.{Workers};
 ghost use Rattle.cli.specs.Builds.{BuildFails, IsBudget};
+ghost use Rattle.cli.specs.Done.{HasBuilt};
 ghost use Rattle.cli.specs.ImageBuilds.{AreAtMost, IsBuiltText};
 ghost use Rattle.cli.specs.Runs.{texts_of};
 
 use crate::builds::build;
 use crate::files::{contents, put};
 use crate::requested::{options_of, refusal_of};
-use crate::{Build, Files, Refusal};
+use crate::watching::Watched;
+use crate::{Build, Files, Refusal, Stage, Watch};
 use building::{BuildFault, BuildOptions};
 use image_writer::image_text;
 use std::alloc::Global;
 use std::sync::Wait;
 use std::thread::Threads;
-use wave_scheduler::{Gate, Open};
+use wave_scheduler::Gate;
 
 /// The greatest length of a class file of an image, which counts its bytes in 32 bits.
 pub const GREATEST_LENGTH: usize = 0xFFFF_FFFF;
@@ -63,17 +65,40 @@ pub fn build_image<G: Gate, R: Threads + Wait + Sync>(
 /// # Errors
 /// The first refusal: a file, the budget, the workers, a class file, linking, a list of patterns, the image's file, or
 /// memory. A file that is longer than a class file of an image is refused as one that can't be read.
-pub(crate) fn run<R: Threads + Wait + Sync, F: Files>(
+pub(crate) fn run<R: Threads + Wait + Sync, F: Files, H: Watch + Sync>(
     rt: &R,
     alloc: Global,
     words: &Build<'_>,
     files: &mut F,
-) -> Result<(), Refusal> {
+    watch: &H,
+) -> Result<(), Refusal>
+    ensures { OnOk result (HasBuilt (F.holds files.old) (F.holds files.new) words.now) }
+{
+    let done = run_watched(rt, alloc, words, files, watch);
+    watch.begin(Stage::Ended);
+    done
+}
+
+fn run_watched<R: Threads + Wait + Sync, F: Files, H: Watch + Sync>(
+    rt: &R,
+    alloc: Global,
+    words: &Build<'_>,
+    files: &mut F,
+    watch: &H,
+) -> Result<(), Refusal>
+    ensures { OnOk result (HasBuilt (F.holds files.old) (F.holds files.new) words.now) }
+{
     let building = &words.building;
+    watch.begin(Stage::Reading);
     let texts = contents(alloc, building.files.as_slice(), files, GREATEST_LENGTH)?;
     let options = options_of(building);
-    match build_image(rt, alloc, texts.as_slice(), &options, words.workers, &Open) {
-        Ok(bytes) => put(alloc, words.image, bytes.as_slice(), files),
+    watch.begin(Stage::Building);
+    let gate = Watched { watch };
+    match build_image(rt, alloc, texts.as_slice(), &options, words.workers, &gate) {
+        Ok(bytes) => {
+            watch.begin(Stage::Writing);
+            put(alloc, words.image, bytes.as_slice(), files)
+        }
         Err(fault) => Err(refusal_of(alloc, texts.as_slice(), fault)),
     }
 }

@@ -1,17 +1,23 @@
 //! From an image's bytes to what a run of it by turns shows, and the start of the command `run`.
-ghost use Rattle.std.specs.Prelude.{◌≡◌, ◌⊎◌, ℕ, List, Option, IfErr, IfOk};
+ghost use Rattle.std.specs.Prelude.{◌≡◌, ◌↔◌, ◌⊎◌, ℕ, List, Option, Err, IfErr, IfOk, length};
+ghost use Rattle.program.specs.Programs.{IsProgram};
+ghost use Rattle.init_engine.specs.Starts.{IsEntryCount};
 ghost use Rattle.init_engine.specs.Turns.{world_of};
+ghost use Rattle.init_engine.specs.declared.fault.EntryFault.TheVariants.{Count};
 ghost use Rattle.image_reader.specs.Starts.{IsImageStart};
 ghost use Rattle.cli.specs.Begins.{IsBegunFromImage};
+ghost use Rattle.cli.specs.Entries.{entry_names};
 ghost use Rattle.cli.specs.ImageBuilds.{IsBuiltText, IsImageOf};
 ghost use Rattle.cli.specs.ImageRuns.{IsNoRun, IsShownFromImage, IsSomeTextOf};
-ghost use Rattle.cli.specs.declared.fault.Refusal.TheVariants.{Memory};
+ghost use Rattle.cli.specs.declared.fault.Refusal.TheVariants.{Entry, Memory};
 
-use crate::lazy::{Shown, entries_of, shown_by_turns};
-use crate::{Files, Refusal, Run};
+use crate::entries::is_entry_count;
+use crate::files::get;
+use crate::lazy::{Shown, shown_by_turns};
+use crate::{Files, Refusal, entries_of};
 use classfile::ClassName;
 use image_reader::{read, world};
-use init_engine::World;
+use init_engine::{EntryFault, World};
 use object_graph::Image;
 use std::alloc::Global;
 
@@ -26,7 +32,8 @@ pub struct ImageRun {
 /// from the start and each other class when a thread first needs it, for at most so many steps.
 ///
 /// # Errors
-/// The first that holds of `Image` (the bytes are no image) and `Entry`; or `Memory`.
+/// The first that holds of `Entry` of `Count` (there is no entry or more than 64), `Image` (the bytes are no image) and
+/// `Entry`; or `Memory`, but never where the number of entries is wrong.
 pub fn run_image(
     alloc: Global,
     bytes: &[u8],
@@ -46,7 +53,12 @@ pub fn run_image(
 
     // What is answered otherwise is the first that is wrong, or that memory ran out.
     ensures refusal { IfErr result (λ refusal. (refusal ≡ Memory) ⊎ IsNoRun bytes.now entries.now refusal) }
+    // A wrong number of entries is told just where there is one, and nothing else is told then: it takes no memory to see.
+    ensures count { (result ≡ Err (Entry Count)) ↔ (¬ IsEntryCount (length entries.now)) }
 {
+    if !is_entry_count(entries.len()) {
+        return Err(Refusal::Entry(EntryFault::Count));
+    }
     match image_start(alloc, bytes, entries) {
         Ok(ImageStart { image, world }) => {
             let shown = shown_by_turns(alloc, image.program(), world, limit)?;
@@ -66,11 +78,13 @@ pub(crate) struct ImageStart {
 /// The start from an image of these bytes.
 fn image_start(alloc: Global, bytes: &[u8], entries: &[ClassName]) -> Result<ImageStart, Refusal>
     ensures image { IfOk result (λ start. IsSomeTextOf bytes.now start.image) }
+    ensures program { IfOk result (λ start. IsProgram start.image.program) }
     ensures start { IfOk result (λ start. IsImageStart start.image entries.now (world_of start.world)) }
     ensures built { (texts : List (List ℕ)) (run_time build_time : Option (List ℕ)) (budget : ℕ)
         → IsBuiltText texts run_time build_time budget bytes.now
         → IfOk result (λ start. IsImageOf texts run_time build_time budget start.image) }
-    ensures refusal { IfErr result (λ refusal. (refusal ≡ Memory) ⊎ IsNoRun bytes.now entries.now refusal) }
+    ensures refusal { IsEntryCount (length entries.now)
+        → IfErr result (λ refusal. (refusal ≡ Memory) ⊎ IsNoRun bytes.now entries.now refusal) }
 {
     match read(alloc, bytes) {
         Ok(image) => {
@@ -84,27 +98,31 @@ fn image_start(alloc: Global, bytes: &[u8], entries: &[ClassName]) -> Result<Ima
     }
 }
 
-/// Reads the image, and answers the start from it, as the words say.
+/// Reads the image of a file, and answers the start from it, from the entries of a list.
 ///
 /// # Errors
 /// The first refusal: the file, the image, an entry, or memory.
 pub(crate) fn start<F: Files>(
     alloc: Global,
-    words: &Run<'_>,
+    name: &str,
+    list: &str,
     files: &mut F,
 ) -> Result<ImageStart, Refusal>
-    // The world is the start of the image of the text that was got.
-    ensures { IfOk result (λ start. IsBegunFromImage start.image (world_of start.world)) }
+    ensures begun { IfOk result
+        (λ start. IsBegunFromImage (F.holds files.old) name.now list.now start.image (world_of start.world)) }
+    ensures same { F.holds files.new ≡ F.holds files.old }
 {
-    match files.get(words.image) {
-        Ok(bytes) => start_of(alloc, words.entries, bytes.as_slice()),
-        Err(fault) => Err(Refusal::of_file(alloc, words.image, fault)),
+    match get(alloc, name, files) {
+        Ok(bytes) => start_of(alloc, list, bytes.as_slice()),
+        Err(refusal) => Err(refusal),
     }
 }
 
-/// The start from an image of these bytes, of the entries of a list.
+/// The start from an image of these bytes, from the entries of a list.
 pub(crate) fn start_of(alloc: Global, list: &str, bytes: &[u8]) -> Result<ImageStart, Refusal>
-    ensures { IfOk result (λ start. IsBegunFromImage start.image (world_of start.world)) }
+    ensures text { IfOk result (λ start. IsSomeTextOf bytes.now start.image) }
+    ensures program { IfOk result (λ start. IsProgram start.image.program) }
+    ensures start { IfOk result (λ start. IsImageStart start.image (entry_names list.now) (world_of start.world)) }
 {
     let entries = entries_of(alloc, list)?;
     image_start(alloc, bytes, entries.as_slice())

@@ -1,7 +1,9 @@
-//! What holds of bytes: they make a program, or are refused for one fault; and so are runs and builds of them.
+//! What holds of bytes: they make a program, or are refused for one fault; and so are runs and builds of them. What is
+//! refused is not run.
 
 ghost use Rattle.cli.specs.Laws.{LinkedAreNotRefused, OneRefusal};
 ghost use Rattle.cli.specs.Laws.{OneBuildRefusal, OneImageRunRefusal, OneRunRefusal};
+ghost use Rattle.cli.specs.Laws.{RefusedFilesAreNotRun, RefusedImagesAreNotRun};
 
 /// Bytes that make a program are not refused.
 pub fn linked_are_not_refused()
@@ -26,4 +28,10 @@ pub fn one_image_run_refusal()
 /// A build of class files is refused for one fault, with the place of a text that is no class file.
 pub fn one_build_refusal()
     ensures { OneBuildRefusal }
+{}
+
+/// Class files and images that are refused are not run: nothing that goes out then is of a run.
+pub fn refused_are_not_run()
+    ensures files { RefusedFilesAreNotRun }
+    ensures images { RefusedImagesAreNotRun }
 {}

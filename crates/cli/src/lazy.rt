@@ -1,17 +1,19 @@
 //! The lazy procedure from class files' bytes to what is seen, and the command `lazy` over it.
-ghost use Rattle.std.specs.Prelude.{◌≡◌, ◌⊎◌, IfErr, IfOk};
+ghost use Rattle.std.specs.Prelude.{◌≡◌, ◌↔◌, ◌⊎◌, Err, IfErr, IfOk, length};
 ghost use Rattle.init_engine.specs.Turns.{world_of};
-ghost use Rattle.init_engine.specs.Starts.{IsStart};
+ghost use Rattle.init_engine.specs.Starts.{IsEntryCount, IsStart};
+ghost use Rattle.init_engine.specs.declared.fault.EntryFault.TheVariants.{Count};
 ghost use Rattle.cli.specs.Begins.{IsBegun};
 ghost use Rattle.cli.specs.Runs.{IsProgramOf, IsRefused, IsShown, IsShownFrom, texts_of};
 ghost use Rattle.cli.specs.steps.Refusals.{IsRefusedEntry};
-ghost use Rattle.cli.specs.declared.fault.Refusal.TheVariants.{Memory};
+ghost use Rattle.cli.specs.declared.fault.Refusal.TheVariants.{Entry, Memory};
 
 use crate::class_files::{linked_program, program_of_texts};
+use crate::entries::is_entry_count;
 use crate::files::contents;
-use crate::{Files, Lazy, Refusal};
+use crate::{Files, Lazy, Refusal, entries_of};
 use classfile::ClassName;
-use init_engine::{Rest, Seen, World};
+use init_engine::{EntryFault, Rest, Seen, World};
 use program::Program;
 use std::alloc::{AllocError, Global};
 
@@ -37,7 +39,8 @@ pub struct LazyRun {
 /// a thread first needs it, for at most so many steps.
 ///
 /// # Errors
-/// The first that holds of `Class` (a text is no class file), `Link` and `Entry`; or `Memory`.
+/// The first that holds of `Entry` of `Count` (there is no entry or more than 64), `Class` (a text is no class file),
+/// `Link` and `Entry`; or `Memory`, but never where the number of entries is wrong.
 pub fn run_class_files(
     alloc: Global,
     files: &[Vec<u8>],
@@ -52,7 +55,12 @@ pub fn run_class_files(
     // What is answered otherwise is the first that is wrong, or that memory ran out.
     ensures refusal { IfErr result
         (λ refusal. (refusal ≡ Memory) ⊎ IsRefused (texts_of files.now) entries.now refusal) }
+    // A wrong number of entries is told just where there is one, and nothing else is told then: it takes no memory to see.
+    ensures count { (result ≡ Err (Entry Count)) ↔ (¬ IsEntryCount (length entries.now)) }
 {
+    if !is_entry_count(entries.len()) {
+        return Err(Refusal::Entry(EntryFault::Count));
+    }
     match lazy_start(alloc, files, entries) {
         Ok(LazyStart { program, world }) => {
             let shown = shown_by_turns(alloc, &program, world, limit)?;
@@ -90,6 +98,7 @@ pub(crate) struct LazyStart {
 
 /// The lazy start of the program of class files.
 fn lazy_start(alloc: Global, files: &[Vec<u8>], entries: &[ClassName]) -> Result<LazyStart, Refusal>
+    requires { IsEntryCount (length entries.now) }
     ensures program { IfOk result (λ start. IsProgramOf (texts_of files.now) start.program) }
     ensures start { IfOk result (λ start. IsStart start.program entries.now (world_of start.world)) }
     ensures refusal { IfErr result
@@ -122,8 +131,10 @@ pub(crate) fn begin<F: Files>(
     words: &Lazy<'_>,
     files: &mut F,
 ) -> Result<LazyStart, Refusal>
-    // The world is the lazy start of the program of the texts that were got.
-    ensures { IfOk result (λ start. IsBegun start.program (world_of start.world)) }
+    // The world is the lazy start of the program of the class files that the words name.
+    ensures begun { IfOk result
+        (λ start. IsBegun (F.holds files.old) words.now start.program (world_of start.world)) }
+    ensures same { F.holds files.new ≡ F.holds files.old }
 {
     let texts = contents(alloc, words.files.as_slice(), files, usize::MAX)?;
     let entries = entries_of(alloc, words.entries)?;
@@ -131,22 +142,4 @@ pub(crate) fn begin<F: Files>(
         Ok(program) => started(alloc, program, entries.as_slice()),
         Err(refusal) => Err(refusal),
     }
-}
-
-/// The class names of a list: cut at commas, with slashes for dots.
-///
-/// # Errors
-/// `AllocError` where memory is refused.
-pub fn entries_of(alloc: Global, list: &str) -> Result<Vec<ClassName>, AllocError> {
-    let mut entries = Vec::new(alloc);
-    for name in list.split(',') {
-        entries.push(entry_of(alloc, name)?)?;
-    }
-    Ok(entries)
-}
-
-/// The class name of an entry, with slashes for dots.
-fn entry_of(alloc: Global, name: &str) -> Result<ClassName, AllocError> {
-    let name = name.replace(alloc, '.', "/")?;
-    ClassName::from_text(alloc, name.as_str())
 }

@@ -1,7 +1,7 @@
 //! The commands of the program `preinit`, over a caller's files and streams.
 //!
 //! [`command`] does one command for the words after the program's name and answers the exit status;
-//! [`request_of`] reads the words alone. [`run_class_files`] leads from class files' bytes to what is seen, and
+//! [`line`] reads the words alone. [`run_class_files`] leads from class files' bytes to what is seen, and
 //! [`entries_of`], [`linked_program`] and [`thread_lines`] are steps of a run. What a file, a stream or a terminal
 //! gives or takes is outside every contract: the tests show it.
 #![tactic(auto)]
@@ -10,35 +10,39 @@ pub mod any_order;
 mod builds;
 mod by_threads;
 mod class_files;
+mod entries;
 mod fault;
 mod files;
 mod image_build;
 mod image_run;
 pub mod laws;
 mod lazy;
+mod outputs;
 mod renewing;
 mod reporting;
 mod requested;
 mod run;
 mod running;
 mod status;
+mod telling;
 mod threads;
+mod watching;
 
 pub use building::{BuildFault, BuildOptions, Built};
 pub use builds::{build, build_here};
 pub use class_files::linked_program;
-pub use command_line::{
-    Build, Building, Lazy, Renew, Replay, Request, Run, WordsFault, request_of,
-};
+pub use command_line::{Build, Building, Lazy, Renew, Replay, Request, Run, WordsFault, line};
+pub use entries::entries_of;
 pub use fault::Refusal;
 pub use files::{FileFault, Files};
 pub use image_build::{GREATEST_LENGTH, build_image};
 pub use image_reader::ImageFault;
 pub use image_run::{ImageRun, run_image};
 pub use init_engine::Rest;
-pub use lazy::{LazyRun, Shown, entries_of, run_class_files};
+pub use lazy::{LazyRun, Shown, run_class_files};
 pub use renewing::renewed_image;
 pub use run::{End, Held, command, command_holding};
 pub use running::{Ran, RunFault, run_world};
 pub use status::{Status, status_of};
 pub use threads::thread_lines;
+pub use watching::{Stage, Unwatched, Watch};

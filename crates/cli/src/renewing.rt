@@ -1,12 +1,13 @@
 //! From an image's bytes to those of the same image in the version that is written, and the command `renew` over it.
-ghost use Rattle.std.specs.Prelude.{◌≡◌, ◌⊎◌, List, Option, IfErr, IfOk};
+ghost use Rattle.std.specs.Prelude.{◌≡◌, ◌⊎◌, List, Option, IfErr, IfOk, OnOk};
 ghost use Rattle.loading.specs.Families.{Family as Classes};
 ghost use Rattle.image_format.specs.declared.region.ImageRegion.{ImageRegion as Told};
 ghost use Rattle.image_format.specs.Images.{ImageText};
+ghost use Rattle.cli.specs.Done.{HasRenewed};
 ghost use Rattle.cli.specs.Renewals.{IsNoImage, IsRenewed};
 ghost use Rattle.cli.specs.declared.fault.Refusal.TheVariants.{Memory};
 
-use crate::files::put;
+use crate::files::{get, put};
 use crate::{Files, Refusal, Renew};
 use image_reader::read;
 use image_writer::image_text;
@@ -38,16 +39,10 @@ pub fn renewed_image(alloc: Global, bytes: &[u8]) -> Result<Vec<u8>, Refusal>
 ///
 /// # Errors
 /// The first refusal: the image's file, the image, the new file, or memory.
-pub(crate) fn run<F: Files>(
-    alloc: Global,
-    words: &Renew<'_>,
-    files: &mut F,
-) -> Result<(), Refusal> {
-    match files.get(words.image) {
-        Ok(bytes) => {
-            let renewed = renewed_image(alloc, bytes.as_slice())?;
-            put(alloc, words.new, renewed.as_slice(), files)
-        }
-        Err(fault) => Err(Refusal::of_file(alloc, words.image, fault)),
-    }
+pub(crate) fn run<F: Files>(alloc: Global, words: &Renew<'_>, files: &mut F) -> Result<(), Refusal>
+    ensures { OnOk result (HasRenewed (F.holds files.old) (F.holds files.new) words.now) }
+{
+    let bytes = get(alloc, words.image, files)?;
+    let renewed = renewed_image(alloc, bytes.as_slice())?;
+    put(alloc, words.new, renewed.as_slice(), files)
 }

@@ -1,5 +1,6 @@
 //! The command `report`: a build in memory, and a line for each class.
 ghost use Rattle.std.specs.Prelude.{◌≡◌, IfOk};
+ghost use Rattle.cli.specs.Done.{IsReport};
 ghost use Rattle.report.specs.Texts.{report_text};
 ghost use Rattle.report.specs.Waves.{GiveWaves};
 
@@ -20,7 +21,10 @@ pub(crate) fn run<F: Files>(
     alloc: Global,
     words: &Building<'_>,
     files: &mut F,
-) -> Result<Vec<u8>, Refusal> {
+) -> Result<Vec<u8>, Refusal>
+    ensures report { IfOk result (λ bytes. IsReport (F.holds files.old) words.now bytes.items) }
+    ensures same { F.holds files.new ≡ F.holds files.old }
+{
     let texts = contents(alloc, words.files.as_slice(), files, usize::MAX)?;
     match build_here(alloc, texts.as_slice(), &options_of(words)) {
         Ok(built) => Ok(report_bytes(alloc, &built)?),

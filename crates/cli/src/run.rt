@@ -1,22 +1,26 @@
 //! One command, from its words to its exit status.
-ghost use Rattle.std.specs.Prelude.{◌≡◌, ◌≢◌, ◌≤◌, ◌⊎◌};
-ghost use Rattle.init_engine.specs.Schedules.{AreRuns};
+ghost use Rattle.std.specs.Prelude.{◌≡◌, ◌≢◌, ◌≤◌, ◌⊎◌, OnOk};
+ghost use Rattle.command_line.specs.Requests.{texts};
+ghost use Rattle.init_engine.specs.Schedules.{AreRuns, schedule_of};
 ghost use Rattle.init_engine.specs.Turns.{world_of};
-ghost use Rattle.cli.specs.Begins.{IsBegun, IsFirst};
-ghost use Rattle.cli.specs.Journaled.{IsOutcome, IsReplayed};
-ghost use Rattle.cli.specs.Refusal.{refusal_status};
-ghost use Rattle.cli.specs.Running.{IsOfRun};
-ghost use Rattle.cli.specs.Status.{run_status};
+ghost use Rattle.cli.specs.Done.{AskFor, DidWords, HasEndedByTurns, HasEndedWithJournal, IsDone, IsWritten, IsWrittenTo};
+ghost use Rattle.cli.specs.Journaled.{IsOutcome};
+ghost use Rattle.cli.specs.Running.{IsCutShort, IsOfRun};
+ghost use Rattle.cli.specs.Status.{IsOver, code_of, run_status};
 
-use crate::by_threads::{ImageSeen, Journaled, replayed, run_by_threads};
+use crate::by_threads::{Journaled, replayed, run_by_threads};
+use crate::files::put;
 use crate::image_run::ImageStart;
 use crate::lazy::LazyStart;
-use crate::running::send_seen;
-use crate::{
-    Files, Lazy, Ran, Refusal, Replay, Request, Run, RunFault, Status, WordsFault, image_build,
-    image_run, lazy, renewing, reporting, request_of, run_world, status_of, thread_lines,
+use crate::outputs::overwritten;
+use crate::telling::{
+    refuse, tell_done, tell_endings, tell_overwritten, tell_replay, tell_report, tell_words,
 };
-use init_engine::{Ending, World};
+use crate::{
+    Files, Lazy, Ran, Refusal, Replay, Request, Run, RunFault, Status, Unwatched, Watch,
+    image_build, image_run, lazy, line, renewing, reporting, run_world, status_of,
+};
+use init_engine::World;
 use journal::Journal;
 use object_graph::Image;
 use program::Program;
@@ -30,7 +34,8 @@ use std::thread::Threads;
 ///
 /// - 0: done; all threads of a run returned. Help that was asked for is 0 too.
 /// - 1: refused. Standard error gets `preinit: ` and the refusal's text.
-/// - 2: the words are no command. Standard error gets what is wrong with them.
+/// - 2: the words are no command, or name a file for output that they name for input. Standard error gets what is wrong
+///   with them. No file is read.
 /// - 3: a file or standard output failed, told as a refusal is.
 /// - 4: stuck; 5: the limit was reached with a thread that still has a step; 6: all threads ended,
 ///   and not all returned.
@@ -48,15 +53,20 @@ pub fn command<R: Threads + Wait + Sync, F: Files, W: Write + Send + Drop, E: Wr
     errors: &mut E,
 ) -> (u8, W)
     ensures range { result.0 ≤ 6 }
-    // Lines that a run sent before memory or a thread was refused cannot be taken back.
-    ensures refused { result.0 ≡ 1 → (result.1 ≡ out) ⊎ IsOfRun (W.contents out) (W.contents result.1) }
+    // Lines that a run sent before memory or a thread was refused cannot be taken back: of a run that the words ask for,
+    // of what the files hold that they name.
+    ensures refused { result.0 ≡ 1 → (result.1 ≡ out) ⊎ AskFor (texts words.now)
+        (λ request. IsOfRun (F.holds files.old) request (W.contents out) (W.contents result.1)) }
     ensures words { result.0 ≡ 2 → result.1 ≡ out }
+    // With 0, 4, 5 and 6 what the words ask for is done.
+    ensures done { (status : Status) → result.0 ≡ code_of status → IsOver status → DidWords (texts words.now)
+        (F.holds files.old) (F.holds files.new) (W.contents out) (W.contents result.1) status }
 {
     let End {
         status,
         out,
         held: _,
-    } = command_holding(rt, alloc, words, files, out, errors);
+    } = command_holding(rt, alloc, words, files, out, errors, &Unwatched);
     (status, out)
 }
 
@@ -78,20 +88,22 @@ pub struct End<W> {
     pub held: Held,
 }
 
-/// Does the same as `command`, and answers what ran too.
-pub fn command_holding<R: Threads + Wait + Sync, F: Files, W: Write + Send + Drop, E: Write>(
-    rt: &R,
-    alloc: Global,
-    words: &[&str],
-    files: &mut F,
-    out: W,
-    errors: &mut E,
-) -> End<W>
+/// Does the same as `command`, and answers what ran too. A build tells how far it has come.
+pub fn command_holding<
+    R: Threads + Wait + Sync,
+    F: Files,
+    W: Write + Send + Drop,
+    E: Write,
+    H: Watch + Sync,
+>(rt: &R, alloc: Global, words: &[&str], files: &mut F, out: W, errors: &mut E, watch: &H) -> End<W>
     ensures range { result.status ≤ 6 }
-    ensures refused { result.status ≡ 1 → (result.out ≡ out) ⊎ IsOfRun (W.contents out) (W.contents result.out) }
+    ensures refused { result.status ≡ 1 → (result.out ≡ out) ⊎ AskFor (texts words.now)
+        (λ request. IsOfRun (F.holds files.old) request (W.contents out) (W.contents result.out)) }
     ensures words { result.status ≡ 2 → result.out ≡ out }
+    ensures done { (status : Status) → result.status ≡ code_of status → IsOver status → DidWords (texts words.now)
+        (F.holds files.old) (F.holds files.new) (W.contents out) (W.contents result.out) status }
 {
-    let (status, held, out) = do_words(rt, alloc, words, files, out, errors);
+    let (status, held, out) = do_words(rt, alloc, words, files, out, errors, watch);
     End {
         status: status.code(),
         out,
@@ -100,40 +112,55 @@ pub fn command_holding<R: Threads + Wait + Sync, F: Files, W: Write + Send + Dro
 }
 
 /// Does the command of the words, if they are one. Answers standard output back.
-fn do_words<R: Threads + Wait + Sync, F: Files, W: Write + Send + Drop, E: Write>(
+fn do_words<R: Threads + Wait + Sync, F: Files, W: Write + Send + Drop, E: Write, H: Watch + Sync>(
     rt: &R,
     alloc: Global,
     words: &[&str],
     files: &mut F,
     mut out: W,
     errors: &mut E,
+    watch: &H,
 ) -> (Status, Held, W)
-    ensures refused { result.0 ≡ Status.Refused
-        → (result.2 ≡ out) ⊎ IsOfRun (W.contents out) (W.contents result.2) }
+    ensures refused { result.0 ≡ Status.Refused → (result.2 ≡ out) ⊎ AskFor (texts words.now)
+        (λ request. IsOfRun (F.holds files.old) request (W.contents out) (W.contents result.2)) }
     ensures words { result.0 ≡ Status.Words → result.2 ≡ out }
+    ensures done { IsOver result.0 → DidWords (texts words.now) (F.holds files.old) (F.holds files.new)
+        (W.contents out) (W.contents result.2) result.0 }
 {
-    match request_of(alloc, words) {
-        Ok(request) => do_request(rt, alloc, &request, files, out, errors),
+    match line(alloc, words) {
+        Ok(request) => match overwritten(&request, files) {
+            Some(name) => (tell_overwritten(name, errors), Held::Nothing, out),
+            None => do_request(rt, alloc, &request, files, out, errors, watch),
+        },
         Err(fault) => (tell_words(&fault, &mut out, errors), Held::Nothing, out),
     }
 }
 
 /// Does the command of a request. Answers standard output back.
-fn do_request<R: Threads + Wait + Sync, F: Files, W: Write + Send + Drop, E: Write>(
+fn do_request<
+    R: Threads + Wait + Sync,
+    F: Files,
+    W: Write + Send + Drop,
+    E: Write,
+    H: Watch + Sync,
+>(
     rt: &R,
     alloc: Global,
     request: &Request<'_>,
     files: &mut F,
     mut out: W,
     errors: &mut E,
+    watch: &H,
 ) -> (Status, Held, W)
-    ensures refused { result.0 ≡ Status.Refused
-        → (result.2 ≡ out) ⊎ IsOfRun (W.contents out) (W.contents result.2) }
+    ensures refused { result.0 ≡ Status.Refused → (result.2 ≡ out)
+        ⊎ IsOfRun (F.holds files.old) request.now (W.contents out) (W.contents result.2) }
     ensures words { result.0 ≢ Status.Words }
+    ensures done { IsOver result.0 → IsDone (F.holds files.old) (F.holds files.new) (W.contents out)
+        (W.contents result.2) request.now result.0 }
 {
     match request {
         Request::Build(words) => {
-            let status = tell_done(image_build::run(rt, alloc, words, files), errors);
+            let status = tell_done(image_build::run(rt, alloc, words, files, watch), errors);
             (status, Held::Nothing, out)
         }
         Request::Lazy(words) => {
@@ -164,9 +191,11 @@ fn run_lazily<F: Files, W: Write, E: Write>(
     out: &mut W,
     errors: &mut E,
 ) -> (Status, Held)
-    ensures refused { result.0 ≡ Status.Refused
-        → (out.new ≡ out.old) ⊎ IsOfRun (W.contents out.old) (W.contents out.new) }
+    ensures refused { result.0 ≡ Status.Refused → (out.new ≡ out.old)
+        ⊎ IsOfRun (F.holds files.old) (Request.Lazy words.now) (W.contents out.old) (W.contents out.new) }
     ensures words { result.0 ≢ Status.Words }
+    ensures done { IsOver result.0 → IsDone (F.holds files.old) (F.holds files.new) (W.contents out.old)
+        (W.contents out.new) (Request.Lazy words.now) result.0 }
 {
     match lazy::begin(alloc, words, files) {
         Ok(LazyStart { program, world }) => {
@@ -186,11 +215,13 @@ fn run_image<R: Threads + Wait + Sync, F: Files, W: Write + Send + Drop, E: Writ
     out: W,
     errors: &mut E,
 ) -> (Status, Held, W)
-    ensures refused { result.0 ≡ Status.Refused
-        → (result.2 ≡ out) ⊎ IsOfRun (W.contents out) (W.contents result.2) }
+    ensures refused { result.0 ≡ Status.Refused → (result.2 ≡ out)
+        ⊎ IsOfRun (F.holds files.old) (Request.Run words.now) (W.contents out) (W.contents result.2) }
     ensures words { result.0 ≢ Status.Words }
+    ensures done { IsOver result.0 → IsDone (F.holds files.old) (F.holds files.new) (W.contents out)
+        (W.contents result.2) (Request.Run words.now) result.0 }
 {
-    match image_run::start(alloc, words, files) {
+    match image_run::start(alloc, words.image, words.entries, files) {
         Ok(ImageStart { image, world }) => {
             let (status, out) = run_told(
                 rt,
@@ -219,9 +250,11 @@ fn run_told<R: Threads + Wait + Sync, F: Files, W: Write + Send + Drop, E: Write
     out: W,
     errors: &mut E,
 ) -> (Status, W)
-    requires { IsFirst program.now (world_of world) }
-    ensures refused { result.0 ≡ Status.Refused → IsOfRun (W.contents out) (W.contents result.1) }
+    ensures refused { result.0 ≡ Status.Refused
+        → IsCutShort program.now (world_of world) (W.contents out) (W.contents result.1) RunFault.Memory }
     ensures words { result.0 ≢ Status.Words }
+    ensures done { IsOver result.0 → HasEndedWithJournal (F.holds files.old) (F.holds files.new) words.now.journal
+        program.now (world_of world) (W.contents out) (W.contents result.1) result.0 }
 {
     let (outcome, out) = run_as_said(rt, alloc, program, world, words, out);
     match outcome {
@@ -295,7 +328,9 @@ fn tell_run<F: Files, E: Write>(
     errors: &mut E,
 ) -> Status
     requires { ran.now.status ≢ Status.Words }
-    ensures { result ≢ Status.Words }
+    ensures words { result ≢ Status.Words }
+    ensures done { IsOver result → (result ≡ ran.now.status)
+        × IsWritten (F.holds files.old) (F.holds files.new) words.now.journal (schedule_of ran.now.journal) }
 {
     let status = tell_endings(alloc, program, ran.threads.as_slice(), ran.status, errors);
     let Some(name) = words.journal else {
@@ -313,12 +348,12 @@ fn write_journal<F: Files>(
     name: &str,
     journal: &Journal,
     files: &mut F,
-) -> Result<(), Refusal> {
+) -> Result<(), Refusal>
+    ensures { OnOk result
+        (IsWrittenTo (F.holds files.old) (F.holds files.new) name.now (schedule_of journal.now)) }
+{
     let text = journal.text(alloc)?;
-    match files.put(name, text.as_slice()) {
-        Ok(()) => Ok(()),
-        Err(fault) => Err(Refusal::of_file(alloc, name, fault)),
-    }
+    put(alloc, name, text.as_slice(), files)
 }
 
 /// Does the command `replay`.
@@ -329,9 +364,11 @@ fn replay_image<F: Files, W: Write, E: Write>(
     out: &mut W,
     errors: &mut E,
 ) -> (Status, Held)
-    ensures refused { result.0 ≡ Status.Refused
-        → (out.new ≡ out.old) ⊎ IsOfRun (W.contents out.old) (W.contents out.new) }
+    ensures refused { result.0 ≡ Status.Refused → (out.new ≡ out.old)
+        ⊎ IsOfRun (F.holds files.old) (Request.Replay words.now) (W.contents out.old) (W.contents out.new) }
     ensures words { result.0 ≢ Status.Words }
+    ensures done { IsOver result.0 → IsDone (F.holds files.old) (F.holds files.new) (W.contents out.old)
+        (W.contents out.new) (Request.Replay words.now) result.0 }
 {
     match replayed(alloc, words, files) {
         Ok((seen, status)) => {
@@ -339,54 +376,6 @@ fn replay_image<F: Files, W: Write, E: Write>(
             (status, Held::Image(seen.image))
         }
         Err(refusal) => (refuse(&refusal, errors), Held::Nothing),
-    }
-}
-
-/// Tells what a replay has shown.
-fn tell_replay<W: Write, E: Write>(
-    alloc: Global,
-    replayed: &ImageSeen,
-    status: Status,
-    out: &mut W,
-    errors: &mut E,
-) -> Status
-    requires { IsReplayed replayed.now status }
-    ensures refused { result ≡ Status.Refused → IsOfRun (W.contents out.old) (W.contents out.new) }
-    ensures words { result ≢ Status.Words }
-{
-    let program = replayed.image.program();
-    match send_seen(alloc, &replayed.seen, out) {
-        Ok(()) => tell_endings(
-            alloc,
-            program,
-            replayed.seen.threads.as_slice(),
-            status,
-            errors,
-        ),
-        Err(RunFault::Memory) => refuse(&Refusal::Memory, errors),
-        Err(RunFault::Device) => refuse(&Refusal::Device, errors),
-    }
-}
-
-/// Tells how threads ended.
-fn tell_endings<E: Write>(
-    alloc: Global,
-    program: &Program,
-    threads: &[Ending],
-    status: Status,
-    errors: &mut E,
-) -> Status
-    requires { status ≢ Status.Words }
-    ensures { result ≢ Status.Words }
-{
-    match thread_lines(alloc, program, threads) {
-        Ok(lines) => {
-            // A failure of standard error is ignored.
-            let _ = errors.write_all(lines.as_bytes());
-            let _ = errors.flush();
-            status
-        }
-        Err(_) => refuse(&Refusal::Memory, errors),
     }
 }
 
@@ -399,9 +388,11 @@ fn run_from<W: Write, E: Write>(
     out: &mut W,
     errors: &mut E,
 ) -> Status
-    requires { IsBegun program.now (world_of world) }
-    ensures refused { result ≡ Status.Refused → IsOfRun (W.contents out.old) (W.contents out.new) }
+    ensures refused { result ≡ Status.Refused
+        → IsCutShort program.now (world_of world) (W.contents out.old) (W.contents out.new) RunFault.Memory }
     ensures words { result ≢ Status.Words }
+    ensures done { IsOver result → HasEndedByTurns program.now (world_of world) limit (W.contents out.old)
+        (W.contents out.new) result }
 {
     match run_world(alloc, program, world, limit, out) {
         Ok(ran) => {
@@ -417,73 +408,4 @@ fn run_from<W: Write, E: Write>(
         Err(RunFault::Memory) => refuse(&Refusal::Memory, errors),
         Err(RunFault::Device) => refuse(&Refusal::Device, errors),
     }
-}
-
-/// Tells why a command that has nothing else to tell was refused, if it was.
-fn tell_done<E: Write>(done: Result<(), Refusal>, errors: &mut E) -> Status
-    ensures { result ≢ Status.Words }
-{
-    match done {
-        Ok(()) => Status::Done,
-        Err(refusal) => refuse(&refusal, errors),
-    }
-}
-
-/// Tells a report, or why there is none.
-fn tell_report<W: Write, E: Write>(
-    report: Result<Vec<u8>, Refusal>,
-    out: &mut W,
-    errors: &mut E,
-) -> Status
-    ensures refused { result ≡ Status.Refused → out.new ≡ out.old }
-    ensures words { result ≢ Status.Words }
-{
-    match report {
-        Ok(report) => tell_text(report.as_slice(), out, errors),
-        Err(refusal) => refuse(&refusal, errors),
-    }
-}
-
-/// Tells a refusal on standard error.
-fn refuse<E: Write>(refusal: &Refusal, errors: &mut E) -> Status
-    ensures { result ≡ refusal_status refusal.now }
-{
-    // A failure of standard error is ignored.
-    let _ = writeln!(errors, "preinit: {refusal}");
-    let _ = errors.flush();
-    refusal.status()
-}
-
-/// Tells what the words gave in place of a command: help on standard output, and what is wrong with
-/// them on standard error.
-fn tell_words<W: Write, E: Write>(fault: &WordsFault, out: &mut W, errors: &mut E) -> Status
-    ensures refused { result ≡ Status.Refused → out.new ≡ out.old }
-    ensures words { result ≡ Status.Words → out.new ≡ out.old }
-{
-    match fault {
-        WordsFault::Memory => refuse(&Refusal::Memory, errors),
-        WordsFault::Help(text) => tell_text(text.as_bytes(), out, errors),
-        WordsFault::Wrong(text) => tell_wrong(text.as_str(), errors),
-    }
-}
-
-/// Tells help or a report on standard output.
-fn tell_text<W: Write, E: Write>(text: &[u8], out: &mut W, errors: &mut E) -> Status
-    ensures refused { result ≢ Status.Refused }
-    ensures words { result ≢ Status.Words }
-{
-    if out.write_all(text).is_err() || out.flush().is_err() {
-        return refuse(&Refusal::Device, errors);
-    }
-    Status::Done
-}
-
-/// Tells what is wrong with the words on standard error.
-fn tell_wrong<E: Write>(text: &str, errors: &mut E) -> Status
-    ensures { result ≡ Status.Words }
-{
-    // A failure of standard error is ignored.
-    let _ = errors.write_all(text.as_bytes());
-    let _ = errors.flush();
-    Status::Words
 }

@@ -13,7 +13,7 @@ use std::alloc::{AllocError, Global};
 use std::io::Write;
 
 /// How many steps a world makes at most before what it printed goes out.
-const STEPS: u64 = 1_000_000;
+const STEPS: u64 = 50_000;
 
 /// After how many bytes of text these go out.
 const BYTES: u64 = 65_536;

@@ -1,7 +1,6 @@
 //! The words of the command line.
 //!
-//! [`request_of`] reads the words after the program's name: a command and what they ask for, or a [`WordsFault`].
-//! [`line`] does the same, with a contract over the matches of `clap`.
+//! [`line`] reads the words after the program's name: a command and what they ask for, or a [`WordsFault`].
 #![tactic(auto)]
 
 mod commands;
@@ -10,9 +9,7 @@ mod matched;
 mod parsed;
 mod request;
 mod texts;
-mod words;
 
 pub use fault::WordsFault;
 pub use matched::line;
 pub use request::{Build, Building, Lazy, Renew, Replay, Request, Run};
-pub use words::request_of;

@@ -2,56 +2,17 @@
 //! `preinit --help` says what it does.
 #![tactic(auto)]
 
-use cli::{End, FileFault, Files, Refusal, Status, command_holding};
-use std::alloc::Global;
-use std::io::{self, ErrorKind, Read, Write};
+mod disk;
+mod progress;
+
+use cli::{End, Refusal, Status, Unwatched, command_holding};
+use disk::Disk;
+use progress::Progress;
+use std::io::{self, ErrorKind, IsTerminal, Write};
 use std::process::ExitCode;
 use std::sync::Wait;
-use std::thread::Threads;
-use std::{env, fs, mem, rt};
-
-/// How many bytes are read at once: most class files have fewer.
-const PIECE: usize = 16_384;
-
-/// The files of the system, by their paths.
-#[derive(Drop)]
-struct Disk<'a, R> {
-    rt: &'a R,
-    /// What each read fills anew.
-    piece: [u8; PIECE],
-}
-
-impl<R: rt::Files + AllocGlobal> Files for Disk<'_, R> {
-    fn get(&mut self, name: &str) -> Result<Vec<u8>, FileFault> {
-        let mut file = fs::open(self.rt, name).map_err(file_fault)?;
-        read_all(self.rt.alloc(), &mut file, &mut self.piece).map_err(file_fault)
-    }
-
-    fn put(&mut self, name: &str, bytes: &[u8]) -> Result<(), FileFault> {
-        fs::write(self.rt, name, bytes).map_err(file_fault)
-    }
-}
-
-/// What is left of a file, read piece by piece.
-fn read_all<F: Read>(alloc: Global, file: &mut F, piece: &mut [u8]) -> io::Result<Vec<u8>> {
-    let mut bytes = Vec::new(alloc);
-    for _ in 0..u64::MAX {
-        match file.read(piece) {
-            Ok(0) => break,
-            Ok(count) => bytes.extend_from_slice(&piece[..count])?,
-            Err(error) if error.kind() == ErrorKind::Interrupted => {}
-            Err(error) => return Err(error),
-        }
-    }
-    Ok(bytes)
-}
-
-fn file_fault(error: io::Error) -> FileFault {
-    match error.kind() {
-        ErrorKind::OutOfMemory => FileFault::Memory,
-        _ => FileFault::Device,
-    }
-}
+use std::thread::{self, Threads};
+use std::{env, mem, rt};
 
 /// Why there was no command to do.
 #[derive(Drop)]
@@ -61,15 +22,16 @@ enum Stop {
     Words,
 }
 
-/// Does the command that the words of the process name.
-fn run<R, W, E>(rt: &R, out: W, errors: &mut E) -> Result<u8, Stop>
+/// Does the command that the words of the process name. A long build tells how far it has come, if it is said where.
+fn run<R, W, E, P>(rt: &R, out: W, errors: &mut E, terminal: Option<P>) -> Result<u8, Stop>
 where
-    R: rt::Env + rt::Files + AllocGlobal + Threads + Wait + Sync,
+    R: rt::Env + rt::Files + rt::Clock + AllocGlobal + Threads + Wait + Sync,
     W: Write + Send + Drop,
     E: Write,
+    P: Write + Send + Drop,
 {
     let texts = texts_of(rt)?;
-    run_words(rt, texts.as_slice(), out, errors)
+    run_words(rt, texts.as_slice(), out, errors, terminal)
 }
 
 /// The words of the process, the program's name first.
@@ -88,11 +50,18 @@ fn stop_of(error: io::Error) -> Stop {
 }
 
 /// Does the command that these words name, after the program's name.
-fn run_words<R, W, E>(rt: &R, texts: &[String], out: W, errors: &mut E) -> Result<u8, Stop>
+fn run_words<R, W, E, P>(
+    rt: &R,
+    texts: &[String],
+    out: W,
+    errors: &mut E,
+    terminal: Option<P>,
+) -> Result<u8, Stop>
 where
-    R: rt::Files + AllocGlobal + Threads + Wait + Sync,
+    R: rt::Files + rt::Clock + AllocGlobal + Threads + Wait + Sync,
     W: Write + Send + Drop,
     E: Write,
+    P: Write + Send + Drop,
 {
     let alloc = rt.alloc();
     let words: Vec<&str> = texts
@@ -101,23 +70,60 @@ where
         .map(|text| text.as_str())
         .collect(alloc)
         .map_err(|_| Stop::Memory)?;
-    let mut disk = Disk {
-        rt,
-        piece: [0; PIECE],
-    };
+    let words = words.as_slice();
     let End {
         status,
         out: _,
         held,
-    } = command_holding(rt, alloc, words.as_slice(), &mut disk, out, errors);
+    } = match terminal {
+        Some(terminal) if is_build(words) => run_watched(rt, words, out, errors, terminal),
+        _ => command_holding(
+            rt,
+            alloc,
+            words,
+            &mut Disk::new(rt),
+            out,
+            errors,
+            &Unwatched,
+        ),
+    };
     // The process ends with it.
     mem::forget(held);
     Ok(status)
 }
 
+fn is_build(words: &[&str]) -> bool {
+    matches!(words.first(), Some(word) if *word == "build")
+}
+
+/// Does a build, while another thread tells on the terminal how far it has come.
+fn run_watched<R, W, E, P>(rt: &R, words: &[&str], out: W, errors: &mut E, terminal: P) -> End<W>
+where
+    R: rt::Files + rt::Clock + AllocGlobal + Threads + Wait + Sync,
+    W: Write + Send + Drop,
+    E: Write,
+    P: Write + Send + Drop,
+{
+    let progress = Progress::new(rt, terminal);
+    let watch = || progress.tell();
+    let build = || {
+        let mut disk = Disk::new(rt);
+        let end = command_holding(rt, rt.alloc(), words, &mut disk, out, errors, &progress);
+        progress.end();
+        end
+    };
+    let ((), end) = thread::join(rt, watch, build);
+    end
+}
+
 fn main(rt: HostRuntime) -> ExitCode {
     let mut errors = rt.stderr();
-    let status = match run(&rt, rt.stdout(), &mut errors) {
+    let terminal = if errors.is_terminal() {
+        Some(rt.stderr())
+    } else {
+        None
+    };
+    let status = match run(&rt, rt.stdout(), &mut errors, terminal) {
         Ok(status) => status,
         Err(Stop::Memory) => {
             let refusal = Refusal::Memory;

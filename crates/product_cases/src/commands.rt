@@ -5,7 +5,7 @@ use crate::command_runs::{self, words_of};
 use crate::shelf::Shelf;
 use cli::{
     Build, Building, Lazy, Refusal, Renew, Replay, Request, Rest, Run, Status, entries_of,
-    linked_program, request_of, status_of, thread_lines,
+    line, linked_program, status_of, thread_lines,
 };
 use init_engine::Ending;
 use program::Program;
@@ -143,7 +143,7 @@ fn of_part(alloc: Global, shelf: &Shelf, asked: &str) -> Result<String, AllocErr
 /// What the words of a text ask for.
 fn request(alloc: Global, text: &str) -> Result<String, AllocError> {
     let words = words_of(alloc, text)?;
-    match request_of(alloc, &words) {
+    match line(alloc, &words) {
         Ok(Request::Build(build)) => build_text(alloc, &build),
         Ok(Request::Lazy(lazy)) => lazy_text(alloc, &lazy),
         Ok(Request::Report(building)) => building_text(alloc, "report", &building),

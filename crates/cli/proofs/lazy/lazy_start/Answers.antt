@@ -13,9 +13,10 @@ returns-in-Ok-clause-program c =
 pub returns-in-Ok-clause-refusal : goal.returns-in-Ok-clause-refusal
 returns-in-Ok-clause-refusal c =
     IfErr-weaker c.started.result _ _
-    (λ r wrong. refused_entries (texts_of c.args.files.now) c.args.entries.now c.in-Ok.program r
+    (λ r wrong. refused_entries (texts_of c.args.files.now) c.args.entries.now c.in-Ok.program r c.requires
     c.in-Ok.ensures.program wrong) c.started.ensures.refusal
 
 pub returns-in-Err-clause-refusal : goal.returns-in-Err-clause-refusal
 returns-in-Err-clause-refusal c =
-    refused_texts (texts_of c.args.files.now) c.args.entries.now c.in-Err.refusal c.in-Err.ensures.refusal
+    refused_texts (texts_of c.args.files.now) c.args.entries.now c.in-Err.refusal c.requires
+    c.in-Err.ensures.refusal

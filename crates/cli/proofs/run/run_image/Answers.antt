@@ -1,7 +1,22 @@
-use Rattle.std.proofs.Common.{sym}
-use Rattle.cli.specs.Begins.{from_image}
+use Rattle.std.proofs.Common.{◌≡◌, inr, ap, subst}
+use Rattle.init_engine.specs.Turns.{world_of}
+use Rattle.cli.specs.Done.{HasRunImage}
+use Rattle.cli.specs.Files.{Contents}
+use Rattle.cli.proofs.BeginsLemmas.{has_run_image, of_image_run}
 use Rattle.cli.proofs.run.run_image.Goals as goal
 
-pub run_told-status-requires-after_bounds : goal.run_told-status-requires-after_bounds
-run_told-status-requires-after_bounds g c κs within =
-    from_image c.in-Ok.field-0.image (sym c.program.ensures) c.in-Ok.ensures
+pub returns-in-Ok-clause-refused : goal.returns-in-Ok-clause-refused
+returns-in-Ok-clause-refused g c = λ refused.
+    inr (of_image_run (g.F.Files.holds c.args.files.now) (world_of c.in-Ok.field-0.world)
+    (g.W.Write.contents c.args.out) (g.W.Write.contents c.run_told-status.result.1) c.args.words.now
+    c.in-Ok.field-0.image c.program.result.now c.program.ensures c.in-Ok.ensures.begun
+    (c.run_told-status.ensures.refused refused))
+
+pub returns-in-Ok-clause-done : goal.returns-in-Ok-clause-done
+returns-in-Ok-clause-done g c = λ over.
+    let before = g.W.Write.contents c.args.out in
+    let after = g.W.Write.contents c.run_told-status.result.1 in
+    let new = g.F.Files.holds c.run_told-status.new.files in
+    has_run_image (g.F.Files.holds c.args.files.now) (world_of c.in-Ok.field-0.world) before after new
+    c.args.words.now c.in-Ok.field-0.image c.program.result.now c.run_told-status.result.0 c.program.ensures
+    c.in-Ok.ensures.begun (rw c.start.ensures.same at (c.run_told-status.ensures.done over))

@@ -1,17 +1,25 @@
 use Rattle.std.proofs.Common.{◌∙◌, sym}
 use Rattle.init_engine.specs.Turns.{world_of}
 use Rattle.cli.specs.Refusal.{refusal_status}
-use Rattle.cli.proofs.JournaledLemmas.{of_journaled, of_refused}
+use Rattle.cli.proofs.JournaledLemmas.{cut_if_refused, ended_with_journal, journaled_cut_at_end}
 use Rattle.cli.proofs.run.run_told.Goals as goal
 
 pub returns-in-Ok-clause-refused : goal.returns-in-Ok-clause-refused
 returns-in-Ok-clause-refused g c = λ refused.
-    of_journaled c.args.program.now (world_of c.args.world) (g.W.Write.contents c.args.out)
-    (g.W.Write.contents c.run_as_said-outcome.result.1) c.in-Ok.ran c.requires
+    journaled_cut_at_end c.args.program.now (world_of c.args.world) (g.W.Write.contents c.args.out)
+    (g.W.Write.contents c.run_as_said-outcome.result.1) c.in-Ok.ran
     (rw c.in-Ok.is at c.run_as_said-outcome.ensures)
+
+pub returns-in-Ok-clause-done : goal.returns-in-Ok-clause-done
+returns-in-Ok-clause-done g c = λ over.
+    let told = c.tell_run.ensures.done over in
+    ended_with_journal (g.F.Files.holds c.args.files.now) (g.F.Files.holds c.tell_run.new.files)
+    c.args.words.now.journal c.args.program.now (world_of c.args.world) (g.W.Write.contents c.args.out)
+    (g.W.Write.contents c.run_as_said-outcome.result.1) c.in-Ok.ran c.tell_run.result
+    (rw c.in-Ok.is at c.run_as_said-outcome.ensures) told.0 told.1
 
 pub returns-in-Err-clause-refused : goal.returns-in-Err-clause-refused
 returns-in-Err-clause-refused g c = λ refused.
-    of_refused c.args.program.now (world_of c.args.world) (g.W.Write.contents c.args.out)
-    (g.W.Write.contents c.run_as_said-outcome.result.1) (refusal_status c.in-Err.refusal) c.requires
+    cut_if_refused c.args.program.now (world_of c.args.world) (g.W.Write.contents c.args.out)
+    (g.W.Write.contents c.run_as_said-outcome.result.1) (refusal_status c.in-Err.refusal)
     (rw c.in-Err.is at c.run_as_said-outcome.ensures) (sym c.refuse.ensures ∙ refused)

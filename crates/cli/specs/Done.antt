@@ -1,0 +1,176 @@
+-- What a command has done that was not refused, by what its words ask for: what its files held and hold, and what
+-- standard output got.
+use Rattle.std.specs.Prelude.{◌≡◌, ◌⊎◌, ℕ, List, Option, Some, None, ⊤, length}
+use Rattle.std.specs.Borrow.{Bor}
+use Rattle.std.specs.Io.KnownBytes.{Appends}
+use Rattle.semantics.specs.Worlds.{World, Run as Reaches, seen}
+use Rattle.program.specs.Tables.{Tables}
+use Rattle.machine.specs.Linked.{program_of}
+use Rattle.object_graph.specs.Images.{ImageTables}
+use Rattle.init_engine.specs.Rests.{IsRest}
+use Rattle.init_engine.specs.Rounds.{Turns}
+use Rattle.init_engine.specs.Schedules.{AreRuns, schedule_of}
+use Rattle.init_engine.specs.declared.stuck.Rest.{Rest}
+use Rattle.journal.specs.Journals.{IsJournalOf, lines_of}
+use Rattle.building.specs.Builds.{text_of}
+use Rattle.building.specs.declared.build.Built.{Built}
+use Rattle.report.specs.Texts.{report_text}
+use Rattle.command_line.specs.Requests.{IsLine, texts}
+use Rattle.command_line.specs.declared.request.Build.{Build}
+use Rattle.command_line.specs.declared.request.Building.{Building}
+use Rattle.command_line.specs.declared.request.Lazy.{Lazy}
+use Rattle.command_line.specs.declared.request.Renew.{Renew}
+use Rattle.command_line.specs.declared.request.Replay.{Replay}
+use Rattle.command_line.specs.declared.request.Request.{Request}
+use Rattle.command_line.specs.declared.request.Request.TheVariants as requests
+use Rattle.command_line.specs.declared.request.Run.{Run}
+use Rattle.cli.specs.Begins.{IsBegun, IsBegunFromImage}
+use Rattle.cli.specs.Builds.{IsBuildOfClassFiles}
+use Rattle.cli.specs.Files.{AreBytesOf, AreTextsOf, Contents, OthersStay}
+use Rattle.cli.specs.ImageBuilds.{IsBuiltText}
+use Rattle.cli.specs.Outputs.{IsApart}
+use Rattle.cli.specs.Renewals.{IsRenewed}
+use Rattle.cli.specs.Running.{lines_text}
+use Rattle.cli.specs.Status.{replay_status, run_status}
+use Rattle.cli.specs.declared.status.Status.{Status}
+use Rattle.cli.specs.declared.status.Status.TheVariants.{Done}
+
+-- ---- runs
+
+-- A schedule led from a world to this one, the text of which has gone out whole. The status is that of its threads.
+pub record HasEnded (P : Tables) (first : World) (schedule : List ℕ) (last : World) (before after : Option (List ℕ))
+    (status : Status) : Type 0 where
+  pub run : Reaches (program_of P) first schedule last
+  pub rest : Rest
+  pub stands : IsRest (program_of P) last rest
+  pub status_is : status ≡ run_status (seen last).threads rest
+  pub sent : Appends before after (lines_text last.shared.printed)
+
+-- The turns of the threads of a world, of at most so many steps, have ended so.
+pub record HasEndedByTurns (P : Tables) (first : World) (limit : ℕ) (before after : Option (List ℕ)) (status : Status)
+    : Type 0 where
+  pub schedule : List ℕ
+  pub last : World
+  pub turns : Turns (program_of P) (length first.threads) limit first schedule last
+  pub ended : HasEnded P first schedule last before after status
+
+-- The class files ran by turns, from the entries and up to the limit of the words.
+pub record HasRunLazily (holds : Contents) (words : Lazy) (before after : Option (List ℕ)) (status : Status)
+    : Type 0 where
+  pub program : Tables
+  pub first : World
+  pub begun : IsBegun holds words program first
+  pub ended : HasEndedByTurns program first words.limit before after status
+
+-- The file of this name holds the journal of a schedule, and no other file was changed.
+pub record IsWrittenTo (old new : Contents) (name schedule : List ℕ) : Type 0 where
+  pub runs : List (ℕ × ℕ)
+  pub are : AreRuns runs
+  pub schedule_is : schedule ≡ schedule_of runs
+  pub written : AreBytesOf (new name) (lines_of runs)
+  pub others : OthersStay old new name
+
+-- the same of the file for the journal, where the words name one; and else no file was changed
+abbrev pub IsWritten : Contents → Contents → Option (Bor (List ℕ)) → List ℕ → Type 0
+IsWritten old new None schedule = new ≡ old
+IsWritten old new (Some name) schedule = IsWrittenTo old new name.now schedule
+
+-- A run from a world has ended so, and its journal is written.
+pub record HasEndedWithJournal (old new : Contents) (journal : Option (Bor (List ℕ))) (P : Tables) (first : World)
+    (before after : Option (List ℕ)) (status : Status) : Type 0 where
+  pub schedule : List ℕ
+  pub last : World
+  pub ended : HasEnded P first schedule last before after status
+  pub written : IsWritten old new journal schedule
+
+-- The image ran from the entries of the words, and its journal was written.
+pub record HasRunImage (old new : Contents) (words : Run) (before after : Option (List ℕ)) (status : Status) : Type 0 where
+  pub image : ImageTables
+  pub first : World
+  pub begun : IsBegunFromImage old words.image.now words.entries.now image first
+  pub ended : HasEndedWithJournal old new words.journal image.program first before after status
+
+-- The image ran from the entries of the words by the journal that the file holds.
+pub record HasReplayed (holds : Contents) (words : Replay) (before after : Option (List ℕ)) (status : Status)
+    : Type 0 where
+  pub image : ImageTables
+  pub first : World
+  pub begun : IsBegunFromImage holds words.image.now words.entries.now image first
+  pub bytes : List ℕ
+  pub held : AreBytesOf (holds words.journal.now) bytes
+  pub runs : List (ℕ × ℕ)
+  pub journal : IsJournalOf bytes runs
+  pub last : World
+  pub run : Reaches (program_of image.program) first (schedule_of runs) last
+  pub status_is : status ≡ replay_status (seen last).threads
+  pub sent : Appends before after (lines_text last.shared.printed)
+
+-- ---- builds
+
+-- The file of the image holds the text of one that is built of the class files, as the words say.
+pub record HasBuilt (old new : Contents) (words : Build) : Type 0 where
+  pub files : List (List ℕ)
+  pub held : AreTextsOf old (texts words.building.files.items) files
+  pub bytes : List ℕ
+  pub built : IsBuiltText files (text_of words.building.run_time) (text_of words.building.build_time)
+      words.building.budget bytes
+  pub written : AreBytesOf (new words.image.now) bytes
+  pub others : OthersStay old new words.image.now
+
+-- This is the report on a build of the class files, as the words say.
+pub record IsReport (holds : Contents) (words : Building) (report : List ℕ) : Type 0 where
+  pub files : List (List ℕ)
+  pub held : AreTextsOf holds (texts words.files.items) files
+  pub answer : Built
+  pub built : IsBuildOfClassFiles files
+      (record { run_time = words.run_time; build_time = words.build_time; budget = words.budget }) answer
+  pub is : report ≡ report_text answer.image answer.verdicts
+
+-- Such a report went out.
+pub record HasReported (holds : Contents) (words : Building) (before after : Option (List ℕ)) : Type 0 where
+  pub report : List ℕ
+  pub is : IsReport holds words report
+  pub sent : Appends before after report
+
+-- The new file holds the image that the file of the words holds, in the version that is written.
+pub record HasRenewed (old new : Contents) (words : Renew) : Type 0 where
+  pub bytes : List ℕ
+  pub held : AreBytesOf (old words.image.now) bytes
+  pub renewed : List ℕ
+  pub is : IsRenewed bytes renewed
+  pub written : AreBytesOf (new words.new.now) renewed
+  pub others : OthersStay old new words.new.now
+
+-- ---- commands
+
+-- What was done that a request asks for, where the command ends with this status.
+abbrev pub IsDone : Contents → Contents → Option (List ℕ) → Option (List ℕ) → Request → Status → Type 0
+IsDone old new before after (requests.Build words) status =
+    (status ≡ Done) × (after ≡ before) × HasBuilt old new words
+IsDone old new before after (requests.Lazy words) status =
+    (new ≡ old) × HasRunLazily old words before after status
+IsDone old new before after (requests.Renew words) status =
+    (status ≡ Done) × (after ≡ before) × HasRenewed old new words
+IsDone old new before after (requests.Replay words) status =
+    (new ≡ old) × HasReplayed old words before after status
+IsDone old new before after (requests.Report words) status =
+    (status ≡ Done) × (new ≡ old) × HasReported old words before after
+IsDone old new before after (requests.Run words) status = HasRunImage old new words before after status
+
+-- words that were read as a request of which this holds
+pub record AskFor (words : List (List ℕ)) (P : Request → Type 0) : Type 0 where
+  pub request : Request
+  pub read : IsLine words request
+  pub has : P request
+
+-- Help was asked for, and some text went out.
+pub record HasHelped (before after : Option (List ℕ)) (status : Status) : Type 0 where
+  pub text : List ℕ
+  pub sent : Appends before after text
+  pub done : status ≡ Done
+
+-- What was done that the words ask for.
+abbrev pub DidWords : List (List ℕ) → Contents → Contents → Option (List ℕ) → Option (List ℕ) → Status → Type 0
+DidWords words old new before after status =
+    HasHelped before after status
+    ⊎ AskFor words (λ request. IsApart request × IsDone old new before after request status)

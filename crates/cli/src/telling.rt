@@ -1,0 +1,157 @@
+//! What a command tells on standard output and standard error.
+ghost use Rattle.std.specs.Prelude.{◌≡◌, ◌≢◌, ◌⊎◌, IsOk, IsOkAnd};
+ghost use Rattle.std.specs.Io.KnownBytes.{Appends};
+ghost use Rattle.cli.specs.Done.{HasHelped};
+ghost use Rattle.cli.specs.Refusal.{refusal_status};
+ghost use Rattle.cli.specs.Running.{lines_text};
+ghost use Rattle.cli.specs.Status.{IsOver};
+
+use crate::by_threads::ImageSeen;
+use crate::running::send_seen;
+use crate::{Refusal, RunFault, Status, WordsFault, thread_lines};
+use init_engine::Ending;
+use program::Program;
+use std::alloc::Global;
+use std::io::Write;
+
+/// Tells what a replay has shown.
+pub(crate) fn tell_replay<W: Write, E: Write>(
+    alloc: Global,
+    replayed: &ImageSeen,
+    status: Status,
+    out: &mut W,
+    errors: &mut E,
+) -> Status
+    requires { status ≢ Status.Words }
+    // Nothing has gone out, or all that was printed.
+    ensures refused { result ≡ Status.Refused → (W.contents out.new ≡ W.contents out.old)
+        ⊎ Appends (W.contents out.old) (W.contents out.new) (lines_text replayed.now.seen.printed.items) }
+    ensures words { result ≢ Status.Words }
+    ensures done { IsOver result → (result ≡ status)
+        × Appends (W.contents out.old) (W.contents out.new) (lines_text replayed.now.seen.printed.items) }
+{
+    let program = replayed.image.program();
+    match send_seen(alloc, &replayed.seen, out) {
+        Ok(()) => tell_endings(
+            alloc,
+            program,
+            replayed.seen.threads.as_slice(),
+            status,
+            errors,
+        ),
+        Err(RunFault::Memory) => refuse(&Refusal::Memory, errors),
+        Err(RunFault::Device) => refuse(&Refusal::Device, errors),
+    }
+}
+
+/// Tells how threads ended.
+pub(crate) fn tell_endings<E: Write>(
+    alloc: Global,
+    program: &Program,
+    threads: &[Ending],
+    status: Status,
+    errors: &mut E,
+) -> Status
+    requires { status ≢ Status.Words }
+    ensures words { result ≢ Status.Words }
+    ensures done { IsOver result → result ≡ status }
+{
+    match thread_lines(alloc, program, threads) {
+        Ok(lines) => {
+            // A failure of standard error is ignored.
+            let _ = errors.write_all(lines.as_bytes());
+            let _ = errors.flush();
+            status
+        }
+        Err(_) => refuse(&Refusal::Memory, errors),
+    }
+}
+
+/// Tells why a command that has nothing else to tell was refused, if it was.
+pub(crate) fn tell_done<E: Write>(done: Result<(), Refusal>, errors: &mut E) -> Status
+    ensures words { result ≢ Status.Words }
+    ensures done { IsOver result → (result ≡ Status.Done) × IsOk done }
+{
+    match done {
+        Ok(()) => Status::Done,
+        Err(refusal) => refuse(&refusal, errors),
+    }
+}
+
+/// Tells a report, or why there is none.
+pub(crate) fn tell_report<W: Write, E: Write>(
+    report: Result<Vec<u8>, Refusal>,
+    out: &mut W,
+    errors: &mut E,
+) -> Status
+    ensures refused { result ≡ Status.Refused → out.new ≡ out.old }
+    ensures words { result ≢ Status.Words }
+    ensures done { IsOver result → (result ≡ Status.Done)
+        × IsOkAnd report (λ text. Appends (W.contents out.old) (W.contents out.new) text.items) }
+{
+    match report {
+        Ok(report) => tell_text(report.as_slice(), out, errors),
+        Err(refusal) => refuse(&refusal, errors),
+    }
+}
+
+/// Tells a refusal on standard error.
+pub(crate) fn refuse<E: Write>(refusal: &Refusal, errors: &mut E) -> Status
+    ensures { result ≡ refusal_status refusal.now }
+{
+    // A failure of standard error is ignored.
+    let _ = writeln!(errors, "preinit: {refusal}");
+    let _ = errors.flush();
+    refusal.status()
+}
+
+/// Tells what the words gave in place of a command: help on standard output, and what is wrong with
+/// them on standard error.
+pub(crate) fn tell_words<W: Write, E: Write>(
+    fault: &WordsFault,
+    out: &mut W,
+    errors: &mut E,
+) -> Status
+    ensures refused { result ≡ Status.Refused → out.new ≡ out.old }
+    ensures words { result ≡ Status.Words → out.new ≡ out.old }
+    ensures done { IsOver result → HasHelped (W.contents out.old) (W.contents out.new) result }
+{
+    match fault {
+        WordsFault::Memory => refuse(&Refusal::Memory, errors),
+        WordsFault::Help(text) => tell_text(text.as_bytes(), out, errors),
+        WordsFault::Wrong(text) => tell_wrong(text.as_str(), errors),
+    }
+}
+
+/// Tells help or a report on standard output.
+fn tell_text<W: Write, E: Write>(text: &[u8], out: &mut W, errors: &mut E) -> Status
+    ensures refused { result ≢ Status.Refused }
+    ensures words { result ≢ Status.Words }
+    ensures done { IsOver result → (result ≡ Status.Done)
+        × Appends (W.contents out.old) (W.contents out.new) text.now }
+{
+    if out.write_all(text).is_err() || out.flush().is_err() {
+        return refuse(&Refusal::Device, errors);
+    }
+    Status::Done
+}
+
+/// Tells what is wrong with the words on standard error.
+fn tell_wrong<E: Write>(text: &str, errors: &mut E) -> Status
+    ensures { result ≡ Status.Words }
+{
+    // A failure of standard error is ignored.
+    let _ = errors.write_all(text.as_bytes());
+    let _ = errors.flush();
+    Status::Words
+}
+
+/// Tells on standard error that words name a file for output that they name for input.
+pub(crate) fn tell_overwritten<E: Write>(name: &str, errors: &mut E) -> Status
+    ensures { result ≡ Status.Words }
+{
+    // A failure of standard error is ignored.
+    let _ = writeln!(errors, "error: '{name}' is an input and the output");
+    let _ = errors.flush();
+    Status::Words
+}

@@ -1,0 +1,92 @@
+//! Who is told how far a build has come.
+
+use built_in::class_id::ClassId;
+use evaluator::outcome::Outcome;
+use evaluator::regions::Regions;
+use evaluator::settling::settle;
+use program::Program;
+use std::alloc::{AllocError, Global};
+use wave_scheduler::Gate;
+
+/// What a build does.
+#[derive(Clone, Copy, Debug)]
+pub enum Stage {
+    /// Class files are read.
+    Reading,
+    /// Class files are linked, and then classes are initialized.
+    Building,
+    /// The image is written.
+    Writing,
+    /// The build is over.
+    Ended,
+}
+
+/// Told how far a build has come, by the thread of the build and by its workers.
+pub trait Watch {
+    /// Whether it is to be told.
+    fn watches(&self) -> bool;
+
+    /// A stage begins.
+    fn begin(&self, stage: Stage);
+
+    /// A worker begins to initialize the class of this name.
+    fn class(&self, name: &str);
+
+    /// A class was initialized, or refused.
+    fn done(&self);
+}
+
+/// Told nothing.
+#[derive(Clone, Copy)]
+pub struct Unwatched;
+
+impl Watch for Unwatched {
+    fn watches(&self) -> bool {
+        false
+    }
+
+    fn begin(&self, _stage: Stage) {}
+
+    fn class(&self, _name: &str) {}
+
+    fn done(&self) {}
+}
+
+/// The gate of a build that is watched: always ready.
+#[derive(Drop)]
+pub(crate) struct Watched<'a, H: Watch> {
+    pub watch: &'a H,
+}
+
+impl<H: Watch> Watched<'_, H> {
+    /// Tells the class's name. Where memory is refused for it, it is not told.
+    fn tell(&self, alloc: Global, program: &Program, class: u32) {
+        if self.watch.watches()
+            && let Ok(name) = program.class_text(alloc, ClassId::Given(class))
+        {
+            self.watch.class(name.as_str());
+        }
+    }
+}
+
+impl<H: Watch + Sync> Gate for Watched<'_, H> {
+    fn ready(&self, _who: u32, _job: u32, _turn: u32) -> bool {
+        true
+    }
+
+    fn settle(
+        &self,
+        alloc: Global,
+        program: &Program,
+        regions: &Regions,
+        class: u32,
+        budget: u64,
+    ) -> Result<Outcome, AllocError> {
+        self.tell(alloc, program, class);
+        settle(alloc, program, regions, class, budget)
+    }
+
+    fn done(&self, _who: u32, _job: u32) {
+        self.watch.done();
+    }
+}
