@@ -1,13 +1,16 @@
 -- What a command has done that was not refused, by what its words ask for: what its files held and hold, and what
 -- standard output got.
-use Rattle.std.specs.Prelude.{◌≡◌, ◌⊎◌, ℕ, List, Option, Some, None, ⊤, length}
+use Rattle.std.specs.Prelude.{◌≡◌, ◌↔◌, ◌⊎◌, ℕ, List, [], Option, Some, None, IsTrue, ⊤, length}
 use Rattle.std.specs.Borrow.{Bor}
 use Rattle.std.specs.Io.KnownBytes.{Appends}
 use Rattle.semantics.specs.Worlds.{World, Run as Reaches, seen}
 use Rattle.program.specs.Tables.{Tables}
 use Rattle.machine.specs.Linked.{program_of}
 use Rattle.object_graph.specs.Images.{ImageTables}
+use Rattle.audit.specs.Places.{AreAllPlaces}
+use Rattle.audit.specs.declared.places.Place.{Place}
 use Rattle.init_engine.specs.Rests.{IsRest}
+use Rattle.init_engine.specs.Starts.{StandForEntries}
 use Rattle.init_engine.specs.Rounds.{Turns}
 use Rattle.init_engine.specs.Schedules.{AreRuns, schedule_of}
 use Rattle.init_engine.specs.declared.stuck.Rest.{Rest}
@@ -16,8 +19,10 @@ use Rattle.building.specs.Builds.{text_of}
 use Rattle.building.specs.declared.build.Built.{Built}
 use Rattle.report.specs.Texts.{report_text}
 use Rattle.command_line.specs.Requests.{IsLine, texts}
+use Rattle.command_line.specs.declared.request.Audit.{Audit}
 use Rattle.command_line.specs.declared.request.Build.{Build}
 use Rattle.command_line.specs.declared.request.Building.{Building}
+use Rattle.command_line.specs.declared.request.Explain.{Explain}
 use Rattle.command_line.specs.declared.request.Lazy.{Lazy}
 use Rattle.command_line.specs.declared.request.Renew.{Renew}
 use Rattle.command_line.specs.declared.request.Replay.{Replay}
@@ -31,7 +36,9 @@ use Rattle.cli.specs.ImageBuilds.{IsBuiltText}
 use Rattle.cli.specs.Outputs.{IsApart}
 use Rattle.cli.specs.Renewals.{IsRenewed}
 use Rattle.cli.specs.Running.{lines_text}
-use Rattle.cli.specs.Status.{replay_status, run_status}
+use Rattle.cli.specs.Runs.{IsProgramOf}
+use Rattle.cli.specs.Status.{audit_status, replay_status, run_status}
+use Rattle.cli.specs.declared.auditing.Audited.{Audited}
 use Rattle.cli.specs.declared.status.Status.{Status}
 use Rattle.cli.specs.declared.status.Status.TheVariants.{Done}
 
@@ -132,6 +139,38 @@ pub record HasReported (holds : Contents) (words : Building) (before after : Opt
   pub is : IsReport holds words report
   pub sent : Appends before after report
 
+-- The class files' program was audited from the entries of the words: these are all places where threads may end.
+pub record IsAudit (holds : Contents) (words : Audit) (audited : Audited) : Type 0 where
+  pub files : List (List ℕ)
+  pub held : AreTextsOf holds (texts words.files.items) files
+  pub program : Tables
+  pub is_program : IsProgramOf files program
+  pub classes : List ℕ
+  pub entries : StandForEntries program (entry_names words.entries.now) classes
+  pub places : List Place
+  pub all : AreAllPlaces program classes places
+  pub clean : IsTrue audited.is_clean ↔ (places ≡ [])
+
+-- A text on such an audit went out, and the status says whether there are places.
+pub record HasAudited (holds : Contents) (words : Audit) (before after : Option (List ℕ)) (status : Status) : Type 0 where
+  pub audited : Audited
+  pub is : IsAudit holds words audited
+  pub sent : Appends before after audited.text.items
+  pub status_is : status ≡ audit_status audited.is_clean
+
+-- A text on a build of the class files went out.
+pub record HasExplained (holds : Contents) (words : Explain) (before after : Option (List ℕ)) : Type 0 where
+  pub files : List (List ℕ)
+  pub held : AreTextsOf holds (texts words.building.files.items) files
+  pub answer : Built
+  pub built : IsBuildOfClassFiles files (record {
+    run_time = words.building.run_time;
+    build_time = words.building.build_time;
+    budget = words.building.budget;
+  }) answer
+  pub text : List ℕ
+  pub sent : Appends before after text
+
 -- The new file holds the image that the file of the words holds, in the version that is written.
 pub record HasRenewed (old new : Contents) (words : Renew) : Type 0 where
   pub bytes : List ℕ
@@ -145,8 +184,12 @@ pub record HasRenewed (old new : Contents) (words : Renew) : Type 0 where
 
 -- What was done that a request asks for, where the command ends with this status.
 abbrev pub IsDone : Contents → Contents → Option (List ℕ) → Option (List ℕ) → Request → Status → Type 0
+IsDone old new before after (requests.Audit words) status =
+    (new ≡ old) × HasAudited old words before after status
 IsDone old new before after (requests.Build words) status =
     (status ≡ Done) × (after ≡ before) × HasBuilt old new words
+IsDone old new before after (requests.Explain words) status =
+    (status ≡ Done) × (new ≡ old) × HasExplained old words before after
 IsDone old new before after (requests.Lazy words) status =
     (new ≡ old) × HasRunLazily old words before after status
 IsDone old new before after (requests.Renew words) status =
