@@ -6,7 +6,7 @@ use std::alloc::{AllocError, Global};
 /// A class with a reason of its own, and how many others stay at run time for its sake.
 #[derive(Clone, Copy)]
 pub(crate) struct Blamed {
-    pub(crate) class: u32,
+    pub(crate) class: usize,
     pub(crate) others: u32,
 }
 
@@ -73,8 +73,8 @@ pub(crate) fn most_blamed(
         let Some(next) = greatest(&counts) else {
             return Ok(blamed);
         };
-        if (next.class as usize) < counts.len() {
-            counts[next.class as usize] = 0;
+        if next.class < counts.len() {
+            counts[next.class] = 0;
         }
         blamed.push(next)?;
     }
@@ -87,7 +87,7 @@ fn greatest(counts: &[u32]) -> Option<Blamed> {
     for (class, others) in counts.iter().enumerate() {
         if *others > best.map_or(0, |blamed| blamed.others) {
             best = Some(Blamed {
-                class: class as u32,
+                class,
                 others: *others,
             });
         }

@@ -18,9 +18,9 @@ use std::alloc::{AllocError, Global};
 use use_graph::mark::{Evidence, Mark};
 
 /// The name of a class with slashes.
-fn name_text(alloc: Global, family: &Family, class: u32) -> Result<String, AllocError> {
-    match family.file(class) {
-        Some(file) => printed(alloc, name_of(file)),
+fn name_text(alloc: Global, family: &Family, class: usize) -> Result<String, AllocError> {
+    match family.classes().get(class) {
+        Some(given) => printed(alloc, name_of(&given.file)),
         None => Ok(String::new(alloc)),
     }
 }
@@ -107,10 +107,10 @@ fn add_chain(
     };
     write!(text, "{name}")?;
     for class in chain {
-        let next = name_text(alloc, family, *class)?;
+        let next = name_text(alloc, family, *class as usize)?;
         write!(text, " DependsOn {next}")?;
     }
-    add_own(alloc, family, verdicts, *last, text)
+    add_own(alloc, family, verdicts, *last as usize, text)
 }
 
 /// Ends a line with the reason of a class.
@@ -118,10 +118,10 @@ fn add_own(
     alloc: Global,
     family: &Family,
     verdicts: &[Verdict],
-    class: u32,
+    class: usize,
     text: &mut String,
 ) -> Result<(), AllocError> {
-    match verdicts.get(class as usize) {
+    match verdicts.get(class) {
         Some(Verdict::Refused(reason)) => {
             let reason = reason_text(alloc, family, *reason)?;
             writeln!(text, " {reason}")
@@ -143,7 +143,7 @@ fn add_reasons(
     }
     add_marks(alloc, family, name, &explanation.marks, text)?;
     if let Some(other) = explanation.cycle {
-        let other = name_text(alloc, family, other)?;
+        let other = name_text(alloc, family, other as usize)?;
         writeln!(text, "{name} Cycle {other}")?;
     }
     Ok(())
@@ -220,7 +220,7 @@ pub fn class_text(
     let family = image.program().family();
     let mut known = Known::of_program(alloc, image.program(), verdicts)?;
     let mut text = String::new(alloc);
-    let name = name_text(alloc, family, class)?;
+    let name = name_text(alloc, family, class as usize)?;
     if let Some(first) = add_class(alloc, &build, &mut known, true, &name, class, &mut text)? {
         let chain = chain_of(alloc, verdicts, first)?;
         add_chain(alloc, family, verdicts, &name, &chain, &mut text)?;
@@ -238,13 +238,13 @@ fn add_ends(
     text: &mut String,
 ) -> Result<(), AllocError> {
     let family = build.image.program().family();
-    let next = name_text(alloc, family, first)?;
+    let next = name_text(alloc, family, first as usize)?;
     write!(text, "{name} DependsOn {next}")?;
     let last = match roots.get(first as usize) {
-        Some(root) => *root as u32,
-        None => first,
+        Some(root) => *root,
+        None => first as usize,
     };
-    if last != first {
+    if last != first as usize {
         let end = name_text(alloc, family, last)?;
         write!(text, " .. {end}")?;
     }
@@ -261,7 +261,7 @@ fn add_all(
     let program = build.image.program();
     let mut known = Known::of_program(alloc, program, build.verdicts)?;
     for class in 0..program.given_count() {
-        let name = name_text(alloc, program.family(), class)?;
+        let name = name_text(alloc, program.family(), class as usize)?;
         if let Some(first) = add_class(alloc, build, &mut known, false, &name, class, text)? {
             add_ends(alloc, build, roots, &name, first, text)?;
         }
