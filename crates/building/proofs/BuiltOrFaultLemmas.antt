@@ -127,7 +127,7 @@ text_of item (is, few) = (
       ptr = null_ptr;
       len = length item;
       cap = length item;
-      alloc = record { memory = record {} };
+      alloc = record { memory = record { seal = tt } };
       items = item;
       ok = (refl, omega arith);
       small = few;
