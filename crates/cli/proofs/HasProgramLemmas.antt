@@ -221,6 +221,13 @@ signatures_for f =
     signature_for (unwrap_or (utf8_in (Some constant)) [])) in
     (entries, are_signatures f entries are)
 
+-- ---- bodies
+
+-- the body of each method that has code
+abbrev pub HasBodies : ClassFile → Type 0
+HasBodies f = (m : Member) → Contains f.methods m → (attribute : CodeAttribute)
+    → code_among m.attributes ≡ Some attribute → (body : List Placed) × IsBody attribute.code body
+
 -- ---- what references stand for
 
 module _ (family : Family) (fits : IsFamily family) (within : AreParentsWithin family) where
@@ -413,11 +420,6 @@ module _ (family : Family) (fits : IsFamily family) (within : AreParentsWithin f
             (implementations.Code code, IsImplementation.code is out has made)
 
   -- ---- classes, and the program
-
-  -- the body of each method that has code
-  abbrev pub HasBodies : ClassFile → Type 0
-  HasBodies f = (m : Member) → Contains f.methods m → (attribute : CodeAttribute)
-      → code_among m.attributes ≡ Some attribute → (body : List Placed) × IsBody attribute.code body
 
   class_for : (strings : List (List ℕ)) (f : ClassFile)
       → ((utf8 : ℕ) → Contains f.constants (constants.String utf8) → Contains strings (text_at f utf8)) → HasBodies f
