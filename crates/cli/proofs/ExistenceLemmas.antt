@@ -143,9 +143,10 @@ module _ (texts : List (List ℕ)) (run build : Option (List ℕ)) (budget : ℕ
   Result = IsBuildable texts run build budget
       ⊎ ((fault : BuildFault) × BuildFails texts run build budget fault)
 
-  refused : (refusal : Refusal) → NotLinked texts refusal → Result
-  refused (Class place fault) (runs.class bad) = inr (faults.Class place fault, builds.class range bad)
-  refused (Link fault) (runs.link are fails) = inr (faults.Link fault, builds.link range are fails)
+  refused : {refusal : Refusal} → NotLinked texts refusal → Result
+  refused (runs.class {place = place} {fault = fault} bad) =
+      inr (faults.Class place fault, builds.class range bad)
+  refused (runs.link {fault = fault} are fails) = inr (faults.Link fault, builds.link range are fails)
 
   of_program : (P : Tables) → IsProgramOf texts P → AreTexts (patterns_in run) → AreTexts (patterns_in build) → Result
   of_program P of first second =
@@ -176,7 +177,7 @@ some_build texts run build budget fits first second = elim (decided_budget budge
   | inr wrong ↦ inr (faults.Budget, builds.range wrong)
   | inl range ↦ elim (program_or_refusal texts fits) [
     | inl (P, of) ↦ of_program texts run build budget range P of first second
-    | inr (refusal, not_linked) ↦ refused texts run build budget range refusal not_linked
+    | inr (refusal, not_linked) ↦ refused texts run build budget range not_linked
   ]
 ]
 
