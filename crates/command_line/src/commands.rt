@@ -26,26 +26,29 @@ fn with_commands_of_builds<'a>(
     alloc: Global,
     program: Command<'a>,
 ) -> Result<Command<'a>, AllocError> {
-    let build = build_command(alloc)?;
-    let report = report_command(alloc)?;
-    let renew = renew_command(alloc)?;
-    program
-        .subcommand(build)?
-        .subcommand(report)?
-        .subcommand(renew)
+    let program = with_command(program, build_command(alloc))?;
+    let program = with_command(program, report_command(alloc))?;
+    with_command(program, renew_command(alloc))
 }
 
 fn with_commands_of_runs<'a>(
     alloc: Global,
     program: Command<'a>,
 ) -> Result<Command<'a>, AllocError> {
-    let lazy = lazy_command(alloc)?;
-    let run = run_command(alloc)?;
-    let replay = replay_command(alloc)?;
-    program
-        .subcommand(lazy)?
-        .subcommand(run)?
-        .subcommand(replay)
+    let program = with_command(program, lazy_command(alloc))?;
+    let program = with_command(program, run_command(alloc))?;
+    with_command(program, replay_command(alloc))
+}
+
+/// A program with one more command, if that could be made.
+fn with_command<'a>(
+    program: Command<'a>,
+    command: Result<Command<'a>, AllocError>,
+) -> Result<Command<'a>, AllocError> {
+    match command {
+        Ok(command) => program.subcommand(command),
+        Err(error) => Err(error),
+    }
 }
 
 /// The program without its commands.
@@ -59,10 +62,8 @@ fn described_program<'a>(alloc: Global) -> Command<'a> {
 }
 
 fn build_command<'a>(alloc: Global) -> Result<Command<'a>, AllocError> {
-    let build = described(alloc, "build", BUILD_ABOUT, BUILD_LONG_ABOUT)
-        .arg(out(alloc))?
-        .arg(workers(alloc))?;
-    with_building(alloc, build)
+    let build = described(alloc, "build", BUILD_ABOUT, BUILD_LONG_ABOUT);
+    with_building(alloc, with_arguments(build, [out(alloc), workers(alloc)])?)
 }
 
 fn report_command<'a>(alloc: Global) -> Result<Command<'a>, AllocError> {
@@ -71,30 +72,31 @@ fn report_command<'a>(alloc: Global) -> Result<Command<'a>, AllocError> {
 }
 
 fn renew_command<'a>(alloc: Global) -> Result<Command<'a>, AllocError> {
-    described(alloc, "renew", RENEW_ABOUT, RENEW_LONG_ABOUT)
-        .arg(out(alloc))?
-        .arg(image(alloc, "The image to write again"))
+    let renew = described(alloc, "renew", RENEW_ABOUT, RENEW_LONG_ABOUT);
+    let image = image(alloc, "The image to write again");
+    with_arguments(renew, [out(alloc), image])
 }
 
 fn lazy_command<'a>(alloc: Global) -> Result<Command<'a>, AllocError> {
     let lazy = described(alloc, "lazy", LAZY_ABOUT, LAZY_LONG_ABOUT);
-    with_entries(alloc, lazy)?.arg(file(alloc, "The class files to run, in any order"))
+    let files = file(alloc, "The class files to run, in any order");
+    with_arguments(lazy, [entries(alloc), limit(alloc), files])
 }
 
 fn run_command<'a>(alloc: Global) -> Result<Command<'a>, AllocError> {
     let run = described(alloc, "run", RUN_ABOUT, RUN_LONG_ABOUT);
-    with_entries(alloc, run)?
-        .arg(turns(alloc))?
-        .arg(written_journal(alloc))?
-        .arg(image(alloc, "The image to run"))
+    let image = image(alloc, "The image to run");
+    let journal = written_journal(alloc);
+    with_arguments(
+        run,
+        [entries(alloc), limit(alloc), turns(alloc), journal, image],
+    )
 }
 
 fn replay_command<'a>(alloc: Global) -> Result<Command<'a>, AllocError> {
     let replay = described(alloc, "replay", REPLAY_ABOUT, REPLAY_LONG_ABOUT);
-    replay
-        .arg(entries(alloc))?
-        .arg(read_journal(alloc))?
-        .arg(image(alloc, "The image to run"))
+    let image = image(alloc, "The image to run");
+    with_arguments(replay, [entries(alloc), read_journal(alloc), image])
 }
 
 /// A command without its arguments.
@@ -107,19 +109,21 @@ fn described<'a>(alloc: Global, name: &'a str, about: &'a str, long_about: &'a s
 
 /// A command with the arguments of a build: its options and class files.
 fn with_building<'a>(alloc: Global, command: Command<'a>) -> Result<Command<'a>, AllocError> {
-    with_lists(alloc, command)?
-        .arg(budget(alloc))?
-        .arg(file(alloc, "The class files, in any order"))
+    let files = file(alloc, "The class files, in any order");
+    let arguments = [build_time(alloc), run_time(alloc), budget(alloc), files];
+    with_arguments(command, arguments)
 }
 
-/// A command with the two lists of a build.
-fn with_lists<'a>(alloc: Global, command: Command<'a>) -> Result<Command<'a>, AllocError> {
-    command.arg(build_time(alloc))?.arg(run_time(alloc))
-}
-
-/// A command with the entries and the limit of a run.
-fn with_entries<'a>(alloc: Global, command: Command<'a>) -> Result<Command<'a>, AllocError> {
-    command.arg(entries(alloc))?.arg(limit(alloc))
+/// A command with more arguments, in this order.
+fn with_arguments<'a, const COUNT: usize>(
+    command: Command<'a>,
+    arguments: [Arg<'a>; COUNT],
+) -> Result<Command<'a>, AllocError> {
+    let mut command = command;
+    for argument in arguments {
+        command = command.arg(argument)?;
+    }
+    Ok(command)
 }
 
 fn out<'a>(alloc: Global) -> Arg<'a> {
