@@ -17,3 +17,4 @@ pub mod DecidedLemmas
 pub mod DecidedSwitchesLemmas
 pub mod AllCausesLemmas
 pub mod UniquenessLemmas
+pub mod HasBodyLemmas

@@ -2,7 +2,8 @@
 ghost use Rattle.std.specs.Prelude.{◌≡◌, IfOk, IfSome, codes};
 ghost use Rattle.clap.specs.Matches.{found_of};
 ghost use Rattle.command_line.specs.Requests.{AsksFor, Holds, HoldsBits, HoldsBuild, HoldsBuilding, HoldsLazy};
-ghost use Rattle.command_line.specs.Requests.{HoldsFlag, HoldsNumber, HoldsRenew, HoldsReplay, HoldsRun, IsLine, texts, values_of};
+ghost use Rattle.command_line.specs.Requests.{HoldsFlag, HoldsNumber, HoldsRenew, HoldsReplay, HoldsRun, IsLine};
+ghost use Rattle.command_line.specs.Requests.{texts, values_of};
 
 use crate::commands::program;
 use crate::parsed::fault_of;

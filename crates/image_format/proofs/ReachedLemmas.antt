@@ -1,6 +1,7 @@
 -- Whether static fields reach an object is decided: by way of ever more objects.
 use Rattle.std.proofs.Common.{◌≡◌, ◌⊎◌, inl, inr, ℕ, zero, suc, ◌+◌, ◌<◌, ◌==◌, Bool, true, false, List, [], ◌∷◌, ◌++◌}
-use Rattle.std.proofs.Common.{length, map, Option, Some, None, get_or, refl, sym, ap, subst, ◌∙◌, arith, eqb-true, if◌then◌else◌}
+use Rattle.std.proofs.Common.{length, map, Option, Some, None, get_or, refl, sym, ap, subst, ◌∙◌, arith, eqb-true}
+use Rattle.std.proofs.Common.{if◌then◌else◌}
 use Rattle.std.specs.List.{Contains}
 use Rattle.std.proofs.lemmas.List.Elements.{Contains-append_left, Contains-append_right}
 use Rattle.hierarchy.proofs.WalksOrderLemmas.{none_in_empty, in_front, in_rest, cons_cases}

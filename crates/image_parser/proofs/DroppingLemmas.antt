@@ -1,6 +1,8 @@
 -- Objects whose places are found are those that are reached.
-use Rattle.std.proofs.Common.{◌≡◌, ◌∙◌, ◌⊎◌, ◌↔◌, inl, inr, ℕ, zero, suc, ◌+◌, ◌<◌, ◌≤◌, Bool, true, false, List, [], ◌∷◌}
-use Rattle.std.proofs.Common.{◌++◌, length, get_or, Option, Some, None, slice_get, option_map, refl, sym, ap, subst, arith}
+use Rattle.std.proofs.Common.{◌≡◌, ◌∙◌, ◌⊎◌, ◌↔◌, inl, inr, ℕ, zero, suc, ◌+◌, ◌<◌, ◌≤◌, Bool, true, false, List, []}
+use Rattle.std.proofs.Common.{◌∷◌}
+use Rattle.std.proofs.Common.{◌++◌, length, get_or, Option, Some, None, slice_get, option_map, refl, sym, ap, subst}
+use Rattle.std.proofs.Common.{arith}
 use Rattle.std.proofs.Common.{if◌then◌else◌, append_assoc}
 use Rattle.std.specs.Bool.{Decides}
 use Rattle.std.specs.List.{All, Contains, filter}

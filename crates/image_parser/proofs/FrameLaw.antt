@@ -1,5 +1,6 @@
 -- Bytes frame the parts of an image or have one fault, and never both.
-use Rattle.std.proofs.Common.{◌≡◌, ◌≢◌, ℕ, ◌≤◌, ◌-◌, ◌+◌, ◌⊎◌, Bool, true, false, List, ◌++◌, length, take, drop, get_or}
+use Rattle.std.proofs.Common.{◌≡◌, ◌≢◌, ℕ, ◌≤◌, ◌-◌, ◌+◌, ◌⊎◌, Bool, true, false, List, ◌++◌, length, take, drop}
+use Rattle.std.proofs.Common.{get_or}
 use Rattle.std.proofs.Common.{refl, sym, ap, ◌∙◌, arith, inl, inr}
 use Rattle.std.specs.Prelude.{Result, Ok, Err, IfOk, IfErr, IsOkAnd}
 use Rattle.std.specs.Str.{bytes_eq}

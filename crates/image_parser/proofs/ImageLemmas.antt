@@ -37,7 +37,8 @@ use Rattle.image_parser.specs.declared.image_fault.ImageFault.TheVariants as fau
 use Rattle.image_parser.specs.AllRegions.{RegionsText, RegionsFail, IsShown, RegionsRead}
 use Rattle.image_parser.specs.FileFaults.{AreFiles, FilesFail}
 use Rattle.image_parser.specs.HeaderFaults.{IsFramed}
-use Rattle.image_parser.specs.ImageFaults.{of_files, of_link, of_regions, HasFiles, IsLinked, PartsText, PartsFail, PartsRead}
+use Rattle.image_parser.specs.ImageFaults.{of_files, of_link, of_regions, HasFiles, IsLinked, PartsText, PartsFail}
+use Rattle.image_parser.specs.ImageFaults.{PartsRead}
 use Rattle.image_parser.specs.ImageFaults.{ImageParts, ImageFails}
 use Rattle.image_parser.specs.ImageFaults.PartsFail.{files, link, regions}
 use Rattle.image_parser.specs.ImageFaults.ImageFails.{within}

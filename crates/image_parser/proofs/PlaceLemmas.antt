@@ -1,5 +1,6 @@
 -- The object of a number is found by its place.
-use Rattle.std.proofs.Common.{◌≡◌, ◌≢◌, ℕ, zero, suc, ◌<◌, ◌≤◌, ◌+◌, ◌==◌, Bool, true, false, List, [], ◌∷◌, Option, Some}
+use Rattle.std.proofs.Common.{◌≡◌, ◌≢◌, ℕ, zero, suc, ◌<◌, ◌≤◌, ◌+◌, ◌==◌, Bool, true, false, List, [], ◌∷◌, Option}
+use Rattle.std.proofs.Common.{Some}
 use Rattle.std.proofs.Common.{None, is_some, slice_get, length, get_or, refl, sym, ap, subst, ◌∙◌, eqb-true, eq-eqb}
 use Rattle.std.proofs.Common.{◌⊎◌, inl, inr, arith}
 use Rattle.std.specs.Prelude.{MatchOption}

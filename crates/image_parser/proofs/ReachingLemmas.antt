@@ -1,5 +1,6 @@
 -- A search that adds the places of what objects name, from what static fields name on, until nothing is left.
-use Rattle.std.proofs.Common.{◌≡◌, ◌∙◌, ◌⊎◌, ◌↔◌, inl, inr, ℕ, zero, suc, ◌+◌, ◌<◌, ◌≤◌, Bool, true, false, List, [], ◌∷◌, ◌++◌}
+use Rattle.std.proofs.Common.{◌≡◌, ◌∙◌, ◌⊎◌, ◌↔◌, inl, inr, ℕ, zero, suc, ◌+◌, ◌<◌, ◌≤◌, Bool, true, false, List, []}
+use Rattle.std.proofs.Common.{◌∷◌, ◌++◌}
 use Rattle.std.proofs.Common.{length, take, get_or, Option, Some, None, slice_get, refl, sym, ap, subst, arith}
 use Rattle.std.specs.List.{Contains}
 use Rattle.std.proofs.lemmas.Bool.{cases_lt}
@@ -16,7 +17,8 @@ use Rattle.image_format.specs.declared.object.KeptObject.{KeptObject}
 use Rattle.image_format.specs.declared.region.ImageRegion.{ImageRegion}
 use Rattle.image_format.specs.Objects.{region_in, statics_of, objects_of, object_with, object_of}
 use Rattle.image_format.specs.Reached.{IsReached, static, held}
-use Rattle.image_parser.specs.reading.Reaching.{Held, Rise, AllRise, is_at_place, IsPlaceOf, HoldPlace, IsInStaticsBelow}
+use Rattle.image_parser.specs.reading.Reaching.{Held, Rise, AllRise, is_at_place, IsPlaceOf, HoldPlace}
+use Rattle.image_parser.specs.reading.Reaching.{IsInStaticsBelow}
 use Rattle.image_parser.specs.reading.Reaching.{IsInStatics, HoldsPlace, IsReachedAt}
 use Rattle.image_parser.proofs.PlaceLemmas.{Stands, stands_at, is_at, found_at, place_with}
 

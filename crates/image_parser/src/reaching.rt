@@ -1,6 +1,7 @@
 //! Which objects static fields reach.
 
-ghost use Rattle.std.specs.Prelude.{◌≡◌, ◌↔◌, ℕ, ◌<◌, ◌≤◌, true, [], length, None, slice_get, slice_index_or, option_copied};
+ghost use Rattle.std.specs.Prelude.{◌≡◌, ◌↔◌, ℕ, ◌<◌, ◌≤◌, true, [], length, None, slice_get, slice_index_or};
+ghost use Rattle.std.specs.Prelude.{option_copied};
 ghost use Rattle.std.specs.Prelude.{IfOk, OnOk, MatchOption};
 ghost use Rattle.std.specs.List.{Contains};
 ghost use Rattle.std.specs.List.Sorted.{IsNonDecreasingBy};
@@ -9,7 +10,8 @@ ghost use Rattle.place_set.specs.steps.Adds.{Adds};
 ghost use Rattle.image_format.specs.declared.value.ImageValue.TheVariants.{Object};
 ghost use Rattle.image_format.specs.declared.object.KeptObject.{KeptObject as Kept};
 ghost use Rattle.image_format.specs.Objects.{region_in, objects_of, statics_of, object_with};
-ghost use Rattle.image_parser.specs.reading.Reaching.{AllRise, Rise, is_at_place, IsPlaceOf, HoldPlace, IsInStatics, HoldsPlace};
+ghost use Rattle.image_parser.specs.reading.Reaching.{AllRise, Rise, is_at_place, IsPlaceOf, HoldPlace, IsInStatics};
+ghost use Rattle.image_parser.specs.reading.Reaching.{HoldsPlace};
 ghost use Rattle.image_parser.specs.reading.Reaching.{IsReachedAt};
 
 use image_format::object::KeptObject;

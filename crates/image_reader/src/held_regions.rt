@@ -200,8 +200,8 @@ fn add_regions(
     Ok(())
 }
 
-/// The regions of all classes that are initialized, by their numbers. The strings are hashed by a digest first, since an
-/// image may bring some that no class file has.
+/// The regions of all classes that are initialized, by their numbers. The strings are hashed by a digest first, since
+/// an image may bring some that no class file has.
 pub(crate) fn held_regions(
     alloc: Global,
     program: &mut Program,

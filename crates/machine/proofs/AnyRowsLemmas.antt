@@ -224,7 +224,8 @@ module _ (Is : Row → Type 0) (HasRoom : Frame → Type 0) (up : GoesUp Is HasR
       put : Name → ℕ → Value → Row
       put name slot v = Change name slot v (goes_on (advanced (with_operands f (rest (rest (rest f.operands))))))
 
-  pub array_any : (P : Tables) → OfChanges Is P → (operation : ArrayOperation) (f : Frame) → Is (array_row P operation f)
+  pub array_any : (P : Tables) → OfChanges Is P → (operation : ArrayOperation) (f : Frame)
+      → Is (array_row P operation f)
   array_any P changes (arrays.New kind) f = made_any (type_of_primitives kind) (zero_of kind) f
   array_any P changes (arrays.NewOfReferences a) f = made_any a values.Null f
   array_any P changes arrays.Length f = length_any f
@@ -408,7 +409,8 @@ module _ (Is : Row → Type 0) (HasRoom : Frame → Type 0) (up : GoesUp Is HasR
         needing_any Is up.halted (receiver_under kinds f.operands) _ (λ v is.
         on_any P changes k (length kinds + 1) f (room_of_receiver kinds f v is) v))
 
-    print_on_any : (P : Tables) → OfChanges Is P → (text : List ℕ) (count : ℕ) (k : InstanceCall) (f : Frame) → HasRoom f → (v : Value)
+    print_on_any : (P : Tables) → OfChanges Is P → (text : List ℕ) (count : ℕ) (k : InstanceCall) (f : Frame)
+        → HasRoom f → (v : Value)
         → Is (print_on P text count k f v)
     print_on_any P changes text count k f room v =
         either_any (is_out v) _ _ (out.printed text _ (up.stayed _ _ _)) (on_any P changes k count f room v)

@@ -126,7 +126,8 @@ module _ (family : Family) where
 
   abbrev before : ℕ → ℕ → List FieldKind
   before n c =
-      flat_map (added_slots family) (reverse (nearest_superclasses n family c)) ++ built_in_kinds (superclass_in family c)
+      flat_map (added_slots family) (reverse (nearest_superclasses n family c))
+      ++ built_in_kinds (superclass_in family c)
 
   top_before : (n c : ℕ) (s : Option Superclass) → superclass_in family c ≡ s → is_end_below builtins.Enum s ≡ true
       → 2 ≤ length (before n c)

@@ -51,7 +51,8 @@ use Rattle.machine.proofs.TableLemmas.{needing_any}
 -- ---- what a slot's change leaves of a name and an ordinal
 
 -- of slots from the third on
-later_slot : (slots : List Value) (i : ℕ) (v : Value) → 2 ≤ i → part_of Named (slice_set slots i v) ≡ part_of Named slots
+later_slot : (slots : List Value) (i : ℕ) (v : Value) → 2 ≤ i
+    → part_of Named (slice_set slots i v) ≡ part_of Named slots
 later_slot slots zero v far = absurd (omega (arith, far))
 later_slot slots (suc zero) v far = absurd (omega (arith, far))
 later_slot [] (suc (suc i)) v far = refl

@@ -47,8 +47,8 @@ fn built_by<R: Threads + Wait + Sync>(
 ///   orders by 1, 2 and 64 workers.
 /// - `whole`, `cuts`, `changes`: what reading it answers, reading its first bytes, by their number, and reading it with
 ///   one byte changed, by its offset. A number is told where the answer is another than that of the number before.
-/// - `failing`, how many writes of it into sinks that fail after fewer bytes, and into ones that answer 0, tell how many
-///   went out, of how many each.
+/// - `failing`, how many writes of it into sinks that fail after fewer bytes, and into ones that answer 0, tell how
+///   many went out, of how many each.
 /// - `swapped PLACE PLACE` and `then BYTE`, what reading it answers with two class files in each other's place, or with
 ///   a byte more before the digest. The digest is made anew.
 pub fn answer<R: Threads + Wait + Sync>(

@@ -1,5 +1,5 @@
--- What quiet instructions leave: c's objects are never fewer, and all are held; and what holds of the values that they are given holds of
--- those that they leave.
+-- What quiet instructions leave: c's objects are never fewer, and all are held; and what holds of the values that they
+-- are given holds of those that they leave.
 use Rattle.std.proofs.Common.{◌≡◌, ℕ, ℤ, ◌+◌, ◌<◌, ◌≤◌, ◌==◌, true, false, inl, inr, List, Some, subst, arith, sym, ◌∙◌}
 use Rattle.std.proofs.Common.{ap, refl, Option, None, is_some, option_map, eqb-true, ne_eqb}
 use Rattle.std.specs.List.{AllByRecursion}
@@ -135,7 +135,8 @@ module _ (P : Program) (env : Environment) (c : ℕ) where
     | inr other ↦ absurd (let clash : Stops Barred ≡ Leaves m = other.1 in cc)
   ]
   keeps_all (AskClass x next) own n m q all =
-      let at = at_hand_some (pool_seen env c own x.maker) q in keeps_all (next (class_at at.0 x.number)) own n m at.2 all
+      let at = at_hand_some (pool_seen env c own x.maker) q in
+        keeps_all (next (class_at at.0 x.number)) own n m at.2 all
   keeps_all (LookInto x part next) own n m q all = elim (branch (same_maker (Class c) x.maker) q) [
     | inl on ↦ keeps_all (next (part_at part own.pool x.number)) own n m on.1 all
     | inr other ↦ elim (branch (is_open part) other.1) [

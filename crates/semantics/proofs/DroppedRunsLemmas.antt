@@ -1,5 +1,6 @@
 -- Runs from an image and from that image without some objects: they go step by step alike, and show the same.
-use Rattle.std.proofs.Common.{◌≡◌, ◌≤◌, ℕ, zero, suc, ◌+◌, Bool, true, false, inl, inr, List, [], ◌∷◌, Option, Some, None, map, refl}
+use Rattle.std.proofs.Common.{◌≡◌, ◌≤◌, ℕ, zero, suc, ◌+◌, Bool, true, false, inl, inr, List, [], ◌∷◌, Option, Some}
+use Rattle.std.proofs.Common.{None, map, refl}
 use Rattle.std.proofs.Common.{sym, ap, ◌∙◌, subst, slice_get, slice_set, le-ltb, arith}
 use Rattle.std.specs.List.{AllByRecursion}
 use Rattle.vm_state.specs.declared.value.Maker.TheVariants.{Class, Thread}
@@ -10,7 +11,8 @@ use Rattle.vm_state.specs.SharedState.{SharedState}
 use Rattle.semantics.specs.Programs.{Program}
 use Rattle.semantics.specs.Steps as steps
 use Rattle.semantics.specs.Steps.{After, step_thread}
-use Rattle.semantics.specs.Worlds.{World, put_thread, step_of, step, Run, ending, seen, Observation, Shows, threads_from}
+use Rattle.semantics.specs.Worlds.{World, put_thread, step_of, step, Run, ending, seen, Observation, Shows}
+use Rattle.semantics.specs.Worlds.{threads_from}
 use Rattle.semantics.specs.Images.{Image, image_start}
 use Rattle.semantics.specs.Lawful.{Names, Knows, KnowsSlots, IsLawful}
 use Rattle.semantics.specs.Drops.{keeps, keeps_by, IsPartOf, NamesKept, IsDroppedPool, IsDroppedState, KnowsThread}

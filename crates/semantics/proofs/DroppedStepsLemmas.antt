@@ -14,7 +14,8 @@ use Rattle.vm_state.specs.Statics.{usable, constant_or, with_constants}
 use Rattle.semantics.specs.Rows.{Result, Moved, Needs, Waits, run_row}
 use Rattle.semantics.specs.Moves.{Left, Stand, Throw, Stop, left_in, unwound}
 use Rattle.semantics.specs.Programs.{Program}
-use Rattle.semantics.specs.Steps.{Thread, Going, Ended, After, maker_of, standing, settled, going_on, instructed, fails, finishes}
+use Rattle.semantics.specs.Steps.{Thread, Going, Ended, After, maker_of, standing, settled, going_on, instructed}
+use Rattle.semantics.specs.Steps.{fails, finishes}
 use Rattle.semantics.specs.Steps.{initializes, passes, step_parents, step_initialization, step_thread}
 use Rattle.semantics.specs.Lawful.{Names, KnowsName, IsLawful}
 use Rattle.semantics.specs.helpers.Lawful.{KnowsFrames}
@@ -95,7 +96,8 @@ module _ (P : Program) (lawful : IsLawful P) (kept : Names) (t : ℕ) where
 
   initialization_alike : (sh sv : SharedState) → IsDroppedState kept sh sv → (e : Initialization) (under : List Frame)
       (ls : List Level) → KnowsFrames kept under → KnowsName kept e.pending → KnowsLevels kept ls → (o : Option Name)
-      → KnowsName kept o → StepsAlike (step_initialization P sh t e under ls o) (step_initialization P sv t e under ls o)
+      → KnowsName kept o
+      → StepsAlike (step_initialization P sh t e under ls o) (step_initialization P sv t e under ls o)
   initialization_alike sh sv d e under ls kf kp kl (Some x) k =
       fails_alike e.class under ls _ _ kf kl
       (alike kept P every t (makers.Class e.class) (P.failing e.class x) sh sv d

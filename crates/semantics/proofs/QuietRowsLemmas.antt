@@ -238,7 +238,8 @@ module _ (S : Setting) where
 
     pub alone : (row : Row) (sh : SharedState) (r : Region) (n : ℕ) → sh.regions c ≡ r → Only c regions pools printed sh
         →
-        SharedStates.IsSane S sh → SharedStates.HasNamed S sh.states regions → AgreeingRows.NoneFailed S sh → sh.states c ≡ InProgress t → Free sh.states →
+        SharedStates.IsSane S sh → SharedStates.HasNamed S sh.states regions → AgreeingRows.NoneFailed S sh
+        → sh.states c ≡ InProgress t → Free sh.states →
         Fits S.P (known S.I sh.states (Class c)) (λ d. true) row → (m : QuietMove)
         → quiet S.P (below S.I S.wave c) c r n row ≡ Leaves m →
         Calm sh.states m (run_row t (Class c) sh row)

@@ -132,7 +132,8 @@ module _ (S : Setting) where
         away
 
     -- by a row that needs no class
-    fails_turn : (row : Row) → LeavesNamed S.P row → IsPlain row → Fits S.P (shown S.I w.shared.states) (own_of (maker_of t ls)) row →
+    fails_turn : (row : Row) → LeavesNamed S.P row → IsPlain row
+        → Fits S.P (shown S.I w.shared.states) (own_of (maker_of t ls)) row →
         step S.P w t ≡ put_thread w t (fails S.P c l.under ls (run_row t (Class c) w.shared row)) →
         step S.P v t ≡ put_thread v t (fails S.P c l.under ls (run_row t (Class c) v.shared row))
         → TurnKinds.Turn S fuel w v t

@@ -1,5 +1,5 @@
--- What the machine owes: no instruction makes up a name, writes a final that it may not write, makes a frame that it may
--- not make, or changes the name or the ordinal of an Enum object once they are set.
+-- What the machine owes: no instruction makes up a name, writes a final that it may not write, makes a frame that it
+-- may not make, or changes the name or the ordinal of an Enum object once they are set.
 use Rattle.std.specs.Prelude.{◌≡◌, ◌≢◌, ℕ, Bool, true, false, List, Option, Some, None}
 use Rattle.std.specs.List.{AllByRecursion}
 use Rattle.vm_state.specs.declared.value.Value.{Value}

@@ -18,7 +18,8 @@ same_world : (a b : World) → Some a ≡ Some b → a ≡ b
 same_world a b h = cc
 
 -- the rest of a run, from where a beginning of it leads
-pub run_rest : (P : Program) (w m last : World) (before after : List ℕ) → Run P w before m → Run P w (before ++ after) last
+pub run_rest : (P : Program) (w m last : World) (before after : List ℕ) → Run P w before m
+    → Run P w (before ++ after) last
     → Run P m after last
 run_rest P w m last [] after is run = subst (λ (x : World). Run P x after last) is run
 run_rest P w m last (t ∷ ts) after (next, stepped, rest) (other, also, more) =

@@ -95,7 +95,8 @@ module _ (P : Tables) (scope : Scope) (f : Frame) where
       → ((c m : ℕ) → o ≡ Some (methods.Given c m) → MayReach c m) → Suits (runs P count v f o)
   runs_in count v None may = tt
   runs_in count v (Some (methods.Given c m)) may = reached_in c m count (may c m refl)
-  runs_in count v (Some (methods.BuiltIn member)) may = member_any _ _ (up P scope) P (changes P scope) member count v f tt
+  runs_in count v (Some (methods.BuiltIn member)) may = member_any _ _ (up P scope) P
+    (changes P scope) member count v f tt
 
   -- what is chosen is in scope
   abbrev Covers : Choice → Type 0
@@ -203,7 +204,8 @@ operation_in P f (PutStatic kind c k) =
           (need P scope (top_stored kind f.operands) _ (λ v. (refl, refl, tt))),
     )
 operation_in P f GetOut = push_in P (scope_of P GetOut) values.Out f
-operation_in P f (OnArray operation) = array_any _ _ (up P (scope_of P (OnArray operation))) P (changes P (scope_of P (OnArray operation))) operation f
+operation_in P f (OnArray operation) = array_any _ _ (up P (scope_of P (OnArray operation))) P
+  (changes P (scope_of P (OnArray operation))) operation f
 operation_in P f (OnCall call) = call_in P f call
 operation_in P f (Return returns.Nothing) = tt
 operation_in P f (Return (returns.Value kind)) =

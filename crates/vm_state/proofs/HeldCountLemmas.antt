@@ -1,5 +1,6 @@
 -- How many objects a maker's row holds.
-use Rattle.std.proofs.Common.{◌≡◌, ℕ, zero, suc, ◌<◌, ◌≤◌, ◌+◌, Bool, is_some, length, true, false, List, [], ◌∷◌, Option, Some, None, refl, sym, ap, ◌∙◌}
+use Rattle.std.proofs.Common.{◌≡◌, ℕ, zero, suc, ◌<◌, ◌≤◌, ◌+◌, Bool, is_some, length, true, false, List, [], ◌∷◌}
+use Rattle.std.proofs.Common.{Option, Some, None, refl, sym, ap, ◌∙◌}
 use Rattle.std.proofs.Common.{◌==◌, eqb-true, inl, inr, arith, subst, cond}
 use Rattle.std.proofs.lemmas.List.Sums.{sum_by-cons}
 use Rattle.std.specs.List.{count_by, range_with_len}
@@ -52,7 +53,8 @@ held-from (suc k) (x ∷ xs) low count is (h, hs) = elim (tested (low == x.0)) [
       (subst (λ (n : ℕ). AscendsFrom (n + 1) xs count) (sym here) hs) in
       let same =
       count-same (λ n. is_some (object_in xs n)) (λ n. is_some (object_in (x ∷ xs) n)) (low + 1) k
-      (λ n past. rw (unequal_past n x.0 (omega (arith, past, here))) (ap is_some (sym (or_later-none (object_in xs n)))))
+      (λ n past. rw (unequal_past n x.0 (omega (arith, past, here)))
+      (ap is_some (sym (or_later-none (object_in xs n)))))
       in
       let one = count-more (λ n. is_some (object_in (x ∷ xs) n)) low k true (rw (later, e) refl) in
       omega (arith, rest, same, one)

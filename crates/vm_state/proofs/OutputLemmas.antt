@@ -64,7 +64,10 @@ prints_count bytes from (e ∷ es) (t ∷ ts) to (h, hs) = ap suc (prints_count 
 
 pub print_is : (bytes : List ℕ) (from : ℕ) (ends threads : List ℕ) (to number d : ℕ) → Cover from ends threads to
     → number < length ends → slice_get (prints_in bytes from ends threads) number
-    ≡ Some (record { thread = get_or threads number d; text = between bytes (start_of from ends number) (get_or ends number d) })
+    ≡ Some (record {
+      thread = get_or threads number d;
+      text = between bytes (start_of from ends number) (get_or ends number d);
+    })
 print_is bytes from [] threads to number d h inside = absurd (omega (arith, inside))
 print_is bytes from (e ∷ es) [] to number d h inside = absurd h
 print_is bytes from (e ∷ es) (t ∷ ts) to zero d (h, hs) inside = refl

@@ -1,6 +1,7 @@
 //! Initializations of classes in progress (JVMS 5.5), and the whole stack of a thread.
 
-ghost use Rattle.std.specs.Prelude.{◌≡◌, ◌∷◌, [], IfOk, OnOk, OnErr, None, IsSome, option_copied, ◌≢◌, true, false, reverse};
+ghost use Rattle.std.specs.Prelude.{◌≡◌, ◌∷◌, [], IfOk, OnOk, OnErr, None, IsSome, option_copied, ◌≢◌, true, false};
+ghost use Rattle.std.specs.Prelude.{reverse};
 ghost use Rattle.vm_state.specs.Segments.{frames_in, first_frame, callers_of};
 ghost use Rattle.vm_state.specs.Stacks.{first_of, others_of, first_level, levels_in, segment_of, levels_of};
 ghost use Rattle.vm_state.specs.Stacks.{parent_taken};

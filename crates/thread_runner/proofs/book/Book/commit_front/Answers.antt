@@ -13,5 +13,6 @@ returns-clause-goes_on g c =
 pub invariant_of-self : goal.invariant_of-self
 invariant_of-self g c =
     let b = c.self.inside in
-    place_on b.history.world.printed c.commit_front.new.self.world.printed b.prints b.bytes c.commit_front.ensures.goes_on.grows
+    place_on b.history.world.printed c.commit_front.new.self.world.printed b.prints b.bytes
+        c.commit_front.ensures.goes_on.grows
     c.self.invariant
