@@ -1,0 +1,4 @@
+pub mod Known
+pub mod Trees
+pub mod Callers
+pub mod Refused
