@@ -1,1 +1,6 @@
 pub mod MarksLemmas
+pub mod CallSitesLemmas
+pub mod TreesLemmas
+pub mod CallersLemmas
+pub mod ChainsLemmas
+pub mod RerunsLemmas
