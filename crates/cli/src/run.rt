@@ -9,7 +9,7 @@ ghost use Rattle.cli.specs.Journaled.{IsOutcome};
 ghost use Rattle.cli.specs.Running.{IsCutShort, IsOfRun};
 ghost use Rattle.cli.specs.Status.{IsOver, code_of, run_status};
 
-use crate::by_threads::{Journaled, replayed, run_by_threads};
+use crate::by_threads::{ImageSeen, Journaled, replayed, run_by_threads};
 use crate::files::put;
 use crate::image_run::ImageStart;
 use crate::lazy::LazyStart;
@@ -326,8 +326,10 @@ fn tell_run_and_stacks<F: Files, E: Write>(
         × IsWritten (F.holds files.old) (F.holds files.new) words.now.journal (schedule_of ran.now.journal) }
 {
     let status = tell_run(alloc, image.program(), words, ran, files, errors);
-    let asked = (words.stacks, words.entries);
-    tell_image_stacks(alloc, image, asked, ran.journal.runs(), status, errors)
+    if !words.stacks {
+        return status;
+    }
+    tell_image_stacks(alloc, image, words.entries, ran.journal.runs(), status, errors)
 }
 
 /// Tells how the threads of a run ended, and writes its journal where the words ask for it.
@@ -385,13 +387,30 @@ fn replay_image<F: Files, W: Write, E: Write>(
     match replayed(alloc, words, files) {
         Ok((seen, status)) => {
             let status = tell_replay(alloc, &seen, status, out, errors);
-            let asked = (words.stacks, words.entries);
-            let runs = seen.journal.runs();
-            let status = tell_image_stacks(alloc, &seen.image, asked, runs, status, errors);
+            let status = tell_replay_stacks(alloc, words, &seen, status, errors);
             (status, Held::Image(seen.image))
         }
         Err(refusal) => (refuse(&refusal, errors), Held::Nothing),
     }
+}
+
+/// Tells where the threads of a replay stand, if the words ask for it.
+fn tell_replay_stacks<E: Write>(
+    alloc: Global,
+    words: &Replay<'_>,
+    replayed: &ImageSeen,
+    status: Status,
+    errors: &mut E,
+) -> Status
+    requires { status ≢ Status.Words }
+    ensures words { result ≢ Status.Words }
+    ensures done { IsOver result → result ≡ status }
+{
+    if !words.stacks {
+        return status;
+    }
+    let runs = replayed.journal.runs();
+    tell_image_stacks(alloc, &replayed.image, words.entries, runs, status, errors)
 }
 
 /// Runs a program from a world of it, and tells what it prints while it runs, and then how its threads ended.
@@ -431,5 +450,8 @@ fn tell_turns<E: Write>(
     let threads = ran.threads.as_slice();
     let status = status_of(threads, ran.rest);
     let status = tell_endings(alloc, program, threads, status, errors);
-    tell_lazy_stacks(alloc, program, words, ran.schedule.as_slice(), status, errors)
+    if !words.stacks {
+        return status;
+    }
+    tell_lazy_stacks(alloc, program, words.entries, ran.schedule.as_slice(), status, errors)
 }

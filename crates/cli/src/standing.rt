@@ -4,7 +4,7 @@ ghost use Rattle.init_engine.specs.Schedules.{AreRuns};
 ghost use Rattle.cli.specs.Status.{IsOver};
 
 use crate::telling::refuse;
-use crate::{Lazy, Refusal, Status, entries_of};
+use crate::{Refusal, Status, entries_of};
 use image_reader::world;
 use init_engine::World;
 use object_graph::Image;
@@ -18,11 +18,11 @@ fn some_stand(status: Status) -> bool {
     matches!(status, Status::Stuck | Status::Limit | Status::Ended)
 }
 
-/// Tells where the threads of a run of class files stand, by its schedule, if the words ask for it.
+/// Tells where the threads of a run of class files stand, by its schedule, from the entries of a list.
 pub(crate) fn tell_lazy_stacks<E: Write>(
     alloc: Global,
     program: &Program,
-    words: &Lazy<'_>,
+    list: &str,
     runs: &[(u32, u64)],
     status: Status,
     errors: &mut E,
@@ -32,18 +32,18 @@ pub(crate) fn tell_lazy_stacks<E: Write>(
     ensures words { result ≢ Status.Words }
     ensures done { IsOver result → result ≡ status }
 {
-    if words.stacks && some_stand(status) {
-        tell_stacks(lazy_stacks(alloc, program, words.entries, runs), status, errors)
+    if some_stand(status) {
+        tell_stacks(lazy_stacks(alloc, program, list, runs), status, errors)
     } else {
         status
     }
 }
 
-/// The same of a run of an image, from the entries of a list, if it is asked for.
+/// The same of a run of an image.
 pub(crate) fn tell_image_stacks<E: Write>(
     alloc: Global,
     image: &Image,
-    (asked, list): (bool, &str),
+    list: &str,
     runs: &[(u32, u64)],
     status: Status,
     errors: &mut E,
@@ -53,7 +53,7 @@ pub(crate) fn tell_image_stacks<E: Write>(
     ensures words { result ≢ Status.Words }
     ensures done { IsOver result → result ≡ status }
 {
-    if asked && some_stand(status) {
+    if some_stand(status) {
         tell_stacks(image_stacks(alloc, image, list, runs), status, errors)
     } else {
         status

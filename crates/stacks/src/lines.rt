@@ -9,7 +9,7 @@ use std::alloc::{AllocError, Global};
 use std::fmt::Write;
 use vm_state::ends::End;
 use vm_state::frame::{Frame, FrameList};
-use vm_state::initialization::{Frames, Initialization, Level, Levels};
+use vm_state::initialization::{Frames, Level, Levels};
 use vm_state::shared::Shared;
 
 /// How many places of a stack are told at each of its ends.
@@ -23,85 +23,50 @@ enum Place<'a> {
     Initialization(u32),
 }
 
-/// The lines of one stack, as far as they are written.
-#[derive(Drop)]
-struct StackText {
-    text: String,
-    thread: u32,
-    /// How many places the stack has.
-    count: usize,
-    /// How many of them were gone past.
-    past: usize,
+/// The frames of a list, the innermost first.
+fn add_frames<'a>(places: &mut Vec<Place<'a>>, frames: &'a FrameList) -> Result<(), AllocError> {
+    for frame in frames.outermost_first().iter().rev() {
+        places.push(Place::Frame(frame))?;
+    }
+    Ok(())
 }
 
-impl StackText {
-    /// A place, the innermost first.
-    fn add(
-        &mut self,
-        alloc: Global,
-        program: &Program,
-        place: Place<'_>,
-    ) -> Result<(), AllocError> {
-        let at = self.past;
-        self.past += 1;
-        if at < TOLD || self.count - at <= TOLD {
-            let word = if at == 0 { "at" } else { "in" };
-            let place = place_text(alloc, program, place)?;
-            return writeln!(self.text, "thread {0} {word} {place}", self.thread);
-        }
-        if at == TOLD {
-            let left_out = self.count - 2 * TOLD;
-            return writeln!(self.text, "thread {0} .. {left_out} left out", self.thread);
-        }
-        Ok(())
+/// An initialization, unless its class initialization method is above it, and the frames under it.
+fn add_level<'a>(
+    places: &mut Vec<Place<'a>>,
+    level: &'a Level,
+    runs: bool,
+) -> Result<(), AllocError> {
+    if !(level.initialization.begun && runs) {
+        places.push(Place::Initialization(level.initialization.class))?;
     }
+    add_frames(places, &level.under)
+}
 
-    /// The frames of a list, the innermost first.
-    fn add_frames(
-        &mut self,
-        alloc: Global,
-        program: &Program,
-        frames: &FrameList,
-    ) -> Result<(), AllocError> {
-        let frames = frames.outermost_first();
-        for place in (0..frames.len()).rev() {
-            self.add(alloc, program, Place::Frame(&frames[place]))?;
-        }
-        Ok(())
+/// All initializations, the highest first, with the frames under each. Above the highest one is some frame or none.
+fn add_levels<'a>(
+    places: &mut Vec<Place<'a>>,
+    levels: &'a Levels,
+    runs: bool,
+) -> Result<(), AllocError> {
+    add_level(places, &levels.highest, runs)?;
+    for level in levels.outer.outermost_first().iter().rev() {
+        add_level(places, level, true)?;
     }
+    Ok(())
+}
 
-    /// An initialization and the frames under it.
-    fn add_level(
-        &mut self,
-        alloc: Global,
-        program: &Program,
-        level: &Level,
-        above: usize,
-    ) -> Result<(), AllocError> {
-        if is_told(&level.initialization, above) {
-            let class = level.initialization.class;
-            self.add(alloc, program, Place::Initialization(class))?;
-        }
-        self.add_frames(alloc, program, &level.under)
+/// The places of a stack, the innermost first.
+fn places_of<'a>(alloc: Global, frames: &'a Frames) -> Result<Vec<Place<'a>>, AllocError> {
+    let mut places = Vec::new(alloc);
+    if let Some(segment) = &frames.segment {
+        places.push(Place::Frame(&segment.innermost))?;
+        add_frames(&mut places, &segment.callers)?;
     }
-
-    /// All initializations, with the frames under them.
-    fn add_levels(
-        &mut self,
-        alloc: Global,
-        program: &Program,
-        levels: &Levels,
-        above: usize,
-    ) -> Result<(), AllocError> {
-        self.add_level(alloc, program, &levels.highest, above)?;
-        let mut above = levels.highest.under.outermost_first().len();
-        let outer = levels.outer.outermost_first();
-        for place in (0..outer.len()).rev() {
-            self.add_level(alloc, program, &outer[place], above)?;
-            above = outer[place].under.outermost_first().len();
-        }
-        Ok(())
+    if let Some(levels) = &frames.levels {
+        add_levels(&mut places, levels, frames.segment.is_some())?;
     }
+    Ok(places)
 }
 
 fn place_text(alloc: Global, program: &Program, place: Place<'_>) -> Result<String, AllocError> {
@@ -114,59 +79,23 @@ fn place_text(alloc: Global, program: &Program, place: Place<'_>) -> Result<Stri
     }
 }
 
-/// Whether an initialization is told, which has so many frames above it: where none of them is its class initialization
-/// method's.
-fn is_told(initialization: &Initialization, above: usize) -> bool {
-    !initialization.begun || above == 0
-}
-
-/// How many places an initialization with the frames under it has.
-fn level_count(level: &Level, above: usize) -> usize {
-    let own = if is_told(&level.initialization, above) { 1 } else { 0 };
-    own + level.under.outermost_first().len()
-}
-
-/// How many places all initializations have.
-fn levels_count(levels: &Levels, above: usize) -> usize {
-    let mut count = level_count(&levels.highest, above);
-    let mut above = levels.highest.under.outermost_first().len();
-    let outer = levels.outer.outermost_first();
-    for place in (0..outer.len()).rev() {
-        count += level_count(&outer[place], above);
-        above = outer[place].under.outermost_first().len();
-    }
-    count
-}
-
-/// How many frames stand above the highest initialization.
-fn front_count(frames: &Frames) -> usize {
-    match &frames.segment {
-        Some(segment) => 1 + segment.callers.outermost_first().len(),
-        None => 0,
-    }
-}
-
-/// A stack, a line for each place, the innermost first.
+/// A stack, a line for each place, the innermost first, and of a long one both ends.
 fn stack_text(alloc: Global, program: &Program, frames: &Frames) -> Result<String, AllocError> {
-    let front = front_count(frames);
-    let under = match &frames.levels {
-        Some(levels) => levels_count(levels, front),
-        None => 0,
-    };
-    let mut text = StackText {
-        text: String::new(alloc),
-        thread: frames.thread,
-        count: front + under,
-        past: 0,
-    };
-    if let Some(segment) = &frames.segment {
-        text.add(alloc, program, Place::Frame(&segment.innermost))?;
-        text.add_frames(alloc, program, &segment.callers)?;
+    let thread = frames.thread;
+    let places = places_of(alloc, frames)?;
+    let count = places.len();
+    let mut text = String::new(alloc);
+    for at in 0..count {
+        if at < TOLD || count - at <= TOLD {
+            let word = if at == 0 { "at" } else { "in" };
+            let place = place_text(alloc, program, places[at])?;
+            writeln!(text, "thread {thread} {word} {place}")?;
+        } else if at == TOLD {
+            let left_out = count - 2 * TOLD;
+            writeln!(text, "thread {thread} .. {left_out} left out")?;
+        }
     }
-    if let Some(levels) = &frames.levels {
-        text.add_levels(alloc, program, levels, front)?;
-    }
-    Ok(text.text)
+    Ok(text)
 }
 
 /// What the next step of a thread needs that another one may hold.

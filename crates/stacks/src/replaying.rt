@@ -1,6 +1,6 @@
 //! A run over a schedule, which keeps the stack of each thread before its last step.
 
-ghost use Rattle.std.specs.Prelude.{◌≡◌, ◌<◌, ◌⊎◌, ℕ, Bool, true, false, None, IfOk, IfErr, IfSome, OnOk, length, replicate};
+ghost use Rattle.std.specs.Prelude.{◌≡◌, ◌<◌, ◌⊎◌, ℕ, Bool, true, false, Some, None, IfOk, IfErr, IfSome, OnOk, length, replicate, slice_get};
 ghost use Rattle.semantics.specs.Worlds.{Run};
 ghost use Rattle.machine.specs.Linked.{program_of};
 ghost use Rattle.courses.specs.steps.StepTables.{KeepsSteps};
@@ -42,6 +42,17 @@ fn last_runs(alloc: Global, runs: &[(u32, u64)], count: usize) -> Result<Vec<usi
     Ok(last)
 }
 
+/// Whether the last run of a thread is at this place.
+fn is_last(last: &[usize], thread: u32, place: usize) -> bool
+    ensures yes { result ≡ true → slice_get last.now thread ≡ Some place }
+    ensures no { slice_get last.now thread ≡ Some place → result ≡ true }
+{
+    match last.get(thread as usize) {
+        Some(at) => *at == place,
+        None => false,
+    }
+}
+
 /// Makes so many steps of a thread. It answers whether it had so many.
 fn take_steps(
     alloc: Global,
@@ -61,7 +72,7 @@ fn take_steps(
     ensures threads { length world.new.threads ≡ length world.old.threads }
 {
     let mut left = steps;
-    while left > 0 {
+    'ahead: while left > 0 {
         let made = world.run_alone(alloc, program, table, thread, left, u64::MAX)?;
         if made == 0 {
             return Ok(false);
@@ -149,7 +160,7 @@ fn no_frames(alloc: Global, count: u32) -> Result<Vec<Option<Frames>>, AllocErro
     ensures { IfOk result (λ before. length before.items ≡ count) }
 {
     let mut before = Vec::new(alloc);
-    for _ in 0..count {
+    for place in 0..count {
         before.push(None)?;
     }
     Ok(before)
@@ -177,7 +188,7 @@ fn take_runs(
     let mut table = StepTable::new(alloc);
     for place in 0..runs.len() {
         let run = runs[place];
-        let is_last = last.get(run.0 as usize) == Some(&place);
+        let is_last = is_last(last, run.0, place);
         match take_run(alloc, program, world, &mut table, before, run, is_last) {
             Ok(true) => {}
             Ok(false) => return Err(ReplayFault::Turn(place + 1)),
