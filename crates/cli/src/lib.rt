@@ -26,6 +26,7 @@ mod reporting;
 mod requested;
 mod run;
 mod running;
+mod standing;
 mod status;
 mod telling;
 mod threads;

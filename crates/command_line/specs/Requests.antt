@@ -70,12 +70,14 @@ pub record HoldsAudit (found : Found) (audit : Audit) : Type 0 where
 pub record HoldsLazy (found : Found) (lazy : Lazy) : Type 0 where
   pub entries : first_value found (codes "entries") ≡ Some lazy.entries.now
   pub limit : HoldsNumber found (codes "limit") lazy.limit
+  pub stacks : HoldsFlag found (codes "stacks") lazy.stacks
   pub files : texts lazy.files.items ≡ values_of found (codes "file")
 
 pub record HoldsRun (found : Found) (run : Run) : Type 0 where
   pub entries : first_value found (codes "entries") ≡ Some run.entries.now
   pub limit : HoldsNumber found (codes "limit") run.limit
   pub turns : HoldsFlag found (codes "turns") run.turns
+  pub stacks : HoldsFlag found (codes "stacks") run.stacks
   pub journal : option_map (λ (s : Bor (List ℕ)). s.now) run.journal ≡ first_value found (codes "journal")
   pub image : first_value found (codes "image") ≡ Some run.image.now
 
@@ -86,6 +88,7 @@ pub record HoldsRenew (found : Found) (renew : Renew) : Type 0 where
 
 pub record HoldsReplay (found : Found) (replay : Replay) : Type 0 where
   pub entries : first_value found (codes "entries") ≡ Some replay.entries.now
+  pub stacks : HoldsFlag found (codes "stacks") replay.stacks
   pub journal : first_value found (codes "journal") ≡ Some replay.journal.now
   pub image : first_value found (codes "image") ≡ Some replay.image.now
 

@@ -94,13 +94,16 @@ fn audit_command<'a>(alloc: Global) -> Result<Command<'a>, AllocError> {
 
 fn lazy_command<'a>(alloc: Global) -> Result<Command<'a>, AllocError> {
     let lazy = described(alloc, "lazy", LAZY_ABOUT, LAZY_LONG_ABOUT);
-    with_entries(alloc, lazy)?.arg(file(alloc, "The class files to run, in any order"))
+    with_entries(alloc, lazy)?
+        .arg(stacks(alloc))?
+        .arg(file(alloc, "The class files to run, in any order"))
 }
 
 fn run_command<'a>(alloc: Global) -> Result<Command<'a>, AllocError> {
     let run = described(alloc, "run", RUN_ABOUT, RUN_LONG_ABOUT);
     with_entries(alloc, run)?
         .arg(turns(alloc))?
+        .arg(stacks(alloc))?
         .arg(written_journal(alloc))?
         .arg(image(alloc, "The image to run"))
 }
@@ -109,6 +112,7 @@ fn replay_command<'a>(alloc: Global) -> Result<Command<'a>, AllocError> {
     let replay = described(alloc, "replay", REPLAY_ABOUT, REPLAY_LONG_ABOUT);
     replay
         .arg(entries(alloc))?
+        .arg(stacks(alloc))?
         .arg(read_journal(alloc))?
         .arg(image(alloc, "The image to run"))
 }
@@ -179,6 +183,13 @@ fn turns<'a>(alloc: Global) -> Arg<'a> {
         .long("turns")
         .action(ArgAction::SetTrue)
         .help("Runs by turns: in each round every thread takes one step")
+}
+
+fn stacks<'a>(alloc: Global) -> Arg<'a> {
+    Arg::new(alloc, "stacks")
+        .long("stacks")
+        .action(ArgAction::SetTrue)
+        .help("Tells on standard error where each thread stands that has not returned")
 }
 
 fn written_journal<'a>(alloc: Global) -> Arg<'a> {

@@ -139,6 +139,7 @@ fn lazy_of<'a>(alloc: Global, matches: &ArgMatches<'a>) -> Result<Option<Lazy<'a
         (Some(entries), Some(limit)) => Ok(Some(Lazy {
             entries,
             limit,
+            stacks: flag_of(matches, "stacks"),
             files,
         })),
         _ => Ok(None),
@@ -163,6 +164,7 @@ fn run_of<'a>(matches: &ArgMatches<'a>) -> Option<Run<'a>>
         entries,
         limit,
         turns: flag_of(matches, "turns"),
+        stacks: flag_of(matches, "stacks"),
         journal: matches.get_str("journal"),
         image,
     })
@@ -176,6 +178,7 @@ fn replay_of<'a>(matches: &ArgMatches<'a>) -> Option<Replay<'a>>
     let image = matches.get_str("image")?;
     Some(Replay {
         entries,
+        stacks: flag_of(matches, "stacks"),
         journal,
         image,
     })

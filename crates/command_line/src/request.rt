@@ -70,6 +70,8 @@ pub struct Lazy<'a> {
     pub entries: &'a str,
     /// The greatest number of steps of the run, from 1 to 10^15.
     pub limit: u64,
+    /// Whether it is told where the threads stand.
+    pub stacks: bool,
     /// The names of the class files, in the order given.
     pub files: Vec<&'a str>,
 }
@@ -92,6 +94,8 @@ pub struct Run<'a> {
     pub limit: u64,
     /// Whether the threads take turns.
     pub turns: bool,
+    /// Whether it is told where the threads stand.
+    pub stacks: bool,
     /// The name of the file that gets the journal.
     pub journal: Option<&'a str>,
     /// The name of the image's file.
@@ -103,6 +107,8 @@ pub struct Run<'a> {
 pub struct Replay<'a> {
     /// The names of the entry classes, with commas between them.
     pub entries: &'a str,
+    /// Whether it is told where the threads stand.
+    pub stacks: bool,
     /// The name of the journal's file.
     pub journal: &'a str,
     /// The name of the image's file.

@@ -44,6 +44,14 @@ Standard output gets what the program prints, while it runs. Then standard error
                                 or Missing (a class or member that is not there)
   thread 0 going                it has not ended: the run is stuck, or came to its limit
 
+With --stacks come then the stacks of the threads that have not returned, innermost first, as
+  thread 0 waits for the initialization of app/Table, which thread 1 has
+  thread 0 at app/Table.fill(I)V 7 invokevirtual java/lang/String.length()I
+  thread 0 in app/Table.<clinit>()V 3 invokestatic app/Table.fill(I)V
+  thread 0 in initialization of app/Main
+A place is a method, a pc, and the instruction there with what it names. Of a thread that ended it is the stack before
+its last step. Of a long stack both ends are told, 20 places each. For them the run is made a second time.
+
 A class file at fault is named by its place among the files, from 0, and an entry at fault by its place in the list.
 
 For example: preinit lazy --entries app.Main app/Main.class app/Table.class";

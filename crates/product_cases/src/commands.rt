@@ -174,7 +174,8 @@ fn explain_text(alloc: Global, explain: &Explain<'_>) -> Result<String, AllocErr
 fn lazy_text(alloc: Global, lazy: &Lazy<'_>) -> Result<String, AllocError> {
     let entries = lazy.entries;
     let limit = lazy.limit;
-    let mut text = format!(in alloc; "lazy [{entries}] {limit}")?;
+    let stacks = stacks_word(lazy.stacks);
+    let mut text = format!(in alloc; "lazy [{entries}] {limit}{stacks}")?;
     for file in &lazy.files {
         write!(text, " [{file}]")?;
     }
@@ -186,7 +187,8 @@ fn run_text(alloc: Global, run: &Run<'_>) -> Result<String, AllocError> {
     let limit = run.limit;
     let image = run.image;
     let how = if run.turns { "run" } else { "run by threads" };
-    let mut text = format!(in alloc; "{how} [{entries}] {limit} [{image}]")?;
+    let stacks = stacks_word(run.stacks);
+    let mut text = format!(in alloc; "{how} [{entries}] {limit}{stacks} [{image}]")?;
     if let Some(journal) = run.journal {
         write!(text, " journal [{journal}]")?;
     }
@@ -203,7 +205,13 @@ fn replay_text(alloc: Global, replay: &Replay<'_>) -> Result<String, AllocError>
     let entries = replay.entries;
     let journal = replay.journal;
     let image = replay.image;
-    format!(in alloc; "replay [{entries}] [{journal}] [{image}]")
+    let stacks = stacks_word(replay.stacks);
+    format!(in alloc; "replay [{entries}] [{journal}]{stacks} [{image}]")
+}
+
+/// What is said of a run whose stacks are asked for.
+fn stacks_word(asked: bool) -> &'static str {
+    if asked { " stacks" } else { "" }
 }
 
 fn build_text(alloc: Global, build: &Build<'_>) -> Result<String, AllocError> {
