@@ -7,6 +7,7 @@
 #![tactic(auto)]
 
 pub mod any_order;
+mod build_texts;
 mod builds;
 mod by_threads;
 mod class_files;
