@@ -58,7 +58,7 @@ pub fn build_image<G: Gate, R: Threads + Wait + Sync>(
     }
 }
 
-/// Reads the class files, builds an image, and writes it to its file, and the report to its own, as the words say.
+/// Reads the class files, builds an image, and writes it and its report to their files, as the words say.
 ///
 /// # Errors
 /// The first refusal: a file, the budget, the workers, a class file, linking, a list of patterns, an output, or memory. A
