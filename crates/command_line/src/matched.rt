@@ -83,6 +83,7 @@ fn build_of<'a>(alloc: Global, matches: &ArgMatches<'a>) -> Result<Option<Build<
     match (matches.get_str("out"), count_of(matches, "workers")) {
         (Some(image), Some(workers)) => Ok(building_of(alloc, matches)?.map(|building| Build {
             image,
+            report: matches.get_str("report"),
             building,
             workers,
         })),
