@@ -185,8 +185,13 @@ pub(crate) fn tell_overwritten<E: Write>(clash: Clash<'_>, errors: &mut E) -> St
 pub(crate) fn tell_no_files<E: Write>(request: &Request<'_>, errors: &mut E) {
     let has_none = match request {
         Request::Build(words) => words.building.files.is_empty(),
+        Request::Explain(words) => words.building.files.is_empty(),
         Request::Report(words) => words.files.is_empty(),
-        Request::Lazy(_) | Request::Renew(_) | Request::Replay(_) | Request::Run(_) => false,
+        Request::Audit(_)
+        | Request::Lazy(_)
+        | Request::Renew(_)
+        | Request::Replay(_)
+        | Request::Run(_) => false,
     };
     if has_none {
         // A failure of standard error is ignored.
