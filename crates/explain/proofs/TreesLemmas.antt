@@ -4,7 +4,7 @@ use Rattle.std.proofs.Common.{slice_get, slice_index, refl, sym, ap, subst, inl,
 use Rattle.std.specs.List.{Contains}
 use Rattle.std.proofs.lemmas.Grind.{common_steps}
 use Rattle.std.proofs.lemmas.List.{length_push}
-use Rattle.std.proofs.lemmas.List.Elements.{All-nil, Contains-push}
+use Rattle.std.proofs.lemmas.List.Elements.{All-nil, All-cons, Contains-push}
 use Rattle.std.proofs.lemmas.Option.{slice_get_within}
 use Rattle.loading.proofs.PlaceLemmas.{pushed_at, kept_at}
 use Rattle.graph.specs.Rows.{Rows, successors_of}
@@ -22,6 +22,15 @@ adds_none items = record {
   keeps = λ x h. h;
   added = All-nil (Contains items);
   only = λ x h. inl h;
+}
+
+pub adds_first : (v : ℕ) → Adds [] (v ∷ []) (v ∷ [])
+adds_first v = record {
+  grows = omega arith;
+  same = λ k small. absurd (omega (arith, small));
+  keeps = λ x (k, small, e). absurd (omega (arith, small));
+  added = All-cons (Contains (v ∷ [])) v [] (Contains-push [] v) (All-nil (Contains (v ∷ [])));
+  only = λ x h. inr h;
 }
 
 pub adds_joined : (old row items new : List ℕ) (finders newer : List ℕ) (i v place : ℕ) → i < length row
@@ -102,3 +111,8 @@ first_kept old row new v adds at = kept_first old new v
     kept_first : (old new : List ℕ) (v : ℕ) → 0 < length old → length old ≤ length new
         → slice_index new 0 ≡ slice_index old 0 → slice_get old 0 ≡ Some v → slice_get new 0 ≡ Some v
     kept_first old new v some more same at = grind (arith, common_steps)
+
+-- the vertex at a place
+pub stands_at : (items : List ℕ) (place : ℕ) → place < length items
+    → slice_get items place ≡ Some (slice_index items place)
+stands_at items place low = grind (arith, common_steps)
