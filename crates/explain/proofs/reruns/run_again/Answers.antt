@@ -2,7 +2,7 @@ use Rattle.machine.specs.Linked.{program_of}
 use Rattle.semantics.proofs.RefusalsLemmas.{stop_excludes_lem}
 use Rattle.evaluator.specs.Regions.{environment_of}
 use Rattle.explain.proofs.RerunsLemmas.{ends_at}
-use Rattle.explain.proofs.reruns.rerun.Goals as goal
+use Rattle.explain.proofs.reruns.run_again.Goals as goal
 
 pub returns : goal.returns
 returns c = (
