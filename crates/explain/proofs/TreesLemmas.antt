@@ -3,9 +3,9 @@ use Rattle.std.proofs.Common.{◌≡◌, ◌∙◌, ◌⊎◌, ℕ, ◌+◌, ◌
 use Rattle.std.proofs.Common.{slice_get, slice_index, refl, sym, ap, subst, inl, inr, arith}
 use Rattle.std.specs.List.{Contains}
 use Rattle.std.proofs.lemmas.Grind.{common_steps}
-use Rattle.std.proofs.lemmas.List.{length_push}
+use Rattle.std.proofs.lemmas.List.{length_push, get_or_push}
 use Rattle.std.proofs.lemmas.List.Elements.{All-nil, All-cons, Contains-push}
-use Rattle.std.proofs.lemmas.Option.{slice_get_within}
+use Rattle.std.proofs.lemmas.Option.{slice_get_within, slice_get-get_or}
 use Rattle.loading.proofs.PlaceLemmas.{pushed_at, kept_at}
 use Rattle.graph.specs.Rows.{Rows, successors_of}
 use Rattle.graph.specs.steps.Adds.{Adds}
@@ -54,7 +54,9 @@ pub tree_none : (graph : Rows) → IsTree graph [] []
 tree_none graph = record { len = refl; found = λ p v far at. absurd cc }
 
 last_at : (finders : List ℕ) (place p : ℕ) → p ≡ length finders → slice_get (finders ++ place ∷ []) p ≡ Some place
-last_at finders place p is = grind (arith, common_steps)
+last_at finders place p is =
+    slice_get-get_or (finders ++ place ∷ []) p place (let l = length_push finders place in omega (arith, l, is))
+    ∙ ap Some (get_or_push finders place place p (sym is))
 
 pub tree_first : (graph : Rows) (v place : ℕ) → IsTree graph (v ∷ []) (place ∷ [])
 tree_first graph v place = record {
@@ -115,4 +117,4 @@ first_kept old row new v adds at = kept_first old new v
 -- the vertex at a place
 pub stands_at : (items : List ℕ) (place : ℕ) → place < length items
     → slice_get items place ≡ Some (slice_index items place)
-stands_at items place low = grind (arith, common_steps)
+stands_at items place low = slice_get-get_or items place 0 low
