@@ -3,9 +3,9 @@ use Rattle.std.proofs.Common.{◌≡◌, ◌∙◌, ◌⊎◌, ℕ, ◌+◌, ◌
 use Rattle.std.proofs.Common.{slice_get, slice_index, refl, sym, ap, subst, inl, inr, arith}
 use Rattle.std.specs.List.{Contains}
 use Rattle.std.proofs.lemmas.Grind.{common_steps}
-use Rattle.std.proofs.lemmas.List.{length_push}
-use Rattle.std.proofs.lemmas.List.Elements.{All-nil, Contains-push}
-use Rattle.std.proofs.lemmas.Option.{slice_get_within}
+use Rattle.std.proofs.lemmas.List.{length_push, get_or_push}
+use Rattle.std.proofs.lemmas.List.Elements.{All-nil, All-cons, Contains-push}
+use Rattle.std.proofs.lemmas.Option.{slice_get_within, slice_get-get_or}
 use Rattle.loading.proofs.PlaceLemmas.{pushed_at, kept_at}
 use Rattle.graph.specs.Rows.{Rows, successors_of}
 use Rattle.graph.specs.steps.Adds.{Adds}
@@ -22,6 +22,15 @@ adds_none items = record {
   keeps = λ x h. h;
   added = All-nil (Contains items);
   only = λ x h. inl h;
+}
+
+pub adds_first : (v : ℕ) → Adds [] (v ∷ []) (v ∷ [])
+adds_first v = record {
+  grows = omega arith;
+  same = λ k small. absurd (omega (arith, small));
+  keeps = λ x (k, small, e). absurd (omega (arith, small));
+  added = All-cons (Contains (v ∷ [])) v [] (Contains-push [] v) (All-nil (Contains (v ∷ [])));
+  only = λ x h. inr h;
 }
 
 pub adds_joined : (old row items new : List ℕ) (finders newer : List ℕ) (i v place : ℕ) → i < length row
@@ -45,7 +54,9 @@ pub tree_none : (graph : Rows) → IsTree graph [] []
 tree_none graph = record { len = refl; found = λ p v far at. absurd cc }
 
 last_at : (finders : List ℕ) (place p : ℕ) → p ≡ length finders → slice_get (finders ++ place ∷ []) p ≡ Some place
-last_at finders place p is = grind (arith, common_steps)
+last_at finders place p is =
+    slice_get-get_or (finders ++ place ∷ []) p place (let l = length_push finders place in omega (arith, l, is))
+    ∙ ap Some (get_or_push finders place place p (sym is))
 
 pub tree_first : (graph : Rows) (v place : ℕ) → IsTree graph (v ∷ []) (place ∷ [])
 tree_first graph v place = record {
@@ -102,3 +113,8 @@ first_kept old row new v adds at = kept_first old new v
     kept_first : (old new : List ℕ) (v : ℕ) → 0 < length old → length old ≤ length new
         → slice_index new 0 ≡ slice_index old 0 → slice_get old 0 ≡ Some v → slice_get new 0 ≡ Some v
     kept_first old new v some more same at = grind (arith, common_steps)
+
+-- the vertex at a place
+pub stands_at : (items : List ℕ) (place : ℕ) → place < length items
+    → slice_get items place ≡ Some (slice_index items place)
+stands_at items place low = slice_get-get_or items place 0 low

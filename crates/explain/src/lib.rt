@@ -18,6 +18,6 @@ pub use chains::chain_of;
 pub use explaining::{Explanation, Known};
 pub use lines::{all_text, class_text};
 pub use marks::{Shown, ShownMarks};
-pub use reruns::{Rerun, rerun};
+pub use reruns::{Rerun, run_again};
 pub use sizes::region_size;
 pub use stops::stop_within;

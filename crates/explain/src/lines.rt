@@ -7,7 +7,7 @@ use crate::blamed::{most_blamed, roots_of};
 use crate::chains::chain_of;
 use crate::explaining::{Explanation, Known};
 use crate::marks::{Shown, ShownMarks};
-use crate::reruns::rerun;
+use crate::reruns::run_again;
 use crate::sizes::region_size;
 use crate::stops::stop_within;
 use classfile::printed;
@@ -198,7 +198,7 @@ fn add_costs(
     };
     let kept = build.image.object_count(class);
     let bytes = region_size(alloc, build.image, class)?;
-    let cost = rerun(alloc, build.image, class, build.budget)?.budget;
+    let cost = run_again(alloc, build.image, class, build.budget)?.budget;
     writeln!(text, "{name} cost {cost} made {made} kept {kept} bytes {bytes}")
 }
 
@@ -211,7 +211,7 @@ fn add_stop(
     reason: Reason,
     text: &mut String,
 ) -> Result<(), AllocError> {
-    let again = rerun(alloc, build.image, class, build.budget)?;
+    let again = run_again(alloc, build.image, class, build.budget)?;
     // The instruction itself costs 1, where it is not for its cost that it is refused.
     let before = match reason {
         Reason::Budget => again.budget,

@@ -111,7 +111,8 @@ fn path_if(
     if !paths {
         return Ok(Vec::new(alloc));
     }
-    path_to(alloc, program, uses, search, place)
+    let path = path_to(alloc, program, uses, search, place)?;
+    Ok(path)
 }
 
 /// Where a mark is borne, if it is, where a search has found what may run.

@@ -96,7 +96,7 @@ fn least_budget(
 ///
 /// # Errors
 /// Where memory runs out.
-pub fn rerun(
+pub fn run_again(
     alloc: Global,
     image: &Image,
     class: u32,
