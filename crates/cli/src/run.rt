@@ -10,7 +10,7 @@ ghost use Rattle.cli.specs.Outputs.{IsApart};
 ghost use Rattle.cli.specs.Running.{IsCutShort, IsOfRun};
 ghost use Rattle.cli.specs.Status.{IsOver, code_of, run_status};
 
-use crate::by_threads::{ImageSeen, Journaled, replayed, run_by_threads};
+use crate::by_threads::{Journaled, replayed, run_by_threads};
 use crate::files::put;
 use crate::image_run::ImageStart;
 use crate::lazy::LazyStart;
@@ -410,31 +410,11 @@ fn replay_image<F: Files, W: Write, E: Write>(
 {
     match replayed(alloc, words, files) {
         Ok((seen, status)) => {
-            let status = tell_replay(alloc, &seen, status, out, errors);
-            let status = tell_replay_stacks(alloc, words, &seen, status, errors);
+            let status = tell_replay(alloc, words, &seen, status, out, errors);
             (status, Held::Image(seen.image))
         }
         Err(refusal) => (refuse(&refusal, errors), Held::Nothing),
     }
-}
-
-/// Tells where the threads of a replay stand, if the words ask for it.
-fn tell_replay_stacks<E: Write>(
-    alloc: Global,
-    words: &Replay<'_>,
-    replayed: &ImageSeen,
-    status: Status,
-    errors: &mut E,
-) -> Status
-    requires { status ≢ Status.Words }
-    ensures words { result ≢ Status.Words }
-    ensures done { IsOver result → result ≡ status }
-{
-    if !words.stacks {
-        return status;
-    }
-    let runs = replayed.journal.runs();
-    tell_image_stacks(alloc, &replayed.image, words.entries, runs, status, errors)
 }
 
 /// Runs a program from a world of it, and tells what it prints while it runs, and then how its threads ended.

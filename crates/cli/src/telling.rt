@@ -10,7 +10,8 @@ use crate::auditing::Audited;
 use crate::by_threads::ImageSeen;
 use crate::outputs::Clash;
 use crate::running::send_seen;
-use crate::{Refusal, Request, RunFault, Status, WordsFault, thread_lines};
+use crate::standing::tell_image_stacks;
+use crate::{Refusal, Replay, Request, RunFault, Status, WordsFault, thread_lines};
 use init_engine::Ending;
 use program::Program;
 use std::alloc::Global;
@@ -19,6 +20,7 @@ use std::io::Write;
 /// Tells what a replay has shown.
 pub(crate) fn tell_replay<W: Write, E: Write>(
     alloc: Global,
+    words: &Replay<'_>,
     replayed: &ImageSeen,
     status: Status,
     out: &mut W,
@@ -32,18 +34,33 @@ pub(crate) fn tell_replay<W: Write, E: Write>(
     ensures done { IsOver result → (result ≡ status)
         × Appends (W.contents out.old) (W.contents out.new) (text_of replayed.now.seen.printed) }
 {
-    let program = replayed.image.program();
     match send_seen(&replayed.seen, out) {
-        Ok(()) => tell_endings(
-            alloc,
-            program,
-            replayed.seen.threads.as_slice(),
-            status,
-            errors,
-        ),
+        Ok(()) => tell_replay_threads(alloc, words, replayed, status, errors),
         Err(RunFault::Memory) => refuse(&Refusal::Memory, errors),
         Err(RunFault::Device) => refuse(&Refusal::Device, errors),
     }
+}
+
+/// Tells how the threads of a replay ended, and where they stand, if the words ask for it.
+fn tell_replay_threads<E: Write>(
+    alloc: Global,
+    words: &Replay<'_>,
+    replayed: &ImageSeen,
+    status: Status,
+    errors: &mut E,
+) -> Status
+    requires { status ≢ Status.Words }
+    ensures words { result ≢ Status.Words }
+    ensures done { IsOver result → result ≡ status }
+{
+    let program = replayed.image.program();
+    let threads = replayed.seen.threads.as_slice();
+    let status = tell_endings(alloc, program, threads, status, errors);
+    if !words.stacks {
+        return status;
+    }
+    let runs = replayed.journal.runs();
+    tell_image_stacks(alloc, &replayed.image, words.entries, runs, status, errors)
 }
 
 /// Tells how threads ended.
