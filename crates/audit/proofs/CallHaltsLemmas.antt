@@ -299,7 +299,8 @@ module _ (t : ℕ) (maker : Maker) (P : Tables) (f : Frame) where
     call_leads (calls.Instance k) =
         need_leads (calls.Instance k) (parameters_at P k.caller k.descriptor) _ (λ kinds is.
         need_leads (calls.Instance k) (receiver_under kinds f.operands) (called_on P k (length kinds + 1) f) (λ v on.
-        on_leads (calls.Instance k) k refl (length kinds + 1) v (ap (λ (o : Option (List FieldKind)). receiver_for o f) is ∙ on)))
+        on_leads (calls.Instance k) k refl (length kinds + 1) v
+        (ap (λ (o : Option (List FieldKind)). receiver_for o f) is ∙ on)))
     call_leads (calls.Print what line k) =
         need_leads (calls.Print what line k) (top f.operands) _ (λ v is.
         need_leads (calls.Print what line k) (printed_text P what v) _ (λ text so.
