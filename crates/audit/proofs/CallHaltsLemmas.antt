@@ -25,6 +25,7 @@ use Rattle.hierarchy.specs.declared.member.Method.TheVariants as methods
 use Rattle.hierarchy.specs.Selection.{selected}
 use Rattle.program.specs.declared.class.Implementation.{Implementation}
 use Rattle.program.specs.declared.class.Implementation.TheVariants as implementations
+use Rattle.program.specs.declared.runtime_constant.FieldKind.{FieldKind}
 use Rattle.program.specs.Tables.{Tables, implementation_at, initializer_in}
 use Rattle.frame_instructions.specs.declared.operand_kind.OperandKind.TheVariants.{Int, Reference}
 use Rattle.frame_instructions.specs.Instructions.{is_null}
@@ -46,6 +47,7 @@ use Rattle.machine.specs.Calls.{runs_chosen, is_out, unless_null, called_on}
 use Rattle.machine.specs.Printing.{printed_text, ended, print_on}
 use Rattle.machine.specs.Operations.{Operation, OnCall}
 use Rattle.machine.specs.Table.{call_row}
+use Rattle.use_graph.specs.declared.callee.Callee.{Callee}
 use Rattle.use_graph.specs.Code.{callee_of_call, chosen_callee, found_callee, MayRunFor}
 use Rattle.use_graph.specs.Uses.{CallsLeftOut, IsLeftOut}
 use Rattle.audit.specs.Ends.{class_by, class_of, receiver_for, receiver_of, choice_of, Runs, IsCallOf, IsNoMethod}
@@ -61,15 +63,15 @@ pub lacking_leads : (One Other : FaultKind → Type 0) → ((kind : FaultKind) �
     → (r : Result) → LeadsFor One r → LeadsFor Other r
 lacking_leads One Other on = by
   where
-    for : (kind : FaultKind) → IsFor One kind → IsFor Other kind
-    for faults.Fault h = tt
-    for faults.Unsupported h = on faults.Unsupported h Unsupported
-    for faults.Missing h = on faults.Missing h Missing
+    of_kind : (kind : FaultKind) → IsFor One kind → IsFor Other kind
+    of_kind faults.Fault h = tt
+    of_kind faults.Unsupported h = on faults.Unsupported h Unsupported
+    of_kind faults.Missing h = on faults.Missing h Missing
 
     ends : (outcome : Outcome) → HaltsFor One outcome → HaltsFor Other outcome
     ends (Next move) h = tt
     ends (Raise x class) h = tt
-    ends (Halt kind) h = for kind h
+    ends (Halt kind) h = of_kind kind h
 
     by : (r : Result) → LeadsFor One r → LeadsFor Other r
     by (Moved outcome new) h = ends outcome h
@@ -84,7 +86,7 @@ leads_weaker One Other on r h = lacking_leads One Other (λ kind why lack. on ki
 
 -- why a call of a method may halt
 data RunsFor (P : Tables) (f : Frame) (m : Option FoundMethod) : FaultKind → Type 0 where
-  left_out : {d k : ℕ} → m ≡ Some (methods.Given d k) → IsLeftOut P d k → RunsFor P f m faults.Unsupported
+  left_out : (d k : ℕ) → m ≡ Some (methods.Given d k) → IsLeftOut P d k → RunsFor P f m faults.Unsupported
   nameless : m ≡ Some (methods.BuiltIn members.NewEnum) → top_as Reference (rest f.operands) ≡ Some values.Null
       → RunsFor P f m faults.Unsupported
   nothing : IsNoMethod P m → RunsFor P f m faults.Missing
@@ -173,7 +175,7 @@ module _ (t : ℕ) (maker : Maker) (P : Tables) (f : Frame) where
       → Suits t maker (RunsFor P f (Some (methods.Given d k))) (reaches d k count f o)
   reaches_suit d k count None is = λ sh. nothing (inl is)
   reaches_suit d k count (Some implementations.Abstract) is = λ sh. nothing (inr is)
-  reaches_suit d k count (Some implementations.Unsupported) is = λ sh. left_out refl is
+  reaches_suit d k count (Some implementations.Unsupported) is = λ sh. left_out d k refl is
   reaches_suit d k count (Some (implementations.Code code)) is =
       need t maker _ (passed (replicate code.max_locals None) 0 (taken count f.operands)) _ (λ locals so.
       went t maker _ _)
@@ -207,15 +209,18 @@ module _ (t : ℕ) (maker : Maker) (P : Tables) (f : Frame) where
     reason : (call : CallOperation) (m : Option FoundMethod)
         → Runs P sh (receiver_of P call f) (choice_of call) m → (kind : FaultKind) → RunsFor P f m kind
         → CallsFor P sh f call kind
-    reason call m runs kind (left_out {d} {k} is out) =
-        calling (d, k,
-        subst (λ callee. MayRunFor P callee d k) (callee_is call)
-        (may_run (receiver_of P call f) (choice_of call) d k
-        (subst (Runs P sh (receiver_of P call f) (choice_of call)) is runs)),
-        out)
-    reason call m runs kind (nameless is null) =
-        lacking (unnamed (call, refl, subst (Runs P sh (receiver_of P call f) (choice_of call)) is runs) null)
-    reason call m runs kind (nothing none) = lacking (no_method (call, refl, runs) none)
+    reason call m ran kind (left_out d k is out) =
+        calling (
+          d,
+          k,
+          subst (λ (callee : Callee). MayRunFor P callee d k) (callee_is call)
+              (may_run (receiver_of P call f) (choice_of call) d k
+              (subst (Runs P sh (receiver_of P call f) (choice_of call)) is ran)),
+          out,
+        )
+    reason call m ran kind (nameless is null) =
+        lacking (unnamed (call, refl, subst (Runs P sh (receiver_of P call f) (choice_of call)) is ran) null)
+    reason call m ran kind (nothing none) = lacking (no_method (call, refl, ran) none)
 
     abbrev Leads : CallOperation → Row → Type 0
     Leads call r = LeadsFor (CallsFor P sh f call) (run_row t maker sh r)
@@ -294,7 +299,8 @@ module _ (t : ℕ) (maker : Maker) (P : Tables) (f : Frame) where
     call_leads (calls.Instance k) =
         need_leads (calls.Instance k) (parameters_at P k.caller k.descriptor) _ (λ kinds is.
         need_leads (calls.Instance k) (receiver_under kinds f.operands) (called_on P k (length kinds + 1) f) (λ v on.
-        on_leads (calls.Instance k) k refl (length kinds + 1) v (ap (λ o. receiver_for o f) is ∙ on)))
+        on_leads (calls.Instance k) k refl (length kinds + 1) v
+        (ap (λ (o : Option (List FieldKind)). receiver_for o f) is ∙ on)))
     call_leads (calls.Print what line k) =
         need_leads (calls.Print what line k) (top f.operands) _ (λ v is.
         need_leads (calls.Print what line k) (printed_text P what v) _ (λ text so.

@@ -1,8 +1,11 @@
 -- A thread of a run that ends as Unsupported or Missing ends where it is told, or by its operands.
-use Rattle.std.proofs.Common.{◌≡◌, ◌≢◌, ◌∙◌, ◌⊎◌, ◌<◌, inl, inr, refl, sym, ap, subst, ℕ, zero, suc, ◌+◌, List, [], ◌∷◌, ◌++◌}
-use Rattle.std.proofs.Common.{Option, Some, None, Bool, true, false, ◌==◌, length, slice_get, get_or, unwrap_or, eqb-true, eq-eqb}
+use Rattle.std.proofs.Common.{◌≡◌, ◌≢◌, ◌∙◌, ◌⊎◌, ◌<◌, inl, inr, refl, sym, ap, subst, ℕ, zero, suc, ◌+◌, List, [], ◌∷◌}
+use Rattle.std.proofs.Common.{◌++◌}
+use Rattle.std.proofs.Common.{Option, Some, None, Bool, true, false, ◌==◌, length, slice_get, get_or, unwrap_or}
+use Rattle.std.proofs.Common.{eqb-true, eq-eqb}
 use Rattle.std.proofs.lemmas.Option.{unwrap_or-slice_get}
-use Rattle.built_in.specs.declared.class_id.BuiltIn.TheVariants.{Error, ExceptionInInitializerError, NoClassDefFoundError}
+use Rattle.built_in.specs.declared.class_id.BuiltIn.TheVariants.{Error, ExceptionInInitializerError}
+use Rattle.built_in.specs.declared.class_id.BuiltIn.TheVariants.{NoClassDefFoundError}
 use Rattle.built_in.specs.declared.class_id.ClassId.TheVariants.{BuiltIn}
 use Rattle.vm_state.specs.declared.ends.End.{End}
 use Rattle.vm_state.specs.declared.ends.End.TheVariants.{Returned, Uncaught, Faulted}
@@ -247,7 +250,7 @@ module _ (P : Tables) (is : IsProgram P) (entries : List ℕ) (mains : HaveMains
         next = f.next;
         run = f.run;
         stepped = f.stepped;
-        rest = f.rest;
+        onward = f.rest;
         frame = top.frame;
         under = top.under;
         levels = top.levels;

@@ -1,5 +1,6 @@
 -- Where an instruction halts otherwise than as a fault it is told, or halts by its operands.
-use Rattle.std.proofs.Common.{◌≡◌, ◌∙◌, refl, sym, ap, subst, ℕ, Bool, true, false, Option, Some, None, Ok, Err, map, is_some}
+use Rattle.std.proofs.Common.{◌≡◌, ◌∙◌, refl, sym, ap, subst, ℕ, Bool, true, false, Option, Some, None, Ok, Err, map}
+use Rattle.std.proofs.Common.{is_some}
 use Rattle.std.proofs.Common.{option_map, slice_get, replicate, [], List}
 use Rattle.std.specs.Prelude.{IsSome}
 use Rattle.std.specs.List.{Contains}
@@ -24,6 +25,7 @@ use Rattle.vm_state.specs.Values.{name_of}
 use Rattle.semantics.specs.Rows.{Row, UseMonitor, run_row}
 use Rattle.program.specs.declared.class.Implementation.{Implementation}
 use Rattle.program.specs.declared.class.Implementation.TheVariants as implementations
+use Rattle.program.specs.declared.runtime_constant.FieldKind.{FieldKind}
 use Rattle.program.specs.declared.signature.ReturnKind.{ReturnKind}
 use Rattle.program.specs.declared.signature.ReturnKind.TheVariants as returns
 use Rattle.program.specs.InstanceFields.{slots_of}
@@ -55,8 +57,10 @@ use Rattle.audit.specs.Ends.{HasNoMonitor, Text, Out, IsByOperands, enter, exit,
 use Rattle.audit.specs.Ends.{IsLack, Unsupported, Missing, HaveMains}
 use Rattle.audit.proofs.CallsLemmas.{main_declared}
 use Rattle.audit.proofs.HaltsLemmas.{LeadsFor, Suits, fault, went, raised, used, read, written, locked, need, pushes}
-use Rattle.audit.proofs.HaltsLemmas.{array_suits, new_suits, cast_suits, instance_suits, throw_suits, get_suits, put_suits}
-use Rattle.audit.proofs.CallHaltsLemmas.{leads_weaker, lacking_leads, CallsFor, lacking, calling as calls_left_out, call_leads}
+use Rattle.audit.proofs.HaltsLemmas.{array_suits, new_suits, cast_suits, instance_suits, throw_suits, get_suits}
+use Rattle.audit.proofs.HaltsLemmas.{put_suits}
+use Rattle.audit.proofs.CallHaltsLemmas.{leads_weaker, lacking_leads, CallsFor, lacking, calling as calls_left_out}
+use Rattle.audit.proofs.CallHaltsLemmas.{call_leads}
 use Rattle.audit.proofs.RefusedLemmas.{feature_at_is, refused_feature}
 
 -- why an operation may halt
@@ -70,8 +74,8 @@ module _ (t : ℕ) (maker : Maker) (P : Tables) (f : Frame) where
 
   module _ (Why : FaultKind → Type 0) where
     -- where to have no monitor is such a reason
-    module _ (none : (v : Value) → top_as Reference f.operands ≡ Some v → HasNoMonitor v → Why faults.Unsupported)
-        where
+    module _ (none : (v : Value) → top_as Reference f.operands ≡ Some v → HasNoMonitor v
+        → Why faults.Unsupported) where
       nameless : (v : Value) → top_as Reference f.operands ≡ Some v → Suits t maker Why (without_monitor v)
       nameless values.Null is = raised t maker Why builtins.NullPointerException
       nameless (values.Text s) is = λ sh. none (values.Text s) is (Text s)
@@ -81,15 +85,15 @@ module _ (t : ℕ) (maker : Maker) (P : Tables) (f : Frame) where
       nameless (values.Int n) is = fault t maker Why
       nameless (values.Long n) is = fault t maker Why
 
-      monitors : (enter : Bool) (next : Bool → Row) → ((b : Bool) → Suits t maker Why (next b))
-          → Suits t maker Why (use_monitor enter f next)
-      monitors enter next on =
+      monitors : (way : Bool) (next : Bool → Row) → ((b : Bool) → Suits t maker Why (next b))
+          → Suits t maker Why (use_monitor way f next)
+      monitors way next on =
           need t maker Why (top_as Reference f.operands) _ (λ v is. by_name v is (name_of v))
         where
           by_name : (v : Value) → top_as Reference f.operands ≡ Some v → (n : Option Name)
-              → Suits t maker Why (on_name n (without_monitor v) (λ x. UseMonitor x enter next))
+              → Suits t maker Why (on_name n (without_monitor v) (λ x. UseMonitor x way next))
           by_name v is None = nameless v is
-          by_name v is (Some x) = locked t maker Why x enter next on
+          by_name v is (Some x) = locked t maker Why x way next on
 
     enters : (b : Bool) → Suits t maker Why (entered f b)
     enters true = went t maker Why _
@@ -126,10 +130,20 @@ module _ (t : ℕ) (maker : Maker) (P : Tables) (f : Frame) where
     object_suits objects.ExitMonitor =
         monitors _ (λ v is no. lacks (exit refl is no)) false (left f) (leaves _)
 
-    refuses : (kind : FaultKind) → LeadsFor (HaltsBy P sh f (Refused kind)) (run_row t maker sh (operation_row P (Refused kind) f))
+    refuses : (kind : FaultKind)
+        → LeadsFor (HaltsBy P sh f (Refused kind)) (run_row t maker sh (operation_row P (Refused kind) f))
     refuses faults.Fault = tt
     refuses faults.Unsupported = refused refl
     refuses faults.Missing = refused refl
+
+    gets : (c k : ℕ) → Suits t maker (HaltsBy P sh f (GetStatic c k)) (operation_row P (GetStatic c k) f)
+    gets c k = used t maker _ c _ (read t maker _ c k (λ v. push v f) (λ v. pushes t maker _ v f))
+
+    puts : (kind : FieldKind) (c k : ℕ)
+        → Suits t maker (HaltsBy P sh f (PutStatic kind c k)) (operation_row P (PutStatic kind c k) f)
+    puts kind c k =
+        used t maker _ c _ (need t maker _ (top_stored kind f.operands) _ (λ v is.
+        written t maker _ c k v _ (went t maker _ _)))
 
     called_for : (call : CallOperation) (kind : FaultKind) → CallsFor P sh f call kind
         → HaltsBy P sh f (OnCall call) kind
@@ -139,13 +153,8 @@ module _ (t : ℕ) (maker : Maker) (P : Tables) (f : Frame) where
     operation_leads : (o : Operation) → LeadsFor (HaltsBy P sh f o) (run_row t maker sh (operation_row P o f))
     operation_leads (Local i) = locals _ (local_after i f) sh
     operation_leads (PushText s) = pushes t maker _ (values.Text s) f sh
-    operation_leads (GetStatic c k) =
-        used t maker (HaltsBy P sh f (GetStatic c k)) c _
-        (read t maker (HaltsBy P sh f (GetStatic c k)) c k (λ v. push v f) (λ v. pushes t maker (HaltsBy P sh f (GetStatic c k)) v f)) sh
-    operation_leads (PutStatic kind c k) =
-        used t maker (HaltsBy P sh f (PutStatic kind c k)) c _
-        (need t maker (HaltsBy P sh f (PutStatic kind c k)) (top_stored kind f.operands) _ (λ v is.
-        written t maker (HaltsBy P sh f (PutStatic kind c k)) c k v _ (went t maker (HaltsBy P sh f (PutStatic kind c k)) _))) sh
+    operation_leads (GetStatic c k) = gets c k sh
+    operation_leads (PutStatic kind c k) = puts kind c k sh
     operation_leads GetOut = pushes t maker _ values.Out f sh
     operation_leads (OnArray operation) = array_suits t maker _ P operation f sh
     operation_leads (OnCall call) =
@@ -202,7 +211,7 @@ module _ (P : Tables) (entries : List ℕ) (sh : SharedState) (f : Frame) where
     ends_by : (t : ℕ) (maker : Maker) (o : Operation) (kind : FaultKind) → operation_at P d k f.place ≡ Some o
         → HaltsBy P sh f o kind → IsLack kind → IsEnd P entries sh f kind
     ends_by t maker o kind at (lacks is) lack = by_operands here at is
-    ends_by t maker o faults.Unsupported at (calls out) lack =
+    ends_by t maker o kind at (calls out) lack =
         place_told o faults.Unsupported at (features.LeftOut, calling at out, refl)
     ends_by t maker o kind at (refused is) lack =
         let (feature, means, ends) = refused_feature lack in
@@ -216,8 +225,8 @@ module _ (P : Tables) (entries : List ℕ) (sh : SharedState) (f : Frame) where
         → Leads t maker (fetched P o f)
     method_leads t maker None at = tt
     method_leads t maker (Some o) at =
-        lacking_leads (HaltsBy P sh f o) (IsEnd P entries sh f) (λ kind why lack. ends_by t maker o kind at why lack)
-        _ (operation_leads t maker P f sh o)
+        lacking_leads (HaltsBy P sh f o) (IsEnd P entries sh f)
+        (λ kind why lack. ends_by t maker o kind at why lack) _ (operation_leads t maker P f sh o)
 
   -- ---- at a thread's start
 
@@ -225,9 +234,9 @@ module _ (P : Tables) (entries : List ℕ) (sh : SharedState) (f : Frame) where
       (among : Contains entries c) where
     start_told : (m : ℕ) (kind : FaultKind) → main_in P c ≡ Some m → lack_of (implementation_at P c m) ≡ Some kind
         → IsEnd P entries sh f kind
-    start_told m kind main lacks =
+    start_told m kind main so =
         let place : Place = record { class = c; index = m; pc = None; kind = kind } in
-        told place (among, main, lacks) refl
+        told place (among, main, so) refl
         (subst (λ (a : Activity). StandsAt P a f.place place) (sym here) (refl, main, refl))
 
     main_suits : (t : ℕ) (maker : Maker) (m : ℕ) → main_in P c ≡ Some m → (o : Option Implementation)
