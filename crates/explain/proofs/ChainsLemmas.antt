@@ -51,7 +51,7 @@ module _ (P : Tables) (verdicts : List Verdict) (whole : length verdicts ≡ len
 
   first_use : (c : ℕ) (first : Option ℕ) → IsFirst (IsRefusedUse P (map is_refused verdicts) c) first
       → IsFirstUse P verdicts c first
-  first_use c None none e used = elim (accepted_or e used.0) [
+  first_use c None none = λ e used. elim (accepted_or e used.0) [
     | inl accepted ↦ accepted
     | inr marked ↦ absurd (none e (used, marked))
   ]

@@ -4,3 +4,5 @@ pub mod TreesLemmas
 pub mod CallersLemmas
 pub mod ChainsLemmas
 pub mod RerunsLemmas
+pub mod PairsLemmas
+pub mod CyclesLemmas

@@ -1,6 +1,6 @@
 //! Where a method calls another.
 
-ghost use Rattle.std.specs.Prelude.{◌≡◌, ◌×◌, ◌↔◌, IsTrue, IfOk, MatchOption};
+ghost use Rattle.std.specs.Prelude.{◌≡◌, ◌↔◌, IsTrue, IfOk, MatchOption};
 ghost use Rattle.std.specs.List.{Contains};
 ghost use Rattle.bytecode.specs.declared.placed.Placed.{Placed as Held};
 ghost use Rattle.machine.specs.Operations.{meaning};

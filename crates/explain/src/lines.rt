@@ -226,6 +226,14 @@ fn add_stop(
     writeln!(text, "{name} {reason} at {place}")
 }
 
+/// Whether a reason is found by running an initializer.
+fn is_of_run(reason: Reason) -> bool {
+    matches!(
+        reason,
+        Reason::Raised | Reason::ForeignObject | Reason::Budget | Reason::Faulted
+    )
+}
+
 /// Adds what a run of the initializer of a class shows, where it was run.
 fn add_rerun(
     alloc: Global,
@@ -236,14 +244,9 @@ fn add_rerun(
 ) -> Result<(), AllocError> {
     match build.verdicts.get(class as usize).copied() {
         Some(Verdict::Wave(_)) => add_costs(alloc, build, name, class, text),
-        Some(
-            Verdict::Refused(
-                reason @ (Reason::Raised
-                | Reason::ForeignObject
-                | Reason::Budget
-                | Reason::Faulted),
-            ),
-        ) => add_stop(alloc, build, name, class, reason, text),
+        Some(Verdict::Refused(reason)) if is_of_run(reason) => {
+            add_stop(alloc, build, name, class, reason, text)
+        }
         _ => Ok(()),
     }
 }

@@ -1,5 +1,4 @@
-use Rattle.std.proofs.Common.{◌≡◌, ℕ, Some, refl, slice_index, subst, sym, arith}
-use Rattle.std.specs.List.{Contains}
+use Rattle.std.proofs.Common.{ℕ, refl, slice_index, arith}
 use Rattle.std.proofs.lemmas.List.Elements.{Contains-get_or}
 use Rattle.explain.proofs.TreesLemmas.{adds_none, adds_joined, here_joined, tree_joined}
 use Rattle.explain.proofs.search.add_row.Goals as goal

@@ -1,5 +1,4 @@
-use Rattle.std.proofs.Common.{◌≡◌, ◌∙◌, ◌↔◌, ℕ, [], ◌∷◌, List, Some, slice_get, slice_index, ap, sym, subst, refl, arith}
-use Rattle.std.specs.List.{Contains}
+use Rattle.std.proofs.Common.{◌≡◌, ◌∙◌, ℕ, [], ◌∷◌, List, slice_get, slice_index, ap, sym, subst, arith}
 use Rattle.graph.specs.Rows.{successors_of}
 use Rattle.graph.proofs.AddsLemmas.{Searching, searching_first, searching_next, searching_done, reached_from_one}
 use Rattle.explain.specs.steps.Trees.{IsTree}
