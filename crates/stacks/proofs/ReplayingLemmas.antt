@@ -1,10 +1,11 @@
 -- Steps in a row, and what is kept of the last run of each thread.
 use Rattle.std.proofs.Common.{◌≡◌, ◌≢◌, ℕ, zero, suc, ◌+◌, ◌-◌, ◌<◌, ◌≤◌, ◌⊎◌, inl, inr, ◌++◌, Bool, true, false, List, [], ◌∷◌}
 use Rattle.std.proofs.Common.{Option, Some, None, refl, sym, ap, subst, ◌∙◌, arith, length, replicate, slice_get, slice_set, take}
-use Rattle.std.proofs.Common.{◌==◌, eqb-true}
+use Rattle.std.proofs.Common.{◌==◌, eqb-true, get_or}
 use Rattle.std.proofs.Math.Nat.{eq-or-lt_of_le}
 use Rattle.std.proofs.lemmas.List.{replicate-append-replicate}
-use Rattle.std.proofs.lemmas.Option.{slice_get_within}
+use Rattle.std.proofs.lemmas.Bool.{cases_lt}
+use Rattle.std.proofs.lemmas.Option.{slice_get_within, slice_get-get_or}
 use Rattle.vm_state.specs.Output.{Print}
 use Rattle.vm_state.specs.declared.initialization.Frames.{Frames}
 use Rattle.vm_state.proofs.ListLemmas.{tested, unequal}
@@ -106,14 +107,14 @@ last_at runs last p u m t n i here within is same =
     let pair = same_pair t n u m (sym is ∙ ap (slice_get runs) same ∙ here) in
     let found : slice_get (slice_set last u p) t ≡ Some p =
     ap (slice_get (slice_set last u p)) pair.0 ∙ set_same last u p within in
-    (p, omega (arith, same), found, (m, here ∙ ap (λ k. Some (k, m)) (sym pair.0)))
+    (p, omega (arith, same), found, (m, here ∙ ap (λ (k : ℕ). Some (k, m)) (sym pair.0)))
 
 last_moved : (runs : List (ℕ × ℕ)) (last : List ℕ) (p u m t i : ℕ) → slice_get runs p ≡ Some (u, m)
     → u < length last → i < p → HasLast runs last t i → (t ≡ u) ⊎ (t ≢ u) → HasLast runs (slice_set last u p) t i
 last_moved runs last p u m t i here within before old (inl same) =
     let found : slice_get (slice_set last u p) t ≡ Some p =
     ap (slice_get (slice_set last u p)) same ∙ set_same last u p within in
-    (p, omega (arith, before), found, (m, here ∙ ap (λ k. Some (k, m)) (sym same)))
+    (p, omega (arith, before), found, (m, here ∙ ap (λ (k : ℕ). Some (k, m)) (sym same)))
 last_moved runs last p u m t i here within before (j, le, found, there) (inr other) =
     (j, le, set_other last u t p other ∙ found, there)
 
@@ -138,6 +139,33 @@ last_skipped runs last p u m here past old t n i before is there =
       | inr less ↦ old t n i less is there
     ]
 
+noted_by : (runs : List (ℕ × ℕ)) (old new : List ℕ) (p u m : ℕ) → slice_get runs p ≡ Some (u, m)
+    → (u < length old → new ≡ slice_set old u p) → (¬ (u < length old) → new ≡ old) → AreLastBelow p runs old
+    → (u < length old) ⊎ (length old ≤ u) → AreLastBelow (p + 1) runs new
+noted_by runs old new p u m here there past before (inl within) =
+    subst (λ (l : List ℕ). AreLastBelow (p + 1) runs l) (sym (there within)) (last_set runs old p u m here within before)
+noted_by runs old new p u m here there past before (inr beyond) =
+    let none : ¬ (u < length old) = λ within. omega (arith, within, beyond) in
+    subst (λ (l : List ℕ). AreLastBelow (p + 1) runs l) (sym (past none)) (last_skipped runs old p u m here none before)
+
+-- one run further
+pub noted : (runs : List (ℕ × ℕ)) (old new : List ℕ) (p : ℕ) (d : ℕ × ℕ) → p < length runs
+    → ((get_or runs p d).0 < length old → new ≡ slice_set old (get_or runs p d).0 p)
+    → (¬ ((get_or runs p d).0 < length old) → new ≡ old) → AreLastBelow p runs old → AreLastBelow (p + 1) runs new
+noted runs old new p d within there past before =
+    let u : ℕ = (get_or runs p d).0 in
+    noted_by runs old new p u (get_or runs p d).1 (slice_get-get_or runs p d within) there past before
+    (cases_lt u (length old))
+
+noted_length_by : (old new : List ℕ) (p u : ℕ) → (u < length old → new ≡ slice_set old u p)
+    → (¬ (u < length old) → new ≡ old) → (u < length old) ⊎ (length old ≤ u) → length new ≡ length old
+noted_length_by old new p u there past (inl within) = ap length (there within) ∙ set_length old u p
+noted_length_by old new p u there past (inr beyond) = ap length (past (λ within. omega (arith, within, beyond)))
+
+pub noted_length : (old new : List ℕ) (p u : ℕ) → (u < length old → new ≡ slice_set old u p)
+    → (¬ (u < length old) → new ≡ old) → length new ≡ length old
+noted_length old new p u there past = noted_length_by old new p u there past (cases_lt u (length old))
+
 -- ---- what is kept
 
 -- where a run is not its thread's last one nothing is kept
@@ -151,13 +179,15 @@ Stood P first runs before t i = (s : Frames) × (slice_get before t ≡ Some (So
 stood_at : (P : Program) (first w : World) (runs : List (ℕ × ℕ)) (p u n : ℕ) (s : Frames)
     → slice_get runs p ≡ Some (u, n) → 0 < n → Run P first (schedule_of (take p runs)) w → StoodIn P w u n s
     → StoodAt P first runs u p s
-stood_at P first w runs p u n s here some run stood = record {
-  steps = n - 1;
-  here = here ∙ ap (λ k. Some (u, k)) (omega (arith, some));
-  world = stood.world;
-  run = runs_join_lem P first w stood.world (schedule_of (take p runs)) (replicate (n - 1) u) run stood.run;
-  frames = stood.frames;
-}
+stood_at P first w runs p u n s here some run stood =
+    let whole : n ≡ n - 1 + 1 = omega (arith, some) in
+    record {
+      steps = n - 1;
+      here = here ∙ ap (λ (k : ℕ). Some (u, k)) whole;
+      world = stood.world;
+      run = runs_join_lem P first w stood.world (schedule_of (take p runs)) (replicate (n - 1) u) run stood.run;
+      frames = stood.frames;
+    }
 
 -- the run at this place
 kept_here : (P : Program) (first w : World) (runs : List (ℕ × ℕ)) (last : List ℕ) (old new : List (Option Frames))
@@ -198,7 +228,7 @@ kept_more P first w runs last old new p u n is_last here some within even run kn
             subst (λ k. k < length new) (sym pair.0) (omega (arith, within, even)),
             λ found.
                 let there : slice_get last u ≡ Some p =
-                ap (slice_get last) (sym pair.0) ∙ found ∙ ap (λ k. Some k) same in
+                ap (slice_get last) (sym pair.0) ∙ found ∙ ap (λ (k : ℕ). Some k) same in
                 let stood = kept_here P first w runs last old new p u n is_last here some within run known kept there in
                 subst (λ k. Stood P first runs new k i) (sym pair.0)
                 (subst (λ k. Stood P first runs new u k) (sym same) stood),

@@ -1,6 +1,7 @@
 //! A run over a schedule, which keeps the stack of each thread before its last step.
 
-ghost use Rattle.std.specs.Prelude.{◌≡◌, ◌<◌, ◌⊎◌, ℕ, Bool, true, false, Some, None, IfOk, IfErr, IfSome, OnOk, length, replicate, slice_get};
+ghost use Rattle.std.specs.Prelude.{◌≡◌, ◌<◌, ◌⊎◌, ℕ, Bool, true, false, Some, None, IfOk, IfErr, IfSome, OnOk};
+ghost use Rattle.std.specs.Prelude.{length, replicate, slice_get, slice_set};
 ghost use Rattle.semantics.specs.Worlds.{Run};
 ghost use Rattle.machine.specs.Linked.{program_of};
 ghost use Rattle.courses.specs.steps.StepTables.{KeepsSteps};
@@ -27,6 +28,16 @@ pub struct ThreadStacks {
     pub before: Vec<Option<Frames>>,
 }
 
+/// Notes the place of a run of a thread, where it is one of those that are looked for.
+fn note_run(last: &mut Vec<usize>, thread: u32, place: usize)
+    ensures there { thread < length last.old.items → last.new.items ≡ slice_set last.old.items thread place }
+    ensures past { ¬ (thread < length last.old.items) → last.new.items ≡ last.old.items }
+{
+    if (thread as usize) < last.len() {
+        last[thread as usize] = place;
+    }
+}
+
 /// For each of so many threads the place of its last run, if it has one.
 fn last_runs(alloc: Global, runs: &[(u32, u64)], count: usize) -> Result<Vec<usize>, AllocError>
     ensures last { IfOk result (λ last. AreLast runs.now last.items) }
@@ -34,10 +45,7 @@ fn last_runs(alloc: Global, runs: &[(u32, u64)], count: usize) -> Result<Vec<usi
 {
     let mut last = vec![in alloc; 0; count]?;
     for place in 0..runs.len() {
-        let thread = runs[place].0 as usize;
-        if thread < count {
-            last[thread] = place;
-        }
+        note_run(&mut last, runs[place].0, place);
     }
     Ok(last)
 }
@@ -102,7 +110,8 @@ fn take_last_run(
         (replicate steps thread)) }
     ensures threads { length world.new.threads ≡ length world.old.threads }
 {
-    if !take_steps(alloc, program, world, table, thread, steps - 1)? {
+    let went = take_steps(alloc, program, world, table, thread, steps - 1)?;
+    if !went {
         return Ok(None);
     }
     let frames = world.frames(alloc, thread)?;
@@ -139,11 +148,13 @@ fn take_run(
     ensures threads { length world.new.threads ≡ length world.old.threads }
 {
     let (thread, steps) = run;
-    if thread >= world.thread_count() {
+    let count = world.thread_count();
+    if thread >= count {
         return Ok(false);
     }
     if !is_last {
-        return take_steps(alloc, program, world, table, thread, steps);
+        let went = take_steps(alloc, program, world, table, thread, steps)?;
+        return Ok(went);
     }
     match take_last_run(alloc, program, world, table, thread, steps) {
         Ok(Some(frames)) => {
