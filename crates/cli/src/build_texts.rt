@@ -63,19 +63,19 @@ pub(crate) fn build_texts<G: Gate, R: Threads + Wait + Sync>(
 }
 
 /// The texts of a build.
-fn texts_of_build(
-    alloc: Global,
-    built: &Built,
-    reports: bool,
-) -> Result<BuildTexts, AllocError>
+fn texts_of_build(alloc: Global, built: &Built, reports: bool) -> Result<BuildTexts, AllocError>
     requires short { AreShort built.now.image.program.family }
     requires waves { GiveWaves built.now.image built.now.verdicts }
     ensures { (texts : List (List ℕ)) (options : Options) → IsBuildOfClassFiles texts options built.now
         → IfOk result (AreTextsOfBuild texts options reports) }
 {
-    let image = image_bytes(alloc, built)?;
-    let report = report_if(alloc, built, reports)?;
-    Ok(BuildTexts { image, report })
+    match image_bytes(alloc, built) {
+        Ok(image) => match report_if(alloc, built, reports) {
+            Ok(report) => Ok(BuildTexts { image, report }),
+            Err(error) => Err(error),
+        },
+        Err(error) => Err(error),
+    }
 }
 
 /// The text of the image of a build.
@@ -83,7 +83,7 @@ pub(crate) fn image_bytes(alloc: Global, built: &Built) -> Result<Vec<u8>, Alloc
     requires { AreShort built.now.image.program.family }
     ensures built { (texts : List (List ℕ)) (options : Options) → IsBuildOfClassFiles texts options built.now
         → IfOk result (λ bytes. IsBuiltText texts (list_of options.run_time) (list_of options.build_time)
-            options.budget bytes.items) }
+        options.budget bytes.items) }
     ensures text { IfOk result (λ bytes. IsTextOf bytes.items built.now.image) }
 {
     let _region = built.image.region(0);
