@@ -260,7 +260,10 @@ fn run_told<R: Threads + Wait + Sync, F: Files, W: Write + Send + Drop, E: Write
 {
     let (outcome, out) = run_as_said(rt, alloc, image.program(), world, words, out);
     match outcome {
-        Ok(ran) => (tell_run_and_stacks(alloc, image, words, &ran, files, errors), out),
+        Ok(ran) => (
+            tell_run_and_stacks(alloc, image, words, &ran, files, errors),
+            out,
+        ),
         Err(refusal) => (refuse(&refusal, errors), out),
     }
 }
@@ -338,7 +341,14 @@ fn tell_run_and_stacks<F: Files, E: Write>(
     if !words.stacks {
         return status;
     }
-    tell_image_stacks(alloc, image, words.entries, ran.journal.runs(), status, errors)
+    tell_image_stacks(
+        alloc,
+        image,
+        words.entries,
+        ran.journal.runs(),
+        status,
+        errors,
+    )
 }
 
 /// Tells how the threads of a run ended, and writes its journal where the words ask for it.
@@ -442,5 +452,12 @@ fn tell_turns<E: Write>(
     if !words.stacks {
         return status;
     }
-    tell_lazy_stacks(alloc, program, words.entries, ran.schedule.as_slice(), status, errors)
+    tell_lazy_stacks(
+        alloc,
+        program,
+        words.entries,
+        ran.schedule.as_slice(),
+        status,
+        errors,
+    )
 }

@@ -61,11 +61,7 @@ pub(crate) fn tell_image_stacks<E: Write>(
 }
 
 /// Tells stacks after a run with this status.
-fn tell_stacks<E: Write>(
-    stacks: Result<String, Refusal>,
-    status: Status,
-    errors: &mut E,
-) -> Status
+fn tell_stacks<E: Write>(stacks: Result<String, Refusal>, status: Status, errors: &mut E) -> Status
     requires { status ≢ Status.Words }
     ensures words { result ≢ Status.Words }
     ensures done { IsOver result → result ≡ status }
