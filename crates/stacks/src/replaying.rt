@@ -230,7 +230,14 @@ pub fn stacks(
     let count = world.thread_count();
     let last = last_runs(alloc, runs, count as usize)?;
     let mut before = no_frames(alloc, count)?;
-    match take_runs(alloc, program, &mut world, &mut before, runs, last.as_slice()) {
+    match take_runs(
+        alloc,
+        program,
+        &mut world,
+        &mut before,
+        runs,
+        last.as_slice(),
+    ) {
         Ok(()) => Ok(ThreadStacks { world, before }),
         Err(fault) => Err(fault),
     }
