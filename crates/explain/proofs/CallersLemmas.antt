@@ -96,7 +96,7 @@ module _ (P : Tables) (uses : UseGraph) (search : Search) (place : ℕ) (callee 
       → IsNamedLike P.family z callee.class callee.index → Back f
   second f u r z low at is group like =
       let (g, w, less, finder, stands, leads) = way.tree.found f u (not_first f u r at is) at in
-      let (x, y, here, there, goes) = selecting w u r is (way.uses.calls.sound w u leads) in
+      let (x, y, here, there, goes) = selecting w u r is (way.graph.calls.sound w u leads) in
       let same : y ≡ z = same_some (slice_get uses.methods r) y z there group in
       inr (
         λ m (v, stand, method). apart u r m
@@ -117,7 +117,7 @@ module _ (P : Tables) (uses : UseGraph) (search : Search) (place : ℕ) (callee 
   way_back =
       let (v, at, here) = way.here in
       let (f, u, low, finder, stands, leads) = way.tree.found place v way.far at in
-      (f, finder, elim (found_by u v here (way.uses.calls.sound u v leads)) [
+      (f, finder, elim (found_by u v here (way.graph.calls.sound u v leads)) [
         | inl (x, method, goes) ↦ inl (low, x, (u, stands, method), goes)
         | inr (r, z, is, group, like) ↦ second f u r z low stands is group like
       ])

@@ -18,10 +18,10 @@ AreCycles P others = (c : ℕ) → c < length P.classes → IsCycle P c (slice_i
 
 -- All that stands against a given class, where classes have these verdicts in the end: each reason that holds of it by
 -- itself is told, and what is told holds.
-pub record Explains (P : Tables) (verdicts : List Verdict) (forced : List Bool) (paths : Bool) (c : ℕ)
+pub record Explains (P : Tables) (verdicts : List Verdict) (at_run_time : List Bool) (paths : Bool) (c : ℕ)
     (explanation : Explanation) : Type 0 where
   pub verdict : explanation.verdict ≡ slice_get verdicts c
-  pub forced : explanation.forced ≡ has_class forced c
+  pub forced : explanation.forced ≡ has_class at_run_time c
   pub marks : AreShown P paths c explanation.marks
   pub cycle : c < length P.classes → IsCycle P c explanation.cycle
   pub first : c < length P.classes → IsFirstUse P verdicts c explanation.first

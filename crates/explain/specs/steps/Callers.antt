@@ -34,7 +34,7 @@ HasRoot uses search = (v : ℕ) → slice_get search.seen.items 0 ≡ Some v →
 
 -- a method stands at a place of a search, and not at the first one
 pub record IsWay (P : Tables) (uses : UseGraph) (search : Search) (place : ℕ) (callee : DeclaredMember) : Type 0 where
-  pub uses : IsUseGraph P uses
+  pub graph : IsUseGraph P uses
   pub tree : IsTree uses.calls search.seen.items search.finders.items
   pub root : HasRoot uses search
   pub far : 0 < place
