@@ -88,8 +88,17 @@ same_or_not i j = elim (tested (i == j)) [
   | inr e ↦ inr (unequal i j e)
 ]
 
-same_pair : (a b c d : ℕ) → Some (a, b) ≡ Some (c, d) → (a ≡ c) × (b ≡ d)
-same_pair a b c d h = (cc, cc)
+first_in : Option (ℕ × ℕ) → ℕ
+first_in None = 0
+first_in (Some pair) = pair.0
+
+second_in : Option (ℕ × ℕ) → ℕ
+second_in None = 0
+second_in (Some pair) = pair.1
+
+same_pair : (a b c d : ℕ) → ◌≡◌ {A = Option (ℕ × ℕ)} (Some (a, b)) (Some (c, d)) → (a ≡ c) × (b ≡ d)
+unfolding first_in second_in
+same_pair a b c d h = (ap first_in h, ap second_in h)
 
 -- ---- last runs
 

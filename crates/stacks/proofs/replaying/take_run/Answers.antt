@@ -1,4 +1,5 @@
-use Rattle.std.proofs.Common.{◌≡◌, Bool, Some, slice_set, subst, sym, refl, arith, length-map}
+use Rattle.std.proofs.Common.{◌≡◌, Bool, Some, slice_set, subst, sym, refl, arith}
+use Rattle.std.proofs.lemmas.List.{length-map}
 use Rattle.machine.specs.Linked.{program_of}
 use Rattle.init_engine.specs.Turns.{world_of}
 use Rattle.init_engine.specs.Threads.{thread_of}
@@ -9,7 +10,7 @@ use Rattle.stacks.proofs.replaying.take_run.Goals as goal
 pub returns-then-thread-count-clause-no : goal.returns-then-thread-count-clause-no
 returns-then-thread-count-clause-no c = λ no.
     no_thread (program_of c.args.program.now) (world_of c.args.world.now) c.args.run.0 c.args.run.1
-    (omega (arith, c.if-thread-count.true, c.thread_count-count.ensures, length-map thread_of c.args.world.now.threads))
+    (omega (arith, c.if-thread-count.true, c.thread_count-count.ensures, length-map c.args.world.now.threads thread_of))
     c.requires.some
 
 pub returns-then-not-is_last-clause-kept : goal.returns-then-not-is_last-clause-kept
@@ -27,3 +28,6 @@ returns-in-Ok-Some-clause-kept c =
 pub returns-in-Ok-Some-clause-yes : goal.returns-in-Ok-Some-clause-yes
 returns-in-Ok-Some-clause-yes c =
     let yes = rw c.in-Ok-Some.field-0-is at c.in-Ok-Some.ensures.yes in λ went. yes.0
+
+pub returns-in-Ok-None-clause-no : goal.returns-in-Ok-None-clause-no
+returns-in-Ok-None-clause-no c = λ no. c.in-Ok-None.ensures.no c.in-Ok-None.field-0-is

@@ -11,6 +11,16 @@ pub take_run-requires-clause-some : goal.take_run-requires-clause-some
 take_run-requires-clause-some c =
     some_steps c.args.runs.now c.loop-place.place (0, 0) c.requires.runs c.loop-place-test.true
 
+pub loop-place-init : goal.loop-place-init
+loop-place-init c = record {
+  run = refl;
+  kept = kept_none (program_of c.args.program.now) (world_of c.args.world.now) c.args.runs.now c.args.last.now
+      c.args.before.now.items;
+  count = c.requires.count;
+  threads = refl;
+  keeps = c.new-table.ensures c.args.program.now;
+}
+
 pub loop-place-preserved : goal.loop-place-preserved
 loop-place-preserved c =
     let P = program_of c.args.program.now in
