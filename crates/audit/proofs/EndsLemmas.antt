@@ -31,7 +31,7 @@ use Rattle.program.specs.Programs.{IsProgram}
 use Rattle.program.specs.Tables.{Tables}
 use Rattle.machine.specs.Failures.{fails_by, failing, orphaned}
 use Rattle.machine.specs.Linked.{program_of}
-use Rattle.machine.specs.RowParts.{raises}
+use Rattle.machine.specs.RowParts.{needing, raises}
 use Rattle.machine.specs.Table.{row}
 use Rattle.audit.specs.Runs.{RunsReached, StartsFrom}
 use Rattle.audit.specs.Ends.{IsEnd, EndsIn, IsLack, Unsupported, Missing, HaveMains, EndsAreTold}
@@ -178,7 +178,8 @@ lacked Why faults.Missing Missing h = h
 failing_for : (P : Tables) (Why : FaultKind → Type 0) (c t : ℕ) (x : Name) (sh : SharedState)
     → LeadsFor Why (run_row t (makers.Class c) sh (failing P x))
 failing_for P Why c t x =
-    asked t (makers.Class c) Why x _ (λ o. need t (makers.Class c) Why o (fails_by P x) (λ class is.
+    asked t (makers.Class c) Why x (λ o. needing o (fails_by P x)) (λ o.
+    need t (makers.Class c) Why o (fails_by P x) (λ class is.
     either t (makers.Class c) Why (is_below P.family class (BuiltIn Error)) (Ends (Raise x class))
     (raises ExceptionInInitializerError) (λ sh. tt)
     (raised t (makers.Class c) Why ExceptionInInitializerError)))
