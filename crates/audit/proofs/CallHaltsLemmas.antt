@@ -54,7 +54,7 @@ use Rattle.use_graph.specs.Uses.{CallsLeftOut, IsLeftOut}
 use Rattle.audit.specs.Ends.{class_by, class_of, receiver_for, receiver_of, choice_of, Runs, IsCallOf, IsNoMethod}
 use Rattle.audit.specs.Ends.{IsByOperands, unnamed, no_method, IsLack, Unsupported, Missing}
 use Rattle.audit.proofs.CallsLemmas.{selected_given}
-use Rattle.audit.proofs.HaltsLemmas.{IsFor, HaltsFor, LeadsFor, LeadsAt, Suits, here, fault, went, used, asked, looked, changed, made}
+use Rattle.audit.proofs.HaltsLemmas.{IsFor, HaltsFor, LeadsFor, LeadsAt, Suits, at_state, fault, went, used, asked, looked, changed, made}
 use Rattle.audit.proofs.HaltsLemmas.{need, either, pushes, on_object}
 
 -- ---- weaker reasons
@@ -306,7 +306,7 @@ module _ (t : ℕ) (maker : Maker) (P : Tables) (f : Frame) where
 
     pub call_leads : (call : CallOperation) → Leads call (call_row P call f)
     call_leads (calls.Static k) =
-        here t maker (CallsFor P sh f (calls.Static k)) sh _
+        at_state t maker (CallsFor P sh f (calls.Static k)) sh _
         (used t maker _ k.class (enter_static P k f) (static_suits k))
     call_leads (calls.Instance k) =
         need_leads (calls.Instance k) (parameters_at P k.caller k.descriptor) _ (λ kinds is.

@@ -25,7 +25,7 @@ use Rattle.semantics.specs.Worlds.{World, Run, put_thread, step, threads_from}
 use Rattle.semantics.proofs.BranchesLemmas.{none_or_some}
 use Rattle.semantics.proofs.TestsLemmas.{from_some}
 use Rattle.semantics.proofs.ThreadsLemmas.{no_thread, thread_at, put, step_at, going_within, thread_at-put}
-use Rattle.semantics.proofs.WavesLemmas.{Contains-first}
+use Rattle.hierarchy.proofs.RowLemmas.{at_head}
 use Rattle.hierarchy.specs.Subtypes.{is_below}
 use Rattle.program.specs.Programs.{IsProgram}
 use Rattle.program.specs.Tables.{Tables}
@@ -212,7 +212,7 @@ module _ (P : Tables) (is : IsProgram P) (entries : List ℕ) (mains : HaveMains
       (λ c u sh. tt) w.shared t l.initialization l.under ls l.initialization.pending) made so)
   top_of w (Going (f ∷ fs) ls) at reached a made so =
       let runs = reached.frames t (f ∷ fs) ls (got w t (Going (f ∷ fs) ls) at (λ e. cc)) f
-      (inl (Contains-first f fs)) in
+      (inl (at_head f fs)) in
       record {
         frame = f;
         under = fs;

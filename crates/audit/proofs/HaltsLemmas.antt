@@ -78,8 +78,8 @@ module _ (t : ℕ) (maker : Maker) (Why : FaultKind → Type 0) where
   abbrev IsSuited : Row → Type 0
   IsSuited r = Suits t maker Why r
 
-  pub here : (sh : SharedState) (r : Row) → IsSuited r → LeadsAt t maker sh Why r
-  here sh r on = record { leads = on.leads sh }
+  pub at_state : (sh : SharedState) (r : Row) → IsSuited r → LeadsAt t maker sh Why r
+  at_state sh r on = record { leads = on.leads sh }
 
   pub fault : IsSuited (halts faults.Fault)
   fault = record { leads = λ sh. tt }

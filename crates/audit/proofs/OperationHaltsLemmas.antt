@@ -57,7 +57,7 @@ use Rattle.audit.specs.Runs.{IsReachedActivity}
 use Rattle.audit.specs.Ends.{HasNoMonitor, Text, Out, IsByOperands, enter, exit, StandsAt, IsEnd, told, by_operands}
 use Rattle.audit.specs.Ends.{IsLack, Unsupported, Missing, HaveMains}
 use Rattle.audit.proofs.CallsLemmas.{main_declared}
-use Rattle.audit.proofs.HaltsLemmas.{LeadsAt, Suits, here, fault, went, raised, used, read, written, locked, need, pushes}
+use Rattle.audit.proofs.HaltsLemmas.{LeadsAt, Suits, at_state, fault, went, raised, used, read, written, locked, need, pushes}
 use Rattle.audit.proofs.HaltsLemmas.{array_suits, new_suits, cast_suits, instance_suits, throw_suits, get_suits}
 use Rattle.audit.proofs.HaltsLemmas.{put_suits}
 use Rattle.audit.proofs.CallHaltsLemmas.{leads_weaker, lacking_leads, CallsFor, lacking, calling as calls_left_out}
@@ -152,7 +152,7 @@ module _ (t : ℕ) (maker : Maker) (P : Tables) (f : Frame) where
     called_for call kind (calls_left_out out) = calls out
 
     at_once : {o : Operation} {r : Row} → Suits t maker (HaltsBy P sh f o) r → LeadsAt t maker sh (HaltsBy P sh f o) r
-    at_once {o} {r} on = here t maker (HaltsBy P sh f o) sh r on
+    at_once {o} {r} on = at_state t maker (HaltsBy P sh f o) sh r on
 
     operation_leads : (o : Operation) → LeadsAt t maker sh (HaltsBy P sh f o) (operation_row P o f)
     operation_leads (Local i) = at_once (locals _ (local_after i f))
@@ -268,7 +268,7 @@ module _ (P : Tables) (entries : List ℕ) (sh : SharedState) (f : Frame) where
 
     start_leads : (t : ℕ) (maker : Maker) → Leads t maker (active_row P (activities.Start c) f)
     start_leads t maker =
-        here t maker (IsEnd P entries sh f) sh _
+        at_state t maker (IsEnd P entries sh f) sh _
         (used t maker _ c (call_main P c f (main_in P c)) (call_suits t maker (main_in P c) refl))
 
   -- ---- of each frame
