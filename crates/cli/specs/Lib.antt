@@ -19,4 +19,3 @@ pub mod Entries
 pub mod Done
 pub mod Outputs
 pub mod Audits
-pub mod Explanations

@@ -1,5 +1,0 @@
-pub mod Known
-pub mod Trees
-pub mod Callers
-pub mod Refused
-pub mod Pairs
