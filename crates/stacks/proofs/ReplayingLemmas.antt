@@ -88,7 +88,7 @@ same_or_not i j = elim (tested (i == j)) [
   | inr e ↦ inr (unequal i j e)
 ]
 
-same_pair : (a b c d : ℕ) → Some (a, b) ≡ Some (c, d) → (a ≡ c) × (b ≡ d)
+same_pair : (a b c d : ℕ) → ◌≡◌ {A = Option (ℕ × ℕ)} (Some (a, b)) (Some (c, d)) → (a ≡ c) × (b ≡ d)
 same_pair a b c d h = (cc, cc)
 
 -- ---- last runs

@@ -1,4 +1,4 @@
-use Rattle.std.proofs.Common.{◌≡◌, ◌∙◌, ℕ, inr, get_or, length, sym, refl, subst, arith}
+use Rattle.std.proofs.Common.{◌≡◌, ◌∙◌, ℕ, inr, get_or, length, sym, refl, subst, arith, rules}
 use Rattle.std.proofs.lemmas.Option.{slice_get-get_or}
 use Rattle.machine.specs.Linked.{program_of}
 use Rattle.init_engine.specs.Turns.{world_of}
@@ -10,6 +10,16 @@ use Rattle.stacks.proofs.replaying.take_runs.Goals as goal
 pub take_run-requires-clause-some : goal.take_run-requires-clause-some
 take_run-requires-clause-some c =
     some_steps c.args.runs.now c.loop-place.place (0, 0) c.requires.runs c.loop-place-test.true
+
+pub loop-place-init : goal.loop-place-init
+loop-place-init c = record {
+  run = refl;
+  kept = kept_none (program_of c.args.program.now) (world_of c.args.world.now) c.args.runs.now c.args.last.now
+      c.args.before.now.items;
+  count = c.requires.count;
+  threads = refl;
+  keeps = search rules;
+}
 
 pub loop-place-preserved : goal.loop-place-preserved
 loop-place-preserved c =
