@@ -1,4 +1,4 @@
-use Rattle.std.proofs.Common.{◌≡◌, Bool, Some, slice_set, subst, sym, refl, arith}
+use Rattle.std.proofs.Common.{Bool, Some, slice_set, subst, sym, refl, arith}
 use Rattle.std.proofs.lemmas.List.{length-map}
 use Rattle.machine.specs.Linked.{program_of}
 use Rattle.init_engine.specs.Turns.{world_of}
@@ -10,7 +10,7 @@ use Rattle.stacks.proofs.replaying.take_run.Goals as goal
 pub returns-then-thread-count-clause-no : goal.returns-then-thread-count-clause-no
 returns-then-thread-count-clause-no c = λ no.
     no_thread (program_of c.args.program.now) (world_of c.args.world.now) c.args.run.0 c.args.run.1
-    (omega (arith, c.if-thread-count.true, c.thread_count-count.ensures, length-map thread_of c.args.world.now.threads))
+    (omega (arith, c.if-thread-count.true, c.thread_count-count.ensures, length-map c.args.world.now.threads thread_of))
     c.requires.some
 
 pub returns-then-not-is_last-clause-kept : goal.returns-then-not-is_last-clause-kept

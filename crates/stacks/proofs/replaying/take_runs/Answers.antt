@@ -1,4 +1,4 @@
-use Rattle.std.proofs.Common.{◌≡◌, ◌∙◌, ℕ, inr, get_or, length, sym, refl, subst, arith, rules}
+use Rattle.std.proofs.Common.{◌≡◌, ◌∙◌, ℕ, inr, get_or, length, sym, refl, subst, arith}
 use Rattle.std.proofs.lemmas.Option.{slice_get-get_or}
 use Rattle.machine.specs.Linked.{program_of}
 use Rattle.init_engine.specs.Turns.{world_of}
@@ -18,7 +18,7 @@ loop-place-init c = record {
       c.args.before.now.items;
   count = c.requires.count;
   threads = refl;
-  keeps = search rules;
+  keeps = c.new-table.ensures c.args.program.now;
 }
 
 pub loop-place-preserved : goal.loop-place-preserved
