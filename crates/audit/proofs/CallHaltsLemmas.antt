@@ -20,11 +20,13 @@ use Rattle.vm_state.specs.SharedState.{SharedState, class_at, pool_of}
 use Rattle.vm_state.specs.Values.{name_of, value_of}
 use Rattle.semantics.specs.Moves.{with_operands}
 use Rattle.semantics.specs.Rows.{Row, AskClass, Result, Moved, Needs, Waits, Outcome, Next, Raise, Halt, run_row}
+use Rattle.semantics.specs.Rows.{Print as PrintText}
 use Rattle.hierarchy.specs.declared.member.Method.{Method as FoundMethod}
 use Rattle.hierarchy.specs.declared.member.Method.TheVariants as methods
 use Rattle.hierarchy.specs.Selection.{selected}
 use Rattle.program.specs.declared.class.Implementation.{Implementation}
 use Rattle.program.specs.declared.class.Implementation.TheVariants as implementations
+use Rattle.program.specs.declared.runtime_constant.FieldKind.{FieldKind}
 use Rattle.program.specs.Tables.{Tables, implementation_at, initializer_in}
 use Rattle.frame_instructions.specs.declared.operand_kind.OperandKind.TheVariants.{Int, Reference}
 use Rattle.frame_instructions.specs.Instructions.{is_null}
@@ -46,12 +48,13 @@ use Rattle.machine.specs.Calls.{runs_chosen, is_out, unless_null, called_on}
 use Rattle.machine.specs.Printing.{printed_text, ended, print_on}
 use Rattle.machine.specs.Operations.{Operation, OnCall}
 use Rattle.machine.specs.Table.{call_row}
+use Rattle.use_graph.specs.declared.callee.Callee.{Callee}
 use Rattle.use_graph.specs.Code.{callee_of_call, chosen_callee, found_callee, MayRunFor}
 use Rattle.use_graph.specs.Uses.{CallsLeftOut, IsLeftOut}
 use Rattle.audit.specs.Ends.{class_by, class_of, receiver_for, receiver_of, choice_of, Runs, IsCallOf, IsNoMethod}
 use Rattle.audit.specs.Ends.{IsByOperands, unnamed, no_method, IsLack, Unsupported, Missing}
 use Rattle.audit.proofs.CallsLemmas.{selected_given}
-use Rattle.audit.proofs.HaltsLemmas.{IsFor, HaltsFor, LeadsFor, Suits, fault, went, used, asked, looked, changed, made}
+use Rattle.audit.proofs.HaltsLemmas.{IsFor, HaltsFor, LeadsFor, LeadsAt, Suits, at_state, fault, went, used, asked, looked, changed, made}
 use Rattle.audit.proofs.HaltsLemmas.{need, either, pushes, on_object}
 
 -- ---- weaker reasons
@@ -61,15 +64,15 @@ pub lacking_leads : (One Other : FaultKind → Type 0) → ((kind : FaultKind) �
     → (r : Result) → LeadsFor One r → LeadsFor Other r
 lacking_leads One Other on = by
   where
-    for : (kind : FaultKind) → IsFor One kind → IsFor Other kind
-    for faults.Fault h = tt
-    for faults.Unsupported h = on faults.Unsupported h Unsupported
-    for faults.Missing h = on faults.Missing h Missing
+    of_kind : (kind : FaultKind) → IsFor One kind → IsFor Other kind
+    of_kind faults.Fault h = tt
+    of_kind faults.Unsupported h = on faults.Unsupported h Unsupported
+    of_kind faults.Missing h = on faults.Missing h Missing
 
     ends : (outcome : Outcome) → HaltsFor One outcome → HaltsFor Other outcome
     ends (Next move) h = tt
     ends (Raise x class) h = tt
-    ends (Halt kind) h = for kind h
+    ends (Halt kind) h = of_kind kind h
 
     by : (r : Result) → LeadsFor One r → LeadsFor Other r
     by (Moved outcome new) h = ends outcome h
@@ -84,7 +87,7 @@ leads_weaker One Other on r h = lacking_leads One Other (λ kind why lack. on ki
 
 -- why a call of a method may halt
 data RunsFor (P : Tables) (f : Frame) (m : Option FoundMethod) : FaultKind → Type 0 where
-  left_out : {d k : ℕ} → m ≡ Some (methods.Given d k) → IsLeftOut P d k → RunsFor P f m faults.Unsupported
+  left_out : (d k : ℕ) → m ≡ Some (methods.Given d k) → IsLeftOut P d k → RunsFor P f m faults.Unsupported
   nameless : m ≡ Some (methods.BuiltIn members.NewEnum) → top_as Reference (rest f.operands) ≡ Some values.Null
       → RunsFor P f m faults.Unsupported
   nothing : IsNoMethod P m → RunsFor P f m faults.Missing
@@ -134,7 +137,7 @@ module _ (t : ℕ) (maker : Maker) (P : Tables) (f : Frame) where
 
       names : (x : Name) (ordinal name : Value) → top_as Reference (rest f.operands) ≡ Some name
           → IsSuited (cond (is_null name) (halts faults.Unsupported) (set_named x name ordinal (drops 3 f)))
-      names x ordinal values.Null is = λ sh. null is
+      names x ordinal values.Null is = record { leads = λ sh. null is }
       names x ordinal (values.Int n) is = sets x (values.Int n) ordinal
       names x ordinal (values.Long n) is = sets x (values.Long n) ordinal
       names x ordinal (values.Text s) is = sets x (values.Text s) ordinal
@@ -171,9 +174,9 @@ module _ (t : ℕ) (maker : Maker) (P : Tables) (f : Frame) where
 
   reaches_suit : (d k count : ℕ) (o : Option Implementation) → implementation_at P d k ≡ o
       → Suits t maker (RunsFor P f (Some (methods.Given d k))) (reaches d k count f o)
-  reaches_suit d k count None is = λ sh. nothing (inl is)
-  reaches_suit d k count (Some implementations.Abstract) is = λ sh. nothing (inr is)
-  reaches_suit d k count (Some implementations.Unsupported) is = λ sh. left_out refl is
+  reaches_suit d k count None is = record { leads = λ sh. nothing (inl is) }
+  reaches_suit d k count (Some implementations.Abstract) is = record { leads = λ sh. nothing (inr is) }
+  reaches_suit d k count (Some implementations.Unsupported) is = record { leads = λ sh. left_out d k refl is }
   reaches_suit d k count (Some (implementations.Code code)) is =
       need t maker _ (passed (replicate code.max_locals None) 0 (taken count f.operands)) _ (λ locals so.
       went t maker _ _)
@@ -185,7 +188,7 @@ module _ (t : ℕ) (maker : Maker) (P : Tables) (f : Frame) where
       (fault t maker _) (reaches_suit d k count (implementation_at P d k) refl)
 
   runs_suit : (count : ℕ) (v : Value) (m : Option FoundMethod) → Suits t maker (RunsFor P f m) (runs P count v f m)
-  runs_suit count v None = λ sh. nothing tt
+  runs_suit count v None = record { leads = λ sh. nothing tt }
   runs_suit count v (Some (methods.Given d k)) = reached_suit d k count
   runs_suit count v (Some (methods.BuiltIn member)) = members_suit member count v
 
@@ -207,24 +210,30 @@ module _ (t : ℕ) (maker : Maker) (P : Tables) (f : Frame) where
     reason : (call : CallOperation) (m : Option FoundMethod)
         → Runs P sh (receiver_of P call f) (choice_of call) m → (kind : FaultKind) → RunsFor P f m kind
         → CallsFor P sh f call kind
-    reason call m runs kind (left_out {d} {k} is out) =
-        calling (d, k,
-        subst (λ callee. MayRunFor P callee d k) (callee_is call)
-        (may_run (receiver_of P call f) (choice_of call) d k
-        (subst (Runs P sh (receiver_of P call f) (choice_of call)) is runs)),
-        out)
-    reason call m runs kind (nameless is null) =
-        lacking (unnamed (call, refl, subst (Runs P sh (receiver_of P call f) (choice_of call)) is runs) null)
-    reason call m runs kind (nothing none) = lacking (no_method (call, refl, runs) none)
+    reason call m ran kind (left_out d k is out) =
+        calling (
+          d,
+          k,
+          subst (λ (callee : Callee). MayRunFor P callee d k) (callee_is call)
+              (may_run (receiver_of P call f) (choice_of call) d k
+              (subst (Runs P sh (receiver_of P call f) (choice_of call)) is ran)),
+          out,
+        )
+    reason call m ran kind (nameless is null) =
+        lacking (unnamed (call, refl, subst (Runs P sh (receiver_of P call f) (choice_of call)) is ran) null)
+    reason call m ran kind (nothing none) = lacking (no_method (call, refl, ran) none)
 
     abbrev Leads : CallOperation → Row → Type 0
-    Leads call r = LeadsFor (CallsFor P sh f call) (run_row t maker sh r)
+    Leads call r = LeadsAt t maker sh (CallsFor P sh f call) r
 
     -- a method runs that the call may run
     method_leads : (call : CallOperation) (count : ℕ) (v : Value) (m : Option FoundMethod)
         → Runs P sh (receiver_of P call f) (choice_of call) m → Leads call (runs P count v f m)
     method_leads call count v m is =
-        leads_weaker (RunsFor P f m) (CallsFor P sh f call) (reason call m is) _ (runs_suit count v m sh)
+        record {
+          leads = leads_weaker (RunsFor P f m) (CallsFor P sh f call) (reason call m is)
+              (run_row t maker sh (runs P count v f m)) ((runs_suit count v m).leads sh);
+        }
 
     chosen_leads : (call : CallOperation) (choice : Choice) → choice_of call ≡ choice → (count : ℕ) (v : Value)
         → receiver_of P call f ≡ Some v → Leads call (runs_chosen P choice count f v)
@@ -237,7 +246,7 @@ module _ (t : ℕ) (maker : Maker) (P : Tables) (f : Frame) where
         next o = needing o (λ class. runs P count v f (selected P.family class m))
 
         by_class : (o : Option ClassId) → class_of sh v ≡ o → Leads call (next o)
-        by_class None is = tt
+        by_class None is = record { leads = tt }
         by_class (Some class) is =
             method_leads call count v (selected P.family class m)
             (subst (λ (c : Choice). Runs P sh (receiver_of P call f) c (selected P.family class m)) (sym same)
@@ -246,10 +255,11 @@ module _ (t : ℕ) (maker : Maker) (P : Tables) (f : Frame) where
         by_name : (n : Option Name) → name_of v ≡ n
             → Leads call (on_name n (next (class_of_nameless v)) (λ x. AskClass x next))
         by_name None is = by_class (class_of_nameless v) (ap (class_by sh v) is)
-        by_name (Some x) is = by_class (class_at (pool_of sh x.maker) x.number) (ap (class_by sh v) is)
+        by_name (Some x) is =
+            record { leads = (by_class (class_at (pool_of sh x.maker) x.number) (ap (class_by sh v) is)).leads }
 
     unless_null_leads : (call : CallOperation) (r : Row) (v : Value) → Leads call r → Leads call (unless_null r v)
-    unless_null_leads call r values.Null on = tt
+    unless_null_leads call r values.Null on = record { leads = tt }
     unless_null_leads call r (values.Int n) on = on
     unless_null_leads call r (values.Long n) on = on
     unless_null_leads call r (values.Text s) on = on
@@ -264,37 +274,45 @@ module _ (t : ℕ) (maker : Maker) (P : Tables) (f : Frame) where
 
     need_leads : {A : Type 0} (call : CallOperation) (o : Option A) (go : A → Row)
         → ((a : A) → o ≡ Some a → Leads call (go a)) → Leads call (needing o go)
-    need_leads call None go on = tt
+    need_leads call None go on = record { leads = tt }
     need_leads call (Some a) go on = on a refl
 
     on_leads : (call : CallOperation) (k : InstanceCall) → choice_of call ≡ k.choice → (count : ℕ) (v : Value)
         → receiver_of P call f ≡ Some v → Leads call (called_on P k count f v)
     on_leads call k same count v on =
         either_leads call (is_out v && not k.names_stream) (halts faults.Fault)
-        (unless_null (runs_chosen P k.choice count f v) v) tt
+        (unless_null (runs_chosen P k.choice count f v) v) (record { leads = tt })
         (unless_null_leads call (runs_chosen P k.choice count f v) v (chosen_leads call k.choice same count v on))
 
     print_leads : (call : CallOperation) (k : InstanceCall) → choice_of call ≡ k.choice → (text : List ℕ)
         (count : ℕ) (v : Value) → receiver_of P call f ≡ Some v → Leads call (print_on P text count k f v)
     print_leads call k same text count v on =
-        either_leads call (is_out v) _ (called_on P k count f v) tt (on_leads call k same count v on)
+        either_leads call (is_out v) (PrintText text (drops count f)) (called_on P k count f v)
+        (record { leads = tt }) (on_leads call k same count v on)
 
     static_suits : (k : StaticCall) → Suits t maker (CallsFor P sh f (calls.Static k)) (enter_static P k f)
     static_suits k =
         need t maker _ (parameters_at P k.caller k.descriptor) _ (λ kinds is.
         either t maker _ (has_arguments kinds f.operands) (reached P k.class k.index (length kinds) f)
         (halts faults.Fault)
-        (λ other. leads_weaker (RunsFor P f (Some (methods.Given k.class k.index))) (CallsFor P sh f (calls.Static k))
-        (reason (calls.Static k) (Some (methods.Given k.class k.index)) refl) _
-        (reached_suit k.class k.index (length kinds) other))
+        (record {
+          leads = λ other.
+              leads_weaker (RunsFor P f (Some (methods.Given k.class k.index))) (CallsFor P sh f (calls.Static k))
+              (reason (calls.Static k) (Some (methods.Given k.class k.index)) refl)
+              (run_row t maker other (reached P k.class k.index (length kinds) f))
+              ((reached_suit k.class k.index (length kinds)).leads other);
+        })
         (fault t maker _))
 
     pub call_leads : (call : CallOperation) → Leads call (call_row P call f)
-    call_leads (calls.Static k) = used t maker _ k.class (enter_static P k f) (static_suits k) sh
+    call_leads (calls.Static k) =
+        at_state t maker (CallsFor P sh f (calls.Static k)) sh _
+        (used t maker _ k.class (enter_static P k f) (static_suits k))
     call_leads (calls.Instance k) =
         need_leads (calls.Instance k) (parameters_at P k.caller k.descriptor) _ (λ kinds is.
         need_leads (calls.Instance k) (receiver_under kinds f.operands) (called_on P k (length kinds + 1) f) (λ v on.
-        on_leads (calls.Instance k) k refl (length kinds + 1) v (ap (λ o. receiver_for o f) is ∙ on)))
+        on_leads (calls.Instance k) k refl (length kinds + 1) v
+        (ap (λ (o : Option (List FieldKind)). receiver_for o f) is ∙ on)))
     call_leads (calls.Print what line k) =
         need_leads (calls.Print what line k) (top f.operands) _ (λ v is.
         need_leads (calls.Print what line k) (printed_text P what v) _ (λ text so.

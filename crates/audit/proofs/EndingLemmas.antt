@@ -1,5 +1,6 @@
 -- The step that ends a thread otherwise than as a fault is an instruction that halts so.
-use Rattle.std.proofs.Common.{◌≡◌, ◌≢◌, ◌∙◌, ◌⊎◌, inl, inr, refl, sym, ap, subst, ℕ, List, [], ◌∷◌, ◌++◌, Option, Some, None, length}
+use Rattle.std.proofs.Common.{◌≡◌, ◌≢◌, ◌∙◌, ◌⊎◌, inl, inr, refl, sym, ap, subst, ℕ, List, [], ◌∷◌, ◌++◌, Option, Some}
+use Rattle.std.proofs.Common.{None, length}
 use Rattle.std.proofs.Common.{Bool, true, false, ◌==◌, ◌<◌, slice_get, get_or, unwrap_or, option_map}
 use Rattle.std.proofs.lemmas.Option.{unwrap_or-slice_get}
 use Rattle.built_in.specs.declared.class_id.ClassId.{ClassId}
@@ -90,7 +91,7 @@ module _ (P : Program) (Why : FaultKind → Type 0) where
 
   -- the failing of a class ends no thread so
   module _ (failing : (c t : ℕ) (x : Name) (sh : SharedState)
-          → LeadsFor Why (run_row t (makers.Class c) sh (P.failing c x)))
+      → LeadsFor Why (run_row t (makers.Class c) sh (P.failing c x)))
       (orphaned : (c t : ℕ) (sh : SharedState) → LeadsFor Why (run_row t (makers.Class c) sh (P.orphaned c))) where
     initializes_for : (sh : SharedState) (e : Initialization) (under : List Frame) (ls : List Level)
         (o : Option Frame) → EndsFor (initializes sh e under ls o).thread

@@ -1,8 +1,11 @@
 -- A thread of a run that ends as Unsupported or Missing ends where it is told, or by its operands.
-use Rattle.std.proofs.Common.{◌≡◌, ◌≢◌, ◌∙◌, ◌⊎◌, ◌<◌, inl, inr, refl, sym, ap, subst, ℕ, zero, suc, ◌+◌, List, [], ◌∷◌, ◌++◌}
-use Rattle.std.proofs.Common.{Option, Some, None, Bool, true, false, ◌==◌, length, slice_get, get_or, unwrap_or, eqb-true, eq-eqb}
+use Rattle.std.proofs.Common.{◌≡◌, ◌≢◌, ◌∙◌, ◌⊎◌, ◌<◌, inl, inr, refl, sym, ap, subst, ℕ, zero, suc, ◌+◌, List, [], ◌∷◌}
+use Rattle.std.proofs.Common.{◌++◌}
+use Rattle.std.proofs.Common.{Option, Some, None, Bool, true, false, ◌==◌, length, slice_get, get_or, unwrap_or}
+use Rattle.std.proofs.Common.{eqb-true, eq-eqb}
 use Rattle.std.proofs.lemmas.Option.{unwrap_or-slice_get}
-use Rattle.built_in.specs.declared.class_id.BuiltIn.TheVariants.{Error, ExceptionInInitializerError, NoClassDefFoundError}
+use Rattle.built_in.specs.declared.class_id.BuiltIn.TheVariants.{Error, ExceptionInInitializerError}
+use Rattle.built_in.specs.declared.class_id.BuiltIn.TheVariants.{NoClassDefFoundError}
 use Rattle.built_in.specs.declared.class_id.ClassId.TheVariants.{BuiltIn}
 use Rattle.vm_state.specs.declared.ends.End.{End}
 use Rattle.vm_state.specs.declared.ends.End.TheVariants.{Returned, Uncaught, Faulted}
@@ -22,17 +25,17 @@ use Rattle.semantics.specs.Worlds.{World, Run, put_thread, step, threads_from}
 use Rattle.semantics.proofs.BranchesLemmas.{none_or_some}
 use Rattle.semantics.proofs.TestsLemmas.{from_some}
 use Rattle.semantics.proofs.ThreadsLemmas.{no_thread, thread_at, put, step_at, going_within, thread_at-put}
-use Rattle.semantics.proofs.WavesLemmas.{Contains-first}
+use Rattle.hierarchy.proofs.RowLemmas.{at_head}
 use Rattle.hierarchy.specs.Subtypes.{is_below}
 use Rattle.program.specs.Programs.{IsProgram}
 use Rattle.program.specs.Tables.{Tables}
 use Rattle.machine.specs.Failures.{fails_by, failing, orphaned}
 use Rattle.machine.specs.Linked.{program_of}
-use Rattle.machine.specs.RowParts.{raises}
+use Rattle.machine.specs.RowParts.{needing, raises}
 use Rattle.machine.specs.Table.{row}
 use Rattle.audit.specs.Runs.{RunsReached, StartsFrom}
 use Rattle.audit.specs.Ends.{IsEnd, EndsIn, IsLack, Unsupported, Missing, HaveMains, EndsAreTold}
-use Rattle.audit.proofs.HaltsLemmas.{IsFor, LeadsFor, Suits, raised, asked, need, either}
+use Rattle.audit.proofs.HaltsLemmas.{IsFor, LeadsFor, thrown, raised, asked, need, either}
 use Rattle.audit.proofs.OperationHaltsLemmas.{frame_leads}
 use Rattle.audit.proofs.EndingLemmas.{EndsFor, FollowsFor, instruction_for, initialization_for}
 use Rattle.audit.proofs.RunsLemmas.{threads_run_reached_lem}
@@ -169,16 +172,18 @@ module _ (P : Program) (t : ℕ) (kind : FaultKind) where
 -- ---- what it was
 
 lacked : (Why : FaultKind → Type 0) (kind : FaultKind) → IsLack kind → IsFor Why kind → Why kind
+lacked Why faults.Fault lack h = elim lack [ ]
 lacked Why faults.Unsupported Unsupported h = h
 lacked Why faults.Missing Missing h = h
 
 failing_for : (P : Tables) (Why : FaultKind → Type 0) (c t : ℕ) (x : Name) (sh : SharedState)
     → LeadsFor Why (run_row t (makers.Class c) sh (failing P x))
-failing_for P Why c t x =
-    asked t (makers.Class c) Why x _ (λ o. need t (makers.Class c) Why o (fails_by P x) (λ class is.
+failing_for P Why c t x sh =
+    (asked t (makers.Class c) Why x (λ o. needing o (fails_by P x)) (λ o.
+    need t (makers.Class c) Why o (fails_by P x) (λ class is.
     either t (makers.Class c) Why (is_below P.family class (BuiltIn Error)) (Ends (Raise x class))
-    (raises ExceptionInInitializerError) (λ sh. tt)
-    (raised t (makers.Class c) Why ExceptionInInitializerError)))
+    (raises ExceptionInInitializerError) (thrown t (makers.Class c) Why x class)
+    (raised t (makers.Class c) Why ExceptionInInitializerError)))).leads sh
 
 module _ (P : Tables) (is : IsProgram P) (entries : List ℕ) (mains : HaveMains P entries) (t : ℕ) (kind : FaultKind)
     (lack : IsLack kind) where
@@ -207,7 +212,7 @@ module _ (P : Tables) (is : IsProgram P) (entries : List ℕ) (mains : HaveMains
       (λ c u sh. tt) w.shared t l.initialization l.under ls l.initialization.pending) made so)
   top_of w (Going (f ∷ fs) ls) at reached a made so =
       let runs = reached.frames t (f ∷ fs) ls (got w t (Going (f ∷ fs) ls) at (λ e. cc)) f
-      (inl (Contains-first f fs)) in
+      (inl (at_head f fs)) in
       record {
         frame = f;
         under = fs;
@@ -216,7 +221,7 @@ module _ (P : Tables) (is : IsProgram P) (entries : List ℕ) (mains : HaveMains
         end = ends_for (IsEnd P entries w.shared f) _ a
             (instruction_for (program_of P) (IsEnd P entries w.shared f) w.shared t (f ∷ fs) ls
             (run_row t (maker_of t ls) w.shared (row P f))
-            (frame_leads P entries w.shared f is mains runs t (maker_of t ls))) made so;
+            (frame_leads P entries w.shared f is mains runs t (maker_of t ls)).leads) made so;
       }
 
   threads_of : (w : World) → StartsFrom P entries w → w.threads ≡ threads_from (program_of P) 0 entries
@@ -247,7 +252,7 @@ module _ (P : Tables) (is : IsProgram P) (entries : List ℕ) (mains : HaveMains
         next = f.next;
         run = f.run;
         stepped = f.stepped;
-        rest = f.rest;
+        onward = f.rest;
         frame = top.frame;
         under = top.under;
         levels = top.levels;

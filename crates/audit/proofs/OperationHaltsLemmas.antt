@@ -1,5 +1,6 @@
 -- Where an instruction halts otherwise than as a fault it is told, or halts by its operands.
-use Rattle.std.proofs.Common.{◌≡◌, ◌∙◌, refl, sym, ap, subst, ℕ, Bool, true, false, Option, Some, None, Ok, Err, map, is_some}
+use Rattle.std.proofs.Common.{◌≡◌, ◌∙◌, refl, sym, ap, subst, ℕ, Bool, true, false, Option, Some, None, Ok, Err, map}
+use Rattle.std.proofs.Common.{is_some}
 use Rattle.std.proofs.Common.{option_map, slice_get, replicate, [], List}
 use Rattle.std.specs.Prelude.{IsSome}
 use Rattle.std.specs.List.{Contains}
@@ -24,6 +25,7 @@ use Rattle.vm_state.specs.Values.{name_of}
 use Rattle.semantics.specs.Rows.{Row, UseMonitor, run_row}
 use Rattle.program.specs.declared.class.Implementation.{Implementation}
 use Rattle.program.specs.declared.class.Implementation.TheVariants as implementations
+use Rattle.program.specs.declared.runtime_constant.FieldKind.{FieldKind}
 use Rattle.program.specs.declared.signature.ReturnKind.{ReturnKind}
 use Rattle.program.specs.declared.signature.ReturnKind.TheVariants as returns
 use Rattle.program.specs.InstanceFields.{slots_of}
@@ -44,7 +46,8 @@ use Rattle.machine.specs.Monitors.{without_monitor, use_monitor, entered, left}
 use Rattle.machine.specs.Objects.{object_row}
 use Rattle.machine.specs.Operations.{Operation, Local, PushText, GetStatic, PutStatic, GetOut, OnArray, OnCall, Return}
 use Rattle.machine.specs.Operations.{OnObject, Refused, operation_of, operation_at}
-use Rattle.machine.specs.Table.{local_row, return_row, operation_row, called_with, call_main, fetched, active_row, row}
+use Rattle.machine.specs.Table.{local_row, call_row, return_row, operation_row, called_with, call_main, fetched}
+use Rattle.machine.specs.Table.{active_row, row}
 use Rattle.use_graph.specs.Uses.{IsTold, IsDeclared, CallsLeftOut, itself, calling, pc_of, pc_at}
 use Rattle.use_graph.specs.declared.feature.Feature.TheVariants as features
 use Rattle.audit.specs.declared.places.Place.{Place}
@@ -54,9 +57,11 @@ use Rattle.audit.specs.Runs.{IsReachedActivity}
 use Rattle.audit.specs.Ends.{HasNoMonitor, Text, Out, IsByOperands, enter, exit, StandsAt, IsEnd, told, by_operands}
 use Rattle.audit.specs.Ends.{IsLack, Unsupported, Missing, HaveMains}
 use Rattle.audit.proofs.CallsLemmas.{main_declared}
-use Rattle.audit.proofs.HaltsLemmas.{LeadsFor, Suits, fault, went, raised, used, read, written, locked, need, pushes}
-use Rattle.audit.proofs.HaltsLemmas.{array_suits, new_suits, cast_suits, instance_suits, throw_suits, get_suits, put_suits}
-use Rattle.audit.proofs.CallHaltsLemmas.{leads_weaker, lacking_leads, CallsFor, lacking, calling as calls_left_out, call_leads}
+use Rattle.audit.proofs.HaltsLemmas.{LeadsAt, Suits, at_state, fault, went, raised, used, read, written, locked, need, pushes}
+use Rattle.audit.proofs.HaltsLemmas.{array_suits, new_suits, cast_suits, instance_suits, throw_suits, get_suits}
+use Rattle.audit.proofs.HaltsLemmas.{put_suits}
+use Rattle.audit.proofs.CallHaltsLemmas.{leads_weaker, lacking_leads, CallsFor, lacking, calling as calls_left_out}
+use Rattle.audit.proofs.CallHaltsLemmas.{call_leads}
 use Rattle.audit.proofs.RefusedLemmas.{feature_at_is, refused_feature}
 
 -- why an operation may halt
@@ -70,26 +75,26 @@ module _ (t : ℕ) (maker : Maker) (P : Tables) (f : Frame) where
 
   module _ (Why : FaultKind → Type 0) where
     -- where to have no monitor is such a reason
-    module _ (none : (v : Value) → top_as Reference f.operands ≡ Some v → HasNoMonitor v → Why faults.Unsupported)
-        where
+    module _ (none : (v : Value) → top_as Reference f.operands ≡ Some v → HasNoMonitor v
+        → Why faults.Unsupported) where
       nameless : (v : Value) → top_as Reference f.operands ≡ Some v → Suits t maker Why (without_monitor v)
       nameless values.Null is = raised t maker Why builtins.NullPointerException
-      nameless (values.Text s) is = λ sh. none (values.Text s) is (Text s)
-      nameless values.Out is = λ sh. none values.Out is Out
+      nameless (values.Text s) is = record { leads = λ sh. none (values.Text s) is (Text s) }
+      nameless values.Out is = record { leads = λ sh. none values.Out is Out }
       nameless (values.OfClass c k) is = fault t maker Why
       nameless (values.OfThread u k) is = fault t maker Why
       nameless (values.Int n) is = fault t maker Why
       nameless (values.Long n) is = fault t maker Why
 
-      monitors : (enter : Bool) (next : Bool → Row) → ((b : Bool) → Suits t maker Why (next b))
-          → Suits t maker Why (use_monitor enter f next)
-      monitors enter next on =
+      monitors : (way : Bool) (next : Bool → Row) → ((b : Bool) → Suits t maker Why (next b))
+          → Suits t maker Why (use_monitor way f next)
+      monitors way next on =
           need t maker Why (top_as Reference f.operands) _ (λ v is. by_name v is (name_of v))
         where
           by_name : (v : Value) → top_as Reference f.operands ≡ Some v → (n : Option Name)
-              → Suits t maker Why (on_name n (without_monitor v) (λ x. UseMonitor x enter next))
+              → Suits t maker Why (on_name n (without_monitor v) (λ x. UseMonitor x way next))
           by_name v is None = nameless v is
-          by_name v is (Some x) = locked t maker Why x enter next on
+          by_name v is (Some x) = locked t maker Why x way next on
 
     enters : (b : Bool) → Suits t maker Why (entered f b)
     enters true = went t maker Why _
@@ -126,33 +131,42 @@ module _ (t : ℕ) (maker : Maker) (P : Tables) (f : Frame) where
     object_suits objects.ExitMonitor =
         monitors _ (λ v is no. lacks (exit refl is no)) false (left f) (leaves _)
 
-    refuses : (kind : FaultKind) → LeadsFor (HaltsBy P sh f (Refused kind)) (run_row t maker sh (operation_row P (Refused kind) f))
-    refuses faults.Fault = tt
-    refuses faults.Unsupported = refused refl
-    refuses faults.Missing = refused refl
+    refuses : (kind : FaultKind)
+        → LeadsAt t maker sh (HaltsBy P sh f (Refused kind)) (operation_row P (Refused kind) f)
+    refuses faults.Fault = record { leads = tt }
+    refuses faults.Unsupported = record { leads = refused refl }
+    refuses faults.Missing = record { leads = refused refl }
+
+    gets : (c k : ℕ) → Suits t maker (HaltsBy P sh f (GetStatic c k)) (operation_row P (GetStatic c k) f)
+    gets c k = used t maker _ c _ (read t maker _ c k (λ v. push v f) (λ v. pushes t maker _ v f))
+
+    puts : (kind : FieldKind) (c k : ℕ)
+        → Suits t maker (HaltsBy P sh f (PutStatic kind c k)) (operation_row P (PutStatic kind c k) f)
+    puts kind c k =
+        used t maker _ c _ (need t maker _ (top_stored kind f.operands) _ (λ v is.
+        written t maker _ c k v _ (went t maker _ _)))
 
     called_for : (call : CallOperation) (kind : FaultKind) → CallsFor P sh f call kind
         → HaltsBy P sh f (OnCall call) kind
     called_for call kind (lacking is) = lacks is
     called_for call kind (calls_left_out out) = calls out
 
-    operation_leads : (o : Operation) → LeadsFor (HaltsBy P sh f o) (run_row t maker sh (operation_row P o f))
-    operation_leads (Local i) = locals _ (local_after i f) sh
-    operation_leads (PushText s) = pushes t maker _ (values.Text s) f sh
-    operation_leads (GetStatic c k) =
-        used t maker (HaltsBy P sh f (GetStatic c k)) c _
-        (read t maker (HaltsBy P sh f (GetStatic c k)) c k (λ v. push v f) (λ v. pushes t maker (HaltsBy P sh f (GetStatic c k)) v f)) sh
-    operation_leads (PutStatic kind c k) =
-        used t maker (HaltsBy P sh f (PutStatic kind c k)) c _
-        (need t maker (HaltsBy P sh f (PutStatic kind c k)) (top_stored kind f.operands) _ (λ v is.
-        written t maker (HaltsBy P sh f (PutStatic kind c k)) c k v _ (went t maker (HaltsBy P sh f (PutStatic kind c k)) _))) sh
-    operation_leads GetOut = pushes t maker _ values.Out f sh
-    operation_leads (OnArray operation) = array_suits t maker _ P operation f sh
-    operation_leads (OnCall call) =
-        leads_weaker (CallsFor P sh f call) (HaltsBy P sh f (OnCall call)) (called_for call) _
-        (call_leads t maker P f sh call)
-    operation_leads (Return kind) = returns_suit _ kind sh
-    operation_leads (OnObject operation) = object_suits operation sh
+    at_once : {o : Operation} {r : Row} → Suits t maker (HaltsBy P sh f o) r → LeadsAt t maker sh (HaltsBy P sh f o) r
+    at_once {o} {r} on = at_state t maker (HaltsBy P sh f o) sh r on
+
+    operation_leads : (o : Operation) → LeadsAt t maker sh (HaltsBy P sh f o) (operation_row P o f)
+    operation_leads (Local i) = at_once (locals _ (local_after i f))
+    operation_leads (PushText s) = at_once (pushes t maker _ (values.Text s) f)
+    operation_leads (GetStatic c k) = at_once (gets c k)
+    operation_leads (PutStatic kind c k) = at_once (puts kind c k)
+    operation_leads GetOut = at_once (pushes t maker _ values.Out f)
+    operation_leads (OnArray operation) = at_once (array_suits t maker _ P operation f)
+    operation_leads (OnCall call) = record {
+      leads = leads_weaker (CallsFor P sh f call) (HaltsBy P sh f (OnCall call)) (called_for call)
+          (run_row t maker sh (call_row P call f)) (call_leads t maker P f sh call).leads;
+    }
+    operation_leads (Return kind) = at_once (returns_suit _ kind)
+    operation_leads (OnObject operation) = at_once (object_suits operation)
     operation_leads (Refused kind) = refuses kind
 
 -- ---- what is told of a place
@@ -186,7 +200,7 @@ operation_pc P d k place o = by (instruction_at P d k place) refl
 
 module _ (P : Tables) (entries : List ℕ) (sh : SharedState) (f : Frame) where
   abbrev Leads : ℕ → Maker → Row → Type 0
-  Leads t maker r = LeadsFor (IsEnd P entries sh f) (run_row t maker sh r)
+  Leads t maker r = LeadsAt t maker sh (IsEnd P entries sh f) r
 
   -- ---- in a method that may be reached
 
@@ -202,7 +216,7 @@ module _ (P : Tables) (entries : List ℕ) (sh : SharedState) (f : Frame) where
     ends_by : (t : ℕ) (maker : Maker) (o : Operation) (kind : FaultKind) → operation_at P d k f.place ≡ Some o
         → HaltsBy P sh f o kind → IsLack kind → IsEnd P entries sh f kind
     ends_by t maker o kind at (lacks is) lack = by_operands here at is
-    ends_by t maker o faults.Unsupported at (calls out) lack =
+    ends_by t maker o kind at (calls out) lack =
         place_told o faults.Unsupported at (features.LeftOut, calling at out, refl)
     ends_by t maker o kind at (refused is) lack =
         let (feature, means, ends) = refused_feature lack in
@@ -214,10 +228,12 @@ module _ (P : Tables) (entries : List ℕ) (sh : SharedState) (f : Frame) where
 
     method_leads : (t : ℕ) (maker : Maker) (o : Option Operation) → operation_at P d k f.place ≡ o
         → Leads t maker (fetched P o f)
-    method_leads t maker None at = tt
-    method_leads t maker (Some o) at =
-        lacking_leads (HaltsBy P sh f o) (IsEnd P entries sh f) (λ kind why lack. ends_by t maker o kind at why lack)
-        _ (operation_leads t maker P f sh o)
+    method_leads t maker None at = record { leads = tt }
+    method_leads t maker (Some o) at = record {
+      leads = lacking_leads (HaltsBy P sh f o) (IsEnd P entries sh f)
+          (λ kind why lack. ends_by t maker o kind at why lack) (run_row t maker sh (operation_row P o f))
+          (operation_leads t maker P f sh o).leads;
+    }
 
   -- ---- at a thread's start
 
@@ -225,9 +241,9 @@ module _ (P : Tables) (entries : List ℕ) (sh : SharedState) (f : Frame) where
       (among : Contains entries c) where
     start_told : (m : ℕ) (kind : FaultKind) → main_in P c ≡ Some m → lack_of (implementation_at P c m) ≡ Some kind
         → IsEnd P entries sh f kind
-    start_told m kind main lacks =
+    start_told m kind main so =
         let place : Place = record { class = c; index = m; pc = None; kind = kind } in
-        told place (among, main, lacks) refl
+        told place (among, main, so) refl
         (subst (λ (a : Activity). StandsAt P a f.place place) (sym here) (refl, main, refl))
 
     main_suits : (t : ℕ) (maker : Maker) (m : ℕ) → main_in P c ≡ Some m → (o : Option Implementation)
@@ -236,9 +252,9 @@ module _ (P : Tables) (entries : List ℕ) (sh : SharedState) (f : Frame) where
         absurd (let there : is_some (implementation_at P c m) ≡ true = main_declared P is c m main in
         let clash : false ≡ true = sym (ap is_some at) ∙ there in cc)
     main_suits t maker m main (Some implementations.Abstract) at =
-        λ other. start_told m faults.Missing main (ap lack_of at)
+        record { leads = λ other. start_told m faults.Missing main (ap lack_of at) }
     main_suits t maker m main (Some implementations.Unsupported) at =
-        λ other. start_told m faults.Unsupported main (ap lack_of at)
+        record { leads = λ other. start_told m faults.Unsupported main (ap lack_of at) }
     main_suits t maker m main (Some (implementations.Code code)) at =
         need t maker _ (top f.operands) _ (λ argument on.
         need t maker _ (stored (replicate code.max_locals None) 0 argument) _ (λ locals so. went t maker _ _))
@@ -251,7 +267,9 @@ module _ (P : Tables) (entries : List ℕ) (sh : SharedState) (f : Frame) where
     call_suits t maker (Some m) at = main_suits t maker m at (implementation_at P c m) refl
 
     start_leads : (t : ℕ) (maker : Maker) → Leads t maker (active_row P (activities.Start c) f)
-    start_leads t maker = used t maker _ c (call_main P c f (main_in P c)) (call_suits t maker (main_in P c) refl) sh
+    start_leads t maker =
+        at_state t maker (IsEnd P entries sh f) sh _
+        (used t maker _ c (call_main P c f (main_in P c)) (call_suits t maker (main_in P c) refl))
 
   -- ---- of each frame
 

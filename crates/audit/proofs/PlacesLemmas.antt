@@ -1,5 +1,6 @@
 -- The places of methods that are reached, one method after another.
-use Rattle.std.proofs.Common.{◌≡◌, ◌↔◌, ◌⊎◌, ℕ, ◌+◌, ◌<◌, ◌≤◌, List, [], ◌∷◌, ◌++◌, length, Option, Some, None, slice_get, refl, sym}
+use Rattle.std.proofs.Common.{◌≡◌, ◌↔◌, ◌⊎◌, ℕ, ◌+◌, ◌<◌, ◌≤◌, List, [], ◌∷◌, ◌++◌, length, Option, Some, None}
+use Rattle.std.proofs.Common.{slice_get, refl, sym}
 use Rattle.std.proofs.Common.{ap, subst, ◌∙◌, inl, inr, arith, is_some}
 use Rattle.std.specs.Prelude.{MatchOption}
 use Rattle.std.specs.List.{Contains}
@@ -58,7 +59,8 @@ pub same_place : (p q : Place) → p.class ≡ q.class → p.index ≡ q.index �
 same_place p q a b c d =
     ap (λ (x : ℕ). (let r : Place = record { class = x; index = p.index; pc = p.pc; kind = p.kind } in r)) a
     ∙ (ap (λ (x : ℕ). (let r : Place = record { class = q.class; index = x; pc = p.pc; kind = p.kind } in r)) b
-    ∙ (ap (λ (x : Option ℕ). (let r : Place = record { class = q.class; index = q.index; pc = x; kind = p.kind } in r)) c
+    ∙ (ap (λ (x : Option ℕ). (let r : Place = record { class = q.class; index = q.index; pc = x; kind = p.kind } in r))
+    c
     ∙ ap (λ (x : FaultKind). (let r : Place = record { class = q.class; index = q.index; pc = q.pc; kind = x } in r))
     d))
 
@@ -83,7 +85,8 @@ added_twice old mid new A B first then x = (
 module _ (P : Tables) (uses : UseGraph) (whole : IsUseGraph P uses) (entries : List ℕ) where
   -- ---- methods that have places are declared
 
-  lacking_declared : (o : Option Implementation) (kind : FaultKind) → lack_of o ≡ Some kind → is_some o ≡ is_some (Some kind)
+  lacking_declared : (o : Option Implementation) (kind : FaultKind) → lack_of o ≡ Some kind
+      → is_some o ≡ is_some (Some kind)
   lacking_declared None kind is = cc
   lacking_declared (Some i) kind is = refl
 
@@ -232,7 +235,8 @@ module _ (P : Tables) (uses : UseGraph) (whole : IsUseGraph P uses) (entries : L
     ],
   )
 
-  pub below_all : (limit : ℕ) (places : List Place) → length uses.methods ≤ limit → AreBelow P entries uses.methods limit places
+  pub below_all : (limit : ℕ) (places : List Place) → length uses.methods ≤ limit
+      → AreBelow P entries uses.methods limit places
       → AreAllPlaces P entries places
   below_all limit places all are p = (
     λ h. (let (n, less, (m, at, class, index, is)) = (are p).0 h in is),

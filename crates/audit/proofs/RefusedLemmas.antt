@@ -25,7 +25,8 @@ use Rattle.machine.specs.declared.call_operation.CallOperation.{CallOperation}
 use Rattle.machine.specs.CallReferences.{of_class, of_interface, of_either, has_values, if_signed, static_callee}
 use Rattle.machine.specs.CallReferences.{static_reference, virtual_callee, virtual_reference, special_callee}
 use Rattle.machine.specs.CallReferences.{special_reference}
-use Rattle.machine.specs.Operations.{Operation, Local, PutStatic, Refused, may_write, if_valued, get_target, getstatic_of}
+use Rattle.machine.specs.Operations.{Operation, Local, PutStatic, Refused, may_write, if_valued, get_target}
+use Rattle.machine.specs.Operations.{getstatic_of}
 use Rattle.machine.specs.Operations.{put_target, putstatic_of, on_call, resolved_operation, local_or, operation_of}
 use Rattle.machine.specs.Operations.{operation_at}
 use Rattle.use_graph.specs.declared.feature.Feature.{Feature}

@@ -138,7 +138,7 @@ pub record EndsIn (P : Tables) (entries : List ℕ) (first : World) (schedule : 
   pub next : World
   pub run : Run (program_of P) first before world
   pub stepped : step (program_of P) world t ≡ Some next
-  pub rest : Run (program_of P) next after last
+  pub onward : Run (program_of P) next after last
   pub frame : Frame
   pub under : List Frame
   pub levels : List Level

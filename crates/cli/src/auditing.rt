@@ -34,23 +34,31 @@ pub(crate) fn run<F: Files>(
     let texts = contents(alloc, words.files.as_slice(), files, usize::MAX)?;
     let entries = entries_of(alloc, words.entries)?;
     match program_of_texts(alloc, texts) {
-        Ok(program) => audited(alloc, &program, entries.as_slice()),
+        Ok(program) => audit_by_names(alloc, &program, entries.as_slice()),
         Err(refusal) => Err(refusal),
     }
 }
 
 /// The audit of some entries of a program.
-fn audited(alloc: Global, program: &Program, entries: &[ClassName]) -> Result<Audited, Refusal>
+fn audit_by_names(
+    alloc: Global,
+    program: &Program,
+    entries: &[ClassName],
+) -> Result<Audited, Refusal>
     ensures { IfOk result (λ audited. IsAuditOf program.now entries.now audited.is_clean) }
 {
     match entry_classes(alloc, program, entries) {
-        Ok(classes) => Ok(audited_from(alloc, program, classes.as_slice())?),
+        Ok(classes) => Ok(audit_by_classes(alloc, program, classes.as_slice())?),
         Err(fault) => Err(Refusal::of_entry(fault)),
     }
 }
 
 /// The audit of some entries, by their classes.
-fn audited_from(alloc: Global, program: &Program, classes: &[u32]) -> Result<Audited, AllocError>
+fn audit_by_classes(
+    alloc: Global,
+    program: &Program,
+    classes: &[u32],
+) -> Result<Audited, AllocError>
     ensures { IfOk result (λ audited. IsAuditFrom program.now classes.now audited.is_clean) }
 {
     let places = audit(alloc, program, classes)?;

@@ -1,11 +1,12 @@
 //! The command `explain`: a build in memory, and all that stands against one class, or against each.
 ghost use Rattle.std.specs.Prelude.{◌≡◌, IfOk};
 ghost use Rattle.cli.specs.Explanations.{IsExplained};
+ghost use Rattle.report.specs.Waves.{GiveWaves};
 
 use crate::builds::build_here;
 use crate::files::contents;
 use crate::requested::{options_of, refusal_of};
-use crate::{Explain, Files, Refusal, entries_of};
+use crate::{Building, Explain, Files, Refusal, entries_of};
 use building::Built;
 use explain::{all_text, class_text};
 use init_engine::EntryFault;
@@ -29,7 +30,7 @@ pub(crate) fn run<F: Files>(
     let building = &words.building;
     let texts = contents(alloc, building.files.as_slice(), files, usize::MAX)?;
     match build_here(alloc, texts.as_slice(), &options_of(building)) {
-        Ok(built) => told(alloc, &built, building.run_time, words.class),
+        Ok(built) => told(alloc, &built, building, words.class),
         Err(fault) => Err(refusal_of(alloc, texts.as_slice(), fault)),
     }
 }
@@ -47,10 +48,12 @@ fn forced_by(alloc: Global, program: &Program, list: Option<&str>) -> Result<For
 fn told(
     alloc: Global,
     built: &Built,
-    run_time: Option<&str>,
+    building: &Building<'_>,
     class: &str,
-) -> Result<Vec<u8>, Refusal> {
-    let Ok(forced) = forced_by(alloc, built.image.program(), run_time) else {
+) -> Result<Vec<u8>, Refusal>
+    requires { GiveWaves built.now.image built.now.verdicts }
+{
+    let Ok(forced) = forced_by(alloc, built.image.program(), building.run_time) else {
         return Err(Refusal::Memory);
     };
     let verdicts = built.verdicts.as_slice();
@@ -59,7 +62,14 @@ fn told(
         return Ok(text.into_bytes());
     }
     let number = number_of(alloc, built.image.program(), class)?;
-    let text = class_text(alloc, &built.image, verdicts, &forced, number)?;
+    let text = class_text(
+        alloc,
+        &built.image,
+        verdicts,
+        &forced,
+        building.budget,
+        number,
+    )?;
     Ok(text.into_bytes())
 }
 

@@ -8,6 +8,7 @@
 
 pub mod any_order;
 mod auditing;
+mod build_texts;
 mod builds;
 mod by_threads;
 mod class_files;

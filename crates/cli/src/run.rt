@@ -6,6 +6,7 @@ ghost use Rattle.init_engine.specs.Turns.{world_of};
 ghost use Rattle.cli.specs.Done.{AskFor, DidWords, HasEndedByTurns, HasEndedWithJournal, IsDone};
 ghost use Rattle.cli.specs.Done.{IsWritten, IsWrittenTo};
 ghost use Rattle.cli.specs.Journaled.{IsOutcome};
+ghost use Rattle.cli.specs.Outputs.{IsApart};
 ghost use Rattle.cli.specs.Running.{IsCutShort, IsOfRun};
 ghost use Rattle.cli.specs.Status.{IsOver, code_of, run_status};
 
@@ -16,8 +17,8 @@ use crate::lazy::LazyStart;
 use crate::outputs::overwritten;
 use crate::standing::{tell_image_stacks, tell_lazy_stacks};
 use crate::telling::{
-    refuse, tell_audit, tell_done, tell_endings, tell_overwritten, tell_replay, tell_report,
-    tell_words,
+    refuse, tell_audit, tell_done, tell_endings, tell_no_files, tell_overwritten, tell_replay,
+    tell_report, tell_words,
 };
 use crate::{
     Files, Lazy, Ran, Refusal, Replay, Request, Run, RunFault, Status, Unwatched, Watch, auditing,
@@ -132,8 +133,11 @@ fn do_words<R: Threads + Wait + Sync, F: Files, W: Write + Send + Drop, E: Write
 {
     match line(alloc, words) {
         Ok(request) => match overwritten(&request, files) {
-            Some(name) => (tell_overwritten(name, errors), Held::Nothing, out),
-            None => do_request(rt, alloc, &request, files, out, errors, watch),
+            Some(clash) => (tell_overwritten(clash, errors), Held::Nothing, out),
+            None => {
+                tell_no_files(&request, errors);
+                do_request(rt, alloc, &request, files, out, errors, watch)
+            }
         },
         Err(fault) => (tell_words(&fault, &mut out, errors), Held::Nothing, out),
     }
@@ -155,6 +159,7 @@ fn do_request<
     errors: &mut E,
     watch: &H,
 ) -> (Status, Held, W)
+    requires { IsApart request.now }
     ensures refused { result.0 ≡ Status.Refused → (result.2 ≡ out)
         ⊎ IsOfRun (F.holds files.old) request.now (W.contents out) (W.contents result.2) }
     ensures words { result.0 ≢ Status.Words }

@@ -8,9 +8,10 @@ ghost use Rattle.cli.specs.Status.{IsOver, audit_status};
 
 use crate::auditing::Audited;
 use crate::by_threads::ImageSeen;
+use crate::outputs::Clash;
 use crate::running::send_seen;
 use crate::standing::tell_image_stacks;
-use crate::{Refusal, Replay, RunFault, Status, WordsFault, thread_lines};
+use crate::{Refusal, Replay, Request, RunFault, Status, WordsFault, thread_lines};
 use init_engine::Ending;
 use program::Program;
 use std::alloc::Global;
@@ -184,12 +185,34 @@ fn tell_wrong<E: Write>(text: &str, errors: &mut E) -> Status
     Status::Words
 }
 
-/// Tells on standard error that words name a file for output that they name for input.
-pub(crate) fn tell_overwritten<E: Write>(name: &str, errors: &mut E) -> Status
+/// Tells on standard error that words name a file for output that they name for something else too.
+pub(crate) fn tell_overwritten<E: Write>(clash: Clash<'_>, errors: &mut E) -> Status
     ensures { result ≡ Status.Words }
 {
     // A failure of standard error is ignored.
-    let _ = writeln!(errors, "error: '{name}' is an input and the output");
+    let _ = match clash {
+        Clash::Input(name) => writeln!(errors, "error: '{name}' is an input and the output"),
+        Clash::Outputs(name) => writeln!(errors, "error: '{name}' is both outputs"),
+    };
     let _ = errors.flush();
     Status::Words
+}
+
+/// Tells on standard error that a build has no class files, if so.
+pub(crate) fn tell_no_files<E: Write>(request: &Request<'_>, errors: &mut E) {
+    let has_none = match request {
+        Request::Build(words) => words.building.files.is_empty(),
+        Request::Explain(words) => words.building.files.is_empty(),
+        Request::Report(words) => words.files.is_empty(),
+        Request::Audit(_)
+        | Request::Lazy(_)
+        | Request::Renew(_)
+        | Request::Replay(_)
+        | Request::Run(_) => false,
+    };
+    if has_none {
+        // A failure of standard error is ignored.
+        let _ = writeln!(errors, "note: no FILE is given, so there are no classes");
+        let _ = errors.flush();
+    }
 }

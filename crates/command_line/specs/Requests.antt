@@ -53,6 +53,7 @@ pub record HoldsBuilding (found : Found) (building : Building) : Type 0 where
 
 pub record HoldsBuild (found : Found) (build : Build) : Type 0 where
   pub image : first_value found (codes "out") ≡ Some build.image.now
+  pub report : option_map (λ (s : Bor (List ℕ)). s.now) build.report ≡ first_value found (codes "report")
   pub building : HoldsBuilding found build.building
   pub workers : HoldsBits 32 found (codes "workers") build.workers
 

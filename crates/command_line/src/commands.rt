@@ -17,6 +17,9 @@ const DEFAULT_LIMIT: &str = "100000000";
 
 const GREATEST_LIMIT: i64 = 1_000_000_000_000_000;
 
+/// What `--version` tells after the program's name.
+const VERSION: &str = "0.1.0";
+
 /// The program with its commands.
 pub(crate) fn program<'a>(alloc: Global) -> Result<Command<'a>, AllocError> {
     let program = with_commands_of_builds(alloc, described_program(alloc))?;
@@ -57,6 +60,7 @@ fn with_commands_of_runs<'a>(
 fn described_program<'a>(alloc: Global) -> Command<'a> {
     Command::new(alloc, "preinit")
         .no_binary_name(true)
+        .version(VERSION)
         .about(PROGRAM_ABOUT)
         .after_help(STATUSES)
         .subcommand_required(true)
@@ -66,6 +70,7 @@ fn described_program<'a>(alloc: Global) -> Command<'a> {
 fn build_command<'a>(alloc: Global) -> Result<Command<'a>, AllocError> {
     let build = described(alloc, "build", BUILD_ABOUT, BUILD_LONG_ABOUT)
         .arg(out(alloc))?
+        .arg(report(alloc))?
         .arg(workers(alloc))?;
     with_building(alloc, build)
 }
@@ -148,6 +153,13 @@ fn out<'a>(alloc: Global) -> Arg<'a> {
         .value_name("IMG")
         .required(true)
         .help("The file that gets the image")
+}
+
+fn report<'a>(alloc: Global) -> Arg<'a> {
+    Arg::new(alloc, "report")
+        .long("report")
+        .value_name("FILE")
+        .help("The file that gets the report of the build, as 'preinit report' tells it")
 }
 
 fn workers<'a>(alloc: Global) -> Arg<'a> {

@@ -44,6 +44,8 @@ pub struct Explain<'a> {
 pub struct Build<'a> {
     /// The name of the image's file.
     pub image: &'a str,
+    /// The name of the file that gets the report.
+    pub report: Option<&'a str>,
     /// What it is built of, and how.
     pub building: Building<'a>,
     /// How many threads of the system run initializers.

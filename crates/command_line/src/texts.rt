@@ -8,10 +8,11 @@ pub(crate) const STATUSES: &str = "\
 Exit status:
   0  done: the image is written, the report is told, or all threads returned
   1  refused: a class file, the classes together, an image, an entry, an option of a build, or memory
-  2  the command line is wrong
+  2  the command line is wrong, or names one file for output and for input
   3  a file or standard output failed
   4  stuck: no thread has a step, and one has not ended
-  5  the limit was reached, and a thread still has a step
+  5  the limit was reached, and a thread still has a step; or a replay came to the end of its journal, and a thread
+     has not ended
   6  all threads ended, and not all of them returned
 
 A refusal is one line on standard error, 'preinit: ' and its name.";
@@ -27,6 +28,8 @@ which classes these are, and why the others are not. A run from the image shows 
 Standard output gets nothing. The image is the same whatever the order of the class files, and for any number of
 workers. Where it can't be written, the file is named as it was given: 'preinit: File app.img'. So is a class file that
 is no shorter than 2^32 bytes. Another number of workers than 1 to 64 is refused: 'preinit: Wave Workers'.
+
+The report of this very build is written with --report, before the image.
 
 For example: preinit build --out app.img app/Main.class app/Table.class";
 
@@ -62,7 +65,8 @@ Tells which classes can be initialized at build time, and why the others can't";
 pub(crate) const REPORT_LONG_ABOUT: &str = "\
 Builds in memory: runs the initializer of each class that may be initialized before the program is run, alone and
 within a budget. A class may, where its code does nothing that another class or a user could see, and where all classes
-that it uses are initialized before it.
+that it uses are initialized before it. A report speaks of initializers alone: what the other methods of a class may
+meet when they run it does not say.
 
 Standard output gets a line for each class, in the order of their names:
   app/Table build 0 12              initialized at build time, in wave 0; the image keeps 12 objects of it
@@ -150,6 +154,7 @@ shows what the run showed that wrote the journal. A line of a journal is the num
 number of steps that it makes, in decimal without leading zeros.
 
 What is wrong with a journal is told by its text: Text and the first line at fault, or Turn and the line of a thread
-that is not there or has no step, from 1.
+that is not there or has no step, from 1. Of a Turn, lines of one thread that follow one another count as one, as in a
+journal that a run wrote.
 
 For example: preinit replay --journal app.journal --entries app.Main,app.Other app.img";

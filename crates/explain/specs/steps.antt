@@ -1,1 +1,5 @@
 pub mod Known
+pub mod Trees
+pub mod Callers
+pub mod Refused
+pub mod Pairs

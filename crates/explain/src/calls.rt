@@ -1,5 +1,15 @@
 //! Where a method calls another.
 
+ghost use Rattle.std.specs.Prelude.{◌≡◌, ◌↔◌, IsTrue, IfOk, MatchOption};
+ghost use Rattle.std.specs.List.{Contains};
+ghost use Rattle.bytecode.specs.declared.placed.Placed.{Placed as Held};
+ghost use Rattle.machine.specs.Operations.{meaning};
+ghost use Rattle.use_graph.specs.Code.{MayRunFor, callee_of, callee_of_call, chosen_callee};
+ghost use Rattle.use_graph.specs.Uses.{Calls};
+ghost use Rattle.use_graph.specs.declared.callee.Callee.TheVariants as callees;
+ghost use Rattle.explain.specs.Paths.{CallsAt};
+ghost use Rattle.explain.specs.steps.Callers.{MayCall};
+
 use bytecode::{Instruction, Placed};
 use hierarchy::member::{DeclaredMember, Method};
 use hierarchy::selectable::Selectable;
@@ -8,14 +18,19 @@ use machine::resolved::{Resolved, resolved_operation};
 use program::Program;
 use program::class::Implementation;
 use std::alloc::{AllocError, Global};
+use use_graph::callee::Callee;
 
 /// Whether two methods are the same.
-fn is_same(method: DeclaredMember, other: DeclaredMember) -> bool {
+fn is_same(method: DeclaredMember, other: DeclaredMember) -> bool
+    ensures { IsTrue result ↔ ((method.class ≡ other.class) × (method.index ≡ other.index)) }
+{
     method.class == other.class && method.index == other.index
 }
 
 /// Whether a method is one of some.
-fn is_among(methods: &[DeclaredMember], method: DeclaredMember) -> bool {
+fn is_among(methods: &[DeclaredMember], method: DeclaredMember) -> bool
+    ensures { IsTrue result ↔ Contains methods.now method }
+{
     for other in methods {
         if is_same(*other, method) {
             return true;
@@ -30,7 +45,10 @@ fn is_selected(
     program: &Program,
     selected: Method,
     method: DeclaredMember,
-) -> Result<bool, AllocError> {
+) -> Result<bool, AllocError>
+    ensures { IfOk result
+        (λ yes. IsTrue yes ↔ MayRunFor program.now (callees.Selected selected) method.class method.index) }
+{
     match program.selectable(selected) {
         Selectable::Nothing => Ok(false),
         Selectable::Alone(member) => Ok(is_same(member, method)),
@@ -42,52 +60,56 @@ fn is_selected(
     }
 }
 
-/// Whether a method may run for a call of an instance method.
-fn is_chosen(
-    alloc: Global,
-    program: &Program,
-    choice: Choice,
-    method: DeclaredMember,
-) -> Result<bool, AllocError> {
-    match choice {
-        Choice::Selected(selected) => is_selected(alloc, program, selected, method),
-        Choice::Found(Some(Method::Given { class, index })) => {
-            Ok(is_same(DeclaredMember { class, index }, method))
-        }
-        Choice::Found(_) => Ok(false),
-    }
-}
-
 /// Whether a method may run for a call.
-fn is_called(
+fn may_run_for(
     alloc: Global,
     program: &Program,
-    call: CallOperation,
+    callee: Callee,
     method: DeclaredMember,
-) -> Result<bool, AllocError> {
-    match call {
-        CallOperation::Static(call) => {
-            let callee = DeclaredMember {
-                class: call.class,
-                index: call.index,
-            };
-            Ok(is_same(callee, method))
-        }
-        CallOperation::Instance(call) => is_chosen(alloc, program, call.choice, method),
-        CallOperation::Print(_, _, call) => is_chosen(alloc, program, call.choice, method),
-        CallOperation::EndLine(call) => is_chosen(alloc, program, call.choice, method),
+) -> Result<bool, AllocError>
+    ensures { IfOk result (λ yes. IsTrue yes ↔ MayRunFor program.now callee method.class method.index) }
+{
+    match callee {
+        Callee::Nobody => Ok(false),
+        Callee::Exactly { class, index } => Ok(is_same(DeclaredMember { class, index }, method)),
+        Callee::Selected(selected) => is_selected(alloc, program, selected, method),
     }
 }
 
-/// Whether an instruction is a call.
-fn is_call(instruction: &Instruction) -> bool {
-    matches!(
-        instruction,
-        Instruction::InvokeVirtual(_)
-            | Instruction::InvokeSpecial(_)
-            | Instruction::InvokeStatic(_)
-            | Instruction::InvokeInterface(_)
-    )
+/// What runs for a call of an instance method.
+fn chosen_callee(choice: Choice) -> Callee
+    ensures { result ≡ chosen_callee choice }
+{
+    match choice {
+        Choice::Selected(method) => Callee::Selected(method),
+        Choice::Found(Some(Method::Given { class, index })) => Callee::Exactly { class, index },
+        Choice::Found(_) => Callee::Nobody,
+    }
+}
+
+/// What runs for a call.
+fn callee_of_call(call: CallOperation) -> Callee
+    ensures { result ≡ callee_of_call call }
+{
+    match call {
+        CallOperation::Static(call) => Callee::Exactly {
+            class: call.class,
+            index: call.index,
+        },
+        CallOperation::Instance(call) => chosen_callee(call.choice),
+        CallOperation::Print(_, _, call) => chosen_callee(call.choice),
+        CallOperation::EndLine(call) => chosen_callee(call.choice),
+    }
+}
+
+/// What an instruction calls.
+fn callee_of(resolved: Resolved) -> Callee
+    ensures { result ≡ callee_of (meaning resolved) }
+{
+    match resolved {
+        Resolved::OnCall(call) => callee_of_call(call),
+        _ => Callee::Nobody,
+    }
 }
 
 /// Whether an instruction of a method may call another method.
@@ -97,14 +119,11 @@ fn may_call(
     caller: DeclaredMember,
     instruction: &Instruction,
     callee: DeclaredMember,
-) -> Result<bool, AllocError> {
-    if !is_call(instruction) {
-        return Ok(false);
-    }
-    match resolved_operation(program, caller.class, caller.index, instruction) {
-        Resolved::OnCall(call) => is_called(alloc, program, call, callee),
-        _ => Ok(false),
-    }
+) -> Result<bool, AllocError>
+    ensures { IfOk result (λ yes. IsTrue yes ↔ MayCall program.now caller instruction.now callee) }
+{
+    let called = callee_of(resolved_operation(program, caller.class, caller.index, instruction));
+    may_run_for(alloc, program, called, callee)
 }
 
 /// Where the first of some instructions of a method begins that may call another method.
@@ -114,7 +133,12 @@ fn first_call(
     caller: DeclaredMember,
     items: &[Placed],
     callee: DeclaredMember,
-) -> Result<Option<u16>, AllocError> {
+) -> Result<Option<u16>, AllocError>
+    ensures { IfOk result (λ found. MatchOption found
+        ((item : Held) → Contains items.now item → ¬ MayCall program.now caller item.instruction callee)
+        (λ pc. (item : Held) × Contains items.now item × (item.pc ≡ pc)
+        × MayCall program.now caller item.instruction callee)) }
+{
     for item in items {
         if may_call(alloc, program, caller, &item.instruction, callee)? {
             return Ok(Some(item.pc));
@@ -132,7 +156,11 @@ pub(crate) fn call_site(
     program: &Program,
     caller: DeclaredMember,
     callee: DeclaredMember,
-) -> Result<Option<u16>, AllocError> {
+) -> Result<Option<u16>, AllocError>
+    ensures { IfOk result (λ found. MatchOption found
+        (¬ Calls program.now caller.class caller.index callee.class callee.index)
+        (λ pc. CallsAt program.now caller.class caller.index pc callee.class callee.index)) }
+{
     match program.implementation(caller.class, caller.index) {
         Some(Implementation::Code(code)) => {
             first_call(alloc, program, caller, code.body.instructions(), callee)

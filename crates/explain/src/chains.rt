@@ -1,6 +1,11 @@
 //! Classes that stay at run time for others' sake.
 
+ghost use Rattle.std.specs.Prelude.{◌≡◌, ℕ, length, slice_get, map, Some, IfOk};
+ghost use Rattle.program.specs.Tables.{Tables};
+ghost use Rattle.use_graph.specs.Uses.{IsUse};
 ghost use Rattle.use_graph.specs.steps.Bodies.{IsUseGraph};
+ghost use Rattle.explain.specs.Chains.{AreFirstUses, DependOnUses, IsChain, Chained};
+ghost use Rattle.explain.specs.steps.Refused.{is_refused};
 
 use graph::components_of;
 use initializer_analysis::first_refused;
@@ -9,11 +14,23 @@ use program::Program;
 use std::alloc::{AllocError, Global};
 use use_graph::UseGraph;
 
+/// Whether a class is not accepted.
+fn is_refused(verdict: Verdict) -> bool
+    ensures { result ≡ is_refused verdict }
+{
+    match verdict {
+        Verdict::Wave(_) => false,
+        Verdict::Refused(_) => true,
+    }
+}
+
 /// Which classes are not accepted, by these verdicts.
-fn refused_by(alloc: Global, verdicts: &[Verdict]) -> Result<Vec<bool>, AllocError> {
+fn refused_by(alloc: Global, verdicts: &[Verdict]) -> Result<Vec<bool>, AllocError>
+    ensures { IfOk result (λ refused. refused.items ≡ map is_refused verdicts.now) }
+{
     let mut refused = Vec::with_capacity(alloc, verdicts.len())?;
     for verdict in verdicts {
-        refused.push(matches!(verdict, Verdict::Refused(_)))?;
+        refused.push(is_refused(*verdict))?;
     }
     Ok(refused)
 }
@@ -28,7 +45,9 @@ pub fn first_uses(
     uses: &UseGraph,
     verdicts: &[Verdict],
 ) -> Result<Vec<Option<u32>>, AllocError>
-    requires { IsUseGraph program.now uses.now }
+    requires uses { IsUseGraph program.now uses.now }
+    requires verdicts { length verdicts.now ≡ length program.now.classes }
+    ensures { IfOk result (λ first. AreFirstUses program.now verdicts.now first.items) }
 {
     let components = components_of(alloc, &uses.calls)?;
     let refused = refused_by(alloc, verdicts)?;
@@ -40,13 +59,21 @@ pub fn first_uses(
 ///
 /// # Errors
 /// Where memory runs out.
-pub fn chain_of(alloc: Global, verdicts: &[Verdict], class: u32) -> Result<Vec<u32>, AllocError> {
+pub fn chain_of(alloc: Global, verdicts: &[Verdict], class: u32) -> Result<Vec<u32>, AllocError>
+    ensures chain { IfOk result (λ chain. IsChain verdicts.now class chain.items) }
+    // Where classes depend on what they use, each uses the next.
+    ensures uses { IfOk result
+        (λ chain. (P : Tables) → DependOnUses P verdicts.now → (last : ℕ) × Chained (IsUse P) class chain.items last) }
+{
     let mut chain = Vec::new(alloc);
+    chain.push(class)?;
     let mut last = class;
     for _ in 0..verdicts.len() {
-        chain.push(last)?;
         match verdicts.get(last as usize) {
-            Some(Verdict::Refused(Reason::DependsOn(next))) => last = *next,
+            Some(Verdict::Refused(Reason::DependsOn(next))) => {
+                last = *next;
+                chain.push(last)?;
+            }
             _ => return Ok(chain),
         }
     }

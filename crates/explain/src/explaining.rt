@@ -1,7 +1,7 @@
 //! All that stands against a class.
 
-ghost use Rattle.std.specs.Prelude.{IfOk};
-ghost use Rattle.explain.specs.Marks.{AreShown};
+ghost use Rattle.std.specs.Prelude.{◌≡◌, length, IfOk};
+ghost use Rattle.explain.specs.Explanations.{Explains};
 ghost use Rattle.explain.specs.steps.Known.{IsKnown};
 
 use crate::chains::first_uses;
@@ -29,6 +29,8 @@ pub struct Known {
 /// The reasons against a class that hold before its initializer is run, and those for which it depends on others.
 #[derive(Drop)]
 pub struct Explanation {
+    /// What became of it in the end.
+    pub verdict: Option<Verdict>,
     pub forced: bool,
     pub marks: ShownMarks,
     /// Another class that it uses, by one use or several, and that uses it so.
@@ -47,7 +49,8 @@ impl Known {
         program: &Program,
         verdicts: &[Verdict],
     ) -> Result<Known, AllocError>
-        ensures { IfOk result (IsKnown program.now) }
+        requires { length verdicts.now ≡ length program.now.classes }
+        ensures { IfOk result (IsKnown program.now verdicts.now) }
     {
         let uses = UseGraph::of_program(alloc, program)?;
         let cycles = cycles_of(alloc, program, &uses)?;
@@ -70,16 +73,19 @@ impl Known {
         &mut self,
         alloc: Global,
         program: &Program,
+        verdicts: &[Verdict],
         forced: &Forced,
         paths: bool,
         class: u32,
     ) -> Result<Explanation, AllocError>
-        requires { IsKnown program.now self.old }
-        ensures known { IsKnown program.now self.new }
-        ensures marks { IfOk result (λ explanation. AreShown program.now class explanation.marks) }
+        requires { IsKnown program.now verdicts.now self.old }
+        ensures known { IsKnown program.now verdicts.now self.new }
+        ensures explains { IfOk result (Explains program.now verdicts.now forced.now paths class) }
     {
+        let verdict = verdicts.get(class as usize).copied();
         let marks = shown_marks(alloc, program, &self.uses, &mut self.search, paths, class)?;
         Ok(Explanation {
+            verdict,
             forced: forced.has(class),
             marks,
             cycle: self.cycles.get(class as usize).copied().flatten(),

@@ -1,11 +1,15 @@
 //! Explanations as lines of text, each of which begins with the name of the class.
 
+ghost use Rattle.std.specs.Prelude.{◌≡◌, length};
 ghost use Rattle.explain.specs.steps.Known.{IsKnown};
 
 use crate::blamed::{most_blamed, roots_of};
 use crate::chains::chain_of;
 use crate::explaining::{Explanation, Known};
 use crate::marks::{Shown, ShownMarks};
+use crate::reruns::run_again;
+use crate::sizes::region_size;
+use crate::stops::stop_within;
 use classfile::printed;
 use initializer_analysis::forced::Forced;
 use initializer_analysis::verdict::{Reason, Verdict};
@@ -176,6 +180,75 @@ struct Build<'a> {
     image: &'a Image,
     verdicts: &'a [Verdict],
     forced: &'a Forced,
+    budget: u64,
+}
+
+/// Adds what the initializer of an accepted class costs, how many objects it made and how many of these are kept, and
+/// how many bytes they take in the image with the static fields.
+fn add_costs(
+    alloc: Global,
+    build: &Build<'_>,
+    name: &str,
+    class: u32,
+    text: &mut String,
+) -> Result<(), AllocError> {
+    let made = match build.image.region(class) {
+        Some(region) => region.objects.count(),
+        None => 0,
+    };
+    let kept = build.image.object_count(class);
+    let bytes = region_size(alloc, build.image, class)?;
+    let cost = run_again(alloc, build.image, class, build.budget)?.budget;
+    writeln!(text, "{name} cost {cost} made {made} kept {kept} bytes {bytes}")
+}
+
+/// Adds where the initializer of a class was stopped for a reason.
+fn add_stop(
+    alloc: Global,
+    build: &Build<'_>,
+    name: &str,
+    class: u32,
+    reason: Reason,
+    text: &mut String,
+) -> Result<(), AllocError> {
+    let again = run_again(alloc, build.image, class, build.budget)?;
+    // The instruction itself costs 1, where it is not for its cost that it is refused.
+    let before = match reason {
+        Reason::Budget => again.budget,
+        _ => again.budget.saturating_sub(1),
+    };
+    let Some(at) = stop_within(alloc, build.image, class, before)? else {
+        return Ok(());
+    };
+    let family = build.image.program().family();
+    let reason = reason_text(alloc, family, reason)?;
+    let place = evidence_text(alloc, family, at)?;
+    writeln!(text, "{name} {reason} at {place}")
+}
+
+/// Whether a reason is found by running an initializer.
+fn is_of_run(reason: Reason) -> bool {
+    matches!(
+        reason,
+        Reason::Raised | Reason::ForeignObject | Reason::Budget | Reason::Faulted
+    )
+}
+
+/// Adds what a run of the initializer of a class shows, where it was run.
+fn add_rerun(
+    alloc: Global,
+    build: &Build<'_>,
+    name: &str,
+    class: u32,
+    text: &mut String,
+) -> Result<(), AllocError> {
+    match build.verdicts.get(class as usize).copied() {
+        Some(Verdict::Wave(_)) => add_costs(alloc, build, name, class, text),
+        Some(Verdict::Refused(reason)) if is_of_run(reason) => {
+            add_stop(alloc, build, name, class, reason, text)
+        }
+        _ => Ok(()),
+    }
 }
 
 /// Adds what is to be told of a class by itself, and answers the first class that it uses and that is not accepted.
@@ -188,19 +261,23 @@ fn add_class(
     class: u32,
     text: &mut String,
 ) -> Result<Option<u32>, AllocError>
-    requires { IsKnown build.now.image.now.program known.old }
-    ensures { IsKnown build.now.image.now.program known.new }
+    requires { IsKnown build.now.image.now.program build.now.verdicts.now known.old }
+    ensures { IsKnown build.now.image.now.program build.now.verdicts.now known.new }
 {
     let program = build.image.program();
     if let Some(verdict) = build.verdicts.get(class as usize) {
         add_verdict(alloc, build.image, name, class, *verdict, text)?;
     }
-    let explanation = known.explain(alloc, program, build.forced, paths, class)?;
+    if paths {
+        add_rerun(alloc, build, name, class, text)?;
+    }
+    let explanation = known.explain(alloc, program, build.verdicts, build.forced, paths, class)?;
     add_reasons(alloc, program.family(), name, &explanation, text)?;
     Ok(explanation.first)
 }
 
-/// What is to be told of one class: the line that a report has of it, and then each reason that holds, with the calls
+/// What is to be told of one class, of a build in which initializers might cost so much: the line that a report has of
+/// it; what its initializer costs and leaves, or where it was stopped; and then each reason that holds, with the calls
 /// that lead to what its code is marked for, and the classes down to the one for whose sake it stays.
 ///
 /// # Errors
@@ -210,12 +287,16 @@ pub fn class_text(
     image: &Image,
     verdicts: &[Verdict],
     forced: &Forced,
+    budget: u64,
     class: u32,
-) -> Result<String, AllocError> {
+) -> Result<String, AllocError>
+    requires { length verdicts.now ≡ length image.now.program.classes }
+{
     let build = Build {
         image,
         verdicts,
         forced,
+        budget,
     };
     let family = image.program().family();
     let mut known = Known::of_program(alloc, image.program(), verdicts)?;
@@ -257,7 +338,9 @@ fn add_all(
     build: &Build<'_>,
     roots: &[usize],
     text: &mut String,
-) -> Result<(), AllocError> {
+) -> Result<(), AllocError>
+    requires { length build.now.verdicts.now ≡ length build.now.image.now.program.classes }
+{
     let program = build.image.program();
     let mut known = Known::of_program(alloc, program, build.verdicts)?;
     for class in 0..program.given_count() {
@@ -279,11 +362,14 @@ pub fn all_text(
     image: &Image,
     verdicts: &[Verdict],
     forced: &Forced,
-) -> Result<String, AllocError> {
+) -> Result<String, AllocError>
+    requires { length verdicts.now ≡ length image.now.program.classes }
+{
     let build = Build {
         image,
         verdicts,
         forced,
+        budget: 0,
     };
     let roots = roots_of(alloc, verdicts)?;
     let mut text = String::new(alloc);

@@ -1,13 +1,16 @@
 //! The marks that a class's code bears, each with where and how its initializer comes there.
 
-ghost use Rattle.std.specs.Prelude.{◌≡◌, ◌↔◌, ℕ, length, IfOk, OnOk, MatchOption};
+ghost use Rattle.std.specs.Prelude.{◌≡◌, ◌↔◌, ℕ, length, Some, slice_get, IfOk, OnOk, IsTrue, MatchOption};
 ghost use Rattle.std.specs.List.{Contains};
 ghost use Rattle.use_graph.specs.declared.body.Told.{Told as Held};
 ghost use Rattle.use_graph.specs.declared.mark.Mark.TheVariants as marks;
 ghost use Rattle.use_graph.specs.Uses.{Means};
 ghost use Rattle.use_graph.specs.steps.Bodies.{IsUseGraph};
-ghost use Rattle.use_graph.specs.steps.Searching.{AreReached, Unmarked, IsMarkedAt};
+ghost use Rattle.use_graph.specs.steps.Searching.{Unmarked, IsMarkedAt};
 ghost use Rattle.explain.specs.Marks.{ShowsMark, AreShown};
+ghost use Rattle.explain.specs.Paths.{IsPath};
+ghost use Rattle.explain.specs.steps.Callers.{IsSearched, StandsAt};
+ghost use Rattle.hierarchy.specs.declared.member.DeclaredMember.{DeclaredMember as Declared};
 
 use crate::paths::path_to;
 use crate::search::Search;
@@ -77,7 +80,8 @@ fn evidence_at(uses: &UseGraph, vertex: usize, class: u32, mark: Mark) -> Option
 fn found_in(uses: &UseGraph, search: &Search, class: u32, mark: Mark) -> Option<Found>
     ensures { MatchOption result
         ((n : ℕ) → Contains search.now.seen.items n → Unmarked uses.now class mark n)
-        (λ found. (n : ℕ) × Contains search.now.seen.items n × IsMarkedAt uses.now class mark n found.at) }
+        (λ found. (n : ℕ) × (slice_get search.now.seen.items found.place ≡ Some n)
+        × IsMarkedAt uses.now class mark n found.at) }
 {
     for place in 0..search.seen.len() {
         if let Some(found) = evidence_at(uses, search.seen.at(place), class, mark) {
@@ -93,13 +97,22 @@ fn path_if(
     program: &Program,
     uses: &UseGraph,
     search: &Search,
+    class: u32,
     paths: bool,
     place: usize,
-) -> Result<Vec<Evidence>, AllocError> {
+) -> Result<Vec<Evidence>, AllocError>
+    requires uses { IsUseGraph program.now uses.now }
+    requires searched { IsSearched program.now uses.now class search.now }
+    requires here { (y : Declared) × StandsAt uses.now.methods search.now.seen.items place y }
+    ensures { IfOk result (λ path. IsTrue paths → (y : Declared)
+        → StandsAt uses.now.methods search.now.seen.items place y
+        → IsPath program.now class y.class y.index path.items) }
+{
     if !paths {
         return Ok(Vec::new(alloc));
     }
-    path_to(alloc, program, uses, search, place)
+    let path = path_to(alloc, program, uses, search, place)?;
+    Ok(path)
 }
 
 /// Where a mark is borne, if it is, where a search has found what may run.
@@ -113,13 +126,13 @@ fn shown_mark(
     mark: Mark,
 ) -> Result<Option<Shown>, AllocError>
     requires uses { IsUseGraph program.now uses.now }
-    requires reached { AreReached program.now uses.now.methods class search.now.seen.items }
-    ensures { IfOk result (ShowsMark program.now class mark) }
+    requires searched { IsSearched program.now uses.now class search.now }
+    ensures { IfOk result (ShowsMark program.now paths class mark) }
 {
     let Some(found) = found_in(uses, search, class, mark) else {
         return Ok(None);
     };
-    let path = path_if(alloc, program, uses, search, paths, found.place)?;
+    let path = path_if(alloc, program, uses, search, class, paths, found.place)?;
     Ok(Some(Shown { at: found.at, path }))
 }
 
@@ -133,8 +146,8 @@ fn shown_by(
     class: u32,
 ) -> Result<ShownMarks, AllocError>
     requires uses { IsUseGraph program.now uses.now }
-    requires reached { AreReached program.now uses.now.methods class search.now.seen.items }
-    ensures { IfOk result (AreShown program.now class) }
+    requires searched { IsSearched program.now uses.now class search.now }
+    ensures { IfOk result (AreShown program.now paths class) }
 {
     Ok(ShownMarks {
         prints: shown_mark(alloc, program, uses, search, paths, class, Mark::Prints)?,
@@ -181,7 +194,7 @@ fn search_for(
     requires uses { IsUseGraph program.now uses.now }
     requires limit { search.old.seen.limit ≡ length uses.now.calls }
     ensures limit { search.new.seen.limit ≡ length uses.now.calls }
-    ensures reached { OnOk result (AreReached program.now uses.now.methods class search.new.seen.items) }
+    ensures searched { OnOk result (IsSearched program.now uses.now class search.new) }
 {
     match start_of(program, uses, class) {
         Some(start) => {
@@ -211,7 +224,7 @@ pub fn shown_marks(
     requires uses { IsUseGraph program.now uses.now }
     requires limit { search.old.seen.limit ≡ length uses.now.calls }
     ensures limit { search.new.seen.limit ≡ length uses.now.calls }
-    ensures shown { IfOk result (AreShown program.now class) }
+    ensures shown { IfOk result (AreShown program.now paths class) }
 {
     search_for(program, uses, search, class)?;
     shown_by(alloc, program, uses, search, paths, class)

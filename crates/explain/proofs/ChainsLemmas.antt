@@ -1,0 +1,71 @@
+-- Chains of classes, and the first refused class that each uses.
+use Rattle.std.proofs.Common.{◌≡◌, ◌∙◌, ◌⊎◌, ℕ, zero, suc, ◌<◌, Bool, true, false, IsTrue, List, [], ◌∷◌, ◌++◌, length}
+use Rattle.std.proofs.Common.{Option, Some, None, map, slice_get, slice_index_or, refl, sym, ap, subst, inl, inr, arith}
+use Rattle.std.proofs.lemmas.Grind.{common_steps}
+use Rattle.std.proofs.lemmas.Option.{slice_get_within}
+use Rattle.program.specs.Tables.{Tables}
+use Rattle.use_graph.specs.Uses.{IsUse}
+use Rattle.initializer_analysis.specs.declared.verdict.Verdict.{Verdict}
+use Rattle.initializer_analysis.specs.declared.verdict.Verdict.TheVariants.{Wave, Refused}
+use Rattle.initializer_analysis.specs.Verdicts.{IsAccepted, IsFirstRefused}
+use Rattle.initializer_analysis.specs.Least.{IsFirst}
+use Rattle.initializer_analysis.specs.RefusedUses.{IsRefusedUse, AreFirstRefused}
+use Rattle.explain.specs.Chains.{AreFirstUses, Chained, alone, on, DependOnUses, DependsOn, IsFirstUse}
+use Rattle.explain.specs.steps.Refused.{is_refused}
+
+-- what leads on by one relation does by a weaker one
+pub chained_so : (A B : ℕ → ℕ → Type 0) (c : ℕ) → ((d e : ℕ) → A d e → B d e) → (chain : List ℕ) (last : ℕ)
+    → Chained A c chain last → Chained B c chain last
+chained_so A B c so chain last alone = alone
+chained_so A B c so chain last (on {chain = before} {d = d} row leads) =
+    on (chained_so A B c so before d row) (so d last leads)
+
+-- ---- the first refused class
+
+module _ (P : Tables) (verdicts : List Verdict) (whole : length verdicts ≡ length P.classes) where
+  marked_at : (verdicts : List Verdict) (e : ℕ) (verdict : Verdict) → slice_get verdicts e ≡ Some verdict
+      → slice_index_or (map is_refused verdicts) e false ≡ is_refused verdict
+  marked_at [] e verdict at = absurd cc
+  marked_at (v ∷ verdicts) zero verdict at = (let same : v ≡ verdict = cc in ap is_refused same)
+  marked_at (v ∷ verdicts) (suc e) verdict at = marked_at verdicts e verdict at
+
+  there : (verdicts : List Verdict) (e : ℕ) → e < length verdicts → (verdict : Verdict)
+      × (slice_get verdicts e ≡ Some verdict)
+  there [] e low = absurd (omega low)
+  there (v ∷ verdicts) zero low = (v, refl)
+  there (v ∷ verdicts) (suc e) low = there verdicts e (omega low)
+
+  accepted_or : (e : ℕ) → e < length P.classes
+      → IsAccepted verdicts e ⊎ IsTrue (slice_index_or (map is_refused verdicts) e false)
+  accepted_or e low =
+      (let (verdict, at) = there verdicts e (omega (arith, low, whole)) in by verdict at)
+    where
+      by : (verdict : Verdict) → slice_get verdicts e ≡ Some verdict
+          → IsAccepted verdicts e ⊎ IsTrue (slice_index_or (map is_refused verdicts) e false)
+      by (Wave n) at = inl (n, at)
+      by (Refused reason) at = inr (marked_at verdicts e (Refused reason) at)
+
+  refused_not : (e : ℕ) → IsTrue (slice_index_or (map is_refused verdicts) e false) → ¬ IsAccepted verdicts e
+  refused_not e marked (n, at) =
+      (let none : false ≡ true = sym (marked_at verdicts e (Wave n) at) ∙ marked in absurd cc)
+
+  first_use : (c : ℕ) (first : Option ℕ) → IsFirst (IsRefusedUse P (map is_refused verdicts) c) first
+      → IsFirstUse P verdicts c first
+  first_use c None none = λ e used. elim (accepted_or e used.0) [
+    | inl accepted ↦ accepted
+    | inr marked ↦ absurd (none e (used, marked))
+  ]
+  first_use c (Some e) ((used, marked), least) = (
+    used,
+    refused_not e marked,
+    λ d also refused. elim (accepted_or d also.0) [
+      | inl accepted ↦ absurd (refused accepted)
+      | inr mark ↦ least d (also, mark)
+    ],
+  )
+
+  pub first_uses : (refused : List Bool) (first : List (Option ℕ)) → refused ≡ map is_refused verdicts
+      → AreFirstRefused P refused first → AreFirstUses P verdicts first
+  first_uses refused first is are c low =
+      first_use c (slice_index_or first c None)
+      (subst (λ (l : List Bool). IsFirst (IsRefusedUse P l c) (slice_index_or first c None)) is (are.each c low))

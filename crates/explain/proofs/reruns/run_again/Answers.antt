@@ -1,0 +1,16 @@
+use Rattle.machine.specs.Linked.{program_of}
+use Rattle.semantics.proofs.RefusalsLemmas.{stop_excludes_lem}
+use Rattle.evaluator.specs.Regions.{environment_of}
+use Rattle.explain.proofs.RerunsLemmas.{ends_at}
+use Rattle.explain.proofs.reruns.run_again.Goals as goal
+
+pub returns : goal.returns
+returns c = (
+  environment_of c.in_ok-regions.regions,
+  record {
+    least = c.in_ok-budget.ensures;
+    ending = ends_at stop_excludes_lem (program_of c.args.image.now.program)
+        (environment_of c.in_ok-regions.regions) c.args.class c.args.greatest c.in_ok-budget.budget
+        c.in_ok-ending.ending c.in_ok-budget.ensures c.in_ok-ending.ensures;
+  },
+)
