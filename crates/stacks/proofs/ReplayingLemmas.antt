@@ -18,7 +18,7 @@ use Rattle.init_engine.specs.Turnings.{RunsAhead, text_length}
 use Rattle.init_engine.specs.Turns.{world_of}
 use Rattle.thread_runner.specs.Replays.{NoRun}
 use Rattle.thread_runner.proofs.ReplayLemmas.{run_first, run_rest}
-use Rattle.stacks.specs.Stacks.{AreBefore}
+use Rattle.stacks.specs.Stacks.{AreBefore, StoodBefore}
 use Rattle.stacks.specs.steps.Replaying.{AreKept, AreLast, AreLastBelow, IsKept, StoodAt, StoodIn}
 
 -- ---- steps in a row
@@ -88,16 +88,17 @@ same_or_not i j = elim (tested (i == j)) [
   | inr e ↦ inr (unequal i j e)
 ]
 
-abbrev first_part : Option (ℕ × ℕ) → ℕ
-first_part None = 0
-first_part (Some r) = r.0
+first_in : Option (ℕ × ℕ) → ℕ
+first_in None = 0
+first_in (Some pair) = pair.0
 
-abbrev second_part : Option (ℕ × ℕ) → ℕ
-second_part None = 0
-second_part (Some r) = r.1
+second_in : Option (ℕ × ℕ) → ℕ
+second_in None = 0
+second_in (Some pair) = pair.1
 
 same_pair : (a b c d : ℕ) → ◌≡◌ {A = Option (ℕ × ℕ)} (Some (a, b)) (Some (c, d)) → (a ≡ c) × (b ≡ d)
-same_pair a b c d h = (ap first_part h, ap second_part h)
+unfolding first_in second_in
+same_pair a b c d h = (ap first_in h, ap second_in h)
 
 -- ---- last runs
 

@@ -1,4 +1,4 @@
-use Rattle.std.proofs.Common.{Bool, Some, slice_set, subst, sym, refl, arith}
+use Rattle.std.proofs.Common.{◌≡◌, Bool, Some, slice_set, subst, sym, refl, arith}
 use Rattle.std.proofs.lemmas.List.{length-map}
 use Rattle.machine.specs.Linked.{program_of}
 use Rattle.init_engine.specs.Turns.{world_of}
@@ -30,5 +30,4 @@ returns-in-Ok-Some-clause-yes c =
     let yes = rw c.in-Ok-Some.field-0-is at c.in-Ok-Some.ensures.yes in λ went. yes.0
 
 pub returns-in-Ok-None-clause-no : goal.returns-in-Ok-None-clause-no
-returns-in-Ok-None-clause-no c =
-    let no = rw c.in-Ok-None.field-0-is at c.in-Ok-None.ensures.no in λ is. no refl
+returns-in-Ok-None-clause-no c = λ no. c.in-Ok-None.ensures.no c.in-Ok-None.field-0-is

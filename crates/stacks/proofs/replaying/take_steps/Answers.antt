@@ -1,4 +1,4 @@
-use Rattle.std.proofs.Common.{◌≡◌, ◌-◌, ◌<◌, ℕ, replicate, arith, subst, ◌∙◌}
+use Rattle.std.proofs.Common.{◌≡◌, ◌+◌, ◌-◌, ◌<◌, ◌≤◌, ℕ, replicate, arith, subst, ◌∙◌}
 use Rattle.semantics.specs.Worlds.{Run}
 use Rattle.machine.specs.Linked.{program_of}
 use Rattle.init_engine.specs.Turns.{world_of}
