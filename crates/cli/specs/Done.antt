@@ -26,8 +26,10 @@ use Rattle.command_line.specs.declared.request.Replay.{Replay}
 use Rattle.command_line.specs.declared.request.Request.{Request}
 use Rattle.command_line.specs.declared.request.Request.TheVariants as requests
 use Rattle.command_line.specs.declared.request.Run.{Run}
+use Rattle.cli.specs.Audits.{HasAudited}
 use Rattle.cli.specs.Begins.{IsBegun, IsBegunFromImage}
 use Rattle.cli.specs.Builds.{IsBuildOfClassFiles}
+use Rattle.cli.specs.Explanations.{HasExplained}
 use Rattle.cli.specs.Files.{AreBytesOf, AreTextsOf, Contents, OthersStay}
 use Rattle.cli.specs.ImageBuilds.{IsBuiltText}
 use Rattle.cli.specs.ImageRuns.{IsTextOf}
@@ -165,8 +167,12 @@ pub record HasRenewed (old new : Contents) (words : Renew) : Type 0 where
 
 -- What was done that a request asks for, where the command ends with this status.
 abbrev pub IsDone : Contents → Contents → Option (List ℕ) → Option (List ℕ) → Request → Status → Type 0
+IsDone old new before after (requests.Audit words) status =
+    (new ≡ old) × HasAudited old words before after status
 IsDone old new before after (requests.Build words) status =
     (status ≡ Done) × (after ≡ before) × HasBuilt old new words
+IsDone old new before after (requests.Explain words) status =
+    (status ≡ Done) × (new ≡ old) × HasExplained old words before after
 IsDone old new before after (requests.Lazy words) status =
     (new ≡ old) × HasRunLazily old words before after status
 IsDone old new before after (requests.Renew words) status =

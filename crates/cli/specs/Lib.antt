@@ -18,3 +18,5 @@ pub mod Files
 pub mod Entries
 pub mod Done
 pub mod Outputs
+pub mod Audits
+pub mod Explanations

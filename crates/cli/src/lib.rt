@@ -7,12 +7,14 @@
 #![tactic(auto)]
 
 pub mod any_order;
+mod auditing;
 mod build_texts;
 mod builds;
 mod by_threads;
 mod class_files;
 mod entries;
 pub mod existence;
+mod explaining;
 mod fault;
 mod files;
 mod image_build;
@@ -33,7 +35,9 @@ mod watching;
 pub use building::{BuildFault, BuildOptions, Built};
 pub use builds::{build, build_here};
 pub use class_files::linked_program;
-pub use command_line::{Build, Building, Lazy, Renew, Replay, Request, Run, WordsFault, line};
+pub use command_line::{
+    Audit, Build, Building, Explain, Lazy, Renew, Replay, Request, Run, WordsFault, line,
+};
 pub use entries::entries_of;
 pub use fault::Refusal;
 pub use files::{FileFault, Files};

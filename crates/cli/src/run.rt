@@ -16,12 +16,12 @@ use crate::image_run::ImageStart;
 use crate::lazy::LazyStart;
 use crate::outputs::overwritten;
 use crate::telling::{
-    refuse, tell_done, tell_endings, tell_no_files, tell_overwritten, tell_replay, tell_report,
-    tell_words,
+    refuse, tell_audit, tell_done, tell_endings, tell_no_files, tell_overwritten, tell_replay,
+    tell_report, tell_words,
 };
 use crate::{
-    Files, Lazy, Ran, Refusal, Replay, Request, Run, RunFault, Status, Unwatched, Watch,
-    image_build, image_run, lazy, line, renewing, reporting, run_world, status_of,
+    Files, Lazy, Ran, Refusal, Replay, Request, Run, RunFault, Status, Unwatched, Watch, auditing,
+    explaining, image_build, image_run, lazy, line, renewing, reporting, run_world, status_of,
 };
 use init_engine::World;
 use journal::Journal;
@@ -166,8 +166,16 @@ fn do_request<
         (W.contents result.2) request.now result.0 }
 {
     match request {
+        Request::Audit(words) => {
+            let status = tell_audit(auditing::run(alloc, words, files), &mut out, errors);
+            (status, Held::Nothing, out)
+        }
         Request::Build(words) => {
             let status = tell_done(image_build::run(rt, alloc, words, files, watch), errors);
+            (status, Held::Nothing, out)
+        }
+        Request::Explain(words) => {
+            let status = tell_report(explaining::run(alloc, words, files), &mut out, errors);
             (status, Held::Nothing, out)
         }
         Request::Lazy(words) => {

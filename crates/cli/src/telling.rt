@@ -4,8 +4,9 @@ ghost use Rattle.std.specs.Io.KnownBytes.{Appends};
 ghost use Rattle.vm_state.specs.Output.{text_of};
 ghost use Rattle.cli.specs.Done.{HasHelped};
 ghost use Rattle.cli.specs.Refusal.{refusal_status};
-ghost use Rattle.cli.specs.Status.{IsOver};
+ghost use Rattle.cli.specs.Status.{IsOver, audit_status};
 
+use crate::auditing::Audited;
 use crate::by_threads::ImageSeen;
 use crate::outputs::Clash;
 use crate::running::send_seen;
@@ -96,6 +97,26 @@ pub(crate) fn tell_report<W: Write, E: Write>(
     }
 }
 
+/// Tells an audit, or why there is none.
+pub(crate) fn tell_audit<W: Write, E: Write>(
+    audit: Result<Audited, Refusal>,
+    out: &mut W,
+    errors: &mut E,
+) -> Status
+    ensures refused { result ≡ Status.Refused → out.new ≡ out.old }
+    ensures words { result ≢ Status.Words }
+    ensures done { IsOver result → IsOkAnd audit (λ audited. (result ≡ audit_status audited.is_clean)
+        × Appends (W.contents out.old) (W.contents out.new) audited.text.items) }
+{
+    match audit {
+        Ok(audited) => match tell_text(audited.text.as_slice(), out, errors) {
+            Status::Done if !audited.is_clean => Status::Ended,
+            status => status,
+        },
+        Err(refusal) => refuse(&refusal, errors),
+    }
+}
+
 /// Tells a refusal on standard error.
 pub(crate) fn refuse<E: Write>(refusal: &Refusal, errors: &mut E) -> Status
     ensures { result ≡ refusal_status refusal.now }
@@ -165,6 +186,8 @@ pub(crate) fn tell_no_files<E: Write>(request: &Request<'_>, errors: &mut E) {
     let has_none = match request {
         Request::Build(words) => words.building.files.is_empty(),
         Request::Report(words) => words.files.is_empty(),
+        Request::Audit(words) => words.files.is_empty(),
+        Request::Explain(words) => words.building.files.is_empty(),
         Request::Lazy(_) | Request::Renew(_) | Request::Replay(_) | Request::Run(_) => false,
     };
     if has_none {

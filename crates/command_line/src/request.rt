@@ -3,8 +3,12 @@
 /// A command and what its words ask for. Texts are as given.
 #[derive(Drop)]
 pub enum Request<'a> {
+    /// `audit`: tell where the threads of entries may end for want of what is left out or not there.
+    Audit(Audit<'a>),
     /// `build`: make an image of class files.
     Build(Build<'a>),
+    /// `explain`: tell all that stands against a class.
+    Explain(Explain<'a>),
     /// `lazy`: run class files by turns.
     Lazy(Lazy<'a>),
     /// `renew`: write an image again, in the version that is written today.
@@ -15,6 +19,24 @@ pub enum Request<'a> {
     Report(Building<'a>),
     /// `run`: run an image, by threads or by turns.
     Run(Run<'a>),
+}
+
+/// What the words of `audit` ask for.
+#[derive(Drop)]
+pub struct Audit<'a> {
+    /// The names of the entry classes, with commas between them.
+    pub entries: &'a str,
+    /// The names of the class files, in the order given.
+    pub files: Vec<&'a str>,
+}
+
+/// What the words of `explain` ask for.
+#[derive(Drop)]
+pub struct Explain<'a> {
+    /// The name of a class, with dots, or `all`.
+    pub class: &'a str,
+    /// The build that is asked about.
+    pub building: Building<'a>,
 }
 
 /// What the words of `build` ask for.

@@ -1,0 +1,5 @@
+pub mod ReachLemmas
+pub mod PlacesLemmas
+pub mod CallsLemmas
+pub mod ThreadsLemmas
+pub mod RunsLemmas

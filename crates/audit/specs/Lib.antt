@@ -1,0 +1,4 @@
+pub mod Reach
+pub mod Places
+pub mod Runs
+pub mod steps

@@ -1,0 +1,9 @@
+//! What holds of the threads of a run.
+
+ghost use Rattle.audit.specs.Runs.{ThreadsRunReached};
+
+/// In each world of a run of some entries, what threads run are the entries' `main`s and methods that may be reached
+/// from these, and so are the classes that they initialize.
+pub fn threads_run_reached()
+    ensures { ThreadsRunReached }
+{}
