@@ -214,7 +214,11 @@ fn build_text(alloc: Global, build: &Build<'_>) -> Result<String, AllocError> {
     } else {
         format!(in alloc; "build by {workers} [{image}]")?
     };
-    building_text(alloc, &command, &build.building)
+    let mut text = building_text(alloc, &command, &build.building)?;
+    if let Some(report) = build.report {
+        write!(text, " report [{report}]")?;
+    }
+    Ok(text)
 }
 
 /// What the words of a build ask for, after the command.
