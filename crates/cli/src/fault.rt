@@ -3,7 +3,7 @@ ghost use Rattle.std.specs.Prelude.{◌≡◌, ◌≢◌};
 ghost use Rattle.cli.specs.Refusal.{IsOfFile, refusal_status};
 ghost use Rattle.cli.specs.declared.fault.Refusal.TheVariants.{Memory};
 
-use crate::{FileFault, Status};
+use crate::{FileCause, FileFault, Status};
 use classfile::ClassFault;
 use image_parser::ImageFault;
 use init_engine::EntryFault;
@@ -43,7 +43,7 @@ pub enum Refusal {
     Wave(WaveFault),
     /// The file of this name, as given, was not read or written.
     #[error("File {0}")]
-    File(String),
+    File(String, FileCause),
     /// A line of a journal is none, from 1.
     #[error("Text {0}")]
     Text(usize),
@@ -65,7 +65,7 @@ impl Refusal {
         ensures { result ≡ refusal_status self.now }
     {
         match self {
-            Refusal::File(_) | Refusal::Device => Status::Failed,
+            Refusal::File(..) | Refusal::Device => Status::Failed,
             _ => Status::Refused,
         }
     }
@@ -117,12 +117,12 @@ impl Refusal {
     /// The refusal of the file of this name. To be out of memory is no fault of the file.
     pub(crate) fn of_file(alloc: Global, name: &str, fault: FileFault) -> Refusal
         ensures memory { fault ≡ FileFault.Memory → result ≡ Refusal.Memory }
-        ensures device { fault ≡ FileFault.Device → IsOfFile result name.now }
+        ensures device { fault ≢ FileFault.Memory → IsOfFile result name.now }
     {
         match fault {
             FileFault::Memory => Refusal::Memory,
-            FileFault::Device => match String::from_str(alloc, name) {
-                Ok(name) => Refusal::File(name),
+            FileFault::Device(cause) => match String::from_str(alloc, name) {
+                Ok(name) => Refusal::File(name, cause),
                 Err(_) => Refusal::Memory,
             },
         }

@@ -15,6 +15,7 @@ mod class_files;
 mod entries;
 pub mod existence;
 mod explaining;
+mod explanation;
 mod fault;
 mod files;
 mod image_build;
@@ -40,7 +41,7 @@ pub use command_line::{
 };
 pub use entries::entries_of;
 pub use fault::Refusal;
-pub use files::{FileFault, Files};
+pub use files::{FileCause, FileFault, Files};
 pub use image_build::{GREATEST_LENGTH, build_image};
 pub use image_reader::ImageFault;
 pub use image_run::{ImageRun, run_image};

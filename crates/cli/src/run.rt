@@ -11,6 +11,7 @@ ghost use Rattle.cli.specs.Running.{IsCutShort, IsOfRun};
 ghost use Rattle.cli.specs.Status.{IsOver, code_of, run_status};
 
 use crate::by_threads::{Journaled, replayed, run_by_threads};
+use crate::explanation::{Errors, Voice};
 use crate::files::put;
 use crate::image_run::ImageStart;
 use crate::lazy::LazyStart;
@@ -135,10 +136,14 @@ fn do_words<R: Threads + Wait + Sync, F: Files, W: Write + Send + Drop, E: Write
             Some(clash) => (tell_overwritten(clash, errors), Held::Nothing, out),
             None => {
                 tell_no_files(&request, errors);
-                do_request(rt, alloc, &request, files, out, errors, watch)
+                let mut voice = Voice::of(&request, errors);
+                do_request(rt, alloc, &request, files, out, &mut voice, watch)
             }
         },
-        Err(fault) => (tell_words(&fault, &mut out, errors), Held::Nothing, out),
+        Err(fault) => {
+            let mut voice = Voice::plain(errors);
+            (tell_words(&fault, &mut out, &mut voice), Held::Nothing, out)
+        }
     }
 }
 
@@ -147,7 +152,7 @@ fn do_request<
     R: Threads + Wait + Sync,
     F: Files,
     W: Write + Send + Drop,
-    E: Write,
+    E: Errors,
     H: Watch + Sync,
 >(
     rt: &R,
@@ -199,7 +204,7 @@ fn do_request<
 }
 
 /// Does the command `lazy`.
-fn run_lazily<F: Files, W: Write, E: Write>(
+fn run_lazily<F: Files, W: Write, E: Errors>(
     alloc: Global,
     words: &Lazy<'_>,
     files: &mut F,
@@ -222,7 +227,7 @@ fn run_lazily<F: Files, W: Write, E: Write>(
 }
 
 /// Does the command `run`.
-fn run_image<R: Threads + Wait + Sync, F: Files, W: Write + Send + Drop, E: Write>(
+fn run_image<R: Threads + Wait + Sync, F: Files, W: Write + Send + Drop, E: Errors>(
     rt: &R,
     alloc: Global,
     words: &Run<'_>,
@@ -255,7 +260,7 @@ fn run_image<R: Threads + Wait + Sync, F: Files, W: Write + Send + Drop, E: Writ
 }
 
 /// Runs a world as the words say, and tells how its threads ended.
-fn run_told<R: Threads + Wait + Sync, F: Files, W: Write + Send + Drop, E: Write>(
+fn run_told<R: Threads + Wait + Sync, F: Files, W: Write + Send + Drop, E: Errors>(
     rt: &R,
     alloc: Global,
     program: &Program,
@@ -334,7 +339,7 @@ fn journaled(ran: Ran) -> Journaled
 }
 
 /// Tells how the threads of a run ended, and writes its journal where the words ask for it.
-fn tell_run<F: Files, E: Write>(
+fn tell_run<F: Files, E: Errors>(
     alloc: Global,
     program: &Program,
     words: &Run<'_>,
@@ -372,7 +377,7 @@ fn write_journal<F: Files>(
 }
 
 /// Does the command `replay`.
-fn replay_image<F: Files, W: Write, E: Write>(
+fn replay_image<F: Files, W: Write, E: Errors>(
     alloc: Global,
     words: &Replay<'_>,
     files: &mut F,
@@ -395,7 +400,7 @@ fn replay_image<F: Files, W: Write, E: Write>(
 }
 
 /// Runs a program from a world of it, and tells what it prints while it runs, and then how its threads ended.
-fn run_from<W: Write, E: Write>(
+fn run_from<W: Write, E: Errors>(
     alloc: Global,
     program: &Program,
     world: World,

@@ -8,6 +8,7 @@ ghost use Rattle.cli.specs.Status.{IsOver, audit_status};
 
 use crate::auditing::Audited;
 use crate::by_threads::ImageSeen;
+use crate::explanation::Errors;
 use crate::outputs::Clash;
 use crate::running::send_seen;
 use crate::{Refusal, Request, RunFault, Status, WordsFault, thread_lines};
@@ -17,7 +18,7 @@ use std::alloc::Global;
 use std::io::Write;
 
 /// Tells what a replay has shown.
-pub(crate) fn tell_replay<W: Write, E: Write>(
+pub(crate) fn tell_replay<W: Write, E: Errors>(
     alloc: Global,
     replayed: &ImageSeen,
     status: Status,
@@ -47,7 +48,7 @@ pub(crate) fn tell_replay<W: Write, E: Write>(
 }
 
 /// Tells how threads ended.
-pub(crate) fn tell_endings<E: Write>(
+pub(crate) fn tell_endings<E: Errors>(
     alloc: Global,
     program: &Program,
     threads: &[Ending],
@@ -70,7 +71,7 @@ pub(crate) fn tell_endings<E: Write>(
 }
 
 /// Tells why a command that has nothing else to tell was refused, if it was.
-pub(crate) fn tell_done<E: Write>(done: Result<(), Refusal>, errors: &mut E) -> Status
+pub(crate) fn tell_done<E: Errors>(done: Result<(), Refusal>, errors: &mut E) -> Status
     ensures words { result ≢ Status.Words }
     ensures done { IsOver result → (result ≡ Status.Done) × IsOk done }
 {
@@ -81,7 +82,7 @@ pub(crate) fn tell_done<E: Write>(done: Result<(), Refusal>, errors: &mut E) -> 
 }
 
 /// Tells a report, or why there is none.
-pub(crate) fn tell_report<W: Write, E: Write>(
+pub(crate) fn tell_report<W: Write, E: Errors>(
     report: Result<Vec<u8>, Refusal>,
     out: &mut W,
     errors: &mut E,
@@ -98,7 +99,7 @@ pub(crate) fn tell_report<W: Write, E: Write>(
 }
 
 /// Tells an audit, or why there is none.
-pub(crate) fn tell_audit<W: Write, E: Write>(
+pub(crate) fn tell_audit<W: Write, E: Errors>(
     audit: Result<Audited, Refusal>,
     out: &mut W,
     errors: &mut E,
@@ -118,18 +119,19 @@ pub(crate) fn tell_audit<W: Write, E: Write>(
 }
 
 /// Tells a refusal on standard error.
-pub(crate) fn refuse<E: Write>(refusal: &Refusal, errors: &mut E) -> Status
+pub(crate) fn refuse<E: Errors>(refusal: &Refusal, errors: &mut E) -> Status
     ensures { result ≡ refusal_status refusal.now }
 {
     // A failure of standard error is ignored.
     let _ = writeln!(errors, "preinit: {refusal}");
+    errors.explain(refusal);
     let _ = errors.flush();
     refusal.status()
 }
 
 /// Tells what the words gave in place of a command: help on standard output, and what is wrong with
 /// them on standard error.
-pub(crate) fn tell_words<W: Write, E: Write>(
+pub(crate) fn tell_words<W: Write, E: Errors>(
     fault: &WordsFault,
     out: &mut W,
     errors: &mut E,
@@ -146,7 +148,7 @@ pub(crate) fn tell_words<W: Write, E: Write>(
 }
 
 /// Tells help or a report on standard output.
-fn tell_text<W: Write, E: Write>(text: &[u8], out: &mut W, errors: &mut E) -> Status
+fn tell_text<W: Write, E: Errors>(text: &[u8], out: &mut W, errors: &mut E) -> Status
     ensures refused { result ≢ Status.Refused }
     ensures words { result ≢ Status.Words }
     ensures done { IsOver result → (result ≡ Status.Done)

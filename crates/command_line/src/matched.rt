@@ -105,6 +105,7 @@ fn building_of<'a>(
             build_time: matches.get_str("build_time"),
             budget,
             files,
+            verbose: flag_of(matches, "verbose"),
         })),
         None => Ok(None),
     }
@@ -115,7 +116,11 @@ fn audit_of<'a>(alloc: Global, matches: &ArgMatches<'a>) -> Result<Option<Audit<
 {
     let files = files_of(alloc, matches)?;
     match matches.get_str("entries") {
-        Some(entries) => Ok(Some(Audit { entries, files })),
+        Some(entries) => Ok(Some(Audit {
+            entries,
+            files,
+            verbose: flag_of(matches, "verbose"),
+        })),
         None => Ok(None),
     }
 }
@@ -141,6 +146,7 @@ fn lazy_of<'a>(alloc: Global, matches: &ArgMatches<'a>) -> Result<Option<Lazy<'a
             entries,
             limit,
             files,
+            verbose: flag_of(matches, "verbose"),
         })),
         _ => Ok(None),
     }
@@ -151,7 +157,11 @@ fn renew_of<'a>(matches: &ArgMatches<'a>) -> Option<Renew<'a>>
 {
     let new = matches.get_str("out")?;
     let image = matches.get_str("image")?;
-    Some(Renew { new, image })
+    Some(Renew {
+        new,
+        image,
+        verbose: flag_of(matches, "verbose"),
+    })
 }
 
 fn run_of<'a>(matches: &ArgMatches<'a>) -> Option<Run<'a>>
@@ -166,6 +176,7 @@ fn run_of<'a>(matches: &ArgMatches<'a>) -> Option<Run<'a>>
         turns: flag_of(matches, "turns"),
         journal: matches.get_str("journal"),
         image,
+        verbose: flag_of(matches, "verbose"),
     })
 }
 
@@ -179,6 +190,7 @@ fn replay_of<'a>(matches: &ArgMatches<'a>) -> Option<Replay<'a>>
         entries,
         journal,
         image,
+        verbose: flag_of(matches, "verbose"),
     })
 }
 

@@ -28,6 +28,8 @@ pub struct Audit<'a> {
     pub entries: &'a str,
     /// The names of the class files, in the order given.
     pub files: Vec<&'a str>,
+    /// Whether a refusal is explained.
+    pub verbose: bool,
 }
 
 /// What the words of `explain` ask for.
@@ -63,6 +65,8 @@ pub struct Building<'a> {
     pub budget: u64,
     /// The names of the class files, in the order given.
     pub files: Vec<&'a str>,
+    /// Whether a refusal is explained.
+    pub verbose: bool,
 }
 
 /// What the words of `lazy` ask for.
@@ -74,6 +78,8 @@ pub struct Lazy<'a> {
     pub limit: u64,
     /// The names of the class files, in the order given.
     pub files: Vec<&'a str>,
+    /// Whether a refusal is explained.
+    pub verbose: bool,
 }
 
 /// What the words of `renew` ask for.
@@ -83,6 +89,8 @@ pub struct Renew<'a> {
     pub new: &'a str,
     /// The name of the image's file.
     pub image: &'a str,
+    /// Whether a refusal is explained.
+    pub verbose: bool,
 }
 
 /// What the words of `run` ask for.
@@ -98,6 +106,8 @@ pub struct Run<'a> {
     pub journal: Option<&'a str>,
     /// The name of the image's file.
     pub image: &'a str,
+    /// Whether a refusal is explained.
+    pub verbose: bool,
 }
 
 /// What the words of `replay` ask for.
@@ -109,4 +119,34 @@ pub struct Replay<'a> {
     pub journal: &'a str,
     /// The name of the image's file.
     pub image: &'a str,
+    /// Whether a refusal is explained.
+    pub verbose: bool,
+}
+
+impl<'a> Request<'a> {
+    /// Whether a refusal is explained.
+    pub fn is_verbose(&self) -> bool {
+        match self {
+            Request::Audit(words) => words.verbose,
+            Request::Build(words) => words.building.verbose,
+            Request::Explain(words) => words.building.verbose,
+            Request::Lazy(words) => words.verbose,
+            Request::Renew(words) => words.verbose,
+            Request::Replay(words) => words.verbose,
+            Request::Report(words) => words.verbose,
+            Request::Run(words) => words.verbose,
+        }
+    }
+
+    /// The class files that are named.
+    pub fn files(&self) -> &[&'a str] {
+        match self {
+            Request::Audit(words) => words.files.as_slice(),
+            Request::Build(words) => words.building.files.as_slice(),
+            Request::Explain(words) => words.building.files.as_slice(),
+            Request::Lazy(words) => words.files.as_slice(),
+            Request::Report(words) => words.files.as_slice(),
+            Request::Renew(_) | Request::Replay(_) | Request::Run(_) => &[],
+        }
+    }
 }
