@@ -3,7 +3,7 @@
 use crate::{Refusal, Request};
 use classfile::ClassFault;
 use init_engine::EntryFault;
-use loading::{BadParent, LinkFault};
+use loading::fault::{BadParent, LinkFault};
 use std::io::{self, Write};
 
 /// Standard error, where a refusal is explained if that is asked for.
