@@ -73,9 +73,13 @@ fn texts_of_build(
     ensures { (texts : List (List ℕ)) (options : Options) → IsBuildOfClassFiles texts options built.now
         → IfOk result (AreTextsOfBuild texts options reports) }
 {
-    let image = image_bytes(alloc, built)?;
-    let report = report_if(alloc, built, reports)?;
-    Ok(BuildTexts { image, report })
+    match image_bytes(alloc, built) {
+        Ok(image) => match report_if(alloc, built, reports) {
+            Ok(report) => Ok(BuildTexts { image, report }),
+            Err(error) => Err(error),
+        },
+        Err(error) => Err(error),
+    }
 }
 
 /// The text of the image of a build.

@@ -81,15 +81,15 @@ fn build_of<'a>(alloc: Global, matches: &ArgMatches<'a>) -> Result<Option<Build<
     ensures { IfOk result (λ found. IfSome found (HoldsBuild (found_of matches.now))) }
 {
     match (matches.get_str("out"), count_of(matches, "workers")) {
-        (Some(image), Some(workers)) => {
-            let report = matches.get_str("report");
-            Ok(building_of(alloc, matches)?.map(|building| Build {
+        (Some(image), Some(workers)) => match building_of(alloc, matches)? {
+            Some(building) => Ok(Some(Build {
                 image,
-                report,
+                report: matches.get_str("report"),
                 building,
                 workers,
-            }))
-        }
+            })),
+            None => Ok(None),
+        },
         _ => Ok(None),
     }
 }
