@@ -38,8 +38,8 @@ def behind(tasks):
 
 
 def share(rt):
-    """Has each proof take more jobs than the kit gives it, most of all that with the longest chain behind it, and the kit
-    plan with less memory."""
+    """Has each proof take more jobs than the kit gives it, and the one with the longest chain behind it the most, and
+    has the kit plan with less memory."""
     run, need = rt.in_lanes, rt.need
 
     def in_lanes(tasks):
