@@ -6,9 +6,8 @@ memory that these crates take, so that fewer are proved side by side than there 
 """
 import inspect
 
-# How many jobs, copies of the prover, the proof with the longest chain behind it gets, and any other. The system shares
-# processors out among more jobs than there are.
-FIRST, OTHER = 4, 2
+# How many jobs, copies of the prover, a proof gets at most: more seldom help.
+MOST = 8
 # How many bytes are free for a job: 100 to 150 million were seen.
 JOB = 500_000_000
 # The part of the planned memory that these crates take: 0.2 to 0.44 were seen, and 0.56 of a small one.
@@ -38,8 +37,10 @@ def behind(tasks):
 
 
 def share(rt):
-    """Has each proof take more jobs than the kit gives it, and the one with the longest chain behind it the most, and
-    has the kit plan with less memory."""
+    """Has each proof take more jobs than the kit gives it, and the kit plan with less memory.
+
+    The proof with the longest chain behind it gets a job for each processor, and the others share half as many again as
+    there are: the system gives more jobs than processors turns."""
     run, need = rt.in_lanes, rt.need
 
     def in_lanes(tasks):
@@ -48,9 +49,11 @@ def share(rt):
         lines = behind(tasks)
 
         def most(key, given):
-            can_begin = [it for it in tasks if it not in given and all(below in given for below in tasks[it][0])]
-            is_first = lines[key] == max(lines[it] for it in can_begin)
-            return min(FIRST if is_first else OTHER, rt.processors(), int(rt.free() / 2 // JOB))
+            can_run = [it for it in tasks if it not in given and all(below in given for below in tasks[it][0])]
+            is_first = lines[key] == max(lines[it] for it in can_run)
+            proofs = sum(tasks[it][1] > 0 for it in can_run) or 1
+            jobs = rt.processors() if is_first else 3 * rt.processors() // (2 * proofs)
+            return min(MOST, jobs, int(rt.free() / 2 // JOB))
 
         def shared(key, call):
             return lambda given, jobs: call(given, max(jobs, most(key, given)))
