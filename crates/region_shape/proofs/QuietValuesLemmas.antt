@@ -136,7 +136,7 @@ module _ (P : Program) (env : Environment) (c : ℕ) where
   ]
   keeps_all (AskClass x next) own n m q all =
       let at = at_hand_some (pool_seen env c own x.maker) q in
-        keeps_all (next (class_at at.0 x.number)) own n m at.2 all
+      keeps_all (next (class_at at.0 x.number)) own n m at.2 all
   keeps_all (LookInto x part next) own n m q all = elim (branch (same_maker (Class c) x.maker) q) [
     | inl on ↦ keeps_all (next (part_at part own.pool x.number)) own n m on.1 all
     | inr other ↦ elim (branch (is_open part) other.1) [

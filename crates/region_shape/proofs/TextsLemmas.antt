@@ -59,7 +59,7 @@ module _ (P : Tables) (is : IsProgram P) (env : Environment) (texts : HaveTexts 
       let next =
       keeps_values (program_of P) env c IsAny (HasText P) (λ n. tt) m.region.pool.count
       (λ d r at. (texts d r at).statics) (λ d r at. (texts d r at).slots) (λ k small. tt) (row P f)
-        own 0 m fits has.statics has.slots (omega arith) q in
+      own 0 m fits has.statics has.slots (omega arith) q in
       run_texts rest (record { statics = next.statics; slots = next.slots })
       (moved_has (HasText P) m.move f fs gs next.move frames moves)
 

@@ -96,7 +96,7 @@ module _ (P : Tables) (scope : Scope) (f : Frame) where
   runs_in count v None may = tt
   runs_in count v (Some (methods.Given c m)) may = reached_in c m count (may c m refl)
   runs_in count v (Some (methods.BuiltIn member)) may = member_any _ _ (up P scope) P
-    (changes P scope) member count v f tt
+      (changes P scope) member count v f tt
 
   -- what is chosen is in scope
   abbrev Covers : Choice → Type 0
@@ -205,7 +205,7 @@ operation_in P f (PutStatic kind c k) =
     )
 operation_in P f GetOut = push_in P (scope_of P GetOut) values.Out f
 operation_in P f (OnArray operation) = array_any _ _ (up P (scope_of P (OnArray operation))) P
-  (changes P (scope_of P (OnArray operation))) operation f
+    (changes P (scope_of P (OnArray operation))) operation f
 operation_in P f (OnCall call) = call_in P f call
 operation_in P f (Return returns.Nothing) = tt
 operation_in P f (Return (returns.Value kind)) =

@@ -14,5 +14,5 @@ pub invariant_of-self : goal.invariant_of-self
 invariant_of-self g c =
     let b = c.self.inside in
     place_on b.history.world.printed c.commit_front.new.self.world.printed b.prints b.bytes
-        c.commit_front.ensures.goes_on.grows
+    c.commit_front.ensures.goes_on.grows
     c.self.invariant
