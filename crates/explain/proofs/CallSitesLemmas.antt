@@ -1,5 +1,5 @@
 -- Where a method calls another, by the instructions of its body.
-use Rattle.std.proofs.Common.{◌≡◌, ◌∙◌, ℕ, List, [], Option, Some, None, slice_get, option_map, refl, sym, ap, subst}
+use Rattle.std.proofs.Common.{◌≡◌, ◌∙◌, ℕ, List, [], Option, Some, None, slice_get, option_map, MatchOption, refl, sym, ap, subst, arith}
 use Rattle.std.specs.List.{Contains}
 use Rattle.loading.proofs.PlaceLemmas.{contains_at, place_in}
 use Rattle.bytecode.specs.declared.instruction.Instruction.{Instruction}
@@ -162,4 +162,20 @@ module _ (P : Tables) (x y : DeclaredMember) where
       nothing item none))
     where
       nothing : (item : Placed) → Contains [] item → ⊥
-      nothing item (k, small, e) = absurd (omega small)
+      nothing item (k, small, e) = absurd (omega (arith, small))
+
+  -- what is found among the instructions of the body
+  pub site : (items : List Placed) (found : Option ℕ) → items ≡ body
+      → MatchOption found ((item : Placed) → Contains items item → ¬ MayCall P x item.instruction y)
+      (λ pc. (item : Placed) × Contains items item × (item.pc ≡ pc) × MayCall P x item.instruction y)
+      → MatchOption found (¬ Calls P x.class x.index y.class y.index)
+      (λ pc. CallsAt P x.class x.index pc y.class y.index)
+  site items None is none = calls_none
+      (subst (λ (l : List Placed). (item : Placed) → Contains l item → ¬ MayCall P x item.instruction y) is none)
+  site items (Some pc) is found = calls_at pc (subst (λ (l : List Placed). (item : Placed) × Contains l item
+      × (item.pc ≡ pc) × MayCall P x item.instruction y) is found)
+
+  -- where there is no code
+  pub no_site : (o : Option Implementation) → o ≡ implementation_at P x.class x.index → body_in o ≡ []
+      → ¬ Calls P x.class x.index y.class y.index
+  no_site o is none = calls_nothing (ap body_in (sym is) ∙ none)

@@ -142,7 +142,7 @@ module _ (P : Tables) (uses : UseGraph) (search : Search) (place : ℕ) (callee 
       let same : g ≡ f = same_some (slice_get search.finders.items place) g f found finder in
       elim back [
         | inl calling ↦ caller_at step f is stands (subst Calling same calling)
-        | inr (none, rest) ↦ absurd (none step.method (subst (λ (n : ℕ). Stands n step.method) (sym same) stands))
+        | inr (none, h, before, calling) ↦ absurd (none step.method (subst (λ (n : ℕ). Stands n step.method) (sym same) stands))
       ]
 
   -- none does: then its finder is there, and a method
@@ -183,7 +183,7 @@ module _ (P : Tables) (uses : UseGraph) (search : Search) (place : ℕ) (callee 
       by : (step : Option Step)
           → MatchOption step (NoneStandsAt uses.methods search.seen.items g)
           (λ step. (step.place ≡ g) × Stands g step.method) → MatchOption step ⊥ (IsCaller P uses search place callee)
-      by None no = no calling.1.0 calling.1.1.0
+      by None missing = missing calling.1 calling.2
       by (Some step) (is, stands) = caller_at step g is stands calling
 
 -- ---- rows of calls
@@ -199,10 +199,10 @@ lead_more P d k e j [] call (same, also) goes = (
 lead_more P d k e j (next ∷ path) call (first, rest) goes =
     (first, lead_more P d k next.class next.index path call rest goes)
 
-pub lead_added : (P : Tables) (x y callee caller : DeclaredMember) (old new : List Evidence)
+pub lead_added : (P : Tables) (y callee caller : DeclaredMember) (old new : List Evidence)
     → Lead P callee.class callee.index y.class y.index old → AddsCall P callee caller old new
     → Lead P caller.class caller.index y.class y.index new
-lead_added P x y callee caller old new before (call, is, class, index, goes) =
+lead_added P y callee caller old new before (call, is, class, index, goes) =
     subst (λ (l : List Evidence). Lead P caller.class caller.index y.class y.index l) (sym is)
     (subst (λ (n : ℕ). Lead P caller.class n y.class y.index (old ++ call ∷ [])) index
     (subst (λ (n : ℕ). Lead P n call.index y.class y.index (old ++ call ∷ [])) class
@@ -211,15 +211,15 @@ lead_added P x y callee caller old new before (call, is, class, index, goes) =
     (subst (λ (n : ℕ). CallsAt P n caller.index call.pc callee.class callee.index) (sym class) goes)))))
 
 -- from the first method of a search, which is the class initialization method of a class
-pub is_path : (P : Tables) (uses : UseGraph) (c place : ℕ) (search : Search) (path : List Evidence)
-    (y : DeclaredMember) → IsSearched P uses c search → StandsAt uses.methods search.seen.items place y
-    → ((x y : DeclaredMember) → StandsAt uses.methods search.seen.items 0 x
-    → StandsAt uses.methods search.seen.items place y → Lead P x.class x.index y.class y.index path)
+pub is_path : (P : Tables) (uses : UseGraph) (c place : ℕ) (searching : Search) (path : List Evidence)
+    (y : DeclaredMember) → IsSearched P uses c searching → StandsAt uses.methods searching.seen.items place y
+    → ((x y : DeclaredMember) → StandsAt uses.methods searching.seen.items 0 x
+    → StandsAt uses.methods searching.seen.items place y → Lead P x.class x.index y.class y.index path)
     → IsPath P c y.class y.index path
-is_path P uses c place search path y searched here lead = by (slice_get search.seen.items 0) refl
+is_path P uses c place searching path y searched here lead = by (slice_get searching.seen.items 0) refl
   where
-    by : (o : Option ℕ) → slice_get search.seen.items 0 ≡ o → IsPath P c y.class y.index path
-    by None none = absurd (empty search.seen.items place here.0 none here.1.0)
+    by : (o : Option ℕ) → slice_get searching.seen.items 0 ≡ o → IsPath P c y.class y.index path
+    by None none = absurd (empty searching.seen.items place here.0 none here.1)
       where
         empty : (items : List ℕ) (p v : ℕ) → slice_get items 0 ≡ None → slice_get items p ≡ Some v → ⊥
         empty [] p v none at = absurd cc
@@ -228,8 +228,8 @@ is_path P uses c place search path y searched here lead = by (slice_get search.s
         let (m, begins, method) = searched.root v at in
         (m, begins, lead (record { class = c; index = m }) y (v, at, method) here)
 
-pub has_root : (P : Tables) (uses : UseGraph) (c : ℕ) (search : Search) → IsSearched P uses c search
-    → HasRoot uses search
-has_root P uses c search searched v at =
+pub has_root : (P : Tables) (uses : UseGraph) (c : ℕ) (searching : Search) → IsSearched P uses c searching
+    → HasRoot uses searching
+has_root P uses c searching searched v at =
     (let (m, begins, method) = searched.root v at in
     subst (λ (o : Option DeclaredMember). IsSome o) (sym method) refl)

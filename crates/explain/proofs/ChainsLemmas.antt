@@ -31,9 +31,9 @@ module _ (P : Tables) (verdicts : List Verdict) (whole : length verdicts ≡ len
 
   there : (verdicts : List Verdict) (e : ℕ) → e < length verdicts → (verdict : Verdict)
       × (slice_get verdicts e ≡ Some verdict)
-  there [] e low = absurd (omega low)
+  there [] e low = absurd (omega (arith, low))
   there (v ∷ verdicts) zero low = (v, refl)
-  there (v ∷ verdicts) (suc e) low = there verdicts e (omega low)
+  there (v ∷ verdicts) (suc e) low = there verdicts e (omega (arith, low))
 
   accepted_or : (e : ℕ) → e < length P.classes
       → IsAccepted verdicts e ⊎ IsTrue (slice_index_or (map is_refused verdicts) e false)

@@ -2,6 +2,7 @@
 use Rattle.std.proofs.Common.{◌≡◌, ◌≢◌, ◌∙◌, ◌⊎◌, ℕ, ◌+◌, ◌<◌, List, length, replicate, set, Option, Some, None, arith}
 use Rattle.std.proofs.Common.{MatchOption, slice_index, slice_index_or, refl, sym, ap, subst, inl, inr}
 use Rattle.std.proofs.lemmas.Grind.{common_steps}
+use Rattle.std.proofs.lemmas.List.{length-replicate}
 use Rattle.graph.specs.Rows.{Rows}
 use Rattle.graph.specs.Components.{Parts, AreComponents}
 use Rattle.program.specs.Tables.{Tables}
@@ -24,6 +25,10 @@ set_other xs n m x other = grind (arith, common_steps)
 set_len : (xs : List (Option ℕ)) (n : ℕ) (x : Option ℕ) → length (set xs n x) ≡ length xs
 set_len xs n x = grind (arith, common_steps)
 
+none_at : (xs : List (Option ℕ)) (count n : ℕ) → n < count → xs ≡ replicate count None
+    → slice_index_or xs n None ≡ None
+none_at xs count n low is = grind (arith, common_steps)
+
 same_or : (a b : ℕ) → (a ≡ b) ⊎ (a ≢ b)
 same_or a b = grind arith
 
@@ -33,15 +38,12 @@ below_or c d low = grind arith
 module _ (uses : UseGraph) (numbers : List ℕ) where
   pub have_none : (firsts seconds : List (Option ℕ)) → firsts ≡ replicate (length numbers) None
       → seconds ≡ replicate (length numbers) None → HavePairs uses numbers 0 firsts seconds
-  have_none firsts seconds none also =
-      rw (none, also) (record {
-        len = grind (arith, common_steps);
-        also = grind (arith, common_steps);
-        each = λ n low. rw (empty n low) (pair_none (IsMember uses numbers 0 n) (λ d (small, is). omega (arith, small)));
-      })
-    where
-      empty : (n : ℕ) → n < length numbers → slice_index_or (replicate (length numbers) None) n None ≡ None
-      empty n low = grind (arith, common_steps)
+  have_none firsts seconds none also = record {
+    len = ap length none ∙ length-replicate (length numbers) None;
+    also = ap length also ∙ length-replicate (length numbers) None;
+    each = λ n low. rw (none_at firsts (length numbers) n low none, none_at seconds (length numbers) n low also)
+        (pair_none (IsMember uses numbers 0 n) (λ d (small, is). omega (arith, small)));
+  }
 
   module _ (c number : ℕ) (firsts seconds : List (Option ℕ)) (have : HavePairs uses numbers c firsts seconds)
       (low : number < length numbers) (is : number ≡ slice_index numbers (vertex_of uses c)) where

@@ -1,5 +1,6 @@
 -- What an initializer costs, by the least budget in which it does not cost too much.
-use Rattle.std.proofs.Common.{◌≡◌, ◌∙◌, ◌⊎◌, ℕ, zero, suc, ◌+◌, ◌≤◌, subst, inl, inr, arith}
+use Rattle.std.proofs.Common.{◌≡◌, ◌≢◌, Bool, true, false, refl, ◌∙◌, ◌⊎◌, ℕ, zero, suc, ◌+◌, ◌≤◌, subst, inl, inr, arith}
+use Rattle.std.specs.Bool.{MatchBool}
 use Rattle.semantics.specs.Programs.{Program}
 use Rattle.semantics.specs.Quiet.{Environment, OverBudget, Refused, Stop}
 use Rattle.semantics.specs.Settling.{Settles, StoppedBy, StopExcludes, OneStop}
@@ -29,3 +30,12 @@ ends_at excludes P env c greatest budget (endings.Settled region) least (n, sett
     by (inl same) = subst (λ (m : ℕ). Settles P env c m (region_of region)) same settles
     by (inr (less, is, under)) =
         absurd (excludes P env c n less (region_of region) (Refused OverBudget) settles under (least.least less is))
+
+-- whether what stops it is its cost
+pub told_over : OneStop → (P : Program) (env : Environment) (c budget : ℕ) (stop : Stop) (over : Bool)
+    → (over ≡ true → stop ≡ Refused OverBudget) → (over ≡ false → stop ≢ Refused OverBudget)
+    → StoppedBy P env c budget stop → MatchBool over (CostsMore P env c budget) (¬ CostsMore P env c budget)
+told_over one P env c budget stop true yes is_not stopped =
+    subst (λ (s : Stop). StoppedBy P env c budget s) (yes refl) stopped
+told_over one P env c budget stop false yes is_not stopped =
+    λ more. is_not refl (one P env c budget stop (Refused OverBudget) stopped more)

@@ -163,8 +163,11 @@ pub(crate) fn call_site(
 {
     match program.implementation(caller.class, caller.index) {
         Some(Implementation::Code(code)) => {
-            first_call(alloc, program, caller, code.body.instructions(), callee)
+            let found = first_call(alloc, program, caller, code.body.instructions(), callee)?;
+            Ok(found)
         }
-        _ => Ok(None),
+        Some(Implementation::Abstract) => Ok(None),
+        Some(Implementation::Unsupported) => Ok(None),
+        None => Ok(None),
     }
 }

@@ -51,7 +51,8 @@ pub fn first_uses(
 {
     let components = components_of(alloc, &uses.calls)?;
     let refused = refused_by(alloc, verdicts)?;
-    first_refused(alloc, program, uses, &components, &refused)
+    let first = first_refused(alloc, program, uses, &components, &refused)?;
+    Ok(first)
 }
 
 /// The chain of classes from one on, each the first that the one before uses and that is not accepted, down to one

@@ -1,9 +1,10 @@
 //! A class's initializer once more, for what it costs.
 
-ghost use Rattle.std.specs.Prelude.{◌≡◌, ℕ, ◌<◌, ◌≤◌, ◌-◌, IfOk, IfSome};
+ghost use Rattle.std.specs.Prelude.{◌≡◌, ◌≢◌, true, false, IfOk};
 ghost use Rattle.std.specs.Bool.{MatchBool};
-ghost use Rattle.semantics.specs.Quiet.{Environment};
+ghost use Rattle.semantics.specs.Quiet.{Environment, OverBudget, Refused};
 ghost use Rattle.machine.specs.Linked.{program_of};
+ghost use Rattle.evaluator.specs.Outcomes.{stop_of};
 ghost use Rattle.evaluator.specs.Regions.{environment_of};
 ghost use Rattle.explain.specs.Reruns.{CostsMore, IsLeast, IsRerun};
 
@@ -48,6 +49,20 @@ fn other_regions(alloc: Global, image: &Image, class: u32) -> Result<Regions, Al
     Ok(regions)
 }
 
+/// Whether what stops an initializer is its cost.
+fn is_over(halt: Halt) -> bool
+    ensures yes { result ≡ true → stop_of halt ≡ Refused OverBudget }
+    ensures no { result ≡ false → stop_of halt ≢ Refused OverBudget }
+{
+    match halt {
+        Halt::Refused(Refusal::OverBudget) => true,
+        Halt::Refused(Refusal::Raised) => false,
+        Halt::Refused(Refusal::ForeignObject) => false,
+        Halt::Refused(Refusal::Faulted) => false,
+        Halt::Barred => false,
+    }
+}
+
 /// Whether an initializer costs more than a budget.
 fn costs_more(
     alloc: Global,
@@ -60,10 +75,9 @@ fn costs_more(
         (CostsMore (program_of program.now) (environment_of regions.now) class budget)
         (¬ CostsMore (program_of program.now) (environment_of regions.now) class budget)) }
 {
-    match evaluate(alloc, program, regions, class, budget) {
-        Ok(Ending::Stopped(Halt::Refused(Refusal::OverBudget))) => Ok(true),
-        Ok(_) => Ok(false),
-        Err(error) => Err(error),
+    match evaluate(alloc, program, regions, class, budget)? {
+        Ending::Settled(_) => Ok(false),
+        Ending::Stopped(halt) => Ok(is_over(halt)),
     }
 }
 
