@@ -1,8 +1,10 @@
 -- Other classes of a component, and cycles of uses.
 use Rattle.std.proofs.Common.{◌≡◌, ◌≢◌, ◌∙◌, ◌⊎◌, ℕ, ◌+◌, ◌<◌, List, length, replicate, set, Option, Some, None, arith}
-use Rattle.std.proofs.Common.{MatchOption, slice_index, slice_index_or, refl, sym, ap, subst, inl, inr}
+use Rattle.std.proofs.Common.{true, false, is_some, MatchOption, slice_index, slice_index_or, refl, sym, ap, subst, inl, inr}
 use Rattle.std.proofs.lemmas.Grind.{common_steps}
+use Rattle.std.specs.List.{All}
 use Rattle.std.proofs.lemmas.List.{length-replicate}
+use Rattle.std.proofs.lemmas.List.Elements.{All-get_or}
 use Rattle.graph.specs.Rows.{Rows}
 use Rattle.graph.specs.Components.{Parts, AreComponents}
 use Rattle.program.specs.Tables.{Tables}
@@ -14,6 +16,21 @@ use Rattle.initializer_analysis.proofs.DependenceLemmas.{cycle_of_two, reached_a
 use Rattle.explain.specs.Explanations.{AreCycles, IsCycle}
 use Rattle.explain.specs.steps.Pairs.{AreOthers, HasPair, HavePairs, IsOther}
 use Rattle.explain.proofs.PairsLemmas.{pair_first, pair_second, pair_both, pair_same, pair_none}
+
+pub none_of : (o : Option ℕ) → is_some o ≡ false → o ≡ None
+none_of None none = refl
+none_of (Some x) none = absurd cc
+
+pub some_of : (o : Option ℕ) → is_some o ≡ true → (x : ℕ) × (o ≡ Some x)
+some_of None some = absurd cc
+some_of (Some x) some = (x, refl)
+
+-- the number of a class's component
+pub number_low : (uses : UseGraph) (numbers : List ℕ) (c number : ℕ) → vertex_of uses c < length numbers
+    → All (λ n. n < length numbers) numbers → number ≡ slice_index numbers (vertex_of uses c)
+    → number < length numbers
+number_low uses numbers c number vertex below is = subst (λ (n : ℕ). n < length numbers) (sym is)
+    (All-get_or (λ n. n < length numbers) numbers (vertex_of uses c) 0 vertex below)
 
 set_here : (xs : List (Option ℕ)) (n : ℕ) (x : Option ℕ) → n < length xs → slice_index_or (set xs n x) n None ≡ x
 set_here xs n x low = grind (arith, common_steps)

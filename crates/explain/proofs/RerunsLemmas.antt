@@ -1,5 +1,5 @@
 -- What an initializer costs, by the least budget in which it does not cost too much.
-use Rattle.std.proofs.Common.{◌≡◌, ◌≢◌, Bool, true, false, refl, ◌∙◌, ◌⊎◌, ℕ, zero, suc, ◌+◌, ◌≤◌, subst, inl, inr, arith}
+use Rattle.std.proofs.Common.{◌≡◌, Bool, true, false, refl, ◌∙◌, ◌⊎◌, ℕ, zero, suc, ◌+◌, ◌≤◌, subst, inl, inr, arith}
 use Rattle.std.specs.Bool.{MatchBool}
 use Rattle.semantics.specs.Programs.{Program}
 use Rattle.semantics.specs.Quiet.{Environment, OverBudget, Refused, Stop}
@@ -9,6 +9,7 @@ use Rattle.evaluator.specs.declared.outcome.Ending.TheVariants as endings
 use Rattle.evaluator.specs.Outcomes.{IsEnding, stop_of}
 use Rattle.evaluator.specs.Regions.{region_of}
 use Rattle.explain.specs.Reruns.{CostsMore, EndsAt, IsLeast}
+use Rattle.explain.specs.steps.Over.{IsOver}
 
 -- a class that settles within the least budget costs just that
 pub ends_at : StopExcludes → (P : Program) (env : Environment) (c greatest budget : ℕ) (ending : Ending)
@@ -31,11 +32,14 @@ ends_at excludes P env c greatest budget (endings.Settled region) least (n, sett
     by (inr (less, is, under)) =
         absurd (excludes P env c n less (region_of region) (Refused OverBudget) settles under (least.least less is))
 
--- whether what stops it is its cost
-pub told_over : OneStop → (P : Program) (env : Environment) (c budget : ℕ) (stop : Stop) (over : Bool)
-    → (over ≡ true → stop ≡ Refused OverBudget) → (over ≡ false → stop ≢ Refused OverBudget)
-    → StoppedBy P env c budget stop → MatchBool over (CostsMore P env c budget) (¬ CostsMore P env c budget)
-told_over one P env c budget stop true yes is_not stopped =
-    subst (λ (s : Stop). StoppedBy P env c budget s) (yes refl) stopped
-told_over one P env c budget stop false yes is_not stopped =
-    λ more. is_not refl (one P env c budget stop (Refused OverBudget) stopped more)
+-- whether it costs more, by how it ended
+pub told_over : StopExcludes → OneStop → (P : Program) (env : Environment) (c budget : ℕ) (ending : Ending)
+    (over : Bool) → (over ≡ true → IsOver ending) → (over ≡ false → ¬ IsOver ending) → IsEnding P env c budget ending
+    → MatchBool over (CostsMore P env c budget) (¬ CostsMore P env c budget)
+told_over excludes one P env c budget (endings.Settled region) true so not_so (n, settles, within) = absurd (so refl)
+told_over excludes one P env c budget (endings.Settled region) false so not_so (n, settles, within) =
+    λ more. excludes P env c n budget (region_of region) (Refused OverBudget) settles within more
+told_over excludes one P env c budget (endings.Stopped halt) true so not_so stopped =
+    subst (λ (s : Stop). StoppedBy P env c budget s) (so refl) stopped
+told_over excludes one P env c budget (endings.Stopped halt) false so not_so stopped =
+    λ more. not_so refl (one P env c budget (stop_of halt) (Refused OverBudget) stopped more)

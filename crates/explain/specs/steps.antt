@@ -3,3 +3,4 @@ pub mod Trees
 pub mod Callers
 pub mod Refused
 pub mod Pairs
+pub mod Over

@@ -1,11 +1,11 @@
 //! Classes that stay at run time for others' sake.
 
-ghost use Rattle.std.specs.Prelude.{◌≡◌, ℕ, length, slice_get, map, Some, IfOk};
+ghost use Rattle.std.specs.Prelude.{◌≡◌, ℕ, length, slice_get, option_and_then, map, IfOk};
 ghost use Rattle.program.specs.Tables.{Tables};
 ghost use Rattle.use_graph.specs.Uses.{IsUse};
 ghost use Rattle.use_graph.specs.steps.Bodies.{IsUseGraph};
 ghost use Rattle.explain.specs.Chains.{AreFirstUses, DependOnUses, IsChain, Chained};
-ghost use Rattle.explain.specs.steps.Refused.{is_refused};
+ghost use Rattle.explain.specs.steps.Refused.{depended, is_refused};
 
 use graph::components_of;
 use initializer_analysis::first_refused;
@@ -13,6 +13,13 @@ use initializer_analysis::verdict::{Reason, Verdict};
 use program::Program;
 use std::alloc::{AllocError, Global};
 use use_graph::UseGraph;
+
+/// The verdict on a class, if it is given.
+pub(crate) fn verdict_of(verdicts: &[Verdict], class: u32) -> Option<Verdict>
+    ensures { result ≡ slice_get verdicts.now class }
+{
+    verdicts.get(class as usize).copied()
+}
 
 /// Whether a class is not accepted.
 fn is_refused(verdict: Verdict) -> bool
@@ -55,6 +62,26 @@ pub fn first_uses(
     Ok(first)
 }
 
+/// The class on which one of this verdict depends, if it does.
+fn depended(verdict: Verdict) -> Option<u32>
+    ensures { result ≡ depended verdict }
+{
+    match verdict {
+        Verdict::Refused(Reason::DependsOn(next)) => Some(next),
+        _ => None,
+    }
+}
+
+/// The class on which a class depends, if it does.
+fn next_of(verdicts: &[Verdict], class: u32) -> Option<u32>
+    ensures { result ≡ option_and_then depended (slice_get verdicts.now class) }
+{
+    match verdict_of(verdicts, class) {
+        Some(verdict) => depended(verdict),
+        None => None,
+    }
+}
+
 /// The chain of classes from one on, each the first that the one before uses and that is not accepted, down to one
 /// that has a reason of its own.
 ///
@@ -70,13 +97,11 @@ pub fn chain_of(alloc: Global, verdicts: &[Verdict], class: u32) -> Result<Vec<u
     chain.push(class)?;
     let mut last = class;
     for _ in 0..verdicts.len() {
-        match verdicts.get(last as usize) {
-            Some(Verdict::Refused(Reason::DependsOn(next))) => {
-                last = *next;
-                chain.push(last)?;
-            }
-            _ => return Ok(chain),
-        }
+        let Some(next) = next_of(verdicts, last) else {
+            return Ok(chain);
+        };
+        chain.push(next)?;
+        last = next;
     }
     Ok(chain)
 }

@@ -1,10 +1,10 @@
 //! All that stands against a class.
 
-ghost use Rattle.std.specs.Prelude.{◌≡◌, length, IfOk};
+ghost use Rattle.std.specs.Prelude.{◌≡◌, length, slice_index_or, None, IfOk};
 ghost use Rattle.explain.specs.Explanations.{Explains};
 ghost use Rattle.explain.specs.steps.Known.{IsKnown};
 
-use crate::chains::first_uses;
+use crate::chains::{first_uses, verdict_of};
 use crate::cycles::cycles_of;
 use crate::marks::{ShownMarks, shown_marks};
 use crate::search::Search;
@@ -37,6 +37,16 @@ pub struct Explanation {
     pub cycle: Option<u32>,
     /// The first class that it uses and that is not accepted.
     pub first: Option<u32>,
+}
+
+/// What stands at the number of a class.
+fn other_at(others: &[Option<u32>], class: u32) -> Option<u32>
+    ensures { result ≡ slice_index_or others.now class None }
+{
+    match others.get(class as usize) {
+        Some(other) => *other,
+        None => None,
+    }
 }
 
 impl Known {
@@ -82,14 +92,14 @@ impl Known {
         ensures known { IsKnown program.now verdicts.now self.new }
         ensures explains { IfOk result (Explains program.now verdicts.now forced.now paths class) }
     {
-        let verdict = verdicts.get(class as usize).copied();
+        let verdict = verdict_of(verdicts, class);
         let marks = shown_marks(alloc, program, &self.uses, &mut self.search, paths, class)?;
         Ok(Explanation {
             verdict,
             forced: forced.has(class),
             marks,
-            cycle: self.cycles.get(class as usize).copied().flatten(),
-            first: self.first.get(class as usize).copied().flatten(),
+            cycle: other_at(&self.cycles, class),
+            first: other_at(&self.first, class),
         })
     }
 }

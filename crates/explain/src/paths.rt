@@ -1,6 +1,6 @@
 //! Calls by which an initializer comes to a method.
 
-ghost use Rattle.std.specs.Prelude.{◌≡◌, IfOk, MatchOption};
+ghost use Rattle.std.specs.Prelude.{◌≡◌, slice_get, IfOk, MatchOption};
 ghost use Rattle.hierarchy.specs.declared.member.DeclaredMember.{DeclaredMember as Declared};
 ghost use Rattle.program.specs.Tables.{Tables};
 ghost use Rattle.use_graph.specs.steps.Bodies.{IsUseGraph};
@@ -33,17 +33,28 @@ fn step_at(uses: &UseGraph, search: &Search, place: usize) -> Option<Step>
     Some(Step { place, method })
 }
 
+/// The place from where the vertex of a place was found.
+fn finder_of(search: &Search, place: usize) -> Option<usize>
+    ensures { result ≡ slice_get search.now.finders.items place }
+{
+    search.finders.get(place).copied()
+}
+
 /// The nearest method on the way back from a place of a search: that of its finder, or where this is all that is
 /// selected by a name and a descriptor, that of its finder.
 fn caller_of(uses: &UseGraph, search: &Search, place: usize) -> Option<Step>
     ensures { (P : Tables) (callee : Declared) → IsWay P uses.now search.now place callee
         → MatchOption result ⊥ (IsCaller P uses.now search.now place callee) }
 {
-    let finder = *search.finders.get(place)?;
+    let Some(finder) = finder_of(search, place) else {
+        return None;
+    };
     if let Some(step) = step_at(uses, search, finder) {
         return Some(step);
     }
-    let before = *search.finders.get(finder)?;
+    let Some(before) = finder_of(search, finder) else {
+        return None;
+    };
     step_at(uses, search, before)
 }
 

@@ -7,6 +7,7 @@ ghost use Rattle.machine.specs.Linked.{program_of};
 ghost use Rattle.evaluator.specs.Outcomes.{stop_of};
 ghost use Rattle.evaluator.specs.Regions.{environment_of};
 ghost use Rattle.explain.specs.Reruns.{CostsMore, IsLeast, IsRerun};
+ghost use Rattle.explain.specs.steps.Over.{IsOver};
 
 use evaluator::outcome::{Ending, Halt, Refusal};
 use evaluator::regions::{Region, Regions};
@@ -50,7 +51,7 @@ fn other_regions(alloc: Global, image: &Image, class: u32) -> Result<Regions, Al
 }
 
 /// Whether what stops an initializer is its cost.
-fn is_over(halt: Halt) -> bool
+fn is_cost(halt: Halt) -> bool
     ensures yes { result ≡ true → stop_of halt ≡ Refused OverBudget }
     ensures no { result ≡ false → stop_of halt ≢ Refused OverBudget }
 {
@@ -60,6 +61,17 @@ fn is_over(halt: Halt) -> bool
         Halt::Refused(Refusal::ForeignObject) => false,
         Halt::Refused(Refusal::Faulted) => false,
         Halt::Barred => false,
+    }
+}
+
+/// Whether an initializer was stopped for its cost.
+fn is_over(ending: &Ending) -> bool
+    ensures yes { result ≡ true → IsOver ending.now }
+    ensures no { result ≡ false → ¬ IsOver ending.now }
+{
+    match ending {
+        Ending::Settled(_) => false,
+        Ending::Stopped(halt) => is_cost(*halt),
     }
 }
 
@@ -75,10 +87,9 @@ fn costs_more(
         (CostsMore (program_of program.now) (environment_of regions.now) class budget)
         (¬ CostsMore (program_of program.now) (environment_of regions.now) class budget)) }
 {
-    match evaluate(alloc, program, regions, class, budget)? {
-        Ending::Settled(_) => Ok(false),
-        Ending::Stopped(halt) => Ok(is_over(halt)),
-    }
+    let ending = evaluate(alloc, program, regions, class, budget)?;
+    let over = is_over(&ending);
+    Ok(over)
 }
 
 /// The least budget that an initializer does not cost more than, or the greatest.

@@ -11,7 +11,7 @@ pub path_if-requires-clause-here : goal.path_if-requires-clause-here
 path_if-requires-clause-here c =
     let (n, at, is) = c.in-Some.ensures in
     let (body, told, method, held, among, pc, means) = is in
-    (record { class = c.in-Some.found.at.class; index = c.in-Some.found.at.index }, n, at, method)
+    (record { class = c.in-Some.found.at.class; index = c.in-Some.found.at.index }, (n, at, method))
 
 pub returns : goal.returns
 returns c =
