@@ -1,12 +1,10 @@
 -- The nearest method on the way back from a method of a search, and rows of calls.
 use Rattle.std.proofs.Common.{◌≡◌, ◌∙◌, ◌⊎◌, ℕ, ◌+◌, ◌<◌, List, [], ◌∷◌, ◌++◌, length, Option, Some, None, MatchOption}
-use Rattle.std.proofs.Common.{IsSome, slice_get, refl, sym, ap, subst, inl, inr, arith}
-use Rattle.std.specs.List.{Contains}
+use Rattle.std.proofs.Common.{IsSome, slice_get, refl, sym, subst, inl, inr, arith}
 use Rattle.std.proofs.lemmas.Option.{slice_get_within}
-use Rattle.graph.specs.Rows.{successors_of}
 use Rattle.hierarchy.specs.declared.member.DeclaredMember.{DeclaredMember}
 use Rattle.hierarchy.specs.Selectable.{IsNamedLike}
-use Rattle.program.specs.Tables.{Tables, initializer_in}
+use Rattle.program.specs.Tables.{Tables}
 use Rattle.use_graph.specs.declared.mark.Evidence.{Evidence}
 use Rattle.use_graph.specs.declared.whole_program.UseGraph.{UseGraph}
 use Rattle.use_graph.specs.Uses.{Calls}
@@ -49,9 +47,14 @@ module _ (P : Tables) (uses : UseGraph) (search : Search) (place : ℕ) (callee 
 
   selecting : (w u r : ℕ) → u ≡ length uses.methods + r → IsEdge P uses.methods w u → Selecting w r
   selecting w u r is (calls {y = y} at to goes) = absurd (apart u r y to is)
-  selecting w u r is (selects q {x = x} {z = z} at group goes) =
-      (x, z, at, (let same : q ≡ r = omega (arith, is) in
-          subst (λ (n : ℕ). slice_get uses.methods n ≡ Some z) same group), goes)
+  selecting w u r is (selects q {x = x} {z = z} at group goes) = (
+    x,
+    z,
+    at,
+    (let same : q ≡ r = omega (arith, is) in
+        subst (λ (n : ℕ). slice_get uses.methods n ≡ Some z) same group),
+    goes,
+  )
   selecting w u r is (named q {y = y} group to like) = absurd (apart u r y to is)
 
   -- it is found from a method that may call it, or from what is selected
@@ -116,11 +119,14 @@ module _ (P : Tables) (uses : UseGraph) (search : Search) (place : ℕ) (callee 
   pub way_back : (f : ℕ) × (slice_get search.finders.items place ≡ Some f) × Back f
   way_back =
       let (v, at, here) = way.here in
-      let (f, u, low, finder, stands, leads) = way.tree.found place v way.far at in
-      (f, finder, elim (found_by u v here (way.graph.calls.sound u v leads)) [
-        | inl (x, method, goes) ↦ inl (low, x, (u, stands, method), goes)
-        | inr (r, z, is, group, like) ↦ second f u r z low stands is group like
-      ])
+      let (f, u, low, finder, stands, leads) = way.tree.found place v way.far at in (
+        f,
+        finder,
+        elim (found_by u v here (way.graph.calls.sound u v leads)) [
+          | inl (x, method, goes) ↦ inl (low, x, (u, stands, method), goes)
+          | inr (r, z, is, group, like) ↦ second f u r z low stands is group like
+        ],
+      )
 
   -- ---- what is answered
 

@@ -1,14 +1,12 @@
 -- Chains of classes, and the first refused class that each uses.
-use Rattle.std.proofs.Common.{◌≡◌, ◌∙◌, ◌⊎◌, ℕ, zero, suc, ◌<◌, Bool, true, false, IsTrue, List, [], ◌∷◌, ◌++◌, length}
-use Rattle.std.proofs.Common.{Option, Some, None, MatchOption, map, option_and_then, slice_get, slice_index_or, refl, sym, ap, subst, inl, inr, arith}
-use Rattle.std.proofs.lemmas.Grind.{common_steps}
-use Rattle.std.proofs.lemmas.Option.{slice_get_within}
+use Rattle.std.proofs.Common.{◌≡◌, ◌∙◌, ◌⊎◌, ℕ, zero, suc, ◌<◌, Bool, true, false, IsTrue, List, [], ◌∷◌, length}
+use Rattle.std.proofs.Common.{Option, Some, None, map, option_and_then, slice_get, slice_index_or, refl, sym, ap, subst, inl, inr, arith}
 use Rattle.program.specs.Tables.{Tables}
 use Rattle.use_graph.specs.Uses.{IsUse}
 use Rattle.initializer_analysis.specs.declared.verdict.Reason.TheVariants as reasons
 use Rattle.initializer_analysis.specs.declared.verdict.Verdict.{Verdict}
 use Rattle.initializer_analysis.specs.declared.verdict.Verdict.TheVariants.{Wave, Refused}
-use Rattle.initializer_analysis.specs.Verdicts.{IsAccepted, IsFirstRefused}
+use Rattle.initializer_analysis.specs.Verdicts.{IsAccepted}
 use Rattle.initializer_analysis.specs.Least.{IsFirst}
 use Rattle.initializer_analysis.specs.RefusedUses.{IsRefusedUse, AreFirstRefused}
 use Rattle.explain.specs.Chains.{AreFirstUses, Chained, alone, on, DependOnUses, DependsOn, IsFirstUse}

@@ -1,6 +1,6 @@
 -- Other classes of a component, and cycles of uses.
 use Rattle.std.proofs.Common.{◌≡◌, ◌≢◌, ◌∙◌, ◌⊎◌, ℕ, ◌+◌, ◌<◌, List, length, replicate, set, Option, Some, None, arith}
-use Rattle.std.proofs.Common.{true, false, is_some, MatchOption, slice_index, slice_index_or, refl, sym, ap, subst, inl, inr}
+use Rattle.std.proofs.Common.{true, false, is_some, slice_index, slice_index_or, refl, sym, ap, subst, inl, inr}
 use Rattle.std.proofs.lemmas.Grind.{common_steps}
 use Rattle.std.specs.List.{All}
 use Rattle.std.proofs.lemmas.List.{length-replicate}

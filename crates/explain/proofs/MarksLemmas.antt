@@ -1,6 +1,5 @@
 -- What is found of a mark is what is told of it.
-use Rattle.std.proofs.Common.{◌≡◌, ℕ, ◌<◌, List, Option, Some, None, refl}
-use Rattle.std.specs.Prelude.{MatchOption}
+use Rattle.std.proofs.Common.{ℕ, List, Some, None}
 use Rattle.std.specs.List.{Contains}
 use Rattle.program.specs.Tables.{Tables}
 use Rattle.use_graph.specs.declared.mark.Mark.{Mark}

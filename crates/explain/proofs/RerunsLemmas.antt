@@ -1,5 +1,5 @@
 -- What an initializer costs, by the least budget in which it does not cost too much.
-use Rattle.std.proofs.Common.{◌≡◌, Bool, true, false, refl, ◌∙◌, ◌⊎◌, ℕ, zero, suc, ◌+◌, ◌≤◌, subst, inl, inr, arith}
+use Rattle.std.proofs.Common.{◌≡◌, Bool, true, false, refl, ◌⊎◌, ℕ, zero, suc, ◌+◌, ◌≤◌, subst, inl, inr, arith}
 use Rattle.std.specs.Bool.{MatchBool}
 use Rattle.semantics.specs.Programs.{Program}
 use Rattle.semantics.specs.Quiet.{Environment, OverBudget, Refused, Stop}

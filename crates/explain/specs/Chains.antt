@@ -1,5 +1,5 @@
 -- Classes that stay at run time for others' sake.
-use Rattle.std.specs.Prelude.{◌≡◌, ◌⊎◌, ℕ, ◌<◌, ◌≤◌, List, [], ◌∷◌, ◌++◌, length, Option, Some, None, MatchOption}
+use Rattle.std.specs.Prelude.{◌≡◌, ◌⊎◌, ℕ, ◌<◌, List, [], ◌∷◌, ◌++◌, length, Option, Some, None, MatchOption}
 use Rattle.std.specs.Prelude.{slice_get, slice_index_or}
 use Rattle.program.specs.Tables.{Tables}
 use Rattle.use_graph.specs.Uses.{IsUse}

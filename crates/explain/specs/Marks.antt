@@ -1,5 +1,5 @@
 -- What is told of the marks of a class: of each where it is borne, or that it is not.
-use Rattle.std.specs.Prelude.{ℕ, Bool, IsTrue, Option, Some, None, MatchOption}
+use Rattle.std.specs.Prelude.{ℕ, Bool, IsTrue, Option, MatchOption}
 use Rattle.program.specs.Tables.{Tables}
 use Rattle.use_graph.specs.declared.mark.Mark.{Mark}
 use Rattle.use_graph.specs.declared.mark.Mark.TheVariants as marks

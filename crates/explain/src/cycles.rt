@@ -72,7 +72,13 @@ fn other_of(
 {
     let number = components.number(class_vertex(uses, class));
     match firsts[number] {
-        Some(first) => { if first == class { seconds[number] } else { Some(first) } }
+        Some(first) => {
+            if first == class {
+                seconds[number]
+            } else {
+                Some(first)
+            }
+        }
         None => None,
     }
 }

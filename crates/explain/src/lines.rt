@@ -199,7 +199,10 @@ fn add_costs(
     let kept = build.image.object_count(class);
     let bytes = region_size(alloc, build.image, class)?;
     let cost = run_again(alloc, build.image, class, build.budget)?.budget;
-    writeln!(text, "{name} cost {cost} made {made} kept {kept} bytes {bytes}")
+    writeln!(
+        text,
+        "{name} cost {cost} made {made} kept {kept} bytes {bytes}"
+    )
 }
 
 /// Adds where the initializer of a class was stopped for a reason.

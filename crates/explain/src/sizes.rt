@@ -18,7 +18,11 @@ const COUNT: u64 = 4;
 /// A string of the program, with its tag and the count of its units.
 fn string_size(alloc: Global, program: &Program, number: usize) -> Result<u64, AllocError> {
     let text = ClassName::from_modified_utf8(alloc, program.string(number).unwrap_or(&[]))?;
-    Ok((text.units().len() as u64).saturating_mul(2).saturating_add(3))
+    Ok(
+        (text.units().len() as u64)
+            .saturating_mul(2)
+            .saturating_add(3),
+    )
 }
 
 /// A value with its tag.
@@ -80,7 +84,9 @@ fn name_size(alloc: Global, program: &Program, class: ClassId) -> Result<u64, Al
             },
         ) => {
             let name = program.string(number as usize).unwrap_or(&[]);
-            name.len().saturating_add(usize::from(dimensions)).saturating_add(2)
+            name.len()
+                .saturating_add(usize::from(dimensions))
+                .saturating_add(2)
         }
         _ => class_name(alloc, program.family(), class)?.len(),
     };
@@ -95,7 +101,11 @@ fn object_size(alloc: Global, program: &Program, object: &Object) -> Result<u64,
         ClassId::Array(array) => elements_size(alloc, program, kind_of_elements(array), slots)?,
         _ => slots_size(alloc, program, slots)?,
     };
-    Ok(name.saturating_add(held).saturating_add(COUNT).saturating_add(1))
+    Ok(
+        name.saturating_add(held)
+            .saturating_add(COUNT)
+            .saturating_add(1),
+    )
 }
 
 /// The objects of a region, with two counts: how many were made, and how many are kept.

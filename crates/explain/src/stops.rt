@@ -178,12 +178,5 @@ pub fn stop_within(
     };
     let mut shared = begun(alloc, image, class)?;
     let mut frames = stack_on(alloc, class, frame)?;
-    run_within(
-        alloc,
-        program,
-        class,
-        budget,
-        &mut frames,
-        &mut shared,
-    )
+    run_within(alloc, program, class, budget, &mut frames, &mut shared)
 }

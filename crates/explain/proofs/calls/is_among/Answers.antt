@@ -7,8 +7,10 @@ pub loop-other-preserved : goal.loop-other-preserved
 loop-other-preserved c =
     before_more c.args.methods.now (λ (m : DeclaredMember). m ≡ c.args.method → ⊥) c.loop-other.other-index _
     c.loop-other-test.true c.loop-other.invariant
-    (λ same. absurd (let yes = c.is_same.ensures.1 (ap (λ (m : DeclaredMember). m.class) same,
-        ap (λ (m : DeclaredMember). m.index) same) in
+    (λ same. absurd (let yes = c.is_same.ensures.1 (
+      ap (λ (m : DeclaredMember). m.class) same,
+      ap (λ (m : DeclaredMember). m.index) same,
+    ) in
     let no : true ≡ false = sym yes ∙ c.if-is_same.false in cc))
 
 pub returns : goal.returns

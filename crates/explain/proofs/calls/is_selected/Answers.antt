@@ -22,11 +22,11 @@ pub returns-in_ok-add_named_like-in-Named : goal.returns-in_ok-add_named_like-in
 returns-in_ok-add_named_like-in-Named c =
     let adds = c.in_ok-add_named_like-in-Named.ensures c.args.method.class c.args.method.index in (
       λ yes. elim (adds.0 (subst (λ (l : List DeclaredMember). Contains l c.args.method) c.deref.ensures.value
-      (c.is_among.ensures.0 yes))) [
-        | inl old ↦ absurd (empty c.args.method
-            (subst (λ (l : List DeclaredMember). Contains l c.args.method) c.new-like.ensures.items old))
-        | inr named ↦ (c.in-Named.ensures c.args.method.class c.args.method.index).1 named
-      ],
+          (c.is_among.ensures.0 yes))) [
+            | inl old ↦ absurd (empty c.args.method
+                (subst (λ (l : List DeclaredMember). Contains l c.args.method) c.new-like.ensures.items old))
+            | inr named ↦ (c.in-Named.ensures c.args.method.class c.args.method.index).1 named
+          ],
       λ may. c.is_among.ensures.1 (rw c.deref.ensures.value
           (adds.1 (inr ((c.in-Named.ensures c.args.method.class c.args.method.index).0 may)))),
     )

@@ -1,4 +1,3 @@
-use Rattle.std.proofs.Common.{◌≡◌}
 use Rattle.hierarchy.specs.declared.member.DeclaredMember.{DeclaredMember}
 use Rattle.explain.specs.Paths.{Lead}
 use Rattle.explain.specs.steps.Callers.{StandsAt}
