@@ -29,7 +29,7 @@ use Rattle.cli.specs.declared.fault.Refusal.{Refusal}
 use Rattle.cli.specs.declared.fault.Refusal.TheVariants.{Class, Link}
 use Rattle.cli.specs.Builds.{BuildFails, IsBudget}
 use Rattle.cli.specs.Builds as builds
-use Rattle.cli.specs.Existence.{BuildOrFault, EachCodeHasBody, IsBuildable, ProgramOrRefusal}
+use Rattle.cli.specs.Existence.{BuildOrFault, IsBuildable, ProgramOrRefusal}
 use Rattle.cli.specs.Runs.{AreClassFiles, IsFirstBad, IsProgramOf, NotLinked}
 use Rattle.cli.specs.Runs as runs
 use Rattle.cli.proofs.BuildLemmas.{is_from_file}
@@ -91,7 +91,7 @@ text_of_file (text ∷ texts) (g ∷ files) are f at =
 -- ---- a program
 
 module _ (texts : List (List ℕ)) (fits : All IsBytes texts) (files : List ClassFile)
-    (are : AreClassFiles texts files) (body_of : EachCodeHasBody) where
+    (are : AreClassFiles texts files) where
   fit : (f : ClassFile) → Contains files f → IsClassFile f
   fit f at = let (text, there, is) = text_of_file texts files are f at in is.fits
 
@@ -100,7 +100,7 @@ module _ (texts : List (List ℕ)) (fits : All IsBytes texts) (files : List Clas
   bodies_in family of given at m among code has =
       let (text, there, is) = text_of_file texts files are given.file
       ((of.members given.file).1 (in_map (λ (one : GivenClass). one.file) family given at)) in
-      bodies_of body_of text given.file (All-contains IsBytes texts text fits there) is m among code has
+      bodies_of text given.file (All-contains IsBytes texts text fits there) is m among code has
 
   program_of_files : (family : Family) → IsFamilyOf files family → Links files → (P : Tables) × IsProgramOf texts P
   program_of_files family of links =
@@ -124,8 +124,8 @@ module _ (texts : List (List ℕ)) (fits : All IsBytes texts) (files : List Clas
   ]
 
 pub program_or_refusal : ProgramOrRefusal
-program_or_refusal body_of texts fits = elim (texts_or_bad texts fits) [
-  | inl (files, are) ↦ linked_or_refused texts fits files are body_of
+program_or_refusal texts fits = elim (texts_or_bad texts fits) [
+  | inl (files, are) ↦ linked_or_refused texts fits files are
   | inr (place, fault, bad) ↦ inr (Class place fault, runs.class bad)
 ]
 
@@ -169,21 +169,21 @@ module _ (texts : List (List ℕ)) (run build : Option (List ℕ)) (budget : ℕ
       })
       by (inr (fault, fails)) = inr (faults.Option fault, builds.options range of fails)
 
-some_build : EachCodeHasBody → (texts : List (List ℕ)) (run build : Option (List ℕ)) (budget : ℕ)
+some_build : (texts : List (List ℕ)) (run build : Option (List ℕ)) (budget : ℕ)
     → All IsBytes texts
     → AreTexts (patterns_in run) → AreTexts (patterns_in build)
     → IsBuildable texts run build budget ⊎ ((fault : BuildFault) × BuildFails texts run build budget fault)
-some_build body_of texts run build budget fits first second = elim (decided_budget budget) [
+some_build texts run build budget fits first second = elim (decided_budget budget) [
   | inr wrong ↦ inr (faults.Budget, builds.range wrong)
-  | inl range ↦ elim (program_or_refusal body_of texts fits) [
+  | inl range ↦ elim (program_or_refusal texts fits) [
     | inl (P, of) ↦ of_program texts run build budget range P of first second
     | inr (refusal, not_linked) ↦ refused texts run build budget range not_linked
   ]
 ]
 
 pub build_or_fault : BuildOrFault
-build_or_fault body_of texts run build budget fits first second = record {
-  some = some_build body_of texts run build budget fits first second;
+build_or_fault texts run build budget fits first second = record {
+  some = some_build texts run build budget fits first second;
   not_both = λ fault has fails.
       built_or_refused texts texts run build budget has.image _ fault fits (IsPermutation-refl texts) has.range
       has.program has.built fails;

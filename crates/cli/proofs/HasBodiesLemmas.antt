@@ -18,6 +18,7 @@ use Rattle.classfile.specs.declared.member.Member.{Member}
 use Rattle.bytecode.specs.declared.placed.Placed.{Placed}
 use Rattle.bytecode.specs.Body.{IsBody}
 use Rattle.bytecode.proofs.DecidedLemmas.{Bytes}
+use Rattle.bytecode.proofs.HasBodyLemmas.{body_of}
 use Rattle.initializer_analysis.proofs.ReachesLemmas.{in_first, in_rest}
 use Rattle.cli.proofs.HasProgramLemmas.{in_flat}
 
@@ -106,11 +107,10 @@ in_class f m code among is fits =
     let g = front methods (table_text attribute_text f.attributes) e in
     in_member m code is (one_item member_text f.methods m g among)
 
-module _ (body_of : (code : List ℕ) → Bytes code → (body : List Placed) × IsBody code body) where
-  -- each method of a class file that was read has a body, where it has code
-  pub bodies_of : (text : List ℕ) (f : ClassFile) → IsBytes text → IsClassText text f → (m : Member)
-      → Contains f.methods m → (code : Code) → code_among m.attributes ≡ Some code
-      → (body : List Placed) × IsBody code.code body
-  bodies_of text f fits is m among code has =
-      body_of code.code (is_all code.code (in_class f m code among has
-      (are_bytes (class_text f) (subst IsBytes is.spelled fits))))
+-- each method of a class file that was read has a body, where it has code
+pub bodies_of : (text : List ℕ) (f : ClassFile) → IsBytes text → IsClassText text f → (m : Member)
+    → Contains f.methods m → (code : Code) → code_among m.attributes ≡ Some code
+    → (body : List Placed) × IsBody code.code body
+bodies_of text f fits is m among code has =
+    body_of code.code (is_all code.code (in_class f m code among has
+    (are_bytes (class_text f) (subst IsBytes is.spelled fits))))

@@ -12,9 +12,19 @@ use Rattle.classfile.specs.Class.{IsClassText}
 use Rattle.classfile.specs.Text.{class_text}
 use Rattle.loading.specs.declared.given.GivenClass.{GivenClass}
 use Rattle.loading.specs.Families.{Family}
-use Rattle.image_format.specs.Images.{AreShort}
+use Rattle.image_format.specs.Images.{AreShort, ImageText}
+use Rattle.image_writer.specs.ImageTexts.{text_of, told_of}
+use Rattle.region_shape.specs.Wholes.{AreWhole}
+use Rattle.evaluator.specs.Regions.{environment_of}
+use Rattle.object_graph.specs.Images.{AreSmall, ImageTables}
+use Rattle.wave_scheduler.specs.Outcomes.{outcome_of}
+use Rattle.building.specs.Builds.{text_of as list_of}
+use Rattle.building.specs.declared.build.BuildOptions.{BuildOptions}
+use Rattle.building.specs.declared.build.Built.{Built}
 use Rattle.program.specs.Tables.{Tables}
-use Rattle.cli.specs.ImageBuilds.{AreAtMost}
+use Rattle.cli.specs.Builds.{IsBuildOfClassFiles}
+use Rattle.cli.specs.ImageBuilds.{AreAtMost, IsBuiltText}
+use Rattle.cli.specs.ImageRuns.{IsTextOf}
 use Rattle.cli.specs.Runs.{IsProgramOf, texts_of}
 
 abbrev file : GivenClass → ClassFile
@@ -70,3 +80,33 @@ at_most_more {A} most files file all one =
     let text : Vec ℕ A → List ℕ = λ f. f.items in
     subst (AreAtMost most) (sym (map-append text files (file ∷ [])))
     (All-push (λ (t : List ℕ). length t ≤ most) (texts_of files) file.items all one)
+
+-- bytes that are an image's text are a text of it
+pub is_text_of : (I : ImageTables) (bytes : List ℕ) → bytes ≡ text_of I
+    → ImageText (text_of I) I.program.family (told_of I) → IsTextOf bytes I
+is_text_of I bytes same text = subst (λ (b : List ℕ). ImageText b I.program.family (told_of I)) (sym same) text
+
+-- the text of the image of a build is one that is built of the class files
+pub built_text : (texts : List (List ℕ)) (options : BuildOptions) (answer : Built) (bytes : List ℕ)
+    → AreWhole answer.image.program (environment_of answer.image.regions)
+    → AreSmall answer.image.program (environment_of answer.image.regions)
+    → IsBuildOfClassFiles texts options answer → IsTextOf bytes answer.image
+    → IsBuiltText texts (list_of options.run_time) (list_of options.build_time) options.budget bytes
+built_text texts options answer bytes whole small by text = record {
+  image = answer.image;
+  of = record {
+    program = by.program;
+    outcomes = map outcome_of answer.verdicts;
+    built = by.built;
+    exact = by.exact;
+    shows = record { to_image = by.to_image; to_class_files = by.to_class_files };
+    entries = by.entries;
+  };
+  text = text;
+  own_strings = record {
+    program = by.program.program;
+    own_strings = by.program.own_strings;
+    whole = whole;
+    small = small;
+  };
+}

@@ -1,10 +1,21 @@
--- Inputs one by one, none of which has the name of an output.
-use Rattle.std.proofs.Common.{◌≡◌, ◌≢◌, ℕ, ◌+◌, ◌<◌, List, [], ◌∷◌, ◌++◌, Bool, true, false, length, take, get_or, sym}
+-- Inputs one by one, none of which has the name of an output, and what outputs get.
+use Rattle.std.proofs.Common.{◌≡◌, ◌≢◌, ◌∙◌, ℕ, ◌+◌, ◌<◌, List, [], ◌∷◌, ◌++◌, Bool, true, false, length, take, get_or}
+use Rattle.std.proofs.Common.{refl, sym, subst, Option, Some, None, is_some}
 use Rattle.std.proofs.lemmas.List.{map_more}
 use Rattle.std.specs.Borrow.{Bor}
 use Rattle.std.proofs.lemmas.List.Elements.{All-push}
+use Rattle.building.specs.Builds.{text_of as list_of}
+use Rattle.building.specs.declared.build.BuildOptions.{BuildOptions}
+use Rattle.report.specs.Texts.{report_text}
 use Rattle.command_line.specs.Requests.{texts}
+use Rattle.command_line.specs.declared.request.Build.{Build}
+use Rattle.cli.specs.declared.build_texts.BuildTexts.{BuildTexts}
+use Rattle.cli.specs.Builds.{IsBuildOfClassFiles}
+use Rattle.cli.specs.Done.{AreBothWritten, AreWritten, HasBuilt, options_of}
+use Rattle.cli.specs.Files.{AreBytesOf, AreTextsOf, Contents, OthersStay}
+use Rattle.cli.specs.ImageBuilds.{IsBuiltText}
 use Rattle.cli.specs.Outputs.{IsNoneOf}
+use Rattle.cli.specs.steps.BuildTexts.{AreTextsOfBuild}
 
 -- one more input
 pub inputs_more : (output : List ℕ) (inputs : List (Bor (List ℕ))) (i : ℕ) (d : Bor (List ℕ)) (one : Bool)
@@ -17,3 +28,43 @@ inputs_more output inputs i d one within same apart all =
     rw front
     (All-push (λ (other : List ℕ). other ≢ output) (texts (take i inputs)) input all
     (λ is. let yes = same (sym is) in cc))
+
+-- ---- the outputs of a build
+
+-- the report's file, and then the image's
+pub both_written : (old mid new : Contents) (image report bytes text : List ℕ) → report ≢ image
+    → AreBytesOf (mid report) text → OthersStay old mid report → AreBytesOf (new image) bytes
+    → OthersStay mid new image → AreBothWritten old new image report bytes text
+both_written old mid new image report bytes text apart told before written after = record {
+  written = written;
+  told = subst (λ (held : Option (List ℕ)). AreBytesOf held text) (sym (after report apart)) told;
+  others = λ other beside_image beside_report. after other beside_image ∙ before other beside_report;
+}
+
+retold : (old new : Contents) (image : List ℕ) (report : Option (Bor (List ℕ))) (bytes text told : List ℕ)
+    → (is_some report ≡ true → text ≡ told) → AreWritten old new image report bytes text
+    → AreWritten old new image report bytes told
+retold old new image None bytes text told same written = written
+retold old new image (Some name) bytes text told same written =
+    subst (λ (t : List ℕ). AreBothWritten old new image name.now bytes t) (same refl) written
+
+-- what the texts of a build are written to
+pub has_built : (old mid new : Contents) (words : Build) (files : List (List ℕ)) (options : BuildOptions)
+    (made : BuildTexts) → AreTextsOf old (texts words.building.files.items) files
+    → options ≡ options_of words.building → mid ≡ old
+    → AreTextsOfBuild files options (is_some words.report) made
+    → AreWritten mid new words.image.now words.report made.image.items made.report.items → HasBuilt old new words
+has_built old mid new words files options made held asked same of written = record {
+  files = files;
+  held = held;
+  answer = of.answer;
+  build = subst (λ (o : BuildOptions). IsBuildOfClassFiles files o of.answer) asked of.build;
+  bytes = made.image.items;
+  built = subst (λ (o : BuildOptions).
+      IsBuiltText files (list_of o.run_time) (list_of o.build_time) o.budget made.image.items) asked of.built;
+  text = of.text;
+  written = retold old new words.image.now words.report made.image.items made.report.items
+      (report_text of.answer.image of.answer.verdicts) of.report
+      (subst (λ (h : Contents).
+      AreWritten h new words.image.now words.report made.image.items made.report.items) same written);
+}

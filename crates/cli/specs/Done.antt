@@ -1,6 +1,6 @@
 -- What a command has done that was not refused, by what its words ask for: what its files held and hold, and what
 -- standard output got.
-use Rattle.std.specs.Prelude.{◌≡◌, ◌⊎◌, ℕ, List, Option, Some, None, length}
+use Rattle.std.specs.Prelude.{◌≡◌, ◌≢◌, ◌⊎◌, ℕ, List, Option, Some, None, length}
 use Rattle.std.specs.Borrow.{Bor}
 use Rattle.std.specs.Io.KnownBytes.{Appends}
 use Rattle.vm_state.specs.Output.{text_of as printed_text}
@@ -14,6 +14,7 @@ use Rattle.init_engine.specs.Schedules.{AreRuns, schedule_of}
 use Rattle.init_engine.specs.declared.stuck.Rest.{Rest}
 use Rattle.journal.specs.Journals.{IsJournalOf, lines_of}
 use Rattle.building.specs.Builds.{text_of}
+use Rattle.building.specs.declared.build.BuildOptions.{BuildOptions}
 use Rattle.building.specs.declared.build.Built.{Built}
 use Rattle.report.specs.Texts.{report_text}
 use Rattle.command_line.specs.Requests.{IsLine, texts}
@@ -25,10 +26,12 @@ use Rattle.command_line.specs.declared.request.Replay.{Replay}
 use Rattle.command_line.specs.declared.request.Request.{Request}
 use Rattle.command_line.specs.declared.request.Request.TheVariants as requests
 use Rattle.command_line.specs.declared.request.Run.{Run}
+use Rattle.cli.specs.Audits.{HasAudited}
 use Rattle.cli.specs.Begins.{IsBegun, IsBegunFromImage}
 use Rattle.cli.specs.Builds.{IsBuildOfClassFiles}
 use Rattle.cli.specs.Files.{AreBytesOf, AreTextsOf, Contents, OthersStay}
 use Rattle.cli.specs.ImageBuilds.{IsBuiltText}
+use Rattle.cli.specs.ImageRuns.{IsTextOf}
 use Rattle.cli.specs.Outputs.{IsApart}
 use Rattle.cli.specs.Renewals.{IsRenewed}
 use Rattle.cli.specs.Status.{replay_status, run_status}
@@ -108,23 +111,40 @@ pub record HasReplayed (holds : Contents) (words : Replay) (before after : Optio
 
 -- ---- builds
 
--- The file of the image holds the text of one that is built of the class files, as the words say.
+-- what the words say of a build
+abbrev pub options_of : Building → BuildOptions
+options_of words = record { run_time = words.run_time; build_time = words.build_time; budget = words.budget }
+
+-- The files of the image and of the report hold these texts, and no other file was changed.
+pub record AreBothWritten (old new : Contents) (image report bytes text : List ℕ) : Type 0 where
+  pub written : AreBytesOf (new image) bytes
+  pub told : AreBytesOf (new report) text
+  pub others : (other : List ℕ) → other ≢ image → other ≢ report → new other ≡ old other
+
+-- the same where the words name a file for the report, and else of the image alone
+abbrev pub AreWritten : Contents → Contents → List ℕ → Option (Bor (List ℕ)) → List ℕ → List ℕ → Type 0
+AreWritten old new image None bytes text = AreBytesOf (new image) bytes × OthersStay old new image
+AreWritten old new image (Some report) bytes text = AreBothWritten old new image report.now bytes text
+
+-- The file of the image holds the text of one that is built of the class files, as the words say, and that of the
+-- report, where the words name one, the report on the same build.
 pub record HasBuilt (old new : Contents) (words : Build) : Type 0 where
   pub files : List (List ℕ)
   pub held : AreTextsOf old (texts words.building.files.items) files
+  pub answer : Built
+  pub build : IsBuildOfClassFiles files (options_of words.building) answer
   pub bytes : List ℕ
   pub built : IsBuiltText files (text_of words.building.run_time) (text_of words.building.build_time)
       words.building.budget bytes
-  pub written : AreBytesOf (new words.image.now) bytes
-  pub others : OthersStay old new words.image.now
+  pub text : IsTextOf bytes answer.image
+  pub written : AreWritten old new words.image.now words.report bytes (report_text answer.image answer.verdicts)
 
 -- This is the report on a build of the class files, as the words say.
 pub record IsReport (holds : Contents) (words : Building) (report : List ℕ) : Type 0 where
   pub files : List (List ℕ)
   pub held : AreTextsOf holds (texts words.files.items) files
   pub answer : Built
-  pub built : IsBuildOfClassFiles files
-      (record { run_time = words.run_time; build_time = words.build_time; budget = words.budget }) answer
+  pub built : IsBuildOfClassFiles files (options_of words) answer
   pub is : report ≡ report_text answer.image answer.verdicts
 
 -- Such a report went out.
@@ -146,6 +166,8 @@ pub record HasRenewed (old new : Contents) (words : Renew) : Type 0 where
 
 -- What was done that a request asks for, where the command ends with this status.
 abbrev pub IsDone : Contents → Contents → Option (List ℕ) → Option (List ℕ) → Request → Status → Type 0
+IsDone old new before after (requests.Audit words) status =
+    (new ≡ old) × HasAudited old words before after status
 IsDone old new before after (requests.Build words) status =
     (status ≡ Done) × (after ≡ before) × HasBuilt old new words
 IsDone old new before after (requests.Lazy words) status =

@@ -1,9 +1,7 @@
 -- What there is of any class files' bytes and any options: a program or a refusal, an image or a fault.
-use Rattle.std.specs.Prelude.{◌⊎◌, ◌<◌, ◌^◌, ℕ, List, map, Option}
+use Rattle.std.specs.Prelude.{◌⊎◌, ℕ, List, map, Option}
 use Rattle.std.specs.List.{All}
 use Rattle.classfile.specs.Faults.{IsBytes}
-use Rattle.bytecode.specs.Body.{IsBody}
-use Rattle.bytecode.specs.declared.placed.Placed.{Placed}
 use Rattle.initializer_analysis.specs.declared.verdict.Verdict.{Verdict}
 use Rattle.program.specs.Tables.{Tables}
 use Rattle.wave_scheduler.specs.Outcomes.{outcome_of}
@@ -15,14 +13,9 @@ use Rattle.cli.specs.declared.fault.Refusal.{Refusal}
 use Rattle.cli.specs.Builds.{BuildFails, IsBudget}
 use Rattle.cli.specs.Runs.{IsProgramOf, NotLinked}
 
--- Each code has a body.
-abbrev pub EachCodeHasBody : Type 0
-EachCodeHasBody =
-    (code : List ℕ) → All (λ byte. byte < 2 ^ 8) code → (body : List Placed) × IsBody code body
-
--- Bytes make a program, or are refused, where each code has a body.
+-- Bytes make a program, or are refused.
 abbrev pub ProgramOrRefusal : Type 0
-ProgramOrRefusal = EachCodeHasBody → (texts : List (List ℕ)) → All IsBytes texts
+ProgramOrRefusal = (texts : List (List ℕ)) → All IsBytes texts
     → ((P : Tables) × IsProgramOf texts P) ⊎ ((refusal : Refusal) × NotLinked texts refusal)
 
 -- an image of the class files that these texts are, by these options, with the last verdicts
@@ -41,8 +34,8 @@ pub record IsBuildableOrFails (texts : List (List ℕ)) (run_time build_time : O
   pub not_both : (fault : BuildFault) → IsBuildable texts run_time build_time budget
       → ¬ BuildFails texts run_time build_time budget fault
 
--- It is so of all bytes and all options, where each code has a body.
+-- It is so of all bytes and all options.
 abbrev pub BuildOrFault : Type 0
-BuildOrFault = EachCodeHasBody → (texts : List (List ℕ)) (run_time build_time : Option (List ℕ)) (budget : ℕ)
-    → All IsBytes texts → AreTexts (patterns_in run_time) → AreTexts (patterns_in build_time)
+BuildOrFault = (texts : List (List ℕ)) (run_time build_time : Option (List ℕ)) (budget : ℕ) → All IsBytes texts
+    → AreTexts (patterns_in run_time) → AreTexts (patterns_in build_time)
     → IsBuildableOrFails texts run_time build_time budget

@@ -18,3 +18,4 @@ pub mod Files
 pub mod Entries
 pub mod Done
 pub mod Outputs
+pub mod Audits

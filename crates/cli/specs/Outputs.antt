@@ -2,6 +2,7 @@
 use Rattle.std.specs.Prelude.{◌≢◌, ℕ, List, [], ◌∷◌, IfSome, ⊤}
 use Rattle.std.specs.List.{All}
 use Rattle.command_line.specs.Requests.{texts}
+use Rattle.command_line.specs.declared.request.Build.{Build}
 use Rattle.command_line.specs.declared.request.Request.{Request}
 use Rattle.command_line.specs.declared.request.Request.TheVariants as requests
 
@@ -9,9 +10,15 @@ use Rattle.command_line.specs.declared.request.Request.TheVariants as requests
 abbrev pub IsNoneOf : List ℕ → List (List ℕ) → Type 0
 IsNoneOf output inputs = All (λ (input : List ℕ). input ≢ output) inputs
 
--- what a request has written has the name of nothing that it has read
+-- a build's report, where the words name a file for it, has the name of no input and not that of the image
+abbrev pub IsReportApart : Build → Type 0
+IsReportApart words = IfSome words.report
+    (λ name. IsNoneOf name.now (texts words.building.files.items) × (name.now ≢ words.image.now))
+
+-- what a request has written has the name of nothing that it has read, and of nothing else that it has written
 abbrev pub IsApart : Request → Type 0
-IsApart (requests.Build words) = IsNoneOf words.image.now (texts words.building.files.items)
+IsApart (requests.Build words) =
+    IsNoneOf words.image.now (texts words.building.files.items) × IsReportApart words
 IsApart (requests.Renew words) = IsNoneOf words.new.now (words.image.now ∷ [])
 IsApart (requests.Run words) = IfSome words.journal (λ name. IsNoneOf name.now (words.image.now ∷ []))
 IsApart _ = ⊤

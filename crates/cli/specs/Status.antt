@@ -38,6 +38,11 @@ is_going _ = false
 abbrev pub replay_status : List Ending → Status
 replay_status threads = if list_any is_going threads then Limit else run_status threads rests.Ended
 
+-- an audit's status: whether threads can't end for want of what is left out or not there
+abbrev pub audit_status : Bool → Status
+audit_status true = Done
+audit_status false = Ended
+
 -- the command did what its words ask for: nothing was refused, and nothing failed
 abbrev pub IsOver : Status → Type 0
 IsOver Refused = ⊥

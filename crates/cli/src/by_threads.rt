@@ -130,7 +130,7 @@ fn replay_text(
     ensures image { IfOk result (λ r. r.0.image ≡ start.image) }
 {
     match Journal::parse(alloc, text) {
-        Ok(journal) => replay_journal(alloc, start, &journal),
+        Ok(journal) => replay_journal(alloc, start, journal),
         Err(fault) => Err(Refusal::of_journal(fault)),
     }
 }
@@ -139,25 +139,33 @@ fn replay_text(
 fn replay_journal(
     alloc: Global,
     start: ImageStart,
-    journal: &Journal,
+    journal: Journal,
 ) -> Result<(ImageSeen, Status), Refusal>
-    ensures replayed { IfOk result (λ r. IsReplayed (world_of start.world) journal.now r.0 r.1) }
+    ensures replayed { IfOk result (λ r. IsReplayed (world_of start.world) journal r.0 r.1) }
     ensures image { IfOk result (λ r. r.0.image ≡ start.image) }
 {
     let ImageStart { image, world } = start;
-    match replay(alloc, image.program(), world, journal) {
+    match replay(alloc, image.program(), world, &journal) {
         Ok(seen) => {
             let status = replay_status(seen.threads.as_slice());
-            Ok((ImageSeen { image, seen }, status))
+            Ok((
+                ImageSeen {
+                    image,
+                    journal,
+                    seen,
+                },
+                status,
+            ))
         }
         Err(fault) => Err(Refusal::of_replay(fault)),
     }
 }
 
-/// An image, and what a replay of it has shown.
+/// An image, and what a replay of it by a journal has shown.
 #[derive(Drop)]
 pub(crate) struct ImageSeen {
     pub image: object_graph::Image,
+    pub journal: Journal,
     pub seen: Seen,
 }
 

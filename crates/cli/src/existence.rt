@@ -2,13 +2,12 @@
 
 ghost use Rattle.cli.specs.Existence.{BuildOrFault, ProgramOrRefusal};
 
-/// All bytes make a program, or are refused, where each code has a body.
+/// All bytes make a program, or are refused.
 pub fn program_or_refusal()
     ensures { ProgramOrRefusal }
 {}
 
-/// By all options an image can be built of all bytes, or there is a first fault, and never both, where each code has a
-/// body.
+/// By all options an image can be built of all bytes, or there is a first fault, and never both.
 pub fn build_or_fault()
     ensures { BuildOrFault }
 {}

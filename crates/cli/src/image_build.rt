@@ -7,15 +7,16 @@ ghost use Rattle.wave_scheduler.specs.declared.outcome.WaveFault.TheVariants.{Wo
 ghost use Rattle.cli.specs.Builds.{BuildFails, IsBudget};
 ghost use Rattle.cli.specs.Done.{HasBuilt};
 ghost use Rattle.cli.specs.ImageBuilds.{AreAtMost, IsBuiltText};
+ghost use Rattle.cli.specs.Outputs.{IsReportApart};
 ghost use Rattle.cli.specs.Runs.{texts_of};
 
+use crate::build_texts::{build_texts, image_bytes, write_texts};
 use crate::builds::build;
-use crate::files::{contents, put};
+use crate::files::contents;
 use crate::requested::{options_of, refusal_of};
 use crate::watching::Watched;
 use crate::{Build, Files, Refusal, Stage, Watch};
 use building::{BuildFault, BuildOptions};
-use image_writer::image_text;
 use std::alloc::Global;
 use std::sync::Wait;
 use std::thread::Threads;
@@ -49,22 +50,19 @@ pub fn build_image<G: Gate, R: Threads + Wait + Sync>(
     ensures workers { (result ≡ Err (Wave Workers)) ↔ (IsBudget options.now.budget × ¬ CanWork workers) }
 {
     match build(rt, alloc, files, options, workers, gate) {
-        Ok(built) => {
-            let _region = built.image.region(0);
-            match image_text(alloc, &built.image) {
-                Ok(bytes) => Ok(bytes),
-                Err(_) => Err(BuildFault::Memory),
-            }
-        }
+        Ok(built) => match image_bytes(alloc, &built) {
+            Ok(bytes) => Ok(bytes),
+            Err(_) => Err(BuildFault::Memory),
+        },
         Err(fault) => Err(fault),
     }
 }
 
-/// Reads the class files, builds an image, and writes it to its file, as the words say.
+/// Reads the class files, builds an image, and writes it and its report to their files, as the words say.
 ///
 /// # Errors
-/// The first refusal: a file, the budget, the workers, a class file, linking, a list of patterns, the image's file, or
-/// memory. A file that is longer than a class file of an image is refused as one that can't be read.
+/// The first refusal: a file, the budget, the workers, a class file, linking, a list of patterns, an output, or memory. A
+/// file that is longer than a class file of an image is refused as one that can't be read.
 pub(crate) fn run<R: Threads + Wait + Sync, F: Files, H: Watch + Sync>(
     rt: &R,
     alloc: Global,
@@ -72,6 +70,7 @@ pub(crate) fn run<R: Threads + Wait + Sync, F: Files, H: Watch + Sync>(
     files: &mut F,
     watch: &H,
 ) -> Result<(), Refusal>
+    requires { IsReportApart words.now }
     ensures { OnOk result (HasBuilt (F.holds files.old) (F.holds files.new) words.now) }
 {
     let done = run_watched(rt, alloc, words, files, watch);
@@ -79,6 +78,7 @@ pub(crate) fn run<R: Threads + Wait + Sync, F: Files, H: Watch + Sync>(
     done
 }
 
+#[tactic(auto, using(crate::proofs::OutputLemmas::has_built))]
 fn run_watched<R: Threads + Wait + Sync, F: Files, H: Watch + Sync>(
     rt: &R,
     alloc: Global,
@@ -86,6 +86,7 @@ fn run_watched<R: Threads + Wait + Sync, F: Files, H: Watch + Sync>(
     files: &mut F,
     watch: &H,
 ) -> Result<(), Refusal>
+    requires { IsReportApart words.now }
     ensures { OnOk result (HasBuilt (F.holds files.old) (F.holds files.new) words.now) }
 {
     let building = &words.building;
@@ -94,10 +95,19 @@ fn run_watched<R: Threads + Wait + Sync, F: Files, H: Watch + Sync>(
     let options = options_of(building);
     watch.begin(Stage::Building);
     let gate = Watched { watch };
-    match build_image(rt, alloc, texts.as_slice(), &options, words.workers, &gate) {
-        Ok(bytes) => {
+    let reports = words.report.is_some();
+    match build_texts(
+        rt,
+        alloc,
+        texts.as_slice(),
+        &options,
+        words.workers,
+        &gate,
+        reports,
+    ) {
+        Ok(made) => {
             watch.begin(Stage::Writing);
-            put(alloc, words.image, bytes.as_slice(), files)
+            write_texts(alloc, words, &made, files)
         }
         Err(fault) => Err(refusal_of(alloc, texts.as_slice(), fault)),
     }

@@ -7,6 +7,8 @@
 #![tactic(auto)]
 
 pub mod any_order;
+mod auditing;
+mod build_texts;
 mod builds;
 mod by_threads;
 mod class_files;
@@ -24,6 +26,7 @@ mod reporting;
 mod requested;
 mod run;
 mod running;
+mod standing;
 mod status;
 mod telling;
 mod threads;
@@ -32,7 +35,9 @@ mod watching;
 pub use building::{BuildFault, BuildOptions, Built};
 pub use builds::{build, build_here};
 pub use class_files::linked_program;
-pub use command_line::{Build, Building, Lazy, Renew, Replay, Request, Run, WordsFault, line};
+pub use command_line::{
+    Audit, Build, Building, Lazy, Renew, Replay, Request, Run, WordsFault, line,
+};
 pub use entries::entries_of;
 pub use fault::Refusal;
 pub use files::{FileFault, Files};

@@ -1,34 +1,73 @@
 //! What words name for output, beside what they name for input.
-ghost use Rattle.std.specs.Prelude.{◌≡◌, None};
+ghost use Rattle.std.specs.Prelude.{◌≡◌, ◌≢◌, None};
 ghost use Rattle.command_line.specs.Requests.{texts};
-ghost use Rattle.cli.specs.Outputs.{IsApart, IsNoneOf};
+ghost use Rattle.cli.specs.Outputs.{IsApart, IsNoneOf, IsReportApart};
 
-use crate::{Files, Request};
+use crate::{Build, Files, Request};
 
-/// The output of a request that is one of its inputs, if there is one.
-pub(crate) fn overwritten<'a, F: Files>(request: &Request<'a>, files: &mut F) -> Option<&'a str>
+/// A file that would be written over.
+#[derive(Clone, Copy)]
+pub(crate) enum Clash<'a> {
+    /// It is an input and an output.
+    Input(&'a str),
+    /// It is two outputs.
+    Outputs(&'a str),
+}
+
+/// The first output of a request that is one of its inputs or another output, if there is one.
+pub(crate) fn overwritten<'a, F: Files>(request: &Request<'a>, files: &mut F) -> Option<Clash<'a>>
     ensures apart { result ≡ None → IsApart request.now }
     ensures same { F.holds files.new ≡ F.holds files.old }
 {
     match request {
-        Request::Build(words) => among(words.image, words.building.files.as_slice(), files),
+        Request::Build(words) => overwritten_by_build(words, files),
         Request::Renew(words) => among(words.new, &[words.image], files),
         Request::Run(words) => match words.journal {
             Some(journal) => among(journal, &[words.image], files),
             None => None,
         },
-        Request::Lazy(_) | Request::Replay(_) | Request::Report(_) => None,
+        Request::Audit(_) | Request::Lazy(_) | Request::Replay(_) | Request::Report(_) => None,
+    }
+}
+
+fn overwritten_by_build<'a, F: Files>(words: &Build<'a>, files: &mut F) -> Option<Clash<'a>>
+    ensures image { result ≡ None → IsNoneOf words.now.image.now (texts words.now.building.files.items) }
+    ensures report { result ≡ None → IsReportApart words.now }
+    ensures same { F.holds files.new ≡ F.holds files.old }
+{
+    match among(words.image, words.building.files.as_slice(), files) {
+        Some(clash) => Some(clash),
+        None => match words.report {
+            Some(report) => overwritten_by_report(report, words, files),
+            None => None,
+        },
+    }
+}
+
+fn overwritten_by_report<'a, F: Files>(
+    report: &'a str,
+    words: &Build<'a>,
+    files: &mut F,
+) -> Option<Clash<'a>>
+    ensures input { result ≡ None → IsNoneOf report.now (texts words.now.building.files.items) }
+    ensures output { result ≡ None → report.now ≢ words.now.image.now }
+    ensures same { F.holds files.new ≡ F.holds files.old }
+{
+    if files.are_one(report, words.image) {
+        Some(Clash::Outputs(report))
+    } else {
+        among(report, words.building.files.as_slice(), files)
     }
 }
 
 /// An output, if it is one of these inputs.
-fn among<'a, F: Files>(output: &'a str, inputs: &[&str], files: &mut F) -> Option<&'a str>
+fn among<'a, F: Files>(output: &'a str, inputs: &[&str], files: &mut F) -> Option<Clash<'a>>
     ensures apart { result ≡ None → IsNoneOf output.now (texts inputs.now) }
     ensures same { F.holds files.new ≡ F.holds files.old }
 {
     for input in inputs {
         if files.are_one(output, input) {
-            return Some(output);
+            return Some(Clash::Input(output));
         }
     }
     None

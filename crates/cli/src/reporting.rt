@@ -33,7 +33,7 @@ pub(crate) fn run<F: Files>(
 }
 
 /// The report of a build.
-fn report_bytes(alloc: Global, built: &Built) -> Result<Vec<u8>, AllocError>
+pub(crate) fn report_bytes(alloc: Global, built: &Built) -> Result<Vec<u8>, AllocError>
     requires { GiveWaves built.now.image built.now.verdicts }
     ensures { IfOk result (λ bytes. bytes.items ≡ report_text built.now.image built.now.verdicts) }
 {

@@ -1,5 +1,6 @@
 //! The build that words ask for, and why it is refused.
 ghost use Rattle.std.specs.Prelude.{◌≡◌};
+ghost use Rattle.cli.specs.Done.{options_of as asked_of};
 
 use crate::class_files::linked_program;
 use crate::{Building, Refusal};
@@ -11,9 +12,7 @@ use std::alloc::{AllocError, Global};
 
 /// The options of a build, as the words say.
 pub(crate) fn options_of<'a>(words: &Building<'a>) -> BuildOptions<'a>
-    ensures run_time { result.run_time ≡ words.now.run_time }
-    ensures build_time { result.build_time ≡ words.now.build_time }
-    ensures budget { result.budget ≡ words.now.budget }
+    ensures { result ≡ asked_of words.now }
 {
     BuildOptions {
         run_time: words.run_time,

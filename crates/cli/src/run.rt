@@ -6,6 +6,7 @@ ghost use Rattle.init_engine.specs.Turns.{world_of};
 ghost use Rattle.cli.specs.Done.{AskFor, DidWords, HasEndedByTurns, HasEndedWithJournal, IsDone};
 ghost use Rattle.cli.specs.Done.{IsWritten, IsWrittenTo};
 ghost use Rattle.cli.specs.Journaled.{IsOutcome};
+ghost use Rattle.cli.specs.Outputs.{IsApart};
 ghost use Rattle.cli.specs.Running.{IsCutShort, IsOfRun};
 ghost use Rattle.cli.specs.Status.{IsOver, code_of, run_status};
 
@@ -14,11 +15,13 @@ use crate::files::put;
 use crate::image_run::ImageStart;
 use crate::lazy::LazyStart;
 use crate::outputs::overwritten;
+use crate::standing::{tell_image_stacks, tell_lazy_stacks};
 use crate::telling::{
-    refuse, tell_done, tell_endings, tell_overwritten, tell_replay, tell_report, tell_words,
+    refuse, tell_audit, tell_done, tell_endings, tell_no_files, tell_overwritten, tell_replay,
+    tell_report, tell_words,
 };
 use crate::{
-    Files, Lazy, Ran, Refusal, Replay, Request, Run, RunFault, Status, Unwatched, Watch,
+    Files, Lazy, Ran, Refusal, Replay, Request, Run, RunFault, Status, Unwatched, Watch, auditing,
     image_build, image_run, lazy, line, renewing, reporting, run_world, status_of,
 };
 use init_engine::World;
@@ -130,8 +133,11 @@ fn do_words<R: Threads + Wait + Sync, F: Files, W: Write + Send + Drop, E: Write
 {
     match line(alloc, words) {
         Ok(request) => match overwritten(&request, files) {
-            Some(name) => (tell_overwritten(name, errors), Held::Nothing, out),
-            None => do_request(rt, alloc, &request, files, out, errors, watch),
+            Some(clash) => (tell_overwritten(clash, errors), Held::Nothing, out),
+            None => {
+                tell_no_files(&request, errors);
+                do_request(rt, alloc, &request, files, out, errors, watch)
+            }
         },
         Err(fault) => (tell_words(&fault, &mut out, errors), Held::Nothing, out),
     }
@@ -153,6 +159,7 @@ fn do_request<
     errors: &mut E,
     watch: &H,
 ) -> (Status, Held, W)
+    requires { IsApart request.now }
     ensures refused { result.0 ≡ Status.Refused → (result.2 ≡ out)
         ⊎ IsOfRun (F.holds files.old) request.now (W.contents out) (W.contents result.2) }
     ensures words { result.0 ≢ Status.Words }
@@ -160,6 +167,10 @@ fn do_request<
         (W.contents result.2) request.now result.0 }
 {
     match request {
+        Request::Audit(words) => {
+            let status = tell_audit(auditing::run(alloc, words, files), &mut out, errors);
+            (status, Held::Nothing, out)
+        }
         Request::Build(words) => {
             let status = tell_done(image_build::run(rt, alloc, words, files, watch), errors);
             (status, Held::Nothing, out)
@@ -200,7 +211,7 @@ fn run_lazily<F: Files, W: Write, E: Write>(
 {
     match lazy::begin(alloc, words, files) {
         Ok(LazyStart { program, world }) => {
-            let status = run_from(alloc, &program, world, words.limit, out, errors);
+            let status = run_from(alloc, &program, world, words, out, errors);
             (status, Held::Program(program))
         }
         Err(refusal) => (refuse(&refusal, errors), Held::Nothing),
@@ -224,16 +235,7 @@ fn run_image<R: Threads + Wait + Sync, F: Files, W: Write + Send + Drop, E: Writ
 {
     match image_run::start(alloc, words.image, words.entries, files) {
         Ok(ImageStart { image, world }) => {
-            let (status, out) = run_told(
-                rt,
-                alloc,
-                image.program(),
-                world,
-                words,
-                files,
-                out,
-                errors,
-            );
+            let (status, out) = run_told(rt, alloc, &image, world, words, files, out, errors);
             (status, Held::Image(image), out)
         }
         Err(refusal) => (refuse(&refusal, errors), Held::Nothing, out),
@@ -244,7 +246,7 @@ fn run_image<R: Threads + Wait + Sync, F: Files, W: Write + Send + Drop, E: Writ
 fn run_told<R: Threads + Wait + Sync, F: Files, W: Write + Send + Drop, E: Write>(
     rt: &R,
     alloc: Global,
-    program: &Program,
+    image: &Image,
     world: World,
     words: &Run<'_>,
     files: &mut F,
@@ -252,14 +254,17 @@ fn run_told<R: Threads + Wait + Sync, F: Files, W: Write + Send + Drop, E: Write
     errors: &mut E,
 ) -> (Status, W)
     ensures refused { result.0 ≡ Status.Refused
-        → IsCutShort program.now (world_of world) (W.contents out) (W.contents result.1) RunFault.Memory }
+        → IsCutShort image.now.program (world_of world) (W.contents out) (W.contents result.1) RunFault.Memory }
     ensures words { result.0 ≢ Status.Words }
     ensures done { IsOver result.0 → HasEndedWithJournal (F.holds files.old) (F.holds files.new) words.now.journal
-        program.now (world_of world) (W.contents out) (W.contents result.1) result.0 }
+        image.now.program (world_of world) (W.contents out) (W.contents result.1) result.0 }
 {
-    let (outcome, out) = run_as_said(rt, alloc, program, world, words, out);
+    let (outcome, out) = run_as_said(rt, alloc, image.program(), world, words, out);
     match outcome {
-        Ok(ran) => (tell_run(alloc, program, words, &ran, files, errors), out),
+        Ok(ran) => (
+            tell_run_and_stacks(alloc, image, words, &ran, files, errors),
+            out,
+        ),
         Err(refusal) => (refuse(&refusal, errors), out),
     }
 }
@@ -319,6 +324,34 @@ fn journaled(ran: Ran) -> Journaled
     }
 }
 
+/// Tells how the threads of a run ended, writes its journal, and tells where they stand, as the words ask for it.
+fn tell_run_and_stacks<F: Files, E: Write>(
+    alloc: Global,
+    image: &Image,
+    words: &Run<'_>,
+    ran: &Journaled,
+    files: &mut F,
+    errors: &mut E,
+) -> Status
+    requires { ran.now.status ≢ Status.Words }
+    ensures words { result ≢ Status.Words }
+    ensures done { IsOver result → (result ≡ ran.now.status)
+        × IsWritten (F.holds files.old) (F.holds files.new) words.now.journal (schedule_of ran.now.journal) }
+{
+    let status = tell_run(alloc, image.program(), words, ran, files, errors);
+    if !words.stacks {
+        return status;
+    }
+    tell_image_stacks(
+        alloc,
+        image,
+        words.entries,
+        ran.journal.runs(),
+        status,
+        errors,
+    )
+}
+
 /// Tells how the threads of a run ended, and writes its journal where the words ask for it.
 fn tell_run<F: Files, E: Write>(
     alloc: Global,
@@ -373,7 +406,7 @@ fn replay_image<F: Files, W: Write, E: Write>(
 {
     match replayed(alloc, words, files) {
         Ok((seen, status)) => {
-            let status = tell_replay(alloc, &seen, status, out, errors);
+            let status = tell_replay(alloc, words, &seen, status, out, errors);
             (status, Held::Image(seen.image))
         }
         Err(refusal) => (refuse(&refusal, errors), Held::Nothing),
@@ -385,28 +418,47 @@ fn run_from<W: Write, E: Write>(
     alloc: Global,
     program: &Program,
     world: World,
-    limit: u64,
+    words: &Lazy<'_>,
     out: &mut W,
     errors: &mut E,
 ) -> Status
     ensures refused { result ≡ Status.Refused
         → IsCutShort program.now (world_of world) (W.contents out.old) (W.contents out.new) RunFault.Memory }
     ensures words { result ≢ Status.Words }
-    ensures done { IsOver result → HasEndedByTurns program.now (world_of world) limit (W.contents out.old)
+    ensures done { IsOver result → HasEndedByTurns program.now (world_of world) words.now.limit (W.contents out.old)
         (W.contents out.new) result }
 {
-    match run_world(alloc, program, world, limit, out) {
-        Ok(ran) => {
-            let threads = ran.threads.as_slice();
-            tell_endings(
-                alloc,
-                program,
-                threads,
-                status_of(threads, ran.rest),
-                errors,
-            )
-        }
+    match run_world(alloc, program, world, words.limit, out) {
+        Ok(ran) => tell_turns(alloc, program, words, &ran, errors),
         Err(RunFault::Memory) => refuse(&Refusal::Memory, errors),
         Err(RunFault::Device) => refuse(&Refusal::Device, errors),
     }
+}
+
+/// Tells how the threads of a run by turns ended, and where they stand, if the words ask for it.
+fn tell_turns<E: Write>(
+    alloc: Global,
+    program: &Program,
+    words: &Lazy<'_>,
+    ran: &Ran,
+    errors: &mut E,
+) -> Status
+    requires { AreRuns ran.now.schedule.items }
+    ensures words { result ≢ Status.Words }
+    ensures done { IsOver result → result ≡ run_status ran.now.threads.items ran.now.rest }
+{
+    let threads = ran.threads.as_slice();
+    let status = status_of(threads, ran.rest);
+    let status = tell_endings(alloc, program, threads, status, errors);
+    if !words.stacks {
+        return status;
+    }
+    tell_lazy_stacks(
+        alloc,
+        program,
+        words.entries,
+        ran.schedule.as_slice(),
+        status,
+        errors,
+    )
 }

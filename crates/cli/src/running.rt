@@ -47,8 +47,8 @@ impl From<AllocError> for RunFault {
     }
 }
 
-/// Runs a world by turns, for at most so many steps, and sends what it prints while it runs: after 64 KiB of text or a
-/// million steps at the latest.
+/// Runs a world by turns, for at most so many steps, and sends what it prints while it runs: after 64 KiB of text or
+/// 50,000 steps at the latest.
 ///
 /// # Errors
 /// `Device` where the sink failed, and `Memory` where memory was refused. What went out then is what a run from this

@@ -4,11 +4,14 @@ ghost use Rattle.std.specs.Io.KnownBytes.{Appends};
 ghost use Rattle.vm_state.specs.Output.{text_of};
 ghost use Rattle.cli.specs.Done.{HasHelped};
 ghost use Rattle.cli.specs.Refusal.{refusal_status};
-ghost use Rattle.cli.specs.Status.{IsOver};
+ghost use Rattle.cli.specs.Status.{IsOver, audit_status};
 
+use crate::auditing::Audited;
 use crate::by_threads::ImageSeen;
+use crate::outputs::Clash;
 use crate::running::send_seen;
-use crate::{Refusal, RunFault, Status, WordsFault, thread_lines};
+use crate::standing::tell_image_stacks;
+use crate::{Refusal, Replay, Request, RunFault, Status, WordsFault, thread_lines};
 use init_engine::Ending;
 use program::Program;
 use std::alloc::Global;
@@ -17,6 +20,7 @@ use std::io::Write;
 /// Tells what a replay has shown.
 pub(crate) fn tell_replay<W: Write, E: Write>(
     alloc: Global,
+    words: &Replay<'_>,
     replayed: &ImageSeen,
     status: Status,
     out: &mut W,
@@ -30,18 +34,33 @@ pub(crate) fn tell_replay<W: Write, E: Write>(
     ensures done { IsOver result → (result ≡ status)
         × Appends (W.contents out.old) (W.contents out.new) (text_of replayed.now.seen.printed) }
 {
-    let program = replayed.image.program();
     match send_seen(&replayed.seen, out) {
-        Ok(()) => tell_endings(
-            alloc,
-            program,
-            replayed.seen.threads.as_slice(),
-            status,
-            errors,
-        ),
+        Ok(()) => tell_replay_threads(alloc, words, replayed, status, errors),
         Err(RunFault::Memory) => refuse(&Refusal::Memory, errors),
         Err(RunFault::Device) => refuse(&Refusal::Device, errors),
     }
+}
+
+/// Tells how the threads of a replay ended, and where they stand, if the words ask for it.
+fn tell_replay_threads<E: Write>(
+    alloc: Global,
+    words: &Replay<'_>,
+    replayed: &ImageSeen,
+    status: Status,
+    errors: &mut E,
+) -> Status
+    requires { status ≢ Status.Words }
+    ensures words { result ≢ Status.Words }
+    ensures done { IsOver result → result ≡ status }
+{
+    let program = replayed.image.program();
+    let threads = replayed.seen.threads.as_slice();
+    let status = tell_endings(alloc, program, threads, status, errors);
+    if !words.stacks {
+        return status;
+    }
+    let runs = replayed.journal.runs();
+    tell_image_stacks(alloc, &replayed.image, words.entries, runs, status, errors)
 }
 
 /// Tells how threads ended.
@@ -91,6 +110,26 @@ pub(crate) fn tell_report<W: Write, E: Write>(
 {
     match report {
         Ok(report) => tell_text(report.as_slice(), out, errors),
+        Err(refusal) => refuse(&refusal, errors),
+    }
+}
+
+/// Tells an audit, or why there is none.
+pub(crate) fn tell_audit<W: Write, E: Write>(
+    audit: Result<Audited, Refusal>,
+    out: &mut W,
+    errors: &mut E,
+) -> Status
+    ensures refused { result ≡ Status.Refused → out.new ≡ out.old }
+    ensures words { result ≢ Status.Words }
+    ensures done { IsOver result → IsOkAnd audit (λ audited. (result ≡ audit_status audited.is_clean)
+        × Appends (W.contents out.old) (W.contents out.new) audited.text.items) }
+{
+    match audit {
+        Ok(audited) => match tell_text(audited.text.as_slice(), out, errors) {
+            Status::Done if !audited.is_clean => Status::Ended,
+            status => status,
+        },
         Err(refusal) => refuse(&refusal, errors),
     }
 }
@@ -146,12 +185,33 @@ fn tell_wrong<E: Write>(text: &str, errors: &mut E) -> Status
     Status::Words
 }
 
-/// Tells on standard error that words name a file for output that they name for input.
-pub(crate) fn tell_overwritten<E: Write>(name: &str, errors: &mut E) -> Status
+/// Tells on standard error that words name a file for output that they name for something else too.
+pub(crate) fn tell_overwritten<E: Write>(clash: Clash<'_>, errors: &mut E) -> Status
     ensures { result ≡ Status.Words }
 {
     // A failure of standard error is ignored.
-    let _ = writeln!(errors, "error: '{name}' is an input and the output");
+    let _ = match clash {
+        Clash::Input(name) => writeln!(errors, "error: '{name}' is an input and the output"),
+        Clash::Outputs(name) => writeln!(errors, "error: '{name}' is both outputs"),
+    };
     let _ = errors.flush();
     Status::Words
+}
+
+/// Tells on standard error that a build has no class files, if so.
+pub(crate) fn tell_no_files<E: Write>(request: &Request<'_>, errors: &mut E) {
+    let has_none = match request {
+        Request::Build(words) => words.building.files.is_empty(),
+        Request::Report(words) => words.files.is_empty(),
+        Request::Audit(_)
+        | Request::Lazy(_)
+        | Request::Renew(_)
+        | Request::Replay(_)
+        | Request::Run(_) => false,
+    };
+    if has_none {
+        // A failure of standard error is ignored.
+        let _ = writeln!(errors, "note: no FILE is given, so there are no classes");
+        let _ = errors.flush();
+    }
 }

@@ -10,6 +10,7 @@ use Rattle.clap.specs.Walk.{Text, rows_of}
 use Rattle.clap.specs.declared.builder.command.Command.{Command}
 use Rattle.clap.specs.declared.parser.matches.ArgMatches.{ArgMatches}
 use Rattle.clap.specs.declared.parser.matches.Found.{Found}
+use Rattle.command_line.specs.declared.request.Audit.{Audit}
 use Rattle.command_line.specs.declared.request.Build.{Build}
 use Rattle.command_line.specs.declared.request.Building.{Building}
 use Rattle.command_line.specs.declared.request.Lazy.{Lazy}
@@ -51,19 +52,27 @@ pub record HoldsBuilding (found : Found) (building : Building) : Type 0 where
 
 pub record HoldsBuild (found : Found) (build : Build) : Type 0 where
   pub image : first_value found (codes "out") ≡ Some build.image.now
+  pub report : option_map (λ (s : Bor (List ℕ)). s.now) build.report ≡ first_value found (codes "report")
   pub building : HoldsBuilding found build.building
   pub workers : HoldsBits 32 found (codes "workers") build.workers
+
+-- what is asked before a run
+pub record HoldsAudit (found : Found) (audit : Audit) : Type 0 where
+  pub entries : first_value found (codes "entries") ≡ Some audit.entries.now
+  pub files : texts audit.files.items ≡ values_of found (codes "file")
 
 -- what a run is asked for
 pub record HoldsLazy (found : Found) (lazy : Lazy) : Type 0 where
   pub entries : first_value found (codes "entries") ≡ Some lazy.entries.now
   pub limit : HoldsNumber found (codes "limit") lazy.limit
+  pub stacks : HoldsFlag found (codes "stacks") lazy.stacks
   pub files : texts lazy.files.items ≡ values_of found (codes "file")
 
 pub record HoldsRun (found : Found) (run : Run) : Type 0 where
   pub entries : first_value found (codes "entries") ≡ Some run.entries.now
   pub limit : HoldsNumber found (codes "limit") run.limit
   pub turns : HoldsFlag found (codes "turns") run.turns
+  pub stacks : HoldsFlag found (codes "stacks") run.stacks
   pub journal : option_map (λ (s : Bor (List ℕ)). s.now) run.journal ≡ first_value found (codes "journal")
   pub image : first_value found (codes "image") ≡ Some run.image.now
 
@@ -74,11 +83,13 @@ pub record HoldsRenew (found : Found) (renew : Renew) : Type 0 where
 
 pub record HoldsReplay (found : Found) (replay : Replay) : Type 0 where
   pub entries : first_value found (codes "entries") ≡ Some replay.entries.now
+  pub stacks : HoldsFlag found (codes "stacks") replay.stacks
   pub journal : first_value found (codes "journal") ≡ Some replay.journal.now
   pub image : first_value found (codes "image") ≡ Some replay.image.now
 
 -- The command of this name asks for this, by what was found of its arguments.
 abbrev pub Holds : List ℕ → Found → Request → Type 0
+Holds name found (requests.Audit audit) = (name ≡ codes "audit") × HoldsAudit found audit
 Holds name found (requests.Build build) = (name ≡ codes "build") × HoldsBuild found build
 Holds name found (requests.Lazy lazy) = (name ≡ codes "lazy") × HoldsLazy found lazy
 Holds name found (requests.Renew renew) = (name ≡ codes "renew") × HoldsRenew found renew

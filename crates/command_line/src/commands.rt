@@ -1,9 +1,9 @@
 //! The commands of the program and their arguments.
 
 use crate::texts::{
-    BUILD_ABOUT, BUILD_LONG_ABOUT, LAZY_ABOUT, LAZY_LONG_ABOUT, PROGRAM_ABOUT, RENEW_ABOUT,
-    RENEW_LONG_ABOUT, REPLAY_ABOUT, REPLAY_LONG_ABOUT, REPORT_ABOUT, REPORT_LONG_ABOUT, RUN_ABOUT,
-    RUN_LONG_ABOUT, STATUSES,
+    AUDIT_ABOUT, AUDIT_LONG_ABOUT, BUILD_ABOUT, BUILD_LONG_ABOUT, LAZY_ABOUT, LAZY_LONG_ABOUT,
+    PROGRAM_ABOUT, RENEW_ABOUT, RENEW_LONG_ABOUT, REPLAY_ABOUT, REPLAY_LONG_ABOUT, REPORT_ABOUT,
+    REPORT_LONG_ABOUT, RUN_ABOUT, RUN_LONG_ABOUT, STATUSES,
 };
 use clap::{Arg, ArgAction, Command, value_parser};
 use std::alloc::{AllocError, Global};
@@ -15,6 +15,9 @@ const DEFAULT_BUDGET: &str = "1000000";
 const DEFAULT_LIMIT: &str = "100000000";
 
 const GREATEST_LIMIT: i64 = 1_000_000_000_000_000;
+
+/// What `--version` tells after the program's name.
+const VERSION: &str = "0.1.0";
 
 /// The program with its commands.
 pub(crate) fn program<'a>(alloc: Global) -> Result<Command<'a>, AllocError> {
@@ -39,10 +42,12 @@ fn with_commands_of_runs<'a>(
     alloc: Global,
     program: Command<'a>,
 ) -> Result<Command<'a>, AllocError> {
+    let audit = audit_command(alloc)?;
     let lazy = lazy_command(alloc)?;
     let run = run_command(alloc)?;
     let replay = replay_command(alloc)?;
     program
+        .subcommand(audit)?
         .subcommand(lazy)?
         .subcommand(run)?
         .subcommand(replay)
@@ -52,6 +57,7 @@ fn with_commands_of_runs<'a>(
 fn described_program<'a>(alloc: Global) -> Command<'a> {
     Command::new(alloc, "preinit")
         .no_binary_name(true)
+        .version(VERSION)
         .about(PROGRAM_ABOUT)
         .after_help(STATUSES)
         .subcommand_required(true)
@@ -61,6 +67,7 @@ fn described_program<'a>(alloc: Global) -> Command<'a> {
 fn build_command<'a>(alloc: Global) -> Result<Command<'a>, AllocError> {
     let build = described(alloc, "build", BUILD_ABOUT, BUILD_LONG_ABOUT)
         .arg(out(alloc))?
+        .arg(report(alloc))?
         .arg(workers(alloc))?;
     with_building(alloc, build)
 }
@@ -76,15 +83,24 @@ fn renew_command<'a>(alloc: Global) -> Result<Command<'a>, AllocError> {
         .arg(image(alloc, "The image to write again"))
 }
 
+fn audit_command<'a>(alloc: Global) -> Result<Command<'a>, AllocError> {
+    described(alloc, "audit", AUDIT_ABOUT, AUDIT_LONG_ABOUT)
+        .arg(entries(alloc))?
+        .arg(file(alloc, "The class files to look at, in any order"))
+}
+
 fn lazy_command<'a>(alloc: Global) -> Result<Command<'a>, AllocError> {
     let lazy = described(alloc, "lazy", LAZY_ABOUT, LAZY_LONG_ABOUT);
-    with_entries(alloc, lazy)?.arg(file(alloc, "The class files to run, in any order"))
+    with_entries(alloc, lazy)?
+        .arg(stacks(alloc))?
+        .arg(file(alloc, "The class files to run, in any order"))
 }
 
 fn run_command<'a>(alloc: Global) -> Result<Command<'a>, AllocError> {
     let run = described(alloc, "run", RUN_ABOUT, RUN_LONG_ABOUT);
     with_entries(alloc, run)?
         .arg(turns(alloc))?
+        .arg(stacks(alloc))?
         .arg(written_journal(alloc))?
         .arg(image(alloc, "The image to run"))
 }
@@ -93,6 +109,7 @@ fn replay_command<'a>(alloc: Global) -> Result<Command<'a>, AllocError> {
     let replay = described(alloc, "replay", REPLAY_ABOUT, REPLAY_LONG_ABOUT);
     replay
         .arg(entries(alloc))?
+        .arg(stacks(alloc))?
         .arg(read_journal(alloc))?
         .arg(image(alloc, "The image to run"))
 }
@@ -130,6 +147,13 @@ fn out<'a>(alloc: Global) -> Arg<'a> {
         .help("The file that gets the image")
 }
 
+fn report<'a>(alloc: Global) -> Arg<'a> {
+    Arg::new(alloc, "report")
+        .long("report")
+        .value_name("FILE")
+        .help("The file that gets the report of the build, as 'preinit report' tells it")
+}
+
 fn workers<'a>(alloc: Global) -> Arg<'a> {
     Arg::new(alloc, "workers")
         .long("workers")
@@ -163,6 +187,13 @@ fn turns<'a>(alloc: Global) -> Arg<'a> {
         .long("turns")
         .action(ArgAction::SetTrue)
         .help("Runs by turns: in each round every thread takes one step")
+}
+
+fn stacks<'a>(alloc: Global) -> Arg<'a> {
+    Arg::new(alloc, "stacks")
+        .long("stacks")
+        .action(ArgAction::SetTrue)
+        .help("Tells on standard error where each thread stands that has not returned")
 }
 
 fn written_journal<'a>(alloc: Global) -> Arg<'a> {

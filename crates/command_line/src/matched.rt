@@ -1,13 +1,13 @@
 //! What words ask for, by the matches of `clap`.
 ghost use Rattle.std.specs.Prelude.{◌≡◌, IfOk, IfSome, codes};
 ghost use Rattle.clap.specs.Matches.{found_of};
-ghost use Rattle.command_line.specs.Requests.{AsksFor, Holds, HoldsBits, HoldsBuild, HoldsBuilding, HoldsLazy};
-ghost use Rattle.command_line.specs.Requests.{HoldsFlag, HoldsNumber, HoldsRenew, HoldsReplay, HoldsRun, IsLine};
-ghost use Rattle.command_line.specs.Requests.{texts, values_of};
+ghost use Rattle.command_line.specs.Requests.{AsksFor, Holds, HoldsAudit, HoldsBits, HoldsBuild, HoldsBuilding};
+ghost use Rattle.command_line.specs.Requests.{HoldsFlag, HoldsLazy, HoldsNumber, HoldsRenew, HoldsReplay};
+ghost use Rattle.command_line.specs.Requests.{HoldsRun, IsLine, texts, values_of};
 
 use crate::commands::program;
 use crate::parsed::fault_of;
-use crate::{Build, Building, Lazy, Renew, Replay, Request, Run, WordsFault};
+use crate::{Audit, Build, Building, Lazy, Renew, Replay, Request, Run, WordsFault};
 use clap::error::ErrorKind;
 use clap::{ArgMatches, Command};
 use std::alloc::{AllocError, Global};
@@ -65,6 +65,7 @@ fn asked_of<'a>(
     ensures { IfOk result (λ found. IfSome found (Holds name.now (found_of arguments.now))) }
 {
     match name {
+        "audit" => Ok(audit_of(alloc, arguments)?.map(Request::Audit)),
         "build" => Ok(build_of(alloc, arguments)?.map(Request::Build)),
         "lazy" => Ok(lazy_of(alloc, arguments)?.map(Request::Lazy)),
         "renew" => Ok(renew_of(arguments).map(Request::Renew)),
@@ -79,11 +80,15 @@ fn build_of<'a>(alloc: Global, matches: &ArgMatches<'a>) -> Result<Option<Build<
     ensures { IfOk result (λ found. IfSome found (HoldsBuild (found_of matches.now))) }
 {
     match (matches.get_str("out"), count_of(matches, "workers")) {
-        (Some(image), Some(workers)) => Ok(building_of(alloc, matches)?.map(|building| Build {
-            image,
-            building,
-            workers,
-        })),
+        (Some(image), Some(workers)) => match building_of(alloc, matches)? {
+            Some(building) => Ok(Some(Build {
+                image,
+                report: matches.get_str("report"),
+                building,
+                workers,
+            })),
+            None => Ok(None),
+        },
         _ => Ok(None),
     }
 }
@@ -107,6 +112,16 @@ fn building_of<'a>(
     }
 }
 
+fn audit_of<'a>(alloc: Global, matches: &ArgMatches<'a>) -> Result<Option<Audit<'a>>, AllocError>
+    ensures { IfOk result (λ found. IfSome found (HoldsAudit (found_of matches.now))) }
+{
+    let files = files_of(alloc, matches)?;
+    match matches.get_str("entries") {
+        Some(entries) => Ok(Some(Audit { entries, files })),
+        None => Ok(None),
+    }
+}
+
 fn lazy_of<'a>(alloc: Global, matches: &ArgMatches<'a>) -> Result<Option<Lazy<'a>>, AllocError>
     ensures { IfOk result (λ found. IfSome found (HoldsLazy (found_of matches.now))) }
 {
@@ -115,6 +130,7 @@ fn lazy_of<'a>(alloc: Global, matches: &ArgMatches<'a>) -> Result<Option<Lazy<'a
         (Some(entries), Some(limit)) => Ok(Some(Lazy {
             entries,
             limit,
+            stacks: flag_of(matches, "stacks"),
             files,
         })),
         _ => Ok(None),
@@ -139,6 +155,7 @@ fn run_of<'a>(matches: &ArgMatches<'a>) -> Option<Run<'a>>
         entries,
         limit,
         turns: flag_of(matches, "turns"),
+        stacks: flag_of(matches, "stacks"),
         journal: matches.get_str("journal"),
         image,
     })
@@ -152,6 +169,7 @@ fn replay_of<'a>(matches: &ArgMatches<'a>) -> Option<Replay<'a>>
     let image = matches.get_str("image")?;
     Some(Replay {
         entries,
+        stacks: flag_of(matches, "stacks"),
         journal,
         image,
     })

@@ -3,6 +3,8 @@
 /// A command and what its words ask for. Texts are as given.
 #[derive(Drop)]
 pub enum Request<'a> {
+    /// `audit`: tell where the threads of entries may end for want of what is left out or not there.
+    Audit(Audit<'a>),
     /// `build`: make an image of class files.
     Build(Build<'a>),
     /// `lazy`: run class files by turns.
@@ -17,11 +19,22 @@ pub enum Request<'a> {
     Run(Run<'a>),
 }
 
+/// What the words of `audit` ask for.
+#[derive(Drop)]
+pub struct Audit<'a> {
+    /// The names of the entry classes, with commas between them.
+    pub entries: &'a str,
+    /// The names of the class files, in the order given.
+    pub files: Vec<&'a str>,
+}
+
 /// What the words of `build` ask for.
 #[derive(Drop)]
 pub struct Build<'a> {
     /// The name of the image's file.
     pub image: &'a str,
+    /// The name of the file that gets the report.
+    pub report: Option<&'a str>,
     /// What it is built of, and how.
     pub building: Building<'a>,
     /// How many threads of the system run initializers.
@@ -48,6 +61,8 @@ pub struct Lazy<'a> {
     pub entries: &'a str,
     /// The greatest number of steps of the run, from 1 to 10^15.
     pub limit: u64,
+    /// Whether it is told where the threads stand.
+    pub stacks: bool,
     /// The names of the class files, in the order given.
     pub files: Vec<&'a str>,
 }
@@ -70,6 +85,8 @@ pub struct Run<'a> {
     pub limit: u64,
     /// Whether the threads take turns.
     pub turns: bool,
+    /// Whether it is told where the threads stand.
+    pub stacks: bool,
     /// The name of the file that gets the journal.
     pub journal: Option<&'a str>,
     /// The name of the image's file.
@@ -81,6 +98,8 @@ pub struct Run<'a> {
 pub struct Replay<'a> {
     /// The names of the entry classes, with commas between them.
     pub entries: &'a str,
+    /// Whether it is told where the threads stand.
+    pub stacks: bool,
     /// The name of the journal's file.
     pub journal: &'a str,
     /// The name of the image's file.

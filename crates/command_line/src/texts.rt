@@ -8,10 +8,11 @@ pub(crate) const STATUSES: &str = "\
 Exit status:
   0  done: the image is written, the report is told, or all threads returned
   1  refused: a class file, the classes together, an image, an entry, an option of a build, or memory
-  2  the command line is wrong
+  2  the command line is wrong, or names one file for output and for input
   3  a file or standard output failed
   4  stuck: no thread has a step, and one has not ended
-  5  the limit was reached, and a thread still has a step
+  5  the limit was reached, and a thread still has a step; or a replay came to the end of its journal, and a thread
+     has not ended
   6  all threads ended, and not all of them returned
 
 A refusal is one line on standard error, 'preinit: ' and its name.";
@@ -27,6 +28,8 @@ which classes these are, and why the others are not. A run from the image shows 
 Standard output gets nothing. The image is the same whatever the order of the class files, and for any number of
 workers. Where it can't be written, the file is named as it was given: 'preinit: File app.img'. So is a class file that
 is no shorter than 2^32 bytes. Another number of workers than 1 to 64 is refused: 'preinit: Wave Workers'.
+
+The report of this very build is written with --report, before the image.
 
 For example: preinit build --out app.img app/Main.class app/Table.class";
 
@@ -44,6 +47,14 @@ Standard output gets what the program prints, while it runs. Then standard error
                                 or Missing (a class or member that is not there)
   thread 0 going                it has not ended: the run is stuck, or came to its limit
 
+With --stacks come then the stacks of the threads that have not returned, innermost first, as
+  thread 0 waits for the initialization of app/Table, which thread 1 has
+  thread 0 at app/Table.fill(I)V 7 invokevirtual java/lang/String.length()I
+  thread 0 in app/Table.<clinit>()V 3 invokestatic app/Table.fill(I)V
+  thread 0 in initialization of app/Main
+A place is a method, a pc, and the instruction there with what it names. Of a thread that ended it is the stack before
+its last step. Of a long stack both ends are told, 20 places each. For them the run is made a second time.
+
 A class file at fault is named by its place among the files, from 0, and an entry at fault by its place in the list.
 
 For example: preinit lazy --entries app.Main app/Main.class app/Table.class";
@@ -54,7 +65,8 @@ Tells which classes can be initialized at build time, and why the others can't";
 pub(crate) const REPORT_LONG_ABOUT: &str = "\
 Builds in memory: runs the initializer of each class that may be initialized before the program is run, alone and
 within a budget. A class may, where its code does nothing that another class or a user could see, and where all classes
-that it uses are initialized before it.
+that it uses are initialized before it. A report speaks of initializers alone: what the other methods of a class may
+meet when they run it does not say.
 
 Standard output gets a line for each class, in the order of their names:
   app/Table build 0 12              initialized at build time, in wave 0; the image keeps 12 objects of it
@@ -68,6 +80,21 @@ An option's fault is told by its text: Empty and the place of an item, Unknown a
 asked for at both times, Demanded and a class that can't be initialized at build time, with the reason.
 
 For example: preinit report --initialize-at-run-time app.log app/Main.class app/Table.class";
+
+pub(crate) const AUDIT_ABOUT: &str = "\
+Tells before a run where its threads may meet what is left out or not there";
+
+pub(crate) const AUDIT_LONG_ABOUT: &str = "\
+Looks through the main methods of the entry classes, through the initializers of all classes that these may need, and
+through what all of these may call, and tells each instruction there that ends its thread as Unsupported or Missing:
+  Missing at app/Main.main([Ljava/lang/String;)V 5 invokevirtual java/lang/String.length()I
+                                    its method, where it begins in the method's code in bytes, and what it names
+A main method that can't be called stands there without an instruction.
+
+It takes each virtual call to run any method of its name and descriptor, so a run need not come to each place that is
+told. The status is 0 where there is none, and else 6.
+
+For example: preinit audit --entries app.Main app/Main.class app/Table.class";
 
 pub(crate) const RENEW_ABOUT: &str = "\
 Writes an image again, in the version that 'preinit build' writes";
@@ -107,6 +134,7 @@ shows what the run showed that wrote the journal. A line of a journal is the num
 number of steps that it makes, in decimal without leading zeros.
 
 What is wrong with a journal is told by its text: Text and the first line at fault, or Turn and the line of a thread
-that is not there or has no step, from 1.
+that is not there or has no step, from 1. Of a Turn, lines of one thread that follow one another count as one, as in a
+journal that a run wrote.
 
 For example: preinit replay --journal app.journal --entries app.Main,app.Other app.img";

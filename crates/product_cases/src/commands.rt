@@ -4,8 +4,8 @@ use crate::class_bytes::number;
 use crate::command_runs::{self, words_of};
 use crate::shelf::Shelf;
 use cli::{
-    Build, Building, Lazy, Refusal, Renew, Replay, Request, Rest, Run, Status, entries_of, line,
-    linked_program, status_of, thread_lines,
+    Audit, Build, Building, Lazy, Refusal, Renew, Replay, Request, Rest, Run, Status, entries_of,
+    line, linked_program, status_of, thread_lines,
 };
 use init_engine::Ending;
 use program::Program;
@@ -144,6 +144,7 @@ fn of_part(alloc: Global, shelf: &Shelf, asked: &str) -> Result<String, AllocErr
 fn request(alloc: Global, text: &str) -> Result<String, AllocError> {
     let words = words_of(alloc, text)?;
     match line(alloc, &words) {
+        Ok(Request::Audit(audit)) => audit_text(alloc, &audit),
         Ok(Request::Build(build)) => build_text(alloc, &build),
         Ok(Request::Lazy(lazy)) => lazy_text(alloc, &lazy),
         Ok(Request::Report(building)) => building_text(alloc, "report", &building),
@@ -154,10 +155,20 @@ fn request(alloc: Global, text: &str) -> Result<String, AllocError> {
     }
 }
 
+fn audit_text(alloc: Global, audit: &Audit<'_>) -> Result<String, AllocError> {
+    let entries = audit.entries;
+    let mut text = format!(in alloc; "audit [{entries}]")?;
+    for file in &audit.files {
+        write!(text, " [{file}]")?;
+    }
+    Ok(text)
+}
+
 fn lazy_text(alloc: Global, lazy: &Lazy<'_>) -> Result<String, AllocError> {
     let entries = lazy.entries;
     let limit = lazy.limit;
-    let mut text = format!(in alloc; "lazy [{entries}] {limit}")?;
+    let stacks = stacks_word(lazy.stacks);
+    let mut text = format!(in alloc; "lazy [{entries}] {limit}{stacks}")?;
     for file in &lazy.files {
         write!(text, " [{file}]")?;
     }
@@ -169,7 +180,8 @@ fn run_text(alloc: Global, run: &Run<'_>) -> Result<String, AllocError> {
     let limit = run.limit;
     let image = run.image;
     let how = if run.turns { "run" } else { "run by threads" };
-    let mut text = format!(in alloc; "{how} [{entries}] {limit} [{image}]")?;
+    let stacks = stacks_word(run.stacks);
+    let mut text = format!(in alloc; "{how} [{entries}] {limit}{stacks} [{image}]")?;
     if let Some(journal) = run.journal {
         write!(text, " journal [{journal}]")?;
     }
@@ -186,7 +198,13 @@ fn replay_text(alloc: Global, replay: &Replay<'_>) -> Result<String, AllocError>
     let entries = replay.entries;
     let journal = replay.journal;
     let image = replay.image;
-    format!(in alloc; "replay [{entries}] [{journal}] [{image}]")
+    let stacks = stacks_word(replay.stacks);
+    format!(in alloc; "replay [{entries}] [{journal}]{stacks} [{image}]")
+}
+
+/// What is said of a run whose stacks are asked for.
+fn stacks_word(asked: bool) -> &'static str {
+    if asked { " stacks" } else { "" }
 }
 
 fn build_text(alloc: Global, build: &Build<'_>) -> Result<String, AllocError> {
@@ -197,7 +215,11 @@ fn build_text(alloc: Global, build: &Build<'_>) -> Result<String, AllocError> {
     } else {
         format!(in alloc; "build by {workers} [{image}]")?
     };
-    building_text(alloc, &command, &build.building)
+    let mut text = building_text(alloc, &command, &build.building)?;
+    if let Some(report) = build.report {
+        write!(text, " report [{report}]")?;
+    }
+    Ok(text)
 }
 
 /// What the words of a build ask for, after the command.

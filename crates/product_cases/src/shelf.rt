@@ -1,4 +1,7 @@
 //! Files in memory.
+ghost use Rattle.std.specs.Prelude.{◌≡◌, ◌≢◌, ℕ, List, Some, OnOk};
+ghost use Rattle.std.specs.BTreeMap.{get_by_text};
+ghost use Rattle.std.specs.Option.{option_map};
 
 use crate::class_bytes::hexadecimal;
 use cases::{SpelledBytes, add_class_files, spelled};
@@ -6,22 +9,21 @@ use classfile::ClassFile;
 use cli::{FileFault, Files};
 use sha2::{Digest, Sha256};
 use std::alloc::{AllocError, Global};
+use std::collections::BTreeMap;
 
-/// Files in memory. One of the name `huge` needs too much memory, and one that is not there fails, as one that is to be
-/// made with the name `full`.
+/// Files in memory, which tell what they hold. One of the name `huge` needs too much memory, and one that is not there
+/// fails, as one that is to be made with the name `full`.
 #[derive(Drop)]
 pub struct Shelf {
     alloc: Global,
-    names: Vec<String>,
-    contents: Vec<Vec<u8>>,
+    files: BTreeMap<String, Vec<u8>>,
 }
 
 impl Shelf {
     pub fn new(alloc: Global) -> Shelf {
         Shelf {
             alloc,
-            names: Vec::new(alloc),
-            contents: Vec::new(alloc),
+            files: BTreeMap::new(alloc),
         }
     }
 
@@ -39,22 +41,30 @@ impl Shelf {
     }
 
     fn add_line(&mut self, name: &str, text: &str) -> Result<String, AllocError> {
-        let misspelled = match text.strip_prefix("image ") {
-            Some(words) => self.add_image(words)?,
-            None => add_class_files(self.alloc, &mut self.contents, text)?,
-        };
-        self.names.push(String::from_str(self.alloc, name)?)?;
+        match text.strip_prefix("image ") {
+            Some(words) => self.add_image(name, words),
+            None => self.add_class_text(name, text),
+        }
+    }
+
+    /// Adds the bytes of a class in its text form.
+    fn add_class_text(&mut self, name: &str, text: &str) -> Result<String, AllocError> {
+        let mut files = Vec::new(self.alloc);
+        let misspelled = add_class_files(self.alloc, &mut files, text)?;
+        for bytes in &files {
+            self.add(name, bytes)?;
+        }
         Ok(misspelled)
     }
 
     /// Adds the bytes of an image: those that are spelled, and their digest.
-    fn add_image(&mut self, words: &str) -> Result<String, AllocError> {
+    fn add_image(&mut self, name: &str, words: &str) -> Result<String, AllocError> {
         let SpelledBytes {
             mut bytes,
             misspelled,
         } = self.spelled_with_files(words)?;
         add_digest(&mut bytes)?;
-        self.contents.push(bytes)?;
+        self.add(name, &bytes)?;
         Ok(misspelled)
     }
 
@@ -78,17 +88,16 @@ impl Shelf {
         text.push_str(word)
     }
 
-    /// Adds a file in the place of the one of its name, or after all others.
-    fn add(&mut self, name: &str, bytes: &[u8]) -> Result<(), AllocError> {
+    /// Adds a file, in the place of one of its name.
+    fn add(&mut self, name: &str, bytes: &[u8]) -> Result<(), AllocError>
+        ensures made { OnOk result
+            (option_map (λ bytes. bytes.items) (get_by_text self.new.files name.now) ≡ Some bytes.now) }
+        ensures others { (other : List ℕ) → other ≢ name.now
+            → get_by_text self.new.files other ≡ get_by_text self.old.files other }
+    {
         let bytes = Vec::from_slice(self.alloc, bytes)?;
-        for (known, held) in self.names.iter().zip(self.contents.iter_mut()) {
-            if known.as_str() == name {
-                *held = bytes;
-                return Ok(());
-            }
-        }
-        self.names.push(String::from_str(self.alloc, name)?)?;
-        self.contents.push(bytes)?;
+        let name = String::from_str(self.alloc, name)?;
+        self.files.insert(name, bytes)?;
         Ok(())
     }
 
@@ -100,27 +109,31 @@ impl Shelf {
 
     /// The same of the bytes of a class file.
     pub fn add_file(&mut self, names: &mut String, bytes: &[u8]) -> Result<(), AllocError> {
-        let place = self.names.len();
+        let place = self.files.len();
         let name = format!(in self.alloc; "{place}.class")?;
         names.push_str(" ")?;
         names.push_str(&name)?;
-        self.names.push(name)?;
-        self.contents.push(Vec::from_slice(self.alloc, bytes)?)?;
-        Ok(())
+        self.add(&name, bytes)
     }
 
     /// The bytes of a file.
-    pub fn find(&self, name: &str) -> Option<&[u8]> {
-        for (known, bytes) in self.names.iter().zip(&self.contents) {
-            if known.as_str() == name {
-                return Some(bytes.as_slice());
-            }
+    pub fn find(&self, name: &str) -> Option<&[u8]>
+        ensures { option_map (λ bytes. bytes.now) result
+            ≡ option_map (λ bytes. bytes.items) (get_by_text self.now.files name.now) }
+    {
+        match self.files.get(name) {
+            Some(bytes) => Some(bytes.as_slice()),
+            None => None,
         }
-        None
     }
 }
 
 impl Files for Shelf {
+    ghost use Rattle.std.specs.BTreeMap.{get_by_text};
+    ghost use Rattle.std.specs.Option.{option_map};
+
+    ghost holds = { λ shelf name. option_map (λ bytes. bytes.items) (get_by_text shelf.files name) };
+
     fn get(&mut self, name: &str) -> Result<Vec<u8>, FileFault> {
         if name == "huge" {
             return Err(FileFault::Memory);

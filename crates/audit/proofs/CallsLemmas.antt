@@ -1,0 +1,142 @@
+-- What an instruction's scope has it call and need is what its code does.
+use Rattle.std.proofs.Common.{◌≡◌, inl, inr, ℕ, Bool, true, false, cond, Option, Some, None, ◌<◌, length, List}
+use Rattle.std.proofs.Common.{if◌then◌else◌, is_some, refl, sym, ap, subst, option_map, ◌∙◌, slice_get}
+use Rattle.built_in.specs.Keys.{NameAndType}
+use Rattle.built_in.specs.declared.class_id.ClassId.{ClassId}
+use Rattle.built_in.specs.declared.class_id.ClassId.TheVariants as class
+use Rattle.built_in.specs.declared.method.BuiltInMethod.{BuiltInMethod}
+use Rattle.built_in.specs.Methods.{key_of_member}
+use Rattle.classfile.specs.declared.member.Member.{Member}
+use Rattle.vm_state.specs.declared.frame.Frame.{Frame}
+use Rattle.vm_state.specs.declared.frame.Activity.{Activity}
+use Rattle.vm_state.specs.declared.frame.Activity.TheVariants.{Start, Method}
+use Rattle.semantics.specs.Bounds.{MayCall}
+use Rattle.loading.specs.declared.given.GivenClass.{GivenClass}
+use Rattle.loading.specs.Families.{Family}
+use Rattle.hierarchy.specs.declared.member.Method.{Method as ResolvedMethod}
+use Rattle.hierarchy.specs.declared.member.Method.TheVariants as methods
+use Rattle.hierarchy.specs.MemberLookup.{is_inherited, is_private, flags_in, key_in}
+use Rattle.hierarchy.specs.Selectable.{IsSelectable}
+use Rattle.hierarchy.specs.Selection.{found_from, found_if, selected}
+use Rattle.hierarchy.proofs.SelectableLemmas.{found_declares, by_key, selects_built_in, selects_given, private_alone}
+use Rattle.program.specs.declared.class.Class.{Class}
+use Rattle.program.specs.declared.class.Implementation.{Implementation}
+use Rattle.program.specs.Programs.{is_main, IsImplementation, IsProgram}
+use Rattle.program.specs.Tables.{Tables, implementation_at, implementations_of, initializer_in, main_if, main_in}
+use Rattle.machine.specs.Operations.{Operation, operation_at}
+use Rattle.machine.specs.Linked.{initializer_called, initializer_frame_of, initializer_frame}
+use Rattle.machine.proofs.LinkedLemmas.{initializer_frame_is}
+use Rattle.machine.proofs.LawsStaticLemmas.{IsClassIn}
+use Rattle.machine.proofs.ListLemmas.{left_of_pair, right_of_pair, first_passes}
+use Rattle.use_graph.specs.declared.callee.Callee.{Callee}
+use Rattle.use_graph.specs.declared.callee.Callee.TheVariants as callees
+use Rattle.use_graph.specs.Code.{callee_of, MayRunFor}
+use Rattle.use_graph.specs.Scopes.{activity_of, called_by, scope_if}
+use Rattle.use_graph.specs.Uses.{IsDeclared, Calls, Needs}
+
+-- ---- what is selected for any receiver is selected for one of a given class
+
+module _ (family : Family) (d k : ℕ) where
+  no_member : (o : Option BuiltInMethod) → option_map (λ m. methods.BuiltIn m) o ≡ Some (methods.Given d k) → ⊥
+  no_member None h = cc
+  no_member (Some m) h = cc
+
+  from_key : (m : ResolvedMethod) (key : NameAndType)
+      → ((e : ℕ) → selected family (class.Given e) m ≡ found_from is_inherited family key (class.Given e))
+      → (x : ClassId) → found_from is_inherited family key x ≡ Some (methods.Given d k) → IsSelectable family m d k
+  from_key m key same (class.Given e) h = (by_key family m key same d k).1 (found_declares family key e d k h)
+  from_key m key same (class.BuiltIn b) h = absurd (no_member _ h)
+  from_key m key same (class.Array a) h = absurd (no_member _ h)
+
+  pub selected_given : (x : ClassId) (m : ResolvedMethod) → selected family x m ≡ Some (methods.Given d k)
+      → IsSelectable family m d k
+  unfolding selected
+  selected_given x (methods.BuiltIn b) h =
+      from_key (methods.BuiltIn b) (key_of_member b) (selects_built_in family b) x h
+  selected_given x (methods.Given c j) h = by_flags (is_private (flags_in family c j)) refl h
+    where
+      by_name : (o : Option NameAndType) → key_in family c j ≡ o → is_private (flags_in family c j) ≡ false
+          → found_if is_inherited family x o ≡ Some (methods.Given d k) → IsSelectable family (methods.Given c j) d k
+      by_name None is other h = absurd cc
+      by_name (Some key) is other h =
+          from_key (methods.Given c j) key (selects_given family c j key other is) x h
+
+      by_flags : (b : Bool) → is_private (flags_in family c j) ≡ b
+          → cond b (Some (methods.Given c j)) (found_if is_inherited family x (key_in family c j))
+          ≡ Some (methods.Given d k)
+          → IsSelectable family (methods.Given c j) d k
+      by_flags true private h =
+          let here : c ≡ d = cc in
+          let place : j ≡ k = cc in
+          (private_alone family c j private d k).1 (here, place)
+      by_flags false other h = by_name (key_in family c j) refl other h
+
+-- ---- what is called
+
+-- a method that may run for a call, of this activity
+abbrev RunsFor : Tables → Callee → Activity → Type 0
+RunsFor P callee a = (e : ℕ) × (j : ℕ) × (a ≡ Method e j) × MayRunFor P callee e j × IsDeclared P e j
+
+declared_runs : (P : Tables) (callee : Callee) (d k : ℕ) (a : Activity) (b : Bool)
+    → is_some (implementation_at P d k) ≡ b → (if b then Some (Method d k) else None) ≡ Some a
+    → MayRunFor P callee d k → RunsFor P callee a
+declared_runs P callee d k a true there h may = (d, k, cc, may, there)
+declared_runs P callee d k a false there h may = absurd cc
+
+called_runs : (P : Tables) (callee : Callee) (x : ClassId) (a : Activity) → called_by P callee x ≡ Some a
+    → RunsFor P callee a
+called_runs P callees.Nobody x a h = absurd cc
+called_runs P (callees.Exactly d k) x a h =
+    declared_runs P (callees.Exactly d k) d k a (is_some (implementation_at P d k)) refl h (refl, refl)
+called_runs P (callees.Selected m) x a h = by_found (selected P.family x m) refl h
+  where
+    by_found : (o : Option ResolvedMethod) → selected P.family x m ≡ o → activity_of P o ≡ Some a
+        → RunsFor P (callees.Selected m) a
+    by_found None is h = absurd cc
+    by_found (Some (methods.Given d k)) is h =
+        declared_runs P (callees.Selected m) d k a (is_some (implementation_at P d k)) refl h
+        (selected_given P.family d k x m is)
+    by_found (Some (methods.BuiltIn b)) is h = absurd cc
+
+-- what an instruction of a method calls by its scope
+abbrev pub IsCalled : Tables → ℕ → ℕ → Activity → Type 0
+IsCalled P d k a = (e : ℕ) × (j : ℕ) × (a ≡ Method e j) × Calls P d k e j × IsDeclared P e j
+
+pub scope_calls : (P : Tables) (d k place : ℕ) (a : Activity) (o : Option Operation) → operation_at P d k place ≡ o
+    → MayCall (scope_if P o) a → IsCalled P d k a
+scope_calls P d k place a None at may = (let clash : None ≡ Some a = may.1 in absurd cc)
+scope_calls P d k place a (Some o) at may =
+    let found = called_runs P (callee_of o) may.0 a may.1 in
+    (found.0, found.1, found.2, (place, o, at, found.3), found.4)
+
+pub scope_needs : (P : Tables) (d k place e : ℕ) (o : Option Operation) → operation_at P d k place ≡ o
+    → (scope_if P o).needs ≡ Some e → Needs P d k e
+scope_needs P d k place e None at needs = absurd cc
+scope_needs P d k place e (Some o) at needs = (place, o, at, needs)
+
+-- ---- methods that are called by themselves
+
+-- a class initialization method that runs is declared
+pub initializer_declared : (P : Tables) (c m : ℕ) (f : Frame) → initializer_in P c ≡ Some m
+    → initializer_frame P c ≡ Some f → IsDeclared P c m
+initializer_declared P c m f has h =
+    by (implementation_at P c m) refl (sym (ap (initializer_frame_of P c) has) ∙ h)
+  where
+    by : (o : Option Implementation) → implementation_at P c m ≡ o → initializer_called c m o ≡ Some f
+        → IsDeclared P c m
+    by None at h = absurd (let clash : None ≡ Some f = h in cc)
+    by (Some x) at h = ap is_some at
+
+-- so is a `main`
+pub main_declared : (P : Tables) → IsProgram P → (c m : ℕ) → main_in P c ≡ Some m → IsDeclared P c m
+main_declared P is c m = by (slice_get P.classes c) refl
+  where
+    by : (o : Option Class) → slice_get P.classes c ≡ o → main_if o ≡ Some m
+        → is_some (slice_get (implementations_of o) m) ≡ true
+    by None there main = absurd cc
+    by (Some class) there main =
+        let found = left_of_pair (IsClassIn P) P.family P.classes c class is.classes there in
+        let member = first_passes (is_main found.0.file) found.0.file.methods m (sym found.2.main ∙ main) in
+        let method = right_of_pair (IsImplementation P.family found.0.file) found.0.file.methods class.methods m
+        member.0 found.2.methods member.1 in
+        ap is_some method.1

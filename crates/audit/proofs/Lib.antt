@@ -1,0 +1,11 @@
+pub mod ReachLemmas
+pub mod PlacesLemmas
+pub mod CallsLemmas
+pub mod ThreadsLemmas
+pub mod RunsLemmas
+pub mod HaltsLemmas
+pub mod CallHaltsLemmas
+pub mod RefusedLemmas
+pub mod OperationHaltsLemmas
+pub mod EndingLemmas
+pub mod EndsLemmas

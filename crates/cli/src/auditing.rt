@@ -1,0 +1,70 @@
+//! The command `audit`: where the threads of entries may end for want of what is left out or not there.
+ghost use Rattle.std.specs.Prelude.{◌≡◌, IfOk};
+ghost use Rattle.cli.specs.Audits.{IsAudit, IsAuditFrom, IsAuditOf};
+
+use crate::class_files::program_of_texts;
+use crate::files::contents;
+use crate::{Audit, Files, Refusal, entries_of};
+use audit::{audit, audit_text};
+use classfile::ClassName;
+use init_engine::starting::entry_classes;
+use program::Program;
+use std::alloc::{AllocError, Global};
+
+/// What an audit tells.
+#[derive(Drop)]
+pub(crate) struct Audited {
+    pub(crate) text: Vec<u8>,
+    /// There is no place where a thread may end so.
+    pub(crate) is_clean: bool,
+}
+
+/// Reads the class files, and answers what their audit tells, as the words say.
+///
+/// # Errors
+/// The first refusal: a file, a class file, linking, an entry, or memory.
+pub(crate) fn run<F: Files>(
+    alloc: Global,
+    words: &Audit<'_>,
+    files: &mut F,
+) -> Result<Audited, Refusal>
+    ensures audit { IfOk result (λ audited. IsAudit (F.holds files.old) words.now audited.is_clean) }
+    ensures same { F.holds files.new ≡ F.holds files.old }
+{
+    let texts = contents(alloc, words.files.as_slice(), files, usize::MAX)?;
+    let entries = entries_of(alloc, words.entries)?;
+    match program_of_texts(alloc, texts) {
+        Ok(program) => audit_by_names(alloc, &program, entries.as_slice()),
+        Err(refusal) => Err(refusal),
+    }
+}
+
+/// The audit of some entries of a program.
+fn audit_by_names(
+    alloc: Global,
+    program: &Program,
+    entries: &[ClassName],
+) -> Result<Audited, Refusal>
+    ensures { IfOk result (λ audited. IsAuditOf program.now entries.now audited.is_clean) }
+{
+    match entry_classes(alloc, program, entries) {
+        Ok(classes) => Ok(audit_by_classes(alloc, program, classes.as_slice())?),
+        Err(fault) => Err(Refusal::of_entry(fault)),
+    }
+}
+
+/// The audit of some entries, by their classes.
+fn audit_by_classes(
+    alloc: Global,
+    program: &Program,
+    classes: &[u32],
+) -> Result<Audited, AllocError>
+    ensures { IfOk result (λ audited. IsAuditFrom program.now classes.now audited.is_clean) }
+{
+    let places = audit(alloc, program, classes)?;
+    let text = audit_text(alloc, program, places.as_slice())?;
+    Ok(Audited {
+        text: text.into_bytes(),
+        is_clean: places.is_empty(),
+    })
+}

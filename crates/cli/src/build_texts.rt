@@ -1,0 +1,141 @@
+//! The texts of a build, its image's and its report, and the files that get them.
+//!
+//! Whether a report is wanted is asked in a function of its own, so that nothing joins before the texts are put
+//! together.
+ghost use Rattle.std.specs.Prelude.{◌≡◌, ◌≢◌, ℕ, List, true, IfOk, OnOk};
+ghost use Rattle.building.specs.Builds.{text_of as list_of};
+ghost use Rattle.building.specs.declared.build.BuildOptions.{BuildOptions as Options};
+ghost use Rattle.image_format.specs.Images.{AreShort};
+ghost use Rattle.report.specs.Texts.{report_text};
+ghost use Rattle.report.specs.Waves.{GiveWaves};
+ghost use Rattle.cli.specs.Builds.{IsBuildOfClassFiles};
+ghost use Rattle.cli.specs.Done.{AreBothWritten, AreWritten};
+ghost use Rattle.cli.specs.ImageBuilds.{AreAtMost, IsBuiltText};
+ghost use Rattle.cli.specs.ImageRuns.{IsTextOf};
+ghost use Rattle.cli.specs.Outputs.{IsReportApart};
+ghost use Rattle.cli.specs.Runs.{texts_of};
+ghost use Rattle.cli.specs.steps.BuildTexts.{AreTextsOfBuild};
+
+use crate::builds::build;
+use crate::files::put;
+use crate::image_build::GREATEST_LENGTH;
+use crate::reporting::report_bytes;
+use crate::{Build, Files, Refusal};
+use building::{BuildFault, BuildOptions, Built};
+use image_writer::image_text;
+use std::alloc::{AllocError, Global};
+use std::sync::Wait;
+use std::thread::Threads;
+use wave_scheduler::Gate;
+
+/// The texts of a build.
+#[derive(Drop)]
+pub(crate) struct BuildTexts {
+    /// The text of the image.
+    pub image: Vec<u8>,
+    /// The report, where it is wanted.
+    pub report: Vec<u8>,
+}
+
+/// Builds as `build` does, and answers the texts of it.
+///
+/// # Errors
+/// As `build`.
+pub(crate) fn build_texts<G: Gate, R: Threads + Wait + Sync>(
+    rt: &R,
+    alloc: Global,
+    files: &[Vec<u8>],
+    options: &BuildOptions<'_>,
+    workers: u32,
+    gate: &G,
+    reports: bool,
+) -> Result<BuildTexts, BuildFault>
+    requires { AreAtMost GREATEST_LENGTH (texts_of files.now) }
+    ensures { IfOk result (AreTextsOfBuild (texts_of files.now) options.now reports) }
+{
+    match build(rt, alloc, files, options, workers, gate) {
+        Ok(built) => match texts_of_build(alloc, &built, reports) {
+            Ok(texts) => Ok(texts),
+            Err(_) => Err(BuildFault::Memory),
+        },
+        Err(fault) => Err(fault),
+    }
+}
+
+/// The texts of a build.
+fn texts_of_build(alloc: Global, built: &Built, reports: bool) -> Result<BuildTexts, AllocError>
+    requires short { AreShort built.now.image.program.family }
+    requires waves { GiveWaves built.now.image built.now.verdicts }
+    ensures { (texts : List (List ℕ)) (options : Options) → IsBuildOfClassFiles texts options built.now
+        → IfOk result (AreTextsOfBuild texts options reports) }
+{
+    match image_bytes(alloc, built) {
+        Ok(image) => match report_if(alloc, built, reports) {
+            Ok(report) => Ok(BuildTexts { image, report }),
+            Err(error) => Err(error),
+        },
+        Err(error) => Err(error),
+    }
+}
+
+/// The text of the image of a build.
+pub(crate) fn image_bytes(alloc: Global, built: &Built) -> Result<Vec<u8>, AllocError>
+    requires { AreShort built.now.image.program.family }
+    ensures built { (texts : List (List ℕ)) (options : Options) → IsBuildOfClassFiles texts options built.now
+        → IfOk result (λ bytes. IsBuiltText texts (list_of options.run_time) (list_of options.build_time)
+        options.budget bytes.items) }
+    ensures text { IfOk result (λ bytes. IsTextOf bytes.items built.now.image) }
+{
+    let _region = built.image.region(0);
+    image_text(alloc, &built.image)
+}
+
+/// The report of a build, if it is wanted.
+fn report_if(alloc: Global, built: &Built, wanted: bool) -> Result<Vec<u8>, AllocError>
+    requires { GiveWaves built.now.image built.now.verdicts }
+    ensures { wanted ≡ true
+        → IfOk result (λ bytes. bytes.items ≡ report_text built.now.image built.now.verdicts) }
+{
+    if wanted {
+        report_bytes(alloc, built)
+    } else {
+        Ok(Vec::new(alloc))
+    }
+}
+
+/// Writes the texts of a build to the files that the words name, the image last.
+///
+/// # Errors
+/// `File` of the first that can't be written, or memory.
+pub(crate) fn write_texts<F: Files>(
+    alloc: Global,
+    words: &Build<'_>,
+    texts: &BuildTexts,
+    files: &mut F,
+) -> Result<(), Refusal>
+    requires { IsReportApart words.now }
+    ensures { OnOk result (AreWritten (F.holds files.old) (F.holds files.new) words.now.image.now words.now.report
+        texts.now.image.items texts.now.report.items) }
+{
+    match words.report {
+        Some(name) => write_both(alloc, words.image, name, texts, files),
+        None => put(alloc, words.image, texts.image.as_slice(), files),
+    }
+}
+
+/// Writes both texts of a build, the image last.
+#[tactic(auto, using(crate::proofs::OutputLemmas::both_written))]
+fn write_both<F: Files>(
+    alloc: Global,
+    image: &str,
+    report: &str,
+    texts: &BuildTexts,
+    files: &mut F,
+) -> Result<(), Refusal>
+    requires { report.now ≢ image.now }
+    ensures { OnOk result (AreBothWritten (F.holds files.old) (F.holds files.new) image.now report.now
+        texts.now.image.items texts.now.report.items) }
+{
+    put(alloc, report, texts.report.as_slice(), files)?;
+    put(alloc, image, texts.image.as_slice(), files)
+}

@@ -1,0 +1,125 @@
+//! Where the threads of a run stand that have not returned, on standard error: read from another run over its schedule.
+ghost use Rattle.std.specs.Prelude.{◌≡◌, ◌≢◌};
+ghost use Rattle.init_engine.specs.Schedules.{AreRuns};
+ghost use Rattle.cli.specs.Status.{IsOver};
+
+use crate::telling::refuse;
+use crate::{Refusal, Status, entries_of};
+use image_reader::world;
+use init_engine::World;
+use object_graph::Image;
+use program::Program;
+use stacks::{stack_lines, stacks};
+use std::alloc::Global;
+use std::io::Write;
+
+/// Whether a run that ends a command so has threads that have not returned.
+fn some_stand(status: Status) -> bool {
+    matches!(status, Status::Stuck | Status::Limit | Status::Ended)
+}
+
+/// Tells where the threads of a run of class files stand, by its schedule, from the entries of a list.
+pub(crate) fn tell_lazy_stacks<E: Write>(
+    alloc: Global,
+    program: &Program,
+    list: &str,
+    runs: &[(u32, u64)],
+    status: Status,
+    errors: &mut E,
+) -> Status
+    requires runs { AreRuns runs.now }
+    requires status { status ≢ Status.Words }
+    ensures words { result ≢ Status.Words }
+    ensures done { IsOver result → result ≡ status }
+{
+    if some_stand(status) {
+        tell_stacks(lazy_stacks(alloc, program, list, runs), status, errors)
+    } else {
+        status
+    }
+}
+
+/// The same of a run of an image.
+pub(crate) fn tell_image_stacks<E: Write>(
+    alloc: Global,
+    image: &Image,
+    list: &str,
+    runs: &[(u32, u64)],
+    status: Status,
+    errors: &mut E,
+) -> Status
+    requires runs { AreRuns runs.now }
+    requires status { status ≢ Status.Words }
+    ensures words { result ≢ Status.Words }
+    ensures done { IsOver result → result ≡ status }
+{
+    if some_stand(status) {
+        tell_stacks(image_stacks(alloc, image, list, runs), status, errors)
+    } else {
+        status
+    }
+}
+
+/// Tells stacks after a run with this status.
+fn tell_stacks<E: Write>(stacks: Result<String, Refusal>, status: Status, errors: &mut E) -> Status
+    requires { status ≢ Status.Words }
+    ensures words { result ≢ Status.Words }
+    ensures done { IsOver result → result ≡ status }
+{
+    match stacks {
+        Ok(lines) => {
+            // A failure of standard error is ignored.
+            let _ = errors.write_all(lines.as_bytes());
+            let _ = errors.flush();
+            status
+        }
+        Err(refusal) => refuse(&refusal, errors),
+    }
+}
+
+/// The stacks after a schedule from the lazy start of the entries of a list.
+fn lazy_stacks(
+    alloc: Global,
+    program: &Program,
+    list: &str,
+    runs: &[(u32, u64)],
+) -> Result<String, Refusal>
+    requires { AreRuns runs.now }
+{
+    let entries = entries_of(alloc, list)?;
+    match World::lazy(alloc, program, entries.as_slice()) {
+        Ok(first) => stacks_from(alloc, program, first, runs),
+        Err(fault) => Err(Refusal::of_entry(fault)),
+    }
+}
+
+/// The stacks after a schedule from the start of an image, from the entries of a list.
+fn image_stacks(
+    alloc: Global,
+    image: &Image,
+    list: &str,
+    runs: &[(u32, u64)],
+) -> Result<String, Refusal>
+    requires { AreRuns runs.now }
+{
+    let entries = entries_of(alloc, list)?;
+    match world(alloc, image, entries.as_slice()) {
+        Ok(first) => stacks_from(alloc, image.program(), first, runs),
+        Err(fault) => Err(Refusal::of_entry(fault)),
+    }
+}
+
+/// The stacks after a schedule from a world.
+fn stacks_from(
+    alloc: Global,
+    program: &Program,
+    first: World,
+    runs: &[(u32, u64)],
+) -> Result<String, Refusal>
+    requires { AreRuns runs.now }
+{
+    match stacks(alloc, program, first, runs) {
+        Ok(stacks) => Ok(stack_lines(alloc, program, &stacks)?),
+        Err(fault) => Err(Refusal::of_replay(fault)),
+    }
+}

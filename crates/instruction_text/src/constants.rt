@@ -1,0 +1,88 @@
+//! What the constant of an instruction names.
+
+use classfile::{ClassFile, Constant, printed};
+use std::alloc::{AllocError, Global};
+
+/// The text at an index, for a reader.
+pub(crate) fn text_at(alloc: Global, file: &ClassFile, index: u16) -> Result<String, AllocError> {
+    printed(alloc, file.utf8(index).unwrap_or(&[]))
+}
+
+/// The name of the class at an index, with slashes.
+pub(crate) fn class_at(alloc: Global, file: &ClassFile, index: u16) -> Result<String, AllocError> {
+    printed(alloc, file.class_name(index).unwrap_or(&[]))
+}
+
+/// A name and a descriptor, with this between them.
+fn signature_at(
+    alloc: Global,
+    file: &ClassFile,
+    index: u16,
+    between: &str,
+) -> Result<String, AllocError> {
+    let Some(Constant::NameAndType { name, descriptor }) = file.constant(index) else {
+        return Ok(String::new(alloc));
+    };
+    let name = text_at(alloc, file, *name)?;
+    let descriptor = text_at(alloc, file, *descriptor)?;
+    format!(in alloc; "{name}{between}{descriptor}")
+}
+
+/// A member of a class, with this between its name and its descriptor.
+fn member_at(
+    alloc: Global,
+    file: &ClassFile,
+    class: u16,
+    signature: u16,
+    between: &str,
+) -> Result<String, AllocError> {
+    let class = class_at(alloc, file, class)?;
+    let signature = signature_at(alloc, file, signature, between)?;
+    format!(in alloc; "{class}.{signature}")
+}
+
+/// What the constant at an index names: a class, a member, or the method of an `invokedynamic`.
+pub(crate) fn named_at(alloc: Global, file: &ClassFile, index: u16) -> Result<String, AllocError> {
+    match file.constant(index) {
+        Some(Constant::Class { .. }) => class_at(alloc, file, index),
+        Some(
+            Constant::Fieldref {
+                class,
+                name_and_type,
+            },
+        ) => { member_at(alloc, file, *class, *name_and_type, ":") }
+        Some(
+            Constant::Methodref {
+                class,
+                name_and_type,
+            }
+            | Constant::InterfaceMethodref {
+                class,
+                name_and_type,
+            },
+        ) => member_at(alloc, file, *class, *name_and_type, ""),
+        Some(Constant::InvokeDynamic { name_and_type, .. }) => {
+            signature_at(alloc, file, *name_and_type, "")
+        }
+        _ => Ok(String::new(alloc)),
+    }
+}
+
+/// What `ldc` and its kin push: the kind of the constant at an index, and of a class its name.
+pub(crate) fn pushed_at(alloc: Global, file: &ClassFile, index: u16) -> Result<String, AllocError> {
+    let kind = match file.constant(index) {
+        Some(Constant::Integer { .. }) => "int",
+        Some(Constant::Float { .. }) => "float",
+        Some(Constant::Long { .. }) => "long",
+        Some(Constant::Double { .. }) => "double",
+        Some(Constant::String { .. }) => "string",
+        Some(Constant::MethodHandle { .. }) => "method handle",
+        Some(Constant::MethodType { .. }) => "method type",
+        Some(Constant::Class { .. }) => {
+            let name = class_at(alloc, file, index)?;
+            return format!(in alloc; "class {name}");
+        }
+        _ => "",
+    };
+    String::from_str(alloc, kind)
+}
