@@ -1,17 +1,19 @@
-"""The gate's own command, `rt ci`, with a kit whose command keeps nothing, and takes each crate's checksum anew for
-each path that leads down to it: 24,000 of them in the end.
+"""The gate's own command, `rt ci`, as `./prove` starts it.
 
   python3 tools/gate.py KEPT     in the copy of the crates that `./prove` made
 
-It is the same command but for two things: a checksum is taken once, and what is proved of a crate lies in the folder
-KEPT by its checksum, which is of the kit and of all files that the proof read, and is taken from there. What fails is
-not kept, and tests never are. A run that proves all removes what is kept of other files.
+It is the same command but for how crates share processors and memory (`lanes.py`), and for two things more with a kit
+whose command keeps nothing, and takes each crate's checksum anew for each path that leads down to it, 24,000 of them in
+the end: a checksum is taken once, and what is proved of a crate lies in the folder KEPT by its checksum, which is of
+the kit and of all files that the proof read, and is taken from there. What fails is not kept, and tests never are. A
+run that proves all removes what is kept of other files.
 """
 import os
 import shutil
 import sys
 
 sys.dont_write_bytecode = True
+import lanes
 import program
 
 
@@ -21,7 +23,7 @@ def keeps_by_itself(rt):
 
 
 def take_each_sum_once(rt):
-    """Has the kit take the checksum of each folder's crate once. That of a crate has those of the crates below in it."""
+    """Has the kit take the checksum of each crate once. It has those of the crates below in it."""
     sum_of, taken = rt.Crate.stamp, {}
 
     def stamp(crate):
@@ -38,7 +40,7 @@ def place(kept, crate):
 
 
 def keep(rt, kept):
-    """Has the kit's proof of a crate begin with what is kept, and end with keeping it. Answers the places, by and by."""
+    """Has the kit's proof of a crate begin with what is kept, and end with keeping it. Answers the places, in time."""
     prove, places = rt.Crate.ci, set()
 
     def ci(crate, flags, tests):
@@ -65,6 +67,10 @@ def keep(rt, kept):
 
 def main(kept):
     rt = program.rt()
+    if lanes.is_known(rt):
+        lanes.share(rt)
+    if keeps_by_itself(rt):
+        return rt.main(["ci"])
     os.makedirs(kept, exist_ok=True)
     take_each_sum_once(rt)
     places = keep(rt, kept)

@@ -1,8 +1,8 @@
 """How the program is proved: by the gate's own command, on a copy of its crates without their wrong bodies.
 
-That command proves crates side by side, where `rt run` goes one after the other. With some kits it keeps each beside the
-kit by a checksum of all that its proof read, so that the gate takes it from there; with others `gate.py` keeps it for
-the next run of `./prove`, and the gate proves all anew.
+That command proves crates side by side, where `rt run` goes one after the other. `gate.py` starts it. With some kits it
+keeps each beside the kit by a checksum of all that its proof read, so that the gate takes it from there; with others
+`gate.py` keeps it for the next run of `./prove`, and the gate proves all anew.
 """
 import collections
 import glob
@@ -81,7 +81,7 @@ def prove_copy(copy, room):
     progress, is_proved = Progress(len(program.listed(copy))), False
     program.say(f"proving {progress.crates} crates, those side by side that do not stand on one another")
     keeps_by_itself = gate.keeps_by_itself(program.rt())
-    words = ["rt", "ci"] if keeps_by_itself else [sys.executable, gate.__file__, KEPT]
+    words = [sys.executable, gate.__file__, KEPT]
     how = {"cwd": copy, "stdout": subprocess.PIPE, "stderr": subprocess.STDOUT, "text": True, "errors": "replace"}
     try:
         with program.started(words, room, **how) as child:

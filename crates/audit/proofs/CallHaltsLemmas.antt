@@ -39,22 +39,23 @@ use Rattle.machine.specs.declared.call_operation.InstanceCall.{InstanceCall}
 use Rattle.machine.specs.declared.call_operation.StaticCall.{StaticCall}
 use Rattle.machine.specs.Initializers.{is_method}
 use Rattle.machine.specs.RowParts.{halts, needing, drops}
-use Rattle.machine.specs.ObjectParts.{slot_in, set_named, on_name, class_of_nameless, ask_class_of}
+use Rattle.machine.specs.ObjectParts.{slot_in, set_named, on_name, class_of_nameless}
 use Rattle.machine.specs.Objects.{is_of}
 use Rattle.machine.specs.Members.{on_enum, name_once, new_enum, replaced, or_slot, enum_part, clone_if_array}
 use Rattle.machine.specs.Members.{member_row}
 use Rattle.machine.specs.Calls.{parameters_at, has_arguments, receiver_under, reaches, reached, enter_static, runs}
 use Rattle.machine.specs.Calls.{runs_chosen, is_out, unless_null, called_on}
 use Rattle.machine.specs.Printing.{printed_text, ended, print_on}
-use Rattle.machine.specs.Operations.{Operation, OnCall}
+use Rattle.machine.specs.Operations.{OnCall}
 use Rattle.machine.specs.Table.{call_row}
 use Rattle.use_graph.specs.declared.callee.Callee.{Callee}
 use Rattle.use_graph.specs.Code.{callee_of_call, chosen_callee, found_callee, MayRunFor}
 use Rattle.use_graph.specs.Uses.{CallsLeftOut, IsLeftOut}
-use Rattle.audit.specs.Ends.{class_by, class_of, receiver_for, receiver_of, choice_of, Runs, IsCallOf, IsNoMethod}
+use Rattle.audit.specs.Ends.{class_by, class_of, receiver_for, receiver_of, choice_of, Runs, IsNoMethod}
 use Rattle.audit.specs.Ends.{IsByOperands, unnamed, no_method, IsLack, Unsupported, Missing}
 use Rattle.audit.proofs.CallsLemmas.{selected_given}
-use Rattle.audit.proofs.HaltsLemmas.{IsFor, HaltsFor, LeadsFor, LeadsAt, Suits, at_state, fault, went, used, asked, looked, changed, made}
+use Rattle.audit.proofs.HaltsLemmas.{IsFor, HaltsFor, LeadsFor, LeadsAt, Suits, at_state, fault, went, used, asked}
+use Rattle.audit.proofs.HaltsLemmas.{looked, changed, made}
 use Rattle.audit.proofs.HaltsLemmas.{need, either, pushes, on_object}
 
 -- ---- weaker reasons

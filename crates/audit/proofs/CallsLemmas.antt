@@ -1,17 +1,15 @@
 -- What an instruction's scope has it call and need is what its code does.
-use Rattle.std.proofs.Common.{◌≡◌, inl, inr, ℕ, Bool, true, false, cond, Option, Some, None, ◌<◌, length, List}
-use Rattle.std.proofs.Common.{if◌then◌else◌, is_some, refl, sym, ap, subst, option_map, ◌∙◌, slice_get}
+use Rattle.std.proofs.Common.{◌≡◌, ℕ, Bool, true, false, cond, Option, Some, None}
+use Rattle.std.proofs.Common.{if◌then◌else◌, is_some, refl, sym, ap, option_map, ◌∙◌, slice_get}
 use Rattle.built_in.specs.Keys.{NameAndType}
 use Rattle.built_in.specs.declared.class_id.ClassId.{ClassId}
 use Rattle.built_in.specs.declared.class_id.ClassId.TheVariants as class
 use Rattle.built_in.specs.declared.method.BuiltInMethod.{BuiltInMethod}
 use Rattle.built_in.specs.Methods.{key_of_member}
-use Rattle.classfile.specs.declared.member.Member.{Member}
 use Rattle.vm_state.specs.declared.frame.Frame.{Frame}
 use Rattle.vm_state.specs.declared.frame.Activity.{Activity}
-use Rattle.vm_state.specs.declared.frame.Activity.TheVariants.{Start, Method}
+use Rattle.vm_state.specs.declared.frame.Activity.TheVariants.{Method}
 use Rattle.semantics.specs.Bounds.{MayCall}
-use Rattle.loading.specs.declared.given.GivenClass.{GivenClass}
 use Rattle.loading.specs.Families.{Family}
 use Rattle.hierarchy.specs.declared.member.Method.{Method as ResolvedMethod}
 use Rattle.hierarchy.specs.declared.member.Method.TheVariants as methods
@@ -25,7 +23,6 @@ use Rattle.program.specs.Programs.{is_main, IsImplementation, IsProgram}
 use Rattle.program.specs.Tables.{Tables, implementation_at, implementations_of, initializer_in, main_if, main_in}
 use Rattle.machine.specs.Operations.{Operation, operation_at}
 use Rattle.machine.specs.Linked.{initializer_called, initializer_frame_of, initializer_frame}
-use Rattle.machine.proofs.LinkedLemmas.{initializer_frame_is}
 use Rattle.machine.proofs.LawsStaticLemmas.{IsClassIn}
 use Rattle.machine.proofs.ListLemmas.{left_of_pair, right_of_pair, first_passes}
 use Rattle.use_graph.specs.declared.callee.Callee.{Callee}

@@ -1,12 +1,10 @@
 -- The step that ends a thread otherwise than as a fault is an instruction that halts so.
-use Rattle.std.proofs.Common.{◌≡◌, ◌≢◌, ◌∙◌, ◌⊎◌, inl, inr, refl, sym, ap, subst, ℕ, List, [], ◌∷◌, ◌++◌, Option, Some}
-use Rattle.std.proofs.Common.{None, length}
-use Rattle.std.proofs.Common.{Bool, true, false, ◌==◌, ◌<◌, slice_get, get_or, unwrap_or, option_map}
-use Rattle.std.proofs.lemmas.Option.{unwrap_or-slice_get}
+use Rattle.std.proofs.Common.{ℕ, List, [], ◌∷◌, Option, Some}
+use Rattle.std.proofs.Common.{None}
+use Rattle.std.proofs.Common.{Bool, true, false}
 use Rattle.built_in.specs.declared.class_id.ClassId.{ClassId}
 use Rattle.vm_state.specs.declared.ends.End.TheVariants.{Returned, Uncaught, Faulted}
 use Rattle.vm_state.specs.declared.ends.FaultKind.{FaultKind}
-use Rattle.vm_state.specs.declared.ends.FaultKind.TheVariants as faults
 use Rattle.vm_state.specs.declared.classes.Usability.{Usability}
 use Rattle.vm_state.specs.declared.classes.Usability.TheVariants.{Ready, Fresh, Busy, Broken}
 use Rattle.vm_state.specs.declared.frame.Frame.{Frame}
@@ -14,15 +12,13 @@ use Rattle.vm_state.specs.declared.initialization.Initialization.{Initialization
 use Rattle.vm_state.specs.declared.initialization.Level.{Level}
 use Rattle.vm_state.specs.declared.value.Maker.TheVariants as makers
 use Rattle.vm_state.specs.declared.value.Name.{Name}
-use Rattle.vm_state.specs.Operands.{OperandStack, pushed}
 use Rattle.vm_state.specs.SharedState.{SharedState}
 use Rattle.vm_state.specs.Statics.{usable}
-use Rattle.vm_state.specs.Values.{value_of}
 use Rattle.semantics.specs.Programs.{Program}
 use Rattle.semantics.specs.Rows.{Outcome, Next, Raise, Halt, Result, Moved, Needs, Waits, run_row}
-use Rattle.semantics.specs.Moves.{Left, Stand, Throw, Stop, left_in, moved, stand, caught, emptied, unwound}
+use Rattle.semantics.specs.Moves.{Left, Stand, Throw, Stop, left_in, moved, stand, caught, unwound}
 use Rattle.semantics.specs.Steps.{Thread, Going, Ended, After, standing, settled, going_on, instructed, fails}
-use Rattle.semantics.specs.Steps.{initializes, passes, step_parents, step_initialization, step_thread, maker_of}
+use Rattle.semantics.specs.Steps.{initializes, passes, step_parents, step_initialization}
 use Rattle.audit.proofs.HaltsLemmas.{IsFor, HaltsFor, LeadsFor}
 
 module _ (P : Program) (Why : FaultKind → Type 0) where

@@ -1,26 +1,23 @@
 -- A thread of a run that ends as Unsupported or Missing ends where it is told, or by its operands.
 use Rattle.std.proofs.Common.{◌≡◌, ◌≢◌, ◌∙◌, ◌⊎◌, ◌<◌, inl, inr, refl, sym, ap, subst, ℕ, zero, suc, ◌+◌, List, [], ◌∷◌}
 use Rattle.std.proofs.Common.{◌++◌}
-use Rattle.std.proofs.Common.{Option, Some, None, Bool, true, false, ◌==◌, length, slice_get, get_or, unwrap_or}
+use Rattle.std.proofs.Common.{Option, Some, None, true, ◌==◌, length, slice_get, get_or, unwrap_or}
 use Rattle.std.proofs.Common.{eqb-true, eq-eqb}
 use Rattle.std.proofs.lemmas.Option.{unwrap_or-slice_get}
 use Rattle.built_in.specs.declared.class_id.BuiltIn.TheVariants.{Error, ExceptionInInitializerError}
-use Rattle.built_in.specs.declared.class_id.BuiltIn.TheVariants.{NoClassDefFoundError}
 use Rattle.built_in.specs.declared.class_id.ClassId.TheVariants.{BuiltIn}
-use Rattle.vm_state.specs.declared.ends.End.{End}
 use Rattle.vm_state.specs.declared.ends.End.TheVariants.{Returned, Uncaught, Faulted}
 use Rattle.vm_state.specs.declared.ends.FaultKind.{FaultKind}
 use Rattle.vm_state.specs.declared.ends.FaultKind.TheVariants as faults
 use Rattle.vm_state.specs.declared.frame.Frame.{Frame}
 use Rattle.vm_state.specs.declared.initialization.Level.{Level}
-use Rattle.vm_state.specs.declared.value.Maker.{Maker}
 use Rattle.vm_state.specs.declared.value.Maker.TheVariants as makers
 use Rattle.vm_state.specs.declared.value.Name.{Name}
 use Rattle.vm_state.specs.SharedState.{SharedState}
 use Rattle.vm_state.proofs.ListLemmas.{tested}
 use Rattle.semantics.specs.Programs.{Program}
 use Rattle.semantics.specs.Rows.{Raise, Ends, run_row}
-use Rattle.semantics.specs.Steps.{Thread, Going, Ended, After, maker_of, instructed, step_initialization, step_thread}
+use Rattle.semantics.specs.Steps.{Thread, Going, Ended, After, maker_of, step_thread}
 use Rattle.semantics.specs.Worlds.{World, Run, put_thread, step, threads_from}
 use Rattle.semantics.proofs.BranchesLemmas.{none_or_some}
 use Rattle.semantics.proofs.TestsLemmas.{from_some}
@@ -29,7 +26,7 @@ use Rattle.hierarchy.proofs.RowLemmas.{at_head}
 use Rattle.hierarchy.specs.Subtypes.{is_below}
 use Rattle.program.specs.Programs.{IsProgram}
 use Rattle.program.specs.Tables.{Tables}
-use Rattle.machine.specs.Failures.{fails_by, failing, orphaned}
+use Rattle.machine.specs.Failures.{fails_by, failing}
 use Rattle.machine.specs.Linked.{program_of}
 use Rattle.machine.specs.RowParts.{needing, raises}
 use Rattle.machine.specs.Table.{row}

@@ -1,6 +1,6 @@
 -- How the rows of instructions halt: as a fault, or for a reason that is known of them.
 use Rattle.std.proofs.Common.{◌≡◌, refl}
-use Rattle.std.proofs.Common.{ℕ, ℤ, Bool, true, false, cond, List, [], ◌∷◌, Option, Some, None, Ok, Err, replicate}
+use Rattle.std.proofs.Common.{ℕ, ℤ, Bool, true, false, cond, List, Option, Some, None, Ok, Err, replicate}
 use Rattle.std.specs.Prelude.{nat_le}
 use Rattle.std.specs.declared.result.Result.{Result as RustResult}
 use Rattle.bytecode.specs.declared.operand.ElementKind.{ElementKind}
@@ -8,7 +8,7 @@ use Rattle.built_in.specs.declared.class_id.ArrayType.{ArrayType}
 use Rattle.built_in.specs.declared.class_id.BuiltIn.{BuiltIn as BuiltInClass}
 use Rattle.built_in.specs.declared.class_id.BuiltIn.TheVariants as builtins
 use Rattle.built_in.specs.declared.class_id.ClassId.{ClassId}
-use Rattle.built_in.specs.declared.class_id.ClassId.TheVariants.{Given, BuiltIn, Array}
+use Rattle.built_in.specs.declared.class_id.ClassId.TheVariants.{BuiltIn, Array}
 use Rattle.vm_state.specs.declared.ends.FaultKind.{FaultKind}
 use Rattle.vm_state.specs.declared.ends.FaultKind.TheVariants as faults
 use Rattle.vm_state.specs.declared.frame.Frame.{Frame}
@@ -213,7 +213,8 @@ module _ (t : ℕ) (maker : Maker) (Why : FaultKind → Type 0) where
       (λ n so. pushes (values.Int n) (with_operands f (rest f.operands))))))))
 
   element : (kind : ElementKind) (array : Value) (index : ℤ) (go : Name → ArrayType → ℕ → Row)
-      → ((name : Name) (a : ArrayType) (slot : ℕ) → IsSuited (go name a slot)) → IsSuited (at_element kind array index go)
+      → ((name : Name) (a : ArrayType) (slot : ℕ) → IsSuited (go name a slot))
+      → IsSuited (at_element kind array index go)
   element kind array index go on =
       on_object array _ (λ name.
       asked name _ (λ class.

@@ -2,7 +2,6 @@
 use Rattle.std.proofs.Common.{◌≡◌, ◌∙◌, refl, sym, ap, subst, ℕ, Bool, true, false, Option, Some, None, Ok, Err, map}
 use Rattle.std.proofs.Common.{is_some}
 use Rattle.std.proofs.Common.{option_map, slice_get, replicate, [], List}
-use Rattle.std.specs.Prelude.{IsSome}
 use Rattle.std.specs.List.{Contains}
 use Rattle.std.specs.declared.result.Result.{Result as RustResult}
 use Rattle.built_in.specs.declared.class_id.BuiltIn.TheVariants as builtins
@@ -48,16 +47,17 @@ use Rattle.machine.specs.Operations.{Operation, Local, PushText, GetStatic, PutS
 use Rattle.machine.specs.Operations.{OnObject, Refused, operation_of, operation_at}
 use Rattle.machine.specs.Table.{local_row, call_row, return_row, operation_row, called_with, call_main, fetched}
 use Rattle.machine.specs.Table.{active_row, row}
-use Rattle.use_graph.specs.Uses.{IsTold, IsDeclared, CallsLeftOut, itself, calling, pc_of, pc_at}
+use Rattle.use_graph.specs.Uses.{CallsLeftOut, itself, calling, pc_of, pc_at}
 use Rattle.use_graph.specs.declared.feature.Feature.TheVariants as features
 use Rattle.audit.specs.declared.places.Place.{Place}
 use Rattle.audit.specs.Reach.{Method, MayReach}
-use Rattle.audit.specs.Places.{lack_of, EndsAt, IsPlace}
+use Rattle.audit.specs.Places.{lack_of, EndsAt}
 use Rattle.audit.specs.Runs.{IsReachedActivity}
 use Rattle.audit.specs.Ends.{HasNoMonitor, Text, Out, IsByOperands, enter, exit, StandsAt, IsEnd, told, by_operands}
-use Rattle.audit.specs.Ends.{IsLack, Unsupported, Missing, HaveMains}
+use Rattle.audit.specs.Ends.{IsLack, HaveMains}
 use Rattle.audit.proofs.CallsLemmas.{main_declared}
-use Rattle.audit.proofs.HaltsLemmas.{LeadsAt, Suits, at_state, fault, went, raised, used, read, written, locked, need, pushes}
+use Rattle.audit.proofs.HaltsLemmas.{LeadsAt, Suits, at_state, fault, went, raised, used, read, written, locked, need}
+use Rattle.audit.proofs.HaltsLemmas.{pushes}
 use Rattle.audit.proofs.HaltsLemmas.{array_suits, new_suits, cast_suits, instance_suits, throw_suits, get_suits}
 use Rattle.audit.proofs.HaltsLemmas.{put_suits}
 use Rattle.audit.proofs.CallHaltsLemmas.{leads_weaker, lacking_leads, CallsFor, lacking, calling as calls_left_out}

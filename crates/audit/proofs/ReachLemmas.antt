@@ -1,13 +1,12 @@
 -- What threads may reach is what the graph of dependences reaches from where they begin.
-use Rattle.std.proofs.Common.{◌≡◌, ◌↔◌, ◌⊎◌, ℕ, ◌+◌, ◌*◌, ◌<◌, List, length, Option, Some, None, slice_get, refl, sym}
-use Rattle.std.proofs.Common.{ap, subst, ◌∙◌, inl, inr, arith, option_map, is_some}
+use Rattle.std.proofs.Common.{◌≡◌, ◌↔◌, ◌⊎◌, ℕ, ◌+◌, ◌<◌, List, length, Option, Some, None, slice_get, refl, sym}
+use Rattle.std.proofs.Common.{subst, ◌∙◌, inl, inr, arith}
 use Rattle.std.specs.List.{Contains}
 use Rattle.std.proofs.lemmas.Option.{slice_get_within}
 use Rattle.graph.specs.Rows.{Rows, successors_of}
 use Rattle.graph.specs.Reaches.{Reaches, itself, along, IsReached}
 use Rattle.graph.proofs.RowsLemmas.{has_successor}
-use Rattle.program.specs.declared.class.Class.{Class}
-use Rattle.program.specs.Tables.{Tables, initializer_in, initializer_if, order_in, main_in}
+use Rattle.program.specs.Tables.{Tables, initializer_in}
 use Rattle.hierarchy.specs.declared.member.DeclaredMember.{DeclaredMember}
 use Rattle.hierarchy.specs.Selectable.{IsNamedLike}
 use Rattle.use_graph.specs.declared.body.BodyUses.{BodyUses}
@@ -20,7 +19,7 @@ use Rattle.use_graph.specs.steps.Searching.{StartsAt}
 use Rattle.use_graph.proofs.ListLemmas.{one_of}
 use Rattle.initializer_analysis.specs.steps.Dependence.{vertex_of, ClassDependsOn, IsDependence}
 use Rattle.audit.specs.Reach.{Part, Method, Initialization, MayReach, main, entry, called, needed, before, initializer}
-use Rattle.audit.specs.steps.Reaching.{IsFirstVertex, AreReachedMethods}
+use Rattle.audit.specs.steps.Reaching.{IsFirstVertex}
 
 module _ (P : Tables) (uses : UseGraph) (graph : Rows) (whole : IsUseGraph P uses) (is : IsDependence P uses graph)
     (entries from : List ℕ)

@@ -1,5 +1,5 @@
 -- What ends its thread by what it names is told so, whatever else may be told of such an instruction.
-use Rattle.std.proofs.Common.{◌≡◌, ◌∙◌, refl, sym, ap, ℕ, Bool, true, false, cond, Option, Some, None, Ok, Err}
+use Rattle.std.proofs.Common.{◌≡◌, ◌∙◌, refl, ap, ℕ, Bool, true, false, cond, Option, Some, None, Ok, Err}
 use Rattle.std.specs.declared.result.Result.{Result}
 use Rattle.std.specs.Option.{option_or}
 use Rattle.bytecode.specs.declared.instruction.Instruction.{Instruction}
@@ -25,7 +25,7 @@ use Rattle.machine.specs.declared.call_operation.CallOperation.{CallOperation}
 use Rattle.machine.specs.CallReferences.{of_class, of_interface, of_either, has_values, if_signed, static_callee}
 use Rattle.machine.specs.CallReferences.{static_reference, virtual_callee, virtual_reference, special_callee}
 use Rattle.machine.specs.CallReferences.{special_reference}
-use Rattle.machine.specs.Operations.{Operation, Local, PutStatic, Refused, may_write, if_valued, get_target}
+use Rattle.machine.specs.Operations.{Operation, PutStatic, Refused, may_write, if_valued, get_target}
 use Rattle.machine.specs.Operations.{getstatic_of}
 use Rattle.machine.specs.Operations.{put_target, putstatic_of, on_call, resolved_operation, local_or, operation_of}
 use Rattle.machine.specs.Operations.{operation_at}

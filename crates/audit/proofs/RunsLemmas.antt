@@ -1,7 +1,7 @@
 -- What threads run in a run of some entries is what they may reach.
-use Rattle.std.proofs.Common.{◌≡◌, ◌⊎◌, ◌<◌, inl, inr, ℕ, zero, suc, List, [], ◌∷◌, length, Option, Some, None, refl}
+use Rattle.std.proofs.Common.{◌≡◌, ◌<◌, inl, inr, ℕ, zero, suc, List, [], ◌∷◌, length, Option, Some, None, refl}
 use Rattle.std.proofs.Common.{sym, ap}
-use Rattle.std.proofs.Common.{subst, ◌∙◌, option_map, slice_get, slice_index_or, arith, ◌≤◌}
+use Rattle.std.proofs.Common.{subst, option_map, slice_get, slice_index_or, arith, ◌≤◌}
 use Rattle.std.proofs.lemmas.Grind.{common_steps}
 use Rattle.std.specs.List.{AllByRecursion, Contains}
 use Rattle.std.proofs.lemmas.List.Elements.{All-contains, All-from_recursion}
@@ -12,7 +12,6 @@ use Rattle.vm_state.specs.declared.frame.Activity.{Activity}
 use Rattle.vm_state.specs.declared.frame.Activity.TheVariants as activities
 use Rattle.vm_state.specs.declared.initialization.Level.{Level}
 use Rattle.semantics.specs.Bounds.{MayCall}
-use Rattle.semantics.specs.Steps.{Going}
 use Rattle.semantics.specs.Worlds.{World, Run, threads_from}
 use Rattle.semantics.proofs.WavesLemmas.{Contains-nil}
 use Rattle.program.specs.declared.class.Class.{Class}
@@ -26,11 +25,11 @@ use Rattle.machine.proofs.ListLemmas.{right_of_pair}
 use Rattle.use_graph.specs.Scopes.{bounds_of}
 use Rattle.use_graph.proofs.ListLemmas.{one_of}
 use Rattle.use_graph.proofs.ScopeTableLemmas.{table_is_bounded_lem}
-use Rattle.audit.specs.Reach.{Method, Initialization, MayReach, main, entry, called, needed, before, initializer}
-use Rattle.audit.specs.Runs.{IsOnStack, IsReachedActivity, RunsReached, StartsFrom, ThreadsRunReached}
+use Rattle.audit.specs.Reach.{Initialization, MayReach, main, entry, called, needed, before, initializer}
+use Rattle.audit.specs.Runs.{IsReachedActivity, RunsReached, StartsFrom, ThreadsRunReached}
 use Rattle.audit.proofs.CallsLemmas.{scope_calls, scope_needs, initializer_declared, main_declared}
 use Rattle.audit.proofs.PlacesLemmas.{none_among}
-use Rattle.audit.proofs.ThreadsLemmas.{IsClosed, AllRun, Stack, run_stands, start_stands, stack_of}
+use Rattle.audit.proofs.ThreadsLemmas.{IsClosed, Stack, run_stands, start_stands, stack_of}
 
 past_rows : (rows : List (List ℕ)) (c : ℕ) → length rows ≤ c → slice_index_or rows c [] ≡ []
 past_rows rows c h = grind (arith, common_steps)

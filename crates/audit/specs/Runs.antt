@@ -1,5 +1,5 @@
 -- What the threads of a run really run and initialize is what they may reach by code.
-use Rattle.std.specs.Prelude.{◌≡◌, ◌⊎◌, ℕ, ◌<◌, List, Some, IsSome, length, slice_get}
+use Rattle.std.specs.Prelude.{◌≡◌, ◌⊎◌, ℕ, ◌<◌, List, Some, length, slice_get}
 use Rattle.std.specs.List.{Contains}
 use Rattle.vm_state.specs.declared.frame.Frame.{Frame}
 use Rattle.vm_state.specs.declared.frame.Activity.{Activity}

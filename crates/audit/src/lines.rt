@@ -29,8 +29,8 @@ fn add_line(
 }
 
 /// A line for each place: how a thread ends there, the method, the pc and the instruction, as `Missing at
-/// Str.main([Ljava/lang/String;)V 5 invokevirtual java/lang/String.length()I`. The place alone is as the line of a stack
-/// has it.
+/// Str.main([Ljava/lang/String;)V 5 invokevirtual java/lang/String.length()I`. The place alone is as the line of a
+/// stack has it.
 ///
 /// # Errors
 /// Where memory runs out.

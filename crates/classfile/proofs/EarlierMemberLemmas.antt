@@ -25,7 +25,7 @@ use Rattle.classfile.specs.Members.{owner_of}
 use Rattle.classfile.specs.reading.Members.{lacks_code, member_of, member_body_at}
 use Rattle.classfile.specs.reading.Earlier.{Utf8Map, find_utf8, first_of, AreFirsts, Grows, is_first}
 use Rattle.classfile.specs.reading.Earlier.{has_firsts, was_asked, pair_cmp, FindsMembers}
-use Rattle.classfile.proofs.EarlierUtf8Lemmas.{equal_numbers, same_first}
+use Rattle.classfile.proofs.Utf8Lemmas.{equal_numbers, same_first}
 
 -- ---- what was asked for stays so
 

@@ -19,7 +19,7 @@ pub mod MemberLawful
 pub mod ClassLawful
 pub mod DescriptorsLemmas
 pub mod FormsLemmas
-pub mod EarlierUtf8Lemmas
+pub mod Utf8Lemmas
 pub mod EarlierMemberLemmas
 pub mod TextLemmas
 pub mod ModifiedLemmas

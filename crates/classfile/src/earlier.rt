@@ -174,7 +174,7 @@ impl<'a> Earlier<'a> {
 }
 
 /// Whether two indices name the same text.
-#[tactic(auto, using(crate::proofs::EarlierUtf8Lemmas::same_index), unfolding(crate::specs::reading::LookupTests::same_utf8))]
+#[tactic(auto, using(crate::proofs::Utf8Lemmas::same_index), unfolding(crate::specs::reading::LookupTests::same_utf8))]
 fn same_utf8(pool: &[Constant], one: u16, other: u16) -> bool
     ensures { result ≡ same_utf8 pool.now one other }
 {

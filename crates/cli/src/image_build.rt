@@ -61,8 +61,8 @@ pub fn build_image<G: Gate, R: Threads + Wait + Sync>(
 /// Reads the class files, builds an image, and writes it and its report to their files, as the words say.
 ///
 /// # Errors
-/// The first refusal: a file, the budget, the workers, a class file, linking, a list of patterns, an output, or memory. A
-/// file that is longer than a class file of an image is refused as one that can't be read.
+/// The first refusal: a file, the budget, the workers, a class file, linking, a list of patterns, an output, or memory.
+/// A file that is longer than a class file of an image is refused as one that can't be read.
 pub(crate) fn run<R: Threads + Wait + Sync, F: Files, H: Watch + Sync>(
     rt: &R,
     alloc: Global,

@@ -1,6 +1,7 @@
 -- Steps in a row, and what is kept of the last run of each thread.
-use Rattle.std.proofs.Common.{◌≡◌, ◌≢◌, ℕ, zero, suc, ◌+◌, ◌-◌, ◌<◌, ◌≤◌, ◌⊎◌, inl, inr, ◌++◌, Bool, true, false, List, [], ◌∷◌}
-use Rattle.std.proofs.Common.{Option, Some, None, refl, sym, ap, subst, ◌∙◌, arith, length, replicate, slice_get, slice_set, take}
+use Rattle.std.proofs.Common.{◌≡◌, ◌≢◌, ℕ, zero, suc, ◌+◌, ◌-◌, ◌<◌, ◌≤◌, ◌⊎◌, inl, inr, ◌++◌, Bool, true, false}
+use Rattle.std.proofs.Common.{List, [], ◌∷◌, Option, Some, None, refl, sym, ap, subst, ◌∙◌, arith, length, replicate}
+use Rattle.std.proofs.Common.{slice_get, slice_set, take}
 use Rattle.std.proofs.Common.{◌==◌, eqb-true, get_or}
 use Rattle.std.proofs.Math.Nat.{eq-or-lt_of_le}
 use Rattle.std.proofs.lemmas.List.{replicate-append-replicate}
@@ -18,7 +19,7 @@ use Rattle.init_engine.specs.Turnings.{RunsAhead, text_length}
 use Rattle.init_engine.specs.Turns.{world_of}
 use Rattle.thread_runner.specs.Replays.{NoRun}
 use Rattle.thread_runner.proofs.ReplayLemmas.{run_first, run_rest}
-use Rattle.stacks.specs.Stacks.{AreBefore, StoodBefore}
+use Rattle.stacks.specs.Stacks.{AreBefore}
 use Rattle.stacks.specs.steps.Replaying.{AreKept, AreLast, AreLastBelow, IsKept, StoodAt, StoodIn}
 
 -- ---- steps in a row
@@ -133,8 +134,8 @@ last_set runs last p u m here within old t n i before is there =
     elim (eq-or-lt_of_le (below p i before)) [
       | inl same ↦ last_at runs last p u m t n i here within is same
       | inr less ↦
-          last_moved runs last p u m t i here within less (old t n i less is (subst (λ k. t < k) (set_length last u p) there))
-          (same_or_not t u)
+          last_moved runs last p u m t i here within less
+          (old t n i less is (subst (λ k. t < k) (set_length last u p) there)) (same_or_not t u)
     ]
 
 -- a run of one that is not
@@ -152,7 +153,8 @@ noted_by : (runs : List (ℕ × ℕ)) (old new : List ℕ) (p u m : ℕ) → sli
     → (u < length old → new ≡ slice_set old u p) → (¬ (u < length old) → new ≡ old) → AreLastBelow p runs old
     → (u < length old) ⊎ (length old ≤ u) → AreLastBelow (p + 1) runs new
 noted_by runs old new p u m here there past before (inl within) =
-    subst (λ (l : List ℕ). AreLastBelow (p + 1) runs l) (sym (there within)) (last_set runs old p u m here within before)
+    subst (λ (l : List ℕ). AreLastBelow (p + 1) runs l) (sym (there within))
+    (last_set runs old p u m here within before)
 noted_by runs old new p u m here there past before (inr beyond) =
     let none : ¬ (u < length old) = λ within. omega (arith, within, beyond) in
     subst (λ (l : List ℕ). AreLastBelow (p + 1) runs l) (sym (past none)) (last_skipped runs old p u m here none before)

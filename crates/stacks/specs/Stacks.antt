@@ -6,8 +6,8 @@ use Rattle.semantics.specs.Worlds.{World, Run}
 use Rattle.init_engine.specs.Schedules.{schedule_of}
 use Rattle.init_engine.specs.Stacks.{AreFrames}
 
--- The frames of thread t before its last step, where a schedule of these runs begins in a world: the schedule up to that
--- step leads to a world in which the thread has them.
+-- The frames of thread t before its last step, where a schedule of these runs begins in a world: the schedule up to
+-- that step leads to a world in which the thread has them.
 pub record StoodBefore (P : Program) (first : World) (runs : List (ℕ × ℕ)) (t : ℕ) (s : Frames) : Type 0 where
   pub place : ℕ
   pub steps : ℕ

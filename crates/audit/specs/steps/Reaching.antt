@@ -1,7 +1,6 @@
 -- What threads may reach, as vertices of the graph of what classes and methods depend on.
-use Rattle.std.specs.Prelude.{◌≡◌, ◌↔◌, ◌⊎◌, ◌<◌, ℕ, List, Option, Some, None, slice_get}
+use Rattle.std.specs.Prelude.{◌≡◌, ◌↔◌, ◌⊎◌, ◌<◌, ℕ, List, Some, None, slice_get}
 use Rattle.std.specs.List.{Contains}
-use Rattle.vm_state.specs.declared.ends.FaultKind.{FaultKind}
 use Rattle.program.specs.Tables.{Tables, main_in}
 use Rattle.hierarchy.specs.declared.member.DeclaredMember.{DeclaredMember}
 use Rattle.use_graph.specs.declared.body.Told.{Told}

@@ -1,6 +1,6 @@
 -- What is kept while a schedule is gone through.
-use Rattle.std.specs.Prelude.{◌≡◌, ℕ, ◌+◌, ◌-◌, ◌<◌, ◌≤◌, ◌++◌, Bool, true, false, List, Option, Some, length, replicate}
-use Rattle.std.specs.Prelude.{slice_get, slice_set, take}
+use Rattle.std.specs.Prelude.{◌≡◌, ℕ, ◌+◌, ◌-◌, ◌<◌, ◌≤◌, ◌++◌, Bool, true, false, List, Option, Some, length}
+use Rattle.std.specs.Prelude.{replicate, slice_get, slice_set, take}
 use Rattle.vm_state.specs.declared.initialization.Frames.{Frames}
 use Rattle.semantics.specs.Programs.{Program}
 use Rattle.semantics.specs.Worlds.{World, Run}

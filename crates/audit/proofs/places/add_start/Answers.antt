@@ -1,5 +1,4 @@
-use Rattle.std.proofs.Common.{◌≡◌, ◌∙◌, ℕ, Option, Some, None, refl, sym}
-use Rattle.vm_state.specs.declared.ends.FaultKind.{FaultKind}
+use Rattle.std.proofs.Common.{◌≡◌, Some, None, refl, sym}
 use Rattle.audit.specs.declared.places.Place.{Place}
 use Rattle.audit.specs.steps.Reaching.{IsStartPlace}
 use Rattle.audit.proofs.PlacesLemmas.{one_added, nothing_added, same_place}

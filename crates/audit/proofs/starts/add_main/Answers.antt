@@ -1,4 +1,4 @@
-use Rattle.std.proofs.Common.{◌≡◌, ℕ, Option, Some, None, refl}
+use Rattle.std.proofs.Common.{◌≡◌, Some, None, refl}
 use Rattle.audit.specs.steps.Reaching.{IsMainVertex}
 use Rattle.audit.proofs.PlacesLemmas.{one_added, nothing_added}
 use Rattle.audit.proofs.starts.add_main.Goals as goal

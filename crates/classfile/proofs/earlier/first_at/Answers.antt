@@ -1,7 +1,7 @@
 use Rattle.std.proofs.Common.{◌≡◌, ◌<◌, length, None, Some, get_or, sym, ◌∙◌, arith}
 use Rattle.std.proofs.lemmas.List.{get_or-set_same, get_or_default}
 use Rattle.classfile.specs.Lookup.{utf8_of}
-use Rattle.classfile.proofs.EarlierUtf8Lemmas.{text_is_within, firsts_after}
+use Rattle.classfile.proofs.Utf8Lemmas.{text_is_within, firsts_after}
 use Rattle.classfile.proofs.earlier.first_at.Goals as goal
 
 pub index-requires : goal.index-requires

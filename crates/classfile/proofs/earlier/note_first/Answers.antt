@@ -1,4 +1,4 @@
-use Rattle.classfile.proofs.EarlierUtf8Lemmas.{inserted_is_found}
+use Rattle.classfile.proofs.Utf8Lemmas.{inserted_is_found}
 use Rattle.classfile.proofs.earlier.note_first.Goals as goal
 
 pub returns-clause-after : goal.returns-clause-after

@@ -1,4 +1,4 @@
-use Rattle.std.proofs.Common.{◌≡◌, ◌+◌, ◌-◌, ◌<◌, ◌≤◌, ℕ, replicate, arith, subst, ◌∙◌}
+use Rattle.std.proofs.Common.{◌≡◌, ◌-◌, ◌<◌, ℕ, replicate, arith, subst, ◌∙◌}
 use Rattle.semantics.specs.Worlds.{Run}
 use Rattle.machine.specs.Linked.{program_of}
 use Rattle.init_engine.specs.Turns.{world_of}
@@ -19,8 +19,8 @@ returns-then-made-eq0-clause-no c =
     (c.args.steps - (left - made)) c.args.thread c.args.steps
     (run_further (program_of c.args.program.now) c.args.thread c.args.steps left made (world_of c.args.world.now)
     (world_of c.ahead.world) (world_of c.run_alone.new.self) within ahead.few c.ahead.invariant.run ahead.run)
-    (stands_still (program_of c.args.program.now) c.args.thread left _ made c.ahead.world c.run_alone.new.self ahead none
-    some (omega arith))
+    (stands_still (program_of c.args.program.now) c.args.thread left _ made c.ahead.world c.run_alone.new.self ahead
+    none some (omega arith))
     (omega (arith, none, some, within))
 
 pub ahead-preserved : goal.ahead-preserved
