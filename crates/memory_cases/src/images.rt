@@ -1,0 +1,237 @@
+//! Calls that make images, write and read them.
+
+ghost use Rattle.image_format.specs.Images.{AreShort};
+ghost use Rattle.report.specs.Waves.{GiveWaves};
+
+use crate::page::{Page, wrong_data};
+use crate::programs::{files_of, sight_of};
+use crate::streams::Compared;
+use classfile::ClassName;
+use cli::{BuildFault, BuildOptions, Built, build, build_here, entries_of};
+use image_reader::{read, world};
+use image_writer::{WriteFault, image_text, write};
+use object_graph::{Image, reachable};
+use report::render;
+use sinks::Out;
+use std::alloc::{AllocError, Global};
+use std::io;
+use std::io::Write;
+use std::sync::Wait;
+use std::thread::Threads;
+use wave_scheduler::Open;
+
+/// How many workers build.
+const WORKERS: u32 = 3;
+
+/// What is asked of the builds.
+fn options() -> BuildOptions<'static> {
+    BuildOptions {
+        run_time: Some("Uses"),
+        build_time: Some("W"),
+        budget: 1_000,
+    }
+}
+
+/// Makes a call twice over classes of a text. Answers whether it is one of this file.
+pub fn call<R: Threads + Wait + Sync, W: Write>(
+    rt: &R,
+    page: &mut Page<'_, W>,
+    word: &str,
+    text: &str,
+) -> io::Result<bool> {
+    let files = files_of(page.alloc, text)?;
+    for _ in 0..2 {
+        match word {
+            "build_here" => build_alone(page, &files)?,
+            "build" => build_by_workers(rt, page, &files)?,
+            "render" => render_built(page, &files)?,
+            "image_writer::write" | "image_reader::read" | "world" | "reachable" => {
+                of_image(page, word, &files)?
+            }
+            _ => return Ok(false),
+        }
+    }
+    Ok(true)
+}
+
+fn build_alone<W: Write>(page: &mut Page<'_, W>, files: &[Vec<u8>]) -> io::Result<()> {
+    page.ask("build_here")?;
+    match build_here(page.alloc, files, &options()) {
+        Ok(built) => tell_image(page, &built.image),
+        Err(fault) => tell_fault(page, &fault),
+    }
+}
+
+fn build_by_workers<R: Threads + Wait + Sync, W: Write>(
+    rt: &R,
+    page: &mut Page<'_, W>,
+    files: &[Vec<u8>],
+) -> io::Result<()> {
+    page.ask("build")?;
+    match build(rt, page.alloc, files, &options(), WORKERS, &Open) {
+        Ok(built) => tell_image(page, &built.image),
+        Err(fault) => tell_fault(page, &fault),
+    }
+}
+
+fn tell_fault<W: Write>(page: &mut Page<'_, W>, fault: &BuildFault) -> io::Result<()> {
+    match fault {
+        BuildFault::Memory => page.memory(),
+        _ => page.end("another fault"),
+    }
+}
+
+/// Tells how many objects each class of an image has.
+fn tell_image<W: Write>(page: &mut Page<'_, W>, image: &Image) -> io::Result<()> {
+    page.well()?;
+    let text = objects_text(page.alloc, image)?;
+    page.end(&text)
+}
+
+fn objects_text(alloc: Global, image: &Image) -> Result<String, AllocError> {
+    let mut text = String::new(alloc);
+    for class in 0..image.program().given_count() {
+        if image.region(class).is_some() {
+            write!(text, "{class} has {}, ", image.object_count(class))?;
+        }
+    }
+    Ok(text)
+}
+
+/// What is built of classes.
+fn built_of(alloc: Global, files: &[Vec<u8>]) -> io::Result<Built>
+    ensures { IfOk result (λ built. GiveWaves built.image built.verdicts) }
+{
+    match build_here(alloc, files, &options()) {
+        Ok(built) => Ok(built),
+        Err(_) => Err(wrong_data()),
+    }
+}
+
+fn render_built<W: Write>(page: &mut Page<'_, W>, files: &[Vec<u8>]) -> io::Result<()> {
+    let built = built_of(page.alloc, files)?;
+    let text = report_of(page.alloc, &built)?;
+    render_again(page, &built, &text)
+}
+
+/// The report of a build.
+fn report_of(alloc: Global, built: &Built) -> io::Result<Vec<u8>>
+    requires { GiveWaves built.now.image built.now.verdicts }
+{
+    let mut bytes = Out::new(Vec::new(alloc));
+    match render(alloc, &built.image, &built.verdicts, &mut bytes) {
+        Ok(()) => Ok(bytes.into_inner()),
+        Err(_) => Err(wrong_data()),
+    }
+}
+
+fn render_again<W: Write>(page: &mut Page<'_, W>, built: &Built, text: &[u8]) -> io::Result<()>
+    requires { GiveWaves built.now.image built.now.verdicts }
+{
+    let mut out = Out::new(Compared::new(text));
+    page.ask("render")?;
+    let answer = render(page.alloc, &built.image, &built.verdicts, &mut out);
+    tell_sent(page, answer, &out.into_inner())
+}
+
+/// Tells what a write answered, of which nothing went out where memory was refused.
+fn tell_sent<W: Write>(
+    page: &mut Page<'_, W>,
+    answer: Result<(), WriteFault>,
+    stream: &Compared<'_>,
+) -> io::Result<()> {
+    match answer {
+        Ok(()) if stream.is_whole() => {
+            page.well()?;
+            let count = stream.taken;
+            let text = format!(in page.alloc; "{count} bytes")?;
+            page.end(&text)
+        }
+        Err(WriteFault::Memory { sent }) if stream.has(sent) => page.memory(),
+        _ => page.end("another fault, or other bytes"),
+    }
+}
+
+/// The bytes of the image of classes.
+fn image_bytes(alloc: Global, files: &[Vec<u8>]) -> io::Result<Vec<u8>> {
+    let built = built_of(alloc, files)?;
+    match image_text(alloc, &built.image) {
+        Ok(bytes) => Ok(bytes),
+        Err(_) => Err(wrong_data()),
+    }
+}
+
+/// How many bytes of an image are its digest.
+const DIGEST: usize = 32;
+
+/// The same without its digest.
+pub fn image_body(alloc: Global, files: &[Vec<u8>]) -> io::Result<Vec<u8>> {
+    let mut bytes = image_bytes(alloc, files)?;
+    bytes.truncate(bytes.len().saturating_sub(DIGEST));
+    Ok(bytes)
+}
+
+/// A call on the image of classes, or on its bytes.
+fn of_image<W: Write>(page: &mut Page<'_, W>, word: &str, files: &[Vec<u8>]) -> io::Result<()> {
+    let bytes = image_bytes(page.alloc, files)?;
+    if word == "image_reader::read" {
+        return read_image(page, &bytes);
+    }
+    match read(page.alloc, &bytes) {
+        Ok(image) if word == "image_writer::write" => write_image(page, &image, &bytes),
+        Ok(image) if word == "world" => start_world(page, &image),
+        Ok(image) => reach_all(page, &image),
+        Err(_) => Err(wrong_data()),
+    }
+}
+
+fn read_image<W: Write>(page: &mut Page<'_, W>, bytes: &[u8]) -> io::Result<()> {
+    page.ask("image_reader::read")?;
+    match read(page.alloc, bytes) {
+        Ok(image) => tell_image(page, &image),
+        Err(fault) => page.fault(&fault),
+    }
+}
+
+fn write_image<W: Write>(page: &mut Page<'_, W>, image: &Image, bytes: &[u8]) -> io::Result<()>
+    requires { AreShort image.now.program.family }
+{
+    let mut out = Out::new(Compared::new(bytes));
+    page.ask("image_writer::write")?;
+    let answer = write(page.alloc, image, &mut out);
+    tell_sent(page, answer, &out.into_inner())
+}
+
+fn start_world<W: Write>(page: &mut Page<'_, W>, image: &Image) -> io::Result<()> {
+    let entries = entries_of(page.alloc, "Main,Work")?;
+    start_at(page, image, &entries)
+}
+
+fn start_at<W: Write>(
+    page: &mut Page<'_, W>,
+    image: &Image,
+    entries: &[ClassName],
+) -> io::Result<()> {
+    page.ask("world")?;
+    match world(page.alloc, image, entries) {
+        Ok(start) => {
+            page.well()?;
+            let text = sight_of(page.alloc, &start)?;
+            page.end(&text)
+        }
+        Err(fault) => page.fault(&fault),
+    }
+}
+
+fn reach_all<W: Write>(page: &mut Page<'_, W>, image: &Image) -> io::Result<()> {
+    page.ask("reachable")?;
+    match reachable(page.alloc, image) {
+        Ok(names) => {
+            page.well()?;
+            let count = names.len();
+            let text = format!(in page.alloc; "{count} objects")?;
+            page.end(&text)
+        }
+        Err(_) => page.memory(),
+    }
+}

@@ -1,0 +1,194 @@
+//! Calls that run threads of the system, and calls on journals.
+
+use crate::page::{Page, wrong_data};
+use crate::programs::{program_of, sight_text, start_of};
+use crate::streams::Compared;
+use init_engine::Ending;
+use journal::{Journal, JournalFault};
+use program::Program;
+use sinks::Out;
+use std::alloc::{AllocError, Global};
+use std::io::{self, Write};
+use std::sync::Wait;
+use std::thread::Threads;
+use thread_runner::replay::{ReplayFault, replay};
+use thread_runner::{Ended, Gate, Open, RunFault, run_threads};
+
+/// What three threads of `Work` print: all the same.
+const PRINTED: &[u8] = b"7\n7\n7\n7\n7\n7\n7\n";
+
+/// A journal of two threads of `Work`.
+const JOURNAL: &[u8] = b"0 20\n1 1\n0 4\n1 7\n";
+
+/// No run here takes as many steps.
+const MANY: u64 = 100_000;
+
+/// Always ready, and asked.
+#[derive(Drop)]
+struct Asked;
+
+impl Gate for Asked {
+    fn ready(&self, _who: u32, _job: u64, _turn: u32) -> bool {
+        true
+    }
+
+    fn done(&self, _who: u32, _job: u64) {}
+}
+
+/// Makes a call twice over the program of a text. Answers whether it is one of this file.
+pub fn call<R: Threads + Wait + Sync, W: Write>(
+    rt: &R,
+    page: &mut Page<'_, W>,
+    word: &str,
+    text: &str,
+) -> io::Result<bool> {
+    let program = program_of(page.alloc, text)?;
+    for _ in 0..2 {
+        match word {
+            "run_threads" => run_work(rt, page, &program, &Open)?,
+            "run_threads_at_a_gate" => run_work(rt, page, &program, &Asked)?,
+            "run_threads_into_sinks_that_fail" => run_into_all(rt, page, &program)?,
+            "replay" => replay_work(page, &program)?,
+            "Journal::parse" => parse_text(page)?,
+            "Journal::text" => write_text(page)?,
+            _ => return Ok(false),
+        }
+    }
+    Ok(true)
+}
+
+fn run_work<R: Threads + Wait + Sync, G: Gate, W: Write>(
+    rt: &R,
+    page: &mut Page<'_, W>,
+    program: &Program,
+    gate: &G,
+) -> io::Result<()> {
+    let world = start_of(page.alloc, program, "Work,Work,Work")?;
+    let out = Out::new(Compared::new(PRINTED));
+    page.ask("run_threads")?;
+    let (answer, out) = run_threads(rt, page.alloc, program, world, gate, out, MANY);
+    tell_answer(page, &answer, &out.into_inner())
+}
+
+/// Runs into sinks that fail after so many bytes, for each number below that of all.
+fn run_into_all<R: Threads + Wait + Sync, W: Write>(
+    rt: &R,
+    page: &mut Page<'_, W>,
+    program: &Program,
+) -> io::Result<()> {
+    for room in 0..PRINTED.len() {
+        let wanted = PRINTED.get(..room).unwrap_or(PRINTED);
+        let world = start_of(page.alloc, program, "Work,Work,Work")?;
+        page.ask("run_threads")?;
+        let out = Out::new(Compared::new(wanted));
+        let (answer, out) = run_threads(rt, page.alloc, program, world, &Open, out, MANY);
+        tell_answer(page, &answer, &out.into_inner())?;
+    }
+    Ok(())
+}
+
+/// Tells what a run answered; of one that was refused something, only where a beginning of its text went out.
+fn tell_answer<W: Write>(
+    page: &mut Page<'_, W>,
+    answer: &Result<Ended, RunFault>,
+    stream: &Compared<'_>,
+) -> io::Result<()> {
+    match answer {
+        Ok(ended) if stream.is_whole() => tell_ended(page, ended),
+        Err(RunFault::Memory) if stream.is_same => page.memory(),
+        Err(RunFault::Spawn) if stream.is_same => page.end("Spawn"),
+        Err(RunFault::Device(sent)) if stream.has_all(*sent) => page.device(*sent),
+        _ => page.end("another fault, or another text"),
+    }
+}
+
+fn tell_ended<W: Write>(page: &mut Page<'_, W>, ended: &Ended) -> io::Result<()> {
+    page.well()?;
+    let returned = all_returned(&ended.seen.threads);
+    let lines = ended.seen.printed.count();
+    let steps = steps_in(ended.journal.runs());
+    let text = format!(in page.alloc; "all returned: {returned}, {lines} lines, {steps} steps")?;
+    page.end(&text)
+}
+
+fn all_returned(threads: &[Ending]) -> bool {
+    let mut all = true;
+    for ending in threads {
+        all = all && matches!(ending, Ending::Returned);
+    }
+    all
+}
+
+/// How many steps a journal has.
+fn steps_in(runs: &[(u32, u64)]) -> u64 {
+    let mut sum = 0u64;
+    for run in runs {
+        sum = sum.saturating_add(run.1);
+    }
+    sum
+}
+
+fn replay_work<W: Write>(page: &mut Page<'_, W>, program: &Program) -> io::Result<()> {
+    let journal = journal_of(page.alloc)?;
+    replay_journal(page, program, &journal)
+}
+
+/// The journal of the text above.
+fn journal_of(alloc: Global) -> io::Result<Journal> {
+    match Journal::parse(alloc, JOURNAL) {
+        Ok(journal) => Ok(journal),
+        Err(_) => Err(wrong_data()),
+    }
+}
+
+fn replay_journal<W: Write>(
+    page: &mut Page<'_, W>,
+    program: &Program,
+    journal: &Journal,
+) -> io::Result<()> {
+    let start = start_of(page.alloc, program, "Work,Work")?;
+    page.ask("replay")?;
+    match replay(page.alloc, program, start, journal) {
+        Ok(seen) => {
+            page.well()?;
+            let text = sight_text(page.alloc, &seen.threads, &seen.printed)?;
+            page.end(&text)
+        }
+        Err(ReplayFault::Memory) => page.memory(),
+        Err(_) => page.end("another fault"),
+    }
+}
+
+fn parse_text<W: Write>(page: &mut Page<'_, W>) -> io::Result<()> {
+    page.ask("Journal::parse")?;
+    match Journal::parse(page.alloc, JOURNAL) {
+        Ok(journal) => {
+            page.well()?;
+            let text = runs_text(page.alloc, journal.runs())?;
+            page.end(&text)
+        }
+        Err(JournalFault::Memory) => page.memory(),
+        Err(_) => page.end("another fault"),
+    }
+}
+
+fn runs_text(alloc: Global, runs: &[(u32, u64)]) -> Result<String, AllocError> {
+    let mut text = String::new(alloc);
+    for (thread, count) in runs.iter().copied() {
+        write!(text, "{thread} {count};")?;
+    }
+    Ok(text)
+}
+
+fn write_text<W: Write>(page: &mut Page<'_, W>) -> io::Result<()> {
+    let journal = journal_of(page.alloc)?;
+    page.ask("Journal::text")?;
+    match journal.text(page.alloc) {
+        Ok(text) if text.as_slice() == JOURNAL => {
+            page.well()?;
+            page.end("the same text")
+        }
+        Ok(_) => page.end("another text"),
+        Err(_) => page.memory(),
+    }
+}
