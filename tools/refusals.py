@@ -18,6 +18,8 @@ GROWTHS, STARTS = "growths", "starts"
 REFUSED = {GROWTHS: "REFUSED_GROWTH", STARTS: "REFUSED_START"}
 # This call answers a word of its own where a thread is not started, which takes memory, too.
 SPAWNING = "run_threads"
+# These start threads, and no others do.
+STARTING = ("settle_all", "build_program", "run_threads", "run_threads_at_a_gate", "run_threads_into_sinks_that_fail")
 # A reader may hold so many bytes for each byte of its input, and so many beyond.
 BYTES_A_BYTE, BYTES = 40, 1 << 20
 LONGEST = re.compile(r"at most (\d+) bytes")
@@ -75,14 +77,16 @@ class Program:
 
 
 def wrong_with(ran, wanted, words):
-    """What is wrong with a run in which something was refused in the first call, if anything is."""
+    """What is wrong with a run, if anything is. The words are other answers that the first call may give where something
+    was refused to it."""
     status, lines, told = ran
     if status is None:
         return f"it had not ended after {LIMIT} seconds"
     if status or not told:
         return f"it ended with status {status}"
     call, _, answer = lines[0].partition(": ")
-    if lines[0] != wanted[0] and (call != wanted[0].partition(": ")[0] or answer not in words):
+    may_differ = told[0].refused and call == wanted[0].partition(": ")[0] and answer in words
+    if lines[0] != wanted[0] and not may_differ:
         return f"it answered {answer!r}"
     if lines[1:] != wanted[1:]:
         return "what came after the call differs"
@@ -123,7 +127,7 @@ def fed(program, word):
     if status or len(told) != len(lines):
         return 0, f"it ended with status {status}"
     for line, call in zip(lines, told):
-        if call.most > BYTES_A_BYTE * int(LONGEST.search(line)[1]) + BYTES:
+        if not 0 < call.most <= BYTES_A_BYTE * int(LONGEST.search(line)[1]) + BYTES:
             return call.most, f"{line.partition(':')[0]}: {call.most} bytes were held"
     return max(call.most for call in told), None
 
@@ -134,10 +138,10 @@ def tried(program, word):
         most, wrong = fed(program, word)
         return [(wrong is None, f"{word}: {wrong or f'at most {most} bytes were held'}")]
     answers = []
-    for what in (GROWTHS, STARTS):
+    for what in (GROWTHS, STARTS) if word in STARTING else (GROWTHS,):
         count, wrong = refuse_each(program, word, what)
-        if wrong or count:
-            answers.append((wrong is None, f"{word}: {what}: {wrong or f'each of {count} refused, and all is well'}"))
+        wrong = wrong or (None if count else "it asks for none")
+        answers.append((wrong is None, f"{word}: {what}: {wrong or f'each of {count} refused, and all is well'}"))
     return answers
 
 

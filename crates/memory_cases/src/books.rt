@@ -3,7 +3,7 @@
 ghost use Rattle.std.specs.Prelude.{◌≡◌, length};
 ghost use Rattle.init_engine.specs.Turns.{world_of};
 
-use crate::page::Page;
+use crate::page::{Page, TIMES};
 use crate::programs::{program_of, sight_of, start_of};
 use crate::streams::Compared;
 use init_engine::World;
@@ -22,14 +22,14 @@ const MANY: u32 = 10_000;
 /// What the thread prints.
 const PRINTED: &[u8] = b"7\n7\n7\n";
 
-/// Makes a call twice over the program of a text. Answers whether it is one of this file.
+/// Makes a call twice over the same things lent. Answers whether it is one of this file.
 pub fn call<W: Write>(page: &mut Page<'_, W>, word: &str, text: &str) -> io::Result<bool> {
+    if word != "commit" {
+        return Ok(false);
+    }
     let program = program_of(page.alloc, text)?;
-    for _ in 0..2 {
-        match word {
-            "commit" => commit_work(page, &program)?,
-            _ => return Ok(false),
-        }
+    for _ in 0..TIMES {
+        commit_work(page, &program)?;
     }
     Ok(true)
 }

@@ -15,12 +15,16 @@ const RANDOM_INPUTS: u32 = 1_000;
 
 const RANDOM_LENGTH: usize = 400;
 
-/// Good journals, lists and entries.
-const JOURNAL: &[u8] = b"0 20\n1 1\n4294967295 18446744073709551615\n0 4\n";
+/// Journals: one that has a run, and one with the greatest numbers.
+const JOURNALS: [&str; 2] = [
+    "0 20\n1 1\n0 4\n1 7\n",
+    "0 20\n4294967295 18446744073709551615\n",
+];
 
-const LIST: &[u8] = b"E,Box,java.Work,p";
+/// A list of patterns, and one of entries.
+const LIST: &str = "E,Box,java.Work,p";
 
-const ENTRIES: &[u8] = b"Main,Work,Plain,Box";
+const ENTRIES: &str = "Main,Work,Plain,Box";
 
 /// What the random texts of a reader are made of: all bytes, where there is nothing.
 fn letters_of(reader: Reader) -> &'static [u8] {
@@ -92,19 +96,21 @@ pub fn feed<W: Write>(
     let (reader, good) = match name {
         "class_files" => (Reader::ClassFiles, files),
         "images" => (Reader::Images, images_of(page.alloc, &files, images)?),
-        "journals" => (Reader::Journals, one(page.alloc, JOURNAL)?),
-        "lists" => (Reader::Lists, one(page.alloc, LIST)?),
-        "entries" => (Reader::Entries, one(page.alloc, ENTRIES)?),
+        "journals" => (Reader::Journals, inputs_of(page.alloc, &JOURNALS)?),
+        "lists" => (Reader::Lists, inputs_of(page.alloc, &[LIST])?),
+        "entries" => (Reader::Entries, inputs_of(page.alloc, &[ENTRIES])?),
         _ => return Ok(false),
     };
     feed_all(page, reader, &program, &good)?;
     Ok(true)
 }
 
-/// One input.
-fn one(alloc: Global, bytes: &[u8]) -> Result<Vec<Vec<u8>>, AllocError> {
+/// Inputs of the bytes of these texts.
+fn inputs_of(alloc: Global, texts: &[&str]) -> Result<Vec<Vec<u8>>, AllocError> {
     let mut inputs = Vec::new(alloc);
-    inputs.push(Vec::from_slice(alloc, bytes)?)?;
+    for text in texts {
+        inputs.push(Vec::from_slice(alloc, text.as_bytes())?)?;
+    }
     Ok(inputs)
 }
 

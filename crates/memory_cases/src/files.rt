@@ -1,6 +1,6 @@
 //! Calls on class files.
 
-use crate::page::{Page, wrong_data};
+use crate::page::{Page, TIMES, wrong_data};
 use crate::programs::{classes_of, files_of};
 use bytecode::decode;
 use classfile::{ClassFile, write};
@@ -8,16 +8,22 @@ use program::link;
 use std::alloc::{AllocError, Global};
 use std::io::{self, Write};
 
-/// Makes a call twice over classes of a text. Answers whether it is one of this file.
+/// Makes a call twice over the same things lent. Answers whether it is one of this file.
 pub fn call<W: Write>(page: &mut Page<'_, W>, word: &str, text: &str) -> io::Result<bool> {
+    if !matches!(
+        word,
+        "classfile::read" | "classfile::write" | "decode" | "link"
+    ) {
+        return Ok(false);
+    }
     let files = files_of(page.alloc, text)?;
-    for _ in 0..2 {
+    let classes = classes_read(page.alloc, &files)?;
+    for _ in 0..TIMES {
         match word {
             "classfile::read" => read_all(page, &files)?,
-            "classfile::write" => write_read(page, &files)?,
-            "decode" => decode_read(page, &files)?,
-            "link" => link_read(page, &files)?,
-            _ => return Ok(false),
+            "classfile::write" => write_all(page, &classes, &files)?,
+            "decode" => decode_all(page, &classes)?,
+            _ => link_read(page, &files)?,
         }
     }
     Ok(true)
@@ -82,11 +88,6 @@ fn classes_read(alloc: Global, files: &[Vec<u8>]) -> io::Result<Vec<ClassFile>> 
     }
 }
 
-fn write_read<W: Write>(page: &mut Page<'_, W>, files: &[Vec<u8>]) -> io::Result<()> {
-    let classes = classes_read(page.alloc, files)?;
-    write_all(page, &classes, files)
-}
-
 fn write_all<W: Write>(
     page: &mut Page<'_, W>,
     classes: &[ClassFile],
@@ -100,11 +101,6 @@ fn write_all<W: Write>(
         }
         Err(_) => page.memory(),
     }
-}
-
-fn decode_read<W: Write>(page: &mut Page<'_, W>, files: &[Vec<u8>]) -> io::Result<()> {
-    let classes = classes_read(page.alloc, files)?;
-    decode_all(page, &classes)
 }
 
 fn decode_all<W: Write>(page: &mut Page<'_, W>, classes: &[ClassFile]) -> io::Result<()> {

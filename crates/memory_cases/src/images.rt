@@ -3,11 +3,11 @@
 ghost use Rattle.image_format.specs.Images.{AreShort};
 ghost use Rattle.report.specs.Waves.{GiveWaves};
 
-use crate::page::{Page, wrong_data};
-use crate::programs::{files_of, sight_of};
+use crate::page::{Page, TIMES, wrong_data};
+use crate::programs::{entries_of, files_of, linked, sight_of};
 use crate::streams::Compared;
+use building::{BuildFault, BuildOptions, Built, build_program, build_program_here};
 use classfile::ClassName;
-use cli::{BuildFault, BuildOptions, Built, build, build_here, entries_of};
 use image_reader::{read, world};
 use image_writer::{WriteFault, image_text, write};
 use object_graph::{Image, reachable};
@@ -32,31 +32,36 @@ fn options() -> BuildOptions<'static> {
     }
 }
 
-/// Makes a call twice over classes of a text. Answers whether it is one of this file.
+/// Makes a call twice over the same things lent. Answers whether it is one of this file.
 pub fn call<R: Threads + Wait + Sync, W: Write>(
     rt: &R,
     page: &mut Page<'_, W>,
     word: &str,
     text: &str,
 ) -> io::Result<bool> {
-    let files = files_of(page.alloc, text)?;
-    for _ in 0..2 {
-        match word {
-            "build_here" => build_alone(page, &files)?,
-            "build" => build_by_workers(rt, page, &files)?,
-            "render" => render_built(page, &files)?,
-            "image_writer::write" | "image_reader::read" | "world" | "reachable" => {
-                of_image(page, word, &files)?
+    match word {
+        "build_program_here" | "build_program" => {
+            let files = files_of(page.alloc, text)?;
+            for _ in 0..TIMES {
+                if word == "build_program" {
+                    build_by_workers(rt, page, &files)?;
+                } else {
+                    build_alone(page, &files)?;
+                }
             }
-            _ => return Ok(false),
         }
+        "render" | "image_writer::write" | "image_reader::read" | "world" | "reachable" => {
+            of_image(page, word, text)?
+        }
+        _ => return Ok(false),
     }
     Ok(true)
 }
 
 fn build_alone<W: Write>(page: &mut Page<'_, W>, files: &[Vec<u8>]) -> io::Result<()> {
-    page.ask("build_here")?;
-    match build_here(page.alloc, files, &options()) {
+    let program = linked(page.alloc, files)?;
+    page.ask("build_program_here")?;
+    match build_program_here(page.alloc, program, &options()) {
         Ok(built) => tell_image(page, &built.image),
         Err(fault) => tell_fault(page, &fault),
     }
@@ -67,8 +72,9 @@ fn build_by_workers<R: Threads + Wait + Sync, W: Write>(
     page: &mut Page<'_, W>,
     files: &[Vec<u8>],
 ) -> io::Result<()> {
-    page.ask("build")?;
-    match build(rt, page.alloc, files, &options(), WORKERS, &Open) {
+    let program = linked(page.alloc, files)?;
+    page.ask("build_program")?;
+    match build_program(rt, page.alloc, program, &options(), WORKERS, &Open) {
         Ok(built) => tell_image(page, &built.image),
         Err(fault) => tell_fault(page, &fault),
     }
@@ -102,16 +108,10 @@ fn objects_text(alloc: Global, image: &Image) -> Result<String, AllocError> {
 fn built_of(alloc: Global, files: &[Vec<u8>]) -> io::Result<Built>
     ensures { IfOk result (λ built. GiveWaves built.image built.verdicts) }
 {
-    match build_here(alloc, files, &options()) {
+    match build_program_here(alloc, linked(alloc, files)?, &options()) {
         Ok(built) => Ok(built),
         Err(_) => Err(wrong_data()),
     }
-}
-
-fn render_built<W: Write>(page: &mut Page<'_, W>, files: &[Vec<u8>]) -> io::Result<()> {
-    let built = built_of(page.alloc, files)?;
-    let text = report_of(page.alloc, &built)?;
-    render_again(page, &built, &text)
 }
 
 /// The report of a build.
@@ -152,9 +152,8 @@ fn tell_sent<W: Write>(
     }
 }
 
-/// The bytes of the image of classes.
-fn image_bytes(alloc: Global, files: &[Vec<u8>]) -> io::Result<Vec<u8>> {
-    let built = built_of(alloc, files)?;
+/// The bytes of what is built.
+fn bytes_of(alloc: Global, built: &Built) -> io::Result<Vec<u8>> {
     match image_text(alloc, &built.image) {
         Ok(bytes) => Ok(bytes),
         Err(_) => Err(wrong_data()),
@@ -164,25 +163,46 @@ fn image_bytes(alloc: Global, files: &[Vec<u8>]) -> io::Result<Vec<u8>> {
 /// How many bytes of an image are its digest.
 const DIGEST: usize = 32;
 
-/// The same without its digest.
+/// The bytes of the image of classes, without its digest.
 pub fn image_body(alloc: Global, files: &[Vec<u8>]) -> io::Result<Vec<u8>> {
-    let mut bytes = image_bytes(alloc, files)?;
+    let mut bytes = bytes_of(alloc, &built_of(alloc, files)?)?;
     bytes.truncate(bytes.len().saturating_sub(DIGEST));
     Ok(bytes)
 }
 
-/// A call on the image of classes, or on its bytes.
-fn of_image<W: Write>(page: &mut Page<'_, W>, word: &str, files: &[Vec<u8>]) -> io::Result<()> {
-    let bytes = image_bytes(page.alloc, files)?;
-    if word == "image_reader::read" {
-        return read_image(page, &bytes);
-    }
+/// Makes a call twice on the image of classes of a text, on its bytes, or for its report.
+fn of_image<W: Write>(page: &mut Page<'_, W>, word: &str, text: &str) -> io::Result<()> {
+    let built = built_of(page.alloc, &files_of(page.alloc, text)?)?;
+    let report = report_of(page.alloc, &built)?;
+    let bytes = bytes_of(page.alloc, &built)?;
     match read(page.alloc, &bytes) {
-        Ok(image) if word == "image_writer::write" => write_image(page, &image, &bytes),
-        Ok(image) if word == "world" => start_world(page, &image),
-        Ok(image) => reach_all(page, &image),
+        Ok(image) => ask_twice(page, word, &built, &report, &image, &bytes),
         Err(_) => Err(wrong_data()),
     }
+}
+
+fn ask_twice<W: Write>(
+    page: &mut Page<'_, W>,
+    word: &str,
+    built: &Built,
+    report: &[u8],
+    image: &Image,
+    bytes: &[u8],
+) -> io::Result<()>
+    requires waves { GiveWaves built.now.image built.now.verdicts }
+    requires short { AreShort image.now.program.family }
+{
+    let entries = entries_of(page.alloc, "Main,Work")?;
+    for _ in 0..TIMES {
+        match word {
+            "render" => render_again(page, built, report)?,
+            "image_writer::write" => write_image(page, image, bytes)?,
+            "image_reader::read" => read_image(page, bytes)?,
+            "world" => start_at(page, image, &entries)?,
+            _ => reach_all(page, image)?,
+        }
+    }
+    Ok(())
 }
 
 fn read_image<W: Write>(page: &mut Page<'_, W>, bytes: &[u8]) -> io::Result<()> {
@@ -200,11 +220,6 @@ fn write_image<W: Write>(page: &mut Page<'_, W>, image: &Image, bytes: &[u8]) ->
     page.ask("image_writer::write")?;
     let answer = write(page.alloc, image, &mut out);
     tell_sent(page, answer, &out.into_inner())
-}
-
-fn start_world<W: Write>(page: &mut Page<'_, W>, image: &Image) -> io::Result<()> {
-    let entries = entries_of(page.alloc, "Main,Work")?;
-    start_at(page, image, &entries)
 }
 
 fn start_at<W: Write>(

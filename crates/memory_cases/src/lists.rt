@@ -2,7 +2,7 @@
 
 ghost use Rattle.std.specs.Prelude.{◌≡◌, length};
 
-use crate::page::{Page, wrong_data};
+use crate::page::{Page, TIMES, wrong_data};
 use crate::programs::program_of;
 use crate::verdicts::settled_of;
 use initializer_analysis::forced::Forced;
@@ -17,16 +17,26 @@ const FORCED: &str = "E,Box";
 
 const DEMANDED: &str = "W,I,Point";
 
-/// Makes a call twice over the program of a text. Answers whether it is one of this file.
+/// A class that is not accepted.
+const UNMET: &str = "Log";
+
+/// Makes a call twice over the same things lent. Answers whether it is one of this file.
 pub fn call<W: Write>(page: &mut Page<'_, W>, word: &str, text: &str) -> io::Result<bool> {
+    if !matches!(word, "options::parse" | "force" | "demand" | "check") {
+        return Ok(false);
+    }
     let program = program_of(page.alloc, text)?;
-    for _ in 0..2 {
+    let patterns = patterns_of(page.alloc, FORCED)?;
+    let demanding = patterns_of(page.alloc, DEMANDED)?;
+    let forced = forced_by(page.alloc, &program, &patterns)?;
+    let settled = settled_of(page.alloc, &program)?;
+    let unmet = demanded(page.alloc, &program, UNMET)?;
+    for _ in 0..TIMES {
         match word {
             "options::parse" => parse_list(page, &program)?,
-            "force" => force_list(page, &program)?,
-            "demand" => demand_list(page, &program)?,
-            "check" => check_list(page, &program)?,
-            _ => return Ok(false),
+            "force" => force_list(page, &program, &patterns)?,
+            "demand" => demand_list(page, &program, &demanding, &forced)?,
+            _ => check_demand(page, &program, &settled, &unmet)?,
         }
     }
     Ok(true)
@@ -78,10 +88,13 @@ fn forced_by(alloc: Global, program: &Program, patterns: &Patterns) -> io::Resul
     }
 }
 
-fn force_list<W: Write>(page: &mut Page<'_, W>, program: &Program) -> io::Result<()> {
-    let patterns = patterns_of(page.alloc, FORCED)?;
+fn force_list<W: Write>(
+    page: &mut Page<'_, W>,
+    program: &Program,
+    patterns: &Patterns,
+) -> io::Result<()> {
     page.ask("force")?;
-    match force(page.alloc, program, &patterns) {
+    match force(page.alloc, program, patterns) {
         Ok(forced) => {
             page.well()?;
             tell_forced(page, program, &forced)
@@ -90,11 +103,14 @@ fn force_list<W: Write>(page: &mut Page<'_, W>, program: &Program) -> io::Result
     }
 }
 
-fn demand_list<W: Write>(page: &mut Page<'_, W>, program: &Program) -> io::Result<()> {
-    let forced = forced_by(page.alloc, program, &patterns_of(page.alloc, FORCED)?)?;
-    let patterns = patterns_of(page.alloc, DEMANDED)?;
+fn demand_list<W: Write>(
+    page: &mut Page<'_, W>,
+    program: &Program,
+    patterns: &Patterns,
+    forced: &Forced,
+) -> io::Result<()> {
     page.ask("demand")?;
-    match demand(page.alloc, program, &patterns, &forced) {
+    match demand(page.alloc, program, patterns, forced) {
         Ok(demand) => {
             page.well()?;
             let text = demand_text(page.alloc, program, &demand)?;
@@ -121,12 +137,6 @@ fn demanded(alloc: Global, program: &Program, list: &str) -> io::Result<Demand> 
         Ok(demand) => Ok(demand),
         Err(_) => Err(wrong_data()),
     }
-}
-
-fn check_list<W: Write>(page: &mut Page<'_, W>, program: &Program) -> io::Result<()> {
-    let settled = settled_of(page.alloc, program)?;
-    let demand = demanded(page.alloc, program, "Log")?;
-    check_demand(page, program, &settled, &demand)
 }
 
 /// The class that is demanded is not accepted, and its name takes memory.

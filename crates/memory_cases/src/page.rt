@@ -4,6 +4,12 @@ use std::alloc::Global;
 use std::fmt::Display;
 use std::io::{self, ErrorKind, Write};
 
+/// How often each call is made over what it is lent: something may be refused to the first.
+pub const TIMES: u32 = 2;
+
+/// How often each call is made over the same things lent. To the first something may be refused.
+pub const TIMES: u32 = 2;
+
 /// Where lines go: each has the name of a call, `: ` and what it answered.
 #[derive(Drop)]
 pub struct Page<'a, W: Write> {

@@ -2,10 +2,9 @@
 
 use crate::page::wrong_data;
 use cases::add_class_files;
-use classfile::{ClassFault, ClassFile, read};
-use cli::{entries_of, linked_program};
+use classfile::{ClassFault, ClassFile, ClassName, read};
 use init_engine::{Ending, Output, World};
-use program::Program;
+use program::{Program, link};
 use std::alloc::{AllocError, Global};
 use std::io;
 use std::str::from_utf8;
@@ -36,10 +35,31 @@ pub fn classes_of(alloc: Global, files: &[Vec<u8>]) -> Result<Vec<ClassFile>, Cl
 /// The program of classes of a text.
 pub fn program_of(alloc: Global, text: &str) -> io::Result<Program> {
     let files = files_of(alloc, text)?;
-    match linked_program(alloc, &files) {
+    linked(alloc, &files)
+}
+
+/// The program of files that are class files.
+pub fn linked(alloc: Global, files: &[Vec<u8>]) -> io::Result<Program> {
+    match classes_of(alloc, files) {
+        Ok(classes) => program_with(alloc, classes),
+        Err(_) => Err(wrong_data()),
+    }
+}
+
+fn program_with(alloc: Global, classes: Vec<ClassFile>) -> io::Result<Program> {
+    match link(alloc, classes) {
         Ok(program) => Ok(program),
         Err(_) => Err(wrong_data()),
     }
+}
+
+/// The names of classes, apart by commas.
+pub fn entries_of(alloc: Global, list: &str) -> Result<Vec<ClassName>, AllocError> {
+    let mut entries = Vec::new(alloc);
+    for name in list.split(',') {
+        entries.push(ClassName::from_text(alloc, name)?)?;
+    }
+    Ok(entries)
 }
 
 /// The lazy start of these entries, apart by commas.

@@ -1,8 +1,8 @@
 //! What readers answer to inputs: a value, or a fault of a name.
 
 use crate::files::instructions_of;
+use crate::programs::{entries_of, start_of};
 use classfile::ClassFile;
-use cli::entries_of;
 use init_engine::World;
 use journal::{Journal, JournalFault};
 use options::{force, parse};
@@ -10,6 +10,7 @@ use program::{Program, link};
 use sha2::{Digest, Sha256};
 use std::alloc::{AllocError, Global};
 use std::str::from_utf8;
+use thread_runner::replay::{ReplayFault, replay};
 
 /// Who reads an input.
 #[derive(Clone, Copy)]
@@ -18,11 +19,11 @@ pub enum Reader {
     ClassFiles,
     /// `image_reader::read`, of the input and its digest.
     Images,
-    /// `Journal::parse`.
+    /// `Journal::parse`, then `replay`.
     Journals,
     /// `options::parse`, then `force`.
     Lists,
-    /// `entries_of`, then `World::lazy`.
+    /// `World::lazy`, of the names of a list.
     Entries,
 }
 
@@ -38,7 +39,7 @@ impl Reader {
         }
     }
 
-    /// What it answers: a word for a value, or a fault. Lists and entries are about the classes of a program.
+    /// What it answers: a word for a value, or a fault. Journals, lists and entries are about the classes of a program.
     pub fn answer(
         self,
         alloc: Global,
@@ -48,7 +49,7 @@ impl Reader {
         match self {
             Reader::ClassFiles => of_class_file(alloc, bytes),
             Reader::Images => of_image(alloc, bytes),
-            Reader::Journals => of_journal(alloc, bytes),
+            Reader::Journals => of_journal(alloc, program, bytes),
             Reader::Lists => of_list(alloc, program, from_utf8(bytes).unwrap_or("")),
             Reader::Entries => of_entries(alloc, program, from_utf8(bytes).unwrap_or("")),
         }
@@ -89,11 +90,22 @@ fn of_image(alloc: Global, bytes: &[u8]) -> Result<String, AllocError> {
     }
 }
 
-fn of_journal(alloc: Global, bytes: &[u8]) -> Result<String, AllocError> {
+fn of_journal(alloc: Global, program: &Program, bytes: &[u8]) -> Result<String, AllocError> {
     match Journal::parse(alloc, bytes) {
-        Ok(_) => String::from_str(alloc, "parsed"),
+        Ok(journal) => of_replay(alloc, program, &journal),
         Err(JournalFault::Memory) => Err(AllocError),
         Err(JournalFault::Text(_)) => String::from_str(alloc, "Text"),
+    }
+}
+
+fn of_replay(alloc: Global, program: &Program, journal: &Journal) -> Result<String, AllocError> {
+    let Ok(start) = start_of(alloc, program, "Work,Work") else {
+        return Err(AllocError);
+    };
+    match replay(alloc, program, start, journal) {
+        Ok(_) => String::from_str(alloc, "replayed"),
+        Err(ReplayFault::Memory) => Err(AllocError),
+        Err(ReplayFault::Turn(_)) => String::from_str(alloc, "Turn"),
     }
 }
 

@@ -2,10 +2,9 @@
 
 ghost use Rattle.std.specs.Prelude.{◌≡◌, length};
 
-use crate::page::{Page, wrong_data};
-use crate::programs::{program_of, sight_of, sight_text, start_of};
+use crate::page::{Page, TIMES, wrong_data};
+use crate::programs::{entries_of, program_of, sight_of, sight_text, start_of};
 use classfile::ClassName;
-use cli::entries_of;
 use init_engine::starting::lazy_shared;
 use init_engine::{Output, Turn, World, turns};
 use machine::{Effect, Frames, Shared, effect};
@@ -18,25 +17,23 @@ use vm_state::heap::Row;
 /// No run here takes as many steps.
 const MANY: u64 = 10_000;
 
-/// Makes a call twice over the program of a text. Answers whether it is one of this file.
+/// Makes a call twice over the same things lent. Answers whether it is one of this file.
 pub fn call<W: Write>(page: &mut Page<'_, W>, word: &str, text: &str) -> io::Result<bool> {
+    if !matches!(word, "World::lazy" | "step" | "turns" | "seen" | "effect") {
+        return Ok(false);
+    }
     let program = program_of(page.alloc, text)?;
-    for _ in 0..2 {
+    let entries = entries_of(page.alloc, "Main,Work,Main")?;
+    for _ in 0..TIMES {
         match word {
-            "World::lazy" => start_lazily(page, &program)?,
+            "World::lazy" => start_at(page, &program, &entries)?,
             "step" => step_main(page, &program)?,
             "turns" => turn_main(page, &program)?,
             "seen" => see_main(page, &program)?,
-            "effect" => effect_plain(page, &program)?,
-            _ => return Ok(false),
+            _ => effect_plain(page, &program)?,
         }
     }
     Ok(true)
-}
-
-fn start_lazily<W: Write>(page: &mut Page<'_, W>, program: &Program) -> io::Result<()> {
-    let entries = entries_of(page.alloc, "Main,Work,Main")?;
-    start_at(page, program, &entries)
 }
 
 fn start_at<W: Write>(

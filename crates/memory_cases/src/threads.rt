@@ -1,6 +1,6 @@
 //! Calls that run threads of the system, and calls on journals.
 
-use crate::page::{Page, wrong_data};
+use crate::page::{Page, TIMES, wrong_data};
 use crate::programs::{program_of, sight_text, start_of};
 use crate::streams::Compared;
 use init_engine::Ending;
@@ -35,23 +35,34 @@ impl Gate for Asked {
     fn done(&self, _who: u32, _job: u64) {}
 }
 
-/// Makes a call twice over the program of a text. Answers whether it is one of this file.
+/// Makes a call twice over the same things lent. Answers whether it is one of this file.
 pub fn call<R: Threads + Wait + Sync, W: Write>(
     rt: &R,
     page: &mut Page<'_, W>,
     word: &str,
     text: &str,
 ) -> io::Result<bool> {
+    if !matches!(
+        word,
+        "run_threads"
+            | "run_threads_at_a_gate"
+            | "run_threads_into_sinks_that_fail"
+            | "replay"
+            | "Journal::parse"
+            | "Journal::text"
+    ) {
+        return Ok(false);
+    }
     let program = program_of(page.alloc, text)?;
-    for _ in 0..2 {
+    let journal = journal_of(page.alloc)?;
+    for _ in 0..TIMES {
         match word {
             "run_threads" => run_work(rt, page, &program, &Open)?,
             "run_threads_at_a_gate" => run_work(rt, page, &program, &Asked)?,
             "run_threads_into_sinks_that_fail" => run_into_all(rt, page, &program)?,
-            "replay" => replay_work(page, &program)?,
+            "replay" => replay_journal(page, &program, &journal)?,
             "Journal::parse" => parse_text(page)?,
-            "Journal::text" => write_text(page)?,
-            _ => return Ok(false),
+            _ => write_text(page, &journal)?,
         }
     }
     Ok(true)
@@ -128,11 +139,6 @@ fn steps_in(runs: &[(u32, u64)]) -> u64 {
     sum
 }
 
-fn replay_work<W: Write>(page: &mut Page<'_, W>, program: &Program) -> io::Result<()> {
-    let journal = journal_of(page.alloc)?;
-    replay_journal(page, program, &journal)
-}
-
 /// The journal of the text above.
 fn journal_of(alloc: Global) -> io::Result<Journal> {
     match Journal::parse(alloc, JOURNAL) {
@@ -180,8 +186,7 @@ fn runs_text(alloc: Global, runs: &[(u32, u64)]) -> Result<String, AllocError> {
     Ok(text)
 }
 
-fn write_text<W: Write>(page: &mut Page<'_, W>) -> io::Result<()> {
-    let journal = journal_of(page.alloc)?;
+fn write_text<W: Write>(page: &mut Page<'_, W>, journal: &Journal) -> io::Result<()> {
     page.ask("Journal::text")?;
     match journal.text(page.alloc) {
         Ok(text) if text.as_slice() == JOURNAL => {

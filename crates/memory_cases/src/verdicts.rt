@@ -3,7 +3,7 @@
 ghost use Rattle.std.specs.Prelude.{◌≡◌, IfOk, length};
 ghost use Rattle.wave_scheduler.specs.Outcomes.{AreJudged};
 
-use crate::page::{Page, wrong_data};
+use crate::page::{Page, TIMES, wrong_data};
 use crate::programs::program_of;
 use evaluator::outcome::Ending;
 use evaluator::regions::{Region, Regions};
@@ -26,23 +26,29 @@ const BUDGET: u64 = 1_000;
 /// How many workers settle.
 const WORKERS: u32 = 3;
 
-/// Makes a call twice over the program of a text. Answers whether it is one of this file.
+/// Makes a call twice over the same things lent. Answers whether it is one of this file.
 pub fn call<R: Threads + Wait + Sync, W: Write>(
     rt: &R,
     page: &mut Page<'_, W>,
     word: &str,
     text: &str,
 ) -> io::Result<bool> {
+    if !matches!(
+        word,
+        "uses" | "judge" | "settle_all_here" | "settle_all" | "settle" | "Regions::put"
+    ) {
+        return Ok(false);
+    }
     let program = program_of(page.alloc, text)?;
-    for _ in 0..2 {
+    let settled = settled_of(page.alloc, &program)?;
+    for _ in 0..TIMES {
         match word {
             "uses" => find_uses(page, &program)?,
             "judge" => judge_all(page, &program)?,
             "settle_all_here" => settle_here(page, &program)?,
             "settle_all" => settle_by_workers(rt, page, &program)?,
-            "settle" => settle_each(page, &program)?,
-            "Regions::put" => put_each(page, &program)?,
-            _ => return Ok(false),
+            "settle" => settle_over(page, &program, &settled.regions)?,
+            _ => put_each(page, &program)?,
         }
     }
     Ok(true)
@@ -139,11 +145,6 @@ pub fn settled_of(alloc: Global, program: &Program) -> io::Result<Settled>
         Ok(settled) => Ok(settled),
         Err(_) => Err(wrong_data()),
     }
-}
-
-fn settle_each<W: Write>(page: &mut Page<'_, W>, program: &Program) -> io::Result<()> {
-    let settled = settled_of(page.alloc, program)?;
-    settle_over(page, program, &settled.regions)
 }
 
 fn settle_over<W: Write>(
