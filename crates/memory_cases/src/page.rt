@@ -4,9 +4,6 @@ use std::alloc::Global;
 use std::fmt::Display;
 use std::io::{self, ErrorKind, Write};
 
-/// How often each call is made over what it is lent: something may be refused to the first.
-pub const TIMES: u32 = 2;
-
 /// How often each call is made over the same things lent. To the first something may be refused.
 pub const TIMES: u32 = 2;
 
