@@ -77,8 +77,8 @@ class Program:
 
 
 def wrong_with(ran, wanted, words):
-    """What is wrong with a run, if anything is. The words are other answers that the first call may give where something
-    was refused to it."""
+    """What is wrong with a run, if anything is. The words are other answers that the first call may give where
+    something was refused to it."""
     status, lines, told = ran
     if status is None:
         return f"it had not ended after {LIMIT} seconds"

@@ -20,12 +20,14 @@ LEFT_OUT, SEVEN = "product_cases/data/java/lambda_Main.class", "preinit/data/M.c
 
 
 def commands(classes):
-    """Commands in the order in which they can be made: the words, the status, the files that each writes in their order,
-    and whether it starts threads. What threads print that run at once is the same for each."""
+    """Commands in the order in which they can be made: the words, the status, the files that each writes, in their
+    order, and whether it starts threads. What threads print that run at once is the same for each."""
+    build = ["build", "--workers", "2", "--report", "app.txt", "--out", "app.img"]
     return [
-        (["build", "--workers", "2", "--report", "app.txt", "--out", "app.img", *classes], 0, ["app.txt", "app.img"], True),
+        ([*build, *classes], 0, ["app.txt", "app.img"], True),
         (["build", "--out", "seven.img", "M.class"], 0, ["seven.img"], False),
         (["report", *classes], 0, [], False),
+        (["explain", "all", *classes], 0, [], False),
         (["audit", "--entries", "Main", "lambda_Main.class"], 6, [], False),
         (["lazy", "--entries", "Main", "--stacks", "--limit", "300", *classes], 5, [], False),
         (["renew", "--out", "new.img", "app.img"], 0, ["new.img"], False),
