@@ -4,7 +4,7 @@ ghost use Rattle.std.specs.Prelude.{◌≡◌, length};
 ghost use Rattle.init_engine.specs.Turns.{world_of};
 
 use crate::page::{Page, TIMES};
-use crate::programs::{program_of, sight_of, start_of};
+use crate::programs::{program_of, start_of};
 use crate::streams::Compared;
 use init_engine::World;
 use program::Program;
@@ -50,7 +50,7 @@ fn commit_in<O: Origin, W: Write>(
     let mut book = Book::<O>::new(page.alloc, world, 10_000);
     page.ask("commit")?;
     match commit_on(page.alloc, program, &mut book) {
-        Ok(()) => page.end("Ok")?,
+        Ok(()) => page.value(0)?,
         Err(_) => page.memory()?,
     }
     commit_on(page.alloc, program, &mut book)?;
@@ -97,13 +97,11 @@ fn commit_one<O: Origin>(
 fn tell_book<O: Origin, W: Write>(page: &mut Page<'_, W>, book: &mut Book<O>) -> io::Result<()> {
     let mut out = Out::new(Compared::new(PRINTED));
     page.ask("send")?;
-    match book.send(&mut out) {
-        Ok(()) => page.well()?,
-        Err(_) => page.end("a fault of the sink")?,
+    let answer = book.send(&mut out);
+    if answer.is_ok() && out.into_inner().is_whole() {
+        page.value(book.journal().len())?;
+    } else {
+        page.line(&"a fault of the sink, or another text")?;
     }
-    let sent = book.sent();
-    let sight = sight_of(page.alloc, book.world())?;
-    let runs = book.journal().len();
-    let text = format!(in page.alloc; "{sent} bytes, {runs} runs, {sight}")?;
-    page.end(&text)
+    page.seen(&book.world().endings(page.alloc)?, book.world().printed())
 }

@@ -193,7 +193,7 @@ fn feed_spoilt<W: Write>(
     for bytes in good {
         count_spoilt(page.alloc, reader, program, bytes, spoiling, &mut tally)?;
     }
-    page.end(&tally.text()?)
+    page.line(&tally.text()?)
 }
 
 fn count_spoilt(
@@ -225,7 +225,7 @@ fn feed_random<W: Write>(
     for bytes in good {
         count_random(page.alloc, reader, program, bytes, &mut tally)?;
     }
-    page.end(&tally.text()?)
+    page.line(&tally.text()?)
 }
 
 /// Feeds beginnings of a good input with random bytes after them, and random bytes alone.

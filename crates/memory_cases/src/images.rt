@@ -4,7 +4,7 @@ ghost use Rattle.image_format.specs.Images.{AreShort};
 ghost use Rattle.report.specs.Waves.{GiveWaves};
 
 use crate::page::{Page, TIMES, wrong_data};
-use crate::programs::{entries_of, files_of, linked, sight_of};
+use crate::programs::{entries_of, files_of, linked};
 use crate::streams::Compared;
 use building::{BuildFault, BuildOptions, Built, build_program, build_program_here};
 use classfile::ClassName;
@@ -13,7 +13,7 @@ use image_writer::{WriteFault, image_text, write};
 use object_graph::{Image, reachable};
 use report::render;
 use sinks::Out;
-use std::alloc::{AllocError, Global};
+use std::alloc::Global;
 use std::io;
 use std::io::Write;
 use std::sync::Wait;
@@ -43,11 +43,7 @@ pub fn call<R: Threads + Wait + Sync, W: Write>(
         "build_program_here" | "build_program" => {
             let files = files_of(page.alloc, text)?;
             for _ in 0..TIMES {
-                if word == "build_program" {
-                    build_by_workers(rt, page, &files)?;
-                } else {
-                    build_alone(page, &files)?;
-                }
+                build(rt, page, word, &files)?;
             }
         }
         "render" | "image_writer::write" | "image_reader::read" | "world" | "reachable" => {
@@ -58,50 +54,34 @@ pub fn call<R: Threads + Wait + Sync, W: Write>(
     Ok(true)
 }
 
-fn build_alone<W: Write>(page: &mut Page<'_, W>, files: &[Vec<u8>]) -> io::Result<()> {
-    let program = linked(page.alloc, files)?;
-    page.ask("build_program_here")?;
-    match build_program_here(page.alloc, program, &options()) {
-        Ok(built) => tell_image(page, &built.image),
-        Err(fault) => tell_fault(page, &fault),
-    }
-}
-
-fn build_by_workers<R: Threads + Wait + Sync, W: Write>(
+/// Builds on this thread, or by workers.
+fn build<R: Threads + Wait + Sync, W: Write>(
     rt: &R,
     page: &mut Page<'_, W>,
+    word: &str,
     files: &[Vec<u8>],
 ) -> io::Result<()> {
     let program = linked(page.alloc, files)?;
-    page.ask("build_program")?;
-    match build_program(rt, page.alloc, program, &options(), WORKERS, &Open) {
+    page.ask(word)?;
+    let answer = if word == "build_program" {
+        build_program(rt, page.alloc, program, &options(), WORKERS, &Open)
+    } else {
+        build_program_here(page.alloc, program, &options())
+    };
+    match answer {
         Ok(built) => tell_image(page, &built.image),
-        Err(fault) => tell_fault(page, &fault),
+        Err(BuildFault::Memory) => page.memory(),
+        Err(_) => page.line(&"another fault"),
     }
 }
 
-fn tell_fault<W: Write>(page: &mut Page<'_, W>, fault: &BuildFault) -> io::Result<()> {
-    match fault {
-        BuildFault::Memory => page.memory(),
-        _ => page.end("another fault"),
-    }
-}
-
-/// Tells how many objects each class of an image has.
+/// Tells how many objects an image has.
 fn tell_image<W: Write>(page: &mut Page<'_, W>, image: &Image) -> io::Result<()> {
-    page.well()?;
-    let text = objects_text(page.alloc, image)?;
-    page.end(&text)
-}
-
-fn objects_text(alloc: Global, image: &Image) -> Result<String, AllocError> {
-    let mut text = String::new(alloc);
+    let mut count = 0u64;
     for class in 0..image.program().given_count() {
-        if image.region(class).is_some() {
-            write!(text, "{class} has {}, ", image.object_count(class))?;
-        }
+        count = count.saturating_add(u64::from(image.object_count(class)));
     }
-    Ok(text)
+    page.line(&count)
 }
 
 /// What is built of classes.
@@ -141,14 +121,9 @@ fn tell_sent<W: Write>(
     stream: &Compared<'_>,
 ) -> io::Result<()> {
     match answer {
-        Ok(()) if stream.is_whole() => {
-            page.well()?;
-            let count = stream.taken;
-            let text = format!(in page.alloc; "{count} bytes")?;
-            page.end(&text)
-        }
-        Err(WriteFault::Memory { sent }) if stream.has(sent) => page.memory(),
-        _ => page.end("another fault, or other bytes"),
+        Ok(()) if stream.is_whole() => page.value(stream.taken),
+        Err(WriteFault::Memory { sent }) if stream.has(sent as u128) => page.memory(),
+        _ => page.line(&"another fault, or other bytes"),
     }
 }
 
@@ -209,7 +184,7 @@ fn read_image<W: Write>(page: &mut Page<'_, W>, bytes: &[u8]) -> io::Result<()> 
     page.ask("image_reader::read")?;
     match read(page.alloc, bytes) {
         Ok(image) => tell_image(page, &image),
-        Err(fault) => page.fault(&fault),
+        Err(fault) => page.line(&fault),
     }
 }
 
@@ -229,24 +204,15 @@ fn start_at<W: Write>(
 ) -> io::Result<()> {
     page.ask("world")?;
     match world(page.alloc, image, entries) {
-        Ok(start) => {
-            page.well()?;
-            let text = sight_of(page.alloc, &start)?;
-            page.end(&text)
-        }
-        Err(fault) => page.fault(&fault),
+        Ok(start) => page.value(start.thread_count() as usize),
+        Err(fault) => page.line(&fault),
     }
 }
 
 fn reach_all<W: Write>(page: &mut Page<'_, W>, image: &Image) -> io::Result<()> {
     page.ask("reachable")?;
     match reachable(page.alloc, image) {
-        Ok(names) => {
-            page.well()?;
-            let count = names.len();
-            let text = format!(in page.alloc; "{count} objects")?;
-            page.end(&text)
-        }
+        Ok(names) => page.value(names.len()),
         Err(_) => page.memory(),
     }
 }

@@ -8,7 +8,7 @@ use crate::verdicts::settled_of;
 use initializer_analysis::forced::Forced;
 use options::{Demand, Patterns, check, demand, force, parse};
 use program::Program;
-use std::alloc::{AllocError, Global};
+use std::alloc::Global;
 use std::io::{self, Write};
 use wave_scheduler::outcome::Settled;
 
@@ -26,51 +26,19 @@ pub fn call<W: Write>(page: &mut Page<'_, W>, word: &str, text: &str) -> io::Res
         return Ok(false);
     }
     let program = program_of(page.alloc, text)?;
-    let patterns = patterns_of(page.alloc, FORCED)?;
+    let forcing = patterns_of(page.alloc, FORCED)?;
     let demanding = patterns_of(page.alloc, DEMANDED)?;
-    let forced = forced_by(page.alloc, &program, &patterns)?;
     let settled = settled_of(page.alloc, &program)?;
-    let unmet = demanded(page.alloc, &program, UNMET)?;
+    let unmet = demanded(page.alloc, &program)?;
     for _ in 0..TIMES {
         match word {
-            "options::parse" => parse_list(page, &program)?,
-            "force" => force_list(page, &program, &patterns)?,
-            "demand" => demand_list(page, &program, &demanding, &forced)?,
+            "options::parse" => parse_list(page)?,
+            "force" => force_list(page, &program, &forcing)?,
+            "demand" => demand_list(page, &program, &demanding)?,
             _ => check_demand(page, &program, &settled, &unmet)?,
         }
     }
     Ok(true)
-}
-
-fn parse_list<W: Write>(page: &mut Page<'_, W>, program: &Program) -> io::Result<()> {
-    page.ask("options::parse")?;
-    match parse(page.alloc, FORCED) {
-        Ok(patterns) => {
-            page.well()?;
-            let forced = forced_by(page.alloc, program, &patterns)?;
-            tell_forced(page, program, &forced)
-        }
-        Err(fault) => page.fault(&fault),
-    }
-}
-
-fn tell_forced<W: Write>(
-    page: &mut Page<'_, W>,
-    program: &Program,
-    forced: &Forced,
-) -> io::Result<()> {
-    let text = forced_text(page.alloc, program, forced)?;
-    page.end(&text)
-}
-
-fn forced_text(alloc: Global, program: &Program, forced: &Forced) -> Result<String, AllocError> {
-    let mut text = String::new(alloc);
-    for class in 0..program.given_count() {
-        if forced.has(class) {
-            write!(text, "{class} ")?;
-        }
-    }
-    Ok(text)
 }
 
 /// The patterns of a list.
@@ -81,13 +49,24 @@ fn patterns_of(alloc: Global, list: &str) -> io::Result<Patterns> {
     }
 }
 
-fn forced_by(alloc: Global, program: &Program, patterns: &Patterns) -> io::Result<Forced> {
-    match force(alloc, program, patterns) {
-        Ok(forced) => Ok(forced),
+/// What is demanded, and is not met.
+fn demanded(alloc: Global, program: &Program) -> io::Result<Demand> {
+    let patterns = patterns_of(alloc, UNMET)?;
+    match demand(alloc, program, &patterns, &Forced::none(alloc)) {
+        Ok(demand) => Ok(demand),
         Err(_) => Err(wrong_data()),
     }
 }
 
+fn parse_list<W: Write>(page: &mut Page<'_, W>) -> io::Result<()> {
+    page.ask("options::parse")?;
+    match parse(page.alloc, FORCED) {
+        Ok(_) => page.value(0),
+        Err(fault) => page.line(&fault),
+    }
+}
+
+/// Tells how many classes are forced.
 fn force_list<W: Write>(
     page: &mut Page<'_, W>,
     program: &Program,
@@ -96,46 +75,37 @@ fn force_list<W: Write>(
     page.ask("force")?;
     match force(page.alloc, program, patterns) {
         Ok(forced) => {
-            page.well()?;
-            tell_forced(page, program, &forced)
+            let mut count = 0usize;
+            for class in 0..program.given_count() {
+                if forced.has(class) {
+                    count = count.saturating_add(1);
+                }
+            }
+            page.value(count)
         }
-        Err(fault) => page.fault(&fault),
+        Err(fault) => page.line(&fault),
     }
 }
 
+/// Tells how many classes are demanded.
 fn demand_list<W: Write>(
     page: &mut Page<'_, W>,
     program: &Program,
     patterns: &Patterns,
-    forced: &Forced,
 ) -> io::Result<()> {
+    let forced = Forced::none(page.alloc);
     page.ask("demand")?;
-    match demand(page.alloc, program, patterns, forced) {
+    match demand(page.alloc, program, patterns, &forced) {
         Ok(demand) => {
-            page.well()?;
-            let text = demand_text(page.alloc, program, &demand)?;
-            page.end(&text)
+            let mut count = 0usize;
+            for class in 0..program.given_count() {
+                if demand.has(class) {
+                    count = count.saturating_add(1);
+                }
+            }
+            page.value(count)
         }
-        Err(fault) => page.fault(&fault),
-    }
-}
-
-fn demand_text(alloc: Global, program: &Program, demand: &Demand) -> Result<String, AllocError> {
-    let mut text = String::new(alloc);
-    for class in 0..program.given_count() {
-        if demand.has(class) {
-            write!(text, "{class} ")?;
-        }
-    }
-    Ok(text)
-}
-
-/// What a list demands where nothing is forced.
-fn demanded(alloc: Global, program: &Program, list: &str) -> io::Result<Demand> {
-    let patterns = patterns_of(alloc, list)?;
-    match demand(alloc, program, &patterns, &Forced::none(alloc)) {
-        Ok(demand) => Ok(demand),
-        Err(_) => Err(wrong_data()),
+        Err(fault) => page.line(&fault),
     }
 }
 
@@ -150,7 +120,7 @@ fn check_demand<W: Write>(
 {
     page.ask("check")?;
     match check(page.alloc, program, settled, demand) {
-        Ok(()) => page.end("Ok"),
-        Err(fault) => page.fault(&fault),
+        Ok(()) => page.value(0),
+        Err(fault) => page.line(&fault),
     }
 }

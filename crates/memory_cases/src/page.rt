@@ -1,5 +1,6 @@
 //! The page on which calls and their answers are written.
 
+use init_engine::{Ending, Output};
 use std::alloc::Global;
 use std::fmt::Display;
 use std::io::{self, ErrorKind, Write};
@@ -24,14 +25,9 @@ impl<'a, W: Write> Page<'a, W> {
         write!(self.out, "{call}: ")
     }
 
-    /// The call has answered, and not a fault. What it answered follows.
-    pub fn well(&mut self) -> io::Result<()> {
-        self.out.write_all(b"Ok ")
-    }
-
-    /// Ends the line by the rest of the answer.
-    pub fn end(&mut self, text: &str) -> io::Result<()> {
-        writeln!(self.out, "{text}")
+    /// Ends the line of a call that answered a value, of which a number is told.
+    pub fn value(&mut self, number: usize) -> io::Result<()> {
+        writeln!(self.out, "Ok {number}")
     }
 
     /// Ends the line of a call that was refused memory.
@@ -39,14 +35,15 @@ impl<'a, W: Write> Page<'a, W> {
         self.out.write_all(b"Memory\n")
     }
 
-    /// Ends the line of a run whose sink failed after so many bytes.
-    pub fn device(&mut self, sent: u128) -> io::Result<()> {
-        writeln!(self.out, "Device {sent}")
+    /// Ends the line by a fault, or writes another line.
+    pub fn line<F: Display>(&mut self, text: &F) -> io::Result<()> {
+        writeln!(self.out, "{text}")
     }
 
-    /// Ends the line by another fault.
-    pub fn fault<F: Display>(&mut self, fault: &F) -> io::Result<()> {
-        writeln!(self.out, "{fault}")
+    /// Writes how threads stand, on a line, and what they printed.
+    pub fn seen(&mut self, endings: &[Ending], printed: &Output) -> io::Result<()> {
+        writeln!(self.out, "{endings:?}")?;
+        self.out.write_all(printed.text_from(0))
     }
 }
 

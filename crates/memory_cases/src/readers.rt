@@ -1,6 +1,6 @@
 //! What readers answer to inputs: a value, or a fault of a name.
 
-use crate::files::instructions_of;
+use crate::files::instructions_in;
 use crate::programs::{entries_of, start_of};
 use classfile::ClassFile;
 use init_engine::World;
@@ -64,9 +64,9 @@ fn of_class_file(alloc: Global, bytes: &[u8]) -> Result<String, AllocError> {
 }
 
 fn of_class(alloc: Global, class: ClassFile) -> Result<String, AllocError> {
-    let _count = instructions_of(alloc, &class)?;
     let mut classes = Vec::new(alloc);
     classes.push(class)?;
+    let _count = instructions_in(alloc, &classes)?;
     match link(alloc, classes) {
         Ok(_) => String::from_str(alloc, "linked"),
         Err(fault) => fault.to_string(alloc),

@@ -1,9 +1,7 @@
 //! Calls that run a thread.
 
-ghost use Rattle.std.specs.Prelude.{◌≡◌, length};
-
 use crate::page::{Page, TIMES, wrong_data};
-use crate::programs::{entries_of, program_of, sight_of, sight_text, start_of};
+use crate::programs::{entries_of, program_of, start_of};
 use classfile::ClassName;
 use init_engine::starting::lazy_shared;
 use init_engine::{Output, Turn, World, turns};
@@ -28,9 +26,8 @@ pub fn call<W: Write>(page: &mut Page<'_, W>, word: &str, text: &str) -> io::Res
         match word {
             "World::lazy" => start_at(page, &program, &entries)?,
             "step" => step_main(page, &program)?,
-            "turns" => turn_main(page, &program)?,
-            "seen" => see_main(page, &program)?,
-            _ => effect_plain(page, &program)?,
+            "effect" => effect_plain(page, &program)?,
+            _ => turn_main(page, word, &program)?,
         }
     }
     Ok(true)
@@ -43,31 +40,24 @@ fn start_at<W: Write>(
 ) -> io::Result<()> {
     page.ask("World::lazy")?;
     match World::lazy(page.alloc, program, entries) {
-        Ok(world) => tell_world(page, &world),
-        Err(fault) => page.fault(&fault),
+        Ok(world) => page.value(world.thread_count() as usize),
+        Err(fault) => page.line(&fault),
     }
 }
 
-fn tell_world<W: Write>(page: &mut Page<'_, W>, world: &World) -> io::Result<()> {
-    page.well()?;
-    end_by_sight(page, world)
-}
-
-fn end_by_sight<W: Write>(page: &mut Page<'_, W>, world: &World) -> io::Result<()> {
-    let text = sight_of(page.alloc, world)?;
-    page.end(&text)
-}
-
+/// Steps of a thread. Where memory is refused, the world and how many steps it has taken are as before that one: those
+/// that are left lead to the same.
 fn step_main<W: Write>(page: &mut Page<'_, W>, program: &Program) -> io::Result<()> {
     let mut world = start_of(page.alloc, program, "Main")?;
     let mut count = 0u64;
     page.ask("step")?;
     match step_on(page.alloc, program, &mut world, &mut count) {
-        Ok(()) => page.end("Ok")?,
-        Err(_) if is_after(page.alloc, program, &world, count)? => page.memory()?,
-        Err(_) => page.end("Memory, and another world")?,
+        Ok(()) => page.value(0)?,
+        Err(_) => page.memory()?,
     }
-    go_on(page, program, &mut world, count)
+    step_on(page.alloc, program, &mut world, &mut count)?;
+    page.line(&count)?;
+    page.seen(&world.endings(page.alloc)?, world.printed())
 }
 
 /// Steps of the first thread up to the turn in which it has none. They are counted.
@@ -89,63 +79,19 @@ fn step_on(
     Ok(())
 }
 
-/// Whether a world is that after so many steps from its start, as far as its thread and what it printed tell.
-fn is_after(alloc: Global, program: &Program, world: &World, count: u64) -> io::Result<bool> {
-    let mut other = start_of(alloc, program, "Main")?;
-    for _ in 0..count {
-        if other.thread_count() == 0 {
-            return Ok(false);
-        }
-        let _turn = other.step(alloc, program, 0)?;
-    }
-    are_alike(alloc, world, &other)
-}
-
-fn are_alike(alloc: Global, world: &World, other: &World) -> io::Result<bool> {
-    if world.thread_count() == 0 || other.thread_count() == 0 {
-        return Ok(false);
-    }
-    let frames = other.frames(alloc, 0)?;
-    let has_frames = world.has_frames(0, &frames);
-    let sight = sight_of(alloc, world)?;
-    let wanted = sight_of(alloc, other)?;
-    Ok(has_frames && sight.as_str() == wanted.as_str())
-}
-
-/// Takes the steps that are left, and tells how many there were from the start and what is seen then.
-fn go_on<W: Write>(
-    page: &mut Page<'_, W>,
-    program: &Program,
-    world: &mut World,
-    before: u64,
-) -> io::Result<()> {
-    let mut count = before;
-    step_on(page.alloc, program, world, &mut count)?;
-    let sight = sight_of(page.alloc, world)?;
-    let text = format!(in page.alloc; "{count} steps, {sight}")?;
-    page.end(&text)
-}
-
-fn turn_main<W: Write>(page: &mut Page<'_, W>, program: &Program) -> io::Result<()> {
+/// The turns of two threads, or what is seen after them.
+fn turn_main<W: Write>(page: &mut Page<'_, W>, word: &str, program: &Program) -> io::Result<()> {
     let world = start_of(page.alloc, program, "Main,Work")?;
-    page.ask("turns")?;
-    match turns(page.alloc, program, world, MANY) {
-        Ok((world, schedule)) => {
-            page.well()?;
-            let sight = sight_of(page.alloc, &world)?;
-            let runs = schedule.len();
-            let text = format!(in page.alloc; "{runs} runs, {sight}")?;
-            page.end(&text)
-        }
-        Err(_) => page.memory(),
+    if word == "turns" {
+        page.ask("turns")?;
     }
-}
-
-fn see_main<W: Write>(page: &mut Page<'_, W>, program: &Program) -> io::Result<()> {
-    let world = start_of(page.alloc, program, "Main,Work")?;
     match turns(page.alloc, program, world, MANY) {
+        Ok((world, _)) if word == "turns" => {
+            page.value(world.printed().count())?;
+            page.seen(&world.endings(page.alloc)?, world.printed())
+        }
         Ok((world, _)) => see_world(page, world),
-        Err(error) => Err(io::Error::from(error)),
+        Err(_) => page.memory(),
     }
 }
 
@@ -153,9 +99,8 @@ fn see_world<W: Write>(page: &mut Page<'_, W>, world: World) -> io::Result<()> {
     page.ask("seen")?;
     match world.into_seen(page.alloc) {
         Ok(seen) => {
-            page.well()?;
-            let text = sight_text(page.alloc, &seen.threads, &seen.printed)?;
-            page.end(&text)
+            page.value(seen.printed.count())?;
+            page.seen(&seen.threads, &seen.printed)
         }
         Err(_) => page.memory(),
     }
@@ -186,29 +131,18 @@ fn frames_at_main(alloc: Global, program: &Program) -> io::Result<Frames> {
     Err(wrong_data())
 }
 
+/// Instructions of a thread. Where memory is refused, all is as before that one: those that are left print the same.
 fn effect_plain<W: Write>(page: &mut Page<'_, W>, program: &Program) -> io::Result<()> {
     let mut frames = frames_at_main(page.alloc, program)?;
     let mut shared = initialized(page.alloc, program)?;
     let mut printed = Output::new(page.alloc);
     page.ask("effect")?;
     match effects(page.alloc, program, &mut frames, &mut shared, &mut printed) {
-        Ok(()) => page.end("Ok")?,
+        Ok(()) => page.value(0)?,
         Err(_) => page.memory()?,
     }
-    end_effects(page, program, &mut frames, &mut shared, &mut printed)
-}
-
-/// Makes the instructions that are left, and tells what was printed.
-fn end_effects<W: Write>(
-    page: &mut Page<'_, W>,
-    program: &Program,
-    frames: &mut Frames,
-    shared: &mut Shared,
-    printed: &mut Output,
-) -> io::Result<()> {
-    effects(page.alloc, program, frames, shared, printed)?;
-    let text = sight_text(page.alloc, &[], printed)?;
-    page.end(&text)
+    effects(page.alloc, program, &mut frames, &mut shared, &mut printed)?;
+    page.seen(&[], &printed)
 }
 
 /// Instructions of a thread, up to one that ends it or that it can't do.

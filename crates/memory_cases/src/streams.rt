@@ -25,13 +25,8 @@ impl<'a> Compared<'a> {
     }
 
     /// Whether it got just the first so many bytes of it.
-    pub fn has(&self, count: usize) -> bool {
-        self.is_same && self.taken == count
-    }
-
-    /// Whether it has no room left, and got just so many bytes, the first ones.
-    pub fn has_all(&self, count: u128) -> bool {
-        self.is_whole() && self.taken as u128 == count
+    pub fn has(&self, count: u128) -> bool {
+        self.is_same && self.taken as u128 == count
     }
 }
 

@@ -1,13 +1,12 @@
 //! Calls that run threads of the system, and calls on journals.
 
 use crate::page::{Page, TIMES, wrong_data};
-use crate::programs::{program_of, sight_text, start_of};
+use crate::programs::{program_of, start_of};
 use crate::streams::Compared;
-use init_engine::Ending;
 use journal::{Journal, JournalFault};
 use program::Program;
 use sinks::Out;
-use std::alloc::{AllocError, Global};
+use std::alloc::Global;
 use std::io::{self, Write};
 use std::sync::Wait;
 use std::thread::Threads;
@@ -57,8 +56,8 @@ pub fn call<R: Threads + Wait + Sync, W: Write>(
     let journal = journal_of(page.alloc)?;
     for _ in 0..TIMES {
         match word {
-            "run_threads" => run_work(rt, page, &program, &Open)?,
-            "run_threads_at_a_gate" => run_work(rt, page, &program, &Asked)?,
+            "run_threads" => run_work(rt, page, &program, &Open, PRINTED)?,
+            "run_threads_at_a_gate" => run_work(rt, page, &program, &Asked, PRINTED)?,
             "run_threads_into_sinks_that_fail" => run_into_all(rt, page, &program)?,
             "replay" => replay_journal(page, &program, &journal)?,
             "Journal::parse" => parse_text(page)?,
@@ -68,14 +67,16 @@ pub fn call<R: Threads + Wait + Sync, W: Write>(
     Ok(true)
 }
 
+/// Runs three threads into a sink that has room for the text that is wanted, and fails then.
 fn run_work<R: Threads + Wait + Sync, G: Gate, W: Write>(
     rt: &R,
     page: &mut Page<'_, W>,
     program: &Program,
     gate: &G,
+    wanted: &[u8],
 ) -> io::Result<()> {
     let world = start_of(page.alloc, program, "Work,Work,Work")?;
-    let out = Out::new(Compared::new(PRINTED));
+    let out = Out::new(Compared::new(wanted));
     page.ask("run_threads")?;
     let (answer, out) = run_threads(rt, page.alloc, program, world, gate, out, MANY);
     tell_answer(page, &answer, &out.into_inner())
@@ -88,12 +89,13 @@ fn run_into_all<R: Threads + Wait + Sync, W: Write>(
     program: &Program,
 ) -> io::Result<()> {
     for room in 0..PRINTED.len() {
-        let wanted = PRINTED.get(..room).unwrap_or(PRINTED);
-        let world = start_of(page.alloc, program, "Work,Work,Work")?;
-        page.ask("run_threads")?;
-        let out = Out::new(Compared::new(wanted));
-        let (answer, out) = run_threads(rt, page.alloc, program, world, &Open, out, MANY);
-        tell_answer(page, &answer, &out.into_inner())?;
+        run_work(
+            rt,
+            page,
+            program,
+            &Open,
+            PRINTED.get(..room).unwrap_or(PRINTED),
+        )?;
     }
     Ok(())
 }
@@ -105,29 +107,14 @@ fn tell_answer<W: Write>(
     stream: &Compared<'_>,
 ) -> io::Result<()> {
     match answer {
-        Ok(ended) if stream.is_whole() => tell_ended(page, ended),
+        Ok(ended) if stream.is_whole() => page.line(&steps_in(ended.journal.runs())),
         Err(RunFault::Memory) if stream.is_same => page.memory(),
-        Err(RunFault::Spawn) if stream.is_same => page.end("Spawn"),
-        Err(RunFault::Device(sent)) if stream.has_all(*sent) => page.device(*sent),
-        _ => page.end("another fault, or another text"),
+        Err(RunFault::Spawn) if stream.is_same => page.line(&"Spawn"),
+        Err(RunFault::Device(sent)) if stream.is_whole() && stream.has(*sent) => {
+            page.line(&"Device")
+        }
+        _ => page.line(&"another fault, or another text"),
     }
-}
-
-fn tell_ended<W: Write>(page: &mut Page<'_, W>, ended: &Ended) -> io::Result<()> {
-    page.well()?;
-    let returned = all_returned(&ended.seen.threads);
-    let lines = ended.seen.printed.count();
-    let steps = steps_in(ended.journal.runs());
-    let text = format!(in page.alloc; "all returned: {returned}, {lines} lines, {steps} steps")?;
-    page.end(&text)
-}
-
-fn all_returned(threads: &[Ending]) -> bool {
-    let mut all = true;
-    for ending in threads {
-        all = all && matches!(ending, Ending::Returned);
-    }
-    all
 }
 
 /// How many steps a journal has.
@@ -156,44 +143,28 @@ fn replay_journal<W: Write>(
     page.ask("replay")?;
     match replay(page.alloc, program, start, journal) {
         Ok(seen) => {
-            page.well()?;
-            let text = sight_text(page.alloc, &seen.threads, &seen.printed)?;
-            page.end(&text)
+            page.value(seen.printed.count())?;
+            page.seen(&seen.threads, &seen.printed)
         }
         Err(ReplayFault::Memory) => page.memory(),
-        Err(_) => page.end("another fault"),
+        Err(_) => page.line(&"another fault"),
     }
 }
 
 fn parse_text<W: Write>(page: &mut Page<'_, W>) -> io::Result<()> {
     page.ask("Journal::parse")?;
     match Journal::parse(page.alloc, JOURNAL) {
-        Ok(journal) => {
-            page.well()?;
-            let text = runs_text(page.alloc, journal.runs())?;
-            page.end(&text)
-        }
+        Ok(journal) => page.value(journal.runs().len()),
         Err(JournalFault::Memory) => page.memory(),
-        Err(_) => page.end("another fault"),
+        Err(_) => page.line(&"another fault"),
     }
-}
-
-fn runs_text(alloc: Global, runs: &[(u32, u64)]) -> Result<String, AllocError> {
-    let mut text = String::new(alloc);
-    for (thread, count) in runs.iter().copied() {
-        write!(text, "{thread} {count};")?;
-    }
-    Ok(text)
 }
 
 fn write_text<W: Write>(page: &mut Page<'_, W>, journal: &Journal) -> io::Result<()> {
     page.ask("Journal::text")?;
     match journal.text(page.alloc) {
-        Ok(text) if text.as_slice() == JOURNAL => {
-            page.well()?;
-            page.end("the same text")
-        }
-        Ok(_) => page.end("another text"),
+        Ok(text) if text.as_slice() == JOURNAL => page.value(text.len()),
+        Ok(_) => page.line(&"another text"),
         Err(_) => page.memory(),
     }
 }

@@ -6,18 +6,18 @@ ghost use Rattle.wave_scheduler.specs.Outcomes.{AreJudged};
 use crate::page::{Page, TIMES, wrong_data};
 use crate::programs::program_of;
 use evaluator::outcome::Ending;
-use evaluator::regions::{Region, Regions};
+use evaluator::regions::Regions;
 use evaluator::settling::evaluate;
 use initializer_analysis::forced::Forced;
 use initializer_analysis::judge;
-use initializer_analysis::verdict::{Verdict, Verdicts};
+use initializer_analysis::verdict::Verdicts;
 use program::Program;
 use std::alloc::{AllocError, Global};
 use std::io::{self, Write};
 use std::sync::Wait;
 use std::thread::Threads;
 use use_graph::uses;
-use wave_scheduler::outcome::Settled;
+use wave_scheduler::outcome::{Settled, WaveFault};
 use wave_scheduler::{Open, settle_all, settle_all_here};
 
 /// What each initializer may cost.
@@ -43,124 +43,42 @@ pub fn call<R: Threads + Wait + Sync, W: Write>(
     let settled = settled_of(page.alloc, &program)?;
     for _ in 0..TIMES {
         match word {
-            "uses" => find_uses(page, &program)?,
-            "judge" => judge_all(page, &program)?,
-            "settle_all_here" => settle_here(page, &program)?,
-            "settle_all" => settle_by_workers(rt, page, &program)?,
-            "settle" => settle_over(page, &program, &settled.regions)?,
-            _ => put_each(page, &program)?,
+            "settle_all_here" | "settle_all" => settle(rt, page, word, &program)?,
+            "Regions::put" => put_last(page, &program)?,
+            _ => count(page, word, &program, &settled.regions)?,
         }
     }
     Ok(true)
 }
 
-fn find_uses<W: Write>(page: &mut Page<'_, W>, program: &Program) -> io::Result<()> {
-    page.ask("uses")?;
-    match uses_in(page.alloc, program) {
-        Ok((methods, classes)) => {
-            page.well()?;
-            let text = format!(in page.alloc; "{methods} methods, {classes} classes")?;
-            page.end(&text)
-        }
-        Err(_) => page.memory(),
-    }
-}
-
-/// How many methods may run for the classes of a program, and how many classes they may use.
-fn uses_in(alloc: Global, program: &Program) -> Result<(usize, usize), AllocError> {
-    let mut methods = 0usize;
-    let mut classes = 0usize;
-    for class in 0..program.given_count() {
-        let found = uses(alloc, program, class)?;
-        methods = methods.saturating_add(found.methods.len());
-        classes = classes.saturating_add(found.classes.len());
-    }
-    Ok((methods, classes))
-}
-
-/// The verdicts on the classes of a program.
-fn judged(alloc: Global, program: &Program) -> Result<Verdicts, AllocError>
-    ensures { IfOk result (λ verdicts. AreJudged program.now verdicts) }
-{
-    judge(alloc, program, &Forced::none(alloc))
-}
-
-fn judge_all<W: Write>(page: &mut Page<'_, W>, program: &Program) -> io::Result<()> {
-    page.ask("judge")?;
-    match judged(page.alloc, program) {
-        Ok(verdicts) => tell_verdicts(page, verdicts.as_slice()),
-        Err(_) => page.memory(),
-    }
-}
-
-fn tell_verdicts<W: Write>(page: &mut Page<'_, W>, verdicts: &[Verdict]) -> io::Result<()> {
-    page.well()?;
-    let text = verdicts_text(page.alloc, verdicts)?;
-    page.end(&text)
-}
-
-fn verdicts_text(alloc: Global, verdicts: &[Verdict]) -> Result<String, AllocError> {
-    let mut text = String::new(alloc);
-    for verdict in verdicts {
-        match verdict {
-            Verdict::Wave(wave) => write!(text, "{wave} ")?,
-            Verdict::Refused(reason) => write!(text, "{reason:?} ")?,
-        }
-    }
-    Ok(text)
-}
-
-fn settle_here<W: Write>(page: &mut Page<'_, W>, program: &Program) -> io::Result<()> {
-    let verdicts = judged(page.alloc, program)?;
-    page.ask("settle_all_here")?;
-    match settle_all_here(page.alloc, program, verdicts, BUDGET) {
-        Ok(settled) => tell_settled(page, &settled),
-        Err(fault) => page.fault(&fault),
-    }
-}
-
-fn settle_by_workers<R: Threads + Wait + Sync, W: Write>(
-    rt: &R,
+/// A call that answers a number, or that memory was refused.
+fn count<W: Write>(
     page: &mut Page<'_, W>,
-    program: &Program,
-) -> io::Result<()> {
-    let verdicts = judged(page.alloc, program)?;
-    page.ask("settle_all")?;
-    match settle_all(rt, page.alloc, program, verdicts, BUDGET, WORKERS, &Open) {
-        Ok(settled) => tell_settled(page, &settled),
-        Err(fault) => page.fault(&fault),
-    }
-}
-
-fn tell_settled<W: Write>(page: &mut Page<'_, W>, settled: &Settled) -> io::Result<()> {
-    tell_verdicts(page, settled.verdicts.as_slice())
-}
-
-/// What becomes of all classes of a program.
-pub fn settled_of(alloc: Global, program: &Program) -> io::Result<Settled>
-    ensures { IfOk result (λ settled. length settled.verdicts ≡ length program.now.classes) }
-{
-    let verdicts = judged(alloc, program)?;
-    match settle_all_here(alloc, program, verdicts, BUDGET) {
-        Ok(settled) => Ok(settled),
-        Err(_) => Err(wrong_data()),
-    }
-}
-
-fn settle_over<W: Write>(
-    page: &mut Page<'_, W>,
+    word: &str,
     program: &Program,
     regions: &Regions,
 ) -> io::Result<()> {
-    page.ask("settle")?;
-    match settled_over(page.alloc, program, regions) {
-        Ok(count) => {
-            page.well()?;
-            let text = format!(in page.alloc; "{count} classes")?;
-            page.end(&text)
-        }
+    page.ask(word)?;
+    let answer = match word {
+        "uses" => uses_in(page.alloc, program),
+        "judge" => judged_in(page.alloc, program),
+        _ => settled_over(page.alloc, program, regions),
+    };
+    match answer {
+        Ok(count) => page.value(count),
         Err(_) => page.memory(),
     }
+}
+
+/// How many methods may run for the classes of a program, and classes that they may use.
+fn uses_in(alloc: Global, program: &Program) -> Result<usize, AllocError> {
+    let mut count = 0usize;
+    for class in 0..program.given_count() {
+        let found = uses(alloc, program, class)?;
+        count = count.saturating_add(found.methods.len());
+        count = count.saturating_add(found.classes.len());
+    }
+    Ok(count)
 }
 
 /// How many classes of a program settle over these regions.
@@ -174,27 +92,80 @@ fn settled_over(alloc: Global, program: &Program, regions: &Regions) -> Result<u
     Ok(count)
 }
 
-fn put_each<W: Write>(page: &mut Page<'_, W>, program: &Program) -> io::Result<()> {
-    let mut settled = settled_of(page.alloc, program)?;
-    let last = program.given_count().saturating_sub(1);
-    match settled.regions.take(last) {
-        Some(region) => put_last(page, last, region),
-        None => Err(wrong_data()),
+/// The verdicts on the classes of a program.
+fn judged(alloc: Global, program: &Program) -> Result<Verdicts, AllocError>
+    ensures { IfOk result (λ verdicts. AreJudged program.now verdicts) }
+{
+    judge(alloc, program, &Forced::none(alloc))
+}
+
+/// How many there are.
+fn judged_in(alloc: Global, program: &Program) -> Result<usize, AllocError> {
+    let verdicts = judged(alloc, program)?;
+    Ok(verdicts.as_slice().len())
+}
+
+/// Settles on this thread, or by workers.
+fn settle<R: Threads + Wait + Sync, W: Write>(
+    rt: &R,
+    page: &mut Page<'_, W>,
+    word: &str,
+    program: &Program,
+) -> io::Result<()> {
+    let verdicts = judged(page.alloc, program)?;
+    page.ask(word)?;
+    let answer = if word == "settle_all" {
+        settle_all(rt, page.alloc, program, verdicts, BUDGET, WORKERS, &Open)
+    } else {
+        settle_all_here(page.alloc, program, verdicts, BUDGET)
+    };
+    tell_settled(page, program, &answer)
+}
+
+/// Tells how many classes have a region.
+fn tell_settled<W: Write>(
+    page: &mut Page<'_, W>,
+    program: &Program,
+    answer: &Result<Settled, WaveFault>,
+) -> io::Result<()> {
+    let mut count = 0usize;
+    match answer {
+        Ok(settled) => {
+            for class in 0..program.given_count() {
+                if settled.regions.get(class).is_some() {
+                    count = count.saturating_add(1);
+                }
+            }
+            page.value(count)
+        }
+        Err(fault) => page.line(fault),
     }
 }
 
-/// Puts the region of a class where there is none.
-fn put_last<W: Write>(page: &mut Page<'_, W>, class: u32, region: Region) -> io::Result<()> {
+/// What becomes of all classes of a program.
+pub fn settled_of(alloc: Global, program: &Program) -> io::Result<Settled>
+    ensures { IfOk result (λ settled. length settled.verdicts ≡ length program.now.classes) }
+{
+    let verdicts = judged(alloc, program)?;
+    match settle_all_here(alloc, program, verdicts, BUDGET) {
+        Ok(settled) => Ok(settled),
+        Err(_) => Err(wrong_data()),
+    }
+}
+
+/// Puts the region of the last class where there is none.
+fn put_last<W: Write>(page: &mut Page<'_, W>, program: &Program) -> io::Result<()> {
+    let mut settled = settled_of(page.alloc, program)?;
+    let last = program.given_count().saturating_sub(1);
+    let Some(region) = settled.regions.take(last) else {
+        return Err(wrong_data());
+    };
     let mut regions = Regions::none(page.alloc);
     page.ask("Regions::put")?;
-    let answer = regions.put(class, region);
-    let is_there = regions.get(class).is_some();
-    match answer {
-        Ok(()) if is_there => {
-            page.well()?;
-            page.end("it is there")
-        }
-        Err(_) if !is_there => page.memory(),
-        _ => page.end("the regions are wrong"),
+    let answer = regions.put(last, region);
+    match (answer, regions.get(last).is_some()) {
+        (Ok(()), true) => page.value(1),
+        (Err(_), false) => page.memory(),
+        _ => page.line(&"the regions are wrong"),
     }
 }
