@@ -29,6 +29,7 @@ use Rattle.command_line.specs.declared.request.Run.{Run}
 use Rattle.cli.specs.Audits.{HasAudited}
 use Rattle.cli.specs.Begins.{IsBegun, IsBegunFromImage}
 use Rattle.cli.specs.Builds.{IsBuildOfClassFiles}
+use Rattle.cli.specs.Explanations.{HasExplained}
 use Rattle.cli.specs.Files.{AreBytesOf, AreTextsOf, Contents, OthersStay}
 use Rattle.cli.specs.ImageBuilds.{IsBuiltText}
 use Rattle.cli.specs.ImageRuns.{IsTextOf}
@@ -170,6 +171,8 @@ IsDone old new before after (requests.Audit words) status =
     (new ≡ old) × HasAudited old words before after status
 IsDone old new before after (requests.Build words) status =
     (status ≡ Done) × (after ≡ before) × HasBuilt old new words
+IsDone old new before after (requests.Explain words) status =
+    (status ≡ Done) × (new ≡ old) × HasExplained old words before after
 IsDone old new before after (requests.Lazy words) status =
     (new ≡ old) × HasRunLazily old words before after status
 IsDone old new before after (requests.Renew words) status =

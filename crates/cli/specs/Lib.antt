@@ -19,3 +19,4 @@ pub mod Entries
 pub mod Done
 pub mod Outputs
 pub mod Audits
+pub mod Explanations

@@ -14,6 +14,7 @@ mod by_threads;
 mod class_files;
 mod entries;
 pub mod existence;
+mod explaining;
 mod fault;
 mod files;
 mod image_build;
@@ -36,7 +37,7 @@ pub use building::{BuildFault, BuildOptions, Built};
 pub use builds::{build, build_here};
 pub use class_files::linked_program;
 pub use command_line::{
-    Audit, Build, Building, Lazy, Renew, Replay, Request, Run, WordsFault, line,
+    Audit, Build, Building, Explain, Lazy, Renew, Replay, Request, Run, WordsFault, line,
 };
 pub use entries::entries_of;
 pub use fault::Refusal;

@@ -26,7 +26,11 @@ pub(crate) fn overwritten<'a, F: Files>(request: &Request<'a>, files: &mut F) ->
             Some(journal) => among(journal, &[words.image], files),
             None => None,
         },
-        Request::Audit(_) | Request::Lazy(_) | Request::Replay(_) | Request::Report(_) => None,
+        Request::Audit(_)
+        | Request::Explain(_)
+        | Request::Lazy(_)
+        | Request::Replay(_)
+        | Request::Report(_) => None,
     }
 }
 

@@ -22,7 +22,7 @@ use crate::telling::{
 };
 use crate::{
     Files, Lazy, Ran, Refusal, Replay, Request, Run, RunFault, Status, Unwatched, Watch, auditing,
-    image_build, image_run, lazy, line, renewing, reporting, run_world, status_of,
+    explaining, image_build, image_run, lazy, line, renewing, reporting, run_world, status_of,
 };
 use init_engine::World;
 use journal::Journal;
@@ -173,6 +173,10 @@ fn do_request<
         }
         Request::Build(words) => {
             let status = tell_done(image_build::run(rt, alloc, words, files, watch), errors);
+            (status, Held::Nothing, out)
+        }
+        Request::Explain(words) => {
+            let status = tell_report(explaining::run(alloc, words, files), &mut out, errors);
             (status, Held::Nothing, out)
         }
         Request::Lazy(words) => {

@@ -202,6 +202,7 @@ pub(crate) fn tell_overwritten<E: Write>(clash: Clash<'_>, errors: &mut E) -> St
 pub(crate) fn tell_no_files<E: Write>(request: &Request<'_>, errors: &mut E) {
     let has_none = match request {
         Request::Build(words) => words.building.files.is_empty(),
+        Request::Explain(words) => words.building.files.is_empty(),
         Request::Report(words) => words.files.is_empty(),
         Request::Audit(_)
         | Request::Lazy(_)

@@ -13,6 +13,7 @@ use Rattle.clap.specs.declared.parser.matches.Found.{Found}
 use Rattle.command_line.specs.declared.request.Audit.{Audit}
 use Rattle.command_line.specs.declared.request.Build.{Build}
 use Rattle.command_line.specs.declared.request.Building.{Building}
+use Rattle.command_line.specs.declared.request.Explain.{Explain}
 use Rattle.command_line.specs.declared.request.Lazy.{Lazy}
 use Rattle.command_line.specs.declared.request.Renew.{Renew}
 use Rattle.command_line.specs.declared.request.Replay.{Replay}
@@ -56,6 +57,11 @@ pub record HoldsBuild (found : Found) (build : Build) : Type 0 where
   pub building : HoldsBuilding found build.building
   pub workers : HoldsBits 32 found (codes "workers") build.workers
 
+-- what is asked of the classes of a build, or of one of them
+pub record HoldsExplain (found : Found) (explain : Explain) : Type 0 where
+  pub class : first_value found (codes "class") ≡ Some explain.class.now
+  pub building : HoldsBuilding found explain.building
+
 -- what is asked before a run
 pub record HoldsAudit (found : Found) (audit : Audit) : Type 0 where
   pub entries : first_value found (codes "entries") ≡ Some audit.entries.now
@@ -91,6 +97,7 @@ pub record HoldsReplay (found : Found) (replay : Replay) : Type 0 where
 abbrev pub Holds : List ℕ → Found → Request → Type 0
 Holds name found (requests.Audit audit) = (name ≡ codes "audit") × HoldsAudit found audit
 Holds name found (requests.Build build) = (name ≡ codes "build") × HoldsBuild found build
+Holds name found (requests.Explain explain) = (name ≡ codes "explain") × HoldsExplain found explain
 Holds name found (requests.Lazy lazy) = (name ≡ codes "lazy") × HoldsLazy found lazy
 Holds name found (requests.Renew renew) = (name ≡ codes "renew") × HoldsRenew found renew
 Holds name found (requests.Replay replay) = (name ≡ codes "replay") × HoldsReplay found replay

@@ -1,9 +1,10 @@
 //! The commands of the program and their arguments.
 
 use crate::texts::{
-    AUDIT_ABOUT, AUDIT_LONG_ABOUT, BUILD_ABOUT, BUILD_LONG_ABOUT, LAZY_ABOUT, LAZY_LONG_ABOUT,
-    PROGRAM_ABOUT, RENEW_ABOUT, RENEW_LONG_ABOUT, REPLAY_ABOUT, REPLAY_LONG_ABOUT, REPORT_ABOUT,
-    REPORT_LONG_ABOUT, RUN_ABOUT, RUN_LONG_ABOUT, STATUSES,
+    AUDIT_ABOUT, AUDIT_LONG_ABOUT, BUILD_ABOUT, BUILD_LONG_ABOUT, EXPLAIN_ABOUT,
+    EXPLAIN_LONG_ABOUT, LAZY_ABOUT, LAZY_LONG_ABOUT, PROGRAM_ABOUT, RENEW_ABOUT, RENEW_LONG_ABOUT,
+    REPLAY_ABOUT, REPLAY_LONG_ABOUT, REPORT_ABOUT, REPORT_LONG_ABOUT, RUN_ABOUT, RUN_LONG_ABOUT,
+    STATUSES,
 };
 use clap::{Arg, ArgAction, Command, value_parser};
 use std::alloc::{AllocError, Global};
@@ -31,10 +32,12 @@ fn with_commands_of_builds<'a>(
 ) -> Result<Command<'a>, AllocError> {
     let build = build_command(alloc)?;
     let report = report_command(alloc)?;
+    let explain = explain_command(alloc)?;
     let renew = renew_command(alloc)?;
     program
         .subcommand(build)?
         .subcommand(report)?
+        .subcommand(explain)?
         .subcommand(renew)
 }
 
@@ -81,6 +84,11 @@ fn renew_command<'a>(alloc: Global) -> Result<Command<'a>, AllocError> {
     described(alloc, "renew", RENEW_ABOUT, RENEW_LONG_ABOUT)
         .arg(out(alloc))?
         .arg(image(alloc, "The image to write again"))
+}
+
+fn explain_command<'a>(alloc: Global) -> Result<Command<'a>, AllocError> {
+    let explain = described(alloc, "explain", EXPLAIN_ABOUT, EXPLAIN_LONG_ABOUT).arg(class(alloc))?;
+    with_building(alloc, explain)
 }
 
 fn audit_command<'a>(alloc: Global) -> Result<Command<'a>, AllocError> {
@@ -209,6 +217,13 @@ fn read_journal<'a>(alloc: Global) -> Arg<'a> {
         .value_name("FILE")
         .required(true)
         .help("The file that has the journal")
+}
+
+fn class<'a>(alloc: Global) -> Arg<'a> {
+    Arg::new(alloc, "class")
+        .value_name("CLASS")
+        .required(true)
+        .help("The class, with dots, as 'app.Main', or 'all'")
 }
 
 fn image<'a>(alloc: Global, help: &'a str) -> Arg<'a> {

@@ -12,4 +12,4 @@ mod texts;
 
 pub use fault::WordsFault;
 pub use matched::line;
-pub use request::{Audit, Build, Building, Lazy, Renew, Replay, Request, Run};
+pub use request::{Audit, Build, Building, Explain, Lazy, Renew, Replay, Request, Run};

@@ -2,12 +2,12 @@
 ghost use Rattle.std.specs.Prelude.{◌≡◌, IfOk, IfSome, codes};
 ghost use Rattle.clap.specs.Matches.{found_of};
 ghost use Rattle.command_line.specs.Requests.{AsksFor, Holds, HoldsAudit, HoldsBits, HoldsBuild, HoldsBuilding};
-ghost use Rattle.command_line.specs.Requests.{HoldsFlag, HoldsLazy, HoldsNumber, HoldsRenew, HoldsReplay};
+ghost use Rattle.command_line.specs.Requests.{HoldsExplain, HoldsFlag, HoldsLazy, HoldsNumber, HoldsRenew, HoldsReplay};
 ghost use Rattle.command_line.specs.Requests.{HoldsRun, IsLine, texts, values_of};
 
 use crate::commands::program;
 use crate::parsed::fault_of;
-use crate::{Audit, Build, Building, Lazy, Renew, Replay, Request, Run, WordsFault};
+use crate::{Audit, Build, Building, Explain, Lazy, Renew, Replay, Request, Run, WordsFault};
 use clap::error::ErrorKind;
 use clap::{ArgMatches, Command};
 use std::alloc::{AllocError, Global};
@@ -67,6 +67,7 @@ fn asked_of<'a>(
     match name {
         "audit" => Ok(audit_of(alloc, arguments)?.map(Request::Audit)),
         "build" => Ok(build_of(alloc, arguments)?.map(Request::Build)),
+        "explain" => Ok(explain_of(alloc, arguments)?.map(Request::Explain)),
         "lazy" => Ok(lazy_of(alloc, arguments)?.map(Request::Lazy)),
         "renew" => Ok(renew_of(arguments).map(Request::Renew)),
         "replay" => Ok(replay_of(arguments).map(Request::Replay)),
@@ -118,6 +119,18 @@ fn audit_of<'a>(alloc: Global, matches: &ArgMatches<'a>) -> Result<Option<Audit<
     let files = files_of(alloc, matches)?;
     match matches.get_str("entries") {
         Some(entries) => Ok(Some(Audit { entries, files })),
+        None => Ok(None),
+    }
+}
+
+fn explain_of<'a>(
+    alloc: Global,
+    matches: &ArgMatches<'a>,
+) -> Result<Option<Explain<'a>>, AllocError>
+    ensures { IfOk result (λ found. IfSome found (HoldsExplain (found_of matches.now))) }
+{
+    match matches.get_str("class") {
+        Some(class) => Ok(building_of(alloc, matches)?.map(|building| Explain { class, building })),
         None => Ok(None),
     }
 }

@@ -7,6 +7,8 @@ pub enum Request<'a> {
     Audit(Audit<'a>),
     /// `build`: make an image of class files.
     Build(Build<'a>),
+    /// `explain`: tell all that stands against a class.
+    Explain(Explain<'a>),
     /// `lazy`: run class files by turns.
     Lazy(Lazy<'a>),
     /// `renew`: write an image again, in the version that is written today.
@@ -26,6 +28,15 @@ pub struct Audit<'a> {
     pub entries: &'a str,
     /// The names of the class files, in the order given.
     pub files: Vec<&'a str>,
+}
+
+/// What the words of `explain` ask for.
+#[derive(Drop)]
+pub struct Explain<'a> {
+    /// The name of a class, with dots, or `all`.
+    pub class: &'a str,
+    /// The build that is asked about.
+    pub building: Building<'a>,
 }
 
 /// What the words of `build` ask for.

@@ -81,6 +81,26 @@ asked for at both times, Demanded and a class that can't be initialized at build
 
 For example: preinit report --initialize-at-run-time app.log app/Main.class app/Table.class";
 
+pub(crate) const EXPLAIN_ABOUT: &str = "\
+Tells all that stands against a class, and where";
+
+pub(crate) const EXPLAIN_LONG_ABOUT: &str = "\
+Builds in memory, as 'preinit report' does, and tells of one class its line of the report, and then each reason that
+holds against it:
+  app/Main run Prints
+  app/Main Prints at app/Log.line()V 4 invokevirtual java/io/PrintStream.println()V
+                                    an instruction that may print: its method, where it begins in the method's code
+                                    in bytes, and what it names
+  app/Main Prints in app/Main.<clinit>()V 2 invokestatic app/Log.line()V
+                                    the call by which it is reached, and so on, up to the initializer
+  app/Main DependsOn app/Table DependsOn app/Clock Unsupported
+                                    it uses app/Table, which uses app/Clock, which has a reason of its own
+
+Of 'all' classes it tells the same without calls and with the ends of such chains alone, and then the ten classes for
+whose sake the most others are initialized at run time: '12 depend on app/Clock'.
+
+For example: preinit explain app.Main app/Main.class app/Table.class";
+
 pub(crate) const AUDIT_ABOUT: &str = "\
 Tells before a run where its threads may meet what is left out or not there";
 

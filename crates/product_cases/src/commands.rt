@@ -4,8 +4,8 @@ use crate::class_bytes::number;
 use crate::command_runs::{self, words_of};
 use crate::shelf::Shelf;
 use cli::{
-    Audit, Build, Building, Lazy, Refusal, Renew, Replay, Request, Rest, Run, Status, entries_of,
-    line, linked_program, status_of, thread_lines,
+    Audit, Build, Building, Explain, Lazy, Refusal, Renew, Replay, Request, Rest, Run, Status,
+    entries_of, line, linked_program, status_of, thread_lines,
 };
 use init_engine::Ending;
 use program::Program;
@@ -146,6 +146,7 @@ fn request(alloc: Global, text: &str) -> Result<String, AllocError> {
     match line(alloc, &words) {
         Ok(Request::Audit(audit)) => audit_text(alloc, &audit),
         Ok(Request::Build(build)) => build_text(alloc, &build),
+        Ok(Request::Explain(explain)) => explain_text(alloc, &explain),
         Ok(Request::Lazy(lazy)) => lazy_text(alloc, &lazy),
         Ok(Request::Report(building)) => building_text(alloc, "report", &building),
         Ok(Request::Renew(renew)) => renew_text(alloc, &renew),
@@ -162,6 +163,12 @@ fn audit_text(alloc: Global, audit: &Audit<'_>) -> Result<String, AllocError> {
         write!(text, " [{file}]")?;
     }
     Ok(text)
+}
+
+fn explain_text(alloc: Global, explain: &Explain<'_>) -> Result<String, AllocError> {
+    let class = explain.class;
+    let command = format!(in alloc; "explain [{class}]")?;
+    building_text(alloc, &command, &explain.building)
 }
 
 fn lazy_text(alloc: Global, lazy: &Lazy<'_>) -> Result<String, AllocError> {

@@ -1,0 +1,22 @@
+use Rattle.std.proofs.Common.{subst}
+use Rattle.program.specs.Tables.{Tables}
+use Rattle.machine.specs.Linked.{program_of}
+use Rattle.semantics.specs.Quiet.{Environment}
+use Rattle.semantics.proofs.RefusalsLemmas.{stop_excludes_lem}
+use Rattle.evaluator.specs.Regions.{environment_of}
+use Rattle.explain.specs.Reruns.{IsRerun}
+use Rattle.explain.proofs.RerunsLemmas.{ends_at}
+use Rattle.explain.proofs.reruns.run_again.Goals as goal
+
+pub returns : goal.returns
+returns c =
+    let env : Environment = environment_of c.in_ok-regions.regions in
+    subst (λ (P : Tables). (env : Environment) × IsRerun (program_of P) env c.args.class c.args.greatest
+    (record { budget = c.in_ok-budget.budget; ending = c.in_ok-ending.ending })) c.program-program.ensures (
+      env,
+      record {
+        least = c.in_ok-budget.ensures;
+        ending = ends_at stop_excludes_lem (program_of c.program-program.result.now) env c.args.class c.args.greatest
+            c.in_ok-budget.budget c.in_ok-ending.ending c.in_ok-budget.ensures c.in_ok-ending.ensures;
+      },
+    )

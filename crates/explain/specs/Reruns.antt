@@ -1,0 +1,29 @@
+-- What an initializer costs.
+use Rattle.std.specs.Prelude.{◌≡◌, ℕ, ◌+◌, ◌<◌, ◌≤◌}
+use Rattle.semantics.specs.Programs.{Program}
+use Rattle.semantics.specs.Quiet.{Environment, OverBudget, Refused}
+use Rattle.semantics.specs.Settling.{Settles, StoppedBy}
+use Rattle.evaluator.specs.declared.outcome.Ending.{Ending}
+use Rattle.evaluator.specs.declared.outcome.Ending.TheVariants as endings
+use Rattle.evaluator.specs.Outcomes.{stop_of}
+use Rattle.evaluator.specs.Regions.{region_of}
+use Rattle.explain.specs.declared.reruns.Rerun.{Rerun}
+
+-- an initializer costs more than a budget
+abbrev pub CostsMore : Program → Environment → ℕ → ℕ → Type 0
+CostsMore P env c budget = StoppedBy P env c budget (Refused OverBudget)
+
+-- the least budget that it does not cost more than, or the greatest
+pub record IsLeast (P : Program) (env : Environment) (c greatest budget : ℕ) : Type 0 where
+  pub within : budget ≤ greatest
+  pub enough : budget < greatest → ¬ CostsMore P env c budget
+  pub least : (less : ℕ) → budget ≡ less + 1 → CostsMore P env c less
+
+-- what it leaves at just this cost, or what stops it within it
+abbrev pub EndsAt : Program → Environment → ℕ → ℕ → Ending → Type 0
+EndsAt P env c budget (endings.Settled region) = Settles P env c budget (region_of region)
+EndsAt P env c budget (endings.Stopped halt) = StoppedBy P env c budget (stop_of halt)
+
+pub record IsRerun (P : Program) (env : Environment) (c greatest : ℕ) (again : Rerun) : Type 0 where
+  pub least : IsLeast P env c greatest again.budget
+  pub ending : EndsAt P env c again.budget again.ending

@@ -1,0 +1,23 @@
+//! Why classes stay at run time, and what became of the others.
+#![tactic(auto)]
+
+mod blamed;
+mod calls;
+mod chains;
+mod cycles;
+mod explaining;
+mod lines;
+mod marks;
+mod paths;
+mod reruns;
+mod search;
+mod sizes;
+mod stops;
+
+pub use chains::chain_of;
+pub use explaining::{Explanation, Known};
+pub use lines::{all_text, class_text};
+pub use marks::{Shown, ShownMarks};
+pub use reruns::{Rerun, run_again};
+pub use sizes::region_size;
+pub use stops::stop_within;

@@ -1,0 +1,138 @@
+//! A class's initializer once more, for what it costs.
+
+ghost use Rattle.std.specs.Prelude.{◌≡◌, ◌≢◌, true, false, IfOk};
+ghost use Rattle.std.specs.Bool.{MatchBool};
+ghost use Rattle.semantics.specs.Quiet.{Environment, OverBudget, Refused};
+ghost use Rattle.machine.specs.Linked.{program_of};
+ghost use Rattle.evaluator.specs.Outcomes.{stop_of};
+ghost use Rattle.evaluator.specs.Regions.{environment_of};
+ghost use Rattle.explain.specs.Reruns.{CostsMore, IsLeast, IsRerun};
+ghost use Rattle.explain.specs.steps.Over.{IsOver};
+
+use evaluator::outcome::{Ending, Halt, Refusal};
+use evaluator::regions::{Region, Regions};
+use evaluator::settling::evaluate;
+use object_graph::Image;
+use program::Program;
+use std::alloc::{AllocError, Global};
+
+/// How an initializer ends within the least budget in which it does not cost too much, or in the greatest.
+#[derive(Drop)]
+pub struct Rerun {
+    /// That budget: what it costs, where it settles.
+    pub budget: u64,
+    pub ending: Ending,
+}
+
+/// Adds a copy of the region that a class has in an image.
+fn add_region(
+    alloc: Global,
+    image: &Image,
+    class: u32,
+    regions: &mut Regions,
+) -> Result<(), AllocError> {
+    if let Some(region) = image.region(class) {
+        let fields = region.fields.copy(alloc)?;
+        let objects = region.objects.copy(alloc)?;
+        regions.put(class, Region { fields, objects })?;
+    }
+    Ok(())
+}
+
+/// Copies of the regions of an image, but for one class's.
+fn other_regions(alloc: Global, image: &Image, class: u32) -> Result<Regions, AllocError> {
+    let mut regions = Regions::none(alloc);
+    for other in 0..image.program().given_count() {
+        if other != class {
+            add_region(alloc, image, other, &mut regions)?;
+        }
+    }
+    Ok(regions)
+}
+
+/// Whether what stops an initializer is its cost.
+fn is_cost(halt: Halt) -> bool
+    ensures yes { result ≡ true → stop_of halt ≡ Refused OverBudget }
+    ensures no { result ≡ false → stop_of halt ≢ Refused OverBudget }
+{
+    match halt {
+        Halt::Refused(Refusal::OverBudget) => true,
+        Halt::Refused(Refusal::Raised) => false,
+        Halt::Refused(Refusal::ForeignObject) => false,
+        Halt::Refused(Refusal::Faulted) => false,
+        Halt::Barred => false,
+    }
+}
+
+/// Whether an initializer was stopped for its cost.
+fn is_over(ending: &Ending) -> bool
+    ensures yes { result ≡ true → IsOver ending.now }
+    ensures no { result ≡ false → ¬ IsOver ending.now }
+{
+    match ending {
+        Ending::Settled(_) => false,
+        Ending::Stopped(halt) => is_cost(*halt),
+    }
+}
+
+/// Whether an initializer costs more than a budget.
+fn costs_more(
+    alloc: Global,
+    program: &Program,
+    regions: &Regions,
+    class: u32,
+    budget: u64,
+) -> Result<bool, AllocError>
+    ensures { IfOk result (λ more. MatchBool more
+        (CostsMore (program_of program.now) (environment_of regions.now) class budget)
+        (¬ CostsMore (program_of program.now) (environment_of regions.now) class budget)) }
+{
+    let ending = evaluate(alloc, program, regions, class, budget)?;
+    let over = is_over(&ending);
+    Ok(over)
+}
+
+/// The least budget that an initializer does not cost more than, or the greatest.
+fn least_budget(
+    alloc: Global,
+    program: &Program,
+    regions: &Regions,
+    class: u32,
+    greatest: u64,
+) -> Result<u64, AllocError>
+    ensures { IfOk result
+        (IsLeast (program_of program.now) (environment_of regions.now) class greatest) }
+{
+    let mut low = 0;
+    let mut high = greatest;
+    while low < high {
+        let middle = low + (high - low) / 2;
+        if costs_more(alloc, program, regions, class, middle)? {
+            low = middle + 1;
+        } else {
+            high = middle;
+        }
+    }
+    Ok(low)
+}
+
+/// Runs the initializer of a class within the least budget in which it does not cost too much, with copies of the
+/// regions of an image at hand. It takes as many runs as the greatest budget has bits.
+///
+/// # Errors
+/// Where memory runs out.
+pub fn run_again(
+    alloc: Global,
+    image: &Image,
+    class: u32,
+    greatest: u64,
+) -> Result<Rerun, AllocError>
+    ensures { IfOk result
+        (λ again. (env : Environment) × IsRerun (program_of image.now.program) env class greatest again) }
+{
+    let program = image.program();
+    let regions = other_regions(alloc, image, class)?;
+    let budget = least_budget(alloc, program, &regions, class, greatest)?;
+    let ending = evaluate(alloc, program, &regions, class, budget)?;
+    Ok(Rerun { budget, ending })
+}
