@@ -77,11 +77,11 @@ fn build<R: Threads + Wait + Sync, W: Write>(
 
 /// Tells how many objects an image has.
 fn tell_image<W: Write>(page: &mut Page<'_, W>, image: &Image) -> io::Result<()> {
-    let mut count = 0u64;
+    let mut count = 0usize;
     for class in 0..image.program().given_count() {
-        count = count.saturating_add(u64::from(image.object_count(class)));
+        count = count.saturating_add(image.object_count(class) as usize);
     }
-    page.line(&count)
+    page.value(count)
 }
 
 /// What is built of classes.

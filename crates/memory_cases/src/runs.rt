@@ -86,10 +86,7 @@ fn turn_main<W: Write>(page: &mut Page<'_, W>, word: &str, program: &Program) ->
         page.ask("turns")?;
     }
     match turns(page.alloc, program, world, MANY) {
-        Ok((world, _)) if word == "turns" => {
-            page.value(world.printed().count())?;
-            page.seen(&world.endings(page.alloc)?, world.printed())
-        }
+        Ok((_, schedule)) if word == "turns" => page.value(schedule.len()),
         Ok((world, _)) => see_world(page, world),
         Err(_) => page.memory(),
     }
@@ -98,10 +95,7 @@ fn turn_main<W: Write>(page: &mut Page<'_, W>, word: &str, program: &Program) ->
 fn see_world<W: Write>(page: &mut Page<'_, W>, world: World) -> io::Result<()> {
     page.ask("seen")?;
     match world.into_seen(page.alloc) {
-        Ok(seen) => {
-            page.value(seen.printed.count())?;
-            page.seen(&seen.threads, &seen.printed)
-        }
+        Ok(seen) => page.value(seen.printed.count()),
         Err(_) => page.memory(),
     }
 }

@@ -142,10 +142,7 @@ fn replay_journal<W: Write>(
     let start = start_of(page.alloc, program, "Work,Work")?;
     page.ask("replay")?;
     match replay(page.alloc, program, start, journal) {
-        Ok(seen) => {
-            page.value(seen.printed.count())?;
-            page.seen(&seen.threads, &seen.printed)
-        }
+        Ok(seen) => page.value(seen.printed.count()),
         Err(ReplayFault::Memory) => page.memory(),
         Err(_) => page.line(&"another fault"),
     }
