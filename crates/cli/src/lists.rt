@@ -34,7 +34,7 @@ pub(crate) fn list_name(word: &str) -> Option<&str>
 ///
 /// # Errors
 /// `File` of the first list that can't be read, or `List` of the first that is not UTF-8; `Memory`.
-pub(crate) fn given<'a, F: Files>(
+pub(crate) fn words_given<'a, F: Files>(
     alloc: Global,
     words: &[&'a str],
     files: &mut F,

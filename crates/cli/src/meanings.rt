@@ -99,13 +99,13 @@ impl<E: Write> Errors for Voice<'_, E> {
     }
 }
 
-/// The range of the number that words get wrong, by what is said of them.
+/// The range of the number that words get wrong, by what is said of them, where that does not say it.
 fn range_in(text: &str) -> Option<&'static str> {
     if text.contains("' for '--budget <N>'") {
         Some(BUDGETS)
     } else if text.contains("' for '--workers <N>'") {
         Some(WORKERS)
-    } else if text.contains("' for '--limit <N>'") {
+    } else if text.contains("' for '--limit <N>'") && !text.contains(" is not in ") {
         Some(LIMITS)
     } else {
         None

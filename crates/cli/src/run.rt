@@ -17,7 +17,7 @@ use crate::by_threads::{Journaled, replayed, run_by_threads};
 use crate::files::put;
 use crate::image_run::ImageStart;
 use crate::lazy::LazyStart;
-use crate::lists::{Given, given, names};
+use crate::lists::{Given, names, words_given};
 use crate::meanings::{Errors, Voice};
 use crate::outputs::{overwritten, overwritten_list};
 use crate::parents::tell_parent;
@@ -165,7 +165,7 @@ fn do_asked<R: Threads + Wait + Sync, F: Files, W: Write + Send + Drop, E: Write
     ensures done { IsOver result.0 → HoldsWithLists (F.holds files.old) asked (λ request. IsApart request
         × IsDone (F.holds files.old) (F.holds files.new) (W.contents out) (W.contents result.2) request result.0) }
 {
-    match given(alloc, asked.files(), files) {
+    match words_given(alloc, asked.files(), files) {
         Ok(given) => do_listed(rt, alloc, asked, given.as_slice(), files, out, errors, watch),
         Err(refusal) => (refuse_asked(alloc, &asked, &refusal, errors), Held::Nothing, out),
     }
