@@ -208,5 +208,5 @@ pub record HasHelped (before after : Option (List ℕ)) (status : Status) : Type
 -- What was done that the words ask for.
 abbrev pub DidWords : List (List ℕ) → Contents → Contents → Option (List ℕ) → Option (List ℕ) → Status → Type 0
 DidWords words old new before after status =
-    HasHelped before after status
+    ((new ≡ old) × HasHelped before after status)
     ⊎ AskFor words old (λ request. IsApart request × IsDone old new before after request status)

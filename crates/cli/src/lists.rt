@@ -53,11 +53,7 @@ pub(crate) fn words_given<'a, F: Files>(
 }
 
 /// What a word stands for.
-fn given_as<'a, F: Files>(
-    alloc: Global,
-    word: &'a str,
-    files: &mut F,
-) -> Result<Given<'a>, Refusal>
+fn given_as<'a, F: Files>(alloc: Global, word: &'a str, files: &mut F) -> Result<Given<'a>, Refusal>
     ensures given { IfOk result (IsGivenAs (F.holds files.old) word.now) }
     ensures same { F.holds files.new ≡ F.holds files.old }
 {
@@ -92,10 +88,7 @@ fn add_given<'a>(given: &mut Vec<Given<'a>>, one: Given<'a>) -> Result<(), Alloc
 ///
 /// # Errors
 /// `AllocError` where memory is refused.
-pub(crate) fn names<'a>(
-    alloc: Global,
-    given: &'a [Given<'a>],
-) -> Result<Vec<&'a str>, AllocError>
+pub(crate) fn names<'a>(alloc: Global, given: &'a [Given<'a>]) -> Result<Vec<&'a str>, AllocError>
     ensures { IfOk result (λ names. texts names.items ≡ flat_map names_of given.now) }
 {
     let mut names = Vec::new(alloc);

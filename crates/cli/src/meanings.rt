@@ -117,7 +117,9 @@ fn range_in(text: &str) -> Option<&'static str> {
 fn orphan(alloc: Global, refusal: &Refusal) -> Option<String> {
     match refusal {
         Refusal::Link(LinkFault::Parent { name, kind }) => match kind {
-            BadParent::UnknownSuperclass | BadParent::UnknownInterface => name.to_string(alloc).ok(),
+            BadParent::UnknownSuperclass | BadParent::UnknownInterface => name
+                .to_string(alloc)
+                .ok(),
             _ => None,
         },
         _ => None,

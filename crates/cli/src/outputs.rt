@@ -86,10 +86,7 @@ pub(crate) fn overwritten_list<'a, F: Files>(
     }
 }
 
-fn list_overwritten_by_build<'a, F: Files>(
-    words: &Build<'a>,
-    files: &mut F,
-) -> Option<Clash<'a>>
+fn list_overwritten_by_build<'a, F: Files>(words: &Build<'a>, files: &mut F) -> Option<Clash<'a>>
     ensures image { result ≡ None → IsNoListOf words.now.image.now (texts words.now.building.files.items) }
     ensures report { result ≡ None → IfSome words.now.report
         (λ name. IsNoListOf name.now (texts words.now.building.files.items)) }
@@ -106,11 +103,7 @@ fn list_overwritten_by_build<'a, F: Files>(
 }
 
 /// An output, if it is one of the lists that these words name.
-fn among_lists<'a, F: Files>(
-    output: &'a str,
-    words: &[&str],
-    files: &mut F,
-) -> Option<Clash<'a>>
+fn among_lists<'a, F: Files>(output: &'a str, words: &[&str], files: &mut F) -> Option<Clash<'a>>
     ensures apart { result ≡ None → IsNoListOf output.now (texts words.now) }
     ensures same { F.holds files.new ≡ F.holds files.old }
 {

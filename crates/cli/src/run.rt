@@ -166,8 +166,21 @@ fn do_asked<R: Threads + Wait + Sync, F: Files, W: Write + Send + Drop, E: Write
         × IsDone (F.holds files.old) (F.holds files.new) (W.contents out) (W.contents result.2) request result.0) }
 {
     match words_given(alloc, asked.files(), files) {
-        Ok(given) => do_listed(rt, alloc, asked, given.as_slice(), files, out, errors, watch),
-        Err(refusal) => (refuse_asked(alloc, &asked, &refusal, errors), Held::Nothing, out),
+        Ok(given) => do_listed(
+            rt,
+            alloc,
+            asked,
+            given.as_slice(),
+            files,
+            out,
+            errors,
+            watch,
+        ),
+        Err(refusal) => (
+            refuse_asked(alloc, &asked, &refusal, errors),
+            Held::Nothing,
+            out,
+        ),
     }
 }
 

@@ -87,22 +87,27 @@ fn renew_command<'a>(alloc: Global) -> Result<Command<'a>, AllocError> {
 }
 
 fn explain_command<'a>(alloc: Global) -> Result<Command<'a>, AllocError> {
-    let explain =
-        described(alloc, "explain", EXPLAIN_ABOUT, EXPLAIN_LONG_ABOUT)?.arg(class(alloc))?;
+    let explain = described(alloc, "explain", EXPLAIN_ABOUT, EXPLAIN_LONG_ABOUT)?.arg(class(
+        alloc,
+    ))?;
     with_building(alloc, explain)
 }
 
 fn audit_command<'a>(alloc: Global) -> Result<Command<'a>, AllocError> {
     described(alloc, "audit", AUDIT_ABOUT, AUDIT_LONG_ABOUT)?
         .arg(entries(alloc))?
-        .arg(file(alloc, "The class files to look at, in any order; '@LIST' for those that LIST names, one a line"))
+        .arg(file(
+            alloc,
+            "The class files to look at, in any order; '@LIST' for those that LIST names, one a line",
+        ))
 }
 
 fn lazy_command<'a>(alloc: Global) -> Result<Command<'a>, AllocError> {
     let lazy = described(alloc, "lazy", LAZY_ABOUT, LAZY_LONG_ABOUT)?;
-    with_entries(alloc, lazy)?
-        .arg(stacks(alloc))?
-        .arg(file(alloc, "The class files to run, in any order; '@LIST' for those that LIST names, one a line"))
+    with_entries(alloc, lazy)?.arg(stacks(alloc))?.arg(file(
+        alloc,
+        "The class files to run, in any order; '@LIST' for those that LIST names, one a line",
+    ))
 }
 
 fn run_command<'a>(alloc: Global) -> Result<Command<'a>, AllocError> {
@@ -139,9 +144,10 @@ fn described<'a>(
 
 /// A command with the arguments of a build: its options and class files.
 fn with_building<'a>(alloc: Global, command: Command<'a>) -> Result<Command<'a>, AllocError> {
-    with_lists(alloc, command)?
-        .arg(budget(alloc))?
-        .arg(file(alloc, "The class files, in any order; '@LIST' for those that LIST names, one a line"))
+    with_lists(alloc, command)?.arg(budget(alloc))?.arg(file(
+        alloc,
+        "The class files, in any order; '@LIST' for those that LIST names, one a line",
+    ))
 }
 
 /// A command with the two lists of a build.

@@ -1,13 +1,12 @@
 -- Texts of class files are short.
 use Rattle.std.proofs.Common.{◌≡◌, ◌∙◌, ℕ, suc, ◌+◌, ◌<◌, ◌≤◌, ◌^◌, ◌/◌, ◌%◌, ◌&&◌, Bool, true, false, nat_lt}
 use Rattle.std.proofs.Common.{inl, inr}
-use Rattle.std.proofs.Common.{List, [], ◌∷◌, ◌++◌, length, get_or, Some, None, slice_get, refl}
+use Rattle.std.proofs.Common.{List, [], ◌∷◌, ◌++◌, length, get_or, Some, slice_get, refl}
 use Rattle.std.proofs.Common.{sym, ap}
 use Rattle.std.proofs.Common.{subst, arith, length-append, if◌then◌else◌}
 use Rattle.std.specs.List.{All, Contains, flat_map}
 use Rattle.std.proofs.lemmas.Bool.{cases_lt}
 use Rattle.std.proofs.lemmas.List.{get_or_past}
-use Rattle.std.proofs.lemmas.Option.{slice_get_past}
 use Rattle.std.proofs.lemmas.List.Concat.{flat_map-cons}
 use Rattle.std.proofs.lemmas.List.Elements.{All-nil, All-cons, All-same, All-append, All-contains, Contains-get_or}
 use Rattle.std.proofs.lemmas.List.Elements.{Contains-append_cases, Contains-append_left, Contains-push}
@@ -24,7 +23,6 @@ use Rattle.loading.specs.Families.{file_of}
 use Rattle.loading.specs.Names.{text_at}
 use Rattle.program.specs.Strings.{string_of, strings_of, all_strings, AreFirsts, IsText}
 use Rattle.program.specs.Tables.{Tables}
-use Rattle.region_shape.specs.Laws.{IsFromFile}
 use Rattle.image_format.proofs.NamesLemmas.{FitsUtf8, empty_fits, utf8_fits}
 use Rattle.image_writer.specs.steps.Sizes.{HasFiles}
 
@@ -131,21 +129,3 @@ units_few text units fits each spelled =
     units_are text units each spelled
     ∙ sym (units_are text fits.modified.units fits.modified.each (sym fits.modified.spelled)) in
     omega (arith, ap length same, fits.few)
-
--- ---- files of all classes
-
-module _ (P : Tables) where
-  pub from_files_more : (n : ℕ) → ((c : ℕ) → c < n → IsFromFile P c) → IsFromFile P n → (c : ℕ) → c < n + 1
-      → IsFromFile P c
-  from_files_more n before here c low = elim (cases_lt c n) [
-    | inl less ↦ before c less
-    | inr high ↦ (let same : c ≡ n = omega arith in subst (λ d. IsFromFile P d) (sym same) here)
-  ]
-
-  pub from_files_all : (n : ℕ) → length P.family ≤ n → ((c : ℕ) → c < n → IsFromFile P c) → (c : ℕ)
-      → IsFromFile P c
-  from_files_all n all before c f at = elim (cases_lt c n) [
-    | inl less ↦ before c less f at
-    | inr high ↦ absurd (let none : file_of None ≡ Some f =
-        ap file_of (sym (slice_get_past P.family c (omega (arith, all)))) ∙ at in cc)
-  ]

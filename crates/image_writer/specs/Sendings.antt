@@ -13,7 +13,13 @@ pub record IsBegun (text : List ℕ) (before after : Option (List ℕ)) (fault :
   pub within : sent_of fault ≤ length text
   pub got : Appends before after (take (sent_of fault) text)
 
--- the sink's number of failures changed, where the sink is blamed, and is the same where memory is
+-- the sink's number of failures changed, where the sink is blamed; where memory is, it is the same, and nothing has
+-- gone out
 abbrev pub HasFailed : ℕ → ℕ → WriteFault → Type 0
-HasFailed before after (faults.Memory sent) = after ≡ before
+HasFailed before after (faults.Memory sent) = (sent ≡ 0) × (after ≡ before)
 HasFailed before after (faults.Device sent) = after ≢ before
+
+-- the sink is blamed, and not memory
+abbrev pub IsOfDevice : WriteFault → Type 0
+IsOfDevice (faults.Memory sent) = ⊥
+IsOfDevice (faults.Device sent) = Unit {0}

@@ -15,8 +15,8 @@ use std::alloc::Global;
 /// Writes an image whose class files are shorter than 2^32 bytes: its text goes out to a sink.
 ///
 /// # Errors
-/// `Memory` where memory runs out, `Device` where the sink failed in this call. The first bytes of the text have gone
-/// out then, as many as the fault says, and nothing else.
+/// `Memory` where memory runs out, before anything has gone out. `Device` where the sink failed in this call: the first
+/// bytes of the text have gone out then, as many as the fault says, and nothing else.
 pub fn write<S: Sink>(alloc: Global, image: &Image, sink: &mut S) -> Result<(), WriteFault>
     requires { AreShort image.now.program.family }
     ensures whole { OnOk result (Appends (S.got sink.old) (S.got sink.new) (text_of image.now)) }

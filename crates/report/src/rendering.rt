@@ -16,8 +16,8 @@ use std::alloc::Global;
 /// Writes the report of an image and the last verdicts on its classes: its text goes out to a sink.
 ///
 /// # Errors
-/// `Memory` where memory runs out, `Device` where the sink failed in this call. The first bytes of the text have gone
-/// out then, as many as the fault says, and nothing else.
+/// `Memory` where memory runs out, before anything has gone out. `Device` where the sink failed in this call: the first
+/// bytes of the text have gone out then, as many as the fault says, and nothing else.
 pub fn render<S: Sink>(
     alloc: Global,
     image: &Image,
