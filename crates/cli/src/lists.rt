@@ -79,7 +79,7 @@ fn list_text<F: Files>(alloc: Global, list: &str, files: &mut F) -> Result<Strin
 }
 
 fn add_given<'a>(given: &mut Vec<Given<'a>>, one: Given<'a>) -> Result<(), AllocError>
-    ensures { OnOk result (given.new.items ≡ given.old.items ++ one ∷ []) }
+    ensures { OnOk result (given.new.items ≡ given.old.items ++ one.entry ∷ []) }
 {
     Ok(given.push(one)?)
 }

@@ -159,10 +159,10 @@ fn do_asked<R: Threads + Wait + Sync, F: Files, W: Write + Send + Drop, E: Write
     errors: &mut E,
     watch: &H,
 ) -> (Status, Held, W)
-    ensures refused { result.0 ≡ Status.Refused → (result.2 ≡ out) ⊎ HoldsWithLists (F.holds files.old) asked
+    ensures refused { result.0 ≡ Status.Refused → (result.2 ≡ out) ⊎ HoldsWithLists (F.holds files.old) asked.entry
         (λ request. IsOfRun (F.holds files.old) request (W.contents out) (W.contents result.2)) }
     ensures words { result.0 ≡ Status.Words → result.2 ≡ out }
-    ensures done { IsOver result.0 → HoldsWithLists (F.holds files.old) asked (λ request. IsApart request
+    ensures done { IsOver result.0 → HoldsWithLists (F.holds files.old) asked.entry (λ request. IsApart request
         × IsDone (F.holds files.old) (F.holds files.new) (W.contents out) (W.contents result.2) request result.0) }
 {
     match words_given(alloc, asked.files(), files) {
@@ -216,10 +216,10 @@ fn do_listed<
     watch: &H,
 ) -> (Status, Held, W)
     requires { AreGivenAs (F.holds files.old) (texts (files_of asked)) given.now }
-    ensures refused { result.0 ≡ Status.Refused → (result.2 ≡ out) ⊎ HoldsWithLists (F.holds files.old) asked
+    ensures refused { result.0 ≡ Status.Refused → (result.2 ≡ out) ⊎ HoldsWithLists (F.holds files.old) asked.entry
         (λ request. IsOfRun (F.holds files.old) request (W.contents out) (W.contents result.2)) }
     ensures words { result.0 ≡ Status.Words → result.2 ≡ out }
-    ensures done { IsOver result.0 → HoldsWithLists (F.holds files.old) asked (λ request. IsApart request
+    ensures done { IsOver result.0 → HoldsWithLists (F.holds files.old) asked.entry (λ request. IsApart request
         × IsDone (F.holds files.old) (F.holds files.new) (W.contents out) (W.contents result.2) request result.0) }
 {
     match names(alloc, given) {

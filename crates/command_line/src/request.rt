@@ -162,7 +162,7 @@ impl<'a> Request<'a> {
 
     /// The same request of these class files, where it is one of class files.
     pub fn with_files(self, files: Vec<&'a str>) -> Request<'a>
-        ensures { result ≡ with_files self files }
+        ensures { result ≡ with_files self.entry files.entry }
     {
         match self {
             Request::Audit(words) => Request::Audit(Audit {
@@ -198,7 +198,7 @@ impl<'a> Request<'a> {
 impl<'a> Building<'a> {
     /// The same build of these class files.
     fn with_files(self, files: Vec<&'a str>) -> Building<'a>
-        ensures { result ≡ building_with self files }
+        ensures { result ≡ building_with self.entry files.entry }
     {
         Building {
             run_time: self.run_time,
