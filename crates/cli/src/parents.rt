@@ -7,6 +7,7 @@ use crate::{Files, Refusal};
 use built_in::class_id::BuiltIn;
 use classfile::{ClassFile, ClassName, printed};
 use std::alloc::{AllocError, Global};
+use std::collections::BTreeSet;
 use std::io::Write;
 
 /// Tells which parent of a class is missing among class files, which are read once more. It changes no file.
@@ -54,7 +55,8 @@ fn parent_text(
     let Some(class) = class_named(classes, name.bytes()) else {
         return Ok(None);
     };
-    match missing_parent(class, classes) {
+    let names = names_of(alloc, classes)?;
+    match missing_parent(class, &names) {
         Some((what, parent)) => {
             let parent = printed(alloc, parent)?;
             Ok(Some(format!(in alloc; "{what} {parent}")?))
@@ -63,26 +65,37 @@ fn parent_text(
     }
 }
 
-/// The superclass of a class, or else the first of its superinterfaces, that is neither among these nor built in.
+/// The names of classes.
+fn names_of<'a>(alloc: Global, classes: &'a [ClassFile]) -> Result<BTreeSet<&'a [u8]>, AllocError> {
+    let mut names = BTreeSet::new(alloc);
+    for class in classes {
+        if let Some(name) = class.class_name(class.this_class()) {
+            names.insert(name)?;
+        }
+    }
+    Ok(names)
+}
+
+/// The superclass of a class, or else the first of its superinterfaces, that is neither of these names nor built in.
 fn missing_parent<'a>(
     class: &'a ClassFile,
-    classes: &[ClassFile],
+    names: &BTreeSet<&[u8]>,
 ) -> Option<(&'static str, &'a [u8])> {
-    if let Some(parent) = missing(class, class.super_class(), classes) {
+    if let Some(parent) = missing(class, class.super_class(), names) {
         return Some(("superclass", parent));
     }
     for interface in class.interfaces() {
-        if let Some(parent) = missing(class, *interface, classes) {
+        if let Some(parent) = missing(class, *interface, names) {
             return Some(("interface", parent));
         }
     }
     None
 }
 
-/// The name that a constant of a class names, where it is neither among these nor built in.
-fn missing<'a>(class: &'a ClassFile, constant: u16, classes: &[ClassFile]) -> Option<&'a [u8]> {
+/// The name that a constant of a class names, where it is neither of these names nor built in.
+fn missing<'a>(class: &'a ClassFile, constant: u16, names: &BTreeSet<&[u8]>) -> Option<&'a [u8]> {
     let name = class.class_name(constant)?;
-    if BuiltIn::named(name).is_some() || class_named(classes, name).is_some() {
+    if BuiltIn::named(name).is_some() || names.contains(&name) {
         return None;
     }
     Some(name)
