@@ -576,4 +576,5 @@ def main():
     print(kind, len(files), "classes,", sum(map(len, files)), "bytes")
 
 
-main()
+if __name__ == "__main__":
+    main()

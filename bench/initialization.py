@@ -439,4 +439,5 @@ def main():
     sys.exit(not told(asked, count, ends))
 
 
-main()
+if __name__ == "__main__":
+    main()
