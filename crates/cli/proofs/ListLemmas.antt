@@ -97,7 +97,7 @@ module _ (lines : List (Bor (List ℕ))) (i : ℕ) (d : Bor (List ℕ)) (within 
 
 parts_given : (holds : Contents) (words : List (List ℕ)) (given : List Given) → AreGivenAs holds words given
     → AllZip (λ (word : List ℕ) (part : List (List ℕ)). StandFor holds word (list_of word) part) words
-        (map names_of given)
+    (map names_of given)
 parts_given holds [] [] all = all
 parts_given holds (word ∷ words) (one ∷ given) all = (all.0, parts_given holds words given all.1)
 

@@ -32,19 +32,19 @@ pub(crate) trait Errors {
 
 /// A standard error, and whether refusals are explained there.
 #[derive(Drop)]
-pub(crate) struct Voice<'a, E> {
+pub(crate) struct Voice<'a, 'b, E> {
     alloc: Global,
     errors: &'a mut E,
     is_verbose: bool,
     /// The class files, of which a refusal tells the place.
-    files: &'a [&'a str],
+    files: &'a [&'b str],
     /// The class without a parent that was told, as it is printed.
     child: Option<String>,
 }
 
-impl<'a, E: Write> Voice<'a, E> {
+impl<'a, 'b, E: Write> Voice<'a, 'b, E> {
     /// One for these words, which are no command.
-    pub(crate) fn of_words(alloc: Global, words: &[&str], errors: &'a mut E) -> Voice<'a, E> {
+    pub(crate) fn of_words(alloc: Global, words: &[&str], errors: &'a mut E) -> Voice<'a, 'b, E> {
         Voice {
             alloc,
             errors,
@@ -55,7 +55,11 @@ impl<'a, E: Write> Voice<'a, E> {
     }
 
     /// One that explains what the words of a request ask for.
-    pub(crate) fn of(alloc: Global, request: &'a Request<'a>, errors: &'a mut E) -> Voice<'a, E> {
+    pub(crate) fn of(
+        alloc: Global,
+        request: &'a Request<'b>,
+        errors: &'a mut E,
+    ) -> Voice<'a, 'b, E> {
         Voice {
             alloc,
             errors,
@@ -71,7 +75,7 @@ impl<'a, E: Write> Voice<'a, E> {
     }
 }
 
-impl<E: Write> Errors for Voice<'_, E> {
+impl<E: Write> Errors for Voice<'_, '_, E> {
     fn tell(&mut self, text: &str) {
         let _ = self.errors.write_all(text.as_bytes());
         let _ = self.errors.flush();
