@@ -25,6 +25,7 @@ use crate::telling::{
     refuse, tell_audit, tell_done, tell_endings, tell_no_files, tell_overwritten, tell_replay,
     tell_report, tell_words,
 };
+use crate::untold::tell_untold;
 use crate::{
     Files, Lazy, Ran, Refusal, Replay, Request, Run, RunFault, Status, Unwatched, Watch, auditing,
     explaining, image_build, image_run, lazy, line, renewing, reporting, run_world, status_of,
