@@ -84,7 +84,7 @@ impl<E: Write> Errors for Voice<'_, E> {
     fn refuse(&mut self, refusal: &Refusal) {
         let _ = writeln!(self.errors, "preinit: {refusal}");
         if self.is_verbose {
-            self.untold = untold(self.alloc, refusal);
+            self.untold = left_untold(self.alloc, refusal);
             if self.untold.is_none() {
                 let _ = write_meaning(self.errors, refusal);
             }
@@ -117,11 +117,11 @@ fn range_in(text: &str) -> Option<&'static str> {
 }
 
 /// What takes the names of the class files to be told of a refusal. None where memory for it is refused.
-fn untold(alloc: Global, refusal: &Refusal) -> Option<Untold> {
+fn left_untold(alloc: Global, refusal: &Refusal) -> Option<Untold> {
     match refusal {
         Refusal::Class(place, fault) => Some(Untold::Class(*place, class_meaning(fault))),
         Refusal::Link(LinkFault::Parent { name, kind }) => match kind {
-            BadParent::UnknownSuperclass | BadParent::UnknownInterface => child(alloc, name),
+            BadParent::UnknownSuperclass | BadParent::UnknownInterface => untold_child(alloc, name),
             _ => None,
         },
         _ => None,
@@ -129,7 +129,7 @@ fn untold(alloc: Global, refusal: &Refusal) -> Option<Untold> {
 }
 
 /// A class that lacks a parent.
-fn child(alloc: Global, name: &ClassName) -> Option<Untold> {
+fn untold_child(alloc: Global, name: &ClassName) -> Option<Untold> {
     match name.to_string(alloc) {
         Ok(name) => Some(Untold::Child(name)),
         Err(_) => None,
