@@ -24,7 +24,6 @@ mod lazy;
 mod lists;
 mod meanings;
 mod outputs;
-mod parents;
 mod renewing;
 mod reporting;
 mod requested;
@@ -34,6 +33,7 @@ mod standing;
 mod status;
 mod telling;
 mod threads;
+mod untold;
 mod watching;
 
 pub use building::{BuildFault, BuildOptions, Built};

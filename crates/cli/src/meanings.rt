@@ -3,7 +3,7 @@
 //! Standard error is a trait, so that no function that tells something has the parts of a `Voice` among its locals.
 
 use crate::{Refusal, Request};
-use classfile::ClassFault;
+use classfile::{ClassFault, ClassName};
 use init_engine::EntryFault;
 use loading::fault::{BadParent, LinkFault};
 use std::alloc::Global;
@@ -30,16 +30,22 @@ pub(crate) trait Errors {
     fn wrong(&mut self, text: &str);
 }
 
+/// What is left to be told of a refusal, since it takes the names of the class files.
+#[derive(Drop)]
+pub(crate) enum Untold {
+    /// The class file of this place, and what is wrong with it.
+    Class(usize, &'static str),
+    /// The class of this name, as it is printed, lacks a parent.
+    Child(String),
+}
+
 /// A standard error, and whether refusals are explained there.
 #[derive(Drop)]
 pub(crate) struct Voice<'a, E> {
     alloc: Global,
     errors: &'a mut E,
     is_verbose: bool,
-    /// The class files, of which a refusal tells the place.
-    files: &'a [&'a str],
-    /// The class without a parent that was told, as it is printed.
-    child: Option<String>,
+    untold: Option<Untold>,
 }
 
 impl<'a, E: Write> Voice<'a, E> {
@@ -49,25 +55,23 @@ impl<'a, E: Write> Voice<'a, E> {
             alloc,
             errors,
             is_verbose: words.contains(&"--verbose"),
-            files: &[],
-            child: None,
+            untold: None,
         }
     }
 
     /// One that explains what the words of a request ask for.
-    pub(crate) fn of(alloc: Global, request: &'a Request<'a>, errors: &'a mut E) -> Voice<'a, E> {
+    pub(crate) fn of(alloc: Global, request: &Request<'_>, errors: &'a mut E) -> Voice<'a, E> {
         Voice {
             alloc,
             errors,
             is_verbose: request.is_verbose(),
-            files: request.files(),
-            child: None,
+            untold: None,
         }
     }
 
-    /// The class without a parent that was told and not explained, as it is printed.
-    pub(crate) fn into_child(self) -> Option<String> {
-        self.child
+    /// What is left to be told.
+    pub(crate) fn into_untold(self) -> Option<Untold> {
+        self.untold
     }
 }
 
@@ -80,9 +84,9 @@ impl<E: Write> Errors for Voice<'_, E> {
     fn refuse(&mut self, refusal: &Refusal) {
         let _ = writeln!(self.errors, "preinit: {refusal}");
         if self.is_verbose {
-            self.child = orphan(self.alloc, refusal);
-            if self.child.is_none() {
-                let _ = write_meaning(self.errors, refusal, self.files);
+            self.untold = left_untold(self.alloc, refusal);
+            if self.untold.is_none() {
+                let _ = write_meaning(self.errors, refusal);
             }
         }
         let _ = self.errors.flush();
@@ -112,28 +116,29 @@ fn range_in(text: &str) -> Option<&'static str> {
     }
 }
 
-/// The class, as it is printed, that a refusal says no file of a parent is given of. None where memory for it is
-/// refused.
-fn orphan(alloc: Global, refusal: &Refusal) -> Option<String> {
+/// What takes the names of the class files to be told of a refusal. None where memory for it is refused.
+fn left_untold(alloc: Global, refusal: &Refusal) -> Option<Untold> {
     match refusal {
+        Refusal::Class(place, fault) => Some(Untold::Class(*place, class_meaning(fault))),
         Refusal::Link(LinkFault::Parent { name, kind }) => match kind {
-            BadParent::UnknownSuperclass | BadParent::UnknownInterface => name
-                .to_string(alloc)
-                .ok(),
+            BadParent::UnknownSuperclass | BadParent::UnknownInterface => untold_child(alloc, name),
             _ => None,
         },
         _ => None,
     }
 }
 
+/// A class that lacks a parent.
+fn untold_child(alloc: Global, name: &ClassName) -> Option<Untold> {
+    match name.to_string(alloc) {
+        Ok(name) => Some(Untold::Child(name)),
+        Err(_) => None,
+    }
+}
+
 /// Writes what a refusal means, as a line.
-fn write_meaning<E: Write>(errors: &mut E, refusal: &Refusal, files: &[&str]) -> io::Result<()> {
+fn write_meaning<E: Write>(errors: &mut E, refusal: &Refusal) -> io::Result<()> {
     match refusal {
-        Refusal::Class(place, fault) => {
-            let file = files.get(*place).copied().unwrap_or("a class file");
-            let meaning = class_meaning(fault);
-            writeln!(errors, "{file}: {meaning}")
-        }
         Refusal::File(name, cause) => writeln!(errors, "{name}: {cause}"),
         Refusal::List(name) => writeln!(errors, "{name}: it is a list that is not UTF-8"),
         _ => {

@@ -20,12 +20,12 @@ use crate::lazy::LazyStart;
 use crate::lists::{Given, names, words_given};
 use crate::meanings::{Errors, Voice};
 use crate::outputs::{overwritten, overwritten_list};
-use crate::parents::tell_parent;
 use crate::standing::{tell_image_stacks, tell_lazy_stacks};
 use crate::telling::{
     refuse, tell_audit, tell_done, tell_endings, tell_no_files, tell_overwritten, tell_replay,
     tell_report, tell_words,
 };
+use crate::untold::tell_untold;
 use crate::{
     Files, Lazy, Ran, Refusal, Replay, Request, Run, RunFault, Status, Unwatched, Watch, auditing,
     explaining, image_build, image_run, lazy, line, renewing, reporting, run_world, status_of,
@@ -259,8 +259,7 @@ fn do_given<R: Threads + Wait + Sync, F: Files, W: Write + Send + Drop, E: Write
     }
 }
 
-/// Does the command of a request, and tells which parent is missing, if that is what it was refused for. Answers
-/// standard output back.
+/// Does the command of a request, and tells what is left to be told of a refusal. Answers standard output back.
 fn do_told<R: Threads + Wait + Sync, F: Files, W: Write + Send + Drop, E: Write, H: Watch + Sync>(
     rt: &R,
     alloc: Global,
@@ -279,8 +278,8 @@ fn do_told<R: Threads + Wait + Sync, F: Files, W: Write + Send + Drop, E: Write,
 {
     let mut voice = Voice::of(alloc, request, errors);
     let (status, held, out) = do_request(rt, alloc, request, files, out, &mut voice, watch);
-    if let Some(child) = voice.into_child() {
-        tell_parent(alloc, child.as_str(), request.files(), files, errors);
+    if let Some(untold) = voice.into_untold() {
+        tell_untold(alloc, &untold, request.files(), files, errors);
     }
     (status, held, out)
 }

@@ -1,8 +1,9 @@
-//! The parent of a class that no class file is given of, by its name, for the words on a refusal.
+//! The words on a refusal that take the names of the class files, and what these hold: the parent that a class lacks.
 ghost use Rattle.std.specs.Prelude.{◌≡◌};
 
 use crate::class_files::class_files;
 use crate::files::contents;
+use crate::meanings::Untold;
 use crate::{Files, Refusal};
 use built_in::class_id::BuiltIn;
 use classfile::{ClassFile, ClassName, printed};
@@ -10,8 +11,29 @@ use std::alloc::{AllocError, Global};
 use std::collections::BTreeSet;
 use std::io::Write;
 
-/// Tells which parent of a class is missing among class files, which are read once more. It changes no file.
-pub(crate) fn tell_parent<F: Files, E: Write>(
+/// Tells what was left to be told of a refusal, by the names of the class files. It changes no file.
+pub(crate) fn tell_untold<F: Files, E: Write>(
+    alloc: Global,
+    untold: &Untold,
+    names: &[&str],
+    files: &mut F,
+    errors: &mut E,
+)
+    ensures { F.holds files.new ≡ F.holds files.old }
+{
+    match untold {
+        Untold::Class(place, meaning) => {
+            let file = names.get(*place).copied().unwrap_or("a class file");
+            // A failure of standard error is ignored.
+            let _ = writeln!(errors, "{file}: {meaning}");
+            let _ = errors.flush();
+        }
+        Untold::Child(child) => tell_parent(alloc, child.as_str(), names, files, errors),
+    }
+}
+
+/// Tells which parent of a class is missing among class files, which are read once more.
+fn tell_parent<F: Files, E: Write>(
     alloc: Global,
     child: &str,
     names: &[&str],
