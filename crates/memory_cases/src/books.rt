@@ -1,6 +1,6 @@
 //! Calls on a book, by commits of one thread.
 
-ghost use Rattle.std.specs.Prelude.{◌≡◌, length};
+ghost use Rattle.std.specs.Prelude.{◌≡◌, ◌<◌, length};
 ghost use Rattle.init_engine.specs.Turns.{world_of};
 
 use crate::page::{Page, TIMES};

@@ -1,5 +1,6 @@
 //! Calls that make images, write and read them.
 
+ghost use Rattle.std.specs.Prelude.{IfOk};
 ghost use Rattle.image_format.specs.Images.{AreShort};
 ghost use Rattle.report.specs.Waves.{GiveWaves};
 
