@@ -1,6 +1,6 @@
 //! Calls that make images, write and read them.
 
-ghost use Rattle.std.specs.Prelude.{IfOk};
+ghost use Rattle.std.specs.Prelude.{◌≡◌, IfOk};
 ghost use Rattle.image_format.specs.Images.{AreShort};
 ghost use Rattle.report.specs.Waves.{GiveWaves};
 
@@ -25,7 +25,9 @@ use wave_scheduler::Open;
 const WORKERS: u32 = 3;
 
 /// What is asked of the builds.
-fn options() -> BuildOptions<'static> {
+fn options() -> BuildOptions<'static>
+    ensures { result.budget ≡ 1000 }
+{
     BuildOptions {
         run_time: Some("Uses"),
         build_time: Some("W"),
