@@ -1,6 +1,5 @@
 //! Inputs are fed to readers, and their answers counted.
 
-use crate::images::image_body;
 use crate::inputs::{Random, Spoiling, spoilt};
 use crate::page::{Page, wrong_data};
 use crate::programs::{files_of, program_of};
@@ -114,11 +113,9 @@ fn inputs_of(alloc: Global, texts: &[&str]) -> Result<Vec<Vec<u8>>, AllocError> 
     Ok(inputs)
 }
 
-/// Images without their digests: that of all classes, and one on each line, in which `file:` and a number stand for the
-/// bytes of a class.
-fn images_of(alloc: Global, files: &[Vec<u8>], lines: &str) -> io::Result<Vec<Vec<u8>>> {
+/// Images without their digests, one on each line, in which `file:` and a number stand for the bytes of a class.
+pub fn images_of(alloc: Global, files: &[Vec<u8>], lines: &str) -> io::Result<Vec<Vec<u8>>> {
     let mut images = Vec::new(alloc);
-    images.push(image_body(alloc, files)?)?;
     for line in lines.lines() {
         let image = spelled(alloc, &with_files(alloc, files, line)?)?;
         if !image.misspelled.is_empty() {

@@ -4,13 +4,15 @@ ghost use Rattle.std.specs.Prelude.{◌≡◌, IfOk};
 ghost use Rattle.image_format.specs.Images.{AreShort};
 ghost use Rattle.report.specs.Waves.{GiveWaves};
 
+use crate::feeding::images_of;
 use crate::page::{Page, TIMES, wrong_data};
 use crate::programs::{entries_of, files_of, linked};
+use crate::readers::add_digest;
 use crate::streams::Compared;
 use building::{BuildFault, BuildOptions, Built, build_program, build_program_here};
 use classfile::ClassName;
 use image_reader::{read, world};
-use image_writer::{WriteFault, image_text, write};
+use image_writer::{WriteFault, write};
 use object_graph::{Image, reachable};
 use report::render;
 use sinks::Out;
@@ -41,6 +43,7 @@ pub fn call<R: Threads + Wait + Sync, W: Write>(
     page: &mut Page<'_, W>,
     word: &str,
     text: &str,
+    images: &str,
 ) -> io::Result<bool> {
     match word {
         "build_program_here" | "build_program" => {
@@ -50,7 +53,7 @@ pub fn call<R: Threads + Wait + Sync, W: Write>(
             }
         }
         "render" | "image_writer::write" | "image_reader::read" | "world" | "reachable" => {
-            of_image(page, word, text)?
+            of_image(page, word, text, images)?
         }
         _ => return Ok(false),
     }
@@ -130,29 +133,27 @@ fn tell_sent<W: Write>(
     }
 }
 
-/// The bytes of what is built.
-fn bytes_of(alloc: Global, built: &Built) -> io::Result<Vec<u8>> {
-    match image_text(alloc, &built.image) {
-        Ok(bytes) => Ok(bytes),
-        Err(_) => Err(wrong_data()),
-    }
-}
-
-/// How many bytes of an image are its digest.
-const DIGEST: usize = 32;
-
-/// The bytes of the image of classes, without its digest.
-pub fn image_body(alloc: Global, files: &[Vec<u8>]) -> io::Result<Vec<u8>> {
-    let mut bytes = bytes_of(alloc, &built_of(alloc, files)?)?;
-    bytes.truncate(bytes.len().saturating_sub(DIGEST));
+/// The bytes of the image of all classes, the first of a text of images.
+fn first_image(alloc: Global, files: &[Vec<u8>], images: &str) -> io::Result<Vec<u8>> {
+    let Some(body) = images_of(alloc, files, images)?.into_iter().next() else {
+        return Err(wrong_data());
+    };
+    let mut bytes = body;
+    add_digest(&mut bytes)?;
     Ok(bytes)
 }
 
 /// Makes a call twice on the image of classes of a text, on its bytes, or for its report.
-fn of_image<W: Write>(page: &mut Page<'_, W>, word: &str, text: &str) -> io::Result<()> {
-    let built = built_of(page.alloc, &files_of(page.alloc, text)?)?;
+fn of_image<W: Write>(
+    page: &mut Page<'_, W>,
+    word: &str,
+    text: &str,
+    images: &str,
+) -> io::Result<()> {
+    let files = files_of(page.alloc, text)?;
+    let built = built_of(page.alloc, &files)?;
     let report = report_of(page.alloc, &built)?;
-    let bytes = bytes_of(page.alloc, &built)?;
+    let bytes = first_image(page.alloc, &files, images)?;
     match read(page.alloc, &bytes) {
         Ok(image) => ask_twice(page, word, &built, &report, &image, &bytes),
         Err(_) => Err(wrong_data()),

@@ -31,12 +31,13 @@ fn call<R: Threads + Wait + Sync, W: Write>(
     page: &mut Page<'_, W>,
     word: &str,
     text: &str,
+    images: &str,
 ) -> io::Result<bool> {
     Ok(
         files::call(page, word, text)?
             || verdicts::call(rt, page, word, text)?
             || lists::call(page, word, text)?
-            || images::call(rt, page, word, text)?
+            || images::call(rt, page, word, text, images)?
             || runs::call(page, word, text)?
             || books::call(page, word, text)?
             || threads::call(rt, page, word, text)?,
@@ -53,7 +54,9 @@ where
     let images = fs::read_to_string(rt, "images.txt")?;
     let mut page = Page::new(rt.alloc(), out);
     for word in env::args(rt)?.skip(1) {
-        if !feed(&mut page, &word, &text, &images)? && !call(rt, &mut page, &word, &text)? {
+        if !feed(&mut page, &word, &text, &images)?
+            && !call(rt, &mut page, &word, &text, &images)?
+        {
             return Err(wrong_data());
         }
     }
