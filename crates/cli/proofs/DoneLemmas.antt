@@ -20,14 +20,14 @@ use Rattle.cli.specs.Status.{code_of}
 -- ---- words with the names of lists in their place
 
 -- what is done with the names that words give
-pub with_lists : (holds now : Contents) (asked : Request) (names : Vec (Bor (List ℕ))) (given : List Given)
-    (P : Contents → Request → Type 0) (request : Request) → AreGivenAs holds (texts (files_of asked)) given
-    → texts names.items ≡ flat_map names_of given → request ≡ with_files asked names → now ≡ holds → P now request
-    → HoldsWithLists holds asked (P holds)
-with_lists holds now asked names given P request all is made same has = record {
+pub with_lists : (holds : Contents) (asked : Request) (names : Vec (Bor (List ℕ))) (given : List Given)
+    (P : Request → Type 0) (request : Request) → AreGivenAs holds (texts (files_of asked)) given
+    → texts names.items ≡ flat_map names_of given → request ≡ with_files asked names → P request
+    → HoldsWithLists holds asked P
+with_lists holds asked names given P request all is made has = record {
   names = names;
   given = names_given holds (texts (files_of asked)) (texts names.items) given all is;
-  has = subst (λ (r : Request). P holds r) made (subst (λ (h : Contents). P h request) same has);
+  has = subst P made has;
 }
 
 -- what files held that nothing was written to since
