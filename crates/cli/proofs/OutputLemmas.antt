@@ -14,8 +14,7 @@ use Rattle.cli.specs.Builds.{IsBuildOfClassFiles}
 use Rattle.cli.specs.Done.{AreBothWritten, AreWritten, HasBuilt, options_of}
 use Rattle.cli.specs.Files.{AreBytesOf, AreTextsOf, Contents, OthersStay}
 use Rattle.cli.specs.ImageBuilds.{IsBuiltText}
-use Rattle.cli.specs.Lists.{list_of}
-use Rattle.cli.specs.Outputs.{IsNoListOf, IsNoneOf}
+use Rattle.cli.specs.Outputs.{IsNoneOf}
 use Rattle.cli.specs.steps.BuildTexts.{AreTextsOfBuild}
 
 -- one more input
@@ -29,18 +28,6 @@ inputs_more output inputs i d one within same apart all =
     rw front
     (All-push (λ (other : List ℕ). other ≢ output) (texts (take i inputs)) input all
     (λ is. let yes = same (sym is) in cc))
-
--- one more word that may name a list
-pub words_more : (output : List ℕ) (words : List (Bor (List ℕ))) (i : ℕ) (d : Bor (List ℕ)) (one : Bool)
-    → i < length words → (list_of (get_or words i d).now ≡ Some output → one ≡ true) → one ≡ false
-    → IsNoListOf output (texts (take i words)) → IsNoListOf output (texts (take (i + 1) words))
-words_more output words i d one within same apart all =
-    let word = (get_or words i d).now in
-    let front : texts (take (i + 1) words) ≡ texts (take i words) ++ word ∷ [] =
-    map_more (λ (word : Bor (List ℕ)). word.now) words i d within in
-    rw front
-    (All-push (λ (other : List ℕ). list_of other ≢ Some output) (texts (take i words)) word all
-    (λ is. let yes = same is in cc))
 
 -- ---- the outputs of a build
 

@@ -1,5 +1,5 @@
 use Rattle.std.proofs.Common.{◌∙◌}
-use Rattle.cli.proofs.OutputLemmas.{words_more}
+use Rattle.cli.proofs.ListLemmas.{words_more}
 use Rattle.cli.proofs.outputs.among_lists.Goals as goal
 
 pub loop-word-preserved : goal.loop-word-preserved
