@@ -1,6 +1,6 @@
 -- What was done that words ask for, and its status.
 use Rattle.std.proofs.Common.{◌≡◌, ◌⊎◌, inl, inr, ◌∙◌, ℕ, ◌==◌, List, refl, sym, ap, if◌then◌else◌}
-use Rattle.std.proofs.Common.{subst}
+use Rattle.std.proofs.Common.{¬◌, subst}
 use Rattle.std.specs.Borrow.{Bor}
 use Rattle.std.specs.Global.{Vec}
 use Rattle.std.specs.List.{flat_map}
@@ -15,7 +15,10 @@ use Rattle.cli.specs.Outputs.{AreListsApart}
 use Rattle.cli.specs.declared.lists.Given.{Given}
 use Rattle.cli.specs.steps.Lists.{AreGivenAs, names_of}
 use Rattle.cli.proofs.ListLemmas.{names_given}
-use Rattle.cli.specs.Status.{code_of}
+use Rattle.cli.specs.Refusal.{refusal_status}
+use Rattle.cli.specs.Status.{IsOver, code_of}
+use Rattle.cli.specs.declared.fault.Refusal.{Refusal}
+use Rattle.cli.specs.declared.fault.Refusal.TheVariants as refusals
 
 -- ---- words with the names of lists in their place
 
@@ -46,6 +49,25 @@ asked_for words holds now asked P read apart same has = record {
   lists = apart;
   has = held_before holds now asked P same has;
 }
+
+-- ---- refusals
+
+-- a command that was refused is not over
+pub refused_is_not_over : (refusal : Refusal) → ¬ IsOver (refusal_status refusal)
+refused_is_not_over refusals.Memory = λ over. over
+refused_is_not_over (refusals.Class place fault) = λ over. over
+refused_is_not_over (refusals.Link fault) = λ over. over
+refused_is_not_over (refusals.Image fault) = λ over. over
+refused_is_not_over (refusals.Entry fault) = λ over. over
+refused_is_not_over (refusals.Option text) = λ over. over
+refused_is_not_over refusals.Budget = λ over. over
+refused_is_not_over (refusals.Wave fault) = λ over. over
+refused_is_not_over (refusals.File name cause) = λ over. over
+refused_is_not_over (refusals.List name) = λ over. over
+refused_is_not_over (refusals.Text line) = λ over. over
+refused_is_not_over (refusals.Turn line) = λ over. over
+refused_is_not_over refusals.Spawn = λ over. over
+refused_is_not_over refusals.Device = λ over. over
 
 -- ---- numbers of statuses
 
