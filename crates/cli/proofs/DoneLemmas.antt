@@ -15,19 +15,22 @@ use Rattle.cli.specs.Outputs.{AreListsApart}
 use Rattle.cli.specs.declared.lists.Given.{Given}
 use Rattle.cli.specs.steps.Lists.{AreGivenAs, names_of}
 use Rattle.cli.proofs.ListLemmas.{names_given}
-use Rattle.cli.specs.Status.{code_of}
+use Rattle.cli.specs.Refusal.{refusal_status}
+use Rattle.cli.specs.Status.{IsOver, code_of}
+use Rattle.cli.specs.declared.fault.Refusal.{Refusal}
+use Rattle.cli.specs.declared.fault.Refusal.TheVariants as refusals
 
 -- ---- words with the names of lists in their place
 
 -- what is done with the names that words give
-pub with_lists : (holds now : Contents) (asked : Request) (names : Vec (Bor (List ℕ))) (given : List Given)
-    (P : Contents → Request → Type 0) (request : Request) → AreGivenAs holds (texts (files_of asked)) given
-    → texts names.items ≡ flat_map names_of given → request ≡ with_files asked names → now ≡ holds → P now request
-    → HoldsWithLists holds asked (P holds)
-with_lists holds now asked names given P request all is made same has = record {
+pub with_lists : (holds : Contents) (asked : Request) (names : Vec (Bor (List ℕ))) (given : List Given)
+    (P : Request → Type 0) (request : Request) → AreGivenAs holds (texts (files_of asked)) given
+    → texts names.items ≡ flat_map names_of given → request ≡ with_files asked names → P request
+    → HoldsWithLists holds asked P
+with_lists holds asked names given P request all is made has = record {
   names = names;
   given = names_given holds (texts (files_of asked)) (texts names.items) given all is;
-  has = subst (λ (r : Request). P holds r) made (subst (λ (h : Contents). P h request) same has);
+  has = subst P made has;
 }
 
 -- what files held that nothing was written to since
@@ -46,6 +49,25 @@ asked_for words holds now asked P read apart same has = record {
   lists = apart;
   has = held_before holds now asked P same has;
 }
+
+-- ---- refusals
+
+-- a command that was refused is not over
+pub refused_is_not_over : (refusal : Refusal) → ¬ IsOver (refusal_status refusal)
+refused_is_not_over refusals.Memory = λ over. over
+refused_is_not_over (refusals.Class place fault) = λ over. over
+refused_is_not_over (refusals.Link fault) = λ over. over
+refused_is_not_over (refusals.Image fault) = λ over. over
+refused_is_not_over (refusals.Entry fault) = λ over. over
+refused_is_not_over (refusals.Option text) = λ over. over
+refused_is_not_over refusals.Budget = λ over. over
+refused_is_not_over (refusals.Wave fault) = λ over. over
+refused_is_not_over (refusals.File name cause) = λ over. over
+refused_is_not_over (refusals.List name) = λ over. over
+refused_is_not_over (refusals.Text line) = λ over. over
+refused_is_not_over (refusals.Turn line) = λ over. over
+refused_is_not_over refusals.Spawn = λ over. over
+refused_is_not_over refusals.Device = λ over. over
 
 -- ---- numbers of statuses
 

@@ -1,19 +1,23 @@
 -- Words that name lists, and the names in these.
-use Rattle.std.proofs.Common.{◌≡◌, ◌≢◌, ◌∙◌, ℕ, ◌+◌, ◌==◌, ◌<◌, List, [], ◌∷◌, ◌++◌, Bool, true, false, length, take, get_or}
-use Rattle.std.proofs.Common.{refl, sym, ap, subst, map, Option, Some, None, Vec}
+use Rattle.std.proofs.Common.{◌≡◌, ◌≢◌, ◌∙◌, ℕ, suc, ◌+◌, ◌==◌, ◌<◌, List, [], ◌∷◌, ◌++◌, Bool, true, false, length, take, get_or}
+use Rattle.std.proofs.Common.{arith, refl, sym, ap, subst, map, Option, Some, None, Vec, if◌then◌else◌}
 use Rattle.std.specs.List.{AllZip, filter, flat_map, slice_split}
 use Rattle.std.specs.Borrow.{Bor}
 use Rattle.std.specs.Option.{option_map}
 use Rattle.std.proofs.lemmas.List.{append_assoc, append-nil, flat_map_more, map-append, map_more, take_more}
-use Rattle.std.proofs.lemmas.List.Elements.{filter-append}
+use Rattle.std.proofs.lemmas.List.Elements.{All-push, filter-append}
 use Rattle.loading.proofs.ZipLemmas.{pairs_push}
 use Rattle.command_line.specs.Requests.{texts}
 use Rattle.cli.specs.Files.{Contents}
 use Rattle.cli.specs.Lists.{NamesGiven, StandFor, is_filled, list_of}
+use Rattle.cli.specs.Outputs.{IsNoListOf}
 use Rattle.cli.specs.declared.lists.Given.{Given}
 use Rattle.cli.specs.steps.Lists.{AreGivenAs, IsGivenAs, names_of}
 
 -- ---- what a word names
+
+more_than_none : (n : ℕ) → (suc n == 0) ≢ true
+more_than_none n = λ same. grind arith
 
 -- an @ and something after it
 pub named_list : (word name : List ℕ) → word ≡ 64 ∷ name → (length name == 0) ≡ false → list_of word ≡ Some name
@@ -23,13 +27,16 @@ named_list word (c ∷ rest) is filled = rw is refl
 -- an @ alone
 pub lone_at : (word name : List ℕ) → word ≡ 64 ∷ name → (length name == 0) ≡ true → list_of word ≡ None
 lone_at word [] is empty = rw is refl
-lone_at word (c ∷ rest) is empty = absurd (let clash : false ≡ true = empty in cc)
+lone_at word (c ∷ rest) is empty = absurd (more_than_none (length rest) empty)
 
 -- no @
 pub no_list : (word : List ℕ) → ((rest : List ℕ) → word ≢ 64 ∷ rest) → list_of word ≡ None
-no_list [] no = refl
-no_list (c ∷ []) no = refl
-no_list (c ∷ d ∷ rest) no = grind arith
+no_list [] none = refl
+no_list (c ∷ []) none = refl
+no_list (c ∷ d ∷ rest) none =
+    let apart : c ≢ 64 = λ same. none (d ∷ rest) (ap (λ (first : ℕ). first ∷ d ∷ rest) same) in
+    let other : (c == 64) ≡ false = grind arith in
+    ap (λ (b : Bool). if b then Some (d ∷ rest) else None) other
 
 -- ---- words one by one
 
@@ -45,6 +52,18 @@ given_more holds now words i d one old new within pushed same given all =
     rw (front, pushed)
     (pairs_push (IsGivenAs holds) (texts (take i words)) old word one all
     (subst (λ (h : Contents). IsGivenAs h word one) same given))
+
+-- one more word that may name a list
+pub words_more : (output : List ℕ) (words : List (Bor (List ℕ))) (i : ℕ) (d : Bor (List ℕ)) (one : Bool)
+    → i < length words → (list_of (get_or words i d).now ≡ Some output → one ≡ true) → one ≡ false
+    → IsNoListOf output (texts (take i words)) → IsNoListOf output (texts (take (i + 1) words))
+words_more output words i d one within same apart all =
+    let word = (get_or words i d).now in
+    let front : texts (take (i + 1) words) ≡ texts (take i words) ++ word ∷ [] =
+    map_more (λ (word : Bor (List ℕ)). word.now) words i d within in
+    rw front
+    (All-push (λ (other : List ℕ). list_of other ≢ Some output) (texts (take i words)) word all
+    (λ is. let yes = same is in cc))
 
 -- ---- the names in lists
 
@@ -64,7 +83,7 @@ filled_name (c ∷ rest) filled = refl
 
 empty_name : (line : List ℕ) → (length line == 0) ≡ true → filter is_filled (line ∷ []) ≡ []
 empty_name [] empty = refl
-empty_name (c ∷ rest) empty = absurd (let clash : false ≡ true = empty in cc)
+empty_name (c ∷ rest) empty = absurd (more_than_none (length rest) empty)
 
 module _ (lines : List (Bor (List ℕ))) (i : ℕ) (d : Bor (List ℕ)) (within : i < length lines)
     (old : List (List ℕ)) where
@@ -99,6 +118,8 @@ parts_given : (holds : Contents) (words : List (List ℕ)) (given : List Given) 
     → AllZip (λ (word : List ℕ) (part : List (List ℕ)). StandFor holds word (list_of word) part) words
     (map names_of given)
 parts_given holds [] [] all = all
+parts_given holds [] (one ∷ given) all = absurd all
+parts_given holds (word ∷ words) [] all = absurd all
 parts_given holds (word ∷ words) (one ∷ given) all = (all.0, parts_given holds words given all.1)
 
 joined_parts : (given : List Given) → flat_map names_of given

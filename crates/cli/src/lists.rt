@@ -25,8 +25,8 @@ pub(crate) fn list_name(word: &str) -> Option<&str>
     ensures { option_map (λ name. name.now) result ≡ list_of word.now }
 {
     match word.strip_prefix('@') {
-        Some(name) if !name.is_empty() => Some(name),
-        _ => None,
+        Some(name) => { if name.is_empty() { None } else { Some(name) } }
+        None => None,
     }
 }
 

@@ -8,8 +8,8 @@ use Rattle.command_line.specs.declared.request.Request.{Request}
 use Rattle.cli.proofs.DoneLemmas.{asked_for}
 use Rattle.cli.proofs.run.do_words.Goals as goal
 
-pub returns-in-Ok-in-None-clause-refused : goal.returns-in-Ok-in-None-clause-refused
-returns-in-Ok-in-None-clause-refused g c = λ refused.
+pub returns-in-None-clause-refused : goal.returns-in-None-clause-refused
+returns-in-None-clause-refused g c = λ refused.
     let before = g.W.Write.contents c.args.out in
     let after = g.W.Write.contents c.do_asked.result.2 in
     elim (c.do_asked.ensures.refused refused) [
@@ -17,11 +17,11 @@ returns-in-Ok-in-None-clause-refused g c = λ refused.
       | inr run ↦ inr (asked_for (texts c.args.words.now) (g.F.Files.holds c.args.files.now)
           (g.F.Files.holds c.overwritten_list.new.files) c.in-Ok.asked
           (λ (holds : Contents) (request : Request). IsOfRun holds request before after) c.in-Ok.ensures
-          c.in-Ok-in-None.ensures.apart c.overwritten_list.ensures.same run)
+          (c.overwritten_list.ensures.apart c.in-None.is) c.overwritten_list.ensures.same run)
     ]
 
-pub returns-in-Ok-in-None-clause-done : goal.returns-in-Ok-in-None-clause-done
-returns-in-Ok-in-None-clause-done g c = λ over.
+pub returns-in-None-clause-done : goal.returns-in-None-clause-done
+returns-in-None-clause-done g c = λ over.
     let before = g.W.Write.contents c.args.out in
     let after = g.W.Write.contents c.do_asked.result.2 in
     let new = g.F.Files.holds c.do_asked.new.files in
@@ -29,4 +29,4 @@ returns-in-Ok-in-None-clause-done g c = λ over.
     (g.F.Files.holds c.overwritten_list.new.files) c.in-Ok.asked
     (λ (holds : Contents) (request : Request).
     IsApart request × IsDone holds new before after request c.do_asked.result.0) c.in-Ok.ensures
-    c.in-Ok-in-None.ensures.apart c.overwritten_list.ensures.same (c.do_asked.ensures.done over))
+    (c.overwritten_list.ensures.apart c.in-None.is) c.overwritten_list.ensures.same (c.do_asked.ensures.done over))
