@@ -1,6 +1,6 @@
 -- Goals that are found one after the other.
-use Rattle.std.proofs.Common.{◌≡◌, ◌≢◌, ◌⊎◌, ◌∙◌, ◌↔◌, ℕ, zero, suc, ◌+◌, ◌*◌, ◌<◌, ◌≤◌, List, [], ◌∷◌, ◌++◌, length, replicate}
-use Rattle.std.proofs.Common.{Some, None, slice_get, slice_index, slice_set, set, get_or, refl, sym, ap, subst, inl, inr}
+use Rattle.std.proofs.Common.{◌≡◌, ◌≢◌, ◌⊎◌, ◌∙◌, ◌↔◌, ℕ, zero, suc, ◌+◌, ◌<◌, ◌≤◌, List, [], ◌∷◌, ◌++◌, length, replicate}
+use Rattle.std.proofs.Common.{Some, slice_get, set, get_or, refl, sym, ap, subst, inl, inr}
 use Rattle.std.proofs.Common.{arith}
 use Rattle.std.specs.List.{Contains, sum_by}
 use Rattle.std.proofs.lemmas.Grind.{common_steps}
@@ -76,7 +76,7 @@ module _ (pairs : List Pair) (found : List Source) (v : ℕ) (g : Goal) (here : 
     only w h (q, there, of) = elim (same_or w v) [
       | inl same ↦
           (let is : q ≡ pair = same_some q pair
-              (sym there ∙ ap (λ (n : ℕ). slice_get (set pairs v pair) n) same ∙ set_here pairs v pair low) in
+          (sym there ∙ ap (λ (n : ℕ). slice_get (set pairs v pair) n) same ∙ set_here pairs v pair low) in
           elim (takes.only h (subst (λ (p : Pair). IsOf p h) is of)) [
             | inl old ↦ inl (rw same (has_of h old))
             | inr goal ↦ inr (same, goal)
@@ -114,8 +114,15 @@ module _ (pairs : List Pair) (found : List Source) (v : ℕ) (g : Goal) (here : 
       rest = (let sum = sum_by-set room pairs v pair here low in
           let was : get_or pairs v here ≡ here = get_or_from_slice_get pairs v here here at in
           let then : room (get_or pairs v here) ≡ room here = ap room was in
-          omega (arith, sum, then, takes.less, are.rest, set_len pairs v pair,
-          length_push found (let s : Source = record { vertex = v; goal = g } in s)));
+          omega (
+            arith,
+            sum,
+            then,
+            takes.less,
+            are.rest,
+            set_len pairs v pair,
+            length_push found (let s : Source = record { vertex = v; goal = g } in s),
+          ));
     }
 
 -- ---- several are
@@ -307,7 +314,7 @@ spread_next back sources pairs new found more next s at spread adds are = record
     | inl before ↦ spread.sound v g before
     | inr (edge, goal) ↦
         (let (u, among, path) =
-            spread.sound s.vertex s.goal (spread.are.held s (contains_at found next s at)) in
+        spread.sound s.vertex s.goal (spread.are.held s (contains_at found next s at)) in
         (u, rw goal among, along path edge))
   ];
   starts = λ x among. serves_kept (Has pairs x.vertex) (Has new x.vertex) x.goal (adds.keeps x.vertex)
@@ -315,14 +322,14 @@ spread_next back sources pairs new found more next s at spread adds are = record
   closed = λ k x small there v edge. elim (below_or k next small) [
     | inl less ↦
         (let before = slice_get-get_or found k s (let low = slice_get_within found next s at in
-            omega (arith, low, less)) in
+        omega (arith, low, less)) in
         let same : get_or found k s ≡ x = same_some (get_or found k s) x
-            (sym (adds.stays k (get_or found k s) before) ∙ there) in
+        (sym (adds.stays k (get_or found k s) before) ∙ there) in
         serves_kept (Has pairs v) (Has new v) x.goal (adds.keeps v)
         (spread.closed k x less (before ∙ ap Some same) v edge))
     | inr last ↦
         (let same : s ≡ x = same_some s x
-            (sym (adds.stays next s at) ∙ ap (λ (n : ℕ). slice_get more n) (sym last) ∙ there) in
+        (sym (adds.stays next s at) ∙ ap (λ (n : ℕ). slice_get more n) (sym last) ∙ there) in
         subst (λ (y : Source). Contains (successors_of back y.vertex) v → Serves (Has new v) y.goal) same
         (λ leads. adds.serves (record { vertex = v; goal = s.goal }) (leads, refl)) edge)
   ];

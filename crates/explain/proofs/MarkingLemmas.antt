@@ -5,30 +5,27 @@ use Rattle.std.specs.List.{Contains}
 use Rattle.std.proofs.lemmas.Grind.{common_steps}
 use Rattle.std.proofs.lemmas.Option.{slice_get_within, slice_get_past}
 use Rattle.graph.specs.Rows.{Rows}
-use Rattle.graph.specs.Reaches.{Reaches}
 use Rattle.graph.specs.steps.Reverse.{IsReverse}
 use Rattle.graph.proofs.ReverseLemmas.{IsReverse-turned, Reaches-turned}
 use Rattle.hierarchy.specs.declared.member.DeclaredMember.{DeclaredMember}
-use Rattle.loading.proofs.PlaceLemmas.{contains_at, place_in}
 use Rattle.program.specs.Tables.{Tables, initializer_in, initializer_if}
 use Rattle.use_graph.specs.declared.body.BodyUses.{BodyUses}
 use Rattle.use_graph.specs.declared.body.Told.{Told}
 use Rattle.use_graph.specs.declared.mark.Evidence.{Evidence}
 use Rattle.use_graph.specs.declared.mark.Mark.{Mark}
 use Rattle.use_graph.specs.declared.whole_program.UseGraph.{UseGraph}
-use Rattle.use_graph.specs.Uses.{HasMark, IsDeclared, IsEvidence, Tells, field_class, mark_of}
+use Rattle.use_graph.specs.Uses.{HasMark, IsDeclared, IsEvidence, Tells, field_class}
 use Rattle.use_graph.specs.steps.Bodies.{IsUseGraph}
 use Rattle.use_graph.specs.steps.Deeds.{HoldsOfOne}
-use Rattle.use_graph.specs.steps.Searching.{StartsAt}
 use Rattle.use_graph.proofs.DeedsLemmas.{pc_of_told}
 use Rattle.use_graph.proofs.ReachedLemmas.{runs_reached, reached_runs}
 use Rattle.initializer_analysis.proofs.MarkingLemmas.{body_of, none_runs}
 use Rattle.explain.specs.declared.goals.Goal.{Goal}
 use Rattle.explain.specs.declared.goals.Pair.{Pair}
 use Rattle.explain.specs.declared.goals.Source.{Source}
-use Rattle.explain.specs.steps.Goals.{IsOf, Serves}
-use Rattle.explain.specs.steps.Nearest.{AreNearest, Has, HaveVertices, IsReachedGoal}
-use Rattle.explain.specs.steps.Marking.{AreSources, AreSourcesBelow, AreTold, IsGoalAt, IsMarking, IsSourceAt, IsSourceOf}
+use Rattle.explain.specs.steps.Goals.{IsOf}
+use Rattle.explain.specs.steps.Nearest.{AreNearest, HaveVertices}
+use Rattle.explain.specs.steps.Marking.{AreSources, AreSourcesBelow, AreTold, IsMarking, IsSourceAt, IsSourceOf}
 use Rattle.explain.specs.steps.Marking.{ReachesGoal}
 
 same_some : {A : Type 0} (x y : A) → Some x ≡ Some y → x ≡ y

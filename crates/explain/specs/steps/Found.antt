@@ -5,7 +5,7 @@ use Rattle.explain.specs.declared.goals.Goal.{Goal}
 use Rattle.explain.specs.declared.goals.Pair.{Pair}
 use Rattle.explain.specs.declared.goals.Source.{Source}
 use Rattle.explain.specs.steps.Nearest.{Has}
-use Rattle.explain.specs.steps.Goals.{IsOf, IsPair, Serves, room}
+use Rattle.explain.specs.steps.Goals.{IsPair, Serves, room}
 
 abbrev pub no_pair : Pair
 no_pair = record { first = None; second = None }

@@ -9,7 +9,7 @@ loop-place-preserved c = λ p low stands. elim (below_or p c.loop-place.place lo
   | inl less ↦ c.loop-place.invariant p less stands
   | inr same ↦
       (let yes = c.stands_at.ensures.1
-          (subst (λ (n : ℕ). StandsAt c.args.uses.now.methods c.args.search.now.seen.items n c.args.method) same stands) in
+      (subst (λ (n : ℕ). StandsAt c.args.uses.now.methods c.args.search.now.seen.items n c.args.method) same stands) in
       let no = c.if-stands_at.false in
       cc)
 ]

@@ -1,4 +1,3 @@
-use Rattle.std.proofs.Common.{◌≡◌, ℕ, Some, slice_get, slice_index, set}
 use Rattle.std.proofs.lemmas.Option.{slice_get-get_or}
 use Rattle.explain.proofs.FoundLemmas.{adds_nothing, adds_one, found_one}
 use Rattle.explain.proofs.nearest.add.Goals as goal
