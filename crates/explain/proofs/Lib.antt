@@ -1,4 +1,3 @@
-pub mod MarksLemmas
 pub mod CallSitesLemmas
 pub mod TreesLemmas
 pub mod CallersLemmas
@@ -6,3 +5,6 @@ pub mod ChainsLemmas
 pub mod RerunsLemmas
 pub mod PairsLemmas
 pub mod CyclesLemmas
+pub mod GoalsLemmas
+pub mod FoundLemmas
+pub mod MarkingLemmas

@@ -21,7 +21,7 @@ use std::alloc::{AllocError, Global};
 use use_graph::callee::Callee;
 
 /// Whether two methods are the same.
-fn is_same(method: DeclaredMember, other: DeclaredMember) -> bool
+pub(crate) fn is_same(method: DeclaredMember, other: DeclaredMember) -> bool
     ensures { IsTrue result ↔ ((method.class ≡ other.class) × (method.index ≡ other.index)) }
 {
     method.class == other.class && method.index == other.index

@@ -6,6 +6,7 @@ ghost use Rattle.explain.specs.steps.Known.{IsKnown};
 
 use crate::chains::{first_uses, verdict_of};
 use crate::cycles::cycles_of;
+use crate::evidences::{Evidences, evidences_of};
 use crate::marks::{ShownMarks, shown_marks};
 use crate::search::Search;
 use initializer_analysis::forced::Forced;
@@ -22,6 +23,8 @@ pub struct Known {
     cycles: Vec<Option<u32>>,
     /// By class: the first that it uses and that is not accepted.
     first: Vec<Option<u32>>,
+    /// By class: where its marks are borne.
+    evidences: Evidences,
     /// A search of the graph of calls.
     search: Search,
 }
@@ -65,11 +68,13 @@ impl Known {
         let uses = UseGraph::of_program(alloc, program)?;
         let cycles = cycles_of(alloc, program, &uses)?;
         let first = first_uses(alloc, program, &uses, verdicts)?;
+        let evidences = evidences_of(alloc, program, &uses)?;
         let search = Search::new(alloc, uses.calls.len())?;
         Ok(Known {
             uses,
             cycles,
             first,
+            evidences,
             search,
         })
     }
@@ -93,7 +98,15 @@ impl Known {
         ensures explains { IfOk result (Explains program.now verdicts.now forced.now paths class) }
     {
         let verdict = verdict_of(verdicts, class);
-        let marks = shown_marks(alloc, program, &self.uses, &mut self.search, paths, class)?;
+        let marks = shown_marks(
+            alloc,
+            program,
+            &self.uses,
+            &self.evidences,
+            &mut self.search,
+            paths,
+            class,
+        )?;
         Ok(Explanation {
             verdict,
             forced: forced.has(class),

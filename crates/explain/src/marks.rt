@@ -1,23 +1,22 @@
 //! The marks that a class's code bears, each with where and how its initializer comes there.
 
-ghost use Rattle.std.specs.Prelude.{◌≡◌, ◌↔◌, ℕ, length, Some, slice_get, IfOk, OnOk, IsTrue, MatchOption};
-ghost use Rattle.std.specs.List.{Contains};
-ghost use Rattle.use_graph.specs.declared.body.Told.{Told as Held};
-ghost use Rattle.use_graph.specs.declared.mark.Mark.TheVariants as marks;
-ghost use Rattle.use_graph.specs.Uses.{Means};
+ghost use Rattle.std.specs.Prelude.{◌≡◌, ◌↔◌, ℕ, length, None, slice_index_or, IfOk, IfSome, OnOk, IsTrue, MatchOption};
+ghost use Rattle.use_graph.specs.declared.mark.Mark.{Mark as Kind};
+ghost use Rattle.use_graph.specs.Uses.{MayRun};
 ghost use Rattle.use_graph.specs.steps.Bodies.{IsUseGraph};
-ghost use Rattle.use_graph.specs.steps.Searching.{Unmarked, IsMarkedAt};
 ghost use Rattle.explain.specs.Marks.{ShowsMark, AreShown};
 ghost use Rattle.explain.specs.Paths.{IsPath};
 ghost use Rattle.explain.specs.steps.Callers.{IsSearched, StandsAt};
-ghost use Rattle.hierarchy.specs.declared.member.DeclaredMember.{DeclaredMember as Declared};
+ghost use Rattle.explain.specs.steps.Marking.{AreEvidences, AreTold};
 
-use crate::paths::path_to;
+use crate::calls::is_same;
+use crate::evidences::Evidences;
+use crate::paths::{path_to, step_at};
 use crate::search::Search;
+use hierarchy::member::DeclaredMember;
 use program::Program;
 use std::alloc::{AllocError, Global};
-use use_graph::body::Told;
-use use_graph::mark::{Evidence, Mark, means};
+use use_graph::mark::Evidence;
 use use_graph::{UseGraph, start_of};
 
 /// Where a mark is borne.
@@ -42,56 +41,52 @@ pub struct ShownMarks {
     pub missing: Option<Shown>,
 }
 
-/// Where an instruction bears a mark, and the place of its method in a search.
-#[derive(Clone, Copy)]
-struct Found {
-    at: Evidence,
-    place: usize,
-}
-
-/// Where the first instruction of a method begins that bears a mark.
-fn first_pc(told: &[Told], class: u32, mark: Mark) -> Option<u16>
-    ensures { MatchOption result ((t : Held) → Contains told.now t → ¬ Means class t.feature mark)
-        (λ pc. (t : Held) × Contains told.now t × (t.pc ≡ pc) × Means class t.feature mark) }
+/// Whether a method stands at a place of a search.
+fn stands_at(uses: &UseGraph, search: &Search, place: usize, method: DeclaredMember) -> bool
+    ensures { IsTrue result ↔ StandsAt uses.now.methods search.now.seen.items place method }
 {
-    for item in told {
-        if means(class, item.feature, mark) {
-            return Some(item.pc);
-        }
+    match step_at(uses, search, place) {
+        Some(step) => is_same(step.method, method),
+        None => false,
     }
-    None
 }
 
-/// Evidence for a mark in the method of a vertex, if it is one.
-fn evidence_at(uses: &UseGraph, vertex: usize, class: u32, mark: Mark) -> Option<Evidence>
-    ensures { MatchOption result (Unmarked uses.now class mark vertex) (IsMarkedAt uses.now class mark vertex) }
-{
-    let method = uses.methods.method(vertex)?;
-    let body = uses.body(vertex)?;
-    let pc = first_pc(&body.told, class, mark)?;
-    Some(Evidence {
-        class: method.class,
-        index: method.index,
-        pc,
-    })
-}
-
-/// The first place of a search where a mark is borne, which is a nearest one.
-fn found_in(uses: &UseGraph, search: &Search, class: u32, mark: Mark) -> Option<Found>
+/// The first place of a search where a method stands.
+fn place_of(uses: &UseGraph, search: &Search, method: DeclaredMember) -> Option<usize>
     ensures { MatchOption result
-        ((n : ℕ) → Contains search.now.seen.items n → Unmarked uses.now class mark n)
-        (λ found. (n : ℕ) × (slice_get search.now.seen.items found.place ≡ Some n)
-        × IsMarkedAt uses.now class mark n found.at) }
+        ((place : ℕ) → ¬ StandsAt uses.now.methods search.now.seen.items place method)
+        (λ place. StandsAt uses.now.methods search.now.seen.items place method) }
 {
     for place in 0..search.seen.len() {
-        if let Some(found) = evidence_at(uses, search.seen.at(place), class, mark) {
-            return Some(Found { at: found, place });
+        if stands_at(uses, search, place, method) {
+            return Some(place);
         }
     }
     None
 }
 
-/// The calls that lead to the method of a place of a search, if they are asked for.
+/// The calls that lead to a method that may run.
+fn path_for(
+    alloc: Global,
+    program: &Program,
+    uses: &UseGraph,
+    search: &Search,
+    class: u32,
+    method: DeclaredMember,
+) -> Result<Vec<Evidence>, AllocError>
+    requires uses { IsUseGraph program.now uses.now }
+    requires searched { IsSearched program.now uses.now class search.now }
+    requires runs { MayRun program.now class method.class method.index }
+    ensures { IfOk result (λ path. IsPath program.now class method.class method.index path.items) }
+{
+    let Some(place) = place_of(uses, search, method) else {
+        unreachable!()
+    };
+    let path = path_to(alloc, program, uses, search, place)?;
+    Ok(path)
+}
+
+/// The same, if they are asked for.
 fn path_if(
     alloc: Global,
     program: &Program,
@@ -99,23 +94,33 @@ fn path_if(
     search: &Search,
     class: u32,
     paths: bool,
-    place: usize,
+    method: DeclaredMember,
 ) -> Result<Vec<Evidence>, AllocError>
     requires uses { IsUseGraph program.now uses.now }
-    requires searched { IsSearched program.now uses.now class search.now }
-    requires here { (y : Declared) × StandsAt uses.now.methods search.now.seen.items place y }
-    ensures { IfOk result (λ path. IsTrue paths → (y : Declared)
-        → StandsAt uses.now.methods search.now.seen.items place y
-        → IsPath program.now class y.class y.index path.items) }
+    requires searched { IsTrue paths → IsSearched program.now uses.now class search.now }
+    requires runs { MayRun program.now class method.class method.index }
+    ensures { IfOk result
+        (λ path. IsTrue paths → IsPath program.now class method.class method.index path.items) }
 {
-    if !paths {
-        return Ok(Vec::new(alloc));
+    if paths {
+        let path = path_for(alloc, program, uses, search, class, method)?;
+        Ok(path)
+    } else {
+        Ok(Vec::new(alloc))
     }
-    let path = path_to(alloc, program, uses, search, place)?;
-    Ok(path)
 }
 
-/// Where a mark is borne, if it is, where a search has found what may run.
+/// What stands at the number of a class.
+fn evidence_in(row: &[Option<Evidence>], class: u32) -> Option<Evidence>
+    ensures { result ≡ slice_index_or row.now class None }
+{
+    match row.get(class as usize) {
+        Some(found) => *found,
+        None => None,
+    }
+}
+
+/// Where a mark is borne, if it is, with the calls that lead there where a search has found what may run.
 fn shown_mark(
     alloc: Global,
     program: &Program,
@@ -123,36 +128,44 @@ fn shown_mark(
     search: &Search,
     paths: bool,
     class: u32,
-    mark: Mark,
+    row: &[Option<Evidence>],
 ) -> Result<Option<Shown>, AllocError>
     requires uses { IsUseGraph program.now uses.now }
-    requires searched { IsSearched program.now uses.now class search.now }
-    ensures { IfOk result (ShowsMark program.now paths class mark) }
+    requires searched { IsTrue paths → IsSearched program.now uses.now class search.now }
+    requires told { (mark : Kind) × AreTold program.now mark row.now }
+    ensures { IfOk result
+        (λ shown. (mark : Kind) → AreTold program.now mark row.now → ShowsMark program.now paths class mark shown) }
 {
-    let Some(found) = found_in(uses, search, class, mark) else {
+    let Some(at) = evidence_in(row, class) else {
         return Ok(None);
     };
-    let path = path_if(alloc, program, uses, search, class, paths, found.place)?;
-    Ok(Some(Shown { at: found.at, path }))
+    let method = DeclaredMember {
+        class: at.class,
+        index: at.index,
+    };
+    let path = path_if(alloc, program, uses, search, class, paths, method)?;
+    Ok(Some(Shown { at, path }))
 }
 
-/// Where each mark is borne, where a search has found what may run.
+/// Where each mark is borne, with the calls that lead there where a search has found what may run.
 fn shown_by(
     alloc: Global,
     program: &Program,
     uses: &UseGraph,
+    told: &Evidences,
     search: &Search,
     paths: bool,
     class: u32,
 ) -> Result<ShownMarks, AllocError>
     requires uses { IsUseGraph program.now uses.now }
-    requires searched { IsSearched program.now uses.now class search.now }
+    requires told { AreEvidences program.now told.now }
+    requires searched { IsTrue paths → IsSearched program.now uses.now class search.now }
     ensures { IfOk result (AreShown program.now paths class) }
 {
     Ok(ShownMarks {
-        prints: shown_mark(alloc, program, uses, search, paths, class, Mark::Prints)?,
-        throws: shown_mark(alloc, program, uses, search, paths, class, Mark::Throws)?,
-        monitors: shown_mark(alloc, program, uses, search, paths, class, Mark::Monitors)?,
+        prints: shown_mark(alloc, program, uses, search, paths, class, &told.prints)?,
+        throws: shown_mark(alloc, program, uses, search, paths, class, &told.throws)?,
+        monitors: shown_mark(alloc, program, uses, search, paths, class, &told.monitors)?,
         foreign_write: shown_mark(
             alloc,
             program,
@@ -160,7 +173,7 @@ fn shown_by(
             search,
             paths,
             class,
-            Mark::ForeignWrite,
+            &told.foreign_write,
         )?,
         foreign_read: shown_mark(
             alloc,
@@ -169,7 +182,7 @@ fn shown_by(
             search,
             paths,
             class,
-            Mark::ForeignRead,
+            &told.foreign_read,
         )?,
         unsupported: shown_mark(
             alloc,
@@ -178,9 +191,9 @@ fn shown_by(
             search,
             paths,
             class,
-            Mark::Unsupported,
+            &told.unsupported,
         )?,
-        missing: shown_mark(alloc, program, uses, search, paths, class, Mark::Missing)?,
+        missing: shown_mark(alloc, program, uses, search, paths, class, &told.missing)?,
     })
 }
 
@@ -208,24 +221,45 @@ fn search_for(
     }
 }
 
-/// Where each mark is borne that a class's code bears, with the calls that lead there where these are asked for. The
-/// search is one over the graph of calls; what it had found is forgotten.
-///
-/// # Errors
-/// Where memory runs out.
-pub fn shown_marks(
-    alloc: Global,
+/// The same, if calls are asked for.
+fn search_if(
     program: &Program,
     uses: &UseGraph,
     search: &mut Search,
     paths: bool,
     class: u32,
+) -> Result<(), AllocError>
+    requires uses { IsUseGraph program.now uses.now }
+    requires limit { search.old.seen.limit ≡ length uses.now.calls }
+    ensures limit { search.new.seen.limit ≡ length uses.now.calls }
+    ensures searched { OnOk result (IsTrue paths → IsSearched program.now uses.now class search.new) }
+{
+    if paths {
+        search_for(program, uses, search, class)?;
+    }
+    Ok(())
+}
+
+/// Where each mark is borne that a class's code bears, with the calls that lead there where these are asked for. The
+/// search is one over the graph of calls; what it had found is forgotten.
+///
+/// # Errors
+/// Where memory runs out.
+pub(crate) fn shown_marks(
+    alloc: Global,
+    program: &Program,
+    uses: &UseGraph,
+    told: &Evidences,
+    search: &mut Search,
+    paths: bool,
+    class: u32,
 ) -> Result<ShownMarks, AllocError>
     requires uses { IsUseGraph program.now uses.now }
+    requires told { AreEvidences program.now told.now }
     requires limit { search.old.seen.limit ≡ length uses.now.calls }
     ensures limit { search.new.seen.limit ≡ length uses.now.calls }
     ensures shown { IfOk result (AreShown program.now paths class) }
 {
-    search_for(program, uses, search, class)?;
-    shown_by(alloc, program, uses, search, paths, class)
+    search_if(program, uses, search, paths, class)?;
+    shown_by(alloc, program, uses, told, search, paths, class)
 }

@@ -18,13 +18,13 @@ use use_graph::mark::Evidence;
 
 /// A method and its place in a search.
 #[derive(Clone, Copy)]
-struct Step {
-    place: usize,
-    method: DeclaredMember,
+pub(crate) struct Step {
+    pub(crate) place: usize,
+    pub(crate) method: DeclaredMember,
 }
 
 /// The method of a place of a search, if it is one.
-fn step_at(uses: &UseGraph, search: &Search, place: usize) -> Option<Step>
+pub(crate) fn step_at(uses: &UseGraph, search: &Search, place: usize) -> Option<Step>
     ensures { MatchOption result (NoneStandsAt uses.now.methods search.now.seen.items place)
         (λ step. (step.place ≡ place) × StandsAt uses.now.methods search.now.seen.items place step.method) }
 {

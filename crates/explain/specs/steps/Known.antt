@@ -6,6 +6,7 @@ use Rattle.initializer_analysis.specs.declared.verdict.Verdict.{Verdict}
 use Rattle.explain.specs.declared.explaining.Known.{Known}
 use Rattle.explain.specs.Chains.{AreFirstUses}
 use Rattle.explain.specs.Explanations.{AreCycles}
+use Rattle.explain.specs.steps.Marking.{AreEvidences}
 
 -- the graph of calls is the program's, and the search is one over it
 pub record IsKnown (P : Tables) (verdicts : List Verdict) (known : Known) : Type 0 where
@@ -13,3 +14,4 @@ pub record IsKnown (P : Tables) (verdicts : List Verdict) (known : Known) : Type
   pub limit : known.search.seen.limit ≡ length known.uses.calls
   pub cycles : AreCycles P known.cycles.items
   pub first : AreFirstUses P verdicts known.first.items
+  pub evidences : AreEvidences P known.evidences

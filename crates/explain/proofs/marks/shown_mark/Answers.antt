@@ -1,27 +1,22 @@
-use Rattle.loading.proofs.PlaceLemmas.{contains_at}
-use Rattle.explain.proofs.MarksLemmas.{unmarked, marked}
+use Rattle.std.proofs.Common.{Option, subst, sym}
+use Rattle.use_graph.specs.declared.mark.Evidence.{Evidence}
+use Rattle.use_graph.specs.Uses.{Tells}
 use Rattle.explain.proofs.marks.shown_mark.Goals as goal
 
 pub returns-in_default : goal.returns-in_default
-returns-in_default c =
-    unmarked c.args.program.now c.args.uses.now c.args.class c.args.search.now.seen.items c.requires.uses
-    c.requires.searched.reached c.args.mark c.in_default.ensures
+returns-in_default c = λ mark told.
+    subst (λ (o : Option Evidence). Tells c.args.program.now c.args.class mark o) (sym c.in_default.ensures)
+    (told c.args.class)
 
-pub path_if-requires-clause-here : goal.path_if-requires-clause-here
-path_if-requires-clause-here c =
-    let (n, at, is) = c.in-Some.ensures in
-    let (body, told, method, held, among, pc, means) = is in
-    (record { class = c.in-Some.found.at.class; index = c.in-Some.found.at.index }, (n, at, method))
+pub path_if-requires-clause-runs : goal.path_if-requires-clause-runs
+path_if-requires-clause-runs c =
+    let (mark, told) = c.requires.told in
+    (subst (λ (o : Option Evidence). Tells c.args.program.now c.args.class mark o) (sym c.in-Some.ensures)
+    (told c.args.class)).0
 
 pub returns : goal.returns
-returns c =
-    let (n, at, is) = c.in-Some.ensures in
-    let (body, told, method, held, among, pc, means) = is in
-    record {
-      evidence = marked c.args.program.now c.args.uses.now c.args.class c.args.search.now.seen.items
-          c.requires.uses c.requires.searched.reached c.args.mark c.in-Some.found.at
-          (n, contains_at c.args.search.now.seen.items c.in-Some.found.place n at, is);
-      path = λ asked. c.in_ok-path.ensures asked
-          (record { class = c.in-Some.found.at.class; index = c.in-Some.found.at.index })
-          (n, at, method);
-    }
+returns c = λ mark told. record {
+  evidence = subst (λ (o : Option Evidence). Tells c.args.program.now c.args.class mark o) (sym c.in-Some.ensures)
+      (told c.args.class);
+  path = c.in_ok-path.ensures;
+}
