@@ -1,6 +1,6 @@
 //! The program `memory_cases`: makes the calls that its command line names, each twice, over the classes of
-//! `classes.txt`, and prints a line with each answer. A word that begins with `feed ` has inputs fed to a reader, and the
-//! line counts its answers.
+//! `classes.txt`, and prints a line with each answer. A word that begins with `feed ` has inputs fed to a reader, and
+//! the line counts its answers.
 #![tactic(auto)]
 
 mod books;
