@@ -101,7 +101,7 @@ fn names_of<'a>(alloc: Global, classes: &'a [ClassFile]) -> Result<BTreeSet<&'a 
 /// The superclass of a class, or else the first of its superinterfaces, that is neither of these names nor built in.
 fn missing_parent<'a>(
     class: &'a ClassFile,
-    names: &BTreeSet<&[u8]>,
+    names: &BTreeSet<&'a [u8]>,
 ) -> Option<(&'static str, &'a [u8])> {
     if let Some(parent) = missing(class, class.super_class(), names) {
         return Some(("superclass", parent));
@@ -115,7 +115,11 @@ fn missing_parent<'a>(
 }
 
 /// The name that a constant of a class names, where it is neither of these names nor built in.
-fn missing<'a>(class: &'a ClassFile, constant: u16, names: &BTreeSet<&[u8]>) -> Option<&'a [u8]> {
+fn missing<'a>(
+    class: &'a ClassFile,
+    constant: u16,
+    names: &BTreeSet<&'a [u8]>,
+) -> Option<&'a [u8]> {
     let name = class.class_name(constant)?;
     if BuiltIn::named(name).is_some() || names.contains(&name) {
         return None;
