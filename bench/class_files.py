@@ -43,8 +43,8 @@ def attribute(pool, name, content):
     return struct.pack(">HI", pool.text(name), len(content)) + content
 
 
-def class_file(pool, fields, methods):
-    this, above = pool.named(7, "bench/Bench"), pool.named(7, "java/lang/Object")
+def class_file(pool, fields, methods, name="bench/Bench"):
+    this, above = pool.named(7, name), pool.named(7, "java/lang/Object")
     return (b"\xca\xfe\xba\xbe" + struct.pack(">HH", 0, 52) + pool.bytes()
             + struct.pack(">HHHH", 0x21, this, above, 0)
             + struct.pack(">H", len(fields)) + b"".join(fields)

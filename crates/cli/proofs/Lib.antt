@@ -28,3 +28,4 @@ mod SlashLemmas
 mod NotRunLemmas
 mod OutputLemmas
 mod CountLemmas
+mod ListLemmas

@@ -2,6 +2,7 @@
 -- standard output got.
 use Rattle.std.specs.Prelude.{◌≡◌, ◌≢◌, ◌⊎◌, ℕ, List, Option, Some, None, length}
 use Rattle.std.specs.Borrow.{Bor}
+use Rattle.std.specs.Global.{Vec}
 use Rattle.std.specs.Io.KnownBytes.{Appends}
 use Rattle.vm_state.specs.Output.{text_of as printed_text}
 use Rattle.semantics.specs.Worlds.{World, Run as Reaches, seen}
@@ -17,6 +18,7 @@ use Rattle.building.specs.Builds.{text_of}
 use Rattle.building.specs.declared.build.BuildOptions.{BuildOptions}
 use Rattle.building.specs.declared.build.Built.{Built}
 use Rattle.report.specs.Texts.{report_text}
+use Rattle.command_line.specs.Files.{files_of, with_files}
 use Rattle.command_line.specs.Requests.{IsLine, texts}
 use Rattle.command_line.specs.declared.request.Build.{Build}
 use Rattle.command_line.specs.declared.request.Building.{Building}
@@ -33,7 +35,8 @@ use Rattle.cli.specs.Explanations.{HasExplained}
 use Rattle.cli.specs.Files.{AreBytesOf, AreTextsOf, Contents, OthersStay}
 use Rattle.cli.specs.ImageBuilds.{IsBuiltText}
 use Rattle.cli.specs.ImageRuns.{IsTextOf}
-use Rattle.cli.specs.Outputs.{IsApart}
+use Rattle.cli.specs.Lists.{NamesGiven}
+use Rattle.cli.specs.Outputs.{AreListsApart, IsApart}
 use Rattle.cli.specs.Renewals.{IsRenewed}
 use Rattle.cli.specs.Status.{replay_status, run_status}
 use Rattle.cli.specs.declared.status.Status.{Status}
@@ -183,11 +186,18 @@ IsDone old new before after (requests.Report words) status =
     (status ≡ Done) × (new ≡ old) × HasReported old words before after
 IsDone old new before after (requests.Run words) status = HasRunImage old new words before after status
 
--- words that were read as a request of which this holds
-pub record AskFor (words : List (List ℕ)) (P : Request → Type 0) : Type 0 where
-  pub request : Request
-  pub read : IsLine words request
-  pub has : P request
+-- This holds of what a request asks for, with the names of lists in the place of the words that name these.
+pub record HoldsWithLists (holds : Contents) (asked : Request) (P : Request → Type 0) : Type 0 where
+  pub names : Vec (Bor (List ℕ))
+  pub given : NamesGiven holds (texts (files_of asked)) (texts names.items)
+  pub has : P (with_files asked names)
+
+-- Words were read as a request, and this holds of it, with the names of lists in their place. No list is an output.
+pub record AskFor (words : List (List ℕ)) (holds : Contents) (P : Request → Type 0) : Type 0 where
+  pub asked : Request
+  pub read : IsLine words asked
+  pub lists : AreListsApart asked
+  pub has : HoldsWithLists holds asked P
 
 -- Help was asked for, and some text went out.
 pub record HasHelped (before after : Option (List ℕ)) (status : Status) : Type 0 where
@@ -199,4 +209,4 @@ pub record HasHelped (before after : Option (List ℕ)) (status : Status) : Type
 abbrev pub DidWords : List (List ℕ) → Contents → Contents → Option (List ℕ) → Option (List ℕ) → Status → Type 0
 DidWords words old new before after status =
     ((new ≡ old) × HasHelped before after status)
-    ⊎ AskFor words (λ request. IsApart request × IsDone old new before after request status)
+    ⊎ AskFor words old (λ request. IsApart request × IsDone old new before after request status)

@@ -20,3 +20,4 @@ pub mod Done
 pub mod Outputs
 pub mod Audits
 pub mod Explanations
+pub mod Lists

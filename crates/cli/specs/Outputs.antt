@@ -1,10 +1,11 @@
 -- What words name for output, beside what they name for input.
-use Rattle.std.specs.Prelude.{◌≢◌, ℕ, List, [], ◌∷◌, IfSome, ⊤}
+use Rattle.std.specs.Prelude.{◌≢◌, ℕ, List, [], ◌∷◌, Some, IfSome, ⊤}
 use Rattle.std.specs.List.{All}
 use Rattle.command_line.specs.Requests.{texts}
 use Rattle.command_line.specs.declared.request.Build.{Build}
 use Rattle.command_line.specs.declared.request.Request.{Request}
 use Rattle.command_line.specs.declared.request.Request.TheVariants as requests
+use Rattle.cli.specs.Lists.{list_of}
 
 -- no input has the name of this output
 abbrev pub IsNoneOf : List ℕ → List (List ℕ) → Type 0
@@ -22,3 +23,14 @@ IsApart (requests.Build words) =
 IsApart (requests.Renew words) = IsNoneOf words.new.now (words.image.now ∷ [])
 IsApart (requests.Run words) = IfSome words.journal (λ name. IsNoneOf name.now (words.image.now ∷ []))
 IsApart _ = ⊤
+
+-- none of these words names the list that this output is
+abbrev pub IsNoListOf : List ℕ → List (List ℕ) → Type 0
+IsNoListOf output words = All (λ (word : List ℕ). list_of word ≢ Some output) words
+
+-- what a request has written has the name of no list that its words name
+abbrev pub AreListsApart : Request → Type 0
+AreListsApart (requests.Build words) =
+    IsNoListOf words.image.now (texts words.building.files.items)
+    × IfSome words.report (λ name. IsNoListOf name.now (texts words.building.files.items))
+AreListsApart _ = ⊤

@@ -7,12 +7,12 @@ use Rattle.cli.specs.declared.status.Status.TheVariants.{Refused, Failed}
 
 -- a file or standard output failed, or the command was refused
 abbrev pub refusal_status : Refusal → Status
-refusal_status (File _) = Failed
+refusal_status (File _ _) = Failed
 refusal_status Device = Failed
 refusal_status _ = Refused
 
 -- the refusal names the file, unless memory for its name was refused
 abbrev pub IsOfFile : Refusal → List ℕ → Type 0
-IsOfFile (File text) name = string_bytes text ≡ name
+IsOfFile (File text _) name = string_bytes text ≡ name
 IsOfFile Memory _ = ⊤
 IsOfFile _ _ = ⊥

@@ -1,3 +1,4 @@
 pub mod Refusals
 pub mod Builds
 pub mod BuildTexts
+pub mod Lists

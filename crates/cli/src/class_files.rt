@@ -69,7 +69,7 @@ fn linked(alloc: Global, classes: Vec<ClassFile>) -> Result<Program, Refusal>
 }
 
 /// The class files that some texts are.
-fn class_files(alloc: Global, files: &[Vec<u8>]) -> Result<Vec<ClassFile>, Refusal>
+pub(crate) fn class_files(alloc: Global, files: &[Vec<u8>]) -> Result<Vec<ClassFile>, Refusal>
     ensures files { IfOk result (λ classes. AreClassFiles (texts_of files.now) classes.items) }
     ensures refusal { IfErr result (λ refusal. (refusal ≡ Memory) ⊎ IsNoClassFile (texts_of files.now) refusal) }
 {

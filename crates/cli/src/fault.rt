@@ -3,7 +3,7 @@ ghost use Rattle.std.specs.Prelude.{◌≡◌, ◌≢◌};
 ghost use Rattle.cli.specs.Refusal.{IsOfFile, refusal_status};
 ghost use Rattle.cli.specs.declared.fault.Refusal.TheVariants.{Memory};
 
-use crate::{FileFault, Status};
+use crate::{FileCause, FileFault, Status};
 use classfile::ClassFault;
 use image_parser::ImageFault;
 use init_engine::EntryFault;
@@ -43,7 +43,10 @@ pub enum Refusal {
     Wave(WaveFault),
     /// The file of this name, as given, was not read or written.
     #[error("File {0}")]
-    File(String),
+    File(String, FileCause),
+    /// The list of this name, as given, is not UTF-8.
+    #[error("List {0}")]
+    List(String),
     /// A line of a journal is none, from 1.
     #[error("Text {0}")]
     Text(usize),
@@ -65,7 +68,7 @@ impl Refusal {
         ensures { result ≡ refusal_status self.now }
     {
         match self {
-            Refusal::File(_) | Refusal::Device => Status::Failed,
+            Refusal::File(..) | Refusal::Device => Status::Failed,
             _ => Status::Refused,
         }
     }
@@ -117,12 +120,12 @@ impl Refusal {
     /// The refusal of the file of this name. To be out of memory is no fault of the file.
     pub(crate) fn of_file(alloc: Global, name: &str, fault: FileFault) -> Refusal
         ensures memory { fault ≡ FileFault.Memory → result ≡ Refusal.Memory }
-        ensures device { fault ≡ FileFault.Device → IsOfFile result name.now }
+        ensures device { fault ≢ FileFault.Memory → IsOfFile result name.now }
     {
         match fault {
             FileFault::Memory => Refusal::Memory,
-            FileFault::Device => match String::from_str(alloc, name) {
-                Ok(name) => Refusal::File(name),
+            FileFault::Device(cause) => match String::from_str(alloc, name) {
+                Ok(name) => Refusal::File(name, cause),
                 Err(_) => Refusal::Memory,
             },
         }
@@ -130,6 +133,14 @@ impl Refusal {
 }
 
 impl Refusal {
+    /// The refusal of the list of this name, which is not UTF-8.
+    pub(crate) fn of_list(alloc: Global, name: &str) -> Refusal {
+        match String::from_str(alloc, name) {
+            Ok(name) => Refusal::List(name),
+            Err(_) => Refusal::Memory,
+        }
+    }
+
     /// The refusal of the text of a journal. To be out of memory is no fault of its.
     pub(crate) fn of_journal(fault: JournalFault) -> Refusal
         ensures { result ≢ Refusal.Device }

@@ -7,6 +7,37 @@ ghost use Rattle.cli.specs.Runs.{texts_of};
 
 use crate::Refusal;
 use std::alloc::{AllocError, Global};
+use std::fmt::{self, Display, Formatter, Write};
+
+/// What the system said of a file that was not read or written.
+#[derive(Clone, Copy, Debug)]
+pub enum FileCause {
+    /// It is not there, or its folder is not.
+    Absent,
+    /// It may not be read or written.
+    Denied,
+    /// It is a folder, or what should be its folder is none.
+    Folder,
+    /// Its device has no room.
+    Full,
+    /// It has more bytes than an image can count.
+    Long,
+    /// Anything else.
+    Other,
+}
+
+impl Display for FileCause {
+    fn fmt<W: Write>(&self, formatter: &mut Formatter<W>) -> Result<(), fmt::Error> {
+        formatter.write_str(match self {
+            FileCause::Absent => "it is not there, or its folder is not",
+            FileCause::Denied => "permission is denied",
+            FileCause::Folder => "it is a folder, or it stands in what is none",
+            FileCause::Full => "there is no room on its device",
+            FileCause::Long => "it is a class file of 2^32 bytes or more",
+            FileCause::Other => "the system or its device failed",
+        })
+    }
+}
 
 /// Why a file was not read or written.
 #[derive(Clone, Copy)]
@@ -14,7 +45,7 @@ pub enum FileFault {
     /// Memory was refused.
     Memory,
     /// The file is not there, may not be used, or its device failed.
-    Device,
+    Device(FileCause),
 }
 
 /// The files of a command, by the names that its words give. Contracts see what the file of each name holds, where the
@@ -93,7 +124,7 @@ fn at_most(bytes: Vec<u8>, most: usize) -> Result<Vec<u8>, FileFault>
     ensures same { IfOk result (λ taken. taken ≡ bytes) }
 {
     if most < bytes.len() {
-        return Err(FileFault::Device);
+        return Err(FileFault::Device(FileCause::Long));
     }
     Ok(bytes)
 }

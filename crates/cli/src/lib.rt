@@ -21,6 +21,8 @@ mod image_build;
 mod image_run;
 pub mod laws;
 mod lazy;
+mod lists;
+mod meanings;
 mod outputs;
 mod renewing;
 mod reporting;
@@ -31,6 +33,7 @@ mod standing;
 mod status;
 mod telling;
 mod threads;
+mod untold;
 mod watching;
 
 pub use building::{BuildFault, BuildOptions, Built};
@@ -41,7 +44,7 @@ pub use command_line::{
 };
 pub use entries::entries_of;
 pub use fault::Refusal;
-pub use files::{FileFault, Files};
+pub use files::{FileCause, FileFault, Files};
 pub use image_build::{GREATEST_LENGTH, build_image};
 pub use image_reader::ImageFault;
 pub use image_run::{ImageRun, run_image};

@@ -1,8 +1,10 @@
 //! What words name for output, beside what they name for input.
-ghost use Rattle.std.specs.Prelude.{◌≡◌, ◌≢◌, None};
+ghost use Rattle.std.specs.Prelude.{◌≡◌, ◌≢◌, IfSome, None, Some, true};
 ghost use Rattle.command_line.specs.Requests.{texts};
-ghost use Rattle.cli.specs.Outputs.{IsApart, IsNoneOf, IsReportApart};
+ghost use Rattle.cli.specs.Lists.{list_of};
+ghost use Rattle.cli.specs.Outputs.{AreListsApart, IsApart, IsNoListOf, IsNoneOf, IsReportApart};
 
+use crate::lists::list_name;
 use crate::{Build, Files, Request};
 
 /// A file that would be written over.
@@ -61,6 +63,66 @@ fn overwritten_by_report<'a, F: Files>(
         Some(Clash::Outputs(report))
     } else {
         among(report, words.building.files.as_slice(), files)
+    }
+}
+
+/// The first output of a request that is one of the lists that it names, if there is one.
+pub(crate) fn overwritten_list<'a, F: Files>(
+    asked: &Request<'a>,
+    files: &mut F,
+) -> Option<Clash<'a>>
+    ensures apart { result ≡ None → AreListsApart asked.now }
+    ensures same { F.holds files.new ≡ F.holds files.old }
+{
+    match asked {
+        Request::Build(words) => list_overwritten_by_build(words, files),
+        Request::Audit(_)
+        | Request::Explain(_)
+        | Request::Lazy(_)
+        | Request::Renew(_)
+        | Request::Replay(_)
+        | Request::Report(_)
+        | Request::Run(_) => None,
+    }
+}
+
+fn list_overwritten_by_build<'a, F: Files>(words: &Build<'a>, files: &mut F) -> Option<Clash<'a>>
+    ensures image { result ≡ None → IsNoListOf words.now.image.now (texts words.now.building.files.items) }
+    ensures report { result ≡ None → IfSome words.now.report
+        (λ name. IsNoListOf name.now (texts words.now.building.files.items)) }
+    ensures same { F.holds files.new ≡ F.holds files.old }
+{
+    let names = words.building.files.as_slice();
+    match among_lists(words.image, names, files) {
+        Some(clash) => Some(clash),
+        None => match words.report {
+            Some(report) => among_lists(report, names, files),
+            None => None,
+        },
+    }
+}
+
+/// An output, if it is one of the lists that these words name.
+fn among_lists<'a, F: Files>(output: &'a str, words: &[&str], files: &mut F) -> Option<Clash<'a>>
+    ensures apart { result ≡ None → IsNoListOf output.now (texts words.now) }
+    ensures same { F.holds files.new ≡ F.holds files.old }
+{
+    for word in words {
+        if is_list(output, word, files) {
+            return Some(Clash::Input(output));
+        }
+    }
+    None
+}
+
+/// Whether an output is the list that a word names.
+fn is_list<F: Files>(output: &str, word: &str, files: &mut F) -> bool
+    ensures same_name { list_of word.now ≡ Some output.now → result ≡ true }
+    ensures same { F.holds files.new ≡ F.holds files.old }
+{
+    match list_name(word) {
+        Some(list) => files.are_one(output, list),
+        None => false,
     }
 }
 

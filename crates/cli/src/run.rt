@@ -1,25 +1,31 @@
 //! One command, from its words to its exit status.
 ghost use Rattle.std.specs.Prelude.{◌≡◌, ◌≢◌, ◌≤◌, ◌⊎◌, OnOk};
+ghost use Rattle.command_line.specs.Files.{files_of};
 ghost use Rattle.command_line.specs.Requests.{texts};
 ghost use Rattle.init_engine.specs.Schedules.{AreRuns, schedule_of};
 ghost use Rattle.init_engine.specs.Turns.{world_of};
-ghost use Rattle.cli.specs.Done.{AskFor, DidWords, HasEndedByTurns, HasEndedWithJournal, IsDone};
+ghost use Rattle.cli.specs.Done.{AskFor, DidWords, HasEndedByTurns, HasEndedWithJournal, HoldsWithLists, IsDone};
 ghost use Rattle.cli.specs.Done.{IsWritten, IsWrittenTo};
 ghost use Rattle.cli.specs.Journaled.{IsOutcome};
 ghost use Rattle.cli.specs.Outputs.{IsApart};
+ghost use Rattle.cli.specs.Refusal.{refusal_status};
 ghost use Rattle.cli.specs.Running.{IsCutShort, IsOfRun};
+ghost use Rattle.cli.specs.steps.Lists.{AreGivenAs};
 ghost use Rattle.cli.specs.Status.{IsOver, code_of, run_status};
 
 use crate::by_threads::{Journaled, replayed, run_by_threads};
 use crate::files::put;
 use crate::image_run::ImageStart;
 use crate::lazy::LazyStart;
-use crate::outputs::overwritten;
+use crate::lists::{Given, names, words_given};
+use crate::meanings::{Errors, Voice};
+use crate::outputs::{overwritten, overwritten_list};
 use crate::standing::{tell_image_stacks, tell_lazy_stacks};
 use crate::telling::{
     refuse, tell_audit, tell_done, tell_endings, tell_no_files, tell_overwritten, tell_replay,
     tell_report, tell_words,
 };
+use crate::untold::tell_untold;
 use crate::{
     Files, Lazy, Ran, Refusal, Replay, Request, Run, RunFault, Status, Unwatched, Watch, auditing,
     explaining, image_build, image_run, lazy, line, renewing, reporting, run_world, status_of,
@@ -59,7 +65,7 @@ pub fn command<R: Threads + Wait + Sync, F: Files, W: Write + Send + Drop, E: Wr
     ensures range { result.0 ≤ 6 }
     // Lines that a run sent before memory or a thread was refused cannot be taken back. It is a run that the words ask
     // for, of what the files hold that they name.
-    ensures refused { result.0 ≡ 1 → (result.1 ≡ out) ⊎ AskFor (texts words.now)
+    ensures refused { result.0 ≡ 1 → (result.1 ≡ out) ⊎ AskFor (texts words.now) (F.holds files.old)
         (λ request. IsOfRun (F.holds files.old) request (W.contents out) (W.contents result.1)) }
     ensures words { result.0 ≡ 2 → result.1 ≡ out }
     // With 0, 4, 5 and 6 what the words ask for is done.
@@ -101,7 +107,7 @@ pub fn command_holding<
     H: Watch + Sync,
 >(rt: &R, alloc: Global, words: &[&str], files: &mut F, out: W, errors: &mut E, watch: &H) -> End<W>
     ensures range { result.status ≤ 6 }
-    ensures refused { result.status ≡ 1 → (result.out ≡ out) ⊎ AskFor (texts words.now)
+    ensures refused { result.status ≡ 1 → (result.out ≡ out) ⊎ AskFor (texts words.now) (F.holds files.old)
         (λ request. IsOfRun (F.holds files.old) request (W.contents out) (W.contents result.out)) }
     ensures words { result.status ≡ 2 → result.out ≡ out }
     ensures done { (status : Status) → result.status ≡ code_of status → IsOver status → DidWords (texts words.now)
@@ -125,22 +131,157 @@ fn do_words<R: Threads + Wait + Sync, F: Files, W: Write + Send + Drop, E: Write
     errors: &mut E,
     watch: &H,
 ) -> (Status, Held, W)
-    ensures refused { result.0 ≡ Status.Refused → (result.2 ≡ out) ⊎ AskFor (texts words.now)
+    ensures refused { result.0 ≡ Status.Refused → (result.2 ≡ out) ⊎ AskFor (texts words.now) (F.holds files.old)
         (λ request. IsOfRun (F.holds files.old) request (W.contents out) (W.contents result.2)) }
     ensures words { result.0 ≡ Status.Words → result.2 ≡ out }
     ensures done { IsOver result.0 → DidWords (texts words.now) (F.holds files.old) (F.holds files.new)
         (W.contents out) (W.contents result.2) result.0 }
 {
     match line(alloc, words) {
-        Ok(request) => match overwritten(&request, files) {
+        Ok(asked) => match overwritten_list(&asked, files) {
             Some(clash) => (tell_overwritten(clash, errors), Held::Nothing, out),
-            None => {
-                tell_no_files(&request, errors);
-                do_request(rt, alloc, &request, files, out, errors, watch)
-            }
+            None => do_asked(rt, alloc, asked, files, out, errors, watch),
         },
-        Err(fault) => (tell_words(&fault, &mut out, errors), Held::Nothing, out),
+        Err(fault) => {
+            let mut voice = Voice::of_words(alloc, words, errors);
+            (tell_words(&fault, &mut out, &mut voice), Held::Nothing, out)
+        }
     }
+}
+
+/// Does the command of a request whose words may name lists. Answers standard output back.
+fn do_asked<R: Threads + Wait + Sync, F: Files, W: Write + Send + Drop, E: Write, H: Watch + Sync>(
+    rt: &R,
+    alloc: Global,
+    asked: Request<'_>,
+    files: &mut F,
+    out: W,
+    errors: &mut E,
+    watch: &H,
+) -> (Status, Held, W)
+    ensures refused { result.0 ≡ Status.Refused → (result.2 ≡ out) ⊎ HoldsWithLists (F.holds files.old) asked.entry
+        (λ request. IsOfRun (F.holds files.old) request (W.contents out) (W.contents result.2)) }
+    ensures words { result.0 ≡ Status.Words → result.2 ≡ out }
+    ensures done { IsOver result.0 → HoldsWithLists (F.holds files.old) asked.entry (λ request. IsApart request
+        × IsDone (F.holds files.old) (F.holds files.new) (W.contents out) (W.contents result.2) request result.0) }
+{
+    match words_given(alloc, asked.files(), files) {
+        Ok(given) => do_listed(
+            rt,
+            alloc,
+            asked,
+            given.as_slice(),
+            files,
+            out,
+            errors,
+            watch,
+        ),
+        Err(refusal) => (
+            refuse_asked(alloc, &asked, &refusal, errors),
+            Held::Nothing,
+            out,
+        ),
+    }
+}
+
+/// Tells a refusal of what a request names.
+fn refuse_asked<E: Write>(
+    alloc: Global,
+    asked: &Request<'_>,
+    refusal: &Refusal,
+    errors: &mut E,
+) -> Status
+    ensures { result ≡ refusal_status refusal.now }
+{
+    let mut voice = Voice::of(alloc, asked, errors);
+    refuse(refusal, &mut voice)
+}
+
+/// Does the command of a request, with what its words for class files stand for. Answers standard output back.
+fn do_listed<
+    'a,
+    R: Threads + Wait + Sync,
+    F: Files,
+    W: Write + Send + Drop,
+    E: Write,
+    H: Watch + Sync,
+>(
+    rt: &R,
+    alloc: Global,
+    asked: Request<'a>,
+    given: &'a [Given<'a>],
+    files: &mut F,
+    out: W,
+    errors: &mut E,
+    watch: &H,
+) -> (Status, Held, W)
+    requires { AreGivenAs (F.holds files.old) (texts (files_of asked)) given.now }
+    ensures refused { result.0 ≡ Status.Refused → (result.2 ≡ out) ⊎ HoldsWithLists (F.holds files.old) asked.entry
+        (λ request. IsOfRun (F.holds files.old) request (W.contents out) (W.contents result.2)) }
+    ensures words { result.0 ≡ Status.Words → result.2 ≡ out }
+    ensures done { IsOver result.0 → HoldsWithLists (F.holds files.old) asked.entry (λ request. IsApart request
+        × IsDone (F.holds files.old) (F.holds files.new) (W.contents out) (W.contents result.2) request result.0) }
+{
+    match names(alloc, given) {
+        Ok(names) => {
+            let request = asked.with_files(names);
+            do_given(rt, alloc, &request, files, out, errors, watch)
+        }
+        Err(_) => {
+            let status = refuse_asked(alloc, &asked, &Refusal::Memory, errors);
+            (status, Held::Nothing, out)
+        }
+    }
+}
+
+/// Does the command of a request whose class files are all named. Answers standard output back.
+fn do_given<R: Threads + Wait + Sync, F: Files, W: Write + Send + Drop, E: Write, H: Watch + Sync>(
+    rt: &R,
+    alloc: Global,
+    request: &Request<'_>,
+    files: &mut F,
+    out: W,
+    errors: &mut E,
+    watch: &H,
+) -> (Status, Held, W)
+    ensures refused { result.0 ≡ Status.Refused → (result.2 ≡ out)
+        ⊎ IsOfRun (F.holds files.old) request.now (W.contents out) (W.contents result.2) }
+    ensures words { result.0 ≡ Status.Words → result.2 ≡ out }
+    ensures done { IsOver result.0 → IsApart request.now × IsDone (F.holds files.old) (F.holds files.new)
+        (W.contents out) (W.contents result.2) request.now result.0 }
+{
+    match overwritten(request, files) {
+        Some(clash) => (tell_overwritten(clash, errors), Held::Nothing, out),
+        None => {
+            tell_no_files(request, errors);
+            do_told(rt, alloc, request, files, out, errors, watch)
+        }
+    }
+}
+
+/// Does the command of a request, and tells what is left to be told of a refusal. Answers standard output back.
+fn do_told<R: Threads + Wait + Sync, F: Files, W: Write + Send + Drop, E: Write, H: Watch + Sync>(
+    rt: &R,
+    alloc: Global,
+    request: &Request<'_>,
+    files: &mut F,
+    out: W,
+    errors: &mut E,
+    watch: &H,
+) -> (Status, Held, W)
+    requires { IsApart request.now }
+    ensures refused { result.0 ≡ Status.Refused → (result.2 ≡ out)
+        ⊎ IsOfRun (F.holds files.old) request.now (W.contents out) (W.contents result.2) }
+    ensures words { result.0 ≢ Status.Words }
+    ensures done { IsOver result.0 → IsDone (F.holds files.old) (F.holds files.new) (W.contents out)
+        (W.contents result.2) request.now result.0 }
+{
+    let mut voice = Voice::of(alloc, request, errors);
+    let (status, held, out) = do_request(rt, alloc, request, files, out, &mut voice, watch);
+    if let Some(untold) = voice.into_untold() {
+        tell_untold(alloc, &untold, request.files(), files, errors);
+    }
+    (status, held, out)
 }
 
 /// Does the command of a request. Answers standard output back.
@@ -148,7 +289,7 @@ fn do_request<
     R: Threads + Wait + Sync,
     F: Files,
     W: Write + Send + Drop,
-    E: Write,
+    E: Errors,
     H: Watch + Sync,
 >(
     rt: &R,
@@ -200,7 +341,7 @@ fn do_request<
 }
 
 /// Does the command `lazy`.
-fn run_lazily<F: Files, W: Write, E: Write>(
+fn run_lazily<F: Files, W: Write, E: Errors>(
     alloc: Global,
     words: &Lazy<'_>,
     files: &mut F,
@@ -223,7 +364,7 @@ fn run_lazily<F: Files, W: Write, E: Write>(
 }
 
 /// Does the command `run`.
-fn run_image<R: Threads + Wait + Sync, F: Files, W: Write + Send + Drop, E: Write>(
+fn run_image<R: Threads + Wait + Sync, F: Files, W: Write + Send + Drop, E: Errors>(
     rt: &R,
     alloc: Global,
     words: &Run<'_>,
@@ -247,7 +388,7 @@ fn run_image<R: Threads + Wait + Sync, F: Files, W: Write + Send + Drop, E: Writ
 }
 
 /// Runs a world as the words say, and tells how its threads ended.
-fn run_told<R: Threads + Wait + Sync, F: Files, W: Write + Send + Drop, E: Write>(
+fn run_told<R: Threads + Wait + Sync, F: Files, W: Write + Send + Drop, E: Errors>(
     rt: &R,
     alloc: Global,
     image: &Image,
@@ -329,7 +470,7 @@ fn journaled(ran: Ran) -> Journaled
 }
 
 /// Tells how the threads of a run ended, writes its journal, and tells where they stand, as the words ask for it.
-fn tell_run_and_stacks<F: Files, E: Write>(
+fn tell_run_and_stacks<F: Files, E: Errors>(
     alloc: Global,
     image: &Image,
     words: &Run<'_>,
@@ -357,7 +498,7 @@ fn tell_run_and_stacks<F: Files, E: Write>(
 }
 
 /// Tells how the threads of a run ended, and writes its journal where the words ask for it.
-fn tell_run<F: Files, E: Write>(
+fn tell_run<F: Files, E: Errors>(
     alloc: Global,
     program: &Program,
     words: &Run<'_>,
@@ -395,7 +536,7 @@ fn write_journal<F: Files>(
 }
 
 /// Does the command `replay`.
-fn replay_image<F: Files, W: Write, E: Write>(
+fn replay_image<F: Files, W: Write, E: Errors>(
     alloc: Global,
     words: &Replay<'_>,
     files: &mut F,
@@ -418,7 +559,7 @@ fn replay_image<F: Files, W: Write, E: Write>(
 }
 
 /// Runs a program from a world of it, and tells what it prints while it runs, and then how its threads ended.
-fn run_from<W: Write, E: Write>(
+fn run_from<W: Write, E: Errors>(
     alloc: Global,
     program: &Program,
     world: World,
@@ -440,7 +581,7 @@ fn run_from<W: Write, E: Write>(
 }
 
 /// Tells how the threads of a run by turns ended, and where they stand, if the words ask for it.
-fn tell_turns<E: Write>(
+fn tell_turns<E: Errors>(
     alloc: Global,
     program: &Program,
     words: &Lazy<'_>,

@@ -3,6 +3,7 @@ ghost use Rattle.std.specs.Prelude.{◌≡◌, ◌≢◌};
 ghost use Rattle.init_engine.specs.Schedules.{AreRuns};
 ghost use Rattle.cli.specs.Status.{IsOver};
 
+use crate::meanings::Errors;
 use crate::telling::refuse;
 use crate::{Refusal, Status, entries_of};
 use image_reader::world;
@@ -11,7 +12,6 @@ use object_graph::Image;
 use program::Program;
 use stacks::{stack_lines, stacks};
 use std::alloc::Global;
-use std::io::Write;
 
 /// Whether a run that ends a command so has threads that have not returned.
 fn some_stand(status: Status) -> bool {
@@ -19,7 +19,7 @@ fn some_stand(status: Status) -> bool {
 }
 
 /// Tells where the threads of a run of class files stand, by its schedule, from the entries of a list.
-pub(crate) fn tell_lazy_stacks<E: Write>(
+pub(crate) fn tell_lazy_stacks<E: Errors>(
     alloc: Global,
     program: &Program,
     list: &str,
@@ -40,7 +40,7 @@ pub(crate) fn tell_lazy_stacks<E: Write>(
 }
 
 /// The same of a run of an image.
-pub(crate) fn tell_image_stacks<E: Write>(
+pub(crate) fn tell_image_stacks<E: Errors>(
     alloc: Global,
     image: &Image,
     list: &str,
@@ -61,16 +61,14 @@ pub(crate) fn tell_image_stacks<E: Write>(
 }
 
 /// Tells stacks after a run with this status.
-fn tell_stacks<E: Write>(stacks: Result<String, Refusal>, status: Status, errors: &mut E) -> Status
+fn tell_stacks<E: Errors>(stacks: Result<String, Refusal>, status: Status, errors: &mut E) -> Status
     requires { status ≢ Status.Words }
     ensures words { result ≢ Status.Words }
     ensures done { IsOver result → result ≡ status }
 {
     match stacks {
         Ok(lines) => {
-            // A failure of standard error is ignored.
-            let _ = errors.write_all(lines.as_bytes());
-            let _ = errors.flush();
+            errors.tell(lines.as_str());
             status
         }
         Err(refusal) => refuse(&refusal, errors),

@@ -8,6 +8,7 @@ ghost use Rattle.cli.specs.Status.{IsOver, audit_status};
 
 use crate::auditing::Audited;
 use crate::by_threads::ImageSeen;
+use crate::meanings::Errors;
 use crate::outputs::Clash;
 use crate::running::send_seen;
 use crate::standing::tell_image_stacks;
@@ -18,7 +19,7 @@ use std::alloc::Global;
 use std::io::Write;
 
 /// Tells what a replay has shown.
-pub(crate) fn tell_replay<W: Write, E: Write>(
+pub(crate) fn tell_replay<W: Write, E: Errors>(
     alloc: Global,
     words: &Replay<'_>,
     replayed: &ImageSeen,
@@ -42,7 +43,7 @@ pub(crate) fn tell_replay<W: Write, E: Write>(
 }
 
 /// Tells how the threads of a replay ended, and where they stand, if the words ask for it.
-fn tell_replay_threads<E: Write>(
+fn tell_replay_threads<E: Errors>(
     alloc: Global,
     words: &Replay<'_>,
     replayed: &ImageSeen,
@@ -64,7 +65,7 @@ fn tell_replay_threads<E: Write>(
 }
 
 /// Tells how threads ended.
-pub(crate) fn tell_endings<E: Write>(
+pub(crate) fn tell_endings<E: Errors>(
     alloc: Global,
     program: &Program,
     threads: &[Ending],
@@ -77,9 +78,7 @@ pub(crate) fn tell_endings<E: Write>(
 {
     match thread_lines(alloc, program, threads) {
         Ok(lines) => {
-            // A failure of standard error is ignored.
-            let _ = errors.write_all(lines.as_bytes());
-            let _ = errors.flush();
+            errors.tell(lines.as_str());
             status
         }
         Err(_) => refuse(&Refusal::Memory, errors),
@@ -87,7 +86,7 @@ pub(crate) fn tell_endings<E: Write>(
 }
 
 /// Tells why a command that has nothing else to tell was refused, if it was.
-pub(crate) fn tell_done<E: Write>(done: Result<(), Refusal>, errors: &mut E) -> Status
+pub(crate) fn tell_done<E: Errors>(done: Result<(), Refusal>, errors: &mut E) -> Status
     ensures words { result ≢ Status.Words }
     ensures done { IsOver result → (result ≡ Status.Done) × IsOk done }
 {
@@ -98,7 +97,7 @@ pub(crate) fn tell_done<E: Write>(done: Result<(), Refusal>, errors: &mut E) -> 
 }
 
 /// Tells a report, or why there is none.
-pub(crate) fn tell_report<W: Write, E: Write>(
+pub(crate) fn tell_report<W: Write, E: Errors>(
     report: Result<Vec<u8>, Refusal>,
     out: &mut W,
     errors: &mut E,
@@ -115,7 +114,7 @@ pub(crate) fn tell_report<W: Write, E: Write>(
 }
 
 /// Tells an audit, or why there is none.
-pub(crate) fn tell_audit<W: Write, E: Write>(
+pub(crate) fn tell_audit<W: Write, E: Errors>(
     audit: Result<Audited, Refusal>,
     out: &mut W,
     errors: &mut E,
@@ -135,18 +134,16 @@ pub(crate) fn tell_audit<W: Write, E: Write>(
 }
 
 /// Tells a refusal on standard error.
-pub(crate) fn refuse<E: Write>(refusal: &Refusal, errors: &mut E) -> Status
+pub(crate) fn refuse<E: Errors>(refusal: &Refusal, errors: &mut E) -> Status
     ensures { result ≡ refusal_status refusal.now }
 {
-    // A failure of standard error is ignored.
-    let _ = writeln!(errors, "preinit: {refusal}");
-    let _ = errors.flush();
+    errors.refuse(refusal);
     refusal.status()
 }
 
 /// Tells what the words gave in place of a command: help on standard output, and what is wrong with
 /// them on standard error.
-pub(crate) fn tell_words<W: Write, E: Write>(
+pub(crate) fn tell_words<W: Write, E: Errors>(
     fault: &WordsFault,
     out: &mut W,
     errors: &mut E,
@@ -158,12 +155,15 @@ pub(crate) fn tell_words<W: Write, E: Write>(
     match fault {
         WordsFault::Memory => refuse(&Refusal::Memory, errors),
         WordsFault::Help(text) => tell_text(text.as_bytes(), out, errors),
-        WordsFault::Wrong(text) => tell_wrong(text.as_str(), errors),
+        WordsFault::Wrong(text) => {
+            errors.wrong(text.as_str());
+            Status::Words
+        }
     }
 }
 
 /// Tells help or a report on standard output.
-fn tell_text<W: Write, E: Write>(text: &[u8], out: &mut W, errors: &mut E) -> Status
+fn tell_text<W: Write, E: Errors>(text: &[u8], out: &mut W, errors: &mut E) -> Status
     ensures refused { result ≢ Status.Refused }
     ensures words { result ≢ Status.Words }
     ensures done { IsOver result → (result ≡ Status.Done)
@@ -173,16 +173,6 @@ fn tell_text<W: Write, E: Write>(text: &[u8], out: &mut W, errors: &mut E) -> St
         return refuse(&Refusal::Device, errors);
     }
     Status::Done
-}
-
-/// Tells what is wrong with the words on standard error.
-fn tell_wrong<E: Write>(text: &str, errors: &mut E) -> Status
-    ensures { result ≡ Status.Words }
-{
-    // A failure of standard error is ignored.
-    let _ = errors.write_all(text.as_bytes());
-    let _ = errors.flush();
-    Status::Words
 }
 
 /// Tells on standard error that words name a file for output that they name for something else too.

@@ -50,6 +50,7 @@ pub record HoldsBuilding (found : Found) (building : Building) : Type 0 where
   pub build_time : option_map (λ (s : Bor (List ℕ)). s.now) building.build_time ≡ first_value found (codes "build_time")
   pub budget : HoldsNumber found (codes "budget") building.budget
   pub files : texts building.files.items ≡ values_of found (codes "file")
+  pub verbose : HoldsFlag found (codes "verbose") building.verbose
 
 pub record HoldsBuild (found : Found) (build : Build) : Type 0 where
   pub image : first_value found (codes "out") ≡ Some build.image.now
@@ -66,6 +67,7 @@ pub record HoldsExplain (found : Found) (explain : Explain) : Type 0 where
 pub record HoldsAudit (found : Found) (audit : Audit) : Type 0 where
   pub entries : first_value found (codes "entries") ≡ Some audit.entries.now
   pub files : texts audit.files.items ≡ values_of found (codes "file")
+  pub verbose : HoldsFlag found (codes "verbose") audit.verbose
 
 -- what a run is asked for
 pub record HoldsLazy (found : Found) (lazy : Lazy) : Type 0 where
@@ -73,6 +75,7 @@ pub record HoldsLazy (found : Found) (lazy : Lazy) : Type 0 where
   pub limit : HoldsNumber found (codes "limit") lazy.limit
   pub stacks : HoldsFlag found (codes "stacks") lazy.stacks
   pub files : texts lazy.files.items ≡ values_of found (codes "file")
+  pub verbose : HoldsFlag found (codes "verbose") lazy.verbose
 
 pub record HoldsRun (found : Found) (run : Run) : Type 0 where
   pub entries : first_value found (codes "entries") ≡ Some run.entries.now
@@ -81,17 +84,20 @@ pub record HoldsRun (found : Found) (run : Run) : Type 0 where
   pub stacks : HoldsFlag found (codes "stacks") run.stacks
   pub journal : option_map (λ (s : Bor (List ℕ)). s.now) run.journal ≡ first_value found (codes "journal")
   pub image : first_value found (codes "image") ≡ Some run.image.now
+  pub verbose : HoldsFlag found (codes "verbose") run.verbose
 
 -- what the words ask for, of an image to be written again
 pub record HoldsRenew (found : Found) (renew : Renew) : Type 0 where
   pub new : first_value found (codes "out") ≡ Some renew.new.now
   pub image : first_value found (codes "image") ≡ Some renew.image.now
+  pub verbose : HoldsFlag found (codes "verbose") renew.verbose
 
 pub record HoldsReplay (found : Found) (replay : Replay) : Type 0 where
   pub entries : first_value found (codes "entries") ≡ Some replay.entries.now
   pub stacks : HoldsFlag found (codes "stacks") replay.stacks
   pub journal : first_value found (codes "journal") ≡ Some replay.journal.now
   pub image : first_value found (codes "image") ≡ Some replay.image.now
+  pub verbose : HoldsFlag found (codes "verbose") replay.verbose
 
 -- The command of this name asks for this, by what was found of its arguments.
 abbrev pub Holds : List ℕ → Found → Request → Type 0

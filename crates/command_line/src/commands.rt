@@ -68,7 +68,7 @@ fn described_program<'a>(alloc: Global) -> Command<'a> {
 }
 
 fn build_command<'a>(alloc: Global) -> Result<Command<'a>, AllocError> {
-    let build = described(alloc, "build", BUILD_ABOUT, BUILD_LONG_ABOUT)
+    let build = described(alloc, "build", BUILD_ABOUT, BUILD_LONG_ABOUT)?
         .arg(out(alloc))?
         .arg(report(alloc))?
         .arg(workers(alloc))?;
@@ -76,36 +76,42 @@ fn build_command<'a>(alloc: Global) -> Result<Command<'a>, AllocError> {
 }
 
 fn report_command<'a>(alloc: Global) -> Result<Command<'a>, AllocError> {
-    let report = described(alloc, "report", REPORT_ABOUT, REPORT_LONG_ABOUT);
+    let report = described(alloc, "report", REPORT_ABOUT, REPORT_LONG_ABOUT)?;
     with_building(alloc, report)
 }
 
 fn renew_command<'a>(alloc: Global) -> Result<Command<'a>, AllocError> {
-    described(alloc, "renew", RENEW_ABOUT, RENEW_LONG_ABOUT)
+    described(alloc, "renew", RENEW_ABOUT, RENEW_LONG_ABOUT)?
         .arg(out(alloc))?
         .arg(image(alloc, "The image to write again"))
 }
 
 fn explain_command<'a>(alloc: Global) -> Result<Command<'a>, AllocError> {
-    let explain = described(alloc, "explain", EXPLAIN_ABOUT, EXPLAIN_LONG_ABOUT).arg(class(alloc))?;
+    let explain = described(alloc, "explain", EXPLAIN_ABOUT, EXPLAIN_LONG_ABOUT)?.arg(class(
+        alloc,
+    ))?;
     with_building(alloc, explain)
 }
 
 fn audit_command<'a>(alloc: Global) -> Result<Command<'a>, AllocError> {
-    described(alloc, "audit", AUDIT_ABOUT, AUDIT_LONG_ABOUT)
+    described(alloc, "audit", AUDIT_ABOUT, AUDIT_LONG_ABOUT)?
         .arg(entries(alloc))?
-        .arg(file(alloc, "The class files to look at, in any order"))
+        .arg(file(
+            alloc,
+            "The class files to look at, in any order; '@LIST' for those that LIST names, one a line",
+        ))
 }
 
 fn lazy_command<'a>(alloc: Global) -> Result<Command<'a>, AllocError> {
-    let lazy = described(alloc, "lazy", LAZY_ABOUT, LAZY_LONG_ABOUT);
-    with_entries(alloc, lazy)?
-        .arg(stacks(alloc))?
-        .arg(file(alloc, "The class files to run, in any order"))
+    let lazy = described(alloc, "lazy", LAZY_ABOUT, LAZY_LONG_ABOUT)?;
+    with_entries(alloc, lazy)?.arg(stacks(alloc))?.arg(file(
+        alloc,
+        "The class files to run, in any order; '@LIST' for those that LIST names, one a line",
+    ))
 }
 
 fn run_command<'a>(alloc: Global) -> Result<Command<'a>, AllocError> {
-    let run = described(alloc, "run", RUN_ABOUT, RUN_LONG_ABOUT);
+    let run = described(alloc, "run", RUN_ABOUT, RUN_LONG_ABOUT)?;
     with_entries(alloc, run)?
         .arg(turns(alloc))?
         .arg(stacks(alloc))?
@@ -114,7 +120,7 @@ fn run_command<'a>(alloc: Global) -> Result<Command<'a>, AllocError> {
 }
 
 fn replay_command<'a>(alloc: Global) -> Result<Command<'a>, AllocError> {
-    let replay = described(alloc, "replay", REPLAY_ABOUT, REPLAY_LONG_ABOUT);
+    let replay = described(alloc, "replay", REPLAY_ABOUT, REPLAY_LONG_ABOUT)?;
     replay
         .arg(entries(alloc))?
         .arg(stacks(alloc))?
@@ -122,19 +128,26 @@ fn replay_command<'a>(alloc: Global) -> Result<Command<'a>, AllocError> {
         .arg(image(alloc, "The image to run"))
 }
 
-/// A command without its arguments.
-fn described<'a>(alloc: Global, name: &'a str, about: &'a str, long_about: &'a str) -> Command<'a> {
+/// A command with the one option that each has.
+fn described<'a>(
+    alloc: Global,
+    name: &'a str,
+    about: &'a str,
+    long_about: &'a str,
+) -> Result<Command<'a>, AllocError> {
     Command::new(alloc, name)
         .about(about)
         .long_about(long_about)
         .after_help(STATUSES)
+        .arg(verbose(alloc))
 }
 
 /// A command with the arguments of a build: its options and class files.
 fn with_building<'a>(alloc: Global, command: Command<'a>) -> Result<Command<'a>, AllocError> {
-    with_lists(alloc, command)?
-        .arg(budget(alloc))?
-        .arg(file(alloc, "The class files, in any order"))
+    with_lists(alloc, command)?.arg(budget(alloc))?.arg(file(
+        alloc,
+        "The class files, in any order; '@LIST' for those that LIST names, one a line",
+    ))
 }
 
 /// A command with the two lists of a build.
@@ -188,6 +201,13 @@ fn limit<'a>(alloc: Global) -> Arg<'a> {
         .default_value(DEFAULT_LIMIT)
         .value_parser(value_parser!(u64).range(1..=GREATEST_LIMIT))
         .help("Ends the run after this many steps, from 1 to 10^15")
+}
+
+fn verbose<'a>(alloc: Global) -> Arg<'a> {
+    Arg::new(alloc, "verbose")
+        .long("verbose")
+        .action(ArgAction::SetTrue)
+        .help("Tells what a refusal means in a second line")
 }
 
 fn turns<'a>(alloc: Global) -> Arg<'a> {

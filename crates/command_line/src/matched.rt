@@ -108,6 +108,7 @@ fn building_of<'a>(
             build_time: matches.get_str("build_time"),
             budget,
             files,
+            verbose: flag_of(matches, "verbose"),
         })),
         None => Ok(None),
     }
@@ -118,7 +119,11 @@ fn audit_of<'a>(alloc: Global, matches: &ArgMatches<'a>) -> Result<Option<Audit<
 {
     let files = files_of(alloc, matches)?;
     match matches.get_str("entries") {
-        Some(entries) => Ok(Some(Audit { entries, files })),
+        Some(entries) => Ok(Some(Audit {
+            entries,
+            files,
+            verbose: flag_of(matches, "verbose"),
+        })),
         None => Ok(None),
     }
 }
@@ -145,6 +150,7 @@ fn lazy_of<'a>(alloc: Global, matches: &ArgMatches<'a>) -> Result<Option<Lazy<'a
             limit,
             stacks: flag_of(matches, "stacks"),
             files,
+            verbose: flag_of(matches, "verbose"),
         })),
         _ => Ok(None),
     }
@@ -155,7 +161,11 @@ fn renew_of<'a>(matches: &ArgMatches<'a>) -> Option<Renew<'a>>
 {
     let new = matches.get_str("out")?;
     let image = matches.get_str("image")?;
-    Some(Renew { new, image })
+    Some(Renew {
+        new,
+        image,
+        verbose: flag_of(matches, "verbose"),
+    })
 }
 
 fn run_of<'a>(matches: &ArgMatches<'a>) -> Option<Run<'a>>
@@ -171,6 +181,7 @@ fn run_of<'a>(matches: &ArgMatches<'a>) -> Option<Run<'a>>
         stacks: flag_of(matches, "stacks"),
         journal: matches.get_str("journal"),
         image,
+        verbose: flag_of(matches, "verbose"),
     })
 }
 
@@ -185,6 +196,7 @@ fn replay_of<'a>(matches: &ArgMatches<'a>) -> Option<Replay<'a>>
         stacks: flag_of(matches, "stacks"),
         journal,
         image,
+        verbose: flag_of(matches, "verbose"),
     })
 }
 

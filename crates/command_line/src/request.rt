@@ -1,4 +1,6 @@
 //! What the words of the command line ask for.
+ghost use Rattle.std.specs.Prelude.{◌≡◌};
+ghost use Rattle.command_line.specs.Files.{building_with, files_of, with_files};
 
 /// A command and what its words ask for. Texts are as given.
 #[derive(Drop)]
@@ -28,6 +30,8 @@ pub struct Audit<'a> {
     pub entries: &'a str,
     /// The names of the class files, in the order given.
     pub files: Vec<&'a str>,
+    /// Whether a refusal is explained.
+    pub verbose: bool,
 }
 
 /// What the words of `explain` ask for.
@@ -63,6 +67,8 @@ pub struct Building<'a> {
     pub budget: u64,
     /// The names of the class files, in the order given.
     pub files: Vec<&'a str>,
+    /// Whether a refusal is explained.
+    pub verbose: bool,
 }
 
 /// What the words of `lazy` ask for.
@@ -76,6 +82,8 @@ pub struct Lazy<'a> {
     pub stacks: bool,
     /// The names of the class files, in the order given.
     pub files: Vec<&'a str>,
+    /// Whether a refusal is explained.
+    pub verbose: bool,
 }
 
 /// What the words of `renew` ask for.
@@ -85,6 +93,8 @@ pub struct Renew<'a> {
     pub new: &'a str,
     /// The name of the image's file.
     pub image: &'a str,
+    /// Whether a refusal is explained.
+    pub verbose: bool,
 }
 
 /// What the words of `run` ask for.
@@ -102,6 +112,8 @@ pub struct Run<'a> {
     pub journal: Option<&'a str>,
     /// The name of the image's file.
     pub image: &'a str,
+    /// Whether a refusal is explained.
+    pub verbose: bool,
 }
 
 /// What the words of `replay` ask for.
@@ -115,4 +127,85 @@ pub struct Replay<'a> {
     pub journal: &'a str,
     /// The name of the image's file.
     pub image: &'a str,
+    /// Whether a refusal is explained.
+    pub verbose: bool,
+}
+
+impl<'a> Request<'a> {
+    /// Whether a refusal is explained.
+    pub fn is_verbose(&self) -> bool {
+        match self {
+            Request::Audit(words) => words.verbose,
+            Request::Build(words) => words.building.verbose,
+            Request::Explain(words) => words.building.verbose,
+            Request::Lazy(words) => words.verbose,
+            Request::Renew(words) => words.verbose,
+            Request::Replay(words) => words.verbose,
+            Request::Report(words) => words.verbose,
+            Request::Run(words) => words.verbose,
+        }
+    }
+
+    /// The names of the class files, in the order given.
+    pub fn files(&self) -> &[&'a str]
+        ensures { result.now ≡ files_of self.now }
+    {
+        match self {
+            Request::Audit(words) => words.files.as_slice(),
+            Request::Build(words) => words.building.files.as_slice(),
+            Request::Explain(words) => words.building.files.as_slice(),
+            Request::Lazy(words) => words.files.as_slice(),
+            Request::Report(words) => words.files.as_slice(),
+            Request::Renew(_) | Request::Replay(_) | Request::Run(_) => &[],
+        }
+    }
+
+    /// The same request of these class files, where it is one of class files.
+    pub fn with_files(self, files: Vec<&'a str>) -> Request<'a>
+        ensures { result ≡ with_files self.entry files.entry }
+    {
+        match self {
+            Request::Audit(words) => Request::Audit(Audit {
+                entries: words.entries,
+                files,
+                verbose: words.verbose,
+            }),
+            Request::Build(words) => Request::Build(Build {
+                image: words.image,
+                report: words.report,
+                building: words.building.with_files(files),
+                workers: words.workers,
+            }),
+            Request::Explain(words) => Request::Explain(Explain {
+                class: words.class,
+                building: words.building.with_files(files),
+            }),
+            Request::Lazy(words) => Request::Lazy(Lazy {
+                entries: words.entries,
+                limit: words.limit,
+                stacks: words.stacks,
+                files,
+                verbose: words.verbose,
+            }),
+            Request::Report(words) => Request::Report(words.with_files(files)),
+            Request::Renew(words) => Request::Renew(words),
+            Request::Replay(words) => Request::Replay(words),
+            Request::Run(words) => Request::Run(words),
+        }
+    }
+}
+
+impl<'a> Building<'a> {
+    /// The same build of these class files.
+    fn with_files(self, files: Vec<&'a str>) -> Building<'a>
+        ensures { result ≡ building_with self.entry files.entry }
+    {
+        Building {
+            run_time: self.run_time,
+            build_time: self.build_time,
+            budget: self.budget,
+            files,
+            verbose: self.verbose,
+        }
+    }
 }

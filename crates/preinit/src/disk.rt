@@ -1,6 +1,6 @@
 //! The files of the system. A regular file is written beside its name and takes its place when it is whole.
 
-use cli::{FileFault, Files};
+use cli::{FileCause, FileFault, Files};
 use std::alloc::Global;
 use std::fs::{self, File, Metadata, OpenFile};
 use std::io::{self, ErrorKind, Read, Write};
@@ -140,6 +140,19 @@ fn read_all<F: Read>(alloc: Global, file: &mut F, piece: &mut [u8]) -> io::Resul
 fn file_fault(error: io::Error) -> FileFault {
     match error.kind() {
         ErrorKind::OutOfMemory => FileFault::Memory,
-        _ => FileFault::Device,
+        kind => FileFault::Device(cause_of(kind)),
+    }
+}
+
+/// What an error of the system says of a file.
+fn cause_of(kind: ErrorKind) -> FileCause {
+    match kind {
+        ErrorKind::NotFound => FileCause::Absent,
+        ErrorKind::PermissionDenied | ErrorKind::ReadOnlyFilesystem => FileCause::Denied,
+        ErrorKind::IsADirectory | ErrorKind::NotADirectory => FileCause::Folder,
+        ErrorKind::StorageFull | ErrorKind::QuotaExceeded | ErrorKind::FileTooLarge => {
+            FileCause::Full
+        }
+        _ => FileCause::Other,
     }
 }

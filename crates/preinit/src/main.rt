@@ -1,15 +1,21 @@
 //! The program `preinit`: one command of the crate `cli`, over the files and streams of the process.
 //! `preinit --help` says what it does.
+//!
+//! `build` in `run_watched` names what bounds say: a closure that a join runs knows it only where a clause has it.
 #![tactic(auto)]
 
 mod disk;
+mod progress;
+
+ghost use Rattle.std.specs.Thread.{IsSend, IsSync};
 
 use cli::{End, Refusal, Status, Unwatched, command_holding};
 use disk::Disk;
-use std::io::{self, ErrorKind, Write};
+use progress::Progress;
+use std::io::{self, ErrorKind, IsTerminal, Write};
 use std::process::ExitCode;
 use std::sync::Wait;
-use std::thread::Threads;
+use std::thread::{self, Threads};
 use std::{env, mem, rt};
 
 /// Why there was no command to do.
@@ -20,15 +26,16 @@ enum Stop {
     Words,
 }
 
-/// Does the command that the words of the process name.
-fn run<R, W, E>(rt: &R, out: W, errors: &mut E) -> Result<u8, Stop>
+/// Does the command that the words of the process name. A long build tells how far it has come, if it is said where.
+fn run<R, W, E, P>(rt: &R, out: W, errors: &mut E, terminal: Option<P>) -> Result<u8, Stop>
 where
-    R: rt::Env + rt::Files + AllocGlobal + Threads + Wait + Sync,
+    R: rt::Env + rt::Files + rt::Clock + AllocGlobal + Threads + Wait + Sync,
     W: Write + Send + Drop,
     E: Write,
+    P: Write + Send + Drop,
 {
     let texts = texts_of(rt)?;
-    run_words(rt, texts.as_slice(), out, errors)
+    run_words(rt, texts.as_slice(), out, errors, terminal)
 }
 
 /// The words of the process, the program's name first.
@@ -47,11 +54,18 @@ fn stop_of(error: io::Error) -> Stop {
 }
 
 /// Does the command that these words name, after the program's name.
-fn run_words<R, W, E>(rt: &R, texts: &[String], out: W, errors: &mut E) -> Result<u8, Stop>
+fn run_words<R, W, E, P>(
+    rt: &R,
+    texts: &[String],
+    out: W,
+    errors: &mut E,
+    terminal: Option<P>,
+) -> Result<u8, Stop>
 where
-    R: rt::Files + AllocGlobal + Threads + Wait + Sync,
+    R: rt::Files + rt::Clock + AllocGlobal + Threads + Wait + Sync,
     W: Write + Send + Drop,
     E: Write,
+    P: Write + Send + Drop,
 {
     let alloc = rt.alloc();
     let words: Vec<&str> = texts
@@ -60,28 +74,84 @@ where
         .map(|text| text.as_str())
         .collect(alloc)
         .map_err(|_| Stop::Memory)?;
-    let mut disk = Disk::new(rt);
+    let words = words.as_slice();
     let End {
         status,
         out: _,
         held,
-    } = command_holding(
-        rt,
-        alloc,
-        words.as_slice(),
-        &mut disk,
-        out,
-        errors,
-        &Unwatched,
-    );
+    } = match terminal {
+        Some(terminal) => run_on_terminal(rt, words, out, errors, terminal),
+        None => run_unwatched(rt, words, out, errors),
+    };
     // The process ends with it.
     mem::forget(held);
     Ok(status)
 }
 
+/// Does a command that tells nothing before its end.
+fn run_unwatched<R, W, E>(rt: &R, words: &[&str], out: W, errors: &mut E) -> End<W>
+where
+    R: rt::Files + AllocGlobal + Threads + Wait + Sync,
+    W: Write + Send + Drop,
+    E: Write,
+{
+    let mut disk = Disk::new(rt);
+    command_holding(rt, rt.alloc(), words, &mut disk, out, errors, &Unwatched)
+}
+
+/// Does a command. A build that takes long tells on the terminal how far it has come.
+fn run_on_terminal<R, W, E, P>(
+    rt: &R,
+    words: &[&str],
+    out: W,
+    errors: &mut E,
+    terminal: P,
+) -> End<W>
+where
+    R: rt::Files + rt::Clock + AllocGlobal + Threads + Wait + Sync,
+    W: Write + Send + Drop,
+    E: Write,
+    P: Write + Send + Drop,
+{
+    if matches!(words.first(), Some(word) if *word == "build") {
+        run_watched(rt, words, out, errors, terminal)
+    } else {
+        run_unwatched(rt, words, out, errors)
+    }
+}
+
+/// Does a build, while another thread tells on the terminal how far it has come.
+fn run_watched<R, W, E, P>(rt: &R, words: &[&str], out: W, errors: &mut E, terminal: P) -> End<W>
+where
+    R: rt::Files + rt::Clock + AllocGlobal + Threads + Wait + Sync,
+    W: Write + Send + Drop,
+    E: Write,
+    P: Write + Send + Drop,
+{
+    let progress = Progress::new(rt, terminal);
+    let watch = || progress.tell();
+    let build = || -> End<W>
+        requires handle { IsSync R.row }
+        requires output { IsSend W.row }
+        requires terminal { IsSend P.row }
+    {
+        let mut disk = Disk::new(rt);
+        let end = command_holding(rt, rt.alloc(), words, &mut disk, out, errors, &progress);
+        progress.end();
+        end
+    };
+    let ((), end) = thread::join(rt, watch, build);
+    end
+}
+
 fn main(rt: HostRuntime) -> ExitCode {
     let mut errors = rt.stderr();
-    let status = match run(&rt, rt.stdout(), &mut errors) {
+    let terminal = if errors.is_terminal() {
+        Some(rt.stderr())
+    } else {
+        None
+    };
+    let status = match run(&rt, rt.stdout(), &mut errors, terminal) {
         Ok(status) => status,
         Err(Stop::Memory) => {
             let refusal = Refusal::Memory;

@@ -6,7 +6,7 @@ ghost use Rattle.std.specs.Option.{option_map};
 use crate::class_bytes::hexadecimal;
 use cases::{SpelledBytes, add_class_files, spelled};
 use classfile::ClassFile;
-use cli::{FileFault, Files};
+use cli::{FileCause, FileFault, Files};
 use sha2::{Digest, Sha256};
 use std::alloc::{AllocError, Global};
 use std::collections::BTreeMap;
@@ -140,13 +140,13 @@ impl Files for Shelf {
         }
         match self.find(name) {
             Some(bytes) => Vec::from_slice(self.alloc, bytes).map_err(|_| FileFault::Memory),
-            None => Err(FileFault::Device),
+            None => Err(FileFault::Device(FileCause::Absent)),
         }
     }
 
     fn put(&mut self, name: &str, bytes: &[u8]) -> Result<(), FileFault> {
         match name {
-            "full" => Err(FileFault::Device),
+            "full" => Err(FileFault::Device(FileCause::Full)),
             "huge" => Err(FileFault::Memory),
             _ => self.add(name, bytes).map_err(|_| FileFault::Memory),
         }

@@ -1,0 +1,212 @@
+//! What a refusal means, in words: the second line of one, where `--verbose` asks for it.
+//!
+//! Standard error is a trait, so that no function that tells something has the parts of a `Voice` among its locals.
+
+use crate::{Refusal, Request};
+use classfile::{ClassFault, ClassName};
+use init_engine::EntryFault;
+use loading::fault::{BadParent, LinkFault};
+use std::alloc::Global;
+use std::io::{self, Write};
+
+/// The range of a budget.
+const BUDGETS: &str = "the budget is a number from 1 to 1000000000";
+
+/// The range of the number of workers.
+const WORKERS: &str = "there are 1 to 64 workers";
+
+/// The range of a limit.
+const LIMITS: &str = "the limit is a number from 1 to 1000000000000000";
+
+/// Standard error. A failure of it is ignored.
+pub(crate) trait Errors {
+    /// Tells a text as it stands.
+    fn tell(&mut self, text: &str);
+
+    /// Tells a refusal, and then what it means, if that is asked for.
+    fn refuse(&mut self, refusal: &Refusal);
+
+    /// Tells what is wrong with the words, and then the range of a number that is, if that is asked for.
+    fn wrong(&mut self, text: &str);
+}
+
+/// What is left to be told of a refusal, since it takes the names of the class files.
+#[derive(Drop)]
+pub(crate) enum Untold {
+    /// The class file of this place, and what is wrong with it.
+    Class(usize, &'static str),
+    /// The class of this name, as it is printed, lacks a parent.
+    Child(String),
+}
+
+/// A standard error, and whether refusals are explained there.
+#[derive(Drop)]
+pub(crate) struct Voice<'a, E> {
+    alloc: Global,
+    errors: &'a mut E,
+    is_verbose: bool,
+    untold: Option<Untold>,
+}
+
+impl<'a, E: Write> Voice<'a, E> {
+    /// One for these words, which are no command.
+    pub(crate) fn of_words(alloc: Global, words: &[&str], errors: &'a mut E) -> Voice<'a, E> {
+        Voice {
+            alloc,
+            errors,
+            is_verbose: words.contains(&"--verbose"),
+            untold: None,
+        }
+    }
+
+    /// One that explains what the words of a request ask for.
+    pub(crate) fn of(alloc: Global, request: &Request<'_>, errors: &'a mut E) -> Voice<'a, E> {
+        Voice {
+            alloc,
+            errors,
+            is_verbose: request.is_verbose(),
+            untold: None,
+        }
+    }
+
+    /// What is left to be told.
+    pub(crate) fn into_untold(self) -> Option<Untold> {
+        self.untold
+    }
+}
+
+impl<E: Write> Errors for Voice<'_, E> {
+    fn tell(&mut self, text: &str) {
+        let _ = self.errors.write_all(text.as_bytes());
+        let _ = self.errors.flush();
+    }
+
+    fn refuse(&mut self, refusal: &Refusal) {
+        let _ = writeln!(self.errors, "preinit: {refusal}");
+        if self.is_verbose {
+            self.untold = left_untold(self.alloc, refusal);
+            if self.untold.is_none() {
+                let _ = write_meaning(self.errors, refusal);
+            }
+        }
+        let _ = self.errors.flush();
+    }
+
+    fn wrong(&mut self, text: &str) {
+        self.tell(text);
+        if self.is_verbose
+            && let Some(range) = range_in(text)
+        {
+            let _ = writeln!(self.errors, "{range}");
+            let _ = self.errors.flush();
+        }
+    }
+}
+
+/// The range of the number that words get wrong, by what is said of them, where that does not say it.
+fn range_in(text: &str) -> Option<&'static str> {
+    if text.contains("' for '--budget <N>'") {
+        Some(BUDGETS)
+    } else if text.contains("' for '--workers <N>'") {
+        Some(WORKERS)
+    } else if text.contains("' for '--limit <N>'") && !text.contains(" is not in ") {
+        Some(LIMITS)
+    } else {
+        None
+    }
+}
+
+/// What takes the names of the class files to be told of a refusal. None where memory for it is refused.
+fn left_untold(alloc: Global, refusal: &Refusal) -> Option<Untold> {
+    match refusal {
+        Refusal::Class(place, fault) => Some(Untold::Class(*place, class_meaning(fault))),
+        Refusal::Link(LinkFault::Parent { name, kind }) => match kind {
+            BadParent::UnknownSuperclass | BadParent::UnknownInterface => untold_child(alloc, name),
+            _ => None,
+        },
+        _ => None,
+    }
+}
+
+/// A class that lacks a parent.
+fn untold_child(alloc: Global, name: &ClassName) -> Option<Untold> {
+    match name.to_string(alloc) {
+        Ok(name) => Some(Untold::Child(name)),
+        Err(_) => None,
+    }
+}
+
+/// Writes what a refusal means, as a line.
+fn write_meaning<E: Write>(errors: &mut E, refusal: &Refusal) -> io::Result<()> {
+    match refusal {
+        Refusal::File(name, cause) => writeln!(errors, "{name}: {cause}"),
+        Refusal::List(name) => writeln!(errors, "{name}: it is a list that is not UTF-8"),
+        _ => {
+            let meaning = meaning(refusal);
+            writeln!(errors, "{meaning}")
+        }
+    }
+}
+
+/// What a refusal means that names no file.
+fn meaning(refusal: &Refusal) -> &'static str {
+    match refusal {
+        Refusal::Memory => "the system gave no more memory",
+        Refusal::Link(fault) => link_meaning(fault),
+        Refusal::Image(_) => "the file is no image, or was changed: build it again",
+        Refusal::Entry(fault) => entry_meaning(fault),
+        Refusal::Option(_) => {
+            "an item of a list is empty or names no class, or a class can't be what it asks for"
+        }
+        Refusal::Budget => BUDGETS,
+        Refusal::Wave(_) => WORKERS,
+        Refusal::Text(_) => "a line of a journal is a thread, one space and a number of steps",
+        Refusal::Turn(_) => "the thread of this line is not there, or has no such steps",
+        Refusal::Spawn => "the system started no thread",
+        Refusal::Device => "standard output was closed, or its device is full",
+        Refusal::Class(..) | Refusal::File(..) | Refusal::List(_) => "a file is wrong",
+    }
+}
+
+fn class_meaning(fault: &ClassFault) -> &'static str {
+    match fault {
+        ClassFault::Version { .. } => {
+            "a class file of another version than 52.0: compile with --release 8"
+        }
+        ClassFault::Magic => "no class file, since it does not begin with CAFEBABE",
+        ClassFault::Truncated { .. } => "it ends within what begins at this byte",
+        ClassFault::Extra { .. } => "it goes on at this byte, behind its class",
+        _ => "it breaks a rule of class files, at this constant or byte",
+    }
+}
+
+fn link_meaning(fault: &LinkFault) -> &'static str {
+    match fault {
+        LinkFault::Memory => "the system gave no more memory",
+        LinkFault::Limit => "there are more than 65,535 classes",
+        LinkFault::Twice { .. } => "two class files are of this class",
+        LinkFault::BuiltIn { .. } => "the machine has this class of itself: leave it out",
+        LinkFault::Parent { kind, .. } => parent_meaning(*kind),
+        LinkFault::Circle { .. } => "the class is its own ancestor",
+    }
+}
+
+fn parent_meaning(kind: BadParent) -> &'static str {
+    match kind {
+        BadParent::NoSuperclass => "the class has no superclass",
+        BadParent::UnknownSuperclass => "no class file of its superclass is given",
+        BadParent::NoClass => "its superclass is an interface, or can't be extended",
+        BadParent::NotObject => "it is an interface that extends a class",
+        BadParent::UnknownInterface => "no class file of an interface of it is given",
+        BadParent::NoInterface => "it implements what is no interface",
+    }
+}
+
+fn entry_meaning(fault: &EntryFault) -> &'static str {
+    match fault {
+        EntryFault::Memory => "the system gave no more memory",
+        EntryFault::Unknown { .. } => "no class file is of the class of this place in the list",
+        EntryFault::NoMain { .. } => "the class itself declares no static main(String[])",
+        EntryFault::Count => "there are 1 to 64 entries",
+    }
+}

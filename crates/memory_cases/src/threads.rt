@@ -1,0 +1,167 @@
+//! Calls that run threads of the system, and calls on journals.
+
+use crate::page::{Page, TIMES, wrong_data};
+use crate::programs::{program_of, start_of};
+use crate::streams::Compared;
+use journal::{Journal, JournalFault};
+use program::Program;
+use sinks::Out;
+use std::alloc::Global;
+use std::io::{self, Write};
+use std::sync::Wait;
+use std::thread::Threads;
+use thread_runner::replay::{ReplayFault, replay};
+use thread_runner::{Ended, Gate, Open, RunFault, run_threads};
+
+/// What three threads of `Work` print: all the same.
+const PRINTED: &[u8] = b"7\n7\n7\n7\n7\n7\n7\n";
+
+/// A journal of two threads of `Work`.
+const JOURNAL: &[u8] = b"0 20\n1 1\n0 4\n1 7\n";
+
+/// No run here takes as many steps.
+const MANY: u64 = 100_000;
+
+/// Always ready, and asked.
+#[derive(Drop)]
+struct Asked;
+
+impl Gate for Asked {
+    fn ready(&self, _who: u32, _job: u64, _turn: u32) -> bool {
+        true
+    }
+
+    fn done(&self, _who: u32, _job: u64) {}
+}
+
+/// Makes a call twice over the same things lent. Answers whether it is one of this file.
+pub fn call<R: Threads + Wait + Sync, W: Write>(
+    rt: &R,
+    page: &mut Page<'_, W>,
+    word: &str,
+    text: &str,
+) -> io::Result<bool> {
+    if !matches!(
+        word,
+        "run_threads"
+            | "run_threads_at_a_gate"
+            | "run_threads_into_sinks_that_fail"
+            | "replay"
+            | "Journal::parse"
+            | "Journal::text"
+    ) {
+        return Ok(false);
+    }
+    let program = program_of(page.alloc, text)?;
+    let journal = journal_of(page.alloc)?;
+    for _ in 0..TIMES {
+        match word {
+            "run_threads" => run_work(rt, page, &program, &Open, PRINTED)?,
+            "run_threads_at_a_gate" => run_work(rt, page, &program, &Asked, PRINTED)?,
+            "run_threads_into_sinks_that_fail" => run_into_all(rt, page, &program)?,
+            "replay" => replay_journal(page, &program, &journal)?,
+            "Journal::parse" => parse_text(page)?,
+            _ => write_text(page, &journal)?,
+        }
+    }
+    Ok(true)
+}
+
+/// Runs three threads into a sink that has room for the text that is wanted, and fails then.
+fn run_work<R: Threads + Wait + Sync, G: Gate, W: Write>(
+    rt: &R,
+    page: &mut Page<'_, W>,
+    program: &Program,
+    gate: &G,
+    wanted: &[u8],
+) -> io::Result<()> {
+    let world = start_of(page.alloc, program, "Work,Work,Work")?;
+    let out = Out::new(Compared::new(wanted));
+    page.ask("run_threads")?;
+    let (answer, out) = run_threads(rt, page.alloc, program, world, gate, out, MANY);
+    tell_answer(page, &answer, &out.into_inner())
+}
+
+/// Runs into sinks that fail after so many bytes, for each number below that of all.
+fn run_into_all<R: Threads + Wait + Sync, W: Write>(
+    rt: &R,
+    page: &mut Page<'_, W>,
+    program: &Program,
+) -> io::Result<()> {
+    for room in 0..PRINTED.len() {
+        run_work(
+            rt,
+            page,
+            program,
+            &Open,
+            PRINTED.get(..room).unwrap_or(PRINTED),
+        )?;
+    }
+    Ok(())
+}
+
+/// Tells what a run answered; of one that was refused something, only where a beginning of its text went out.
+fn tell_answer<W: Write>(
+    page: &mut Page<'_, W>,
+    answer: &Result<Ended, RunFault>,
+    stream: &Compared<'_>,
+) -> io::Result<()> {
+    match answer {
+        Ok(ended) if stream.is_whole() => page.line(&steps_in(ended.journal.runs())),
+        Err(RunFault::Memory) if stream.is_same => page.memory(),
+        Err(RunFault::Spawn) if stream.is_same => page.line(&"Spawn"),
+        Err(RunFault::Device(sent)) if stream.is_whole() && stream.has(*sent) => {
+            page.line(&"Device")
+        }
+        _ => page.line(&"another fault, or another text"),
+    }
+}
+
+/// How many steps a journal has.
+fn steps_in(runs: &[(u32, u64)]) -> u64 {
+    let mut sum = 0u64;
+    for run in runs {
+        sum = sum.saturating_add(run.1);
+    }
+    sum
+}
+
+/// The journal of the text above.
+fn journal_of(alloc: Global) -> io::Result<Journal> {
+    match Journal::parse(alloc, JOURNAL) {
+        Ok(journal) => Ok(journal),
+        Err(_) => Err(wrong_data()),
+    }
+}
+
+fn replay_journal<W: Write>(
+    page: &mut Page<'_, W>,
+    program: &Program,
+    journal: &Journal,
+) -> io::Result<()> {
+    let start = start_of(page.alloc, program, "Work,Work")?;
+    page.ask("replay")?;
+    match replay(page.alloc, program, start, journal) {
+        Ok(seen) => page.value(seen.printed.count()),
+        Err(ReplayFault::Memory) => page.memory(),
+        Err(_) => page.line(&"another fault"),
+    }
+}
+
+fn parse_text<W: Write>(page: &mut Page<'_, W>) -> io::Result<()> {
+    page.ask("Journal::parse")?;
+    match Journal::parse(page.alloc, JOURNAL) {
+        Ok(journal) => page.value(journal.runs().len()),
+        Err(JournalFault::Memory) => page.memory(),
+        Err(_) => page.line(&"another fault"),
+    }
+}
+
+fn write_text<W: Write>(page: &mut Page<'_, W>, journal: &Journal) -> io::Result<()> {
+    page.ask("Journal::text")?;
+    match journal.text(page.alloc) {
+        Ok(text) if text.as_slice() == JOURNAL => page.value(text.len()),
+        Ok(_) => page.line(&"another text"),
+        Err(_) => page.memory(),
+    }
+}

@@ -1,0 +1,171 @@
+//! Calls that find out which classes are initialized at build time.
+
+ghost use Rattle.std.specs.Prelude.{◌≡◌, IfOk, length};
+ghost use Rattle.wave_scheduler.specs.Outcomes.{AreJudged};
+
+use crate::page::{Page, TIMES, wrong_data};
+use crate::programs::program_of;
+use evaluator::outcome::Ending;
+use evaluator::regions::Regions;
+use evaluator::settling::evaluate;
+use initializer_analysis::forced::Forced;
+use initializer_analysis::judge;
+use initializer_analysis::verdict::Verdicts;
+use program::Program;
+use std::alloc::{AllocError, Global};
+use std::io::{self, Write};
+use std::sync::Wait;
+use std::thread::Threads;
+use use_graph::uses;
+use wave_scheduler::outcome::{Settled, WaveFault};
+use wave_scheduler::{Open, settle_all, settle_all_here};
+
+/// What each initializer may cost.
+const BUDGET: u64 = 1_000;
+
+/// How many workers settle.
+const WORKERS: u32 = 3;
+
+/// Makes a call twice over the same things lent. Answers whether it is one of this file.
+pub fn call<R: Threads + Wait + Sync, W: Write>(
+    rt: &R,
+    page: &mut Page<'_, W>,
+    word: &str,
+    text: &str,
+) -> io::Result<bool> {
+    if !matches!(
+        word,
+        "uses" | "judge" | "settle_all_here" | "settle_all" | "settle" | "Regions::put"
+    ) {
+        return Ok(false);
+    }
+    let program = program_of(page.alloc, text)?;
+    let settled = settled_of(page.alloc, &program)?;
+    for _ in 0..TIMES {
+        match word {
+            "settle_all_here" | "settle_all" => settle(rt, page, word, &program)?,
+            "Regions::put" => put_last(page, &program)?,
+            _ => count(page, word, &program, &settled.regions)?,
+        }
+    }
+    Ok(true)
+}
+
+/// A call that answers a number, or that memory was refused.
+fn count<W: Write>(
+    page: &mut Page<'_, W>,
+    word: &str,
+    program: &Program,
+    regions: &Regions,
+) -> io::Result<()> {
+    page.ask(word)?;
+    let answer = match word {
+        "uses" => uses_in(page.alloc, program),
+        "judge" => judged_in(page.alloc, program),
+        _ => settled_over(page.alloc, program, regions),
+    };
+    match answer {
+        Ok(count) => page.value(count),
+        Err(_) => page.memory(),
+    }
+}
+
+/// How many methods may run for the classes of a program, and classes that they may use.
+fn uses_in(alloc: Global, program: &Program) -> Result<usize, AllocError> {
+    let mut count = 0usize;
+    for class in 0..program.given_count() {
+        let found = uses(alloc, program, class)?;
+        count = count.saturating_add(found.methods.len());
+        count = count.saturating_add(found.classes.len());
+    }
+    Ok(count)
+}
+
+/// How many classes of a program settle over these regions.
+fn settled_over(alloc: Global, program: &Program, regions: &Regions) -> Result<usize, AllocError> {
+    let mut count = 0usize;
+    for class in 0..program.given_count() {
+        if let Ending::Settled(_) = evaluate(alloc, program, regions, class, BUDGET)? {
+            count = count.saturating_add(1);
+        }
+    }
+    Ok(count)
+}
+
+/// The verdicts on the classes of a program.
+fn judged(alloc: Global, program: &Program) -> Result<Verdicts, AllocError>
+    ensures { IfOk result (λ verdicts. AreJudged program.now verdicts) }
+{
+    judge(alloc, program, &Forced::none(alloc))
+}
+
+/// How many there are.
+fn judged_in(alloc: Global, program: &Program) -> Result<usize, AllocError> {
+    let verdicts = judged(alloc, program)?;
+    Ok(verdicts.as_slice().len())
+}
+
+/// Settles on this thread, or by workers.
+fn settle<R: Threads + Wait + Sync, W: Write>(
+    rt: &R,
+    page: &mut Page<'_, W>,
+    word: &str,
+    program: &Program,
+) -> io::Result<()> {
+    let verdicts = judged(page.alloc, program)?;
+    page.ask(word)?;
+    let answer = if word == "settle_all" {
+        settle_all(rt, page.alloc, program, verdicts, BUDGET, WORKERS, &Open)
+    } else {
+        settle_all_here(page.alloc, program, verdicts, BUDGET)
+    };
+    tell_settled(page, program, &answer)
+}
+
+/// Tells how many classes have a region.
+fn tell_settled<W: Write>(
+    page: &mut Page<'_, W>,
+    program: &Program,
+    answer: &Result<Settled, WaveFault>,
+) -> io::Result<()> {
+    let mut count = 0usize;
+    match answer {
+        Ok(settled) => {
+            for class in 0..program.given_count() {
+                if settled.regions.get(class).is_some() {
+                    count = count.saturating_add(1);
+                }
+            }
+            page.value(count)
+        }
+        Err(fault) => page.line(fault),
+    }
+}
+
+/// What becomes of all classes of a program.
+pub fn settled_of(alloc: Global, program: &Program) -> io::Result<Settled>
+    ensures { IfOk result (λ settled. length settled.verdicts ≡ length program.now.classes) }
+{
+    let verdicts = judged(alloc, program)?;
+    match settle_all_here(alloc, program, verdicts, BUDGET) {
+        Ok(settled) => Ok(settled),
+        Err(_) => Err(wrong_data()),
+    }
+}
+
+/// Puts the region of the last class where there is none.
+fn put_last<W: Write>(page: &mut Page<'_, W>, program: &Program) -> io::Result<()> {
+    let mut settled = settled_of(page.alloc, program)?;
+    let last = program.given_count().saturating_sub(1);
+    let Some(region) = settled.regions.take(last) else {
+        return Err(wrong_data());
+    };
+    let mut regions = Regions::none(page.alloc);
+    page.ask("Regions::put")?;
+    let answer = regions.put(last, region);
+    match (answer, regions.get(last).is_some()) {
+        (Ok(()), true) => page.value(1),
+        (Err(_), false) => page.memory(),
+        _ => page.line(&"the regions are wrong"),
+    }
+}

@@ -1,0 +1,157 @@
+//! A line on the terminal, written over, that tells how far a long build has come.
+
+use cli::{Stage, Watch};
+use std::io::{self, Write};
+use std::rt::Clock;
+use std::sync::{Condvar, Mutex, MutexGuard, Wait};
+use std::time::Duration;
+
+/// After how many milliseconds a build tells how far it has come.
+const PATIENCE: u64 = 2_000;
+
+/// After how many it tells so again.
+const PAUSE: u64 = 500;
+
+/// How many characters of a class's name are told.
+const NAME: usize = 30;
+
+/// How far a build has come, and where it is told.
+#[derive(Drop)]
+struct State<E: Write> {
+    to: E,
+    stage: Stage,
+    /// How many classes were initialized, or refused.
+    done: u64,
+    /// The class that a worker began last.
+    class: String,
+    /// Whether a line stands on the terminal.
+    told: bool,
+    over: bool,
+}
+
+/// How far a build has come, told by its thread and its workers to a thread that tells it on.
+#[derive(Drop)]
+pub struct Progress<'a, R, E: Write> {
+    rt: &'a R,
+    state: Mutex<State<E>>,
+    ended: Condvar,
+}
+
+impl<'a, R: AllocGlobal, E: Write> Progress<'a, R, E> {
+    pub fn new(rt: &'a R, to: E) -> Progress<'a, R, E> {
+        let state = State {
+            to,
+            stage: Stage::Reading,
+            done: 0,
+            class: String::new(rt.alloc()),
+            told: false,
+            over: false,
+        };
+        Progress {
+            rt,
+            state: Mutex::new(state),
+            ended: Condvar::new(),
+        }
+    }
+}
+
+impl<R: Wait + Clock, E: Write> Progress<'_, R, E> {
+    /// Tells how far the build has come, from two seconds on and until it is over.
+    pub fn tell(&self) {
+        let mut state = self.waited(self.state.lock(self.rt), PATIENCE);
+        for _ in self.rt.forever() {
+            if state.over {
+                return;
+            }
+            // A failure of standard error is ignored.
+            let _ = state.tell();
+            state = self.waited(state, PAUSE);
+        }
+    }
+
+    /// The state after so many milliseconds, or once the build is over.
+    fn waited<'b>(&self, state: MutexGuard<'b, State<E>>, time: u64) -> MutexGuard<'b, State<E>> {
+        self.ended
+            .wait_timeout_while(
+                self.rt,
+                state,
+                Duration::from_millis(time),
+                |state| !state.over,
+            )
+            .0
+    }
+}
+
+impl<R: Wait, E: Write> Progress<'_, R, E> {
+    /// The build is over: the line goes.
+    pub fn end(&self) {
+        let mut state = self.state.lock(self.rt);
+        if !state.over {
+            state.over = true;
+            // A failure of standard error is ignored.
+            let _ = state.erase();
+        }
+        self.ended.notify_all();
+    }
+}
+
+impl<E: Write> State<E> {
+    fn tell(&mut self) -> io::Result<()> {
+        let done = self.done;
+        let class = self.class.as_str();
+        match self.stage {
+            Stage::Reading => write!(self.to, "\rpreinit: reading")?,
+            Stage::Building if class.is_empty() => write!(self.to, "\rpreinit: linking")?,
+            Stage::Building => write!(
+                self.to,
+                "\rpreinit: initializing, {done} classes done, at {class:<NAME$}"
+            )?,
+            Stage::Writing | Stage::Ended => {
+                write!(
+                    self.to,
+                    "\rpreinit: writing, {done} classes done{:<NAME$}",
+                    ""
+                )?
+            }
+        }
+        self.told = true;
+        self.to.flush()
+    }
+
+    fn erase(&mut self) -> io::Result<()> {
+        if self.told {
+            write!(self.to, "\r{:<79}\r", "")?;
+            self.to.flush()?;
+        }
+        Ok(())
+    }
+}
+
+impl<R: Wait + Sync, E: Write + Send> Watch for Progress<'_, R, E> {
+    fn watches(&self) -> bool {
+        true
+    }
+
+    fn begin(&self, stage: Stage) {
+        match stage {
+            Stage::Ended => self.end(),
+            _ => self.state.lock(self.rt).stage = stage,
+        }
+    }
+
+    fn class(&self, name: &str) {
+        let mut state = self.state.lock(self.rt);
+        state.class.clear();
+        for character in name.chars().take(NAME) {
+            // Where memory is refused for it, less of the name is told.
+            if state.class.push(character).is_err() {
+                return;
+            }
+        }
+    }
+
+    fn done(&self) {
+        let mut state = self.state.lock(self.rt);
+        state.done = state.done.saturating_add(1);
+    }
+}

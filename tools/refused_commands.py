@@ -1,0 +1,114 @@
+"""Commands of `preinit` that are refused memory or threads, over files of the system: one growth after the other.
+
+Such a run ends as one with ample memory, or with status 1 and `Memory` (or `Spawn`) as its last line. Then what went to
+standard output is a beginning of what goes there otherwise, and so is what went to standard error before that line;
+each file that it was to write holds what it held before, or all, and no other file is left.
+"""
+import concurrent.futures
+import glob
+import os
+import shutil
+
+import refusals
+
+GROWTHS, STARTS = refusals.GROWTHS, refusals.STARTS
+REFUSALS = (b"preinit: Memory\n", b"preinit: Spawn\n")
+OLD = b"old"
+# Classes of a real compiler, one whose `main` reaches what is left out, and one that prints 7.
+CLASSES = "product_cases/data/java/init_enum_basic_*.class"
+LEFT_OUT, SEVEN = "product_cases/data/java/lambda_Main.class", "preinit/data/M.class"
+
+
+def commands(classes):
+    """Commands in the order in which they can be made: the words, the status, the files that each writes, in their
+    order, and whether it starts threads. What threads print that run at once is the same for each."""
+    build = ["build", "--workers", "2", "--report", "app.txt", "--out", "app.img"]
+    return [
+        ([*build, *classes], 0, ["app.txt", "app.img"], True),
+        (["build", "--out", "seven.img", "M.class"], 0, ["seven.img"], False),
+        (["report", *classes], 0, [], False),
+        (["explain", "all", *classes], 0, [], False),
+        (["audit", "--entries", "Main", "lambda_Main.class"], 6, [], False),
+        (["lazy", "--entries", "Main", "--stacks", "--limit", "300", *classes], 5, [], False),
+        (["renew", "--out", "new.img", "app.img"], 0, ["new.img"], False),
+        (["run", "--entries", "M,M,M", "seven.img"], 0, [], True),
+        (["run", "--entries", "Main", "--journal", "run.journal", "app.img"], 0, ["run.journal"], False),
+        (["run", "--turns", "--entries", "Main", "--journal", "turns.journal", "app.img"], 0, ["turns.journal"], False),
+        (["replay", "--entries", "Main", "--journal", "run.journal", "app.img"], 0, [], False),
+    ]
+
+
+def held(folder, name):
+    with open(f"{folder}/{name}", "rb") as it:
+        return it.read()
+
+
+def run(program, words, targets, **refused):
+    """Runs a command where the files that it writes are old ones. Answers how it ended, those files and the names of
+    all, and what is told."""
+    for name in targets:
+        with open(f"{program.data}/{name}", "wb") as it:
+            it.write(OLD)
+    status, out, errors, told = program.ended(*words, WHOLE_RUN=1, **refused)
+    files = [held(program.data, name) for name in targets]
+    return (status, out, errors, files, sorted(os.listdir(program.data))), told
+
+
+def wrong_with(ended, wanted, was_refused):
+    """What is wrong with a run in which something was refused, if anything is."""
+    status, out, errors, files, names = ended
+    last = next((it for it in REFUSALS if errors.endswith(it)), None)
+    if ended == wanted:
+        return None
+    if status != 1 or not last or not was_refused:
+        return f"it ended with status {status} and {errors!r}"
+    if not wanted[1].startswith(out) or not wanted[2].startswith(errors[: len(errors) - len(last)]):
+        return f"it wrote {out!r} and {errors!r}"
+    if names != wanted[4]:
+        return f"it left {names}"
+    # Those that are whole are the first.
+    count = sum(file != OLD for file in files)
+    is_well = files == wanted[3][:count] + [OLD] * (len(files) - count)
+    return None if is_well else f"its files hold {[len(file) for file in files]} bytes"
+
+
+def refuse_each(program, words, status, targets, what):
+    """Refuses one growth or start of a command after the other. Answers how many, and what is wrong."""
+    wanted, told = run(program, words, targets)
+    if wanted[0] != status or OLD in wanted[3] or not told or told[0].left:
+        return 0, f"with ample memory: status {wanted[0]} and {wanted[2]!r}"
+    number, most = 0, getattr(told[0], what)
+    while True:
+        number += 1
+        ended, told = run(program, words, targets, **{refusals.REFUSED[what]: number})
+        wrong = wrong_with(ended, wanted, told and told[0].refused) or (None if told else "nothing was told")
+        if wrong or told[0].left:
+            return number, f"number {number} refused: {wrong or 'threads were left running'}"
+        most = max(most, getattr(told[0], what))
+        if not told[0].refused and number > most:
+            return number - 1, None if number > 1 else "it asks for none"
+
+
+def check(path, library, crates, room, say):
+    """Tries each command of the program at a path, over classes of these crates. Answers how many passed and how many
+    failed."""
+    folder = f"{room}/commands"
+    os.mkdir(folder)
+    for file in glob.glob(f"{crates}/{CLASSES}"):
+        shutil.copy(file, folder)
+    made = commands(sorted(os.listdir(folder)))
+    for file in (LEFT_OUT, SEVEN):
+        shutil.copy(f"{crates}/{file}", folder)
+    tried = []
+    for place, (words, status, targets, starts) in enumerate(made):
+        refusals.Program(path, folder, library).ended(*words)
+        for what in (GROWTHS, STARTS) if starts else (GROWTHS,):
+            own = f"{room}/{place}-{what}"
+            shutil.copytree(folder, own)
+            tried.append((refusals.Program(path, own, library), words, status, targets, what))
+    passed = failed = 0
+    with concurrent.futures.ThreadPoolExecutor(os.cpu_count()) as pool:
+        for (_, words, *_, what), (count, wrong) in zip(tried, pool.map(lambda it: refuse_each(*it), tried)):
+            say(f"{' '.join(words[:4])}: {what}: {wrong or f'each of {count} refused, and all is well'}")
+            passed, failed = passed + (not wrong), failed + bool(wrong)
+    return passed, failed
