@@ -1,5 +1,6 @@
 -- Where a method calls another, by the instructions of its body.
-use Rattle.std.proofs.Common.{◌≡◌, ◌∙◌, ℕ, List, [], Option, Some, None, slice_get, option_map, MatchOption, refl, sym, ap, subst, arith}
+use Rattle.std.proofs.Common.{◌≡◌, ◌∙◌, ℕ, List, [], Option, Some, None, slice_get, option_map, MatchOption, refl, sym}
+use Rattle.std.proofs.Common.{ap, subst, arith}
 use Rattle.std.specs.List.{Contains}
 use Rattle.loading.proofs.PlaceLemmas.{contains_at, place_in}
 use Rattle.bytecode.specs.declared.instruction.Instruction.{Instruction}

@@ -148,7 +148,8 @@ module _ (P : Tables) (uses : UseGraph) (search : Search) (place : ℕ) (callee 
       let same : g ≡ f = same_some (slice_get search.finders.items place) g f found finder in
       elim back [
         | inl calling ↦ caller_at step f is stands (subst Calling same calling)
-        | inr (none, h, before, calling) ↦ absurd (none step.method (subst (λ (n : ℕ). Stands n step.method) (sym same) stands))
+        | inr (none, h, before, calling) ↦ absurd (none step.method
+            (subst (λ (n : ℕ). Stands n step.method) (sym same) stands))
       ]
 
   -- none does: then its finder is there, and a method
@@ -178,7 +179,8 @@ module _ (P : Tables) (uses : UseGraph) (search : Search) (place : ℕ) (callee 
   -- what stands at the second finder
   pub last_back : (f g : ℕ) (step : Option Step) → slice_get search.finders.items place ≡ Some f
       → NoneStandsAt uses.methods search.seen.items f → slice_get search.finders.items f ≡ Some g
-      → MatchOption step (NoneStandsAt uses.methods search.seen.items g) (λ step. (step.place ≡ g) × Stands g step.method)
+      → MatchOption step (NoneStandsAt uses.methods search.seen.items g)
+      (λ step. (step.place ≡ g) × Stands g step.method)
       → MatchOption step ⊥ (IsCaller P uses search place callee)
   last_back f g step finder none before at = by step at
     where

@@ -8,3 +8,4 @@ pub mod CyclesLemmas
 pub mod GoalsLemmas
 pub mod FoundLemmas
 pub mod MarkingLemmas
+pub mod SelectedLemmas

@@ -60,7 +60,6 @@ fn caller_of(uses: &UseGraph, search: &Search, place: usize) -> Option<Step>
 
 /// Adds the call by which a method is reached, and answers in which one it stands.
 fn add_call(
-    alloc: Global,
     program: &Program,
     uses: &UseGraph,
     search: &Search,
@@ -75,7 +74,7 @@ fn add_call(
     let Some(caller) = caller_of(uses, search, callee.place) else {
         unreachable!()
     };
-    let Some(pc) = call_site(alloc, program, caller.method, callee.method)? else {
+    let Some(pc) = call_site(program, caller.method, callee.method) else {
         unreachable!()
     };
     path.push(Evidence {
@@ -111,7 +110,7 @@ pub(crate) fn path_to(
         unreachable!()
     };
     while callee.place > 0 {
-        callee = add_call(alloc, program, uses, search, callee, &mut path)?;
+        callee = add_call(program, uses, search, callee, &mut path)?;
     }
     Ok(path)
 }

@@ -134,8 +134,8 @@ fn pay(
     }
 }
 
-/// Where the first instruction stands that the initializer of a class can't pay with so much, or at which it is stopped.
-/// Each costs 1 at least.
+/// Where the first instruction stands that the initializer of a class can't pay with so much, or at which it is
+/// stopped. Each costs 1 at least.
 fn run_within(
     alloc: Global,
     program: &Program,

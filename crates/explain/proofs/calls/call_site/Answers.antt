@@ -5,11 +5,11 @@ use Rattle.use_graph.specs.steps.Deeds.{body_in}
 use Rattle.explain.proofs.CallSitesLemmas.{no_site, site}
 use Rattle.explain.proofs.calls.call_site.Goals as goal
 
-pub returns-in_ok-found-in-Some-Code : goal.returns-in_ok-found-in-Some-Code
-returns-in_ok-found-in-Some-Code c =
-    site c.args.program.now c.args.caller c.args.callee c.instructions.result.now c.in_ok-found-in-Some-Code.found
+pub returns-in-Some-Code : goal.returns-in-Some-Code
+returns-in-Some-Code c =
+    site c.args.program.now c.args.caller c.args.callee c.instructions.result.now c.first_call.result
     (c.instructions.ensures ∙ sym (ap (λ (x : Implementation). body_in (Some x)) c.in-Some-Code.field-0-is)
-    ∙ ap body_in c.in-Some-Code.ensures) c.in_ok-found-in-Some-Code.ensures
+    ∙ ap body_in c.in-Some-Code.ensures) c.first_call.ensures
 
 pub returns-in-Some-Abstract : goal.returns-in-Some-Abstract
 returns-in-Some-Abstract c =

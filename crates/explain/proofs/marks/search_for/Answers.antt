@@ -30,6 +30,7 @@ returns-in-None-clause-searched c = record {
       (sym c.clear.ensures.none)
       (subst (λ (l : List ℕ). IsTree c.args.uses.now.calls [] l) (sym c.clear.ensures.unfound)
       (tree_none c.args.uses.now.calls));
-  root = λ v at. absurd (let none : None ≡ Some v = sym (ap (λ (l : List ℕ). slice_get l 0) c.clear.ensures.none) ∙ at in
+  root = λ v at. absurd (let none : None ≡ Some v =
+      sym (ap (λ (l : List ℕ). slice_get l 0) c.clear.ensures.none) ∙ at in
       cc);
 }

@@ -27,8 +27,10 @@ returns c = record {
   prints = c.in_ok-shown_mark.ensures marks.Prints (rw c.deref.ensures.value c.requires.told.prints);
   throws = c.in_ok-shown_mark-2.ensures marks.Throws (rw c.deref-2.ensures.value c.requires.told.throws);
   monitors = c.in_ok-shown_mark-3.ensures marks.Monitors (rw c.deref-3.ensures.value c.requires.told.monitors);
-  foreign_write = c.in_ok-shown_mark-4.ensures marks.ForeignWrite (rw c.deref-4.ensures.value c.requires.told.foreign_write);
-  foreign_read = c.in_ok-shown_mark-5.ensures marks.ForeignRead (rw c.deref-5.ensures.value c.requires.told.foreign_read);
+  foreign_write = c.in_ok-shown_mark-4.ensures marks.ForeignWrite
+      (rw c.deref-4.ensures.value c.requires.told.foreign_write);
+  foreign_read = c.in_ok-shown_mark-5.ensures marks.ForeignRead
+      (rw c.deref-5.ensures.value c.requires.told.foreign_read);
   unsupported = c.in_ok-shown_mark-6.ensures marks.Unsupported (rw c.deref-6.ensures.value c.requires.told.unsupported);
   missing = c.in_ok-shown_mark-7.ensures marks.Missing (rw c.deref-7.ensures.value c.requires.told.missing);
 }

@@ -9,7 +9,8 @@ returns-clause-explains c = record {
   forced = c.has.ensures;
   marks = c.in_ok-marks.ensures.shown;
   cycle = λ low. subst (λ (o : Option ℕ). IsCycle c.args.program.now c.args.class o)
-      (sym (c.other_at.ensures ∙ ap (λ (l : List (Option ℕ)). slice_index_or l c.args.class None) c.deref.ensures.value))
+      (sym (c.other_at.ensures
+      ∙ ap (λ (l : List (Option ℕ)). slice_index_or l c.args.class None) c.deref.ensures.value))
       (c.requires.cycles c.args.class low);
   first = λ low. subst (λ (o : Option ℕ). IsFirstUse c.args.program.now c.args.verdicts.now c.args.class o)
       (sym (c.other_at-2.ensures
