@@ -1,6 +1,7 @@
 -- Lists of names: files that words name with an @ before their own name, and that stand for the names in them.
 use Rattle.std.specs.Prelude.{◌≡◌, ℕ, ◌==◌, List, [], ◌∷◌, Option, Some, None, Bool, true, false, if◌then◌else◌}
-use Rattle.std.specs.List.{AllZip, filter, flat_map, slice_split}
+use Rattle.std.specs.List.{AllZip, filter, flat_map}
+use Rattle.std.specs.Str.Lines.{lines}
 use Rattle.cli.specs.Files.{AreBytesOf, Contents}
 
 -- the list that a word names: what stands after an @ (64), if anything does
@@ -12,9 +13,10 @@ abbrev pub is_filled : List ℕ → Bool
 is_filled [] = false
 is_filled _ = true
 
--- the names in a list: its lines, which end in a line feed (10), without those that are empty
+-- the names in a list: its lines, which end in a line feed, or a carriage return and a line feed, without those that
+-- are empty
 abbrev pub names_in : List ℕ → List (List ℕ)
-names_in text = filter is_filled (slice_split (λ byte. byte == 10) text)
+names_in text = filter is_filled (lines text)
 
 -- what stands for a word: the word, or the names in the list that it names
 abbrev pub StandFor : Contents → List ℕ → Option (List ℕ) → List (List ℕ) → Type 0

@@ -1,7 +1,8 @@
 //! Lists of names: files that words name with an `@` before their own name, and that stand for the names in them.
-ghost use Rattle.std.specs.Prelude.{◌≡◌, ◌==◌, ◌++◌, ◌∷◌, [], IfOk, OnOk, string_bytes};
-ghost use Rattle.std.specs.List.{filter, flat_map, slice_split};
+ghost use Rattle.std.specs.Prelude.{◌≡◌, ◌++◌, ◌∷◌, [], IfOk, OnOk, string_bytes};
+ghost use Rattle.std.specs.List.{filter, flat_map};
 ghost use Rattle.std.specs.Option.{option_map};
+ghost use Rattle.std.specs.Str.Lines.{lines};
 ghost use Rattle.command_line.specs.Requests.{texts};
 ghost use Rattle.cli.specs.Files.{AreBytesOf};
 ghost use Rattle.cli.specs.Lists.{is_filled, list_of};
@@ -117,9 +118,9 @@ fn add_names<'a>(
 
 /// The lines of a text, empty ones too.
 fn lines_of<'a>(alloc: Global, text: &'a str) -> Result<Vec<&'a str>, AllocError>
-    ensures { IfOk result (λ lines. texts lines.items ≡ slice_split (λ byte. byte == 10) text.now) }
+    ensures { IfOk result (λ found. texts found.items ≡ lines text.now) }
 {
-    text.split('\n').collect(alloc)
+    text.lines().collect(alloc)
 }
 
 /// Adds those lines that are not empty.
