@@ -1,15 +1,23 @@
 //! What the constant of an instruction names.
 
+ghost use Rattle.std.specs.Prelude.{◌≡◌, IfOk};
+ghost use Rattle.std.specs.String.{string_bytes};
+ghost use Rattle.instruction_text.specs.Texts.{text_at, class_at};
+
 use classfile::{ClassFile, Constant, printed};
 use std::alloc::{AllocError, Global};
 
 /// The text at an index, for a reader.
-pub(crate) fn text_at(alloc: Global, file: &ClassFile, index: u16) -> Result<String, AllocError> {
+pub(crate) fn text_at(alloc: Global, file: &ClassFile, index: u16) -> Result<String, AllocError>
+    ensures { IfOk result (λ text. string_bytes text ≡ text_at file.now index) }
+{
     printed(alloc, file.utf8(index).unwrap_or(&[]))
 }
 
 /// The name of the class at an index, with slashes.
-pub(crate) fn class_at(alloc: Global, file: &ClassFile, index: u16) -> Result<String, AllocError> {
+pub(crate) fn class_at(alloc: Global, file: &ClassFile, index: u16) -> Result<String, AllocError>
+    ensures { IfOk result (λ text. string_bytes text ≡ class_at file.now index) }
+{
     printed(alloc, file.class_name(index).unwrap_or(&[]))
 }
 

@@ -1,5 +1,9 @@
 //! Places in methods, and the instructions there.
 
+ghost use Rattle.std.specs.Prelude.{◌≡◌, IfOk};
+ghost use Rattle.std.specs.String.{string_bytes};
+ghost use Rattle.instruction_text.specs.Texts.{method_text, IsPlaceText};
+
 use crate::constants::{class_at, named_at, pushed_at, text_at};
 use crate::mnemonic::mnemonic;
 use classfile::ClassFile;
@@ -33,7 +37,9 @@ const MULTIANEWARRAY: u8 = 197;
 ///
 /// # Errors
 /// Where memory runs out.
-pub fn method_text(alloc: Global, file: &ClassFile, index: u16) -> Result<String, AllocError> {
+pub fn method_text(alloc: Global, file: &ClassFile, index: u16) -> Result<String, AllocError>
+    ensures { IfOk result (λ text. string_bytes text ≡ method_text file.now index) }
+{
     let class = class_at(alloc, file, file.this_class())?;
     let Some(method) = file.methods().get(usize::from(index)) else {
         return format!(in alloc; "{class}.");
@@ -76,7 +82,9 @@ pub fn place_text(
     file: &ClassFile,
     index: u16,
     pc: u16,
-) -> Result<String, AllocError> {
+) -> Result<String, AllocError>
+    ensures { IfOk result (λ text. IsPlaceText file.now index pc (string_bytes text)) }
+{
     let method = method_text(alloc, file, index)?;
     let instruction = instruction_text(alloc, file, index, pc)?;
     format!(in alloc; "{method} {pc} {instruction}")
