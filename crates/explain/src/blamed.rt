@@ -1,5 +1,10 @@
 //! Classes for whose sake others stay at run time.
 
+ghost use Rattle.std.specs.Prelude.{◌≡◌, ◌≤◌, Some, slice_get, length, List, IfOk};
+ghost use Rattle.initializer_analysis.specs.declared.verdict.Verdict.{Verdict as Kind};
+ghost use Rattle.explain.specs.Chains.{Leads};
+ghost use Rattle.explain.specs.steps.Roots.{AreRoots};
+
 use initializer_analysis::verdict::{Reason, Verdict};
 use std::alloc::{AllocError, Global};
 
@@ -14,7 +19,9 @@ pub(crate) struct Blamed {
 const DOUBLINGS: u32 = 16;
 
 /// The class on which a class depends, or itself.
-fn next_of(class: usize, verdict: Verdict) -> usize {
+fn next_of(class: usize, verdict: Verdict) -> usize
+    ensures { (verdicts : List Kind) → slice_get verdicts class ≡ Some verdict → Leads verdicts class result }
+{
     match verdict {
         Verdict::Refused(Reason::DependsOn(next)) => next as usize,
         _ => class,
@@ -22,7 +29,9 @@ fn next_of(class: usize, verdict: Verdict) -> usize {
 }
 
 /// By class, the next in its chain.
-fn nexts_of(alloc: Global, verdicts: &[Verdict]) -> Result<Vec<usize>, AllocError> {
+fn nexts_of(alloc: Global, verdicts: &[Verdict]) -> Result<Vec<usize>, AllocError>
+    ensures { IfOk result (λ nexts. AreRoots verdicts.now nexts.items) }
+{
     let mut nexts = Vec::with_capacity(alloc, verdicts.len())?;
     for (class, verdict) in verdicts.iter().enumerate() {
         nexts.push(next_of(class, *verdict))?;
@@ -31,7 +40,9 @@ fn nexts_of(alloc: Global, verdicts: &[Verdict]) -> Result<Vec<usize>, AllocErro
 }
 
 /// Puts in the place of each class's next one the next one of that.
-fn double(nexts: &mut [usize]) {
+fn double(nexts: &mut [usize])
+    ensures { (verdicts : List Kind) → AreRoots verdicts nexts.old → AreRoots verdicts nexts.new }
+{
     for class in 0..nexts.len() {
         let next = nexts[class];
         if next < nexts.len() {
@@ -41,12 +52,24 @@ fn double(nexts: &mut [usize]) {
 }
 
 /// The class at which the chain of each class ends, itself where it depends on none.
-pub(crate) fn roots_of(alloc: Global, verdicts: &[Verdict]) -> Result<Vec<usize>, AllocError> {
+pub(crate) fn roots_of(alloc: Global, verdicts: &[Verdict]) -> Result<Vec<usize>, AllocError>
+    ensures { IfOk result (λ roots. AreRoots verdicts.now roots.items) }
+{
     let mut roots = nexts_of(alloc, verdicts)?;
     for _ in 0..DOUBLINGS {
         double(&mut roots);
     }
     Ok(roots)
+}
+
+/// The class at which the chain from a class ends.
+pub(crate) fn root_of(roots: &[usize], class: usize) -> usize
+    ensures { (verdicts : List Kind) → AreRoots verdicts roots.now → Leads verdicts class result }
+{
+    match roots.get(class) {
+        Some(root) => *root,
+        None => class,
+    }
 }
 
 /// By class, how many others stay at run time for its sake.
@@ -66,7 +89,9 @@ pub(crate) fn most_blamed(
     alloc: Global,
     roots: &[usize],
     most: usize,
-) -> Result<Vec<Blamed>, AllocError> {
+) -> Result<Vec<Blamed>, AllocError>
+    ensures { IfOk result (λ blamed. length blamed.items ≤ most) }
+{
     let mut counts = counts_of(alloc, roots)?;
     let mut blamed = Vec::new(alloc);
     for _ in 0..most {
