@@ -1,5 +1,8 @@
 //! Names of instructions.
 
+ghost use Rattle.std.specs.Prelude.{◌≡◌, map};
+ghost use Rattle.instruction_text.specs.Texts.{mnemonic_text, word_at};
+
 /// The mnemonics by opcode (JVMS 7).
 const MNEMONICS: [&str; 202] = [
     "nop",
@@ -206,10 +209,20 @@ const MNEMONICS: [&str; 202] = [
     "jsr_w",
 ];
 
-/// The mnemonic of an opcode (JVMS 7), `?` where it is none.
-pub(crate) fn mnemonic(opcode: u8) -> &'static str {
-    match MNEMONICS.get(usize::from(opcode)) {
-        Some(name) => name,
+/// The word at a place, `?` where there is none.
+fn word_at(words: &[&'static str], place: usize) -> &'static str
+    ensures { result.now ≡ word_at (map (λ word. word.now) words.now) place }
+{
+    match words.get(place) {
+        Some(word) => word,
         None => "?",
     }
+}
+
+/// The mnemonic of an opcode (JVMS 7), `?` where it is none.
+#[tactic(auto, unfolding(crate::specs::Texts::mnemonic_text))]
+pub(crate) fn mnemonic(opcode: u8) -> &'static str
+    ensures { result.now ≡ mnemonic_text opcode }
+{
+    word_at(&MNEMONICS, usize::from(opcode))
 }

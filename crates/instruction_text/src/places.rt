@@ -1,5 +1,10 @@
 //! Places in methods, and the instructions there.
 
+ghost use Rattle.std.specs.Prelude.{◌≡◌, IfOk, slice_index};
+ghost use Rattle.std.specs.String.{string_bytes};
+ghost use Rattle.instruction_text.specs.Texts.{method_text, place_text, instruction_text, code_from, operand_text};
+ghost use Rattle.instruction_text.specs.Texts.{index_of, primitive_text};
+
 use crate::constants::{class_at, named_at, pushed_at, text_at};
 use crate::mnemonic::mnemonic;
 use classfile::ClassFile;
@@ -33,7 +38,10 @@ const MULTIANEWARRAY: u8 = 197;
 ///
 /// # Errors
 /// Where memory runs out.
-pub fn method_text(alloc: Global, file: &ClassFile, index: u16) -> Result<String, AllocError> {
+#[tactic(auto, unfolding(crate::specs::Texts::method_text))]
+pub fn method_text(alloc: Global, file: &ClassFile, index: u16) -> Result<String, AllocError>
+    ensures { IfOk result (λ text. string_bytes text ≡ method_text file.now index) }
+{
     let class = class_at(alloc, file, file.this_class())?;
     let Some(method) = file.methods().get(usize::from(index)) else {
         return format!(in alloc; "{class}.");
@@ -49,12 +57,15 @@ pub fn method_text(alloc: Global, file: &ClassFile, index: u16) -> Result<String
 ///
 /// # Errors
 /// Where memory runs out.
+#[tactic(auto, unfolding(crate::specs::Texts::instruction_text))]
 pub fn instruction_text(
     alloc: Global,
     file: &ClassFile,
     index: u16,
     pc: u16,
-) -> Result<String, AllocError> {
+) -> Result<String, AllocError>
+    ensures { IfOk result (λ text. string_bytes text ≡ instruction_text file.now index pc) }
+{
     let code = code_from(file, index, pc);
     let Some((opcode, operands)) = code.split_first() else {
         return String::from_str(alloc, "?");
@@ -71,19 +82,24 @@ pub fn instruction_text(
 ///
 /// # Errors
 /// Where memory runs out.
+#[tactic(auto, unfolding(crate::specs::Texts::place_text))]
 pub fn place_text(
     alloc: Global,
     file: &ClassFile,
     index: u16,
     pc: u16,
-) -> Result<String, AllocError> {
+) -> Result<String, AllocError>
+    ensures { IfOk result (λ text. string_bytes text ≡ place_text file.now index pc) }
+{
     let method = method_text(alloc, file, index)?;
     let instruction = instruction_text(alloc, file, index, pc)?;
     format!(in alloc; "{method} {pc} {instruction}")
 }
 
 /// The bytes of a method's code from a pc on.
-fn code_from(file: &ClassFile, index: u16, pc: u16) -> &[u8] {
+fn code_from(file: &ClassFile, index: u16, pc: u16) -> &[u8]
+    ensures { result.now ≡ code_from file.now index pc }
+{
     let Some(method) = file.methods().get(usize::from(index)) else {
         return &[];
     };
@@ -94,12 +110,15 @@ fn code_from(file: &ClassFile, index: u16, pc: u16) -> &[u8] {
 }
 
 /// What the operands of an instruction name.
+#[tactic(auto, unfolding(crate::specs::Texts::operand_text))]
 fn operand_text(
     alloc: Global,
     file: &ClassFile,
     opcode: u8,
     operands: &[u8],
-) -> Result<String, AllocError> {
+) -> Result<String, AllocError>
+    ensures { IfOk result (λ text. string_bytes text ≡ operand_text file.now opcode operands.now) }
+{
     match opcode {
         LDC => pushed_at(alloc, file, u16::from(first_of(operands))),
         LDC_W | LDC2_W => pushed_at(alloc, file, index_of(operands)),
@@ -113,7 +132,9 @@ fn operand_text(
 }
 
 /// The first of some bytes, 0 where there is none.
-fn first_of(bytes: &[u8]) -> u8 {
+fn first_of(bytes: &[u8]) -> u8
+    ensures { result ≡ slice_index bytes.now 0 }
+{
     match bytes.first() {
         Some(byte) => *byte,
         None => 0,
@@ -121,7 +142,9 @@ fn first_of(bytes: &[u8]) -> u8 {
 }
 
 /// The index that the first two of some bytes spell, 0 where they are fewer.
-fn index_of(bytes: &[u8]) -> u16 {
+fn index_of(bytes: &[u8]) -> u16
+    ensures { result ≡ index_of bytes.now }
+{
     match bytes {
         [high, low, ..] => u16::from_be_bytes([*high, *low]),
         _ => 0,
@@ -129,7 +152,10 @@ fn index_of(bytes: &[u8]) -> u16 {
 }
 
 /// The type of an array's elements by its code (JVMS 6.5, newarray).
-fn primitive(code: u8) -> &'static str {
+#[tactic(auto, unfolding(crate::specs::Texts::primitive_text))]
+fn primitive(code: u8) -> &'static str
+    ensures { result.now ≡ primitive_text code }
+{
     match code {
         4 => "boolean",
         5 => "char",
