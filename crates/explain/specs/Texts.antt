@@ -203,11 +203,14 @@ AreEachBelow Is zero text = text ≡ []
 AreEachBelow Is (suc n) text = (before : List ℕ) × (last : List ℕ) × AreEachBelow Is n before × Is n last
     × (text ≡ before ++ last)
 
--- how many classes stay for the sake of this one, any number
+abbrev pub blamed_line : Family → ℕ → ℕ → List ℕ
+blamed_line family c others = decimal others ++ (codes " depend on " ++ (class_text family c ++ codes "\n"))
+
+-- that others stay at run time for the sake of a class: of which class, and how many, nothing is said
 pub record IsBlamedLine (family : Family) (text : List ℕ) : Type 0 where
   pub class : ℕ
   pub others : ℕ
-  pub is : text ≡ decimal others ++ (codes " depend on " ++ (class_text family class ++ codes "\n"))
+  pub is : text ≡ blamed_line family class others
 
 -- at most so many texts of a kind
 abbrev pub AreAtMost : ℕ → (List ℕ → Type 0) → List ℕ → Type 0

@@ -44,10 +44,9 @@ fn double(nexts: &mut [usize])
     ensures { (verdicts : List Kind) → AreRoots verdicts nexts.old → AreRoots verdicts nexts.new }
 {
     for class in 0..nexts.len() {
-        let next = nexts[class];
-        if next < nexts.len() {
-            nexts[class] = nexts[next];
-        }
+        let next = root_of(nexts, class);
+        let after = root_of(nexts, next);
+        nexts[class] = after;
     }
 }
 
@@ -62,7 +61,7 @@ pub(crate) fn roots_of(alloc: Global, verdicts: &[Verdict]) -> Result<Vec<usize>
     Ok(roots)
 }
 
-/// The class at which the chain from a class ends.
+/// What stands at the number of a class, or the class itself.
 pub(crate) fn root_of(roots: &[usize], class: usize) -> usize
     ensures { (verdicts : List Kind) → AreRoots verdicts roots.now → Leads verdicts class result }
 {

@@ -1,9 +1,8 @@
 //! Lines of the classes for whose sake a class stays at run time.
 
-ghost use Rattle.std.specs.Prelude.{◌≡◌, ◌++◌, ℕ, List, slice_get, IfOk, string_bytes, codes};
-ghost use Rattle.std.specs.List.{flat_map};
-ghost use Rattle.explain.specs.Texts.{dependences, end_text, last_verdict, own_text};
-ghost use Rattle.explain.specs.Texts.{IsChainLine, IsChainText, IsEndsLine, IsEndsText};
+ghost use Rattle.std.specs.Prelude.{◌≡◌, IfOk, string_bytes};
+ghost use Rattle.explain.specs.Texts.{dependences, end_text, ends_line, last_verdict, own_text};
+ghost use Rattle.explain.specs.Texts.{IsChainLine, IsChainText, IsEndsText};
 ghost use Rattle.explain.specs.steps.Roots.{AreRoots};
 
 use crate::blamed::root_of;
@@ -96,29 +95,26 @@ fn end_text(alloc: Global, family: &Family, first: usize, last: usize) -> Result
     format!(in alloc; " .. {last}")
 }
 
-/// The line of the first class that a class uses and that is not accepted, and of the one at which the chain from there
-/// ends.
+/// The line of the first class that a class uses and that is not accepted, and of one at which a chain from there ends.
 fn ends_line(
     alloc: Global,
     family: &Family,
     verdicts: &[Verdict],
-    roots: &[usize],
     class: u32,
     first: usize,
+    last: usize,
 ) -> Result<String, AllocError>
-    requires { AreRoots verdicts.now roots.now }
-    ensures { IfOk result (λ text. IsEndsLine family.now verdicts.now class first (string_bytes text)) }
+    ensures { IfOk result
+        (λ text. string_bytes text ≡ ends_line family.now verdicts.now class first last) }
 {
-    let last = root_of(roots, first);
     let name = name_text(alloc, family, class as usize)?;
     let next = name_text(alloc, family, first)?;
     let end = end_text(alloc, family, first, last)?;
     let own = own_text(alloc, family, verdicts.get(last).copied())?;
-    let text = format!(in alloc; "{name} DependsOn {next}{end}{own}\n")?;
-    Ok(text)
+    format!(in alloc; "{name} DependsOn {next}{end}{own}\n")
 }
 
-/// The same, if a class uses one that is not accepted.
+/// That line, if a class uses one that is not accepted.
 pub(crate) fn ends_text(
     alloc: Global,
     family: &Family,
@@ -130,8 +126,10 @@ pub(crate) fn ends_text(
     requires { AreRoots verdicts.now roots.now }
     ensures { IfOk result (λ text. IsEndsText family.now verdicts.now class first (string_bytes text)) }
 {
-    match first {
-        Some(first) => ends_line(alloc, family, verdicts, roots, class, first as usize),
-        None => Ok(String::new(alloc)),
-    }
+    let Some(first) = first else {
+        return Ok(String::new(alloc));
+    };
+    let last = root_of(roots, first as usize);
+    let text = ends_line(alloc, family, verdicts, class, first as usize, last)?;
+    Ok(text)
 }

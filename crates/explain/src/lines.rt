@@ -1,16 +1,16 @@
 //! Explanations as lines of text, each of which begins with the name of the class.
 
-ghost use Rattle.std.specs.Prelude.{◌≡◌, ◌++◌, ◌<◌, false, length, IfOk, OnOk, string_bytes};
+ghost use Rattle.std.specs.Prelude.{◌≡◌, ◌≤◌, length, IfOk, string_bytes};
 ghost use Rattle.initializer_analysis.specs.declared.verdict.Verdict.TheVariants.{Wave, Refused};
 ghost use Rattle.report.specs.Texts.{verdict_text};
-ghost use Rattle.explain.specs.Explanations.{Explains};
-ghost use Rattle.explain.specs.Texts.{verdict_line, AreAtMost, AreEachBelow, IsAllText, IsBlamedLine, IsClassText};
-ghost use Rattle.explain.specs.Texts.{IsTextAmongAll};
+ghost use Rattle.explain.specs.Texts.{blamed_line, verdict_line, AreAtMost, AreEachBelow};
+ghost use Rattle.explain.specs.Texts.{IsAllText, IsBlamedLine, IsClassText, IsTextAmongAll};
+ghost use Rattle.explain.specs.steps.Known.{IsKnown};
 ghost use Rattle.explain.specs.steps.Roots.{AreRoots};
 
 use crate::blamed::{Blamed, most_blamed, roots_of};
 use crate::chain_lines::{chain_text, ends_text};
-use crate::explaining::{Explanation, Known};
+use crate::explaining::Known;
 use crate::reason_lines::reason_lines;
 use crate::run_lines::run_text;
 use crate::words::{line, name_text};
@@ -103,23 +103,27 @@ pub fn class_text(
     Ok(text)
 }
 
-/// What is to be told of a class among all.
+/// What is to be told of a class among all: without a run and calls, and with the end of such a chain alone.
 fn text_among_all(
     alloc: Global,
     image: &Image,
     verdicts: &[Verdict],
+    forced: &Forced,
     roots: &[usize],
+    known: &mut Known,
     class: u32,
-    explanation: &Explanation,
 ) -> Result<String, AllocError>
+    requires known { IsKnown image.now.program verdicts.now known.old }
     requires roots { AreRoots verdicts.now roots.now }
-    ensures { IfOk result (λ text. (at_run_time : List Bool)
-        → Explains image.now.program verdicts.now at_run_time false class explanation.now
-        → IsTextAmongAll image.now verdicts.now at_run_time class (string_bytes text)) }
+    ensures known { IsKnown image.now.program verdicts.now known.new }
+    ensures text { IfOk result
+        (λ text. IsTextAmongAll image.now verdicts.now forced.now class (string_bytes text)) }
 {
-    let family = image.program().family();
+    let program = image.program();
+    let family = program.family();
+    let explanation = known.explain(alloc, program, verdicts, forced, false, class)?;
     let verdict = verdict_line(alloc, image, class, explanation.verdict)?;
-    let reasons = reason_lines(alloc, family, class, explanation)?;
+    let reasons = reason_lines(alloc, family, class, &explanation)?;
     let ends = ends_text(alloc, family, verdicts, roots, class, explanation.first)?;
     let text = format!(in alloc; "{verdict}{reasons}{ends}")?;
     Ok(text)
@@ -138,12 +142,10 @@ fn each_text(
     ensures { IfOk result (λ text. AreEachBelow (IsTextAmongAll image.now verdicts.now forced.now)
         (length image.now.program.classes) (string_bytes text)) }
 {
-    let program = image.program();
-    let mut known = Known::of_program(alloc, program, verdicts)?;
+    let mut known = Known::of_program(alloc, image.program(), verdicts)?;
     let mut text = String::new(alloc);
-    for class in 0..program.given_count() {
-        let explanation = known.explain(alloc, program, verdicts, forced, false, class)?;
-        let lines = text_among_all(alloc, image, verdicts, roots, class, &explanation)?;
+    for class in 0..image.program().given_count() {
+        let lines = text_among_all(alloc, image, verdicts, forced, roots, &mut known, class)?;
         text.push_str(lines.as_str())?;
     }
     Ok(text)
@@ -151,21 +153,18 @@ fn each_text(
 
 /// The line of a class for whose sake others stay at run time.
 fn blamed_line(alloc: Global, family: &Family, blamed: Blamed) -> Result<String, AllocError>
-    ensures { IfOk result (λ text. IsBlamedLine family.now (string_bytes text)) }
+    ensures { IfOk result
+        (λ text. string_bytes text ≡ blamed_line family.now blamed.class blamed.others) }
 {
     let name = name_text(alloc, family, blamed.class)?;
     let others = blamed.others;
-    let text = format!(in alloc; "{others} depend on {name}\n")?;
-    Ok(text)
+    format!(in alloc; "{others} depend on {name}\n")
 }
 
-/// The lines of classes for whose sake others stay at run time.
-fn blamed_text(
-    alloc: Global,
-    family: &Family,
-    blamed: &[Blamed],
-) -> Result<String, AllocError>
-    ensures { IfOk result (λ text. AreAtMost (length blamed.now) (IsBlamedLine family.now) (string_bytes text)) }
+/// The lines of a few classes for whose sake others stay at run time.
+fn blamed_text(alloc: Global, family: &Family, blamed: &[Blamed]) -> Result<String, AllocError>
+    requires { length blamed.now ≤ 10 }
+    ensures { IfOk result (λ text. AreAtMost 10 (IsBlamedLine family.now) (string_bytes text)) }
 {
     let mut text = String::new(alloc);
     for one in blamed {
