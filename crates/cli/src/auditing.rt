@@ -28,7 +28,7 @@ pub(crate) fn run<F: Files>(
     words: &Audit<'_>,
     files: &mut F,
 ) -> Result<Audited, Refusal>
-    ensures audit { IfOk result (λ audited. IsAudit (F.holds files.old) words.now audited.is_clean) }
+    ensures audit { IfOk result (λ audited. IsAudit (F.holds files.old) words.now audited.text.items audited.is_clean) }
     ensures same { F.holds files.new ≡ F.holds files.old }
 {
     let texts = contents(alloc, words.files.as_slice(), files, usize::MAX)?;
@@ -45,7 +45,7 @@ fn audit_by_names(
     program: &Program,
     entries: &[ClassName],
 ) -> Result<Audited, Refusal>
-    ensures { IfOk result (λ audited. IsAuditOf program.now entries.now audited.is_clean) }
+    ensures { IfOk result (λ audited. IsAuditOf program.now entries.now audited.text.items audited.is_clean) }
 {
     match entry_classes(alloc, program, entries) {
         Ok(classes) => Ok(audit_by_classes(alloc, program, classes.as_slice())?),
@@ -59,7 +59,7 @@ fn audit_by_classes(
     program: &Program,
     classes: &[u32],
 ) -> Result<Audited, AllocError>
-    ensures { IfOk result (λ audited. IsAuditFrom program.now classes.now audited.is_clean) }
+    ensures { IfOk result (λ audited. IsAuditFrom program.now classes.now audited.text.items audited.is_clean) }
 {
     let places = audit(alloc, program, classes)?;
     let text = audit_text(alloc, program, places.as_slice())?;
