@@ -1,5 +1,6 @@
 -- Words that name lists, and the names in these.
-use Rattle.std.proofs.Common.{◌≡◌, ◌≢◌, ◌∙◌, ℕ, suc, ◌+◌, ◌==◌, ◌<◌, List, [], ◌∷◌, ◌++◌, Bool, true, false, length, take, get_or}
+use Rattle.std.proofs.Common.{◌≡◌, ◌≢◌, ◌∙◌, ℕ, suc, ◌+◌, ◌==◌, ◌<◌, List, [], ◌∷◌, ◌++◌, Bool, true, false, length}
+use Rattle.std.proofs.Common.{take, get_or}
 use Rattle.std.proofs.Common.{arith, refl, sym, ap, subst, map, Option, Some, None, Vec, if◌then◌else◌}
 use Rattle.std.specs.List.{AllZip, filter, flat_map, slice_split}
 use Rattle.std.specs.Borrow.{Bor}
@@ -107,7 +108,8 @@ module _ (lines : List (Bor (List ℕ))) (i : ℕ) (d : Bor (List ℕ)) (within 
 
   -- one more line that is empty
   pub line_skipped : (now : List (List ℕ)) → (length (get_or lines i d).now == 0) ≡ true
-      → now ≡ old ++ filter is_filled (texts (take i lines)) → now ≡ old ++ filter is_filled (texts (take (i + 1) lines))
+      → now ≡ old ++ filter is_filled (texts (take i lines))
+      → now ≡ old ++ filter is_filled (texts (take (i + 1) lines))
   line_skipped now empty all =
       let line = (get_or lines i d).now in
       all ∙ sym (one_more [] (empty_name line empty) ∙ append-nil (old ++ filter is_filled (texts (take i lines))))

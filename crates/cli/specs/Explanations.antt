@@ -44,8 +44,11 @@ pub record IsExplained (holds : Contents) (words : Explain) (text : List ℕ) : 
   pub held : AreTextsOf holds (texts words.building.files.items) files
   pub answer : Built
   pub built : IsBuildOfClassFiles files
-      (record { run_time = words.building.run_time; build_time = words.building.build_time;
-      budget = words.building.budget }) answer
+      (record {
+        run_time = words.building.run_time;
+        build_time = words.building.build_time;
+        budget = words.building.budget;
+      }) answer
   pub told : IsToldBy answer (text_of words.building.run_time) words.building.budget words.class.now text
 
 -- Such a text went out.

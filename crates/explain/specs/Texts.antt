@@ -1,6 +1,6 @@
 -- What is told of classes, as text: lines that begin with the name of the class.
-use Rattle.std.specs.Prelude.{◌≡◌, ◌⊎◌, ℕ, zero, suc, ◌-◌, ◌==◌, Bool, true, false, IsTrue, if◌then◌else◌, List, [], ◌∷◌, ◌++◌}
-use Rattle.std.specs.Prelude.{length, slice_get, Option, Some, None, option_and_then, codes, decimal}
+use Rattle.std.specs.Prelude.{◌≡◌, ◌⊎◌, ℕ, zero, suc, ◌-◌, ◌==◌, Bool, true, false, IsTrue, if◌then◌else◌, List, []}
+use Rattle.std.specs.Prelude.{◌++◌, length, slice_get, Option, Some, None, option_and_then, codes, decimal}
 use Rattle.std.specs.List.{flat_map}
 use Rattle.classfile.specs.ClassFile.{ClassFile}
 use Rattle.instruction_text.specs.Texts.{place_text}

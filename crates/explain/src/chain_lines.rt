@@ -14,11 +14,7 @@ use report::reason_text;
 use std::alloc::{AllocError, Global};
 
 /// The reason of a class that is not accepted, after a blank.
-fn own_text(
-    alloc: Global,
-    family: &Family,
-    verdict: Option<Verdict>,
-) -> Result<String, AllocError>
+fn own_text(alloc: Global, family: &Family, verdict: Option<Verdict>) -> Result<String, AllocError>
     ensures { IfOk result (λ text. string_bytes text ≡ own_text family.now verdict) }
 {
     let Some(Verdict::Refused(reason)) = verdict else {

@@ -1,6 +1,7 @@
 //! The marks that a class's code bears, each with where and how its initializer comes there.
 
-ghost use Rattle.std.specs.Prelude.{◌≡◌, ◌↔◌, ℕ, [], length, None, slice_index_or, IfOk, OnOk, IsTrue, IsFalse, MatchOption};
+ghost use Rattle.std.specs.Prelude.{◌≡◌, ◌↔◌, ℕ, [], length, None, slice_index_or, MatchOption};
+ghost use Rattle.std.specs.Prelude.{IfOk, IsFalse, IsTrue, OnOk};
 ghost use Rattle.use_graph.specs.declared.mark.Mark.{Mark as Kind};
 ghost use Rattle.use_graph.specs.Uses.{MayRun};
 ghost use Rattle.use_graph.specs.steps.Bodies.{IsUseGraph};

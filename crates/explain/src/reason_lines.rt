@@ -1,6 +1,6 @@
 //! Lines of the reasons that hold of a class by itself.
 
-ghost use Rattle.std.specs.Prelude.{◌≡◌, ◌++◌, take, IfOk, string_bytes, codes};
+ghost use Rattle.std.specs.Prelude.{◌≡◌, IfOk, string_bytes, codes};
 ghost use Rattle.std.specs.List.{flat_map};
 ghost use Rattle.explain.specs.Texts.{cycle_line, forced_line, mark_lines, marks_lines, place_line, reason_lines};
 
@@ -61,7 +61,13 @@ fn marks_lines(
     let prints = mark_lines(alloc, family, class, Mark::Prints, &marks.prints)?;
     let throws = mark_lines(alloc, family, class, Mark::Throws, &marks.throws)?;
     let monitors = mark_lines(alloc, family, class, Mark::Monitors, &marks.monitors)?;
-    let writes = mark_lines(alloc, family, class, Mark::ForeignWrite, &marks.foreign_write)?;
+    let writes = mark_lines(
+        alloc,
+        family,
+        class,
+        Mark::ForeignWrite,
+        &marks.foreign_write,
+    )?;
     let reads = mark_lines(alloc, family, class, Mark::ForeignRead, &marks.foreign_read)?;
     let unsupported = mark_lines(alloc, family, class, Mark::Unsupported, &marks.unsupported)?;
     let missing = mark_lines(alloc, family, class, Mark::Missing, &marks.missing)?;

@@ -14,11 +14,7 @@ use std::alloc::{AllocError, Global};
 use use_graph::mark::Evidence;
 
 /// The name of a class with slashes.
-pub(crate) fn name_text(
-    alloc: Global,
-    family: &Family,
-    class: usize,
-) -> Result<String, AllocError>
+pub(crate) fn name_text(alloc: Global, family: &Family, class: usize) -> Result<String, AllocError>
     ensures { IfOk result (λ text. string_bytes text ≡ class_text family.now class) }
 {
     match family.classes().get(class) {

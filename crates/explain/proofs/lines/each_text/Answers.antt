@@ -9,5 +9,6 @@ loop-class-preserved c = record {
   each = each_grown (IsTextAmongAll c.args.image.now c.args.verdicts.now c.args.forced.now) c.loop-class.class
       (string_bytes c.loop-class.text) (string_bytes c.in_ok-lines.lines) (string_bytes c.push_str.new.self)
       c.loop-class.invariant.each c.in_ok-lines.ensures.text
-      (c.in_ok-push_str.ensures.bytes ∙ ap (λ (t : List ℕ). string_bytes c.loop-class.text ++ t) c.as_str.ensures.value);
+      (c.in_ok-push_str.ensures.bytes
+      ∙ ap (λ (t : List ℕ). string_bytes c.loop-class.text ++ t) c.as_str.ensures.value);
 }

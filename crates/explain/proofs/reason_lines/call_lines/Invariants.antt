@@ -6,4 +6,5 @@ use Rattle.explain.proofs.reason_lines.call_lines.Given as goal
 
 abbrev pub invariant-loop-call : goal.invariant-loop-call
 invariant-loop-call l = string_bytes l.text
-    ≡ flat_map (λ call. place_line l.family l.class (reasons.Marked l.mark) (codes "in") call) (take l.call-index l.path)
+    ≡ flat_map (λ call. place_line l.family l.class (reasons.Marked l.mark) (codes "in") call)
+    (take l.call-index l.path)
