@@ -5,7 +5,8 @@ ghost use Rattle.initializer_analysis.specs.declared.verdict.Verdict.{Verdict as
 ghost use Rattle.explain.specs.Chains.{Leads};
 ghost use Rattle.explain.specs.steps.Roots.{AreRoots};
 
-use initializer_analysis::verdict::{Reason, Verdict};
+use crate::chains::depended;
+use initializer_analysis::verdict::Verdict;
 use std::alloc::{AllocError, Global};
 
 /// A class with a reason of its own, and how many others stay at run time for its sake.
@@ -22,9 +23,9 @@ const DOUBLINGS: u32 = 16;
 fn next_of(class: usize, verdict: Verdict) -> usize
     ensures { (verdicts : List Kind) → slice_get verdicts class ≡ Some verdict → Leads verdicts class result }
 {
-    match verdict {
-        Verdict::Refused(Reason::DependsOn(next)) => next as usize,
-        _ => class,
+    match depended(verdict) {
+        Some(next) => next as usize,
+        None => class,
     }
 }
 

@@ -1,8 +1,8 @@
 //! Lines of the classes for whose sake a class stays at run time.
 
-ghost use Rattle.std.specs.Prelude.{◌≡◌, IfOk, string_bytes};
+ghost use Rattle.std.specs.Prelude.{◌≡◌, slice_get, IfOk, string_bytes};
 ghost use Rattle.explain.specs.Texts.{dependences, end_text, ends_line, last_verdict, own_text};
-ghost use Rattle.explain.specs.Texts.{IsChainLine, IsChainText, IsEndsText};
+ghost use Rattle.explain.specs.Texts.{IsChainLine, IsChainText, IsEndsLine, IsEndsText};
 ghost use Rattle.explain.specs.steps.Roots.{AreRoots};
 
 use crate::blamed::root_of;
@@ -80,6 +80,13 @@ pub(crate) fn chain_text(
     }
 }
 
+/// The verdict on a class, if it is given.
+fn verdict_at(verdicts: &[Verdict], class: usize) -> Option<Verdict>
+    ensures { result ≡ slice_get verdicts.now class }
+{
+    verdicts.get(class).copied()
+}
+
 /// The end of a chain, where it is another class than the first.
 fn end_text(alloc: Global, family: &Family, first: usize, last: usize) -> Result<String, AllocError>
     ensures { IfOk result (λ text. string_bytes text ≡ end_text family.now first last) }
@@ -106,11 +113,28 @@ fn ends_line(
     let name = name_text(alloc, family, class as usize)?;
     let next = name_text(alloc, family, first)?;
     let end = end_text(alloc, family, first, last)?;
-    let own = own_text(alloc, family, verdicts.get(last).copied())?;
+    let own = own_text(alloc, family, verdict_at(verdicts, last))?;
     format!(in alloc; "{name} DependsOn {next}{end}{own}\n")
 }
 
-/// That line, if a class uses one that is not accepted.
+/// That line, with the end that the roots have of the chain.
+fn ends_from(
+    alloc: Global,
+    family: &Family,
+    verdicts: &[Verdict],
+    roots: &[usize],
+    class: u32,
+    first: usize,
+) -> Result<String, AllocError>
+    requires { AreRoots verdicts.now roots.now }
+    ensures { IfOk result (λ text. IsEndsLine family.now verdicts.now class first (string_bytes text)) }
+{
+    let last = root_of(roots, first);
+    let text = ends_line(alloc, family, verdicts, class, first, last)?;
+    Ok(text)
+}
+
+/// The same, if a class uses one that is not accepted.
 pub(crate) fn ends_text(
     alloc: Global,
     family: &Family,
@@ -122,10 +146,8 @@ pub(crate) fn ends_text(
     requires { AreRoots verdicts.now roots.now }
     ensures { IfOk result (λ text. IsEndsText family.now verdicts.now class first (string_bytes text)) }
 {
-    let Some(first) = first else {
-        return Ok(String::new(alloc));
-    };
-    let last = root_of(roots, first as usize);
-    let text = ends_line(alloc, family, verdicts, class, first as usize, last)?;
-    Ok(text)
+    match first {
+        Some(first) => ends_from(alloc, family, verdicts, roots, class, first as usize),
+        None => Ok(String::new(alloc)),
+    }
 }

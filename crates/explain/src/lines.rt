@@ -129,22 +129,23 @@ fn text_among_all(
     Ok(text)
 }
 
-/// What is to be told of each class, in the order of their numbers.
+/// What is to be told of each of the first classes, so many, in the order of their numbers.
 fn each_text(
     alloc: Global,
     image: &Image,
     verdicts: &[Verdict],
     forced: &Forced,
     roots: &[usize],
+    count: u32,
 ) -> Result<String, AllocError>
     requires verdicts { length verdicts.now ≡ length image.now.program.classes }
     requires roots { AreRoots verdicts.now roots.now }
-    ensures { IfOk result (λ text. AreEachBelow (IsTextAmongAll image.now verdicts.now forced.now)
-        (length image.now.program.classes) (string_bytes text)) }
+    ensures { IfOk result
+        (λ text. AreEachBelow (IsTextAmongAll image.now verdicts.now forced.now) count (string_bytes text)) }
 {
     let mut known = Known::of_program(alloc, image.program(), verdicts)?;
     let mut text = String::new(alloc);
-    for class in 0..image.program().given_count() {
+    for class in 0..count {
         let lines = text_among_all(alloc, image, verdicts, forced, roots, &mut known, class)?;
         text.push_str(lines.as_str())?;
     }
@@ -188,10 +189,12 @@ pub fn all_text(
     requires { length verdicts.now ≡ length image.now.program.classes }
     ensures { IfOk result (λ text. IsAllText image.now verdicts.now forced.now (string_bytes text)) }
 {
+    let program = image.program();
+    let count = program.given_count();
     let roots = roots_of(alloc, verdicts)?;
-    let each = each_text(alloc, image, verdicts, forced, roots.as_slice())?;
+    let each = each_text(alloc, image, verdicts, forced, roots.as_slice(), count)?;
     let most = most_blamed(alloc, roots.as_slice(), 10)?;
-    let blamed = blamed_text(alloc, image.program().family(), most.as_slice())?;
+    let blamed = blamed_text(alloc, program.family(), most.as_slice())?;
     let text = format!(in alloc; "{each}{blamed}")?;
     Ok(text)
 }

@@ -1,4 +1,4 @@
-use Rattle.explain.proofs.chain_lines.ends_text.Goals as goal
+use Rattle.explain.proofs.chain_lines.ends_from.Goals as goal
 
 pub returns : goal.returns
 returns c = record {
