@@ -1,5 +1,5 @@
 -- Texts that are several texts one after another.
-use Rattle.std.proofs.Common.{◌≡◌, ◌∙◌, ◌⊎◌, ℕ, zero, suc, ◌+◌, ◌≤◌, List, ◌++◌, sym, subst, inl, inr}
+use Rattle.std.proofs.Common.{◌≡◌, ◌⊎◌, ℕ, zero, suc, ◌+◌, ◌≤◌, List, ◌++◌, sym, subst, inl, inr}
 use Rattle.std.proofs.Common.{add-one, arith}
 use Rattle.explain.specs.Texts.{AreAtMost, AreEachBelow}
 
