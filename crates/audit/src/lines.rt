@@ -56,11 +56,7 @@ fn add_line(
 /// # Errors
 /// Where memory runs out.
 #[tactic(auto, unfolding(crate::specs::Texts::audit_text))]
-pub fn audit_text(
-    alloc: Global,
-    program: &Program,
-    places: &[Place],
-) -> Result<String, AllocError>
+pub fn audit_text(alloc: Global, program: &Program, places: &[Place]) -> Result<String, AllocError>
     ensures { IfOk result (λ text. string_bytes text ≡ audit_text program.now.family places.now) }
 {
     let mut text = String::new(alloc);
