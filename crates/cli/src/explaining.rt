@@ -1,6 +1,9 @@
 //! The command `explain`: a build in memory, and all that stands against one class, or against each.
-ghost use Rattle.std.specs.Prelude.{◌≡◌, IfOk};
-ghost use Rattle.cli.specs.Explanations.{IsExplained};
+ghost use Rattle.std.specs.Prelude.{◌≡◌, ◌↔◌, codes, IfOk, IsTrue};
+ghost use Rattle.building.specs.Builds.{patterns_in, text_of};
+ghost use Rattle.cli.specs.Explanations.{IsClassOf, IsExplained, IsToldBy, IsToldOf, IsToldOfClass};
+ghost use Rattle.explain.specs.Texts.{IsAllText};
+ghost use Rattle.options.specs.Classes.{AreClasses, IsForced};
 ghost use Rattle.report.specs.Waves.{GiveWaves};
 
 use crate::builds::build_here;
@@ -13,7 +16,7 @@ use init_engine::EntryFault;
 use initializer_analysis::forced::Forced;
 use options::{OptionFault, Patterns, force, parse};
 use program::Program;
-use std::alloc::Global;
+use std::alloc::{AllocError, Global};
 
 /// Reads the class files, builds an image, and answers what is to be told of its classes, as the words say.
 ///
@@ -24,7 +27,7 @@ pub(crate) fn run<F: Files>(
     words: &Explain<'_>,
     files: &mut F,
 ) -> Result<Vec<u8>, Refusal>
-    ensures explained { IfOk result (λ text. IsExplained (F.holds files.old) words.now.building) }
+    ensures explained { IfOk result (λ text. IsExplained (F.holds files.old) words.now text.items) }
     ensures same { F.holds files.new ≡ F.holds files.old }
 {
     let building = &words.building;
@@ -35,16 +38,26 @@ pub(crate) fn run<F: Files>(
     }
 }
 
+/// The patterns of a list, if there is one.
+fn patterns_of(alloc: Global, list: Option<&str>) -> Result<Patterns, OptionFault>
+    ensures { IfOk result (λ patterns. patterns ≡ patterns_in (text_of list.entry)) }
+{
+    match list {
+        Some(list) => parse(alloc, list),
+        None => Ok(Patterns::none()),
+    }
+}
+
 /// The classes that a list forces to run time.
-fn forced_by(alloc: Global, program: &Program, list: Option<&str>) -> Result<Forced, OptionFault> {
-    let patterns = match list {
-        Some(list) => parse(alloc, list)?,
-        None => Patterns::none(),
-    };
+fn forced_by(alloc: Global, program: &Program, list: Option<&str>) -> Result<Forced, OptionFault>
+    ensures { IfOk result
+        (λ forced. AreClasses forced (IsForced program.now.family (patterns_in (text_of list.entry)))) }
+{
+    let patterns = patterns_of(alloc, list)?;
     force(alloc, program, &patterns)
 }
 
-/// What is to be told of the classes of a build.
+/// What is to be told of the classes of a build, where those are forced that the words say.
 fn told(
     alloc: Global,
     built: &Built,
@@ -52,29 +65,73 @@ fn told(
     class: &str,
 ) -> Result<Vec<u8>, Refusal>
     requires { GiveWaves built.now.image built.now.verdicts }
+    ensures { IfOk result
+        (λ text. IsToldBy built.now (text_of building.now.run_time) building.now.budget class.now text.items) }
 {
     let Ok(forced) = forced_by(alloc, built.image.program(), building.run_time) else {
         return Err(Refusal::Memory);
     };
-    let verdicts = built.verdicts.as_slice();
-    if class == "all" {
-        let text = all_text(alloc, &built.image, verdicts, &forced)?;
-        return Ok(text.into_bytes());
+    let text = told_of(alloc, built, &forced, building.budget, class)?;
+    Ok(text)
+}
+
+/// What is to be told of the classes of a build, where these are forced.
+fn told_of(
+    alloc: Global,
+    built: &Built,
+    forced: &Forced,
+    budget: u64,
+    class: &str,
+) -> Result<Vec<u8>, Refusal>
+    requires { GiveWaves built.now.image built.now.verdicts }
+    ensures { IfOk result (λ text. IsToldOf built.now forced.now budget class.now text.items) }
+{
+    if is_all(class) {
+        let text = told_of_all(alloc, built, forced)?;
+        Ok(text)
+    } else {
+        let text = told_of_class(alloc, built, forced, budget, class)?;
+        Ok(text)
     }
+}
+
+/// Whether words ask for all classes.
+fn is_all(class: &str) -> bool
+    ensures { IsTrue result ↔ (class.now ≡ codes "all") }
+{
+    class == "all"
+}
+
+/// What is to be told of all classes.
+fn told_of_all(alloc: Global, built: &Built, forced: &Forced) -> Result<Vec<u8>, AllocError>
+    requires { GiveWaves built.now.image built.now.verdicts }
+    ensures { IfOk result (λ text. IsAllText built.now.image built.now.verdicts forced.now text.items) }
+{
+    let text = all_text(alloc, &built.image, built.verdicts.as_slice(), forced)?;
+    Ok(text.into_bytes())
+}
+
+/// What is to be told of the class of a name with dots.
+fn told_of_class(
+    alloc: Global,
+    built: &Built,
+    forced: &Forced,
+    budget: u64,
+    class: &str,
+) -> Result<Vec<u8>, Refusal>
+    requires { GiveWaves built.now.image built.now.verdicts }
+    ensures { IfOk result (λ text. IsToldOfClass built.now forced.now budget class.now text.items) }
+{
     let number = number_of(alloc, built.image.program(), class)?;
-    let text = class_text(
-        alloc,
-        &built.image,
-        verdicts,
-        &forced,
-        building.budget,
-        number,
-    )?;
+    let verdicts = built.verdicts.as_slice();
+    let text = class_text(alloc, &built.image, verdicts, forced, budget, number)?;
     Ok(text.into_bytes())
 }
 
 /// The number of the class of a name with dots.
-fn number_of(alloc: Global, program: &Program, class: &str) -> Result<u32, Refusal> {
+fn number_of(alloc: Global, program: &Program, class: &str) -> Result<u32, Refusal>
+    ensures { IfOk result (IsClassOf program.now class.now) }
+{
     let names = entries_of(alloc, class)?;
     let [name] = names.as_slice() else {
         return Err(Refusal::Entry(EntryFault::Unknown { entry: 0 }));

@@ -3,6 +3,8 @@ pub mod TreesLemmas
 pub mod CallersLemmas
 pub mod ChainsLemmas
 pub mod RerunsLemmas
+pub mod RootsLemmas
+pub mod TextsLemmas
 pub mod PairsLemmas
 pub mod CyclesLemmas
 pub mod GoalsLemmas

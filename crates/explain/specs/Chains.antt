@@ -17,6 +17,10 @@ pub data Chained (Leads : ℕ → ℕ → Type 0) (c : ℕ) : List ℕ → ℕ �
   alone : Chained Leads c (c ∷ []) c
   on : {chain : List ℕ} {d e : ℕ} → Chained Leads c chain d → Leads d e → Chained Leads c (chain ++ e ∷ []) e
 
+-- classes lead from one to another that depend each on the next
+abbrev pub Leads : List Verdict → ℕ → ℕ → Type 0
+Leads verdicts c e = (chain : List ℕ) × Chained (DependsOn verdicts) c chain e
+
 -- each depends on the next, and the last on none, unless there are more than there are verdicts
 abbrev pub IsChain : List Verdict → ℕ → List ℕ → Type 0
 IsChain verdicts c chain = (last : ℕ) × Chained (DependsOn verdicts) c chain last

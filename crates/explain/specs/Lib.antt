@@ -4,3 +4,4 @@ pub mod Chains
 pub mod Explanations
 pub mod Reruns
 pub mod steps
+pub mod Texts

@@ -1,5 +1,5 @@
 -- What is told of the marks of a class: of each where it is borne, or that it is not.
-use Rattle.std.specs.Prelude.{ℕ, Bool, IsTrue, Option, MatchOption}
+use Rattle.std.specs.Prelude.{◌≡◌, ℕ, Bool, IsTrue, IsFalse, [], Option, MatchOption}
 use Rattle.program.specs.Tables.{Tables}
 use Rattle.use_graph.specs.declared.mark.Mark.{Mark}
 use Rattle.use_graph.specs.declared.mark.Mark.TheVariants as marks
@@ -8,10 +8,11 @@ use Rattle.explain.specs.declared.marks.Shown.{Shown}
 use Rattle.explain.specs.declared.marks.ShownMarks.{ShownMarks}
 use Rattle.explain.specs.Paths.{IsPath}
 
--- evidence for a mark, with the calls that lead to its method where these are asked for
+-- evidence for a mark, with the calls that lead to its method where these are asked for, and no calls where not
 pub record IsShown (P : Tables) (paths : Bool) (c : ℕ) (mark : Mark) (shown : Shown) : Type 0 where
   pub evidence : IsEvidence P c mark shown.at
   pub path : IsTrue paths → IsPath P c shown.at.class shown.at.index shown.path.items
+  pub none : IsFalse paths → shown.path.items ≡ []
 
 -- or nothing where the class has it not
 abbrev pub ShowsMark : Tables → Bool → ℕ → Mark → Option Shown → Type 0

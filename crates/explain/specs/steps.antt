@@ -8,3 +8,4 @@ pub mod Goals
 pub mod Nearest
 pub mod Found
 pub mod Marking
+pub mod Roots

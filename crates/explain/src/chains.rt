@@ -63,7 +63,7 @@ pub fn first_uses(
 }
 
 /// The class on which one of this verdict depends, if it does.
-fn depended(verdict: Verdict) -> Option<u32>
+pub(crate) fn depended(verdict: Verdict) -> Option<u32>
     ensures { result ≡ depended verdict }
 {
     match verdict {

@@ -3,6 +3,7 @@
 
 mod blamed;
 mod calls;
+mod chain_lines;
 mod chains;
 mod cycles;
 mod evidences;
@@ -12,10 +13,13 @@ mod lines;
 mod marks;
 mod nearest;
 mod paths;
+mod reason_lines;
 mod reruns;
+mod run_lines;
 mod search;
 mod sizes;
 mod stops;
+mod words;
 
 pub use chains::chain_of;
 pub use explaining::{Explanation, Known};

@@ -1,6 +1,7 @@
 //! The marks that a class's code bears, each with where and how its initializer comes there.
 
-ghost use Rattle.std.specs.Prelude.{◌≡◌, ◌↔◌, ℕ, length, None, slice_index_or, IfOk, IfSome, OnOk, IsTrue, MatchOption};
+ghost use Rattle.std.specs.Prelude.{◌≡◌, ◌↔◌, ℕ, [], length, None, slice_index_or, MatchOption};
+ghost use Rattle.std.specs.Prelude.{IfOk, IsFalse, IsTrue, OnOk};
 ghost use Rattle.use_graph.specs.declared.mark.Mark.{Mark as Kind};
 ghost use Rattle.use_graph.specs.Uses.{MayRun};
 ghost use Rattle.use_graph.specs.steps.Bodies.{IsUseGraph};
@@ -99,8 +100,9 @@ fn path_if(
     requires uses { IsUseGraph program.now uses.now }
     requires searched { IsTrue paths → IsSearched program.now uses.now class search.now }
     requires runs { MayRun program.now class method.class method.index }
-    ensures { IfOk result
+    ensures path { IfOk result
         (λ path. IsTrue paths → IsPath program.now class method.class method.index path.items) }
+    ensures none { IfOk result (λ path. IsFalse paths → path.items ≡ []) }
 {
     if paths {
         let path = path_for(alloc, program, uses, search, class, method)?;

@@ -18,5 +18,6 @@ pub returns : goal.returns
 returns c = λ mark told. record {
   evidence = subst (λ (o : Option Evidence). Tells c.args.program.now c.args.class mark o) (sym c.in-Some.ensures)
       (told c.args.class);
-  path = c.in_ok-path.ensures;
+  path = c.in_ok-path.ensures.path;
+  none = c.in_ok-path.ensures.none;
 }
