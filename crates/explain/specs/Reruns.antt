@@ -1,5 +1,5 @@
 -- What an initializer costs.
-use Rattle.std.specs.Prelude.{◌≡◌, ◌≢◌, ℕ, ◌+◌, ◌<◌, ◌≤◌, None}
+use Rattle.std.specs.Prelude.{◌≡◌, ℕ, ◌+◌, ◌<◌, ◌≤◌, ◌==◌, None, if◌then◌else◌}
 use Rattle.semantics.specs.Programs.{Program}
 use Rattle.semantics.specs.Quiet.{Environment, OverBudget, Refused}
 use Rattle.semantics.specs.Settling.{Settles, StoppedBy}
@@ -30,13 +30,11 @@ pub record IsRerun (P : Program) (env : Environment) (c greatest : ℕ) (again :
   pub least : IsLeast P env c greatest again.budget
   pub ending : EndsAt P env c again.budget again.ending
 
--- the regions of an image, but for that of one class
-pub record AreOthers (I : ImageTables) (c : ℕ) (env : Environment) : Type 0 where
-  pub own : env c ≡ None
-  pub others : (d : ℕ) → d ≢ c → env d ≡ environment_of I.regions d
+-- the regions of all classes but one
+abbrev pub without : Environment → ℕ → Environment
+without env c d = if d == c then None else env d
 
--- The initializer of a class is run again with the other regions of an image at hand.
-pub record IsRerunIn (I : ImageTables) (c greatest : ℕ) (again : Rerun) : Type 0 where
-  pub env : Environment
-  pub at_hand : AreOthers I c env
-  pub rerun : IsRerun (program_of I.program) env c greatest again
+-- The initializer of a class is run again with just those regions at hand that an image has of the other classes.
+abbrev pub IsRerunIn : ImageTables → ℕ → ℕ → Rerun → Type 0
+IsRerunIn I c greatest again =
+    IsRerun (program_of I.program) (without (environment_of I.regions) c) c greatest again

@@ -92,7 +92,7 @@ cost_line I c cost bytes = line I.program.family c (codes "cost " ++ (decimal co
     ++ (codes " kept " ++ (decimal (object_count (environment_of I.regions c))
     ++ (codes " bytes " ++ decimal bytes)))))))
 
--- The cost is that of a run within the budget, with some regions at hand; of the bytes nothing is said.
+-- The cost is that of a run within the budget with the image's other regions at hand; of the bytes nothing is said.
 pub record IsCostLine (I : ImageTables) (budget c : ℕ) (text : List ℕ) : Type 0 where
   pub again : Rerun
   pub rerun : IsRerunIn I c budget again

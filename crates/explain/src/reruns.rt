@@ -6,7 +6,7 @@ ghost use Rattle.semantics.specs.Quiet.{OverBudget, Refused};
 ghost use Rattle.machine.specs.Linked.{program_of};
 ghost use Rattle.evaluator.specs.Outcomes.{stop_of};
 ghost use Rattle.evaluator.specs.Regions.{environment_of};
-ghost use Rattle.explain.specs.Reruns.{AreOthers, CostsMore, IsLeast, IsRerunIn};
+ghost use Rattle.explain.specs.Reruns.{CostsMore, IsLeast, IsRerunIn, without};
 ghost use Rattle.explain.specs.steps.Over.{IsOver};
 
 use evaluator::outcome::{Ending, Halt, Refusal};
@@ -54,9 +54,8 @@ fn add_other(
 ) -> Result<(), AllocError>
     requires { environment_of regions.old other ≡ None }
     ensures here { OnOk result
-        (other ≢ class → environment_of regions.new other ≡ environment_of image.now.regions other) }
+        (environment_of regions.new other ≡ without (environment_of image.now.regions) class other) }
     ensures others { OnOk result ((d : ℕ) → d ≢ other → environment_of regions.new d ≡ environment_of regions.old d) }
-    ensures own { OnOk result (environment_of regions.new class ≡ environment_of regions.old class) }
 {
     if other == class {
         return Ok(());
@@ -67,7 +66,8 @@ fn add_other(
 
 /// Copies of the regions of an image, but for one class's.
 fn other_regions(alloc: Global, image: &Image, class: u32) -> Result<Regions, AllocError>
-    ensures { IfOk result (λ regions. AreOthers image.now class (environment_of regions)) }
+    ensures { IfOk result (λ regions.
+        environment_of regions ≡ without (environment_of image.now.regions) class) }
 {
     // What holds of every image: given classes alone have regions.
     let _own = image.region(class);
@@ -145,7 +145,7 @@ fn least_budget(
 }
 
 /// Runs the initializer of a class within the least budget in which it does not cost too much, with copies of the
-/// regions of an image at hand. It takes as many runs as the greatest budget has bits.
+/// image's regions of the other classes at hand. It takes as many runs as the greatest budget has bits.
 ///
 /// # Errors
 /// Where memory runs out.
