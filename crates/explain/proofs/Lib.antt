@@ -3,6 +3,7 @@ pub mod TreesLemmas
 pub mod CallersLemmas
 pub mod ChainsLemmas
 pub mod RerunsLemmas
+pub mod OthersLemmas
 pub mod RootsLemmas
 pub mod TextsLemmas
 pub mod PairsLemmas

@@ -1,12 +1,14 @@
 -- What an initializer costs.
-use Rattle.std.specs.Prelude.{◌≡◌, ℕ, ◌+◌, ◌<◌, ◌≤◌}
+use Rattle.std.specs.Prelude.{◌≡◌, ℕ, ◌+◌, ◌<◌, ◌≤◌, ◌==◌, None, if◌then◌else◌}
 use Rattle.semantics.specs.Programs.{Program}
 use Rattle.semantics.specs.Quiet.{Environment, OverBudget, Refused}
 use Rattle.semantics.specs.Settling.{Settles, StoppedBy}
 use Rattle.evaluator.specs.declared.outcome.Ending.{Ending}
 use Rattle.evaluator.specs.declared.outcome.Ending.TheVariants as endings
 use Rattle.evaluator.specs.Outcomes.{stop_of}
-use Rattle.evaluator.specs.Regions.{region_of}
+use Rattle.evaluator.specs.Regions.{environment_of, region_of}
+use Rattle.machine.specs.Linked.{program_of}
+use Rattle.object_graph.specs.Images.{ImageTables}
 use Rattle.explain.specs.declared.reruns.Rerun.{Rerun}
 
 -- an initializer costs more than a budget
@@ -27,3 +29,12 @@ EndsAt P env c budget (endings.Stopped halt) = StoppedBy P env c budget (stop_of
 pub record IsRerun (P : Program) (env : Environment) (c greatest : ℕ) (again : Rerun) : Type 0 where
   pub least : IsLeast P env c greatest again.budget
   pub ending : EndsAt P env c again.budget again.ending
+
+-- the regions of all classes but one
+abbrev pub without : Environment → ℕ → Environment
+without env c d = if d == c then None else env d
+
+-- The initializer of a class is run again with just those regions at hand that an image has of the other classes.
+abbrev pub IsRerunIn : ImageTables → ℕ → ℕ → Rerun → Type 0
+IsRerunIn I c greatest again =
+    IsRerun (program_of I.program) (without (environment_of I.regions) c) c greatest again

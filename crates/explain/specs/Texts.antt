@@ -6,8 +6,6 @@ use Rattle.classfile.specs.ClassFile.{ClassFile}
 use Rattle.instruction_text.specs.Texts.{place_text}
 use Rattle.loading.specs.Families.{Family, file_in}
 use Rattle.vm_state.specs.SharedState.{Region}
-use Rattle.semantics.specs.Quiet.{Environment}
-use Rattle.machine.specs.Linked.{program_of}
 use Rattle.use_graph.specs.declared.mark.Evidence.{Evidence}
 use Rattle.use_graph.specs.declared.mark.Mark.{Mark}
 use Rattle.use_graph.specs.declared.mark.Mark.TheVariants as marks
@@ -20,7 +18,7 @@ use Rattle.object_graph.specs.Images.{ImageTables, object_count}
 use Rattle.report.specs.Texts.{class_text, reason_text, line_text}
 use Rattle.explain.specs.Chains.{IsChain, Leads}
 use Rattle.explain.specs.Explanations.{Explains}
-use Rattle.explain.specs.Reruns.{IsRerun}
+use Rattle.explain.specs.Reruns.{IsRerunIn}
 use Rattle.explain.specs.declared.explaining.Explanation.{Explanation}
 use Rattle.explain.specs.declared.marks.Shown.{Shown}
 use Rattle.explain.specs.declared.marks.ShownMarks.{ShownMarks}
@@ -94,11 +92,10 @@ cost_line I c cost bytes = line I.program.family c (codes "cost " ++ (decimal co
     ++ (codes " kept " ++ (decimal (object_count (environment_of I.regions c))
     ++ (codes " bytes " ++ decimal bytes)))))))
 
--- The cost is that of a run within the budget, with some regions at hand; of the bytes nothing is said.
+-- The cost is that of a run within the budget with the image's other regions at hand; of the bytes nothing is said.
 pub record IsCostLine (I : ImageTables) (budget c : ℕ) (text : List ℕ) : Type 0 where
-  pub env : Environment
   pub again : Rerun
-  pub rerun : IsRerun (program_of I.program) env c budget again
+  pub rerun : IsRerunIn I c budget again
   pub bytes : ℕ
   pub is : text ≡ cost_line I c again.budget bytes
 

@@ -9,3 +9,4 @@ pub mod Nearest
 pub mod Found
 pub mod Marking
 pub mod Roots
+pub mod Others

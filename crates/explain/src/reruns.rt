@@ -1,12 +1,12 @@
 //! A class's initializer once more, for what it costs.
 
-ghost use Rattle.std.specs.Prelude.{◌≡◌, ◌≢◌, true, false, IfOk};
+ghost use Rattle.std.specs.Prelude.{◌≡◌, ◌≢◌, ℕ, None, true, false, IfOk, OnOk};
 ghost use Rattle.std.specs.Bool.{MatchBool};
-ghost use Rattle.semantics.specs.Quiet.{Environment, OverBudget, Refused};
+ghost use Rattle.semantics.specs.Quiet.{OverBudget, Refused};
 ghost use Rattle.machine.specs.Linked.{program_of};
 ghost use Rattle.evaluator.specs.Outcomes.{stop_of};
 ghost use Rattle.evaluator.specs.Regions.{environment_of};
-ghost use Rattle.explain.specs.Reruns.{CostsMore, IsLeast, IsRerun};
+ghost use Rattle.explain.specs.Reruns.{CostsMore, IsLeast, IsRerunIn, without};
 ghost use Rattle.explain.specs.steps.Over.{IsOver};
 
 use evaluator::outcome::{Ending, Halt, Refusal};
@@ -30,22 +30,50 @@ fn add_region(
     image: &Image,
     class: u32,
     regions: &mut Regions,
-) -> Result<(), AllocError> {
-    if let Some(region) = image.region(class) {
-        let fields = region.fields.copy(alloc)?;
-        let objects = region.objects.copy(alloc)?;
-        regions.put(class, Region { fields, objects })?;
+) -> Result<(), AllocError>
+    requires { environment_of regions.old class ≡ None }
+    ensures here { OnOk result (environment_of regions.new class ≡ environment_of image.now.regions class) }
+    ensures others { OnOk result ((d : ℕ) → d ≢ class → environment_of regions.new d ≡ environment_of regions.old d) }
+{
+    let Some(region) = image.region(class) else {
+        return Ok(());
+    };
+    let fields = region.fields.copy(alloc)?;
+    let objects = region.objects.copy(alloc)?;
+    regions.put(class, Region { fields, objects })?;
+    Ok(())
+}
+
+/// The same, unless it is the region of one class.
+fn add_other(
+    alloc: Global,
+    image: &Image,
+    class: u32,
+    other: u32,
+    regions: &mut Regions,
+) -> Result<(), AllocError>
+    requires { environment_of regions.old other ≡ None }
+    ensures here { OnOk result
+        (environment_of regions.new other ≡ without (environment_of image.now.regions) class other) }
+    ensures others { OnOk result ((d : ℕ) → d ≢ other → environment_of regions.new d ≡ environment_of regions.old d) }
+{
+    if other == class {
+        return Ok(());
     }
+    add_region(alloc, image, other, regions)?;
     Ok(())
 }
 
 /// Copies of the regions of an image, but for one class's.
-fn other_regions(alloc: Global, image: &Image, class: u32) -> Result<Regions, AllocError> {
+fn other_regions(alloc: Global, image: &Image, class: u32) -> Result<Regions, AllocError>
+    ensures { IfOk result (λ regions.
+        environment_of regions ≡ without (environment_of image.now.regions) class) }
+{
+    // What holds of every image: given classes alone have regions.
+    let _own = image.region(class);
     let mut regions = Regions::none(alloc);
     for other in 0..image.program().given_count() {
-        if other != class {
-            add_region(alloc, image, other, &mut regions)?;
-        }
+        add_other(alloc, image, class, other, &mut regions)?;
     }
     Ok(regions)
 }
@@ -117,7 +145,7 @@ fn least_budget(
 }
 
 /// Runs the initializer of a class within the least budget in which it does not cost too much, with copies of the
-/// regions of an image at hand. It takes as many runs as the greatest budget has bits.
+/// image's regions of the other classes at hand. It takes as many runs as the greatest budget has bits.
 ///
 /// # Errors
 /// Where memory runs out.
@@ -127,8 +155,7 @@ pub fn run_again(
     class: u32,
     greatest: u64,
 ) -> Result<Rerun, AllocError>
-    ensures { IfOk result
-        (λ again. (env : Environment) × IsRerun (program_of image.now.program) env class greatest again) }
+    ensures { IfOk result (IsRerunIn image.now class greatest) }
 {
     let program = image.program();
     let regions = other_regions(alloc, image, class)?;
