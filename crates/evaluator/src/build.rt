@@ -49,7 +49,7 @@ fn elements_in(class: ClassId, slots: &Slots) -> u64
     ensures { result ≡ elements_in class slots.now }
 {
     match class {
-        ClassId::Array(_) => slots.as_slice().len() as u64,
+        ClassId::Array(_) => slots.len() as u64,
         ClassId::Given(_) | ClassId::BuiltIn(_) => 0,
     }
 }
@@ -65,11 +65,11 @@ fn class_in(region: &Region, number: u64) -> Option<ClassId>
 }
 
 /// The slots of an object of a region, if it is held.
-fn slots_in(region: &Region, number: u64) -> Option<&[Value]>
+fn slots_in(region: &Region, number: u64) -> Option<&Slots>
     ensures { option_map (λ s. s.now) result ≡ slots_at (pool_by region.now.objects) number }
 {
     match region.objects.object(number) {
-        Some(object) => Some(object.slots.as_slice()),
+        Some(object) => Some(&object.slots),
         None => None,
     }
 }
@@ -214,7 +214,7 @@ impl<'a> Store for Build<'a> {
             return Err(Stop::ForeignObject);
         }
         match slots_in(&self.own, object.number) {
-            Some(slots) => Ok(slots.get(slot).copied()),
+            Some(slots) => Ok(slots.get(slot)),
             None => Ok(None),
         }
     }
@@ -267,7 +267,7 @@ impl<'a> Store for Build<'a> {
             return Err(Stop::ForeignObject);
         }
         match slots_in(&self.own, object.number) {
-            Some(slots) => Ok(Some(Slots::of(alloc, slots)?)),
+            Some(slots) => Ok(Some(slots.copy(alloc)?)),
             None => Ok(None),
         }
     }
@@ -283,9 +283,10 @@ impl<'a> Store for Build<'a> {
         if !is_of_maker(self.class, object) {
             return Err(Stop::ForeignObject);
         }
-        self.own.objects.set_slot(object.number, 0, name);
-        self.own.objects.set_slot(object.number, 1, ordinal);
-        Ok(())
+        match self.own.objects.set_first(object.number, name, ordinal) {
+            Ok(()) => Ok(()),
+            Err(AllocError) => Err(Stop::Memory),
+        }
     }
 
     #[tactic(auto, unfolding(machine::specs::Accesses::unless_refused))]
@@ -293,8 +294,10 @@ impl<'a> Store for Build<'a> {
         if !is_of_maker(self.class, object) {
             return Err(Stop::ForeignObject);
         }
-        self.own.objects.set_slot(object.number, slot, value);
-        Ok(())
+        match self.own.objects.set_slot(object.number, slot, value) {
+            Ok(()) => Ok(()),
+            Err(AllocError) => Err(Stop::Memory),
+        }
     }
 
     #[tactic(auto, unfolding(machine::specs::Accesses::unless_refused))]
@@ -313,7 +316,7 @@ impl<'a> Store for Build<'a> {
     ) -> Result<Name, Stop> {
         match counted(self.made, size as u64, self.most) {
             Some(made) => {
-                let slots = Slots::filled(alloc, zero, size)?;
+                let slots = Slots::filled(alloc, array, zero, size)?;
                 self.add(ClassId::Array(array), slots, made)
             }
             None => Err(Stop::OverBudget),

@@ -30,6 +30,7 @@ use program::Program;
 use std::alloc::{AllocError, Global};
 use vm_state::heap::Row;
 use vm_state::object::{Monitor, Object, Slots};
+use vm_state::value::Value;
 
 /// An element type that is neither given nor built in, by the number of its name among the program's strings.
 fn unknown_element(
@@ -76,6 +77,17 @@ fn held_type(
     }
 }
 
+/// The slots of an object of a class, which hold these values.
+fn slots_of(alloc: Global, class: ClassId, values: Vec<Value>) -> Result<Slots, AllocError>
+    ensures { IfOk result (λ slots. slots ≡ values.items) }
+{
+    match class {
+        ClassId::Array(array) => Slots::of_array(alloc, array, values.as_slice()),
+        ClassId::Given(_) => Ok(Slots::of_vec(values)),
+        ClassId::BuiltIn(_) => Ok(Slots::of_vec(values)),
+    }
+}
+
 /// An object with its number. Its monitor is free.
 fn held_object(
     alloc: Global,
@@ -90,9 +102,10 @@ fn held_object(
 {
     let class = held_type(alloc, program, &kept.object.class)?;
     let values = held_values(alloc, program, kept.object.slots.as_slice())?;
+    let slots = slots_of(alloc, class, values)?;
     let object = Object {
         class,
-        slots: Slots::of_vec(values),
+        slots,
         monitor: Monitor::Free,
     };
     Ok((u64::from(kept.number), object))

@@ -10,7 +10,7 @@ ghost use Rattle.image_writer.specs.steps.Fits.{ClassFits, FitsType};
 
 use object_graph::Image;
 use vm_state::classes::Fields;
-use vm_state::object::Object;
+use vm_state::object::{Object, Slots};
 use vm_state::value::Value;
 
 /// A value's number fits.
@@ -19,13 +19,16 @@ fn value_fits(_value: Value)
     ensures { FitsType _value }
 {}
 
-/// So do those of these values.
+/// So do those in these slots.
 #[inline(always)]
-fn values_fit(values: &[Value])
-    ensures { All FitsType values.now }
+fn values_fit(slots: &Slots)
+    ensures { All FitsType slots.now }
 {
-    for value in values {
-        value_fits(*value);
+    for slot in 0..slots.len() {
+        let Some(value) = slots.get(slot) else {
+            return;
+        };
+        value_fits(value);
     }
 }
 
@@ -43,7 +46,7 @@ fn objects_fit(objects: &[(u64, Object)])
     ensures { All (λ (o : ℕ × Held). All FitsType o.1.slots) objects.now }
 {
     for held in objects {
-        values_fit(held.1.slots.as_slice());
+        values_fit(&held.1.slots);
     }
 }
 

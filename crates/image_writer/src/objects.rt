@@ -23,8 +23,7 @@ use object_graph::Image;
 use program::Program;
 use program::runtime_constant::FieldKind;
 use std::alloc::{AllocError, Global};
-use vm_state::object::Object;
-use vm_state::value::Value;
+use vm_state::object::{Object, Slots};
 
 /// An instance: its form, its class's name, and its slots.
 fn push_instance(
@@ -32,7 +31,7 @@ fn push_instance(
     out: &mut Vec<u8>,
     program: &Program,
     name: &[u8],
-    slots: &[Value],
+    slots: &Slots,
 ) -> Result<(), AllocError>
     requires files { HasFiles program.now }
     requires name { length name.now < 2 ^ 16 }
@@ -52,7 +51,7 @@ fn push_array(
     program: &Program,
     name: &[u8],
     kind: FieldKind,
-    slots: &[Value],
+    slots: &Slots,
 ) -> Result<(), AllocError>
     requires files { HasFiles program.now }
     requires name { length name.now < 2 ^ 16 }
@@ -114,7 +113,7 @@ fn push_object(
         ≡ out.old.items ++ object_text program.now.family (told_object program.now.strings object.now)) }
 {
     let name = name_of_class(alloc, program, object.class)?;
-    let slots = object.slots.as_slice();
+    let slots = &object.slots;
     match object.class {
         ClassId::Array(array) => {
             push_array(alloc, out, program, &name, kind_of_elements(array), slots)

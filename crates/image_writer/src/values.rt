@@ -15,6 +15,7 @@ use program::Program;
 use program::runtime_constant::FieldKind;
 use std::alloc::{AllocError, Global};
 use vm_state::classes::Fields;
+use vm_state::object::Slots;
 use vm_state::value::Value;
 
 /// A tag and an int.
@@ -97,15 +98,18 @@ pub(crate) fn push_values(
     alloc: Global,
     out: &mut Vec<u8>,
     program: &Program,
-    values: &[Value],
+    slots: &Slots,
 ) -> Result<(), AllocError>
     requires files { HasFiles program.now }
-    requires sized { All IsSizedValue values.now }
+    requires sized { All IsSizedValue slots.now }
     ensures { OnOk result (out.new.items
-        ≡ out.old.items ++ flat_map value_text (map (told_value program.now.strings) values.now)) }
+        ≡ out.old.items ++ flat_map value_text (map (told_value program.now.strings) slots.now)) }
 {
-    for value in values {
-        push_value(alloc, out, program, *value)?;
+    for slot in 0..slots.len() {
+        let Some(value) = slots.get(slot) else {
+            return Ok(());
+        };
+        push_value(alloc, out, program, value)?;
     }
     Ok(())
 }
@@ -195,15 +199,18 @@ pub(crate) fn push_elements(
     out: &mut Vec<u8>,
     program: &Program,
     kind: FieldKind,
-    values: &[Value],
+    slots: &Slots,
 ) -> Result<(), AllocError>
     requires files { HasFiles program.now }
-    requires sized { All IsSizedValue values.now }
+    requires sized { All IsSizedValue slots.now }
     ensures { OnOk result (out.new.items
-        ≡ out.old.items ++ flat_map (element_text kind) (map (told_value program.now.strings) values.now)) }
+        ≡ out.old.items ++ flat_map (element_text kind) (map (told_value program.now.strings) slots.now)) }
 {
-    for value in values {
-        push_element(alloc, out, program, kind, *value)?;
+    for slot in 0..slots.len() {
+        let Some(value) = slots.get(slot) else {
+            return Ok(());
+        };
+        push_element(alloc, out, program, kind, value)?;
     }
     Ok(())
 }

@@ -21,7 +21,7 @@ use vm_state::value::{Name, Value};
 /// How many slots an object has that is held, as an int: no array is longer than an int says, and of more it would be
 /// the low 32 bits.
 #[inline(always)]
-pub fn length_of(slots: Option<&[Value]>) -> Option<i32>
+pub fn length_of(slots: Option<&Slots>) -> Option<i32>
     ensures { result ≡ option_map (λ s. int_length (length s.now)) slots.entry }
 {
     match slots {
@@ -31,13 +31,14 @@ pub fn length_of(slots: Option<&[Value]>) -> Option<i32>
 }
 
 /// One of the first two slots of an object, the name and the ordinal of an `Enum` object, once its name is set.
-pub fn named_slot(slots: Option<&[Value]>, slot: usize) -> Option<Value>
+pub fn named_slot(slots: Option<&Slots>, slot: usize) -> Option<Value>
     ensures { result ≡ slot_in (option_and_then (part_of Named) (option_map (λ s. s.now) slots.entry)) slot }
 {
-    match slots? {
-        [Value::Null, ..] => None,
-        [name, _, ..] if slot == 0 => Some(*name),
-        [_, ordinal, ..] if slot == 1 => Some(*ordinal),
+    let slots = slots?;
+    match (slots.get(0)?, slots.get(1)?) {
+        (Value::Null, _) => None,
+        (name, _) if slot == 0 => Some(name),
+        (_, ordinal) if slot == 1 => Some(ordinal),
         _ => None,
     }
 }
@@ -94,7 +95,7 @@ impl Store for Shared {
     #[inline(always)]
     fn slot(&self, _by: Actor, object: Name, slot: usize) -> Result<Option<Value>, Stop> {
         match self.slots(object) {
-            Some(slots) => Ok(slots.get(slot).copied()),
+            Some(slots) => Ok(slots.get(slot)),
             None => Ok(None),
         }
     }
@@ -116,11 +117,12 @@ impl Store for Shared {
     #[tactic(auto, unfolding(crate::specs::Accesses::unless_refused))]
     fn copied_slots(&self, alloc: Global, _by: Actor, object: Name) -> Result<Option<Slots>, Stop> {
         match self.slots(object) {
-            Some(slots) => Ok(Some(Slots::of(alloc, slots)?)),
+            Some(slots) => Ok(Some(slots.copy(alloc)?)),
             None => Ok(None),
         }
     }
 
+    #[tactic(auto, unfolding(crate::specs::Accesses::unless_refused))]
     fn set_named(
         &mut self,
         _by: Actor,
@@ -128,15 +130,19 @@ impl Store for Shared {
         name: Value,
         ordinal: Value,
     ) -> Result<(), Stop> {
-        self.set_slot(object, 0, name);
-        self.set_slot(object, 1, ordinal);
-        Ok(())
+        match self.set_first(object, name, ordinal) {
+            Ok(()) => Ok(()),
+            Err(AllocError) => Err(Stop::Memory),
+        }
     }
 
+    #[tactic(auto, unfolding(crate::specs::Accesses::unless_refused))]
     #[inline(always)]
     fn change(&mut self, _by: Actor, object: Name, slot: usize, value: Value) -> Result<(), Stop> {
-        self.set_slot(object, slot, value);
-        Ok(())
+        match self.set_slot(object, slot, value) {
+            Ok(()) => Ok(()),
+            Err(AllocError) => Err(Stop::Memory),
+        }
     }
 
     #[tactic(auto, unfolding(crate::specs::Accesses::unless_refused))]
@@ -160,7 +166,7 @@ impl Store for Shared {
         zero: Value,
         size: usize,
     ) -> Result<Name, Stop> {
-        let slots = Slots::filled(alloc, zero, size)?;
+        let slots = Slots::filled(alloc, array, zero, size)?;
         match Shared::make(self, alloc, by.maker, ClassId::Array(array), slots) {
             Ok(name) => Ok(name),
             Err(AllocError) => Err(Stop::Memory),

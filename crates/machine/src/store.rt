@@ -124,7 +124,7 @@ pub trait Store {
     /// stopped.
     ///
     /// # Errors
-    /// The store's reason why it may not be changed.
+    /// The store's reason why it may not be changed; `Memory` where memory is refused.
     fn set_named(
         &mut self,
         by: Actor,
@@ -140,7 +140,7 @@ pub trait Store {
     /// is stopped.
     ///
     /// # Errors
-    /// The store's reason why it may not be changed.
+    /// The store's reason why it may not be changed; `Memory` where memory is refused.
     fn change(&mut self, by: Actor, object: Name, slot: usize, value: Value) -> Result<(), Stop>
         ensures leads { (p : List Print) → LeadsOn stopped (run by (state self.old p)) (run by (state self.new p))
             (Change object slot value) result }

@@ -15,6 +15,7 @@ use place_set::{Place, PlaceSet};
 use program::Program;
 use std::alloc::{AllocError, Global};
 use vm_state::classes::Fields;
+use vm_state::object::Slots;
 use vm_state::value::Value;
 
 /// Adds the place of the object that a value refers to.
@@ -32,7 +33,22 @@ fn visit_value(
     }
 }
 
-/// Adds the places of the objects that slots hold.
+/// Adds the places of the objects that slots hold. Numbers are passed over at once.
+fn visit_slots(
+    alloc: Global,
+    regions: &Regions,
+    slots: &Slots,
+    found: &mut PlaceSet,
+) -> Result<(), AllocError>
+    ensures { OnOk result (Adds found.old (HoldPlace regions.now slots.now) found.new) }
+{
+    match slots.values() {
+        Some(values) => visit_values(alloc, regions, values, found),
+        None => Ok(()),
+    }
+}
+
+/// Adds the places of the objects that values refer to.
 fn visit_values(
     alloc: Global,
     regions: &Regions,
@@ -108,7 +124,7 @@ fn visit_object(
     ensures ascending { Ascends (row_in regions.now place.row) }
 {
     match object_at(regions, place) {
-        Some(held) => visit_values(alloc, regions, held.1.slots.as_slice(), found),
+        Some(held) => visit_slots(alloc, regions, &held.1.slots, found),
         None => Ok(()),
     }
 }

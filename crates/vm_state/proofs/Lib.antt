@@ -9,3 +9,4 @@ pub mod SlotLemmas
 pub mod HeldCountLemmas
 pub mod VariableLemmas
 pub mod OutputLemmas
+pub mod ElementLemmas

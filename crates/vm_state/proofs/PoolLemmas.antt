@@ -1,9 +1,9 @@
 -- What a change of the objects' table is of the makers' objects.
 use Rattle.std.proofs.Common.{◌≡◌, ℕ, ◌<◌, ◌+◌, Bool, true, false, List, [], ◌∷◌, ◌++◌, Option, Some, None, length}
 use Rattle.std.proofs.Common.{get_or, slice_set, refl, sym, ap, ◌∙◌, ◌==◌, eqb-true, eq-eqb, if◌then◌else◌, inl}
-use Rattle.std.proofs.Common.{inr, arith}
+use Rattle.std.proofs.Common.{inr, arith, ◌≤◌}
 use Rattle.std.proofs.Math.Path.{fun_ext}
-use Rattle.std.proofs.lemmas.List.{get_or_default}
+use Rattle.std.proofs.lemmas.List.{get_or_default, get_or_past}
 use Rattle.vm_state.specs.declared.value.Value.{Value}
 use Rattle.vm_state.specs.declared.object.Object.{Object}
 use Rattle.vm_state.specs.declared.object.Monitor.TheVariants.{Free}
@@ -73,3 +73,29 @@ pool_in-made rows m old new class slots h was is =
 pub count-is : (rows : List ObjectRow) (m : ℕ) (old : ObjectRow) → m < length rows → old ≡ get_or rows m old →
     old.count ≡ (pool_in rows m).count
 count-is rows m old h was = ap (λ (r : ObjectRow). r.count) (sym (get_or_default rows m empty_row old h ∙ sym was))
+
+-- ---- a row changed
+
+pub pool_in-changed : (rows : List ObjectRow) (m : ℕ) (old new : ObjectRow) (change : Pool → Pool) → m < length rows →
+    old ≡ get_or rows m old → pool_by new ≡ change (pool_by old) →
+    pool_in (slice_set rows m new) ≡ with_pool (pool_in rows) m (change (pool_in rows m))
+pool_in-changed rows m old new change h was is =
+    let there : row_at rows m ≡ old = get_or_default rows m empty_row old h ∙ sym was in
+    let next : pool_by new ≡ change (pool_in rows m) =
+    is ∙ ap (λ (r : ObjectRow). change (pool_by r)) (sym there) in
+    pool_in-set rows m new h ∙ ap (with_pool (pool_in rows) m) next
+
+same_pools : (pools : ℕ → Pool) (m : ℕ) (p : Pool) → pools m ≡ p → pools ≡ with_pool pools m p
+same_pools pools m p is = fun_ext (λ k. elim (tested (m == k)) [
+  | inl e ↦ let same : m ≡ k = eqb-true m k e in rw e (ap pools (sym same) ∙ is)
+  | inr e ↦ rw e refl
+])
+
+-- no change where a maker without a row made nothing that changes
+pub pool_in-past : (rows : List ObjectRow) (m : ℕ) (change : Pool → Pool) → length rows ≤ m →
+    change (pool_by empty_row) ≡ pool_by empty_row →
+    pool_in rows ≡ with_pool (pool_in rows) m (change (pool_in rows m))
+pool_in-past rows m change h same =
+    let none : row_at rows m ≡ empty_row = get_or_past rows m empty_row h in
+    same_pools (pool_in rows) m (change (pool_in rows m)) (ap pool_by none ∙ sym same
+    ∙ ap (λ (r : ObjectRow). change (pool_by r)) (sym none))

@@ -7,7 +7,7 @@ use Rattle.std.proofs.Math.Path.{fun_ext}
 use Rattle.std.proofs.lemmas.Option.{get_or_from_slice_get}
 use Rattle.vm_state.specs.declared.value.Value.{Value}
 use Rattle.vm_state.specs.declared.object.Object.{Object}
-use Rattle.vm_state.specs.Objects.{or_later, object_in, AscendsFrom}
+use Rattle.vm_state.specs.Objects.{empty_row, or_later, object_in, AscendsFrom}
 use Rattle.vm_state.specs.steps.Objects.{object_at_place}
 use Rattle.vm_state.specs.SharedState.{Pool, object_with_slot, with_object, with_slot}
 use Rattle.vm_state.specs.Pools.{pool_by}
@@ -128,3 +128,52 @@ pub slot_set_at : (count : ℕ) (os : List (ℕ × Object)) (place k slot : ℕ)
 slot_set_at count os place k slot value held slots h some was is =
     changed_at count os place k (object_with_slot slot value) held (record held.1 { slots = slots }) h some was
     (ap (λ (vs : List Value). record held.1 { slots = vs }) is)
+
+-- ---- the first two slots changed
+
+abbrev first_changed : Value → Value → Object → Object
+first_changed a b o = object_with_slot 1 b (object_with_slot 0 a o)
+
+changed_twice : (a b : Value) (held : Option Object) →
+    option_map (first_changed a b) held ≡ option_map (object_with_slot 1 b) (option_map (object_with_slot 0 a) held)
+changed_twice a b None = refl
+changed_twice a b (Some o) = refl
+
+abbrev pool_with_first : Pool → ℕ → Value → Value → Pool
+pool_with_first p k a b = with_slot (with_slot p k 0 a) k 1 b
+
+first_at : (p : Pool) (n k : ℕ) (a b : Value) →
+    (if n == k then option_map (first_changed a b) (p.at k) else p.at n) ≡ (pool_with_first p k a b).at n
+first_at p n k a b = elim (tested (n == k)) [
+  | inl e ↦
+      let same : (k == k) ≡ true = grind arith in
+      rw (e, same) (changed_twice a b (p.at k))
+  | inr e ↦ rw e refl
+]
+
+first_pool : (p : Pool) (k : ℕ) (a b : Value) →
+    with_object p k (option_map (first_changed a b) (p.at k)) ≡ pool_with_first p k a b
+first_pool p k a b = ap (pool p.count) (fun_ext (λ n. first_at p n k a b))
+
+-- what a row becomes where what is held at a place gets slots with these first two
+abbrev pub IsFirstSet : ℕ → List (ℕ × Object) → List (ℕ × Object) → ℕ → Value → Value → Type 0
+IsFirstSet count os new k first second = AscendsFrom 0 new count
+    × (pool_by (record { count = count; objects = new })
+    ≡ with_slot (with_slot (pool_by (record { count = count; objects = os })) k 0 first) k 1 second)
+
+pub first_set_at : (count : ℕ) (os : List (ℕ × Object)) (place k : ℕ) (first second : Value) (held : ℕ × Object)
+    (slots : List Value) → AscendsFrom 0 os count → IsSome (object_at_place os place k) → held ≡ get_or os place held →
+    slots ≡ slice_set (slice_set held.1.slots 0 first) 1 second →
+    IsFirstSet count os (slice_set os place (held.0, record held.1 { slots = slots })) k first second
+first_set_at count os place k first second held slots h some was is =
+    let changed = changed_at count os place k (first_changed first second) held (record held.1 { slots = slots }) h some
+    was (ap (λ (vs : List Value). record held.1 { slots = vs }) is) in
+    (changed.0, changed.1 ∙ first_pool (pool_by (record { count = count; objects = os })) k first second)
+
+pub nothing_first : (n : ℕ) (a b : Value) → pool_with_first (pool_by empty_row) n a b ≡ pool_by empty_row
+nothing_first n a b = ap (pool 0) (fun_ext (λ k. elim (tested (k == n)) [
+  | inl e ↦
+      let same : (n == n) ≡ true = grind arith in
+      rw (e, same) refl
+  | inr e ↦ rw e refl
+]))

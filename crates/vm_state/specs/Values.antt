@@ -1,5 +1,5 @@
 -- Values (JVMS 2.2 to 2.4), their names and the places that they take.
-use Rattle.std.specs.Prelude.{ℕ, ℤ, Option, Some, None}
+use Rattle.std.specs.Prelude.{◌≡◌, ℕ, ℤ, Bool, true, false, Option, Some, None}
 use Rattle.vm_state.specs.declared.value.Value.{Value}
 use Rattle.vm_state.specs.declared.value.Value.TheVariants.{Int, Long, Null, Text, OfClass, OfThread, Out}
 use Rattle.vm_state.specs.declared.value.Name.{Name}
@@ -55,3 +55,15 @@ long_of (Some (Text s)) = None
 long_of (Some (OfClass c n)) = None
 long_of (Some (OfThread t n)) = None
 long_of (Some Out) = None
+
+abbrev pub is_number : Value → Bool
+is_number (Int n) = true
+is_number (Long n) = true
+is_number Null = false
+is_number (Text s) = false
+is_number (OfClass c n) = false
+is_number (OfThread t n) = false
+is_number Out = false
+
+abbrev pub IsNumber : Value → Type 0
+IsNumber v = is_number v ≡ true

@@ -1,3 +1,4 @@
 pub mod Objects
+pub mod Elements
 pub mod Statics
 pub mod Output

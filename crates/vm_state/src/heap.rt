@@ -161,14 +161,41 @@ impl Row {
     }
 
     /// Puts a value into a slot of the object of a number. Where it is not held, or has no such slot, nothing changes.
+    ///
+    /// # Errors
+    /// `AllocError` where memory is refused; nothing has changed then.
     #[inline(always)]
-    pub fn set_slot(&mut self, number: u64, slot: usize, value: Value)
-        ensures { pool_by self.new ≡ with_slot (pool_by self.old) number slot value }
+    pub fn set_slot(&mut self, number: u64, slot: usize, value: Value) -> Result<(), AllocError>
+        ensures ok { OnOk result (pool_by self.new ≡ with_slot (pool_by self.old) number slot value) }
+        ensures err { OnErr result (self.new ≡ self.old) }
     {
         if let Some(place) = self.place(number) {
             let held = &mut self.objects[place];
-            held.1.slots.set(slot, value);
+            held.1.slots.set(slot, value)?;
         }
+        Ok(())
+    }
+
+    /// Puts values into the first two slots of the object of a number. Where it is not held, or has no such slot, nothing
+    /// changes.
+    ///
+    /// # Errors
+    /// `AllocError` where memory is refused; nothing has changed then.
+    pub fn set_first(
+        &mut self,
+        number: u64,
+        first: Value,
+        second: Value,
+    ) -> Result<(), AllocError>
+        ensures ok { OnOk result (pool_by self.new
+            ≡ with_slot (with_slot (pool_by self.old) number 0 first) number 1 second) }
+        ensures err { OnErr result (self.new ≡ self.old) }
+    {
+        if let Some(place) = self.place(number) {
+            let held = &mut self.objects[place];
+            held.1.slots.set_first(first, second)?;
+        }
+        Ok(())
     }
 
     /// Sets the monitor of the object of a number. Where it is not held nothing changes.
@@ -285,14 +312,48 @@ impl Rows {
 
     /// Puts a value into a slot of the object of a maker and a number. Where it is not held, or has no such slot,
     /// nothing changes.
+    ///
+    /// # Errors
+    /// `AllocError` where memory is refused; nothing has changed then.
     #[inline(always)]
-    pub fn set_slot(&mut self, maker: u32, number: u64, slot: usize, value: Value)
-        ensures { pool_in self.new
-            ≡ with_pool (pool_in self.old) maker (with_slot (pool_in self.old maker) number slot value) }
+    pub fn set_slot(
+        &mut self,
+        maker: u32,
+        number: u64,
+        slot: usize,
+        value: Value,
+    ) -> Result<(), AllocError>
+        ensures ok { OnOk result (pool_in self.new
+            ≡ with_pool (pool_in self.old) maker (with_slot (pool_in self.old maker) number slot value)) }
+        ensures err { OnErr result (self.new ≡ self.old) }
     {
-        if let Some(row) = self.rows.get_mut(maker as usize) {
-            row.set_slot(number, slot, value);
+        match self.rows.get_mut(maker as usize) {
+            Some(row) => row.set_slot(number, slot, value),
+            None => Ok(()),
         }
+    }
+
+    /// Puts values into the first two slots of the object of a maker and a number. Where it is not held, or has no such
+    /// slot, nothing changes.
+    ///
+    /// # Errors
+    /// `AllocError` where memory is refused; nothing has changed then.
+    pub fn set_first(
+        &mut self,
+        maker: u32,
+        number: u64,
+        first: Value,
+        second: Value,
+    ) -> Result<(), AllocError>
+        ensures ok { OnOk result (pool_in self.new ≡ with_pool (pool_in self.old) maker
+            (with_slot (with_slot (pool_in self.old maker) number 0 first) number 1 second)) }
+        ensures err { OnErr result (self.new ≡ self.old) }
+    {
+        if maker as usize >= self.rows.len() {
+            return Ok(());
+        }
+        let row = &mut self.rows[maker as usize];
+        row.set_first(number, first, second)
     }
 
     /// Sets the monitor of the object of a maker and a number. Where it is not held nothing changes.

@@ -7,6 +7,7 @@ pub mod ends;
 pub mod frame;
 pub mod heap;
 pub mod initialization;
+mod elements;
 mod items;
 pub mod locals;
 pub mod object;

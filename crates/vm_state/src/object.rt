@@ -1,25 +1,29 @@
 //! Objects: instances and arrays (JVMS 2.7).
 
-ghost use Rattle.std.specs.Prelude.{◌≡◌, [], IfOk, replicate, slice_set};
+ghost use Rattle.std.specs.Prelude.{◌≡◌, [], IfOk, IfSome, IfNone, OnOk, OnErr, length, replicate, slice_get, slice_set};
+ghost use Rattle.std.specs.List.{All};
+ghost use Rattle.vm_state.specs.Values.{IsNumber};
 
+use crate::elements::Elements;
 use crate::value::Value;
-use built_in::class_id::ClassId;
+use built_in::class_id::{ArrayType, ClassId};
 use std::alloc::{AllocError, Global};
 use std::marker::Model;
 
 /// The instance fields of an instance, or the elements of an array, in order.
 #[derive(Drop)]
 pub struct Slots {
-    values: Vec<Value>,
+    elements: Elements,
 }
 
 impl Model for Slots {
     ghost use Rattle.std.specs.Prelude.{List};
     ghost use Rattle.vm_state.specs.declared.value.Value.{Value as Held};
+    ghost use Rattle.vm_state.specs.steps.Elements.{values_of};
 
     ghost Value = { List Held };
 
-    ghost view = { λ s. s.values.items };
+    ghost view = { λ s. values_of s.elements };
 }
 
 impl Slots {
@@ -28,37 +32,45 @@ impl Slots {
         ensures { result ≡ [] }
     {
         Slots {
-            values: Vec::new(alloc),
+            elements: Elements::Values(Vec::new(alloc)),
         }
     }
 
-    /// These values.
+    /// This value so many times, for an array: where its components are numbers they take as many bytes as their type
+    /// wants.
     ///
     /// # Errors
     /// `AllocError` where memory is refused.
-    pub fn of(alloc: Global, values: &[Value]) -> Result<Slots, AllocError>
-        ensures { IfOk result (λ s. s ≡ values.now) }
-    {
-        let values = Vec::from_slice(alloc, values)?;
-        Ok(Slots { values })
-    }
-
-    /// This value so many times.
-    ///
-    /// # Errors
-    /// `AllocError` where memory is refused.
-    pub fn filled(alloc: Global, value: Value, count: usize) -> Result<Slots, AllocError>
+    pub fn filled(
+        alloc: Global,
+        array: ArrayType,
+        value: Value,
+        count: usize,
+    ) -> Result<Slots, AllocError>
         ensures { IfOk result (λ s. s ≡ replicate count value) }
     {
-        let values = vec![in alloc; value; count]?;
-        Ok(Slots { values })
+        let elements = Elements::filled(alloc, array, value, count)?;
+        Ok(Slots { elements })
+    }
+
+    /// These values, for an array: where its components are numbers they take as many bytes as their type wants.
+    ///
+    /// # Errors
+    /// `AllocError` where memory is refused.
+    pub fn of_array(alloc: Global, array: ArrayType, values: &[Value]) -> Result<Slots, AllocError>
+        ensures { IfOk result (λ s. s ≡ values.now) }
+    {
+        let elements = Elements::narrow(alloc, array, values)?;
+        Ok(Slots { elements })
     }
 
     /// These values, which are not copied.
     pub fn of_vec(values: Vec<Value>) -> Slots
         ensures { result ≡ values.items }
     {
-        Slots { values }
+        Slots {
+            elements: Elements::Values(values),
+        }
     }
 
     /// The same values once more.
@@ -68,25 +80,56 @@ impl Slots {
     pub fn copy(&self, alloc: Global) -> Result<Slots, AllocError>
         ensures { IfOk result (λ s. s ≡ self.now) }
     {
-        Slots::of(alloc, self.values.as_slice())
+        let elements = self.elements.copy(alloc)?;
+        Ok(Slots { elements })
     }
 
-    /// Their values.
+    /// How many there are.
     #[inline(always)]
-    pub fn as_slice(&self) -> &[Value]
-        ensures { result.now ≡ self.now }
+    pub fn len(&self) -> usize
+        ensures { result ≡ length self.now }
     {
-        self.values.as_slice()
+        self.elements.len()
     }
 
-    /// Puts a value into a slot. Where there is no such slot nothing changes.
+    /// The value in a slot, if there is one.
     #[inline(always)]
-    pub fn set(&mut self, slot: usize, value: Value)
-        ensures { self.new ≡ slice_set self.old slot value }
+    pub fn get(&self, slot: usize) -> Option<Value>
+        ensures { result ≡ slice_get self.now slot }
     {
-        if let Some(held) = self.values.get_mut(slot) {
-            *held = value;
-        }
+        self.elements.get(slot)
+    }
+
+    /// Their values, where they are held as such; else all are numbers.
+    pub fn values(&self) -> Option<&[Value]>
+        ensures values { IfSome result (λ s. s.now ≡ self.now) }
+        ensures numbers { IfNone result (All IsNumber self.now) }
+    {
+        self.elements.values()
+    }
+
+    /// Puts a value into a slot. Where there is no such slot nothing changes. It takes memory only where a value comes
+    /// among numbers that is none of their type.
+    ///
+    /// # Errors
+    /// `AllocError` where memory is refused; nothing has changed then.
+    #[inline(always)]
+    pub fn set(&mut self, slot: usize, value: Value) -> Result<(), AllocError>
+        ensures ok { OnOk result (self.new ≡ slice_set self.old slot value) }
+        ensures err { OnErr result (self.new ≡ self.old) }
+    {
+        self.elements.set(slot, value)
+    }
+
+    /// Puts values into the first two slots. Where there is no such slot nothing changes.
+    ///
+    /// # Errors
+    /// `AllocError` where memory is refused; nothing has changed then.
+    pub fn set_first(&mut self, first: Value, second: Value) -> Result<(), AllocError>
+        ensures ok { OnOk result (self.new ≡ slice_set (slice_set self.old 0 first) 1 second) }
+        ensures err { OnErr result (self.new ≡ self.old) }
+    {
+        self.elements.set_first(first, second)
     }
 }
 

@@ -1,6 +1,6 @@
 //! What all threads share.
 
-ghost use Rattle.std.specs.Prelude.{◌≡◌, List, IfOk, IsOk, OnOk, OnErr, option_copied, option_map, ◌<◌, ◌+◌, length};
+ghost use Rattle.std.specs.Prelude.{◌≡◌, List, IfOk, IsOk, OnOk, OnErr, option_copied, ◌<◌, ◌+◌, length};
 ghost use Rattle.vm_state.specs.Output.{Print};
 ghost use Rattle.vm_state.specs.SharedState.{object_of, class_at, pool_of, set_pool, slots_at, with_slot};
 ghost use Rattle.vm_state.specs.SharedState.{monitor_of, with_monitor};
@@ -192,27 +192,49 @@ impl Shared {
 
     /// The slots of the object of a name, if it is held.
     #[inline(always)]
-    pub fn slots(&self, name: Name) -> Option<&[Value]>
-        ensures { (p : List Print) → option_map (λ s. s.now) result
+    pub fn slots(&self, name: Name) -> Option<&Slots>
+        ensures { (p : List Print) → option_copied result
             ≡ slots_at (pool_of (shared_of self.now p) name.maker) name.number }
     {
         match self.object(name) {
-            Some(object) => Some(object.slots.as_slice()),
+            Some(object) => Some(&object.slots),
             None => None,
         }
     }
 
-    /// Puts a value into a slot of the object of a name, without memory. Where it is not held, or has no such slot,
-    /// nothing changes.
+    /// Puts a value into a slot of the object of a name. Where it is not held, or has no such slot, nothing changes. It
+    /// takes memory only where a value comes among numbers that is none of their type.
+    ///
+    /// # Errors
+    /// `AllocError` where memory is refused; nothing has changed then.
     #[tactic(auto, unfolding(crate::specs::Shares::shared_of))]
     #[inline(always)]
-    pub fn set_slot(&mut self, name: Name, slot: usize, value: Value)
-        ensures { (p : List Print) → shared_of self.new p ≡ set_pool (shared_of self.old p) name.maker
-            (with_slot (pool_of (shared_of self.old p) name.maker) name.number slot value) }
+    pub fn set_slot(&mut self, name: Name, slot: usize, value: Value) -> Result<(), AllocError>
+        ensures ok { OnOk result ((p : List Print) → shared_of self.new p ≡ set_pool (shared_of self.old p) name.maker
+            (with_slot (pool_of (shared_of self.old p) name.maker) name.number slot value)) }
+        ensures err { OnErr result (self.new ≡ self.old) }
     {
         match name.maker {
             Maker::Class(class) => self.heap.classes.set_slot(class, name.number, slot, value),
             Maker::Thread(thread) => self.heap.threads.set_slot(thread, name.number, slot, value),
+        }
+    }
+
+    /// Puts values into the first two slots of the object of a name. Where it is not held, or has no such slot, nothing
+    /// changes.
+    ///
+    /// # Errors
+    /// `AllocError` where memory is refused; nothing has changed then.
+    #[tactic(auto, unfolding(crate::specs::Shares::shared_of))]
+    pub fn set_first(&mut self, name: Name, first: Value, second: Value) -> Result<(), AllocError>
+        ensures ok { OnOk result ((p : List Print) → shared_of self.new p ≡ set_pool (shared_of self.old p) name.maker
+            (with_slot (with_slot (pool_of (shared_of self.old p) name.maker) name.number 0 first) name.number 1
+            second)) }
+        ensures err { OnErr result (self.new ≡ self.old) }
+    {
+        match name.maker {
+            Maker::Class(class) => self.heap.classes.set_first(class, name.number, first, second),
+            Maker::Thread(thread) => self.heap.threads.set_first(thread, name.number, first, second),
         }
     }
 

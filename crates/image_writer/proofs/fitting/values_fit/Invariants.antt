@@ -3,5 +3,5 @@ use Rattle.std.specs.List.{All}
 use Rattle.image_writer.specs.steps.Fits.{FitsType}
 use Rattle.image_writer.proofs.fitting.values_fit.Given as goal
 
-abbrev pub invariant-loop-value : goal.invariant-loop-value
-invariant-loop-value l = All FitsType (take l.value-index l.values)
+abbrev pub invariant-loop-slot : goal.invariant-loop-slot
+invariant-loop-slot l = All FitsType (take l.slot l.slots)

@@ -4,7 +4,7 @@ use Rattle.image_format.specs.Texts.{element_text}
 use Rattle.image_format.specs.Told.{told_value}
 use Rattle.image_writer.proofs.values.push_elements.Given as goal
 
-abbrev pub invariant-loop-value : goal.invariant-loop-value
-invariant-loop-value l =
+abbrev pub invariant-loop-slot : goal.invariant-loop-slot
+invariant-loop-slot l =
     l.out.items ≡ l.fn.out.items
-    ++ flat_map (element_text l.kind) (map (told_value l.program.strings) (take l.value-index l.values))
+    ++ flat_map (element_text l.kind) (map (told_value l.program.strings) (take l.slot l.slots))

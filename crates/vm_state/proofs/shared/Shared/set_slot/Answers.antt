@@ -1,28 +1,27 @@
 use Rattle.std.proofs.Common.{◌∙◌, ℕ, ap}
 use Rattle.vm_state.specs.declared.value.Maker.{Maker}
 use Rattle.vm_state.specs.declared.value.Maker.TheVariants.{Class, Thread}
-use Rattle.vm_state.specs.declared.value.Value.{Value}
 use Rattle.vm_state.specs.SharedState.{Pool, SharedState, pool_of, set_pool, with_slot}
 use Rattle.vm_state.specs.SharedTables.{SharedTables}
 use Rattle.vm_state.specs.Shares.{shared_of}
-use Rattle.vm_state.proofs.ShareLemmas.{changed_by_class, changed_by_thread}
+use Rattle.vm_state.proofs.ShareLemmas.{changed_by_class, changed_by_thread, if_done}
 use Rattle.vm_state.proofs.shared.Shared.set_slot.Goals as goal
 
-abbrev slot_changed : SharedState → Maker → ℕ → ℕ → Value → SharedState
-slot_changed sh maker number slot value = set_pool sh maker (with_slot (pool_of sh maker) number slot value)
+abbrev changed : SharedState → Maker → (Pool → Pool) → SharedState
+changed sh maker change = set_pool sh maker (change (pool_of sh maker))
 
-pub returns-in-Class : goal.returns-in-Class
-returns-in-Class c p =
+pub returns-in-Class-clause-ok : goal.returns-in-Class-clause-ok
+returns-in-Class-clause-ok c =
     let tables : SharedTables = record { classes = c.self.inside.classes; heap = c.self.inside.heap } in
-    rw c.in-Class.is (changed_by_class tables c.set_slot.new.self c.in-Class.class
-    (λ (pool : Pool). with_slot pool c.args.name.number c.args.slot c.args.value) c.set_slot.ensures p
-    ∙ ap (λ (s : SharedTables). slot_changed (shared_of s p) (Class c.in-Class.class) c.args.name.number c.args.slot
-    c.args.value) c.self.view_is)
+    let change : Pool → Pool = λ pool. with_slot pool c.args.name.number c.args.slot c.args.value in
+    if_done c.set_slot.result c.set_slot.ensures.ok (λ is p.
+    rw c.in-Class.is (changed_by_class tables c.set_slot.new.self c.in-Class.class change is p
+    ∙ ap (λ (s : SharedTables). changed (shared_of s p) (Class c.in-Class.class) change) c.self.view_is))
 
-pub returns-in-Thread : goal.returns-in-Thread
-returns-in-Thread c p =
+pub returns-in-Thread-clause-ok : goal.returns-in-Thread-clause-ok
+returns-in-Thread-clause-ok c =
     let tables : SharedTables = record { classes = c.self.inside.classes; heap = c.self.inside.heap } in
-    rw c.in-Thread.is (changed_by_thread tables c.set_slot-in-Thread.new.self c.in-Thread.thread
-    (λ (pool : Pool). with_slot pool c.args.name.number c.args.slot c.args.value) c.set_slot-in-Thread.ensures p
-    ∙ ap (λ (s : SharedTables). slot_changed (shared_of s p) (Thread c.in-Thread.thread) c.args.name.number c.args.slot
-    c.args.value) c.self.view_is)
+    let change : Pool → Pool = λ pool. with_slot pool c.args.name.number c.args.slot c.args.value in
+    if_done c.set_slot-in-Thread.result c.set_slot-in-Thread.ensures.ok (λ is p.
+    rw c.in-Thread.is (changed_by_thread tables c.set_slot-in-Thread.new.self c.in-Thread.thread change is p
+    ∙ ap (λ (s : SharedTables). changed (shared_of s p) (Thread c.in-Thread.thread) change) c.self.view_is))
