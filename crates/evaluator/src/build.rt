@@ -82,11 +82,11 @@ fn fixed_slot(program: &Program, region: &Region, number: u64, slot: usize) -> O
 {
     match region.objects.object(number) {
         Some(object) if program.is_below(object.class, ClassId::BuiltIn(BuiltIn::Enum)) => {
-            match object.slots.as_slice() {
-                [Value::Null, ..] => None,
-                [name, ordinal, ..] => Some(match slot {
-                    0 => Some(*name),
-                    1 => Some(*ordinal),
+            match (object.slots.get(0), object.slots.get(1)) {
+                (Some(Value::Null), _) => None,
+                (Some(name), Some(ordinal)) => Some(match slot {
+                    0 => Some(name),
+                    1 => Some(ordinal),
                     _ => None,
                 }),
                 _ => None,
@@ -239,7 +239,7 @@ impl<'a> Store for Build<'a> {
             return Err(Stop::Barred);
         };
         match region.objects.object(object.number) {
-            Some(object) => Ok(length_of(Some(object.slots.as_slice()))),
+            Some(object) => Ok(length_of(Some(&object.slots))),
             None => Err(Stop::ForeignObject),
         }
     }

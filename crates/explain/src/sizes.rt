@@ -9,7 +9,7 @@ use object_graph::Image;
 use program::Program;
 use program::runtime_constant::FieldKind;
 use std::alloc::{AllocError, Global};
-use vm_state::object::Object;
+use vm_state::object::{Object, Slots};
 use vm_state::value::Value;
 
 /// A count of bytes, or of what stands behind it.
@@ -56,20 +56,24 @@ fn elements_size(
     alloc: Global,
     program: &Program,
     kind: FieldKind,
-    values: &[Value],
+    slots: &Slots,
 ) -> Result<u64, AllocError> {
     let mut size = COUNT;
-    for value in values {
-        size = size.saturating_add(element_size(alloc, program, kind, *value)?);
+    for slot in 0..slots.len() {
+        if let Some(value) = slots.get(slot) {
+            size = size.saturating_add(element_size(alloc, program, kind, value)?);
+        }
     }
     Ok(size)
 }
 
 /// The slots of an object.
-fn slots_size(alloc: Global, program: &Program, values: &[Value]) -> Result<u64, AllocError> {
+fn slots_size(alloc: Global, program: &Program, slots: &Slots) -> Result<u64, AllocError> {
     let mut size = 0u64;
-    for value in values {
-        size = size.saturating_add(value_size(alloc, program, *value)?);
+    for slot in 0..slots.len() {
+        if let Some(value) = slots.get(slot) {
+            size = size.saturating_add(value_size(alloc, program, value)?);
+        }
     }
     Ok(size)
 }
@@ -96,7 +100,7 @@ fn name_size(alloc: Global, program: &Program, class: ClassId) -> Result<u64, Al
 /// An object, with its number and its form.
 fn object_size(alloc: Global, program: &Program, object: &Object) -> Result<u64, AllocError> {
     let name = name_size(alloc, program, object.class)?;
-    let slots = object.slots.as_slice();
+    let slots = &object.slots;
     let held = match object.class {
         ClassId::Array(array) => elements_size(alloc, program, kind_of_elements(array), slots)?,
         _ => slots_size(alloc, program, slots)?,

@@ -110,7 +110,7 @@ fn elements_from(shared: &Shared, class: u32, place: usize) -> u64 {
     let mut elements = 0u64;
     for held in objects.get(place..).unwrap_or(&[]) {
         if let ClassId::Array(_) = held.1.class {
-            elements = elements.saturating_add(held.1.slots.as_slice().len() as u64);
+            elements = elements.saturating_add(held.1.slots.len() as u64);
         }
     }
     elements
