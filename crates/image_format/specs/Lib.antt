@@ -6,3 +6,4 @@ pub mod Objects
 pub mod Reached
 pub mod Images
 pub mod Told
+pub mod steps

@@ -3,7 +3,9 @@
 
 pub mod elements;
 pub mod names;
+pub mod numbers;
 pub mod object;
 pub mod region;
+pub mod slots;
 pub mod value;
 pub mod version;

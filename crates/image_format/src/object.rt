@@ -2,7 +2,7 @@
 
 ghost use Rattle.std.specs.Prelude.{◌≡◌};
 
-use crate::value::ImageValues;
+use crate::slots::ImageSlots;
 use built_in::class_id::ClassId;
 use std::marker::Model;
 
@@ -49,7 +49,7 @@ pub enum ImageClass {
 #[derive(Drop)]
 pub struct ImageObject {
     pub class: ImageClass,
-    pub slots: ImageValues,
+    pub slots: ImageSlots,
 }
 
 /// An object that is kept, and its number.

@@ -11,6 +11,7 @@ ghost use Rattle.image_parser.specs.Nameless.{MarkNames, SlotsAreThere, IsNamele
 use crate::reaching::{objects_of, place_of};
 use image_format::object::KeptObject;
 use image_format::region::ImageRegion;
+use image_format::slots::{ImageSlots, SeenSlots};
 use image_format::value::ImageValue;
 
 /// Whether there is an object of a class and a number.
@@ -45,13 +46,24 @@ fn are_there(regions: &[Option<ImageRegion>], values: &[ImageValue]) -> bool
     true
 }
 
+/// Whether the objects that slots name are there. Numbers are passed over at once.
+fn are_there_in(regions: &[Option<ImageRegion>], slots: &ImageSlots) -> bool
+    requires { AllRise regions.now }
+    ensures { Decides result (All (IsThere regions.now) slots.now) }
+{
+    match slots.seen() {
+        SeenSlots::Numbers(_) => true,
+        SeenSlots::Values(values) => are_there(regions, values),
+    }
+}
+
 /// Whether those that the slots of some objects name are.
 fn slots_are_there(regions: &[Option<ImageRegion>], objects: &[KeptObject]) -> bool
     requires { AllRise regions.now }
     ensures { Decides result (All (SlotsAreThere regions.now) objects.now) }
 {
     for kept in objects {
-        if !are_there(regions, kept.object.slots.as_slice()) {
+        if !are_there_in(regions, &kept.object.slots) {
             return false;
         }
     }

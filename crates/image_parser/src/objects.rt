@@ -19,6 +19,7 @@ use crate::values::{push_elements_at, push_values_at};
 use built_in::class_id::{BuiltIn, ClassId};
 use image_format::elements::kind_of_elements;
 use image_format::object::{ImageClass, ImageObject, UnknownName};
+use image_format::slots::ImageSlots;
 use image_format::value::ImageValues;
 use loading::class_named;
 use loading::family::Family;
@@ -156,12 +157,12 @@ fn elements_at(
     kind: FieldKind,
     count: u32,
     bytes: &[u8],
-) -> Result<(ImageValues, &[u8]), RegionFault>
+) -> Result<(ImageSlots, &[u8]), RegionFault>
     ensures { Gives (λ x. (x.0, x.1.now)) result (elements_at kind count bytes.now) }
 {
-    let mut values = Vec::with_capacity(alloc, (count as usize).min(bytes.len()))?;
-    let rest = push_elements_at(alloc, kind, count, &mut values, bytes)?;
-    Ok((ImageValues::of_vec(values), rest))
+    let mut slots = ImageSlots::with_room(alloc, kind, (count as usize).min(bytes.len()))?;
+    let rest = push_elements_at(alloc, kind, count, &mut slots, bytes)?;
+    Ok((slots, rest))
 }
 
 /// The elements of an array.
@@ -170,7 +171,7 @@ fn array_at(
     alloc: Global,
     kind: FieldKind,
     bytes: &[u8],
-) -> Result<(ImageValues, &[u8]), RegionFault>
+) -> Result<(ImageSlots, &[u8]), RegionFault>
     ensures { Gives (λ x. (x.0, x.1.now)) result (array_at kind bytes.now) }
 {
     let (count, rest) = count_at(bytes)?;
@@ -190,13 +191,26 @@ pub(crate) fn values_at<'a>(
     Ok((ImageValues::of_vec(values), rest))
 }
 
+/// A slot for each of these kinds.
+fn instance_at<'a>(
+    alloc: Global,
+    kinds: &[FieldKind],
+    bytes: &'a [u8],
+) -> Result<(ImageSlots, &'a [u8]), RegionFault>
+    ensures { Gives (λ x. (x.0, x.1.now)) result (each_at value_at kinds.now [] bytes.now) }
+{
+    let mut values = Vec::with_capacity(alloc, kinds.len())?;
+    let rest = push_values_at(alloc, kinds, &mut values, bytes)?;
+    Ok((ImageSlots::of_vec(values), rest))
+}
+
 /// What follows the name of a class.
 fn slots_at<'a>(
     alloc: Global,
     program: &Program,
     class: &ImageClass,
     bytes: &'a [u8],
-) -> Result<(ImageValues, &'a [u8]), RegionFault>
+) -> Result<(ImageSlots, &'a [u8]), RegionFault>
     ensures { Gives (λ x. (x.0, x.1.now)) result (slots_at program.now.family class.now bytes.now) }
 {
     match class {
@@ -211,15 +225,15 @@ fn known_slots_at<'a>(
     program: &Program,
     class: ClassId,
     bytes: &'a [u8],
-) -> Result<(ImageValues, &'a [u8]), RegionFault>
+) -> Result<(ImageSlots, &'a [u8]), RegionFault>
     ensures { Gives (λ x. (x.0, x.1.now)) result (known_slots_at program.now.family class bytes.now) }
 {
     match class {
         ClassId::Given(number) => {
             let kinds = program.slot_kinds(alloc, number)?;
-            values_at(alloc, &kinds, bytes)
+            instance_at(alloc, &kinds, bytes)
         }
-        ClassId::BuiltIn(_) => Ok((ImageValues::none(alloc), bytes)),
+        ClassId::BuiltIn(_) => Ok((ImageSlots::none(alloc), bytes)),
         ClassId::Array(array) => array_at(alloc, kind_of_elements(array), bytes),
     }
 }

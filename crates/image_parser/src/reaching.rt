@@ -16,6 +16,7 @@ ghost use Rattle.image_parser.specs.reading.Reaching.{IsReachedAt};
 
 use image_format::object::KeptObject;
 use image_format::region::ImageRegion;
+use image_format::slots::{ImageSlots, SeenSlots};
 use image_format::value::ImageValue;
 use place_set::{Place, PlaceSet};
 use std::alloc::{AllocError, Global};
@@ -134,6 +135,22 @@ fn visit_values(
     Ok(())
 }
 
+/// Adds the places of the objects that slots name. Numbers are passed over at once.
+fn visit_slots(
+    alloc: Global,
+    regions: &[Option<ImageRegion>],
+    slots: &ImageSlots,
+    found: &mut PlaceSet,
+) -> Result<(), AllocError>
+    requires { AllRise regions.now }
+    ensures { OnOk result (Adds found.old (HoldPlace regions.now slots.now) found.new) }
+{
+    match slots.seen() {
+        SeenSlots::Numbers(_) => Ok(()),
+        SeenSlots::Values(values) => visit_values(alloc, regions, values, found),
+    }
+}
+
 /// Adds the places of the objects that static fields name.
 fn visit_statics(
     alloc: Global,
@@ -168,7 +185,7 @@ fn visit_object(
     ensures { OnOk result (Adds found.old (HoldsPlace regions.now place) found.new) }
 {
     match object_at(regions, place) {
-        Some(kept) => visit_values(alloc, regions, kept.object.slots.as_slice(), found),
+        Some(kept) => visit_slots(alloc, regions, &kept.object.slots, found),
         None => Ok(()),
     }
 }

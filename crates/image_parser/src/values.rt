@@ -13,6 +13,7 @@ ghost use Rattle.image_parser.specs.reading.Values.{reference_at, body_at, tagge
 use crate::fault::RegionFault;
 use crate::numbers::{u8_at, u16_at, u32_at, u64_at};
 use crate::tag::{Tag, may_have, tag_of};
+use image_format::slots::ImageSlots;
 use image_format::value::{ImageValue, Units};
 use program::runtime_constant::FieldKind;
 use std::alloc::Global;
@@ -247,16 +248,16 @@ pub(crate) fn push_elements_at<'a>(
     alloc: Global,
     kind: FieldKind,
     count: u32,
-    values: &mut Vec<ImageValue>,
+    slots: &mut ImageSlots,
     bytes: &'a [u8],
 ) -> Result<&'a [u8], RegionFault>
-    ensures { Gives (λ rest. (values.new.items, rest.now)) result
-        (each_at (λ (one : Unit {0}). element_at kind) (times count) values.old.items bytes.now) }
+    ensures { Gives (λ rest. (slots.new, rest.now)) result
+        (each_at (λ (one : Unit {0}). element_at kind) (times count) slots.old bytes.now) }
 {
     let mut rest = bytes;
     for _index in 0..count {
         let (value, after) = element_at(alloc, kind, rest)?;
-        values.push(value)?;
+        slots.push(alloc, value)?;
         rest = after;
     }
     Ok(rest)

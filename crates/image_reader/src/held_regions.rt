@@ -20,7 +20,7 @@ ghost use Rattle.image_reader.specs.steps.Held.{AddsStrings, HaveShape, HoldsAt,
 ghost use Rattle.image_reader.specs.steps.Held.{HoldsKept, HoldsObject, HoldsObjects, HoldsRegion, HoldsRegions};
 ghost use Rattle.image_reader.specs.steps.Held.{HoldsType, MayHaveShape};
 
-use crate::held_values::{held_fields, held_values};
+use crate::held_values::{held_fields, held_slots};
 use built_in::class_id::{ArrayType, ClassId, ElementType};
 use classfile::ClassName;
 use evaluator::regions::{Region, Regions};
@@ -29,8 +29,7 @@ use image_format::region::ImageRegion;
 use program::Program;
 use std::alloc::{AllocError, Global};
 use vm_state::heap::Row;
-use vm_state::object::{Monitor, Object, Slots};
-use vm_state::value::Value;
+use vm_state::object::{Monitor, Object};
 
 /// An element type that is neither given nor built in, by the number of its name among the program's strings.
 fn unknown_element(
@@ -77,17 +76,6 @@ fn held_type(
     }
 }
 
-/// The slots of an object of a class, which hold these values.
-fn slots_of(alloc: Global, class: ClassId, values: Vec<Value>) -> Result<Slots, AllocError>
-    ensures { IfOk result (λ slots. slots ≡ values.items) }
-{
-    match class {
-        ClassId::Array(array) => Slots::of_array(alloc, array, values.as_slice()),
-        ClassId::Given(_) => Ok(Slots::of_vec(values)),
-        ClassId::BuiltIn(_) => Ok(Slots::of_vec(values)),
-    }
-}
-
 /// An object with its number. Its monitor is free.
 fn held_object(
     alloc: Global,
@@ -101,8 +89,7 @@ fn held_object(
         → OnOk result (program.new ≡ program.old) }
 {
     let class = held_type(alloc, program, &kept.object.class)?;
-    let values = held_values(alloc, program, kept.object.slots.as_slice())?;
-    let slots = slots_of(alloc, class, values)?;
+    let slots = held_slots(alloc, program, &kept.object.slots)?;
     let object = Object {
         class,
         slots,

@@ -8,10 +8,12 @@ ghost use Rattle.image_format.specs.declared.value.ImageValue.TheVariants.{Text}
 ghost use Rattle.image_format.specs.Shapes.{AreUnits};
 ghost use Rattle.image_reader.specs.steps.Held.{AddsStrings, HasUnits, HoldsValue, HoldsValues, HoldsFields};
 
+use image_format::slots::{ImageSlots, SeenSlots};
 use image_format::value::{ImageValue, Units};
 use program::Program;
 use std::alloc::{AllocError, Global};
 use vm_state::classes::Fields;
+use vm_state::object::Slots;
 use vm_state::value::Value;
 
 /// A string, by its number among those of the program, of which it becomes the last where it is new.
@@ -64,7 +66,7 @@ fn push_held(
 }
 
 /// Values in order.
-pub(crate) fn held_values(
+fn held_values(
     alloc: Global,
     program: &mut Program,
     values: &[ImageValue],
@@ -78,6 +80,24 @@ pub(crate) fn held_values(
     let mut held = Vec::with_capacity(alloc, values.len())?;
     push_held(alloc, program, values, &mut held)?;
     Ok(held)
+}
+
+/// The slots of an object. Numbers are copied at once.
+pub(crate) fn held_slots(
+    alloc: Global,
+    program: &mut Program,
+    slots: &ImageSlots,
+) -> Result<Slots, AllocError>
+    requires { All HasUnits slots.now }
+    ensures holds { IfOk result (λ held. HoldsValues program.new.strings slots.now held) }
+    ensures adds { OnOk result (AddsStrings program.old program.new) }
+    ensures same { (vs : List Held) → HoldsValues program.old.strings slots.now vs
+        → OnOk result (program.new ≡ program.old) }
+{
+    match slots.seen() {
+        SeenSlots::Numbers(numbers) => numbers.copy(alloc),
+        SeenSlots::Values(values) => Ok(Slots::of_vec(held_values(alloc, program, values)?)),
+    }
 }
 
 /// Static fields with these values. No class has so many that 32 bits do not count them.

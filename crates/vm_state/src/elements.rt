@@ -1,7 +1,7 @@
 //! Values in a row, each in as many bytes as all of them need.
 
 ghost use Rattle.std.specs.Prelude.{◌≡◌, true, false, map, length, replicate, slice_get, slice_set, IfOk, IfSome};
-ghost use Rattle.std.specs.Prelude.{IfNone, OnOk, OnErr};
+ghost use Rattle.std.specs.Prelude.{IfNone, Ok, OnOk, OnErr, [], ◌∷◌, ◌++◌};
 ghost use Rattle.std.specs.List.{All};
 ghost use Rattle.vm_state.specs.declared.value.Value.{Value as Held};
 ghost use Rattle.vm_state.specs.declared.value.Value.TheVariants.{Int, Long};
@@ -169,6 +169,22 @@ fn put_element<E: Copy>(elements: &mut Vec<E>, slot: usize, element: E)
 {
     if let Some(held) = elements.get_mut(slot) {
         *held = element;
+    }
+}
+
+/// Adds what stands for a value at the end, and says so; not where nothing does.
+fn push_narrow<E: Element>(elements: &mut Vec<E>, value: Value) -> Result<bool, AllocError>
+    ensures yes { result ≡ Ok true
+        → map E.value_of elements.new.items ≡ map E.value_of elements.old.items ++ value ∷ [] }
+    ensures no { result ≡ Ok false → elements.new ≡ elements.old }
+    ensures err { OnErr result (elements.new ≡ elements.old) }
+{
+    match E::narrow(value) {
+        Some(element) => {
+            elements.push(element)?;
+            Ok(true)
+        }
+        None => Ok(false),
     }
 }
 
@@ -422,21 +438,68 @@ impl Elements {
         }
     }
 
-    /// These values, in a row for the components of an array.
-    pub(crate) fn narrow(
+    /// No values, with room for so many components of an array.
+    pub(crate) fn with_room(
         alloc: Global,
         array: ArrayType,
-        values: &[Value],
+        room: usize,
     ) -> Result<Elements, AllocError>
-        ensures { IfOk result (λ e. values_of e ≡ values.now) }
+        ensures { IfOk result (λ e. values_of e ≡ []) }
     {
-        let Some(first) = values.first() else {
-            return Ok(Elements::Values(Vec::new(alloc)));
-        };
-        let mut elements = Elements::filled(alloc, array, *first, values.len())?;
-        for slot in 0..values.len() {
-            elements.set(slot, values[slot])?;
+        if array.dimensions > 1 {
+            return Ok(Elements::Values(Vec::with_capacity(alloc, room)?));
         }
-        Ok(elements)
+        match array.element {
+            ElementType::Boolean | ElementType::Byte => {
+                Ok(Elements::Bytes(Vec::with_capacity(alloc, room)?))
+            }
+            ElementType::Char => Ok(Elements::Chars(Vec::with_capacity(alloc, room)?)),
+            ElementType::Short => Ok(Elements::Shorts(Vec::with_capacity(alloc, room)?)),
+            ElementType::Int => Ok(Elements::Ints(Vec::with_capacity(alloc, room)?)),
+            ElementType::Long => Ok(Elements::Longs(Vec::with_capacity(alloc, room)?)),
+            _ => Ok(Elements::Values(Vec::with_capacity(alloc, room)?)),
+        }
+    }
+
+    /// Adds a value at the end, and says so; not where its kind does not fit among these.
+    fn add(&mut self, value: Value) -> Result<bool, AllocError>
+        ensures yes { result ≡ Ok true → values_of self.new ≡ values_of self.old ++ value ∷ [] }
+        ensures no { result ≡ Ok false → self.new ≡ self.old }
+        ensures err { OnErr result (self.new ≡ self.old) }
+    {
+        match self {
+            Elements::Bytes(bytes) => push_narrow(bytes, value),
+            Elements::Chars(chars) => push_narrow(chars, value),
+            Elements::Shorts(shorts) => push_narrow(shorts, value),
+            Elements::Ints(ints) => push_narrow(ints, value),
+            Elements::Longs(longs) => push_narrow(longs, value),
+            Elements::Values(values) => {
+                values.push(value)?;
+                Ok(true)
+            }
+        }
+    }
+
+    /// Adds a value at the end, in a row for any values.
+    fn push_wide(&mut self, value: Value) -> Result<(), AllocError>
+        ensures ok { OnOk result (values_of self.new ≡ values_of self.old ++ value ∷ []) }
+        ensures err { OnErr result (self.new ≡ self.old) }
+    {
+        let mut values = self.to_values()?;
+        values.push(value)?;
+        *self = Elements::Values(values);
+        Ok(())
+    }
+
+    /// Adds a value at the end.
+    pub(crate) fn push(&mut self, value: Value) -> Result<(), AllocError>
+        ensures ok { OnOk result (values_of self.new ≡ values_of self.old ++ value ∷ []) }
+        ensures err { OnErr result (self.new ≡ self.old) }
+    {
+        match self.add(value) {
+            Ok(true) => Ok(()),
+            Ok(false) => self.push_wide(value),
+            Err(error) => Err(error),
+        }
     }
 }

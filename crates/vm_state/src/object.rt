@@ -1,6 +1,6 @@
 //! Objects: instances and arrays (JVMS 2.7).
 
-ghost use Rattle.std.specs.Prelude.{◌≡◌, [], IfOk, IfSome, IfNone, OnOk, OnErr, length, replicate, slice_get, slice_set};
+ghost use Rattle.std.specs.Prelude.{◌≡◌, [], ◌∷◌, ◌++◌, IfOk, IfSome, IfNone, OnOk, OnErr, length, replicate, slice_get, slice_set};
 ghost use Rattle.std.specs.List.{All};
 ghost use Rattle.vm_state.specs.Values.{IsNumber};
 
@@ -53,14 +53,15 @@ impl Slots {
         Ok(Slots { elements })
     }
 
-    /// These values, for an array: where its components are numbers they take as many bytes as their type wants.
+    /// No values yet, and room for so many, for an array: where its components are numbers they take as many bytes as
+    /// their type wants.
     ///
     /// # Errors
     /// `AllocError` where memory is refused.
-    pub fn of_array(alloc: Global, array: ArrayType, values: &[Value]) -> Result<Slots, AllocError>
-        ensures { IfOk result (λ s. s ≡ values.now) }
+    pub fn with_room(alloc: Global, array: ArrayType, room: usize) -> Result<Slots, AllocError>
+        ensures { IfOk result (λ s. s ≡ []) }
     {
-        let elements = Elements::narrow(alloc, array, values)?;
+        let elements = Elements::with_room(alloc, array, room)?;
         Ok(Slots { elements })
     }
 
@@ -119,6 +120,17 @@ impl Slots {
         ensures err { OnErr result (self.new ≡ self.old) }
     {
         self.elements.set(slot, value)
+    }
+
+    /// Adds a slot at the end, which holds a value.
+    ///
+    /// # Errors
+    /// `AllocError` where memory is refused; nothing has changed then.
+    pub fn push(&mut self, value: Value) -> Result<(), AllocError>
+        ensures ok { OnOk result (self.new ≡ self.old ++ value ∷ []) }
+        ensures err { OnErr result (self.new ≡ self.old) }
+    {
+        self.elements.push(value)
     }
 
     /// Puts values into the first two slots. Where there is no such slot nothing changes.
