@@ -1,7 +1,7 @@
 -- What the machine holds stays held as strings come in, and grows value by value.
 use Rattle.std.proofs.Common.{◌≡◌, ◌≢◌, ◌∙◌, ◌⊎◌, inl, inr, ℕ, zero, suc, ◌+◌, ◌<◌, ◌≤◌, ◌==◌}
 use Rattle.std.proofs.Common.{true, false}
-use Rattle.std.proofs.Common.{List, [], ◌∷◌, ◌++◌, length, take, get_or, Option, Some, None, slice_get, option_map}
+use Rattle.std.proofs.Common.{List, [], ◌∷◌, ◌++◌, length, map, take, get_or, Option, Some, None, slice_get, option_map}
 use Rattle.std.proofs.Common.{refl, sym, ap, subst, arith, append_assoc, append-nil, eqb-true, eq-eqb}
 use Rattle.std.proofs.Math.Path.{fun_ext}
 use Rattle.std.proofs.Math.Seq.{get_or-append_seam}
@@ -13,6 +13,7 @@ use Rattle.classfile.specs.Units.{units_text}
 use Rattle.vm_state.specs.declared.object.Object.{Object}
 use Rattle.vm_state.specs.declared.value.Value.{Value}
 use Rattle.vm_state.specs.declared.value.Value.TheVariants as machine
+use Rattle.vm_state.specs.Values.{IsNumber}
 use Rattle.built_in.specs.declared.class_id.ClassId.{ClassId}
 use Rattle.built_in.specs.declared.class_id.ClassId.TheVariants as classes
 use Rattle.loading.specs.Families.{Family}
@@ -38,6 +39,7 @@ use Rattle.image_format.specs.declared.value.ImageValue.{ImageValue}
 use Rattle.image_format.specs.declared.value.ImageValue.TheVariants as values
 use Rattle.image_format.specs.declared.object.KeptObject.{KeptObject}
 use Rattle.image_format.specs.declared.version.Version.TheVariants as versions
+use Rattle.image_format.specs.steps.Rows.{told_number}
 use Rattle.image_format.specs.Objects.{region_in, object_with}
 use Rattle.image_format.specs.Shapes.{AreNumbered, AreKnownSlots, AreSlots, AreUnits, Suits}
 use Rattle.image_reader.specs.steps.Held.{AddsStrings, HasUnits, HoldsValue, HoldsValues, HoldsField}
@@ -152,6 +154,23 @@ module _ (S T added : List (List ℕ)) (grown : T ≡ S ++ added) where
   pub regions_kept : (told : List (Option ImageRegion)) (env : Environment) → HoldsRegions S told env
       → HoldsRegions T told env
   regions_kept told env holds c = class_kept (region_in told c) (env c) (holds c)
+
+-- ---- numbers
+
+number_held : (S : List (List ℕ)) (v : Value) → IsNumber v → HoldsValue S (told_number v) v
+number_held S (machine.Int n) is = refl
+number_held S (machine.Long n) is = refl
+number_held S machine.Null is = absurd (let no : false ≡ true = is in cc)
+number_held S (machine.Text s) is = absurd (let no : false ≡ true = is in cc)
+number_held S (machine.OfClass c n) is = absurd (let no : false ≡ true = is in cc)
+number_held S (machine.OfThread t n) is = absurd (let no : false ≡ true = is in cc)
+number_held S machine.Out is = absurd (let no : false ≡ true = is in cc)
+
+-- what is told of numbers is held by themselves
+pub numbers_held : (S : List (List ℕ)) (vs : List Value) → All IsNumber vs → HoldsValues S (map told_number vs) vs
+numbers_held S [] all = tt
+numbers_held S (v ∷ vs) all =
+    (number_held S v (all 0 v (omega arith)), numbers_held S vs (λ k d low. all (suc k) d (omega (arith, low))))
 
 -- ---- values in order
 

@@ -4,11 +4,13 @@ use Rattle.std.proofs.Common.{get_or}
 use Rattle.std.proofs.Common.{is_some, Option, Some, None, option_map, slice_get, sym, ap, subst, arith}
 use Rattle.std.proofs.lemmas.Bool.{cases_lt}
 use Rattle.std.proofs.lemmas.List.{take_more, take_all}
-use Rattle.std.proofs.lemmas.List.Elements.{Contains-push, Contains-push_cases, Contains-append_left}
+use Rattle.std.specs.List.{All}
+use Rattle.std.proofs.lemmas.List.Elements.{Contains-push, Contains-push_cases, Contains-append_left, All-contains}
 use Rattle.std.proofs.lemmas.Option.{slice_get_past}
 use Rattle.vm_state.specs.declared.object.Object.{Object}
 use Rattle.vm_state.specs.declared.value.Value.{Value}
 use Rattle.vm_state.specs.declared.value.Value.TheVariants as values
+use Rattle.vm_state.specs.Values.{IsNumber}
 use Rattle.vm_state.specs.Objects.{object_in}
 use Rattle.vm_state.specs.steps.Objects.{object_at_place}
 use Rattle.vm_state.specs.SharedState.{Region}
@@ -20,7 +22,7 @@ use Rattle.evaluator.specs.declared.regions.Region.{Region as Held}
 use Rattle.evaluator.specs.Regions.{region_of, region_in, environment_of}
 use Rattle.object_graph.specs.declared.name_set.ObjectName.{ObjectName}
 use Rattle.object_graph.specs.Reached.{reference_to}
-use Rattle.object_graph.specs.steps.Places.{row_in, Ascends, IsPlaceOf, HoldPlace, IsInFields, IsInStaticsOf}
+use Rattle.object_graph.specs.steps.Places.{row_in, name_in, Ascends, IsPlaceOf, HoldPlace, IsInFields, IsInStaticsOf}
 use Rattle.object_graph.specs.steps.Places.{HoldsPlace}
 use Rattle.object_graph.proofs.RowLemmas.{standing, one_index, found_in}
 
@@ -123,6 +125,16 @@ pub hold_all : (regions : List (Option Held)) (vs : List Value) (i : ℕ) (old n
     → Adds old (HoldPlace regions (take i vs)) new → Adds old (HoldPlace regions vs) new
 hold_all regions vs i old new all a =
     subst (λ (ws : List Value). Adds old (HoldPlace regions ws) new) (take_all i vs all) a
+
+no_number : (v : Value) (x : ObjectName) → IsNumber v → v ≡ reference_to x → ⊥
+no_number v x number is = let clash : IsNumber (reference_to x) = subst IsNumber is number in cc
+
+-- numbers refer to no object
+pub hold_numbers : (regions : List (Option Held)) (vs : List Value) (found : List Place) → All IsNumber vs
+    → Adds found (HoldPlace regions vs) found
+hold_numbers regions vs found numbers =
+    adds_none found (HoldPlace regions vs) (λ x h.
+    no_number h.value (name_in x.row h.place.held) (All-contains IsNumber vs h.value numbers h.holds) h.place.is)
 
 -- ---- what static fields refer to
 

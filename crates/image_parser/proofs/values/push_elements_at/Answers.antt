@@ -12,7 +12,7 @@ returns-in_err-value c =
 
 pub loop-index-preserved : goal.loop-index-preserved
 loop-index-preserved c =
-    rw (c.in_ok-push.ensures.items)
+    rw (c.in_ok-push.ensures.ok)
     (next_time (λ (one : Unit {0}). element_at c.args.kind) _ _ c.loop-index-test.true c.in_ok-value.ensures
     c.loop-index.invariant)
 

@@ -6,5 +6,5 @@ use Rattle.image_parser.proofs.values.push_elements_at.Given as goal
 
 abbrev pub invariant-loop-index : goal.invariant-loop-index
 invariant-loop-index l =
-    each_at (λ (one : Unit {0}). element_at l.kind) (times (l.count - l._index)) l.values.items l.rest
-    ≡ each_at (λ (one : Unit {0}). element_at l.kind) (times l.count) l.fn.values.items l.bytes
+    each_at (λ (one : Unit {0}). element_at l.kind) (times (l.count - l._index)) l.slots l.rest
+    ≡ each_at (λ (one : Unit {0}). element_at l.kind) (times l.count) l.fn.slots l.bytes
