@@ -181,12 +181,7 @@ impl Row {
     ///
     /// # Errors
     /// `AllocError` where memory is refused; nothing has changed then.
-    pub fn set_first(
-        &mut self,
-        number: u64,
-        first: Value,
-        second: Value,
-    ) -> Result<(), AllocError>
+    pub fn set_first(&mut self, number: u64, first: Value, second: Value) -> Result<(), AllocError>
         ensures ok { OnOk result (pool_by self.new
             ≡ with_slot (with_slot (pool_by self.old) number 0 first) number 1 second) }
         ensures err { OnErr result (self.new ≡ self.old) }

@@ -3,11 +3,11 @@
 #![tactic(auto)]
 
 pub mod classes;
+mod elements;
 pub mod ends;
 pub mod frame;
 pub mod heap;
 pub mod initialization;
-mod elements;
 mod items;
 pub mod locals;
 pub mod object;

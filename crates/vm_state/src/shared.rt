@@ -233,8 +233,14 @@ impl Shared {
         ensures err { OnErr result (self.new ≡ self.old) }
     {
         match name.maker {
-            Maker::Class(class) => self.heap.classes.set_first(class, name.number, first, second),
-            Maker::Thread(thread) => self.heap.threads.set_first(thread, name.number, first, second),
+            Maker::Class(class) => self
+                .heap
+                .classes
+                .set_first(class, name.number, first, second),
+            Maker::Thread(thread) => self
+                .heap
+                .threads
+                .set_first(thread, name.number, first, second),
         }
     }
 

@@ -1,6 +1,5 @@
 -- Values in a row, each in as many bytes as all of them need.
 use Rattle.std.specs.Prelude.{ℕ, pos, List, map}
-
 use Rattle.vm_state.specs.declared.value.Value.{Value}
 use Rattle.vm_state.specs.declared.value.Value.TheVariants.{Int, Long}
 use Rattle.vm_state.specs.declared.elements.Elements.{Elements}
