@@ -177,7 +177,7 @@ fn push_narrow<E: Element>(elements: &mut Vec<E>, value: Value) -> Result<bool, 
     ensures yes { result ≡ Ok true
         → map E.value_of elements.new.items ≡ map E.value_of elements.old.items ++ value ∷ [] }
     ensures no { result ≡ Ok false → elements.new ≡ elements.old }
-    ensures err { OnErr result (elements.new ≡ elements.old) }
+    ensures err { OnErr result (elements.new.items ≡ elements.old.items) }
 {
     match E::narrow(value) {
         Some(element) => {
@@ -465,7 +465,7 @@ impl Elements {
     fn add(&mut self, value: Value) -> Result<bool, AllocError>
         ensures yes { result ≡ Ok true → values_of self.new ≡ values_of self.old ++ value ∷ [] }
         ensures no { result ≡ Ok false → self.new ≡ self.old }
-        ensures err { OnErr result (self.new ≡ self.old) }
+        ensures err { OnErr result (values_of self.new ≡ values_of self.old) }
     {
         match self {
             Elements::Bytes(bytes) => push_narrow(bytes, value),
@@ -494,7 +494,7 @@ impl Elements {
     /// Adds a value at the end.
     pub(crate) fn push(&mut self, value: Value) -> Result<(), AllocError>
         ensures ok { OnOk result (values_of self.new ≡ values_of self.old ++ value ∷ []) }
-        ensures err { OnErr result (self.new ≡ self.old) }
+        ensures err { OnErr result (values_of self.new ≡ values_of self.old) }
     {
         match self.add(value) {
             Ok(true) => Ok(()),
