@@ -17,7 +17,7 @@ GROWTHS, STARTS = refusals.GROWTHS, refusals.STARTS
 REFUSALS = (b"preinit: Memory\n", b"preinit: Spawn\n")
 # What follows where words are asked for, with what the build was at.
 MEANING = re.compile(rb"(?P<refusal>preinit: Memory\n)the system gave no more memory(, while (?P<work>.*))?\n\Z")
-WORKS = {b"reading class files", b"linking", b"initializing Main", b"writing the image"}
+WORKS = {b"reading class files", b"linking", b"initializing One", b"writing the image"}
 OLD = b"old"
 # Classes of a real compiler, one whose `main` reaches what is left out, and one that prints 7.
 CLASSES = "product_cases/data/java/init_enum_basic_*.class"
@@ -60,13 +60,15 @@ def run(program, words, targets, **refused):
     return (status, out, errors, files, sorted(os.listdir(program.data))), told
 
 
-def without_words(ended):
-    """How a run ended without the words that were asked for, and what these say the build was at, if they do."""
+def without_words(ended, works):
+    """How a run ended without the words that were asked for, which lack only where none were told before: these are
+    refusals of memory for the words of the command itself. What they say the build was at is put to what others did."""
     status, out, errors, *rest = ended
     found = MEANING.search(errors)
     if not found:
-        return (status, out, errors + b"and no words", *rest), None
-    return (status, out, errors[: found.end("refusal")], *rest), found["work"]
+        return (status, out, errors + (b"and no words" if works else b""), *rest)
+    works.add(found["work"])
+    return (status, out, errors[: found.end("refusal")], *rest)
 
 
 def wrong_with(ended, wanted, was_refused):
@@ -97,8 +99,7 @@ def refuse_each(program, words, status, targets, what):
         number += 1
         ended, told = run(program, words, targets, **{refusals.REFUSED[what]: number})
         if is_verbose and ended[0] != status:
-            ended, work = without_words(ended)
-            works.add(work)
+            ended = without_words(ended, works)
         wrong = wrong_with(ended, wanted, told and told[0].refused) or (None if told else "nothing was told")
         if wrong or told[0].left:
             return number, f"number {number} refused: {wrong or 'threads were left running'}"
