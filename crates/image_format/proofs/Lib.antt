@@ -3,3 +3,4 @@ pub mod KnownLemmas
 pub mod ReachedLemmas
 pub mod DroppedLemmas
 pub mod RowsLemmas
+pub mod ToldLemmas
