@@ -1,3 +1,2 @@
 pub mod ImageTexts
-pub mod Sendings
 pub mod steps

@@ -5,12 +5,10 @@ mod files;
 mod fitting;
 mod numbers;
 mod objects;
-mod sending;
 mod text;
 mod values;
 mod writing;
 
-pub use sending::{WriteFault, send};
-pub use sinks::{Out, Sink, SinkFault};
+pub use sinks::{Out, Sink, SinkFault, WriteFault};
 pub use text::image_text;
 pub use writing::write;

@@ -4,12 +4,11 @@ ghost use Rattle.std.specs.Prelude.{◌≡◌, OnOk, IfErr};
 ghost use Rattle.std.specs.Io.KnownBytes.{Appends};
 ghost use Rattle.image_format.specs.Images.{AreShort, ImageText};
 ghost use Rattle.image_writer.specs.ImageTexts.{text_of, told_of};
-ghost use Rattle.image_writer.specs.Sendings.{IsBegun, HasFailed};
+ghost use Rattle.sinks.specs.Sendings.{IsBegun, HasFailed};
 
-use crate::sending::{WriteFault, send};
 use crate::text::image_text;
 use object_graph::Image;
-use sinks::Sink;
+use sinks::{Sink, WriteFault, send};
 use std::alloc::Global;
 
 /// Writes an image whose class files are shorter than 2^32 bytes: its text goes out to a sink.

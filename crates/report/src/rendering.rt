@@ -2,15 +2,14 @@
 
 ghost use Rattle.std.specs.Prelude.{◌≡◌, OnOk, IfErr};
 ghost use Rattle.std.specs.Io.KnownBytes.{Appends};
-ghost use Rattle.image_writer.specs.Sendings.{IsBegun, HasFailed};
+ghost use Rattle.sinks.specs.Sendings.{IsBegun, HasFailed};
 ghost use Rattle.report.specs.Texts.{report_text};
 ghost use Rattle.report.specs.Waves.{GiveWaves};
 
 use crate::lines::report_text;
-use image_writer::{WriteFault, send};
 use initializer_analysis::verdict::Verdicts;
 use object_graph::Image;
-use sinks::Sink;
+use sinks::{Sink, WriteFault, send};
 use std::alloc::Global;
 
 /// Writes the report of an image and the last verdicts on its classes: its text goes out to a sink.

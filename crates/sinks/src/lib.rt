@@ -4,5 +4,5 @@
 mod sending;
 mod sink;
 
-pub use sending::put_all;
+pub use sending::{WriteFault, put_all, send};
 pub use sink::{Out, Sink, SinkFault};

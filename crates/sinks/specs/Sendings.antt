@@ -1,8 +1,8 @@
 -- What has gone out where a text did not go out whole.
 use Rattle.std.specs.Prelude.{◌≡◌, ◌≢◌, ℕ, ◌≤◌, List, length, take, Option}
 use Rattle.std.specs.Io.KnownBytes.{Appends}
-use Rattle.image_writer.specs.declared.sending.WriteFault.{WriteFault}
-use Rattle.image_writer.specs.declared.sending.WriteFault.TheVariants as faults
+use Rattle.sinks.specs.declared.sending.WriteFault.{WriteFault}
+use Rattle.sinks.specs.declared.sending.WriteFault.TheVariants as faults
 
 abbrev pub sent_of : WriteFault → ℕ
 sent_of (faults.Memory sent) = sent
