@@ -2,17 +2,22 @@
 
 Such a run ends as one with ample memory, or with status 1 and `Memory` (or `Spawn`) as its last line. Then what went to
 standard output is a beginning of what goes there otherwise, and so is what went to standard error before that line;
-each file that it was to write holds what it held before, or all, and no other file is left.
+each file that it was to write holds what it held before, or all, and no other file is left. With `--verbose` a line of
+words follows, and those of a build that is refused memory say what it was at: each of `WORKS` in one run at least.
 """
 import concurrent.futures
 import glob
 import os
+import re
 import shutil
 
 import refusals
 
 GROWTHS, STARTS = refusals.GROWTHS, refusals.STARTS
 REFUSALS = (b"preinit: Memory\n", b"preinit: Spawn\n")
+# What follows where words are asked for, with what the build was at.
+MEANING = re.compile(rb"(?P<refusal>preinit: Memory\n)the system gave no more memory(, while (?P<work>.*))?\n\Z")
+WORKS = {b"reading class files", b"linking", b"initializing One", b"writing the image"}
 OLD = b"old"
 # Classes of a real compiler, one whose `main` reaches what is left out, and one that prints 7.
 CLASSES = "product_cases/data/java/init_enum_basic_*.class"
@@ -26,6 +31,7 @@ def commands(classes):
     return [
         ([*build, *classes], 0, ["app.txt", "app.img"], True),
         (["build", "--out", "seven.img", "M.class"], 0, ["seven.img"], False),
+        (["build", "--verbose", "--out", "verbose.img", *classes], 0, ["verbose.img"], False),
         (["report", *classes], 0, [], False),
         (["explain", "all", *classes], 0, [], False),
         (["audit", "--entries", "Main", "lambda_Main.class"], 6, [], False),
@@ -54,6 +60,17 @@ def run(program, words, targets, **refused):
     return (status, out, errors, files, sorted(os.listdir(program.data))), told
 
 
+def without_words(ended, works):
+    """How a run ended without the words that were asked for, which lack only where none were told before: these are
+    refusals of memory for the words of the command itself. What they say the build was at is put to what others did."""
+    status, out, errors, *rest = ended
+    found = MEANING.search(errors)
+    if not found:
+        return (status, out, errors + (b"and no words" if works else b""), *rest)
+    works.add(found["work"])
+    return (status, out, errors[: found.end("refusal")], *rest)
+
+
 def wrong_with(ended, wanted, was_refused):
     """What is wrong with a run in which something was refused, if anything is."""
     status, out, errors, files, names = ended
@@ -77,16 +94,19 @@ def refuse_each(program, words, status, targets, what):
     wanted, told = run(program, words, targets)
     if wanted[0] != status or OLD in wanted[3] or not told or told[0].left:
         return 0, f"with ample memory: status {wanted[0]} and {wanted[2]!r}"
-    number, most = 0, getattr(told[0], what)
+    number, most, is_verbose, works = 0, getattr(told[0], what), "--verbose" in words, set()
     while True:
         number += 1
         ended, told = run(program, words, targets, **{refusals.REFUSED[what]: number})
+        if is_verbose and ended[0] != status:
+            ended = without_words(ended, works)
         wrong = wrong_with(ended, wanted, told and told[0].refused) or (None if told else "nothing was told")
         if wrong or told[0].left:
             return number, f"number {number} refused: {wrong or 'threads were left running'}"
         most = max(most, getattr(told[0], what))
         if not told[0].refused and number > most:
-            return number - 1, None if number > 1 else "it asks for none"
+            untold = WORKS - works if is_verbose else None
+            return number - 1, f"it never tells {untold}" if untold else None if number > 1 else "it asks for none"
 
 
 def check(path, library, crates, room, say):

@@ -26,6 +26,9 @@ pub(crate) trait Errors {
     /// Tells a refusal, and then what it means, if that is asked for.
     fn refuse(&mut self, refusal: &Refusal);
 
+    /// Tells that memory was refused, and then what was at work, if that is asked for.
+    fn refuse_memory(&mut self, work: &str);
+
     /// Tells what is wrong with the words, and then the range of a number that is, if that is asked for.
     fn wrong(&mut self, text: &str);
 }
@@ -88,6 +91,16 @@ impl<E: Write> Errors for Voice<'_, E> {
             if self.untold.is_none() {
                 let _ = write_meaning(self.errors, refusal);
             }
+        }
+        let _ = self.errors.flush();
+    }
+
+    fn refuse_memory(&mut self, work: &str) {
+        let refusal = Refusal::Memory;
+        let _ = writeln!(self.errors, "preinit: {refusal}");
+        if self.is_verbose {
+            let meaning = meaning(&refusal);
+            let _ = writeln!(self.errors, "{meaning}, while {work}");
         }
         let _ = self.errors.flush();
     }

@@ -22,8 +22,8 @@ use crate::meanings::{Errors, Voice};
 use crate::outputs::{overwritten, overwritten_list};
 use crate::standing::{tell_image_stacks, tell_lazy_stacks};
 use crate::telling::{
-    refuse, tell_audit, tell_done, tell_endings, tell_no_files, tell_overwritten, tell_replay,
-    tell_report, tell_words,
+    refuse, tell_audit, tell_built, tell_done, tell_endings, tell_no_files, tell_overwritten,
+    tell_replay, tell_report, tell_words,
 };
 use crate::untold::tell_untold;
 use crate::{
@@ -313,7 +313,8 @@ fn do_request<
             (status, Held::Nothing, out)
         }
         Request::Build(words) => {
-            let status = tell_done(image_build::run(rt, alloc, words, files, watch), errors);
+            let built = image_build::run(rt, alloc, words, files, watch);
+            let status = tell_built(alloc, built, watch, errors);
             (status, Held::Nothing, out)
         }
         Request::Explain(words) => {

@@ -12,7 +12,7 @@ use crate::meanings::Errors;
 use crate::outputs::Clash;
 use crate::running::send_seen;
 use crate::standing::tell_image_stacks;
-use crate::{Refusal, Replay, Request, RunFault, Status, WordsFault, thread_lines};
+use crate::{Refusal, Replay, Request, RunFault, Status, Watch, WordsFault, thread_lines};
 use init_engine::Ending;
 use program::Program;
 use std::alloc::Global;
@@ -94,6 +94,25 @@ pub(crate) fn tell_done<E: Errors>(done: Result<(), Refusal>, errors: &mut E) ->
         Ok(()) => Status::Done,
         Err(refusal) => refuse(&refusal, errors),
     }
+}
+
+/// Tells why a build was refused, if it was; and what it was at, where memory was refused for it.
+pub(crate) fn tell_built<E: Errors, H: Watch>(
+    alloc: Global,
+    built: Result<(), Refusal>,
+    watch: &H,
+    errors: &mut E,
+) -> Status
+    ensures words { result ≢ Status.Words }
+    ensures done { IsOver result → (result ≡ Status.Done) × IsOk built }
+{
+    if matches!(built, Err(Refusal::Memory))
+        && let Some(work) = watch.work(alloc)
+    {
+        errors.refuse_memory(work.as_str());
+        return Status::Refused;
+    }
+    tell_done(built, errors)
 }
 
 /// Tells a report, or why there is none.

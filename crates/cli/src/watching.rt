@@ -34,6 +34,9 @@ pub trait Watch {
 
     /// A class was initialized, or refused.
     fn done(&self);
+
+    /// What the build is at, in words that follow 'while'. None where that is not known, or memory is refused for it.
+    fn work(&self, alloc: Global) -> Option<String>;
 }
 
 /// Told nothing.
@@ -50,6 +53,10 @@ impl Watch for Unwatched {
     fn class(&self, _name: &str) {}
 
     fn done(&self) {}
+
+    fn work(&self, _alloc: Global) -> Option<String> {
+        None
+    }
 }
 
 /// The gate of a build that is watched: always ready.

@@ -81,7 +81,7 @@ where
         held,
     } = match terminal {
         Some(terminal) => run_on_terminal(rt, words, out, errors, terminal),
-        None => run_unwatched(rt, words, out, errors),
+        None => run_without_terminal(rt, words, out, errors),
     };
     // The process ends with it.
     mem::forget(held);
@@ -99,6 +99,27 @@ where
     command_holding(rt, rt.alloc(), words, &mut disk, out, errors, &Unwatched)
 }
 
+/// Does a command. A build that is refused memory tells what it was at, if words are asked for.
+fn run_without_terminal<R, W, E>(rt: &R, words: &[&str], out: W, errors: &mut E) -> End<W>
+where
+    R: rt::Files + AllocGlobal + Threads + Wait + Sync,
+    W: Write + Send + Drop,
+    E: Write,
+{
+    if is_build(words) && words.contains(&"--verbose") {
+        let progress = Progress::new(rt, io::sink());
+        let mut disk = Disk::new(rt);
+        command_holding(rt, rt.alloc(), words, &mut disk, out, errors, &progress)
+    } else {
+        run_unwatched(rt, words, out, errors)
+    }
+}
+
+/// Whether the words are those of a build.
+fn is_build(words: &[&str]) -> bool {
+    matches!(words.first(), Some(word) if *word == "build")
+}
+
 /// Does a command. A build that takes long tells on the terminal how far it has come.
 fn run_on_terminal<R, W, E, P>(
     rt: &R,
@@ -113,7 +134,7 @@ where
     E: Write,
     P: Write + Send + Drop,
 {
-    if matches!(words.first(), Some(word) if *word == "build") {
+    if is_build(words) {
         run_watched(rt, words, out, errors, terminal)
     } else {
         run_unwatched(rt, words, out, errors)

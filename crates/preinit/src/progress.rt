@@ -1,6 +1,7 @@
 //! A line on the terminal, written over, that tells how far a long build has come.
 
 use cli::{Stage, Watch};
+use std::alloc::{AllocError, Global};
 use std::io::{self, Write};
 use std::rt::Clock;
 use std::sync::{Condvar, Mutex, MutexGuard, Wait};
@@ -104,7 +105,7 @@ impl<E: Write> State<E> {
             Stage::Building if class.is_empty() => write!(self.to, "\rpreinit: linking")?,
             Stage::Building => write!(
                 self.to,
-                "\rpreinit: initializing, {done} classes done, at {class:<NAME$}"
+                "\rpreinit: initializing, {done} classes done, at {class:<NAME$.NAME$}"
             )?,
             Stage::Writing | Stage::Ended => {
                 write!(
@@ -116,6 +117,16 @@ impl<E: Write> State<E> {
         }
         self.told = true;
         self.to.flush()
+    }
+
+    /// What the build is at, in words that follow 'while'. Of several classes at work it is the one that was begun last.
+    fn work(&self, alloc: Global) -> Result<String, AllocError> {
+        match self.stage {
+            Stage::Reading => String::from_str(alloc, "reading class files"),
+            Stage::Building if self.class.is_empty() => String::from_str(alloc, "linking"),
+            Stage::Building => format!(in alloc; "initializing {}", self.class.as_str()),
+            Stage::Writing | Stage::Ended => String::from_str(alloc, "writing the image"),
+        }
     }
 
     fn erase(&mut self) -> io::Result<()> {
@@ -142,16 +153,16 @@ impl<R: Wait + Sync, E: Write + Send> Watch for Progress<'_, R, E> {
     fn class(&self, name: &str) {
         let mut state = self.state.lock(self.rt);
         state.class.clear();
-        for character in name.chars().take(NAME) {
-            // Where memory is refused for it, less of the name is told.
-            if state.class.push(character).is_err() {
-                return;
-            }
-        }
+        // Where memory is refused for it, it is not told.
+        let _ = state.class.push_str(name);
     }
 
     fn done(&self) {
         let mut state = self.state.lock(self.rt);
         state.done = state.done.saturating_add(1);
+    }
+
+    fn work(&self, alloc: Global) -> Option<String> {
+        self.state.lock(self.rt).work(alloc).ok()
     }
 }
