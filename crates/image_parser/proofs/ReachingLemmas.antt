@@ -139,7 +139,7 @@ pub hold_all : (regions : Held) (vs : List ImageValue) (i : ℕ) (old new : List
 hold_all regions vs i old new all a =
     subst (λ (ws : List ImageValue). Adds old (HoldPlace regions ws) new) (take_all i vs all) a
 
-NamesNone : Held → ImageValue → Type 0
+abbrev NamesNone : Held → ImageValue → Type 0
 NamesNone regions v = (x : Place) → IsPlaceOf regions v x → ⊥
 
 number_names_none : (regions : Held) (v : Value) → NamesNone regions (told_number v)

@@ -10,6 +10,7 @@ loop-slot-preserved c = elim c.match-get.branch [
       ∙ told_more c.args.numbers.now c.loop-slot.values.items c.loop-slot.slot w.in-Some.number w.told_number.result
       (sym c.get.ensures ∙ w.in-Some.is) w.told_number.ensures c.loop-slot.invariant
   | in_default w ↦
-      let low : c.loop-slot.slot < length c.args.numbers.now = omega (arith, c.loop-slot-test.true, c.len-slot-end.ensures)
-      in absurd (told_somewhere c.args.numbers.now c.loop-slot.slot low (sym c.get.ensures ∙ w.in_default.is))
+      let low : c.loop-slot.slot < length c.args.numbers.now =
+      omega (arith, c.loop-slot-test.true, c.len-slot-end.ensures) in
+      absurd (told_somewhere c.args.numbers.now c.loop-slot.slot low (sym c.get.ensures ∙ w.in_default.is))
 ]

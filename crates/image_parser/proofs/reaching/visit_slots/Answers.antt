@@ -8,11 +8,11 @@ use Rattle.image_parser.proofs.reaching.visit_slots.Goals as goal
 
 pub returns-in-Numbers : goal.returns-in-Numbers
 returns-in-Numbers c =
-    hold_numbers c.args.regions.now c.in-Numbers.field-0.now c.args.slots.now c.args.found.now c.seen.ensures.1
+    hold_numbers c.args.regions.now c.in-Numbers.field-0.now c.args.slots.now c.args.found.now c.in-Numbers.ensures.1
 
 pub returns-in-Values : goal.returns-in-Values
 returns-in-Values c =
     on_ok_weaker c.visit_values.result
     (subst (λ (vs : List ImageValue). Adds c.args.found.now (HoldPlace c.args.regions.now vs) c.visit_values.new.found)
-    (sym c.seen.ensures))
+    (sym c.in-Values.ensures))
     c.visit_values.ensures
