@@ -2,7 +2,7 @@
 use Rattle.std.proofs.Common.{◌≡◌, ◌≢◌, ◌∙◌, ◌⊎◌, inl, inr, ℕ, zero, suc, ◌+◌, ◌<◌, ◌≤◌, ◌==◌}
 use Rattle.std.proofs.Common.{true, false}
 use Rattle.std.proofs.Common.{List, [], ◌∷◌, ◌++◌, length, map, take, get_or, Option, Some, None, slice_get, option_map}
-use Rattle.std.proofs.Common.{refl, sym, ap, subst, arith, append_assoc, append-nil, eqb-true, eq-eqb}
+use Rattle.std.proofs.Common.{Result, Ok, Err, IfOk, refl, sym, ap, subst, arith, append_assoc, append-nil, eqb-true, eq-eqb}
 use Rattle.std.proofs.Math.Path.{fun_ext}
 use Rattle.std.proofs.Math.Seq.{get_or-append_seam}
 use Rattle.std.specs.List.{All, AllZip}
@@ -167,10 +167,17 @@ number_held S (machine.OfThread t n) is = absurd (let no : false ≡ true = is i
 number_held S machine.Out is = absurd (let no : false ≡ true = is in cc)
 
 -- what is told of numbers is held by themselves
-pub numbers_held : (S : List (List ℕ)) (vs : List Value) → All IsNumber vs → HoldsValues S (map told_number vs) vs
+numbers_held : (S : List (List ℕ)) (vs : List Value) → All IsNumber vs → HoldsValues S (map told_number vs) vs
 numbers_held S [] all = tt
 numbers_held S (v ∷ vs) all =
     (number_held S v (all 0 v (omega arith)), numbers_held S vs (λ k d low. all (suc k) d (omega (arith, low))))
+
+-- a copy of numbers holds what is told of them
+pub copy_held : {E : Type 0} (S : List (List ℕ)) (told : List ImageValue) (numbers : List Value)
+    (copy : Result (List Value) E) → All IsNumber numbers × (told ≡ map told_number numbers)
+    → IfOk copy (λ vs. vs ≡ numbers) → IfOk copy (λ vs. HoldsValues S told vs)
+copy_held S told numbers (Ok vs) seen same = rw (seen.1, same) (numbers_held S numbers seen.0)
+copy_held S told numbers (Err e) seen same = same
 
 -- ---- values in order
 

@@ -10,8 +10,7 @@ pub loop-held-preserved : goal.loop-held-preserved
 loop-held-preserved c =
     All-more (λ (o : ℕ × Object). All FitsType o.1.slots) c.args.objects.now c.loop-held.held-index c.held-item.result
     c.loop-held-test.true c.loop-held.invariant
-    (subst (λ (o : ℕ × Object). All FitsType o.1.slots) c.held-item.is
-    (rw c.as_slice.ensures at c.values_fit.ensures))
+    (subst (λ (o : ℕ × Object). All FitsType o.1.slots) c.held-item.is c.values_fit.ensures)
 
 pub returns : goal.returns
 returns c =
