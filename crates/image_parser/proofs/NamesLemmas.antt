@@ -1,16 +1,9 @@
 -- All of a list, looked through one by one.
-use Rattle.std.proofs.Common.{◌≡◌, ℕ, ◌+◌, ◌<◌, ◌≤◌, true, false, List, Option, length, map, take, get_or, refl, sym}
-use Rattle.std.proofs.Common.{subst}
+use Rattle.std.proofs.Common.{◌≡◌, ℕ, ◌+◌, ◌<◌, ◌≤◌, true, false, List, length, take, get_or, refl, sym, subst}
 use Rattle.std.specs.Bool.{Decides}
 use Rattle.std.specs.List.{All}
 use Rattle.std.proofs.lemmas.List.{take_all}
-use Rattle.std.proofs.lemmas.List.Elements.{All-more, All-map}
-use Rattle.vm_state.specs.declared.value.Value.{Value}
-use Rattle.vm_state.specs.declared.value.Value.TheVariants as machine
-use Rattle.image_format.specs.declared.value.ImageValue.{ImageValue}
-use Rattle.image_format.specs.declared.region.ImageRegion.{ImageRegion}
-use Rattle.image_format.specs.steps.Rows.{told_number}
-use Rattle.image_format.specs.Images.{IsThere}
+use Rattle.std.proofs.lemmas.List.Elements.{All-more}
 
 pub one_more : {X : Type 0} (P : X → Type 0) (xs : List X) (i : ℕ) (x : X) → i < length xs → x ≡ get_or xs i x
     → All P (take i xs) → P x → All P (take (i + 1) xs)
@@ -26,18 +19,3 @@ all_decided P xs i le h = (λ e. all_found P xs i le h, λ h. refl)
 pub one_misses : {X : Type 0} (P : X → Type 0) (xs : List X) (i : ℕ) (x : X) → i < length xs → x ≡ get_or xs i x
     → ¬ P x → Decides false (All P xs)
 one_misses P xs i x lt is misses = (λ e. absurd cc, λ h. absurd (misses (subst P (sym is) (h i x lt))))
-
-number_there : (regions : List (Option ImageRegion)) (v : Value) → IsThere regions (told_number v)
-number_there regions (machine.Int n) = tt
-number_there regions (machine.Long n) = tt
-number_there regions machine.Null = tt
-number_there regions (machine.Text s) = tt
-number_there regions (machine.OfClass c n) = tt
-number_there regions (machine.OfThread t n) = tt
-number_there regions machine.Out = tt
-
--- numbers name no object that is missing
-pub numbers_there : (regions : List (Option ImageRegion)) (numbers : List Value) (vs : List ImageValue)
-    → vs ≡ map told_number numbers → All (IsThere regions) vs
-numbers_there regions numbers vs is = subst (λ (ws : List ImageValue). All (IsThere regions) ws) (sym is)
-    (All-map (IsThere regions) told_number numbers (λ k d low. number_there regions (get_or numbers k d)))

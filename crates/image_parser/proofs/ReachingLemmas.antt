@@ -1,19 +1,16 @@
 -- A search that adds the places of what objects name, from what static fields name on, until nothing is left.
 use Rattle.std.proofs.Common.{◌≡◌, ◌∙◌, ◌⊎◌, ◌↔◌, inl, inr, ℕ, zero, suc, ◌+◌, ◌<◌, ◌≤◌, Bool, true, false, List, []}
 use Rattle.std.proofs.Common.{◌∷◌, ◌++◌}
-use Rattle.std.proofs.Common.{length, map, take, get_or, Option, Some, None, slice_get, refl, sym, ap, subst, arith}
+use Rattle.std.proofs.Common.{length, take, get_or, Option, Some, None, slice_get, refl, sym, ap, subst, arith}
 use Rattle.std.specs.List.{All, Contains}
 use Rattle.std.proofs.lemmas.Bool.{cases_lt}
 use Rattle.std.proofs.lemmas.List.{take_more, take_all}
 use Rattle.std.proofs.lemmas.List.Elements.{Contains-push, Contains-push_cases, Contains-append_left}
-use Rattle.std.proofs.lemmas.List.Elements.{All-contains, All-map}
+use Rattle.std.proofs.lemmas.List.Elements.{All-contains}
 use Rattle.std.proofs.lemmas.Option.{slice_get-get_or, slice_get_within, slice_get_past, get_or_from_slice_get}
 use Rattle.place_set.specs.declared.set.Place.{Place}
 use Rattle.place_set.specs.steps.Adds.{Adds}
 use Rattle.place_set.proofs.AddsLemmas.{adds_none, adds_then, adds_same}
-use Rattle.vm_state.specs.declared.value.Value.{Value}
-use Rattle.vm_state.specs.declared.value.Value.TheVariants as machine
-use Rattle.image_format.specs.steps.Rows.{told_number}
 use Rattle.image_format.specs.declared.value.ImageValue.{ImageValue}
 use Rattle.image_format.specs.declared.value.ImageValue.TheVariants as values
 use Rattle.image_format.specs.declared.object.ImageObject.{ImageObject}
@@ -139,24 +136,12 @@ pub hold_all : (regions : Held) (vs : List ImageValue) (i : ℕ) (old new : List
 hold_all regions vs i old new all a =
     subst (λ (ws : List ImageValue). Adds old (HoldPlace regions ws) new) (take_all i vs all) a
 
-abbrev NamesNone : Held → ImageValue → Type 0
+abbrev pub NamesNone : Held → ImageValue → Type 0
 NamesNone regions v = (x : Place) → IsPlaceOf regions v x → ⊥
 
-number_names_none : (regions : Held) (v : Value) → NamesNone regions (told_number v)
-number_names_none regions (machine.Int n) x p = p
-number_names_none regions (machine.Long n) x p = p
-number_names_none regions machine.Null x p = p
-number_names_none regions (machine.Text s) x p = p
-number_names_none regions (machine.OfClass c n) x p = p
-number_names_none regions (machine.OfThread t n) x p = p
-number_names_none regions machine.Out x p = p
-
--- numbers name no object
-pub hold_numbers : (regions : Held) (numbers : List Value) (vs : List ImageValue) (found : List Place)
-    → vs ≡ map told_number numbers → Adds found (HoldPlace regions vs) found
-hold_numbers regions numbers vs found is =
-    let none : All (NamesNone regions) vs = subst (λ (ws : List ImageValue). All (NamesNone regions) ws) (sym is)
-    (All-map (NamesNone regions) told_number numbers (λ k d low. number_names_none regions (get_or numbers k d))) in
+pub hold_nothing : (regions : Held) (vs : List ImageValue) (found : List Place) → All (NamesNone regions) vs
+    → Adds found (HoldPlace regions vs) found
+hold_nothing regions vs found none =
     adds_none found (HoldPlace regions vs) (λ x h.
     All-contains (NamesNone regions) vs h.value none h.holds x h.place)
 
