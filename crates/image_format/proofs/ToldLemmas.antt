@@ -25,7 +25,9 @@ told_more numbers told slot n v at is before =
 -- each slot holds a number
 pub told_somewhere : (numbers : List Value) (slot : ℕ) → slot < length numbers → slice_get numbers slot ≡ None → ⊥
 told_somewhere numbers slot low none =
-    let clash : None ≡ Some (get_or numbers slot machine.Null) = sym none ∙ slice_get-get_or numbers slot machine.Null low in cc
+    let clash : None ≡ Some (get_or numbers slot machine.Null) =
+    sym none ∙ slice_get-get_or numbers slot machine.Null low in
+    cc
 
 told_one : (P : ImageValue → Type 0) → ((n : ℤ) → P (values.Int n)) → ((n : ℤ) → P (values.Long n)) → P values.Null
     → (v : Value) → P (told_number v)
