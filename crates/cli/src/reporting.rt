@@ -4,29 +4,49 @@ ghost use Rattle.cli.specs.Done.{IsReport};
 ghost use Rattle.report.specs.Texts.{report_text};
 ghost use Rattle.report.specs.Waves.{GiveWaves};
 
-use crate::builds::build_here;
 use crate::files::contents;
 use crate::requested::{options_of, refusal_of};
-use crate::{Building, Files, Refusal};
+use crate::watching::build_watched;
+use crate::{Building, Files, Refusal, Stage, Watch};
 use building::Built;
 use report::render;
 use sinks::Out;
 use std::alloc::{AllocError, Global};
+use std::sync::Wait;
+use std::thread::Threads;
 
 /// Reads the class files, builds an image, and answers its report, as the words say.
 ///
 /// # Errors
 /// The first refusal: a file, the budget, a class file, linking, a list of patterns, or memory.
-pub(crate) fn run<F: Files>(
+pub(crate) fn run<R: Threads + Wait + Sync, F: Files, H: Watch + Sync>(
+    rt: &R,
     alloc: Global,
     words: &Building<'_>,
     files: &mut F,
+    watch: &H,
 ) -> Result<Vec<u8>, Refusal>
     ensures report { IfOk result (λ bytes. IsReport (F.holds files.old) words.now bytes.items) }
     ensures same { F.holds files.new ≡ F.holds files.old }
 {
+    let report = run_watched(rt, alloc, words, files, watch);
+    watch.begin(Stage::Ended);
+    report
+}
+
+fn run_watched<R: Threads + Wait + Sync, F: Files, H: Watch + Sync>(
+    rt: &R,
+    alloc: Global,
+    words: &Building<'_>,
+    files: &mut F,
+    watch: &H,
+) -> Result<Vec<u8>, Refusal>
+    ensures report { IfOk result (λ bytes. IsReport (F.holds files.old) words.now bytes.items) }
+    ensures same { F.holds files.new ≡ F.holds files.old }
+{
+    watch.begin(Stage::Reading);
     let texts = contents(alloc, words.files.as_slice(), files, usize::MAX)?;
-    match build_here(alloc, texts.as_slice(), &options_of(words)) {
+    match build_watched(rt, alloc, texts.as_slice(), &options_of(words), watch) {
         Ok(built) => Ok(report_bytes(alloc, &built)?),
         Err(fault) => Err(refusal_of(alloc, texts.as_slice(), fault)),
     }

@@ -318,7 +318,8 @@ fn do_request<
             (status, Held::Nothing, out)
         }
         Request::Explain(words) => {
-            let status = tell_report(explaining::run(alloc, words, files), &mut out, errors);
+            let text = explaining::run(rt, alloc, words, files, watch);
+            let status = tell_report(alloc, text, &mut out, watch, errors);
             (status, Held::Nothing, out)
         }
         Request::Lazy(words) => {
@@ -330,7 +331,8 @@ fn do_request<
             (status, Held::Nothing, out)
         }
         Request::Report(words) => {
-            let status = tell_report(reporting::run(alloc, words, files), &mut out, errors);
+            let report = reporting::run(rt, alloc, words, files, watch);
+            let status = tell_report(alloc, report, &mut out, watch, errors);
             (status, Held::Nothing, out)
         }
         Request::Replay(words) => {

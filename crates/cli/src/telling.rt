@@ -96,7 +96,7 @@ pub(crate) fn tell_done<E: Errors>(done: Result<(), Refusal>, errors: &mut E) ->
     }
 }
 
-/// Tells why a build was refused, if it was; and what it was at, where memory was refused for it.
+/// Tells why a build was refused, if it was.
 pub(crate) fn tell_built<E: Errors, H: Watch>(
     alloc: Global,
     built: Result<(), Refusal>,
@@ -106,19 +106,18 @@ pub(crate) fn tell_built<E: Errors, H: Watch>(
     ensures words { result ≢ Status.Words }
     ensures done { IsOver result → (result ≡ Status.Done) × IsOk built }
 {
-    if matches!(built, Err(Refusal::Memory))
-        && let Some(work) = watch.work(alloc)
-    {
-        errors.refuse_memory(work.as_str());
-        return Status::Refused;
+    match built {
+        Ok(()) => Status::Done,
+        Err(refusal) => refuse_build(alloc, &refusal, watch, errors),
     }
-    tell_done(built, errors)
 }
 
-/// Tells a report, or why there is none.
-pub(crate) fn tell_report<W: Write, E: Errors>(
+/// Tells what is to be told of a build, or why there is none.
+pub(crate) fn tell_report<W: Write, E: Errors, H: Watch>(
+    alloc: Global,
     report: Result<Vec<u8>, Refusal>,
     out: &mut W,
+    watch: &H,
     errors: &mut E,
 ) -> Status
     ensures refused { result ≡ Status.Refused → out.new ≡ out.old }
@@ -128,7 +127,7 @@ pub(crate) fn tell_report<W: Write, E: Errors>(
 {
     match report {
         Ok(report) => tell_text(report.as_slice(), out, errors),
-        Err(refusal) => refuse(&refusal, errors),
+        Err(refusal) => refuse_build(alloc, &refusal, watch, errors),
     }
 }
 
@@ -157,6 +156,25 @@ pub(crate) fn refuse<E: Errors>(refusal: &Refusal, errors: &mut E) -> Status
     ensures { result ≡ refusal_status refusal.now }
 {
     errors.refuse(refusal);
+    refusal.status()
+}
+
+/// Tells why a build is refused; and what it was at, where memory was refused for it.
+fn refuse_build<E: Errors, H: Watch>(
+    alloc: Global,
+    refusal: &Refusal,
+    watch: &H,
+    errors: &mut E,
+) -> Status
+    ensures { result ≡ refusal_status refusal.now }
+{
+    if matches!(refusal, Refusal::Memory)
+        && let Some(work) = watch.work(alloc)
+    {
+        errors.refuse_memory(work.as_str());
+    } else {
+        errors.refuse(refusal);
+    }
     refusal.status()
 }
 

@@ -1,11 +1,19 @@
 //! Who is told how far a build has come.
 
+ghost use Rattle.std.specs.Prelude.{IfOk};
+ghost use Rattle.cli.specs.Builds.{IsBuildOfClassFiles};
+ghost use Rattle.cli.specs.Runs.{texts_of};
+
+use crate::builds::build;
+use building::{BuildFault, BuildOptions, Built};
 use built_in::class_id::ClassId;
 use evaluator::outcome::Outcome;
 use evaluator::regions::Regions;
 use evaluator::settling::settle;
 use program::Program;
 use std::alloc::{AllocError, Global};
+use std::sync::Wait;
+use std::thread::Threads;
 use wave_scheduler::Gate;
 
 /// What a build does.
@@ -15,7 +23,7 @@ pub enum Stage {
     Reading,
     /// Class files are linked, and then classes are initialized.
     Building,
-    /// The image is written.
+    /// The image is written, or what is to be told of it.
     Writing,
     /// The build is over.
     Ended,
@@ -96,4 +104,23 @@ impl<H: Watch + Sync> Gate for Watched<'_, H> {
     fn done(&self, _who: u32, _job: u32) {
         self.watch.done();
     }
+}
+
+/// Builds as `build` does, on this thread, and tells how far it has come.
+///
+/// # Errors
+/// As `build`.
+pub(crate) fn build_watched<R: Threads + Wait + Sync, H: Watch + Sync>(
+    rt: &R,
+    alloc: Global,
+    files: &[Vec<u8>],
+    options: &BuildOptions<'_>,
+    watch: &H,
+) -> Result<Built, BuildFault>
+    ensures { IfOk result (IsBuildOfClassFiles (texts_of files.now) options.now) }
+{
+    watch.begin(Stage::Building);
+    let built = build(rt, alloc, files, options, 1, &Watched { watch });
+    watch.begin(Stage::Writing);
+    built
 }

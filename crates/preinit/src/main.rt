@@ -115,9 +115,9 @@ where
     }
 }
 
-/// Whether the words are those of a build.
+/// Whether the words are those of a command that builds.
 fn is_build(words: &[&str]) -> bool {
-    matches!(words.first(), Some(word) if *word == "build")
+    matches!(words.first(), Some(word) if matches!(*word, "build" | "explain" | "report"))
 }
 
 /// Does a command. A build that takes long tells on the terminal how far it has come.

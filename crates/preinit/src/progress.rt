@@ -125,7 +125,7 @@ impl<E: Write> State<E> {
             Stage::Reading => String::from_str(alloc, "reading class files"),
             Stage::Building if self.class.is_empty() => String::from_str(alloc, "linking"),
             Stage::Building => format!(in alloc; "initializing {}", self.class.as_str()),
-            Stage::Writing | Stage::Ended => String::from_str(alloc, "writing the image"),
+            Stage::Writing | Stage::Ended => String::from_str(alloc, "writing what was built"),
         }
     }
 
