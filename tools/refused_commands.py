@@ -17,7 +17,7 @@ GROWTHS, STARTS = refusals.GROWTHS, refusals.STARTS
 REFUSALS = (b"preinit: Memory\n", b"preinit: Spawn\n")
 # What follows where words are asked for, with what the build was at.
 MEANING = re.compile(rb"(?P<refusal>preinit: Memory\n)the system gave no more memory(, while (?P<work>.*))?\n\Z")
-WORKS = {b"reading class files", b"linking", b"initializing One", b"writing the image"}
+WORKS = {b"reading class files", b"linking", b"initializing One", b"writing what was built"}
 OLD = b"old"
 # Classes of a real compiler, one whose `main` reaches what is left out, and one that prints 7.
 CLASSES = "product_cases/data/java/init_enum_basic_*.class"
@@ -32,7 +32,7 @@ def commands(classes):
         ([*build, *classes], 0, ["app.txt", "app.img"], True),
         (["build", "--out", "seven.img", "M.class"], 0, ["seven.img"], False),
         (["build", "--verbose", "--out", "verbose.img", *classes], 0, ["verbose.img"], False),
-        (["report", *classes], 0, [], False),
+        (["report", "--verbose", *classes], 0, [], False),
         (["explain", "all", *classes], 0, [], False),
         (["audit", "--entries", "Main", "lambda_Main.class"], 6, [], False),
         (["lazy", "--entries", "Main", "--stacks", "--limit", "300", *classes], 5, [], False),
