@@ -120,7 +120,11 @@ pub(crate) fn build_watched<R: Threads + Wait + Sync, H: Watch + Sync>(
     ensures { IfOk result (IsBuildOfClassFiles (texts_of files.now) options.now) }
 {
     watch.begin(Stage::Building);
-    let built = build(rt, alloc, files, options, 1, &Watched { watch });
-    watch.begin(Stage::Writing);
-    built
+    match build(rt, alloc, files, options, 1, &Watched { watch }) {
+        Ok(built) => {
+            watch.begin(Stage::Writing);
+            Ok(built)
+        }
+        Err(fault) => Err(fault),
+    }
 }
