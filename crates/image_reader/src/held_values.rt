@@ -96,7 +96,10 @@ pub(crate) fn held_slots(
 {
     match slots.seen() {
         SeenSlots::Numbers(numbers) => numbers.copy(alloc),
-        SeenSlots::Values(values) => Ok(Slots::of_vec(held_values(alloc, program, values)?)),
+        SeenSlots::Values(values) => {
+            let values = held_values(alloc, program, values)?;
+            Slots::packed(alloc, values.as_slice())
+        }
     }
 }
 

@@ -3,6 +3,7 @@
 ghost use Rattle.std.specs.Prelude.{◌≡◌, ℕ, ◌++◌, ◌<◌, ◌^◌, length, map, replicate, option_map, IfOk, OnOk};
 ghost use Rattle.std.specs.List.{flat_map, All};
 ghost use Rattle.vm_state.specs.declared.object.Object.{Object as Held};
+ghost use Rattle.vm_state.specs.Objects.{kept_of};
 ghost use Rattle.evaluator.specs.Regions.{region_of, environment_of};
 ghost use Rattle.loading.specs.ClassIds.{object_type};
 ghost use Rattle.image_format.specs.declared.version.Version.TheVariants.{Two};
@@ -23,7 +24,9 @@ use object_graph::Image;
 use program::Program;
 use program::runtime_constant::FieldKind;
 use std::alloc::{AllocError, Global};
-use vm_state::object::{Object, Slots};
+use vm_state::heap::Row;
+use vm_state::kept::Kept;
+use vm_state::object::Slots;
 
 /// An instance: its form, its class's name, and its slots.
 fn push_instance(
@@ -105,16 +108,17 @@ fn push_object(
     alloc: Global,
     out: &mut Vec<u8>,
     program: &Program,
-    object: &Object,
+    object: &Kept,
 ) -> Result<(), AllocError>
     requires files { HasFiles program.now }
-    requires sized { IsSizedObject program.now object.now }
-    ensures { OnOk result (out.new.items
-        ≡ out.old.items ++ object_text program.now.family (told_object program.now.strings object.now)) }
+    requires sized { (o : Held) → kept_of o ≡ object.now → IsSizedObject program.now o }
+    ensures { OnOk result ((o : Held) → kept_of o ≡ object.now → out.new.items
+        ≡ out.old.items ++ object_text program.now.family (told_object program.now.strings o)) }
 {
-    let name = name_of_class(alloc, program, object.class)?;
+    let class = object.class.id();
+    let name = name_of_class(alloc, program, class)?;
     let slots = &object.slots;
-    match object.class {
+    match class {
         ClassId::Array(array) => {
             push_array(alloc, out, program, &name, kind_of_elements(array), slots)
         }
@@ -129,12 +133,12 @@ fn push_kept(
     out: &mut Vec<u8>,
     program: &Program,
     number: u32,
-    object: &Object,
+    object: &Kept,
 ) -> Result<(), AllocError>
     requires files { HasFiles program.now }
-    requires sized { IsSizedObject program.now object.now }
-    ensures { OnOk result (out.new.items
-        ≡ out.old.items ++ kept_text Two program.now.family (told_kept program.now.strings (number, object.now))) }
+    requires sized { (o : Held) → kept_of o ≡ object.now → IsSizedObject program.now o }
+    ensures { OnOk result ((o : Held) → kept_of o ≡ object.now → out.new.items
+        ≡ out.old.items ++ kept_text Two program.now.family (told_kept program.now.strings (number, o))) }
 {
     push_u32(out, number)?;
     push_object(alloc, out, program, object)
@@ -145,17 +149,19 @@ fn push_objects(
     alloc: Global,
     out: &mut Vec<u8>,
     program: &Program,
-    objects: &[(u64, Object)],
+    objects: &Row,
 ) -> Result<(), AllocError>
     requires files { HasFiles program.now }
-    requires sized { All (λ (o : ℕ × Held). IsSizedObject program.now o.1) objects.now }
-    requires numbers { All (λ (o : ℕ × Held). o.0 < 2 ^ 32) objects.now }
+    requires sized { All (λ (o : ℕ × Held). IsSizedObject program.now o.1) objects.now.objects }
+    requires numbers { All (λ (o : ℕ × Held). o.0 < 2 ^ 32) objects.now.objects }
     ensures { OnOk result (out.new.items ≡ out.old.items
-        ++ flat_map (kept_text Two program.now.family) (map (told_kept program.now.strings) objects.now)) }
+        ++ flat_map (kept_text Two program.now.family) (map (told_kept program.now.strings) objects.now.objects)) }
 {
-    for held in objects {
-        let number = held.0 as u32;
-        push_kept(alloc, out, program, number, &held.1)?;
+    for place in 0..objects.len() {
+        if let Some(held) = objects.at(place) {
+            let number = held.0 as u32;
+            push_kept(alloc, out, program, number, held.1)?;
+        }
     }
     Ok(())
 }
@@ -175,7 +181,7 @@ fn push_region(
         (told_region image.now.program class (region_of region.now))) }
 {
     let program = image.program();
-    let objects = region.objects.objects();
+    let objects = &region.objects;
     let made = region.objects.count() as u32;
     push_u32(out, made)?;
     push_fields(

@@ -104,7 +104,7 @@ pub fn new_given<S: Store>(
         frame,
         store,
         ClassId::Given(class),
-        Slots::of_vec(slots),
+        slots,
     )
 }
 
