@@ -1,10 +1,7 @@
 //! The monitors that are owned, by the numbers of their objects. They are few.
 
-ghost use Rattle.std.specs.Prelude.{◌≡◌, [], OnOk, OnErr, IfOk};
-ghost use Rattle.std.specs.List.{position};
-ghost use Rattle.std.specs.Prelude.{◌==◌, ℕ};
-ghost use Rattle.vm_state.specs.declared.object.Monitor.{Monitor as HeldMonitor};
-ghost use Rattle.vm_state.specs.steps.Owners.{monitor_in, IsMonitorSet};
+ghost use Rattle.std.specs.Prelude.{◌≡◌, [], length, OnOk, OnErr, IfOk, IfSome, IfNone};
+ghost use Rattle.vm_state.specs.steps.Owners.{monitor_in, IsMonitorSet, IsFirstOf, IsNoneOf};
 
 use crate::object::Monitor;
 use std::alloc::{AllocError, Global};
@@ -17,7 +14,8 @@ pub(crate) struct Owners {
 }
 
 impl Model for Owners {
-    ghost use Rattle.std.specs.Prelude.{List};
+    ghost use Rattle.std.specs.Prelude.{List, ℕ};
+    ghost use Rattle.vm_state.specs.declared.object.Monitor.{Monitor as HeldMonitor};
 
     ghost Value = { List (ℕ × HeldMonitor) };
 
@@ -42,11 +40,17 @@ impl Owners {
         Ok(Owners { owned })
     }
 
-    /// The place of the monitor of a number, if it is owned.
+    /// The first place of the monitor of a number, if it is owned.
     fn place(&self, number: u64) -> Option<usize>
-        ensures { result ≡ position (λ (o : ℕ × HeldMonitor). o.0 == number) self.now }
+        ensures found { IfSome result (IsFirstOf number self.now) }
+        ensures none { IfNone result (IsNoneOf number self.now (length self.now)) }
     {
-        self.owned.iter().position(|held| held.0 == number)
+        for place in 0..self.owned.len() {
+            if self.owned[place].0 == number {
+                return Some(place);
+            }
+        }
+        None
     }
 
     /// The monitor of a number.
@@ -54,10 +58,7 @@ impl Owners {
         ensures { result ≡ monitor_in self.now number }
     {
         match self.place(number) {
-            Some(place) => match self.owned.get(place) {
-                Some(held) => held.1,
-                None => Monitor::Free,
-            },
+            Some(place) => self.owned[place].1,
             None => Monitor::Free,
         }
     }
@@ -76,9 +77,7 @@ impl Owners {
     {
         match self.place(number) {
             Some(place) => {
-                if let Some(held) = self.owned.get_mut(place) {
-                    *held = (number, monitor);
-                }
+                self.owned[place] = (number, monitor);
                 Ok(())
             }
             None => {
