@@ -300,8 +300,8 @@ impl Row {
         let plain = self.kept.len() - later.len();
         let place = place_of(plain, later, number);
         match number_at(plain, later, place) {
-            Some(found) if found == number => Some(place),
-            _ => None,
+            Some(found) => { if found == number { Some(place) } else { None } }
+            None => None,
         }
     }
 
