@@ -1,12 +1,12 @@
 -- Objects as a row keeps them: their numbers, their monitors, and changes.
 use Rattle.std.proofs.Common.{◌≡◌, ◌<◌, ◌≤◌, ◌+◌, ◌-◌, ◌⊎◌, ℕ, zero, suc, true, false, List, [], ◌∷◌, ◌++◌, Option, Some, None}
 use Rattle.std.proofs.Common.{length, get_or, slice_get, slice_set, refl, sym, subst, ap, ◌∙◌, ◌==◌, eqb-true, inl, inr}
-use Rattle.std.proofs.Common.{if◌then◌else◌, arith}
+use Rattle.std.proofs.Common.{if◌then◌else◌, take, arith}
 use Rattle.std.specs.Prelude.{IsSome, option_map}
 use Rattle.std.specs.List.{range_with_len}
 use Rattle.std.specs.List.Sorted.{IsNonDecreasingBy}
 use Rattle.std.proofs.lemmas.List.{length_push, append-nil}
-use Rattle.std.proofs.lemmas.Option.{get_or_from_slice_get}
+use Rattle.std.proofs.lemmas.Option.{get_or_from_slice_get, slice_get-get_or}
 use Rattle.vm_state.specs.declared.object.Object.{Object}
 use Rattle.vm_state.specs.declared.object.Monitor.{Monitor}
 use Rattle.vm_state.specs.declared.object.Monitor.TheVariants.{Free}
@@ -69,7 +69,7 @@ pub get_after : (plain p d : ℕ) (later : List ℕ) → plain ≤ p →
     get_or (numbers_of plain later) p d ≡ get_or later (p - plain) d
 get_after plain p d later h = get_after_at 0 plain p d later h
 
-length_counted : (a plain : ℕ) (later : List ℕ) → length (range_with_len a plain ++ later) ≡ plain + length later
+pub length_counted : (a plain : ℕ) (later : List ℕ) → length (range_with_len a plain ++ later) ≡ plain + length later
 length_counted a zero later = omega arith
 length_counted a (suc n) later =
     let rest : length (range_with_len (a + 1) n ++ later) ≡ n + length later = length_counted (a + 1) n later in
@@ -521,3 +521,19 @@ objects_next w (x ∷ ns) [] n k number =
     objects_end w ns x k ∙ ap (λ (j : ℕ). (j, with_monitor_in w j k) ∷ []) same
 objects_next w (x ∷ ns) (y ∷ ks) n k number =
     ap (λ (os : List (ℕ × Object)). (x, with_monitor_in w x y) ∷ os) (objects_next w ns ks n k number)
+
+pub next_there : (plain : ℕ) (later : List ℕ) (i : ℕ) → i < plain + length later →
+    slice_get (numbers_of plain later) i ≡ Some (get_or (numbers_of plain later) i 0)
+next_there plain later i h = slice_get-get_or (numbers_of plain later) i 0 (omega (arith, h, length_counted 0 plain later))
+
+pub ascends_take : (low : ℕ) (os : List (ℕ × Object)) (count i : ℕ) → AscendsFrom low os count →
+    AscendsFrom low (take i os) count
+ascends_take low [] count zero h = h
+ascends_take low [] count (suc i) h = h
+ascends_take low (x ∷ xs) count zero (h, hs) =
+    let rest : x.0 + 1 ≤ count = ascends_to (x.0 + 1) xs count hs in omega (arith, h, rest)
+ascends_take low (x ∷ xs) count (suc i) (h, hs) = (h, ascends_take (x.0 + 1) xs count i hs)
+
+pub objects_none : (w : List (ℕ × Monitor)) (ns : List ℕ) → objects_of w ns [] ≡ []
+objects_none w [] = refl
+objects_none w (n ∷ ns) = refl
