@@ -37,8 +37,9 @@ impl Model for Row {
     ghost Value = { ObjectRow };
 
     ghost view = { λ s. record {
-        count = s.count;
-        objects = objects_of s.owners (numbers_in s.later.items s.kept.items) s.kept.items } };
+      count = s.count;
+      objects = objects_of s.owners (numbers_in s.later.items s.kept.items) s.kept.items;
+    } };
 
     ghost invariant = { λ s.
         AscendsFrom 0 (objects_of s.owners (numbers_in s.later.items s.kept.items) s.kept.items) s.count
@@ -249,7 +250,11 @@ impl Row {
     ///
     /// # Errors
     /// `AllocError` where memory is refused.
-    pub fn of_objects(alloc: Global, count: u64, objects: Vec<(u64, Object)>) -> Result<Row, AllocError>
+    pub fn of_objects(
+        alloc: Global,
+        count: u64,
+        objects: Vec<(u64, Object)>,
+    ) -> Result<Row, AllocError>
         requires { AscendsFrom 0 objects.items count }
         ensures { IfOk result (λ r. r ≡ record { count = count; objects = objects.items }) }
     {
