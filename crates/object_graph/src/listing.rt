@@ -7,23 +7,28 @@ ghost use Rattle.object_graph.specs.declared.name_set.ObjectName.{ObjectName as 
 ghost use Rattle.object_graph.specs.Names.{AreDistinct};
 ghost use Rattle.object_graph.specs.Reached.{IsReached};
 ghost use Rattle.object_graph.specs.steps.Listed.{names_of, names_below};
+ghost use Rattle.object_graph.specs.steps.Places.{row_in};
 
 use crate::image::Image;
 use crate::name_set::{NameSet, ObjectName};
-use crate::rows::objects_of;
+use crate::rows::{count_in, object_at};
 use evaluator::regions::Regions;
+use place_set::Place;
 use std::alloc::{AllocError, Global};
-use vm_state::object::Object;
 
 /// Adds the names of the objects of a class.
-fn add_names(
-    class: u32,
-    objects: &[(u64, Object)],
-    names: &mut Vec<ObjectName>,
-) -> Result<(), AllocError>
-    ensures { OnOk result (names.new.items ≡ names.old.items ++ names_of class objects.now) }
+fn add_names(regions: &Regions, class: u32, names: &mut Vec<ObjectName>) -> Result<(), AllocError>
+    ensures { OnOk result (names.new.items
+        ≡ names.old.items ++ names_of class (row_in regions.now class).objects) }
 {
-    for held in objects {
+    for index in 0..count_in(regions, class) {
+        let place = Place {
+            row: class,
+            index: index as u64,
+        };
+        let Some(held) = object_at(regions, place) else {
+            return Ok(());
+        };
         names.push(ObjectName {
             class,
             number: held.0,
@@ -43,7 +48,8 @@ fn add_all_names(
     ensures distinct { OnOk result (AreDistinct names.new.items) }
 {
     for class in 0..count {
-        add_names(class, objects_of(regions, class), names)?;
+        let _count = count_in(regions, class);
+        add_names(regions, class, names)?;
     }
     Ok(())
 }
