@@ -1,11 +1,12 @@
 //! The objects, by their names.
 
 ghost use Rattle.std.specs.Prelude.{◌≡◌, ℕ, ◌∷◌, [], ◌++◌, ◌<◌, ◌≤◌, ◌^◌, ◌+◌, length, get_or, slice_get, IfOk};
-ghost use Rattle.std.specs.Prelude.{OnOk, OnErr, IfSome, IfNone, IsSome, None, option_copied, option_map};
+ghost use Rattle.std.specs.Prelude.{OnOk, OnErr, IfSome, IfNone, IsSome, Some, None, option_copied, option_map};
 ghost use Rattle.std.specs.List.Sorted.{IsNonDecreasingBy};
 ghost use Rattle.vm_state.specs.Objects.{AscendsFrom, empty_row, row_of, object_in, kept_of, numbered_kept};
-ghost use Rattle.vm_state.specs.steps.Objects.{with_next, object_at_place, numbers_of, objects_of, IsKept};
-ghost use Rattle.vm_state.specs.SharedState.{monitor_of, with_new, with_slot, with_monitor};
+ghost use Rattle.vm_state.specs.steps.Objects.{with_next, with_monitor_in, object_at_place, numbers_of, objects_of, IsKept};
+ghost use Rattle.vm_state.specs.SharedState.{class_at, monitor_of, slots_at, with_new, with_slot, with_monitor};
+ghost use Rattle.vm_state.specs.declared.kept.Kept.{Kept as HeldObject};
 ghost use Rattle.vm_state.specs.Pools.{IsRowBy, IsRowOf, pool_at, pool_by, pool_in, with_pool};
 
 use crate::items::copy_items;
@@ -37,8 +38,9 @@ impl Model for Row {
     ghost Value = { ObjectRow };
 
     ghost view = { λ s. record {
-        count = s.count;
-        objects = objects_of s.owners (numbers_in s.later.items s.kept.items) s.kept.items } };
+      count = s.count;
+      objects = objects_of s.owners (numbers_in s.later.items s.kept.items) s.kept.items;
+    } };
 
     ghost invariant = { λ s.
         AscendsFrom 0 (objects_of s.owners (numbers_in s.later.items s.kept.items) s.kept.items) s.count
@@ -54,8 +56,26 @@ fn number_at(plain: usize, later: &[u64], place: usize) -> Option<u64>
     if place < plain {
         Some(place as u64)
     } else {
-        later.get(place - plain).copied()
+        later_number(later, place - plain)
     }
+}
+
+/// A number that stands in a list.
+fn later_number(later: &[u64], place: usize) -> Option<u64>
+    ensures { result ≡ slice_get later.now place }
+{
+    match later.get(place) {
+        Some(number) => Some(*number),
+        None => None,
+    }
+}
+
+/// The object at a place.
+#[inline(always)]
+fn kept_at(kept: &[Kept], place: usize) -> Option<&Kept>
+    ensures { option_copied result ≡ slice_get kept.now place }
+{
+    kept.get(place)
 }
 
 /// The first place of a number that is not below this one.
@@ -130,6 +150,24 @@ fn object_of(kept: Kept, monitor: Monitor) -> Object
     }
 }
 
+/// Adds the object at a place with its number and its monitor.
+fn add_object(
+    plain: usize,
+    later: &[u64],
+    place: usize,
+    kept: Kept,
+    owners: &Owners,
+    objects: &mut Vec<(u64, Object)>,
+) -> Result<(), AllocError>
+    ensures { OnOk result ((n : ℕ) → slice_get (numbers_of plain later.now) place ≡ Some n
+        → objects.new.items ≡ objects.old.items ++ (n, with_monitor_in owners.now n kept) ∷ []) }
+{
+    if let Some(number) = number_at(plain, later, place) {
+        objects.push((number, object_of(kept, owners.monitor(number))))?;
+    }
+    Ok(())
+}
+
 /// Objects with their numbers and monitors, put where there are none.
 fn add_objects(
     plain: usize,
@@ -144,9 +182,7 @@ fn add_objects(
 {
     let mut place = 0usize;
     for held in kept {
-        if let Some(number) = number_at(plain, later, place) {
-            objects.push((number, object_of(held, owners.monitor(number))))?;
-        }
+        add_object(plain, later, place, held, owners, objects)?;
         place += 1;
     }
     Ok(())
@@ -215,7 +251,11 @@ impl Row {
     ///
     /// # Errors
     /// `AllocError` where memory is refused.
-    pub fn of_objects(alloc: Global, count: u64, objects: Vec<(u64, Object)>) -> Result<Row, AllocError>
+    pub fn of_objects(
+        alloc: Global,
+        count: u64,
+        objects: Vec<(u64, Object)>,
+    ) -> Result<Row, AllocError>
         requires { AscendsFrom 0 objects.items count }
         ensures { IfOk result (λ r. r ≡ record { count = count; objects = objects.items }) }
     {
@@ -263,9 +303,13 @@ impl Row {
             ≡ option_map numbered_kept (slice_get self.now.objects place) }
     {
         let plain = self.kept.len() - self.later.len();
-        let number = number_at(plain, self.later.as_slice(), place)?;
-        let kept = self.kept.get(place)?;
-        Some((number, kept))
+        match number_at(plain, self.later.as_slice(), place) {
+            Some(number) => match kept_at(self.kept.as_slice(), place) {
+                Some(kept) => Some((number, kept)),
+                None => None,
+            },
+            None => None,
+        }
     }
 
     /// The place of the object of a number, if it is held. Where no number is left out it is the number.
@@ -278,18 +322,30 @@ impl Row {
         let plain = self.kept.len() - later.len();
         let place = place_of(plain, later, number);
         match number_at(plain, later, place) {
-            Some(found) if found == number => Some(place),
-            _ => None,
+            Some(found) => { if found == number { Some(place) } else { None } }
+            None => None,
         }
     }
 
     /// The object of a number, if it is held.
     #[inline(always)]
     pub fn object(&self, number: u64) -> Option<&Kept>
+        ensures kept { option_copied result ≡ option_map kept_of (object_in self.now.objects number) }
+        ensures class { option_map (λ (o : HeldObject). o.class) (option_copied result)
+            ≡ class_at (pool_by self.now) number }
+        ensures slots { option_map (λ (o : HeldObject). o.slots) (option_copied result)
+            ≡ slots_at (pool_by self.now) number }
+    {
+        self.kept(number)
+    }
+
+    /// The same.
+    #[inline(always)]
+    fn kept(&self, number: u64) -> Option<&Kept>
         ensures { option_copied result ≡ option_map kept_of (object_in self.now.objects number) }
     {
         match self.place(number) {
-            Some(place) => self.kept.get(place),
+            Some(place) => kept_at(self.kept.as_slice(), place),
             None => None,
         }
     }
