@@ -5,3 +5,4 @@ pub mod ProgramsLemmas
 pub mod SuitsLemmas
 pub mod ReachedLemmas
 pub mod RegionsLemmas
+mod SeenLemmas

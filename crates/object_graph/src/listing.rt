@@ -26,12 +26,13 @@ fn add_names(regions: &Regions, class: u32, names: &mut Vec<ObjectName>) -> Resu
             row: class,
             index: index as u64,
         };
-        if let Some(held) = object_at(regions, place) {
-            names.push(ObjectName {
-                class,
-                number: held.0,
-            })?;
-        }
+        let Some(held) = object_at(regions, place) else {
+            return Ok(());
+        };
+        names.push(ObjectName {
+            class,
+            number: held.0,
+        })?;
     }
     Ok(())
 }
@@ -47,6 +48,7 @@ fn add_all_names(
     ensures distinct { OnOk result (AreDistinct names.new.items) }
 {
     for class in 0..count {
+        let _count = count_in(regions, class);
         add_names(regions, class, names)?;
     }
     Ok(())

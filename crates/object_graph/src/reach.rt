@@ -58,9 +58,10 @@ fn visit_values(
     ensures { OnOk result (Adds found.old (HoldPlace regions.now slots.now) found.new) }
 {
     for slot in 0..slots.len() {
-        if let Some(value) = slots.get(slot) {
-            visit_value(alloc, regions, value, found)?;
-        }
+        let Some(value) = slots.get(slot) else {
+            return Ok(());
+        };
+        visit_value(alloc, regions, value, found)?;
     }
     Ok(())
 }

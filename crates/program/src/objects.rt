@@ -42,7 +42,8 @@ impl Program {
         let mut slots = Vec::with_capacity(alloc, count as usize)?;
         add_zeros(self.hierarchy.family(), &self.slots, class, &mut slots)?;
         slots.reverse();
-        ObjectSlots::packed(alloc, slots.as_slice())
+        let packed = ObjectSlots::packed(alloc, slots.as_slice())?;
+        Ok(packed)
     }
 }
 

@@ -1,9 +1,11 @@
 -- Counts that fit the numbers before them: what writing needs to know of a program and its regions.
-use Rattle.std.specs.Prelude.{◌≡◌, ℕ, ◌<◌, ◌^◌, length, Some}
+use Rattle.std.specs.Prelude.{◌≡◌, ℕ, ◌<◌, ◌^◌, length, List, Some}
 use Rattle.std.specs.List.{All}
 use Rattle.vm_state.specs.declared.value.Value.{Value}
 use Rattle.vm_state.specs.declared.value.Value.TheVariants as values
+use Rattle.built_in.specs.declared.class_id.ClassId.{ClassId}
 use Rattle.vm_state.specs.declared.object.Object.{Object}
+use Rattle.vm_state.specs.declared.object.Monitor.TheVariants.{Free}
 use Rattle.vm_state.specs.SharedState.{Region}
 use Rattle.semantics.specs.Quiet.{elements_in}
 use Rattle.program.specs.Programs.{IsProgram}
@@ -11,6 +13,10 @@ use Rattle.program.specs.Tables.{Tables}
 use Rattle.region_shape.specs.Laws.{IsFromFile}
 use Rattle.image_format.specs.Names.{name_of_class}
 use Rattle.image_format.specs.Told.{told_class}
+
+-- an object whose monitor is free
+abbrev pub object_with : ClassId → List Value → Object
+object_with class slots = record { class = class; slots = slots; monitor = Free }
 
 -- a program of class files
 pub record HasFiles (P : Tables) : Type 0 where

@@ -1,10 +1,13 @@
+use Rattle.std.proofs.Common.{refl}
+use Rattle.object_graph.specs.steps.Places.{row_in}
 use Rattle.object_graph.proofs.ListedLemmas.{names_more, distinct_more}
 use Rattle.object_graph.proofs.listing.add_all_names.Goals as goal
 
 pub loop-class-preserved : goal.loop-class-preserved
 loop-class-preserved c = record {
   listed = names_more c.args.regions.now c.loop-class.class c.loop-class.names.items c.add_names.new.names.items
-      c.objects_of.result.now c.loop-class.invariant.listed c.objects_of.ensures.all c.in_ok-add_names.ensures;
+      (row_in c.args.regions.now c.loop-class.class).objects c.loop-class.invariant.listed refl
+      c.in_ok-add_names.ensures;
   distinct = distinct_more c.args.regions.now c.loop-class.class c.loop-class.invariant.distinct
-      c.objects_of.ensures.ascending;
+      c.count_in-count.ensures.ascending;
 }
