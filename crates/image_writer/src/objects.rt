@@ -3,7 +3,6 @@
 ghost use Rattle.std.specs.Prelude.{◌≡◌, ℕ, ◌++◌, ◌<◌, ◌^◌, length, map, replicate, option_map, IfOk, OnOk};
 ghost use Rattle.std.specs.List.{flat_map, All};
 ghost use Rattle.vm_state.specs.declared.object.Object.{Object as Held};
-ghost use Rattle.vm_state.specs.Objects.{kept_of};
 ghost use Rattle.evaluator.specs.Regions.{region_of, environment_of};
 ghost use Rattle.loading.specs.ClassIds.{object_type};
 ghost use Rattle.image_format.specs.declared.version.Version.TheVariants.{Two};
@@ -11,7 +10,7 @@ ghost use Rattle.image_format.specs.Names.{name_of_class};
 ghost use Rattle.image_format.specs.Texts.{instance_text, array_text, object_text, kept_text, region_text, mark_text};
 ghost use Rattle.image_format.specs.Told.{told_value, told_array, told_class, told_object, told_kept};
 ghost use Rattle.image_format.specs.Told.{told_region, told_regions};
-ghost use Rattle.image_writer.specs.steps.Sizes.{HasFiles, IsSizedValue, IsSizedObject, IsSizedRegion};
+ghost use Rattle.image_writer.specs.steps.Sizes.{HasFiles, IsSizedValue, IsSizedObject, IsSizedRegion, object_by};
 
 use crate::files::has_files;
 use crate::numbers::{push_named, push_u8, push_u32};
@@ -103,21 +102,20 @@ fn name_of_unknown(alloc: Global, dimensions: u8, class: &[u8]) -> Result<Vec<u8
     Ok(name)
 }
 
-/// An object.
+/// An object, by its class and slots.
 fn push_object(
     alloc: Global,
     out: &mut Vec<u8>,
     program: &Program,
-    object: &Kept,
+    class: ClassId,
+    slots: &Slots,
 ) -> Result<(), AllocError>
     requires files { HasFiles program.now }
-    requires sized { (o : Held) → kept_of o ≡ object.now → IsSizedObject program.now o }
-    ensures { OnOk result ((o : Held) → kept_of o ≡ object.now → out.new.items
-        ≡ out.old.items ++ object_text program.now.family (told_object program.now.strings o)) }
+    requires sized { IsSizedObject program.now (object_by class slots.now) }
+    ensures { OnOk result (out.new.items ≡ out.old.items
+        ++ object_text program.now.family (told_object program.now.strings (object_by class slots.now))) }
 {
-    let class = object.class.id();
     let name = name_of_class(alloc, program, class)?;
-    let slots = &object.slots;
     match class {
         ClassId::Array(array) => {
             push_array(alloc, out, program, &name, kind_of_elements(array), slots)
@@ -136,12 +134,12 @@ fn push_kept(
     object: &Kept,
 ) -> Result<(), AllocError>
     requires files { HasFiles program.now }
-    requires sized { (o : Held) → kept_of o ≡ object.now → IsSizedObject program.now o }
-    ensures { OnOk result ((o : Held) → kept_of o ≡ object.now → out.new.items
-        ≡ out.old.items ++ kept_text Two program.now.family (told_kept program.now.strings (number, o))) }
+    requires sized { IsSizedObject program.now (object_by object.now.class object.now.slots) }
+    ensures { OnOk result (out.new.items ≡ out.old.items ++ kept_text Two program.now.family
+        (told_kept program.now.strings (number, object_by object.now.class object.now.slots))) }
 {
     push_u32(out, number)?;
-    push_object(alloc, out, program, object)
+    push_object(alloc, out, program, object.class.id(), &object.slots)
 }
 
 /// Objects with their numbers.

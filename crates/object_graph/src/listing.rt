@@ -7,7 +7,7 @@ ghost use Rattle.object_graph.specs.declared.name_set.ObjectName.{ObjectName as 
 ghost use Rattle.object_graph.specs.Names.{AreDistinct};
 ghost use Rattle.object_graph.specs.Reached.{IsReached};
 ghost use Rattle.object_graph.specs.steps.Listed.{names_of, names_below};
-ghost use Rattle.object_graph.specs.steps.Places.{row_in};
+ghost use Rattle.object_graph.specs.steps.Places.{row_in, Ascends};
 
 use crate::image::Image;
 use crate::name_set::{NameSet, ObjectName};
@@ -22,8 +22,9 @@ fn add_names(
     class: u32,
     names: &mut Vec<ObjectName>,
 ) -> Result<(), AllocError>
-    ensures { OnOk result (names.new.items
+    ensures all { OnOk result (names.new.items
         ≡ names.old.items ++ names_of class (row_in regions.now class).objects) }
+    ensures ascending { Ascends (row_in regions.now class) }
 {
     for index in 0..count_in(regions, class) {
         let place = Place {

@@ -12,3 +12,4 @@ pub mod OutputLemmas
 pub mod ElementLemmas
 pub mod OwnerLemmas
 pub mod KeptLemmas
+pub mod RowPlaceLemmas
