@@ -1,10 +1,11 @@
 -- Objects as a row keeps them: their numbers, their monitors, and changes.
-use Rattle.std.proofs.Common.{◌≡◌, ◌<◌, ◌≤◌, ◌+◌, ◌-◌, ℕ, zero, suc, true, false, List, [], ◌∷◌, ◌++◌, Option, Some, None}
+use Rattle.std.proofs.Common.{◌≡◌, ◌<◌, ◌≤◌, ◌+◌, ◌-◌, ◌⊎◌, ℕ, zero, suc, true, false, List, [], ◌∷◌, ◌++◌, Option, Some, None}
 use Rattle.std.proofs.Common.{length, get_or, slice_get, slice_set, refl, sym, subst, ap, ◌∙◌, ◌==◌, eqb-true, inl, inr}
 use Rattle.std.proofs.Common.{if◌then◌else◌, arith}
 use Rattle.std.specs.Prelude.{IsSome, option_map}
 use Rattle.std.specs.List.{range_with_len}
 use Rattle.std.specs.List.Sorted.{IsNonDecreasingBy}
+use Rattle.std.proofs.lemmas.List.{length_push, append-nil}
 use Rattle.std.proofs.lemmas.Option.{get_or_from_slice_get}
 use Rattle.vm_state.specs.declared.object.Object.{Object}
 use Rattle.vm_state.specs.declared.object.Monitor.{Monitor}
@@ -13,11 +14,22 @@ use Rattle.vm_state.specs.declared.value.Value.{Value}
 use Rattle.built_in.specs.declared.class_id.ClassId.TheVariants.{Given}
 use Rattle.vm_state.specs.declared.kept.Kept.{Kept}
 use Rattle.vm_state.specs.Objects.{AscendsFrom, kept_of, numbered_kept, object_in, or_later}
-use Rattle.vm_state.specs.SharedState.{object_with_monitor, monitor_of}
-use Rattle.vm_state.specs.steps.Objects.{numbers_of, numbers_in, objects_of, object_at_place, with_monitor_in}
+use Rattle.vm_state.specs.SharedState.{object_with_monitor, monitor_of, with_object}
+use Rattle.vm_state.specs.Pools.{pool_by}
+use Rattle.vm_state.specs.steps.Objects.{IsKept, numbers_of, numbers_in, objects_of, object_at_place, with_monitor_in}
 use Rattle.vm_state.specs.steps.Owners.{monitor_in, IsMonitorSet}
-use Rattle.vm_state.proofs.ListLemmas.{tested}
+use Rattle.vm_state.proofs.ListLemmas.{tested, item_at}
+use Rattle.vm_state.proofs.SlotLemmas.{IsChanged, changed_at}
 use Rattle.vm_state.proofs.ObjectLemmas.{rises, found_at, searched_within}
+
+pub below_or_not : (a b : ℕ) → (a < b) ⊎ (b ≤ a)
+below_or_not zero zero = inr (omega arith)
+below_or_not zero (suc b) = inl (omega arith)
+below_or_not (suc a) zero = inr (omega arith)
+below_or_not (suc a) (suc b) = elim (below_or_not a b) [
+  | inl less ↦ inl (omega (arith, less))
+  | inr more ↦ inr (omega (arith, more))
+]
 
 -- ---- numbers
 
@@ -28,36 +40,40 @@ counted_at a (suc n) zero later h = ap Some (omega arith)
 counted_at a (suc n) (suc p) later h =
     counted_at (a + 1) n p later (omega (arith, h)) ∙ ap Some (omega arith)
 
-beside_at : (a plain p : ℕ) (later : List ℕ) → slice_get (range_with_len a plain ++ later) (plain + p) ≡ slice_get later p
-beside_at a zero p later = refl
-beside_at a (suc n) p later = beside_at (a + 1) n p later
+after_at : (a plain p : ℕ) (later : List ℕ) → plain ≤ p →
+    slice_get (range_with_len a plain ++ later) p ≡ slice_get later (p - plain)
+after_at a zero p later h = ap (slice_get later) (omega arith)
+after_at a (suc n) zero later h = absurd (omega (arith, h))
+after_at a (suc n) (suc p) later h =
+    after_at (a + 1) n p later (omega (arith, h)) ∙ ap (slice_get later) (omega arith)
 
 pub number_before : (plain p : ℕ) (later : List ℕ) → p < plain → slice_get (numbers_of plain later) p ≡ Some p
-number_before plain p later h = counted_at 0 plain p later h
+number_before plain p later h = counted_at 0 plain p later h ∙ ap Some (omega arith)
 
 pub number_after : (plain p : ℕ) (later : List ℕ) → plain ≤ p →
     slice_get (numbers_of plain later) p ≡ slice_get later (p - plain)
-number_after plain p later h =
-    let is : p ≡ plain + (p - plain) = omega (arith, h) in
-    ap (slice_get (numbers_of plain later)) is ∙ beside_at 0 plain (p - plain) later
+number_after plain p later h = after_at 0 plain p later h
 
 pub get_before : (plain p d : ℕ) (later : List ℕ) → p < plain → get_or (numbers_of plain later) p d ≡ p
 get_before plain p d later h =
     get_or_from_slice_get (numbers_of plain later) p p d (number_before plain p later h)
 
-get_beside : (a plain p d : ℕ) (later : List ℕ) → get_or (range_with_len a plain ++ later) (plain + p) d ≡ get_or later p d
-get_beside a zero p d later = refl
-get_beside a (suc n) p d later = get_beside (a + 1) n p d later
+get_after_at : (a plain p d : ℕ) (later : List ℕ) → plain ≤ p →
+    get_or (range_with_len a plain ++ later) p d ≡ get_or later (p - plain) d
+get_after_at a zero p d later h = ap (λ (i : ℕ). get_or later i d) (omega arith)
+get_after_at a (suc n) zero d later h = absurd (omega (arith, h))
+get_after_at a (suc n) (suc p) d later h =
+    get_after_at (a + 1) n p d later (omega (arith, h)) ∙ ap (λ (i : ℕ). get_or later i d) (omega arith)
 
 pub get_after : (plain p d : ℕ) (later : List ℕ) → plain ≤ p →
     get_or (numbers_of plain later) p d ≡ get_or later (p - plain) d
-get_after plain p d later h =
-    let is : p ≡ plain + (p - plain) = omega (arith, h) in
-    ap (λ (i : ℕ). get_or (numbers_of plain later) i d) is ∙ get_beside 0 plain (p - plain) d later
+get_after plain p d later h = get_after_at 0 plain p d later h
 
 length_counted : (a plain : ℕ) (later : List ℕ) → length (range_with_len a plain ++ later) ≡ plain + length later
-length_counted a zero later = refl
-length_counted a (suc n) later = ap suc (length_counted (a + 1) n later)
+length_counted a zero later = omega arith
+length_counted a (suc n) later =
+    let rest : length (range_with_len (a + 1) n ++ later) ≡ n + length later = length_counted (a + 1) n later in
+    omega (arith, rest)
 
 pub length_numbers : (later : List ℕ) (ks : List Kept) → length later ≤ length ks →
     length (numbers_in later ks) ≡ length ks
@@ -90,7 +106,7 @@ numbered_at w [] ks p n some = cc
 numbered_at w (x ∷ ns) [] p n some = cc
 numbered_at w (x ∷ ns) (y ∷ ks) zero n some = elim (tested (n == x)) [
   | inl e ↦ ap Some (sym (eqb-true n x e))
-  | inr e ↦ let none : IsSome {X = Object} None = rw e at some in cc
+  | inr e ↦ let none : false ≡ true = rw e at some in cc
 ]
 numbered_at w (x ∷ ns) (y ∷ ks) (suc p) n some = numbered_at w ns ks p n some
 
@@ -128,7 +144,7 @@ is_there w (x ∷ ns) [] p n h number = absurd (omega (arith, h))
 is_there w (x ∷ ns) (y ∷ ks) zero n h number =
     let same : x ≡ n = cc in
     let e : (n == x) ≡ true = grind arith in
-    rw e tt
+    rw e refl
 is_there w (x ∷ ns) (y ∷ ks) (suc p) n h number = is_there w ns ks p n (omega (arith, h)) number
 
 pub is_not_there : (w : List (ℕ × Monitor)) (ns : List ℕ) (ks : List Kept) (p k : ℕ) →
@@ -162,9 +178,11 @@ later_rise w later ks count h up i j d le inside =
     let rise = rises 0 (objects_of w ns ks) count up (plain + i) (plain + j) some_object (omega (arith, le))
     (omega (arith, inside, h, length_objects w ns ks all)) in
     let one : (get_or (objects_of w ns ks) (plain + i) some_object).0 ≡ get_or later i d =
-    number_of w ns ks (plain + i) d some_object all (omega (arith, le, inside, h, all)) ∙ get_beside 0 plain i d later in
+    number_of w ns ks (plain + i) d some_object all (omega (arith, le, inside, h, all))
+    ∙ (get_after plain (plain + i) d later (omega arith) ∙ ap (λ (k : ℕ). get_or later k d) (omega arith)) in
     let two : (get_or (objects_of w ns ks) (plain + j) some_object).0 ≡ get_or later j d =
-    number_of w ns ks (plain + j) d some_object all (omega (arith, inside, h, all)) ∙ get_beside 0 plain j d later in
+    number_of w ns ks (plain + j) d some_object all (omega (arith, inside, h, all))
+    ∙ (get_after plain (plain + j) d later (omega arith) ∙ ap (λ (k : ℕ). get_or later k d) (omega arith)) in
     omega (arith, rise, one, two)
 
 -- where no number at the place of a search is this one, no object is
@@ -210,6 +228,15 @@ found_monitor w ns ks count p n up some = by (object_at_place (objects_of w ns k
 
 -- ---- one more
 
+numbers_first : (later : List ℕ) (ks new : List Kept) (n : ℕ) → length later ≡ 0 →
+    range_with_len 0 (length new) ≡ range_with_len 0 (length ks) ++ n ∷ [] →
+    numbers_in later new ≡ numbers_in later ks ++ n ∷ []
+numbers_first [] ks new n none counted =
+    append-nil (range_with_len 0 (length new - 0)) ∙ (ap (range_with_len 0) (omega arith) ∙ (counted
+    ∙ ap (λ (is : List ℕ). is ++ n ∷ []) (ap (range_with_len 0) (omega arith)
+    ∙ sym (append-nil (range_with_len 0 (length ks - 0))))))
+numbers_first (l ∷ ls) ks new n none counted = absurd (omega (arith, none))
+
 pub objects_more : (w : List (ℕ × Monitor)) (ns : List ℕ) (ks : List Kept) (n : ℕ) (k : Kept) → length ns ≡ length ks →
     objects_of w (ns ++ n ∷ []) (ks ++ k ∷ []) ≡ objects_of w ns ks ++ (n, with_monitor_in w n k) ∷ []
 objects_more w [] [] n k h = refl
@@ -217,6 +244,24 @@ objects_more w [] (y ∷ ks) n k h = absurd (omega (arith, h))
 objects_more w (x ∷ ns) [] n k h = absurd (omega (arith, h))
 objects_more w (x ∷ ns) (y ∷ ks) n k h =
     ap (λ (os : List (ℕ × Object)). (x, with_monitor_in w x y) ∷ os) (objects_more w ns ks n k (omega (arith, h)))
+
+counted_more : (a n j : ℕ) → a + n ≡ j → range_with_len a (suc n) ≡ range_with_len a n ++ j ∷ []
+counted_more a zero j e = ap (λ (i : ℕ). i ∷ []) (omega (arith, e))
+counted_more a (suc n) j e =
+    ap (λ (is : List ℕ). a ∷ is) (counted_more (a + 1) n j (omega (arith, e)))
+
+-- the next one, where none was left out
+pub kept_first : (later : List ℕ) (ks new : List Kept) (n : ℕ) (k : Kept) → length later ≡ 0 → n ≡ length ks →
+    new ≡ ks ++ k ∷ [] → IsKept later ks n k later new
+kept_first later ks new n k none number is =
+    let more : length new ≡ suc (length ks) = ap length is ∙ (length_push ks k ∙ omega arith) in
+    let counted : range_with_len 0 (length new) ≡ range_with_len 0 (length ks) ++ n ∷ [] =
+    ap (range_with_len 0) more ∙ counted_more 0 (length ks) n (omega (arith, number)) in
+    record {
+      numbers = numbers_first later ks new n none counted;
+      objects = is;
+      fits = omega (arith, none);
+    }
 
 -- ---- an object changed
 
@@ -285,11 +330,100 @@ pub owner_changed : (v w : List (ℕ × Monitor)) (ns : List ℕ) (ks : List Kep
 owner_changed v w ns ks n m set i = elim (tested (i == n)) [
   | inl e ↦
       let same : i ≡ n = eqb-true i n e in
-      let there : monitor_in w i ≡ m = rw e at set i in
+      let now : monitor_in w i ≡ (if i == n then m else monitor_in v i) = set i in
+      let there : monitor_in w i ≡ m = rw e at now in
       let owned : object_in (objects_of w ns ks) i ≡ option_map (object_with_monitor m) (object_in (objects_of v ns ks) i) =
       new_owner v w ns ks i m there in
       rw e (owned ∙ ap (λ (j : ℕ). option_map (object_with_monitor m) (object_in (objects_of v ns ks) j)) same)
   | inr e ↦
-      let there : monitor_in w i ≡ monitor_in v i = rw e at set i in
+      let now : monitor_in w i ≡ (if i == n then m else monitor_in v i) = set i in
+      let there : monitor_in w i ≡ monitor_in v i = rw e at now in
       rw e (same_owner v w ns ks i there)
 ]
+
+-- ---- parts of an object without its monitor
+
+pub class_of_kept : (o : Option Object) → option_map (λ (k : Kept). k.class) (option_map kept_of o)
+    ≡ option_map (λ (x : Object). x.class) o
+class_of_kept None = refl
+class_of_kept (Some o) = refl
+
+pub slots_of_kept : (o : Option Object) → option_map (λ (k : Kept). k.slots) (option_map kept_of o)
+    ≡ option_map (λ (x : Object). x.slots) o
+slots_of_kept None = refl
+slots_of_kept (Some o) = refl
+
+-- ---- what is at a place
+
+pub seen : (w : List (ℕ × Monitor)) (ns : List ℕ) (ks : List Kept) (p n : ℕ) (k : Kept) → slice_get ns p ≡ Some n →
+    slice_get ks p ≡ Some k → Some (n, k) ≡ option_map numbered_kept (slice_get (objects_of w ns ks) p)
+seen w ns ks p n k number kept =
+    sym (ap (option_map numbered_kept) (stands_there w ns ks p n k number kept))
+
+pub unnumbered : (w : List (ℕ × Monitor)) (ns : List ℕ) (ks : List Kept) (p : ℕ) → slice_get ns p ≡ None →
+    None ≡ option_map numbered_kept (slice_get (objects_of w ns ks) p)
+unnumbered w [] ks p none = refl
+unnumbered w (x ∷ ns) [] p none = refl
+unnumbered w (x ∷ ns) (y ∷ ks) zero none = cc
+unnumbered w (x ∷ ns) (y ∷ ks) (suc p) none = unnumbered w ns ks p none
+
+pub unkept : (w : List (ℕ × Monitor)) (ns : List ℕ) (ks : List Kept) (p : ℕ) → slice_get ks p ≡ None →
+    None ≡ option_map numbered_kept (slice_get (objects_of w ns ks) p)
+unkept w [] ks p none = refl
+unkept w (x ∷ ns) [] p none = refl
+unkept w (x ∷ ns) (y ∷ ks) zero none = cc
+unkept w (x ∷ ns) (y ∷ ks) (suc p) none = unkept w ns ks p none
+
+pub inside_of : (w : List (ℕ × Monitor)) (ns : List ℕ) (ks : List Kept) (p n : ℕ) →
+    IsSome (object_at_place (objects_of w ns ks) p n) → p < length ks
+inside_of w [] ks p n some = cc
+inside_of w (x ∷ ns) [] p n some = cc
+inside_of w (x ∷ ns) (y ∷ ks) zero n some = omega arith
+inside_of w (x ∷ ns) (y ∷ ks) (suc p) n some =
+    let rest : p < length ks = inside_of w ns ks p n some in omega (arith, rest)
+
+-- ---- a row changed
+
+same_length : (ks : List Kept) (p : ℕ) (k : Kept) → length (slice_set ks p k) ≡ length ks
+same_length [] p k = refl
+same_length (y ∷ ks) zero k = refl
+same_length (y ∷ ks) (suc p) k = ap suc (same_length ks p k)
+
+-- what a row becomes where the object of a number changes
+pub record IsRowChanged (w : List (ℕ × Monitor)) (later : List ℕ) (ks new : List Kept) (count n : ℕ)
+    (change : Object → Object) : Type 0 where
+  pub ascends : AscendsFrom 0 (objects_of w (numbers_in later new) new) count
+  pub fits : length later ≤ length new
+  pub pool : pool_by (record { count = count; objects = objects_of w (numbers_in later new) new })
+      ≡ with_object (pool_by (record { count = count; objects = objects_of w (numbers_in later ks) ks })) n
+      (option_map change (object_in (objects_of w (numbers_in later ks) ks) n))
+
+pub row_changed : (w : List (ℕ × Monitor)) (later : List ℕ) (ks : List Kept) (count place n : ℕ)
+    (change : Object → Object) (held new : Kept) → length later ≤ length ks →
+    AscendsFrom 0 (objects_of w (numbers_in later ks) ks) count →
+    IsSome (object_at_place (objects_of w (numbers_in later ks) ks) place n) → held ≡ get_or ks place held →
+    with_monitor_in w n new ≡ change (with_monitor_in w n held) →
+    IsRowChanged w later ks (slice_set ks place new) count n change
+row_changed w later ks count place n change held new fits up some was is =
+    let ns : List ℕ = numbers_in later ks in
+    let os : List (ℕ × Object) = objects_of w ns ks in
+    let inside : place < length ks = inside_of w ns ks place n some in
+    let number : slice_get ns place ≡ Some n = numbered_at w ns ks place n some in
+    let long : length (slice_set ks place new) ≡ length ks = same_length ks place new in
+    let numbers : numbers_in later (slice_set ks place new) ≡ ns =
+    ap (λ (m : ℕ). numbers_of (m - length later) later) long in
+    let objects : objects_of w (numbers_in later (slice_set ks place new)) (slice_set ks place new)
+        ≡ slice_set os place (n, with_monitor_in w n new) =
+    ap (λ (is : List ℕ). objects_of w is (slice_set ks place new)) numbers
+    ∙ objects_set w ns ks place n new number inside in
+    let stands : slice_get os place ≡ Some (n, with_monitor_in w n held) =
+    stands_there w ns ks place n held number (item_at ks place held inside was) in
+    let there : (n, with_monitor_in w n held) ≡ get_or os place (n, with_monitor_in w n held) =
+    sym (get_or_from_slice_get os place (n, with_monitor_in w n held) (n, with_monitor_in w n held) stands) in
+    let changed : IsChanged count os (slice_set os place (n, with_monitor_in w n new)) n change =
+    changed_at count os place n change (n, with_monitor_in w n held) (with_monitor_in w n new) up some there is in
+    record {
+      ascends = subst (λ (all : List (ℕ × Object)). AscendsFrom 0 all count) (sym objects) changed.0;
+      fits = omega (arith, fits, long);
+      pool = ap (λ (all : List (ℕ × Object)). pool_by (record { count = count; objects = all })) objects ∙ changed.1;
+    }

@@ -1,7 +1,7 @@
 -- The monitors that are owned, changed.
 use Rattle.std.proofs.Common.{◌≡◌, ◌<◌, ◌≤◌, ◌+◌, ℕ, zero, suc, Bool, true, false, not, List, [], ◌∷◌, ◌++◌, length, get_or}
 use Rattle.std.proofs.Common.{slice_set, refl, sym, subst, ap, ◌∙◌, ◌==◌, eqb-true, eq-eqb, if◌then◌else◌, inl, inr, arith}
-use Rattle.std.specs.List.{filter}
+use Rattle.std.specs.Vec.{remove}
 use Rattle.vm_state.specs.declared.object.Monitor.{Monitor}
 use Rattle.vm_state.specs.declared.object.Monitor.TheVariants.{Free}
 use Rattle.vm_state.specs.steps.Owners.{monitor_in, IsMonitorSet, IsFirstOf, IsNoneOf}
@@ -67,23 +67,23 @@ none_in n (x ∷ xs) none =
     let other : (n == x.0) ≡ false = first_is_other n x xs (length xs) none in
     rw other (none_in n xs (below n x xs (length xs) none))
 
-abbrev pub is_other : ℕ → ℕ × Monitor → Bool
-is_other n x = not (x.0 == n)
+-- one of this number less
+pub monitor_without : (n : ℕ) (os : List (ℕ × Monitor)) (p k : ℕ) → p < length os →
+    ((d : ℕ × Monitor) → (n == (get_or os p d).0) ≡ true) → (k == n) ≡ false →
+    monitor_in (remove os p) k ≡ monitor_in os k
+monitor_without n [] p k inside here apart = absurd (omega (arith, inside))
+monitor_without n (x ∷ xs) zero k inside here apart =
+    let same : n ≡ x.0 = eqb-true n x.0 (here x) in
+    let other : (k == x.0) ≡ false = subst (λ (j : ℕ). (k == j) ≡ false) same apart in
+    rw other refl
+monitor_without n (x ∷ xs) (suc p) k inside here apart =
+    ap (λ (m : Monitor). if k == x.0 then x.1 else m)
+    (monitor_without n xs p k (omega (arith, inside)) here apart)
 
-pub set_free : (n : ℕ) (os : List (ℕ × Monitor)) → IsMonitorSet os (filter (is_other n) os) n Free
-set_free n [] k = elim (tested (k == n)) [ | inl e ↦ rw e refl | inr e ↦ rw e refl ]
-set_free n (x ∷ xs) k = elim (tested (x.0 == n)) [
-  | inl e ↦
-      let same : x.0 ≡ n = eqb-true x.0 n e in
-      let rest : monitor_in (filter (is_other n) xs) k ≡ (if k == n then Free else monitor_in xs k) = set_free n xs k in
-      elim (tested (k == n)) [
-        | inl f ↦ let there : monitor_in (filter (is_other n) xs) k ≡ Free = rw f at rest in rw (e, f) there
-        | inr f ↦
-            let apart : (k == x.0) ≡ false = subst (λ (j : ℕ). (k == j) ≡ false) (sym same) f in
-            let there : monitor_in (filter (is_other n) xs) k ≡ monitor_in xs k = rw f at rest in
-            rw (e, f, apart) there
-      ]
-  | inr e ↦
-      let other : (n == x.0) ≡ false = grind arith in
-      rw e (over n k Free x (monitor_in (filter (is_other n) xs) k) (monitor_in xs k) other (set_free n xs k))
+pub set_free : (n : ℕ) (old new : List (ℕ × Monitor)) →
+    ((k : ℕ) → (k == n) ≡ false → monitor_in new k ≡ monitor_in old k) → IsNoneOf n new (length new) →
+    IsMonitorSet old new n Free
+set_free n old new others none k = elim (tested (k == n)) [
+  | inl e ↦ rw e (ap (monitor_in new) (eqb-true k n e) ∙ sym (none_in n new none))
+  | inr e ↦ rw e (others k e)
 ]

@@ -66,24 +66,12 @@ impl Few {
         }
     }
 
-    /// How many there are.
+    /// All of them.
     #[inline(always)]
-    fn len(&self) -> usize
-        ensures { result ≡ length self.now }
+    fn as_slice(&self) -> &[Brief]
+        ensures { result.now ≡ self.now }
     {
-        usize::from(self.count)
-    }
-
-    /// The one at a slot, if there is one.
-    #[inline(always)]
-    fn get(&self, slot: usize) -> Option<Brief>
-        ensures { result ≡ slice_get self.now slot }
-    {
-        if slot < usize::from(self.count) {
-            Some(self.briefs[slot])
-        } else {
-            None
-        }
+        &self.briefs[..usize::from(self.count)]
     }
 
     /// Puts one into a slot. Where there is no such slot nothing changes.
@@ -394,17 +382,6 @@ fn narrowed<E: Element>(alloc: Global, values: &[Value]) -> Result<Option<Vec<E>
     Ok(Some(elements))
 }
 
-/// The value at one of a few slots.
-#[inline(always)]
-fn few_at(few: &Few, slot: usize) -> Option<Value>
-    ensures { result ≡ slice_get (map brief_value few.now) slot }
-{
-    match few.get(slot) {
-        Some(brief) => Some(brief.value()),
-        None => None,
-    }
-}
-
 /// Puts a value into one of a few slots, and says so; not where nothing stands for it. Where there is no such slot
 /// nothing changes.
 #[inline(always)]
@@ -431,19 +408,6 @@ fn push_few(few: &mut Few, value: Value) -> bool
         Some(brief) => few.push(brief),
         None => false,
     }
-}
-
-/// The values that a few stand for.
-fn widened_few(alloc: Global, few: &Few) -> Result<Vec<Value>, AllocError>
-    ensures { IfOk result (λ values. values.items ≡ map brief_value few.now) }
-{
-    let mut values = Vec::with_capacity(alloc, few.len())?;
-    for slot in 0..few.len() {
-        if let Some(brief) = few.get(slot) {
-            values.push(brief.value())?;
-        }
-    }
-    Ok(values)
 }
 
 /// Values in a row.
@@ -597,7 +561,7 @@ impl Elements {
         ensures { result ≡ length (values_of self.now) }
     {
         match self {
-            Elements::Few(few, _) => few.len(),
+            Elements::Few(few, _) => few.as_slice().len(),
             Elements::Briefs(briefs) => briefs.len(),
             Elements::Bytes(bytes) => bytes.len(),
             Elements::Chars(chars) => chars.len(),
@@ -614,7 +578,7 @@ impl Elements {
         ensures { result ≡ slice_get (values_of self.now) slot }
     {
         match self {
-            Elements::Few(few, _) => few_at(few, slot),
+            Elements::Few(few, _) => value_at(few.as_slice(), slot),
             Elements::Briefs(briefs) => value_at(briefs.as_slice(), slot),
             Elements::Bytes(bytes) => value_at(bytes.as_slice(), slot),
             Elements::Chars(chars) => value_at(chars.as_slice(), slot),
@@ -652,7 +616,7 @@ impl Elements {
         ensures { IfOk result (λ values. values.items ≡ values_of self.now) }
     {
         match self {
-            Elements::Few(few, alloc) => widened_few(*alloc, few),
+            Elements::Few(few, alloc) => widened(*alloc, few.as_slice()),
             Elements::Briefs(briefs) => widened(*briefs.allocator(), briefs.as_slice()),
             Elements::Bytes(bytes) => widened(*bytes.allocator(), bytes.as_slice()),
             Elements::Chars(chars) => widened(*chars.allocator(), chars.as_slice()),

@@ -54,8 +54,26 @@ fn number_at(plain: usize, later: &[u64], place: usize) -> Option<u64>
     if place < plain {
         Some(place as u64)
     } else {
-        later.get(place - plain).copied()
+        later_number(later, place - plain)
     }
+}
+
+/// A number that stands in a list.
+fn later_number(later: &[u64], place: usize) -> Option<u64>
+    ensures { result ≡ slice_get later.now place }
+{
+    match later.get(place) {
+        Some(number) => Some(*number),
+        None => None,
+    }
+}
+
+/// The object at a place.
+#[inline(always)]
+fn kept_at(kept: &[Kept], place: usize) -> Option<&Kept>
+    ensures { option_copied result ≡ slice_get kept.now place }
+{
+    kept.get(place)
 }
 
 /// The first place of a number that is not below this one.
@@ -263,9 +281,13 @@ impl Row {
             ≡ option_map numbered_kept (slice_get self.now.objects place) }
     {
         let plain = self.kept.len() - self.later.len();
-        let number = number_at(plain, self.later.as_slice(), place)?;
-        let kept = self.kept.get(place)?;
-        Some((number, kept))
+        match number_at(plain, self.later.as_slice(), place) {
+            Some(number) => match kept_at(self.kept.as_slice(), place) {
+                Some(kept) => Some((number, kept)),
+                None => None,
+            },
+            None => None,
+        }
     }
 
     /// The place of the object of a number, if it is held. Where no number is left out it is the number.
@@ -289,7 +311,7 @@ impl Row {
         ensures { option_copied result ≡ option_map kept_of (object_in self.now.objects number) }
     {
         match self.place(number) {
-            Some(place) => self.kept.get(place),
+            Some(place) => kept_at(self.kept.as_slice(), place),
             None => None,
         }
     }

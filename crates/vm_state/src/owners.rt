@@ -67,7 +67,9 @@ impl Owners {
     fn release(&mut self, number: u64)
         ensures { IsMonitorSet self.old self.new number Monitor.Free }
     {
-        self.owned.retain(|held| held.0 != number);
+        while let Some(place) = self.place(number) {
+            self.owned.remove(place);
+        }
     }
 
     /// The monitor of a number becomes this one.
