@@ -1,12 +1,12 @@
 -- Objects as a row keeps them: their numbers, their monitors, and changes.
 use Rattle.std.proofs.Common.{◌≡◌, ◌<◌, ◌≤◌, ◌+◌, ◌-◌, ◌⊎◌, ℕ, zero, suc, true, false, List, [], ◌∷◌, ◌++◌, Option, Some, None}
 use Rattle.std.proofs.Common.{length, get_or, slice_get, slice_set, refl, sym, subst, ap, ◌∙◌, ◌==◌, eqb-true, inl, inr}
-use Rattle.std.proofs.Common.{if◌then◌else◌, arith}
+use Rattle.std.proofs.Common.{if◌then◌else◌, take, arith}
 use Rattle.std.specs.Prelude.{IsSome, option_map}
 use Rattle.std.specs.List.{range_with_len}
 use Rattle.std.specs.List.Sorted.{IsNonDecreasingBy}
 use Rattle.std.proofs.lemmas.List.{length_push, append-nil}
-use Rattle.std.proofs.lemmas.Option.{get_or_from_slice_get}
+use Rattle.std.proofs.lemmas.Option.{get_or_from_slice_get, slice_get-get_or}
 use Rattle.vm_state.specs.declared.object.Object.{Object}
 use Rattle.vm_state.specs.declared.object.Monitor.{Monitor}
 use Rattle.vm_state.specs.declared.object.Monitor.TheVariants.{Free}
@@ -69,7 +69,7 @@ pub get_after : (plain p d : ℕ) (later : List ℕ) → plain ≤ p →
     get_or (numbers_of plain later) p d ≡ get_or later (p - plain) d
 get_after plain p d later h = get_after_at 0 plain p d later h
 
-length_counted : (a plain : ℕ) (later : List ℕ) → length (range_with_len a plain ++ later) ≡ plain + length later
+pub length_counted : (a plain : ℕ) (later : List ℕ) → length (range_with_len a plain ++ later) ≡ plain + length later
 length_counted a zero later = omega arith
 length_counted a (suc n) later =
     let rest : length (range_with_len (a + 1) n ++ later) ≡ n + length later = length_counted (a + 1) n later in
@@ -427,3 +427,113 @@ row_changed w later ks count place n change held new fits up some was is =
       fits = omega (arith, fits, long);
       pool = ap (λ (all : List (ℕ × Object)). pool_by (record { count = count; objects = all })) objects ∙ changed.1;
     }
+
+-- ---- one more at the end
+
+pub row_more : (w : List (ℕ × Monitor)) (later : List ℕ) (ks : List Kept) (n : ℕ) (k : Kept) (beside : List ℕ)
+    (new : List Kept) → length later ≤ length ks → IsKept later ks n k beside new →
+    objects_of w (numbers_in beside new) new ≡ objects_of w (numbers_in later ks) ks ++ (n, with_monitor_in w n k) ∷ []
+row_more w later ks n k beside new fits kept =
+    ap (λ (is : List ℕ). objects_of w is new) kept.numbers
+    ∙ (ap (objects_of w (numbers_in later ks ++ n ∷ [])) kept.objects
+    ∙ objects_more w (numbers_in later ks) ks n k (length_numbers later ks fits))
+
+ascends_to : (low : ℕ) (os : List (ℕ × Object)) (count : ℕ) → AscendsFrom low os count → low ≤ count
+ascends_to low [] count h = h
+ascends_to low (x ∷ xs) count (h, hs) =
+    let rest : x.0 + 1 ≤ count = ascends_to (x.0 + 1) xs count hs in omega (arith, h, rest)
+
+pub held_below : (low : ℕ) (os : List (ℕ × Object)) (count p n : ℕ) → AscendsFrom low os count →
+    IsSome (object_at_place os p n) → n < count
+held_below low [] count p n h some = cc
+held_below low (x ∷ xs) count zero n (h, hs) some = elim (tested (n == x.0)) [
+  | inl e ↦
+      let same : n ≡ x.0 = eqb-true n x.0 e in
+      let rest : x.0 + 1 ≤ count = ascends_to (x.0 + 1) xs count hs in omega (arith, same, rest)
+  | inr e ↦ let none : false ≡ true = rw e at some in cc
+]
+held_below low (x ∷ xs) count (suc p) n (h, hs) some = held_below (x.0 + 1) xs count p n hs some
+
+pub last_below : (low : ℕ) (os : List (ℕ × Object)) (count n : ℕ) (o : Object) →
+    AscendsFrom low (os ++ (n, o) ∷ []) count → n < count
+last_below low [] count n o (h, hs) = omega (arith, hs)
+last_below low (x ∷ xs) count n o (h, hs) = last_below (x.0 + 1) xs count n o hs
+
+last_above : (low : ℕ) (os : List (ℕ × Object)) (count n : ℕ) (o : Object) →
+    AscendsFrom low (os ++ (n, o) ∷ []) count → low ≤ n
+last_above low [] count n o (h, hs) = h
+last_above low (x ∷ xs) count n o (h, hs) =
+    let rest : x.0 + 1 ≤ n = last_above (x.0 + 1) xs count n o hs in omega (arith, h, rest)
+
+apart : (a b : ℕ) → a < b → (a == b) ≡ false
+apart a b h = grind arith
+
+pub apart_above : (a b : ℕ) → b < a → (a == b) ≡ false
+apart_above a b h = grind arith
+
+pub same_objects : (v w : List (ℕ × Monitor)) (low : ℕ) (ns : List ℕ) (ks : List Kept) (count n : ℕ) (o : Object) →
+    AscendsFrom low (objects_of v ns ks ++ (n, o) ∷ []) count →
+    ((k : ℕ) → (k == n) ≡ false → monitor_in w k ≡ monitor_in v k) → objects_of w ns ks ≡ objects_of v ns ks
+same_objects v w low [] ks count n o h others = refl
+same_objects v w low (x ∷ ns) [] count n o h others = refl
+same_objects v w low (x ∷ ns) (y ∷ ks) count n o (h, hs) others =
+    let before : x + 1 ≤ n = last_above (x + 1) (objects_of v ns ks) count n o hs in
+    let there : monitor_in w x ≡ monitor_in v x = others x (apart x n (omega (arith, before))) in
+    ap (λ (m : Monitor). (x, record { class = y.class; slots = y.slots; monitor = m }) ∷ objects_of w ns ks) there
+    ∙ ap (λ (os : List (ℕ × Object)). (x, with_monitor_in v x y) ∷ os)
+    (same_objects v w (x + 1) ns ks count n o hs others)
+
+pub ascends_with : (v w : List (ℕ × Monitor)) (low : ℕ) (ns : List ℕ) (ks : List Kept) (count n : ℕ) (o p : Object) →
+    AscendsFrom low (objects_of v ns ks ++ (n, o) ∷ []) count → AscendsFrom low (objects_of w ns ks ++ (n, p) ∷ []) count
+ascends_with v w low [] ks count n o p h = h
+ascends_with v w low (x ∷ ns) [] count n o p h = h
+ascends_with v w low (x ∷ ns) (y ∷ ks) count n o p (h, hs) = (h, ascends_with v w (x + 1) ns ks count n o p hs)
+
+pub others_same : (v w : List (ℕ × Monitor)) (n : ℕ) (m : Monitor) → IsMonitorSet v w n m → (k : ℕ) →
+    (k == n) ≡ false → monitor_in w k ≡ monitor_in v k
+others_same v w n m set k e =
+    let now : monitor_in w k ≡ (if k == n then m else monitor_in v k) = set k in
+    rw e at now
+
+pub owned_now : (v w : List (ℕ × Monitor)) (n : ℕ) (m : Monitor) → IsMonitorSet v w n m → monitor_in w n ≡ m
+owned_now v w n m set =
+    let now : monitor_in w n ≡ (if n == n then m else monitor_in v n) = set n in
+    let e : (n == n) ≡ true = grind arith in
+    rw e at now
+
+-- those that are not made yet stay free
+pub still_free : (v w : List (ℕ × Monitor)) (n count : ℕ) (m : Monitor) → IsMonitorSet v w n m → n < count →
+    ((k : ℕ) → count ≤ k → monitor_in v k ≡ Free) → (k : ℕ) → count ≤ k → monitor_in w k ≡ Free
+still_free v w n count m set below free k h =
+    others_same v w n m set k (apart_above k n (omega (arith, below, h))) ∙ free k h
+
+objects_end : (w : List (ℕ × Monitor)) (ns : List ℕ) (x : ℕ) (k : Kept) →
+    objects_of w (x ∷ ns) (k ∷ []) ≡ (x, with_monitor_in w x k) ∷ []
+objects_end w [] x k = refl
+objects_end w (y ∷ ns) x k = refl
+
+pub objects_next : (w : List (ℕ × Monitor)) (ns : List ℕ) (ks : List Kept) (n : ℕ) (k : Kept) →
+    slice_get ns (length ks) ≡ Some n →
+    objects_of w ns (ks ++ k ∷ []) ≡ objects_of w ns ks ++ (n, with_monitor_in w n k) ∷ []
+objects_next w [] ks n k number = cc
+objects_next w (x ∷ ns) [] n k number =
+    let same : x ≡ n = cc in
+    objects_end w ns x k ∙ ap (λ (j : ℕ). (j, with_monitor_in w j k) ∷ []) same
+objects_next w (x ∷ ns) (y ∷ ks) n k number =
+    ap (λ (os : List (ℕ × Object)). (x, with_monitor_in w x y) ∷ os) (objects_next w ns ks n k number)
+
+pub next_there : (plain : ℕ) (later : List ℕ) (i : ℕ) → i < plain + length later →
+    slice_get (numbers_of plain later) i ≡ Some (get_or (numbers_of plain later) i 0)
+next_there plain later i h = slice_get-get_or (numbers_of plain later) i 0 (omega (arith, h, length_counted 0 plain later))
+
+pub ascends_take : (low : ℕ) (os : List (ℕ × Object)) (count i : ℕ) → AscendsFrom low os count →
+    AscendsFrom low (take i os) count
+ascends_take low [] count zero h = h
+ascends_take low [] count (suc i) h = h
+ascends_take low (x ∷ xs) count zero (h, hs) =
+    let rest : x.0 + 1 ≤ count = ascends_to (x.0 + 1) xs count hs in omega (arith, h, rest)
+ascends_take low (x ∷ xs) count (suc i) (h, hs) = (h, ascends_take (x.0 + 1) xs count i hs)
+
+pub objects_none : (w : List (ℕ × Monitor)) (ns : List ℕ) → objects_of w ns [] ≡ []
+objects_none w [] = refl
+objects_none w (n ∷ ns) = refl

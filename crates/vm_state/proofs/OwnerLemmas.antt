@@ -1,7 +1,7 @@
 -- The monitors that are owned, changed.
 use Rattle.std.proofs.Common.{◌≡◌, ◌<◌, ◌≤◌, ◌+◌, ℕ, zero, suc, Bool, true, false, not, List, [], ◌∷◌, ◌++◌, length, get_or}
 use Rattle.std.proofs.Common.{slice_set, refl, sym, subst, ap, ◌∙◌, ◌==◌, eqb-true, eq-eqb, if◌then◌else◌, inl, inr, arith}
-use Rattle.std.specs.Vec.{remove}
+use Rattle.std.specs.List.{remove}
 use Rattle.vm_state.specs.declared.object.Monitor.{Monitor}
 use Rattle.vm_state.specs.declared.object.Monitor.TheVariants.{Free}
 use Rattle.vm_state.specs.steps.Owners.{monitor_in, IsMonitorSet, IsFirstOf, IsNoneOf}

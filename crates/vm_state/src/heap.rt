@@ -1,10 +1,10 @@
 //! The objects, by their names.
 
 ghost use Rattle.std.specs.Prelude.{◌≡◌, ℕ, ◌∷◌, [], ◌++◌, ◌<◌, ◌≤◌, ◌^◌, ◌+◌, length, get_or, slice_get, IfOk};
-ghost use Rattle.std.specs.Prelude.{OnOk, OnErr, IfSome, IfNone, IsSome, None, option_copied, option_map};
+ghost use Rattle.std.specs.Prelude.{OnOk, OnErr, IfSome, IfNone, IsSome, Some, None, option_copied, option_map};
 ghost use Rattle.std.specs.List.Sorted.{IsNonDecreasingBy};
 ghost use Rattle.vm_state.specs.Objects.{AscendsFrom, empty_row, row_of, object_in, kept_of, numbered_kept};
-ghost use Rattle.vm_state.specs.steps.Objects.{with_next, object_at_place, numbers_of, objects_of, IsKept};
+ghost use Rattle.vm_state.specs.steps.Objects.{with_next, with_monitor_in, object_at_place, numbers_of, objects_of, IsKept};
 ghost use Rattle.vm_state.specs.SharedState.{monitor_of, with_new, with_slot, with_monitor};
 ghost use Rattle.vm_state.specs.Pools.{IsRowBy, IsRowOf, pool_at, pool_by, pool_in, with_pool};
 
@@ -148,6 +148,24 @@ fn object_of(kept: Kept, monitor: Monitor) -> Object
     }
 }
 
+/// Adds the object at a place with its number and its monitor.
+fn add_object(
+    plain: usize,
+    later: &[u64],
+    place: usize,
+    kept: Kept,
+    owners: &Owners,
+    objects: &mut Vec<(u64, Object)>,
+) -> Result<(), AllocError>
+    ensures { OnOk result ((n : ℕ) → slice_get (numbers_of plain later.now) place ≡ Some n
+        → objects.new.items ≡ objects.old.items ++ (n, with_monitor_in owners.now n kept) ∷ []) }
+{
+    if let Some(number) = number_at(plain, later, place) {
+        objects.push((number, object_of(kept, owners.monitor(number))))?;
+    }
+    Ok(())
+}
+
 /// Objects with their numbers and monitors, put where there are none.
 fn add_objects(
     plain: usize,
@@ -162,9 +180,7 @@ fn add_objects(
 {
     let mut place = 0usize;
     for held in kept {
-        if let Some(number) = number_at(plain, later, place) {
-            objects.push((number, object_of(held, owners.monitor(number))))?;
-        }
+        add_object(plain, later, place, held, owners, objects)?;
         place += 1;
     }
     Ok(())
@@ -300,8 +316,8 @@ impl Row {
         let plain = self.kept.len() - later.len();
         let place = place_of(plain, later, number);
         match number_at(plain, later, place) {
-            Some(found) if found == number => Some(place),
-            _ => None,
+            Some(found) => { if found == number { Some(place) } else { None } }
+            None => None,
         }
     }
 

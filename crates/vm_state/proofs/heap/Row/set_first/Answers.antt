@@ -43,6 +43,10 @@ returns-in_ok-set_first-clause-ok c =
     (ap (λ (vs : List Value). record (with_monitor_in c.self.inside.owners c.args.number held) { slots = vs })
     c.in_ok-set_first.ensures.ok) in
     changed.pool
-    ∙ first_pool _ c.args.number c.args.first c.args.second
+    ∙ first_pool (pool_by (record {
+      count = c.self.inside.count;
+      objects = objects_of c.self.inside.owners (numbers_in c.self.inside.later.items c.self.inside.kept.items)
+          c.self.inside.kept.items;
+    })) c.args.number c.args.first c.args.second
     ∙ ap (λ (r : ObjectRow). with_slot (with_slot (pool_by r) c.args.number 0 c.args.first) c.args.number 1 c.args.second)
     c.self.view_is
