@@ -17,11 +17,7 @@ use place_set::Place;
 use std::alloc::{AllocError, Global};
 
 /// Adds the names of the objects of a class.
-fn add_names(
-    regions: &Regions,
-    class: u32,
-    names: &mut Vec<ObjectName>,
-) -> Result<(), AllocError>
+fn add_names(regions: &Regions, class: u32, names: &mut Vec<ObjectName>) -> Result<(), AllocError>
     ensures all { OnOk result (names.new.items
         ≡ names.old.items ++ names_of class (row_in regions.now class).objects) }
     ensures ascending { Ascends (row_in regions.now class) }

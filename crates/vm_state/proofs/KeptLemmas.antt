@@ -193,16 +193,16 @@ pub none_found : (w : List (ℕ × Monitor)) (ns : List ℕ) (ks : List Kept) (c
     ((n : ℕ) → slice_get ns place ≡ Some n → (k == n) ≡ false) → object_in (objects_of w ns ks) k ≡ None
 none_found w ns ks count place k all up before after other =
     sym searched ∙ is_not_there w ns ks place k other where
-  searched : object_at_place (objects_of w ns ks) place k ≡ object_in (objects_of w ns ks) k
-  searched = searched_within (objects_of w ns ks) count place k up
-      (λ i d first inside.
-        let within : i < length ns = omega (arith, inside, all, length_objects w ns ks all) in
-        let is : (get_or (objects_of w ns ks) i d).0 ≡ get_or ns i 0 = number_of w ns ks i 0 d all within in
-        omega (arith, is, before i 0 first within))
-      (λ d inside.
-        let within : place < length ns = omega (arith, inside, all, length_objects w ns ks all) in
-        let is : (get_or (objects_of w ns ks) place d).0 ≡ get_or ns place 0 = number_of w ns ks place 0 d all within in
-        omega (arith, is, after 0 within))
+      searched : object_at_place (objects_of w ns ks) place k ≡ object_in (objects_of w ns ks) k
+      searched = searched_within (objects_of w ns ks) count place k up
+          (λ i d first inside.
+          let within : i < length ns = omega (arith, inside, all, length_objects w ns ks all) in
+          let is : (get_or (objects_of w ns ks) i d).0 ≡ get_or ns i 0 = number_of w ns ks i 0 d all within in
+          omega (arith, is, before i 0 first within))
+          (λ d inside.
+          let within : place < length ns = omega (arith, inside, all, length_objects w ns ks all) in
+          let is : (get_or (objects_of w ns ks) place d).0 ≡ get_or ns place 0 = number_of w ns ks place 0 d all within in
+          omega (arith, is, after 0 within))
 
 pub found_kept : (w : List (ℕ × Monitor)) (ns : List ℕ) (ks : List Kept) (count p n : ℕ) →
     AscendsFrom 0 (objects_of w ns ks) count → IsSome (object_at_place (objects_of w ns ks) p n) →
@@ -413,7 +413,7 @@ row_changed w later ks count place n change held new fits up some was is =
     let numbers : numbers_in later (slice_set ks place new) ≡ ns =
     ap (λ (m : ℕ). numbers_of (m - length later) later) long in
     let objects : objects_of w (numbers_in later (slice_set ks place new)) (slice_set ks place new)
-        ≡ slice_set os place (n, with_monitor_in w n new) =
+    ≡ slice_set os place (n, with_monitor_in w n new) =
     ap (λ (is : List ℕ). objects_of w is (slice_set ks place new)) numbers
     ∙ objects_set w ns ks place n new number inside in
     let stands : slice_get os place ≡ Some (n, with_monitor_in w n held) =

@@ -258,7 +258,10 @@ impl Element for Brief {
             Brief::Null => Value::Null,
             Brief::Text(number) => Value::Text(number as usize),
             Brief::OfClass(class, number) => Value::OfClass(u32::from(class), u64::from(number)),
-            Brief::OfThread(thread, number) => Value::OfThread(u32::from(thread), u64::from(number)),
+            Brief::OfThread(thread, number) => Value::OfThread(
+                u32::from(thread),
+                u64::from(number),
+            ),
             Brief::Out => Value::Out,
         }
     }

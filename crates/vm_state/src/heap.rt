@@ -5,7 +5,8 @@ ghost use Rattle.std.specs.Prelude.{OnOk, OnErr, IfSome, IfNone, IsSome, Some, N
 ghost use Rattle.std.specs.List.Sorted.{IsNonDecreasingBy};
 ghost use Rattle.vm_state.specs.Objects.{AscendsFrom, empty_row, row_of, object_in, kept_of, numbered_kept};
 ghost use Rattle.vm_state.specs.steps.Objects.{with_next, with_monitor_in, object_at_place, numbers_of, objects_of, IsKept};
-ghost use Rattle.vm_state.specs.SharedState.{monitor_of, with_new, with_slot, with_monitor};
+ghost use Rattle.vm_state.specs.SharedState.{class_at, monitor_of, slots_at, with_new, with_slot, with_monitor};
+ghost use Rattle.vm_state.specs.declared.kept.Kept.{Kept as HeldObject};
 ghost use Rattle.vm_state.specs.Pools.{IsRowBy, IsRowOf, pool_at, pool_by, pool_in, with_pool};
 
 use crate::items::copy_items;
@@ -37,8 +38,9 @@ impl Model for Row {
     ghost Value = { ObjectRow };
 
     ghost view = { λ s. record {
-        count = s.count;
-        objects = objects_of s.owners (numbers_in s.later.items s.kept.items) s.kept.items } };
+      count = s.count;
+      objects = objects_of s.owners (numbers_in s.later.items s.kept.items) s.kept.items;
+    } };
 
     ghost invariant = { λ s.
         AscendsFrom 0 (objects_of s.owners (numbers_in s.later.items s.kept.items) s.kept.items) s.count
@@ -249,7 +251,11 @@ impl Row {
     ///
     /// # Errors
     /// `AllocError` where memory is refused.
-    pub fn of_objects(alloc: Global, count: u64, objects: Vec<(u64, Object)>) -> Result<Row, AllocError>
+    pub fn of_objects(
+        alloc: Global,
+        count: u64,
+        objects: Vec<(u64, Object)>,
+    ) -> Result<Row, AllocError>
         requires { AscendsFrom 0 objects.items count }
         ensures { IfOk result (λ r. r ≡ record { count = count; objects = objects.items }) }
     {
@@ -324,6 +330,18 @@ impl Row {
     /// The object of a number, if it is held.
     #[inline(always)]
     pub fn object(&self, number: u64) -> Option<&Kept>
+        ensures kept { option_copied result ≡ option_map kept_of (object_in self.now.objects number) }
+        ensures class { option_map (λ (o : HeldObject). o.class) (option_copied result)
+            ≡ class_at (pool_by self.now) number }
+        ensures slots { option_map (λ (o : HeldObject). o.slots) (option_copied result)
+            ≡ slots_at (pool_by self.now) number }
+    {
+        self.kept(number)
+    }
+
+    /// The same.
+    #[inline(always)]
+    fn kept(&self, number: u64) -> Option<&Kept>
         ensures { option_copied result ≡ option_map kept_of (object_in self.now.objects number) }
     {
         match self.place(number) {

@@ -65,15 +65,6 @@ impl Slots {
         Ok(Slots { elements })
     }
 
-    /// These values, which are not copied.
-    pub fn of_vec(values: Vec<Value>) -> Slots
-        ensures { result ≡ values.items }
-    {
-        Slots {
-            elements: Elements::Values(values),
-        }
-    }
-
     /// These values, in as few bytes as all of them let.
     ///
     /// # Errors

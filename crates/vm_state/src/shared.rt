@@ -9,6 +9,7 @@ ghost use Rattle.vm_state.specs.Shares.{shared_of, SharesTheSame, SetsField, Set
 ghost use Rattle.vm_state.specs.Shares.{Initializes};
 ghost use Rattle.vm_state.specs.Pools.{IsRowBy};
 ghost use Rattle.vm_state.specs.Objects.{kept_of};
+ghost use Rattle.vm_state.specs.declared.kept.Kept.{Kept as HeldObject};
 
 use crate::classes::{ClassState, Classes, Fields, NoPlace, StaticField};
 use crate::heap::{Heap, Row};
@@ -162,9 +163,22 @@ impl Shared {
     }
 
     /// The object of a name, if it is held.
-    #[tactic(auto, unfolding(crate::specs::Shares::shared_of))]
     #[inline(always)]
     pub fn object(&self, name: Name) -> Option<&Kept>
+        ensures kept { (p : List Print) → option_copied result
+            ≡ option_map kept_of (object_of (shared_of self.now p) name) }
+        ensures class { (p : List Print) → option_map (λ (o : HeldObject). o.class) (option_copied result)
+            ≡ class_at (pool_of (shared_of self.now p) name.maker) name.number }
+        ensures slots { (p : List Print) → option_map (λ (o : HeldObject). o.slots) (option_copied result)
+            ≡ slots_at (pool_of (shared_of self.now p) name.maker) name.number }
+    {
+        self.kept(name)
+    }
+
+    /// The same.
+    #[tactic(auto, unfolding(crate::specs::Shares::shared_of))]
+    #[inline(always)]
+    fn kept(&self, name: Name) -> Option<&Kept>
         ensures { (p : List Print) → option_copied result
             ≡ option_map kept_of (object_of (shared_of self.now p) name) }
     {

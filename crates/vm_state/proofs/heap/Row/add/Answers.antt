@@ -19,11 +19,10 @@ invariant_of-self-2 c =
     let is = c.in_ok-push_kept.ensures.ok in
     let more = row_more w later kept count _ _ _ c.self.invariant.1 is in
     let up = ascends-more 0 (objects_of w (numbers_in later kept) kept) count (with_monitor_in w count _)
-    c.self.invariant.0 in
-    (
+    c.self.invariant.0 in (
       subst (λ (n : ℕ). AscendsFrom 0 (objects_of w (numbers_in c.push_kept.new.later.items c.push_kept.new.kept.items)
-      c.push_kept.new.kept.items) n) (sym next)
-      (subst (λ (os : List (ℕ × Object)). AscendsFrom 0 os (count + 1)) (sym more) up),
+          c.push_kept.new.kept.items) n) (sym next)
+          (subst (λ (os : List (ℕ × Object)). AscendsFrom 0 os (count + 1)) (sym more) up),
       is.fits,
       λ k h. c.self.invariant.2 k (omega (arith, h, next)),
     )

@@ -39,14 +39,14 @@ returns-else-found-number-clause-none c =
     let before : (i d : ℕ) → i < c.place_of-place.result → get_or (numbers_in later kept) i d < c.args.number =
     rw count at (rw c.as_slice-later.ensures.value at c.place_of-place.ensures.before) in
     let after : (d : ℕ) → c.place_of-place.result < plain + length later →
-        c.args.number ≤ get_or (numbers_in later kept) c.place_of-place.result d =
+    c.args.number ≤ get_or (numbers_in later kept) c.place_of-place.result d =
     rw count at (rw c.as_slice-later.ensures.value at c.place_of-place.ensures.after) in
     ap (λ (r : ObjectRow). object_in r.objects c.args.number) (sym c.self.view_is)
     ∙ none_found w (numbers_in later kept) kept c.self.inside.count c.place_of-place.result c.args.number all
     c.self.invariant.0 (λ i d h inside. before i d h) (λ d h. after d (omega (arith, h, all, c.self.invariant.1)))
     (λ n is.
-      let there : c.in-Some.found ≡ n = cc in
-      subst (λ (k : ℕ). (c.args.number == k) ≡ false) there other)
+    let there : c.in-Some.found ≡ n = cc in
+    subst (λ (k : ℕ). (c.args.number == k) ≡ false) there other)
 
 pub returns-in-None-clause-none : goal.returns-in-None-clause-none
 returns-in-None-clause-none c =
@@ -61,7 +61,7 @@ returns-in-None-clause-none c =
     let before : (i d : ℕ) → i < c.place_of-place.result → get_or (numbers_in later kept) i d < c.args.number =
     rw count at (rw c.as_slice-later.ensures.value at c.place_of-place.ensures.before) in
     let after : (d : ℕ) → c.place_of-place.result < plain + length later →
-        c.args.number ≤ get_or (numbers_in later kept) c.place_of-place.result d =
+    c.args.number ≤ get_or (numbers_in later kept) c.place_of-place.result d =
     rw count at (rw c.as_slice-later.ensures.value at c.place_of-place.ensures.after) in
     ap (λ (r : ObjectRow). object_in r.objects c.args.number) (sym c.self.view_is)
     ∙ none_found w (numbers_in later kept) kept c.self.inside.count c.place_of-place.result c.args.number all

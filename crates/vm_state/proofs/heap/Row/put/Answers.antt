@@ -27,22 +27,24 @@ invariant_of-self-2 c =
     let free : (k : ℕ) → count ≤ k → monitor_in w k ≡ Free =
     still_free v w number count object.monitor c.in_ok-set.ensures.ok below c.self.invariant.2 in
     elim (either_way c.push_kept.result c.push_kept.ensures.ok c.push_kept.ensures.err) [
-      | inl is ↦
-          (
-            subst (λ (os : List (ℕ × Object)). AscendsFrom 0 os count)
+      | inl is ↦ (
+        subst (λ (os : List (ℕ × Object)). AscendsFrom 0 os count)
             (sym (row_more w later kept number _ _ _ c.self.invariant.1 is))
             (ascends_with v w 0 (numbers_in later kept) kept count number object _ up),
-            is.fits,
-            free,
-          )
+        is.fits,
+        free,
+      )
       | inr same ↦
-          let old = ascends_so v w 0 (numbers_in later kept) kept count c.self.invariant.0 in
-          (
+          let old = ascends_so v w 0 (numbers_in later kept) kept count c.self.invariant.0 in (
             subst (λ (ls : List ℕ). AscendsFrom 0 (objects_of w (numbers_in ls c.push_kept.new.kept.items)
-            c.push_kept.new.kept.items) count) (sym same.0)
-            (subst (λ (ks : List Kept). AscendsFrom 0 (objects_of w (numbers_in later ks) ks) count) (sym same.1) old),
-            omega (arith, c.self.invariant.1, ap (λ (ls : List ℕ). length ls) same.0,
-            ap (λ (ks : List Kept). length ks) same.1),
+                c.push_kept.new.kept.items) count) (sym same.0)
+                (subst (λ (ks : List Kept). AscendsFrom 0 (objects_of w (numbers_in later ks) ks) count) (sym same.1) old),
+            omega (
+              arith,
+              c.self.invariant.1,
+              ap (λ (ls : List ℕ). length ls) same.0,
+              ap (λ (ks : List Kept). length ks) same.1,
+            ),
             free,
           )
     ]
@@ -63,8 +65,11 @@ returns c =
     if_done c.push_kept.result c.push_kept.ensures.ok (λ is.
     ap (λ (all : List (ℕ × Object)). record { count = count; objects = all })
     (row_more w later kept number _ _ _ c.self.invariant.1 is
-    ∙ (ap (λ (all : List (ℕ × Object)). all ++ (number, with_monitor_in w number
-    (record { class = c.of.result; slots = object.slots })) ∷ [])
+    ∙ (ap (λ (all : List (ℕ × Object)). all ++ (
+      number,
+      with_monitor_in w number
+          (record { class = c.of.result; slots = object.slots }),
+    ) ∷ [])
     (same_objects v w 0 (numbers_in later kept) kept count number object up (others_same v w number object.monitor set))
     ∙ (ap (λ (m : Monitor). os ++ (number, record { class = c.of.result; slots = object.slots; monitor = m }) ∷ [])
     (owned_now v w number object.monitor set)
