@@ -7,7 +7,7 @@ use Rattle.std.proofs.lemmas.Option.{get_or_from_slice_get, slice_get_within}
 use Rattle.vm_state.specs.declared.kept.Kept.{Kept}
 use Rattle.vm_state.specs.declared.object.Object.{Object}
 use Rattle.vm_state.specs.Objects.{numbered_kept}
-use Rattle.vm_state.proofs.RowPlaceLemmas.{is_at}
+use Rattle.object_graph.proofs.RowPlaceLemmas.{is_at}
 use Rattle.loading.specs.Families.{Family}
 use Rattle.program.specs.Tables.{Tables}
 use Rattle.image_format.specs.declared.version.Version.TheVariants.{Two}

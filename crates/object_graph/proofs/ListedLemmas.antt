@@ -12,7 +12,7 @@ use Rattle.vm_state.specs.declared.object.Object.{Object}
 use Rattle.vm_state.specs.declared.kept.Kept.{Kept}
 use Rattle.vm_state.specs.Objects.{ObjectRow, object_in, numbered_kept}
 use Rattle.vm_state.specs.SharedState.{Region}
-use Rattle.vm_state.proofs.RowPlaceLemmas.{is_at}
+use Rattle.object_graph.proofs.RowPlaceLemmas.{is_at}
 use Rattle.program.specs.Tables.{Tables}
 use Rattle.region_shape.specs.Wholes.{AreWhole}
 use Rattle.evaluator.specs.declared.regions.Region.{Region as Held}

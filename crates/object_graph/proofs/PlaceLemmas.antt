@@ -15,7 +15,7 @@ use Rattle.vm_state.specs.declared.kept.Kept.{Kept}
 use Rattle.vm_state.specs.Objects.{object_in, numbered_kept}
 use Rattle.vm_state.specs.steps.Objects.{object_at_place}
 use Rattle.vm_state.specs.SharedState.{Region}
-use Rattle.vm_state.proofs.RowPlaceLemmas.{is_at}
+use Rattle.object_graph.proofs.RowPlaceLemmas.{is_at}
 use Rattle.program.specs.Tables.{Tables, statics_if, statics_in}
 use Rattle.place_set.specs.declared.set.Place.{Place}
 use Rattle.place_set.specs.steps.Adds.{Adds}

@@ -12,4 +12,3 @@ pub mod OutputLemmas
 pub mod ElementLemmas
 pub mod OwnerLemmas
 pub mod KeptLemmas
-pub mod RowPlaceLemmas

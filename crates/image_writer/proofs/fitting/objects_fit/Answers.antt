@@ -2,7 +2,7 @@ use Rattle.std.proofs.Common.{ℕ, subst, arith}
 use Rattle.std.specs.List.{All}
 use Rattle.std.proofs.lemmas.List.{take_all}
 use Rattle.vm_state.specs.declared.object.Object.{Object}
-use Rattle.vm_state.proofs.RowPlaceLemmas.{past_all}
+use Rattle.object_graph.proofs.RowPlaceLemmas.{past_all}
 use Rattle.image_writer.specs.steps.Fits.{FitsType}
 use Rattle.image_writer.proofs.PlacedLemmas.{fit_more}
 use Rattle.image_writer.proofs.fitting.objects_fit.Goals as goal

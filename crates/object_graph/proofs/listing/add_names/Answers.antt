@@ -1,7 +1,7 @@
 use Rattle.std.proofs.Common.{◌+◌, ◌∙◌, List, ◌++◌, ◌≡◌, take, sym, ap, subst, arith}
 use Rattle.std.specs.declared.vec.Vec.{Vec}
 use Rattle.std.specs.declared.alloc.Global.{Global}
-use Rattle.vm_state.proofs.RowPlaceLemmas.{none_held}
+use Rattle.object_graph.proofs.RowPlaceLemmas.{none_held}
 use Rattle.object_graph.specs.declared.name_set.ObjectName.{ObjectName}
 use Rattle.object_graph.specs.steps.Listed.{names_of}
 use Rattle.object_graph.specs.steps.Places.{row_in}
