@@ -2,7 +2,7 @@
 use Rattle.std.proofs.Common.{◌≡◌, ◌∙◌, ℕ, ◌+◌, ◌<◌, ◌^◌, List, ◌++◌, Option, Some, length, map, take, get_or}
 use Rattle.std.proofs.Common.{slice_get, option_map, sym, ap, subst}
 use Rattle.std.specs.List.{All, flat_map}
-use Rattle.std.proofs.lemmas.List.Elements.{All-more, All-get_or}
+use Rattle.std.proofs.lemmas.List.Elements.{All-more}
 use Rattle.std.proofs.lemmas.Option.{get_or_from_slice_get, slice_get_within}
 use Rattle.vm_state.specs.declared.kept.Kept.{Kept}
 use Rattle.vm_state.specs.declared.object.Object.{Object}

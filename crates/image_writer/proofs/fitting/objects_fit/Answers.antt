@@ -2,7 +2,6 @@ use Rattle.std.proofs.Common.{ℕ, subst, arith}
 use Rattle.std.specs.List.{All}
 use Rattle.std.proofs.lemmas.List.{take_all}
 use Rattle.vm_state.specs.declared.object.Object.{Object}
-use Rattle.object_graph.proofs.RowPlaceLemmas.{past_all}
 use Rattle.image_writer.specs.steps.Fits.{FitsType}
 use Rattle.image_writer.proofs.PlacedLemmas.{fit_more}
 use Rattle.image_writer.proofs.fitting.objects_fit.Goals as goal
@@ -15,5 +14,5 @@ loop-place-preserved c =
 pub returns : goal.returns
 returns c =
     subst (All (λ (o : ℕ × Object). All FitsType o.1.slots))
-    (take_all c.loop-place.place c.args.objects.now.objects (omega (arith, c.len.ensures.all)))
+    (take_all c.loop-place.place c.args.objects.now.objects (omega (arith, c.len-place-end.ensures.all)))
     c.loop-place.invariant
