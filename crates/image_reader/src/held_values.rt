@@ -97,8 +97,9 @@ pub(crate) fn held_slots(
     match slots.seen() {
         SeenSlots::Numbers(numbers) => numbers.copy(alloc),
         SeenSlots::Values(values) => {
-            let values = held_values(alloc, program, values)?;
-            Slots::packed(alloc, values.as_slice())
+            let held = held_values(alloc, program, values)?;
+            let slots = Slots::packed(alloc, held.as_slice())?;
+            Ok(slots)
         }
     }
 }

@@ -1,9 +1,5 @@
-use Rattle.std.proofs.Common.{◌≡◌, arith}
-use Rattle.std.proofs.lemmas.Result.{IfOk-weaker}
-use Rattle.vm_state.specs.Objects.{ObjectRow}
-use Rattle.vm_state.specs.Pools.{pool_by}
+use Rattle.std.proofs.Common.{arith}
 use Rattle.image_format.proofs.DroppedLemmas.{found_all}
-use Rattle.image_reader.specs.steps.Held.{HoldsObjects}
 use Rattle.image_reader.proofs.HeldLemmas.{row_ascends, row_holds_all}
 use Rattle.image_reader.proofs.held_regions.held_objects.Goals as goal
 
@@ -18,11 +14,6 @@ of_objects-requires c =
 
 pub returns-clause-holds : goal.returns-clause-holds
 returns-clause-holds c =
-    let strings = c.push_objects.new.program.strings in
-    let objects = c.push_objects.new.held.items in
-    IfOk-weaker c.of_objects.result
-    (λ (row : ObjectRow). row ≡ record { count = c.args.count; objects = objects })
-    (λ (row : ObjectRow). HoldsObjects strings c.args.count c.args.objects.now (pool_by row))
-    (λ row is. row_holds_all strings c.args.count c.args.objects.now row objects is c.requires.numbers
-    c.in_ok-push_objects.ensures.holds)
-    (rw c.from.ensures at c.of_objects.ensures)
+    row_holds_all c.push_objects.new.program.strings c.args.count c.args.objects.now c.in_ok-row.row
+    c.push_objects.new.held.items (rw c.from.ensures at c.in_ok-row.ensures) c.requires.numbers
+    c.in_ok-push_objects.ensures.holds

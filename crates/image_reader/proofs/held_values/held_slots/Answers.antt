@@ -1,7 +1,5 @@
-use Rattle.std.proofs.Common.{◌≡◌, ◌∙◌, List, subst, sym}
+use Rattle.std.proofs.Common.{List, subst}
 use Rattle.std.specs.List.{All}
-use Rattle.std.proofs.lemmas.Result.{IfOk-weaker}
-use Rattle.vm_state.specs.declared.value.Value.{Value}
 use Rattle.image_format.specs.declared.value.ImageValue.{ImageValue}
 use Rattle.image_reader.specs.steps.Held.{HasUnits, HoldsValues}
 use Rattle.image_reader.proofs.HeldLemmas.{copy_held}
@@ -13,3 +11,8 @@ held_values-requires c = subst (λ (told : List ImageValue). All HasUnits told) 
 pub returns-in-Numbers-clause-holds : goal.returns-in-Numbers-clause-holds
 returns-in-Numbers-clause-holds c =
     copy_held c.args.program.now.strings c.args.slots.now _ c.copy.result c.in-Numbers.ensures c.copy.ensures
+
+pub returns-in_ok-slots-in-Values-clause-same : goal.returns-in_ok-slots-in-Values-clause-same
+returns-in_ok-slots-in-Values-clause-same c vs holds =
+    c.in_ok-held.ensures.same vs
+    (subst (λ (told : List ImageValue). HoldsValues c.args.program.now.strings told vs) c.in-Values.ensures holds)
