@@ -14,5 +14,5 @@ returns-in-Numbers-clause-holds c =
 
 pub returns-in_ok-slots-in-Values-clause-same : goal.returns-in_ok-slots-in-Values-clause-same
 returns-in_ok-slots-in-Values-clause-same c vs holds =
-    c.in_ok-held.ensures.same vs
+    c.in_ok-held-in-Values.ensures.same vs
     (subst (λ (told : List ImageValue). HoldsValues c.args.program.now.strings told vs) c.in-Values.ensures holds)
