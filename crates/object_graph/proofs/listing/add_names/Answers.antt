@@ -1,4 +1,4 @@
-use Rattle.std.proofs.Common.{◌+◌, ◌∙◌, List, ◌++◌, ◌≡◌, take, sym, ap, subst, arith}
+use Rattle.std.proofs.Common.{◌+◌, List, ◌++◌, ◌≡◌, take, sym, ap, subst, arith}
 use Rattle.std.specs.declared.vec.Vec.{Vec}
 use Rattle.std.specs.declared.alloc.Global.{Global}
 use Rattle.object_graph.proofs.RowPlaceLemmas.{none_held}
