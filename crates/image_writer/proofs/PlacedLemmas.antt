@@ -1,6 +1,6 @@
 -- The next object of a row: its numbers fit, it is sized, and its text is the next.
-use Rattle.std.proofs.Common.{◌≡◌, ◌∙◌, ℕ, ◌+◌, ◌<◌, ◌^◌, List, ◌++◌, Option, Some, length, map, take, get_or}
-use Rattle.std.proofs.Common.{slice_get, option_map, sym, ap, subst}
+use Rattle.std.proofs.Common.{◌≡◌, ◌∙◌, ℕ, ◌+◌, ◌<◌, ◌^◌, List, ◌++◌, Some, map, take, slice_get, option_map, sym, ap}
+use Rattle.std.proofs.Common.{subst}
 use Rattle.std.specs.List.{All, flat_map}
 use Rattle.std.proofs.lemmas.List.Elements.{All-more}
 use Rattle.std.proofs.lemmas.Option.{get_or_from_slice_get, slice_get_within}
