@@ -1,8 +1,8 @@
 pub mod TextLemmas
+pub mod PlacedLemmas
 pub mod FilesLemmas
 pub mod SizesLemmas
 pub mod ProgramsLemmas
 pub mod SuitsLemmas
 pub mod ReachedLemmas
 pub mod RegionsLemmas
-mod SeenLemmas

@@ -60,7 +60,6 @@ fn class_fits(image: &Image, class: u32)
 {
     if let Some(region) = image.region(class) {
         fields_fit(&region.fields, image.static_count(class));
-        let _count = region.objects.len();
         objects_fit(&region.objects);
     }
 }

@@ -10,7 +10,7 @@ ghost use Rattle.image_format.specs.Names.{name_of_class};
 ghost use Rattle.image_format.specs.Texts.{instance_text, array_text, object_text, kept_text, region_text, mark_text};
 ghost use Rattle.image_format.specs.Told.{told_value, told_array, told_class, told_object, told_kept};
 ghost use Rattle.image_format.specs.Told.{told_region, told_regions};
-ghost use Rattle.image_writer.specs.steps.Sizes.{HasFiles, IsSizedValue, IsSizedObject, IsSizedRegion, object_with};
+ghost use Rattle.image_writer.specs.steps.Sizes.{HasFiles, IsSizedValue, IsSizedObject, IsSizedRegion, object_by};
 
 use crate::files::has_files;
 use crate::numbers::{push_named, push_u8, push_u32};
@@ -102,7 +102,7 @@ fn name_of_unknown(alloc: Global, dimensions: u8, class: &[u8]) -> Result<Vec<u8
     Ok(name)
 }
 
-/// An object of a class, with these slots.
+/// An object, by its class and slots.
 fn push_object(
     alloc: Global,
     out: &mut Vec<u8>,
@@ -111,9 +111,9 @@ fn push_object(
     slots: &Slots,
 ) -> Result<(), AllocError>
     requires files { HasFiles program.now }
-    requires sized { IsSizedObject program.now (object_with class slots.now) }
+    requires sized { IsSizedObject program.now (object_by class slots.now) }
     ensures { OnOk result (out.new.items ≡ out.old.items
-        ++ object_text program.now.family (told_object program.now.strings (object_with class slots.now))) }
+        ++ object_text program.now.family (told_object program.now.strings (object_by class slots.now))) }
 {
     let name = name_of_class(alloc, program, class)?;
     match class {
@@ -131,16 +131,15 @@ fn push_kept(
     out: &mut Vec<u8>,
     program: &Program,
     number: u32,
-    kept: &Kept,
+    object: &Kept,
 ) -> Result<(), AllocError>
     requires files { HasFiles program.now }
-    requires sized { IsSizedObject program.now (object_with kept.now.class kept.now.slots) }
+    requires sized { IsSizedObject program.now (object_by object.now.class object.now.slots) }
     ensures { OnOk result (out.new.items ≡ out.old.items ++ kept_text Two program.now.family
-        (told_kept program.now.strings (number, object_with kept.now.class kept.now.slots))) }
+        (told_kept program.now.strings (number, object_by object.now.class object.now.slots))) }
 {
     push_u32(out, number)?;
-    let class = kept.class.id();
-    push_object(alloc, out, program, class, &kept.slots)
+    push_object(alloc, out, program, object.class.id(), &object.slots)
 }
 
 /// Objects with their numbers.
@@ -157,11 +156,10 @@ fn push_objects(
         ++ flat_map (kept_text Two program.now.family) (map (told_kept program.now.strings) objects.now.objects)) }
 {
     for place in 0..objects.len() {
-        let Some(held) = objects.at(place) else {
-            return Ok(());
-        };
-        let number = held.0 as u32;
-        push_kept(alloc, out, program, number, held.1)?;
+        if let Some(held) = objects.at(place) {
+            let number = held.0 as u32;
+            push_kept(alloc, out, program, number, held.1)?;
+        }
     }
     Ok(())
 }

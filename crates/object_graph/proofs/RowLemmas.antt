@@ -4,8 +4,7 @@ use Rattle.std.proofs.Common.{None, is_some, slice_get, option_map, refl, sym, a
 use Rattle.std.proofs.Common.{inl, inr, arith}
 use Rattle.std.proofs.lemmas.Bool.{cases_lt}
 use Rattle.vm_state.specs.declared.object.Object.{Object}
-use Rattle.vm_state.specs.declared.kept.Kept.{Kept}
-use Rattle.vm_state.specs.Objects.{ObjectRow, AscendsFrom, kept_of, numbered_kept, or_later, object_in}
+use Rattle.vm_state.specs.Objects.{ObjectRow, AscendsFrom, or_later, object_in}
 use Rattle.vm_state.specs.steps.Objects.{if_numbered, object_at_place}
 use Rattle.vm_state.proofs.ListLemmas.{tested}
 use Rattle.vm_state.proofs.ObjectLemmas.{found_at}
@@ -131,31 +130,3 @@ object_by_row regions x = by (region_in regions x.class)
     by : (o : Option Held) → object_among (option_map region_of o) x.number ≡ object_in (row_of o).objects x.number
     by None = refl
     by (Some r) = refl
-
--- ---- what is seen at an index
-
--- an object with this number, which is this without its monitor
-pub record IsSeen (os : List (ℕ × Object)) (index n : ℕ) (k : Kept) : Type 0 where
-  pub object : Object
-  pub at : slice_get os index ≡ Some (n, object)
-  pub is : kept_of object ≡ k
-
-pub seen_there : (os : List (ℕ × Object)) (index n : ℕ) (k : Kept)
-    → Some (n, k) ≡ option_map numbered_kept (slice_get os index) → IsSeen os index n k
-seen_there os index n k e = by (slice_get os index) refl
-  where
-    by : (o : Option (ℕ × Object)) → slice_get os index ≡ o → IsSeen os index n k
-    by None at = let clash : Some (n, k) ≡ None = rw at at e in cc
-    by (Some held) at =
-        let both : Some (n, k) ≡ Some (held.0, kept_of held.1) = rw at at e in
-        let number : n ≡ held.0 = cc in
-        let kept : k ≡ kept_of held.1 = cc in
-        record { object = held.1; at = at ∙ ap (λ (m : ℕ). Some (m, held.1)) (sym number); is = sym kept }
-
-pub none_there : (os : List (ℕ × Object)) (index : ℕ) → None ≡ option_map numbered_kept (slice_get os index)
-    → None ≡ slice_get os index
-none_there os index e = by (slice_get os index) refl
-  where
-    by : (o : Option (ℕ × Object)) → slice_get os index ≡ o → None ≡ slice_get os index
-    by None at = sym at
-    by (Some held) at = let clash : None ≡ Some (held.0, kept_of held.1) = rw at at e in cc

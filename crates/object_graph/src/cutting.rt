@@ -2,7 +2,6 @@
 
 ghost use Rattle.std.specs.Prelude.{◌≡◌, ◌≢◌, ◌++◌, ℕ, ◌<◌, ◌≤◌, IfOk, OnOk};
 ghost use Rattle.vm_state.specs.declared.object.Object.{Object};
-ghost use Rattle.vm_state.specs.Objects.{AscendsFrom};
 ghost use Rattle.evaluator.specs.Regions.{region_in};
 ghost use Rattle.object_graph.specs.steps.Kept.{only_if, kept_from, kept_row, kept_region};
 
@@ -45,30 +44,15 @@ fn found_objects(
     Ok(kept)
 }
 
-/// So many that were made, and those objects alone whose places are found.
-fn cut_row(
-    alloc: Global,
-    found: &PlaceSet,
-    class: u32,
-    count: u64,
-    objects: Vec<(u64, Object)>,
-) -> Result<Row, AllocError>
-    requires { AscendsFrom 0 objects.items count }
-    ensures { IfOk result (λ kept. kept
-        ≡ record { count = count; objects = kept_from found.now class 0 objects.items }) }
-{
-    match found_objects(alloc, found, class, objects) {
-        Ok(kept) => Row::of_objects(alloc, count, kept),
-        Err(error) => Err(error),
-    }
-}
-
 /// The row of a class with those objects alone whose places are found.
 fn found_row(alloc: Global, found: &PlaceSet, class: u32, row: Row) -> Result<Row, AllocError>
     ensures { IfOk result (λ kept. kept ≡ kept_row found.now class row) }
 {
     let (count, objects) = row.into_parts(alloc)?;
-    cut_row(alloc, found, class, count, objects)
+    match found_objects(alloc, found, class, objects) {
+        Ok(kept) => Row::of_objects(alloc, count, kept),
+        Err(error) => Err(error),
+    }
 }
 
 /// Leaves out the objects of a class whose places are not found.

@@ -7,7 +7,7 @@ ghost use Rattle.object_graph.specs.declared.name_set.ObjectName.{ObjectName as 
 ghost use Rattle.object_graph.specs.Names.{AreDistinct};
 ghost use Rattle.object_graph.specs.Reached.{IsReached};
 ghost use Rattle.object_graph.specs.steps.Listed.{names_of, names_below};
-ghost use Rattle.object_graph.specs.steps.Places.{row_in};
+ghost use Rattle.object_graph.specs.steps.Places.{row_in, Ascends};
 
 use crate::image::Image;
 use crate::name_set::{NameSet, ObjectName};
@@ -18,21 +18,21 @@ use std::alloc::{AllocError, Global};
 
 /// Adds the names of the objects of a class.
 fn add_names(regions: &Regions, class: u32, names: &mut Vec<ObjectName>) -> Result<(), AllocError>
-    ensures { OnOk result (names.new.items
+    ensures all { OnOk result (names.new.items
         ≡ names.old.items ++ names_of class (row_in regions.now class).objects) }
+    ensures ascending { Ascends (row_in regions.now class) }
 {
     for index in 0..count_in(regions, class) {
         let place = Place {
             row: class,
             index: index as u64,
         };
-        let Some(held) = object_at(regions, place) else {
-            return Ok(());
-        };
-        names.push(ObjectName {
-            class,
-            number: held.0,
-        })?;
+        if let Some(held) = object_at(regions, place) {
+            names.push(ObjectName {
+                class,
+                number: held.0,
+            })?;
+        }
     }
     Ok(())
 }
@@ -48,7 +48,6 @@ fn add_all_names(
     ensures distinct { OnOk result (AreDistinct names.new.items) }
 {
     for class in 0..count {
-        let _count = count_in(regions, class);
         add_names(regions, class, names)?;
     }
     Ok(())

@@ -58,10 +58,9 @@ fn visit_values(
     ensures { OnOk result (Adds found.old (HoldPlace regions.now slots.now) found.new) }
 {
     for slot in 0..slots.len() {
-        let Some(value) = slots.get(slot) else {
-            return Ok(());
-        };
-        visit_value(alloc, regions, value, found)?;
+        if let Some(value) = slots.get(slot) {
+            visit_value(alloc, regions, value, found)?;
+        }
     }
     Ok(())
 }

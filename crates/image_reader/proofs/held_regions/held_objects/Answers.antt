@@ -6,8 +6,8 @@ use Rattle.image_reader.proofs.held_regions.held_objects.Goals as goal
 pub push_objects-requires-clause-found : goal.push_objects-requires-clause-found
 push_objects-requires-clause-found c = found_all c.args.count 0 c.args.objects.now c.requires.numbers
 
-pub of_objects-row-requires : goal.of_objects-row-requires
-of_objects-row-requires c =
+pub of_objects-requires : goal.of_objects-requires
+of_objects-requires c =
     rw c.from.ensures
     (row_ascends c.push_objects.new.program.strings c.args.count 0 c.args.objects.now c.push_objects.new.held.items
     (omega arith) c.requires.numbers c.in_ok-push_objects.ensures.holds)

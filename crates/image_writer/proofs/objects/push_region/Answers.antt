@@ -21,21 +21,20 @@ overflow_cast-made c = omega (arith, c.count-made.ensures, c.requires.few)
 
 pub overflow_cast-kept : goal.overflow_cast-kept
 overflow_cast-kept c =
-    let row = c.args.region.now.objects.objects in
-    let few = row_few 0 row (pool_by c.args.region.now.objects).count c.len-kept.ensures.row.ascending in
+    let row = c.args.region.now.objects in
+    let few = row_few 0 row.objects row.count c.len-kept.ensures.ascending in
     omega (arith, few, c.requires.few, c.len-kept.ensures.all)
 
 pub push_objects-requires-clause-sized : goal.push_objects-requires-clause-sized
 push_objects-requires-clause-sized c =
-    let pool = pool_by c.args.region.now.objects in
-    rw c.program-program.ensures (all_row (λ n o. IsSizedObject c.args.image.now.program o) 0
-    c.args.region.now.objects.objects pool.count c.len-kept.ensures.row.ascending
-    (λ n o le at. c.requires.sized.objects n o (ap (λ f. f n) (sym c.len-kept.ensures.row.all) ∙ at)))
+    let row = c.args.region.now.objects in
+    rw c.program-program.ensures (all_row (λ n o. IsSizedObject c.args.image.now.program o) 0 row.objects row.count
+    c.len-kept.ensures.ascending (λ n o le at. c.requires.sized.objects n o at))
 
 pub push_objects-requires-clause-numbers : goal.push_objects-requires-clause-numbers
 push_objects-requires-clause-numbers c =
-    numbers_low 0 c.args.region.now.objects.objects (pool_by c.args.region.now.objects).count
-    c.len-kept.ensures.row.ascending c.requires.few
+    numbers_low 0 c.args.region.now.objects.objects c.args.region.now.objects.count c.len-kept.ensures.ascending
+    c.requires.few
 
 pub returns : goal.returns
 returns c =
@@ -45,8 +44,8 @@ returns c =
     let row : List (ℕ × Object) = c.args.region.now.objects.objects in
     let told : told_objects P.strings pool ≡ map (told_kept P.strings) row =
     told_row P.strings row pool c.len-kept.ensures.row in
-    let many : length row ≡ length (told_objects P.strings pool) =
-    sym (ap length told ∙ length-map row (told_kept P.strings)) in
+    let many : c.len-kept.result ≡ length (told_objects P.strings pool) =
+    c.len-kept.ensures.all ∙ sym (ap length told ∙ length-map row (told_kept P.strings)) in
     let before : List ℕ = c.push_u32.new.out.items in
     let third : List ℕ = c.push_u32-2.new.out.items in
     let declared : ℕ = length (statics_in P c.args.class) in
@@ -63,7 +62,7 @@ returns c =
     (c.in_ok-push_u32.ensures ∙ ap (λ (n : ℕ). c.args.out.now.items ++ u4 n) c.count-made.ensures) statics
     (two_parts c.push_fields.new.out.items third c.push_objects.new.out.items
     (u4 (length (told_objects P.strings pool))) (flat_map (kept_text Two P.family) (told_objects P.strings pool))
-    (c.in_ok-push_u32-2.ensures ∙ ap (λ (n : ℕ). c.push_fields.new.out.items ++ u4 n) (c.len-kept.ensures.all ∙ many))
+    (c.in_ok-push_u32-2.ensures ∙ ap (λ (n : ℕ). c.push_fields.new.out.items ++ u4 n) many)
     (e ∙ ap (λ (Q : Tables). third ++ flat_map (kept_text Two Q.family) (map (told_kept Q.strings) row))
     c.program-program.ensures
     ∙ ap (λ (ks : List KeptObject). third ++ flat_map (kept_text Two P.family) ks) (sym told))))

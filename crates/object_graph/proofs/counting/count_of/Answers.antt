@@ -9,8 +9,7 @@ use Rattle.object_graph.proofs.counting.count_of.Goals as goal
 
 -- as many as there are in the list
 counted : (c : After-len) → c.len.result ≡ held_count (pool_by c.args.objects.now)
-counted c =
-    c.len.ensures.all ∙ held_here c.args.objects.now c.len.ensures.ascending
+counted c = c.len.ensures.all ∙ held_here c.args.objects.now c.len.ensures.ascending
 
 pub overflow_cast-result : goal.overflow_cast-result
 overflow_cast-result c =
