@@ -1,0 +1,186 @@
+#![allow(unused, dead_code)]
+use crate::rstd::*;
+
+
+/// A class: a given one, one that is built in, or an array class.
+#[derive(Clone, Copy)]
+pub enum ClassId {
+    /// A class handed in as a class file, by its number in the program.
+    Given(u32),
+    BuiltIn(BuiltIn),
+    Array(ArrayType),
+}
+
+/// The classes that the machine has of itself. They are taken as initialized.
+#[derive(Clone, Copy, PartialEq, Eq)]
+pub enum BuiltIn {
+    Object,
+    String,
+    System,
+    Enum,
+    Throwable,
+    Exception,
+    RuntimeException,
+    ArithmeticException,
+    NullPointerException,
+    ClassCastException,
+    ArrayStoreException,
+    NegativeArraySizeException,
+    IllegalMonitorStateException,
+    IndexOutOfBoundsException,
+    ArrayIndexOutOfBoundsException,
+    Error,
+    LinkageError,
+    ExceptionInInitializerError,
+    NoClassDefFoundError,
+    PrintStream,
+}
+
+const ALL: [BuiltIn; 20] = [
+    BuiltIn::Object,
+    BuiltIn::String,
+    BuiltIn::System,
+    BuiltIn::Enum,
+    BuiltIn::Throwable,
+    BuiltIn::Exception,
+    BuiltIn::RuntimeException,
+    BuiltIn::ArithmeticException,
+    BuiltIn::NullPointerException,
+    BuiltIn::ClassCastException,
+    BuiltIn::ArrayStoreException,
+    BuiltIn::NegativeArraySizeException,
+    BuiltIn::IllegalMonitorStateException,
+    BuiltIn::IndexOutOfBoundsException,
+    BuiltIn::ArrayIndexOutOfBoundsException,
+    BuiltIn::Error,
+    BuiltIn::LinkageError,
+    BuiltIn::ExceptionInInitializerError,
+    BuiltIn::NoClassDefFoundError,
+    BuiltIn::PrintStream,
+];
+
+const FROM_OBJECT: [BuiltIn; 1] = [BuiltIn::Object];
+
+const FROM_THROWABLE: [BuiltIn; 2] = [BuiltIn::Throwable, BuiltIn::Object];
+
+const FROM_EXCEPTION: [BuiltIn; 3] = [BuiltIn::Exception, BuiltIn::Throwable, BuiltIn::Object];
+
+const FROM_RUNTIME_EXCEPTION: [BuiltIn; 4] = [
+    BuiltIn::RuntimeException,
+    BuiltIn::Exception,
+    BuiltIn::Throwable,
+    BuiltIn::Object,
+];
+
+const FROM_INDEX_OUT_OF_BOUNDS: [BuiltIn; 5] = [
+    BuiltIn::IndexOutOfBoundsException,
+    BuiltIn::RuntimeException,
+    BuiltIn::Exception,
+    BuiltIn::Throwable,
+    BuiltIn::Object,
+];
+
+const FROM_ERROR: [BuiltIn; 3] = [BuiltIn::Error, BuiltIn::Throwable, BuiltIn::Object];
+
+const FROM_LINKAGE_ERROR: [BuiltIn; 4] = [
+    BuiltIn::LinkageError,
+    BuiltIn::Error,
+    BuiltIn::Throwable,
+    BuiltIn::Object,
+];
+
+/// An array class (JVMS 4.3.2): so many dimensions of an element type.
+#[derive(Clone, Copy)]
+pub struct ArrayType {
+    /// 1 to 255.
+    pub dimensions: u8,
+    pub element: ElementType,
+}
+
+/// The element type of an array class, which is no array.
+#[derive(Clone, Copy)]
+pub enum ElementType {
+    Boolean,
+    Byte,
+    Char,
+    Short,
+    Int,
+    Long,
+    Float,
+    Double,
+    Given(u32),
+    BuiltIn(BuiltIn),
+    /// A class that is neither given nor built in, by the number of its name among the program's strings. No name of
+    /// a class file stands for one: only an image has arrays of it.
+    Unknown(u32),
+}
+
+impl BuiltIn {
+    /// The built-in class of a name, as its bytes with slashes.
+    pub fn named(name: &[u8]) -> Option<BuiltIn>
+    {
+        ALL.iter()
+            .find(|class| class.name().as_bytes() == name)
+            .copied()
+    }
+
+    /// Its name, with slashes.
+    pub fn name(self) -> &'static str
+    {
+        match self {
+            BuiltIn::Object => "java/lang/Object",
+            BuiltIn::String => "java/lang/String",
+            BuiltIn::System => "java/lang/System",
+            BuiltIn::Enum => "java/lang/Enum",
+            BuiltIn::Throwable => "java/lang/Throwable",
+            BuiltIn::Exception => "java/lang/Exception",
+            BuiltIn::RuntimeException => "java/lang/RuntimeException",
+            BuiltIn::ArithmeticException => "java/lang/ArithmeticException",
+            BuiltIn::NullPointerException => "java/lang/NullPointerException",
+            BuiltIn::ClassCastException => "java/lang/ClassCastException",
+            BuiltIn::ArrayStoreException => "java/lang/ArrayStoreException",
+            BuiltIn::NegativeArraySizeException => "java/lang/NegativeArraySizeException",
+            BuiltIn::IllegalMonitorStateException => "java/lang/IllegalMonitorStateException",
+            BuiltIn::IndexOutOfBoundsException => "java/lang/IndexOutOfBoundsException",
+            BuiltIn::ArrayIndexOutOfBoundsException => "java/lang/ArrayIndexOutOfBoundsException",
+            BuiltIn::Error => "java/lang/Error",
+            BuiltIn::LinkageError => "java/lang/LinkageError",
+            BuiltIn::ExceptionInInitializerError => "java/lang/ExceptionInInitializerError",
+            BuiltIn::NoClassDefFoundError => "java/lang/NoClassDefFoundError",
+            BuiltIn::PrintStream => "java/io/PrintStream",
+        }
+    }
+
+    /// Whether it is another class, or below it.
+    pub fn is_below(self, other: BuiltIn) -> bool
+    {
+        self == other || self.superclasses().contains(&other)
+    }
+
+    /// Its superclasses, the nearest first.
+    fn superclasses(self) -> &'static [BuiltIn]
+    {
+        match self {
+            BuiltIn::Object => &[],
+            BuiltIn::String
+            | BuiltIn::System
+            | BuiltIn::Enum
+            | BuiltIn::Throwable
+            | BuiltIn::PrintStream => &FROM_OBJECT,
+            BuiltIn::Exception | BuiltIn::Error => &FROM_THROWABLE,
+            BuiltIn::RuntimeException => &FROM_EXCEPTION,
+            BuiltIn::ArithmeticException
+            | BuiltIn::NullPointerException
+            | BuiltIn::ClassCastException
+            | BuiltIn::ArrayStoreException
+            | BuiltIn::NegativeArraySizeException
+            | BuiltIn::IllegalMonitorStateException
+            | BuiltIn::IndexOutOfBoundsException => &FROM_RUNTIME_EXCEPTION,
+            BuiltIn::ArrayIndexOutOfBoundsException => &FROM_INDEX_OUT_OF_BOUNDS,
+            BuiltIn::LinkageError => &FROM_ERROR,
+            BuiltIn::ExceptionInInitializerError | BuiltIn::NoClassDefFoundError => {
+                &FROM_LINKAGE_ERROR
+            }
+        }
+    }
+}

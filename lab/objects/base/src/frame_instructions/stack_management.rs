@@ -1,0 +1,151 @@
+#![allow(unused, dead_code)]
+use crate::rstd::*;
+
+
+use crate::bytecode::StackOperation;
+use crate::vm_state::operands::Operands;
+use crate::vm_state::value::{Fault, Value};
+
+/// How many places of an operand stack are moved together (JVMS 2.6.2).
+#[derive(Clone, Copy)]
+pub(crate) enum Places {
+    One,
+    Two,
+}
+
+/// The values of some places, the lower one first: one of either category, or two of category 1 (JVMS 2.11.1).
+#[derive(Clone, Copy)]
+pub(crate) enum Group {
+    Single(Value),
+    Pair(Value, Value),
+}
+
+impl Group {
+    /// How many values it has.
+    #[inline(always)]
+    fn count(self) -> u8
+    {
+        match self {
+            Group::Single(_) => 1,
+            Group::Pair(_, _) => 2,
+        }
+    }
+}
+
+/// Whether a value is of category 1, which takes one place (JVMS 2.11.1).
+#[inline(always)]
+fn is_category_1(value: Value) -> bool
+{
+    value.places() == 1
+}
+
+/// The value below so many others and one more.
+#[inline(always)]
+fn next_below(stack: &Operands, others: u8) -> Result<Value, Fault>
+{
+    stack.below(others as usize + 1)
+}
+
+/// The group of so many places below so many values.
+#[inline(always)]
+fn group_of(stack: &Operands, places: Places, others: u8) -> Result<Group, Fault>
+{
+    let upper = stack.below(others as usize)?;
+    match places {
+        Places::One if is_category_1(upper) => Ok(Group::Single(upper)),
+        Places::One => Err(Fault),
+        Places::Two if is_category_1(upper) => {
+            let lower = next_below(stack, others)?;
+            if !is_category_1(lower) {
+                return Err(Fault);
+            }
+            Ok(Group::Pair(lower, upper))
+        }
+        Places::Two => Ok(Group::Single(upper)),
+    }
+}
+
+/// Takes off the group on top: `pop` and `pop2`.
+#[inline(always)]
+fn remove(stack: &mut Operands, places: Places) -> Result<(), Fault>
+{
+    let group = group_of(stack, places, 0)?;
+    stack.drop_top();
+    if let Group::Pair(_, _) = group {
+        stack.drop_top();
+    }
+    Ok(())
+}
+
+/// Pushes the group on top once more: `dup` and `dup2`.
+#[inline(always)]
+fn double(stack: &mut Operands, places: Places) -> Result<(), Fault>
+{
+    match group_of(stack, places, 0)? {
+        Group::Single(a) => stack.push(a),
+        Group::Pair(b, a) => stack.replace(0, &[b, a]),
+    }
+}
+
+/// Puts the value on top once more under the group below it.
+fn put_under(stack: &mut Operands, a: Value, lower: Group) -> Result<(), Fault>
+{
+    match lower {
+        Group::Single(b) => stack.replace(2, &[a, b, a]),
+        Group::Pair(c, b) => stack.replace(3, &[a, c, b, a]),
+    }
+}
+
+/// Puts the two values on top once more under the group below them.
+fn put_two_under(stack: &mut Operands, b: Value, a: Value, lower: Group) -> Result<(), Fault>
+{
+    match lower {
+        Group::Single(c) => stack.replace(3, &[b, a, c, b, a]),
+        Group::Pair(d, c) => stack.replace(4, &[b, a, d, c, b, a]),
+    }
+}
+
+/// Puts the group on top once more under the one below it: `dup_x1` to `dup2_x2`.
+fn double_under(stack: &mut Operands, places: Places, below: Places) -> Result<(), Fault>
+{
+    let group = group_of(stack, places, 0)?;
+    let lower = group_of(stack, below, group.count())?;
+    match group {
+        Group::Single(a) => put_under(stack, a, lower),
+        Group::Pair(b, a) => put_two_under(stack, b, a, lower),
+    }
+}
+
+/// Exchanges the two values on top, both of category 1.
+fn swap(stack: &mut Operands) -> Result<(), Fault>
+{
+    let upper = stack.top()?;
+    if !is_category_1(upper) {
+        return Err(Fault);
+    }
+    let lower = stack.second()?;
+    if !is_category_1(lower) {
+        return Err(Fault);
+    }
+    stack.replace(2, &[upper, lower])
+}
+
+/// Rearranges an operand stack.
+///
+/// # Errors
+/// `Fault` where the stack has too few values, the wrong categories, or no room. Then it is as it was.
+#[inline(always)]
+pub fn rearrange(stack: &mut Operands, operation: StackOperation) -> Result<(), Fault>
+{
+    match operation {
+        StackOperation::Pop => remove(stack, Places::One),
+        StackOperation::Pop2 => remove(stack, Places::Two),
+        StackOperation::Dup => double(stack, Places::One),
+        StackOperation::DupX1 => double_under(stack, Places::One, Places::One),
+        StackOperation::DupX2 => double_under(stack, Places::One, Places::Two),
+        StackOperation::Dup2 => double(stack, Places::Two),
+        StackOperation::Dup2X1 => double_under(stack, Places::Two, Places::One),
+        StackOperation::Dup2X2 => double_under(stack, Places::Two, Places::Two),
+        StackOperation::Swap => swap(stack),
+    }
+}

@@ -1,0 +1,10 @@
+pub mod value;
+pub mod items;
+pub mod frame;
+pub mod locals;
+pub mod operands;
+pub mod object;
+pub mod elements;
+pub mod heap;
+pub mod shared;
+pub mod classes;

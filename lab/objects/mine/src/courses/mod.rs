@@ -1,0 +1,16 @@
+pub mod array_steps;
+pub mod choosing;
+pub mod combining;
+pub mod comparing;
+pub mod counting;
+pub mod fused;
+pub mod object_steps;
+pub mod single;
+pub mod sources;
+pub mod static_fields;
+pub mod step;
+pub mod taking;
+pub mod walk;
+pub mod crossing;
+pub mod instances;
+pub mod fusing;

@@ -1,0 +1,137 @@
+#![allow(unused, dead_code)]
+use crate::rstd::*;
+
+
+use crate::vm_state::elements::Elements;
+use crate::vm_state::value::Value;
+use crate::built_in::class_id::{ArrayType, ClassId};
+use crate::rstd::{AllocError, Global};
+
+/// The instance fields of an instance, or the elements of an array, in order.
+
+pub struct Slots {
+    elements: Elements,
+}
+
+
+impl Slots {
+    /// No slots.
+    pub fn none(alloc: Global) -> Slots
+    {
+        Slots {
+            elements: Elements::Values(Vec::new(alloc)),
+        }
+    }
+
+    /// This value so many times, for an array: where its components are numbers they take as many bytes as their type
+    /// wants.
+    ///
+    /// # Errors
+    /// `AllocError` where memory is refused.
+    pub fn filled(
+        alloc: Global,
+        array: ArrayType,
+        value: Value,
+        count: usize,
+    ) -> Result<Slots, AllocError>
+    {
+        let elements = Elements::filled(alloc, array, value, count)?;
+        Ok(Slots { elements })
+    }
+
+    /// No values yet, and room for so many, for an array: where its components are numbers they take as many bytes as
+    /// their type wants.
+    ///
+    /// # Errors
+    /// `AllocError` where memory is refused.
+    pub fn with_room(alloc: Global, array: ArrayType, room: usize) -> Result<Slots, AllocError>
+    {
+        let elements = Elements::with_room(alloc, array, room)?;
+        Ok(Slots { elements })
+    }
+
+    /// These values, in as few bytes as all of them let.
+    ///
+    /// # Errors
+    /// `AllocError` where memory is refused.
+    pub fn packed(alloc: Global, values: &[Value]) -> Result<Slots, AllocError>
+    {
+        let elements = Elements::packed(alloc, values)?;
+        Ok(Slots { elements })
+    }
+
+    /// The same values once more.
+    ///
+    /// # Errors
+    /// `AllocError` where memory is refused.
+    pub fn copy(&self, alloc: Global) -> Result<Slots, AllocError>
+    {
+        let elements = self.elements.copy(alloc)?;
+        Ok(Slots { elements })
+    }
+
+    /// How many there are.
+    #[inline(always)]
+    pub fn len(&self) -> usize
+    {
+        self.elements.len()
+    }
+
+    /// The value in a slot, if there is one.
+    #[inline(always)]
+    pub fn get(&self, slot: usize) -> Option<Value>
+    {
+        self.elements.get(slot)
+    }
+
+    /// Whether they are held as numbers; then all are.
+    pub fn are_numbers(&self) -> bool
+    {
+        self.elements.are_numbers()
+    }
+
+    /// Puts a value into a slot. Where there is no such slot nothing changes. It takes memory only where a value comes
+    /// among numbers that is none of their type.
+    ///
+    /// # Errors
+    /// `AllocError` where memory is refused; nothing has changed then.
+    #[inline(always)]
+    pub fn set(&mut self, slot: usize, value: Value) -> Result<(), AllocError>
+    {
+        self.elements.set(slot, value)
+    }
+
+    /// Adds a slot at the end, which holds a value.
+    ///
+    /// # Errors
+    /// `AllocError` where memory is refused; nothing has changed then.
+    pub fn push(&mut self, value: Value) -> Result<(), AllocError>
+    {
+        self.elements.push(value)
+    }
+
+    /// Puts values into the first two slots. Where there is no such slot nothing changes.
+    ///
+    /// # Errors
+    /// `AllocError` where memory is refused; nothing has changed then.
+    pub fn set_first(&mut self, first: Value, second: Value) -> Result<(), AllocError>
+    {
+        self.elements.set_first(first, second)
+    }
+}
+
+/// The monitor of an object (JVMS 2.11.10).
+#[derive(Clone, Copy)]
+pub enum Monitor {
+    Free,
+    /// Owned by a thread, which entered it so many times.
+    Owned { thread: u32, depth: u64 },
+}
+
+/// An object. Its class never changes.
+
+pub struct Object {
+    pub class: ClassId,
+    pub slots: Slots,
+    pub monitor: Monitor,
+}

@@ -1,0 +1,1 @@
+pub mod class_id;

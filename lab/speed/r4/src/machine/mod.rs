@@ -1,0 +1,10 @@
+pub mod array_types;
+pub mod kinds;
+pub mod array_references;
+pub mod references;
+pub mod stored_kind;
+pub mod objects;
+pub mod sharing;
+pub mod array_elements;
+pub mod object_operation;
+pub mod call_operation;

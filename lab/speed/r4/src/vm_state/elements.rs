@@ -1,0 +1,450 @@
+#![allow(unused, dead_code)]
+use crate::rstd::*;
+
+
+use crate::vm_state::value::Value;
+use crate::built_in::class_id::{ArrayType, ElementType};
+use crate::rstd::{AllocError, Global};
+
+/// What stands for some values, in fewer bytes.
+trait Element: Copy {
+    // The value that it stands for.
+
+    /// The value that it stands for.
+    fn value(self) -> Value;
+
+    /// What stands for a value, if something does.
+    fn narrow(value: Value) -> Option<Self>;
+
+    /// This one so many times.
+    fn many(self, alloc: Global, count: usize) -> Result<Vec<Self>, AllocError>;
+}
+
+impl Element for i8 {
+
+    #[inline(always)]
+    fn value(self) -> Value {
+        Value::Int(i32::from(self))
+    }
+
+    #[inline(always)]
+    fn narrow(value: Value) -> Option<i8> {
+        match value {
+            Value::Int(number) => i8::try_from(number).ok(),
+            _ => None,
+        }
+    }
+
+    fn many(self, alloc: Global, count: usize) -> Result<Vec<i8>, AllocError> {
+        rvec![alloc; self; count]
+    }
+}
+
+impl Element for u16 {
+
+    #[inline(always)]
+    fn value(self) -> Value {
+        Value::Int(i32::from(self))
+    }
+
+    #[inline(always)]
+    fn narrow(value: Value) -> Option<u16> {
+        match value {
+            Value::Int(number) => u16::try_from(number).ok(),
+            _ => None,
+        }
+    }
+
+    fn many(self, alloc: Global, count: usize) -> Result<Vec<u16>, AllocError> {
+        rvec![alloc; self; count]
+    }
+}
+
+impl Element for i16 {
+
+    #[inline(always)]
+    fn value(self) -> Value {
+        Value::Int(i32::from(self))
+    }
+
+    #[inline(always)]
+    fn narrow(value: Value) -> Option<i16> {
+        match value {
+            Value::Int(number) => i16::try_from(number).ok(),
+            _ => None,
+        }
+    }
+
+    fn many(self, alloc: Global, count: usize) -> Result<Vec<i16>, AllocError> {
+        rvec![alloc; self; count]
+    }
+}
+
+impl Element for i32 {
+
+    #[inline(always)]
+    fn value(self) -> Value {
+        Value::Int(self)
+    }
+
+    #[inline(always)]
+    fn narrow(value: Value) -> Option<i32> {
+        match value {
+            Value::Int(number) => Some(number),
+            _ => None,
+        }
+    }
+
+    fn many(self, alloc: Global, count: usize) -> Result<Vec<i32>, AllocError> {
+        rvec![alloc; self; count]
+    }
+}
+
+impl Element for i64 {
+
+    #[inline(always)]
+    fn value(self) -> Value {
+        Value::Long(self)
+    }
+
+    #[inline(always)]
+    fn narrow(value: Value) -> Option<i64> {
+        match value {
+            Value::Long(number) => Some(number),
+            _ => None,
+        }
+    }
+
+    fn many(self, alloc: Global, count: usize) -> Result<Vec<i64>, AllocError> {
+        rvec![alloc; self; count]
+    }
+}
+
+/// The value at a slot.
+#[inline(always)]
+fn value_at<E: Element>(elements: &[E], slot: usize) -> Option<Value>
+{
+    match elements.get(slot) {
+        Some(element) => Some(element.value()),
+        None => None,
+    }
+}
+
+/// Puts a value into a slot, and says so; not where nothing stands for it. Where there is no such slot nothing changes.
+#[inline(always)]
+fn put_narrow<E: Element>(elements: &mut Vec<E>, slot: usize, value: Value) -> bool
+{
+    match E::narrow(value) {
+        Some(element) => {
+            put_element(elements, slot, element);
+            true
+        }
+        None => false,
+    }
+}
+
+/// Puts an element into a slot. Where there is no such slot nothing changes.
+#[inline(always)]
+fn put_element<E: Copy>(elements: &mut Vec<E>, slot: usize, element: E)
+{
+    if let Some(held) = elements.get_mut(slot) {
+        *held = element;
+    }
+}
+
+/// Adds what stands for a value at the end, and says so; not where nothing does.
+fn push_narrow<E: Element>(elements: &mut Vec<E>, value: Value) -> Result<bool, AllocError>
+{
+    match E::narrow(value) {
+        Some(element) => {
+            elements.push(element)?;
+            Ok(true)
+        }
+        None => Ok(false),
+    }
+}
+
+/// The values that elements stand for.
+fn widened<E: Element>(alloc: Global, elements: &[E]) -> Result<Vec<Value>, AllocError>
+{
+    let mut values = Vec::with_capacity(alloc, elements.len())?;
+    for element in elements {
+        values.push(element.value())?;
+    }
+    Ok(values)
+}
+
+/// What stands for this value, so many times; none where nothing does.
+fn filled_narrow<E: Element>(
+    alloc: Global,
+    value: Value,
+    count: usize,
+) -> Result<Option<Vec<E>>, AllocError>
+{
+    match E::narrow(value) {
+        Some(element) => Ok(Some(element.many(alloc, count)?)),
+        None => Ok(None),
+    }
+}
+
+/// Values in a row.
+
+#[repr(u32)]
+pub(crate) enum Elements {
+    Bytes(Vec<i8>),
+    Chars(Vec<u16>),
+    Shorts(Vec<i16>),
+    Ints(Vec<i32>),
+    Longs(Vec<i64>),
+    Values(Vec<Value>),
+}
+
+impl Elements {
+    /// This value so many times, in a row for any values.
+    fn mixed(alloc: Global, value: Value, count: usize) -> Result<Elements, AllocError>
+    {
+        Ok(Elements::Values(rvec![alloc; value; count]?))
+    }
+
+    fn bytes(alloc: Global, value: Value, count: usize) -> Result<Elements, AllocError>
+    {
+        match filled_narrow(alloc, value, count)? {
+            Some(bytes) => Ok(Elements::Bytes(bytes)),
+            None => Elements::mixed(alloc, value, count),
+        }
+    }
+
+    fn chars(alloc: Global, value: Value, count: usize) -> Result<Elements, AllocError>
+    {
+        match filled_narrow(alloc, value, count)? {
+            Some(chars) => Ok(Elements::Chars(chars)),
+            None => Elements::mixed(alloc, value, count),
+        }
+    }
+
+    fn shorts(alloc: Global, value: Value, count: usize) -> Result<Elements, AllocError>
+    {
+        match filled_narrow(alloc, value, count)? {
+            Some(shorts) => Ok(Elements::Shorts(shorts)),
+            None => Elements::mixed(alloc, value, count),
+        }
+    }
+
+    fn ints(alloc: Global, value: Value, count: usize) -> Result<Elements, AllocError>
+    {
+        match filled_narrow(alloc, value, count)? {
+            Some(ints) => Ok(Elements::Ints(ints)),
+            None => Elements::mixed(alloc, value, count),
+        }
+    }
+
+    fn longs(alloc: Global, value: Value, count: usize) -> Result<Elements, AllocError>
+    {
+        match filled_narrow(alloc, value, count)? {
+            Some(longs) => Ok(Elements::Longs(longs)),
+            None => Elements::mixed(alloc, value, count),
+        }
+    }
+
+    /// This value so many times, in a row for the components of an array.
+    pub(crate) fn filled(
+        alloc: Global,
+        array: ArrayType,
+        value: Value,
+        count: usize,
+    ) -> Result<Elements, AllocError>
+    {
+        if array.dimensions > 1 {
+            return Elements::mixed(alloc, value, count);
+        }
+        match array.element {
+            ElementType::Boolean | ElementType::Byte => Elements::bytes(alloc, value, count),
+            ElementType::Char => Elements::chars(alloc, value, count),
+            ElementType::Short => Elements::shorts(alloc, value, count),
+            ElementType::Int => Elements::ints(alloc, value, count),
+            ElementType::Long => Elements::longs(alloc, value, count),
+            _ => Elements::mixed(alloc, value, count),
+        }
+    }
+
+    /// The same values once more.
+    pub(crate) fn copy(&self, alloc: Global) -> Result<Elements, AllocError>
+    {
+        match self {
+            Elements::Bytes(bytes) => {
+                Ok(Elements::Bytes(Vec::from_slice(alloc, bytes.as_slice())?))
+            }
+            Elements::Chars(chars) => {
+                Ok(Elements::Chars(Vec::from_slice(alloc, chars.as_slice())?))
+            }
+            Elements::Shorts(shorts) => {
+                Ok(Elements::Shorts(Vec::from_slice(alloc, shorts.as_slice())?))
+            }
+            Elements::Ints(ints) => Ok(Elements::Ints(Vec::from_slice(alloc, ints.as_slice())?)),
+            Elements::Longs(longs) => {
+                Ok(Elements::Longs(Vec::from_slice(alloc, longs.as_slice())?))
+            }
+            Elements::Values(values) => {
+                Ok(Elements::Values(Vec::from_slice(alloc, values.as_slice())?))
+            }
+        }
+    }
+
+    /// How many there are.
+    #[inline(always)]
+    pub(crate) fn len(&self) -> usize
+    {
+        match self {
+            Elements::Bytes(bytes) => bytes.len(),
+            Elements::Chars(chars) => chars.len(),
+            Elements::Shorts(shorts) => shorts.len(),
+            Elements::Ints(ints) => ints.len(),
+            Elements::Longs(longs) => longs.len(),
+            Elements::Values(values) => values.len(),
+        }
+    }
+
+    /// The value at a slot, if there is one.
+    #[inline(always)]
+    pub(crate) fn get(&self, slot: usize) -> Option<Value>
+    {
+        match self {
+            Elements::Bytes(bytes) => value_at(bytes.as_slice(), slot),
+            Elements::Chars(chars) => value_at(chars.as_slice(), slot),
+            Elements::Shorts(shorts) => value_at(shorts.as_slice(), slot),
+            Elements::Ints(ints) => value_at(ints.as_slice(), slot),
+            Elements::Longs(longs) => value_at(longs.as_slice(), slot),
+            Elements::Values(values) => values.as_slice().get(slot).copied(),
+        }
+    }
+
+    /// Puts a value into a slot, and says so; not where its kind does not fit among these. Where there is no such slot
+    /// nothing changes.
+    #[inline(always)]
+    fn put(&mut self, slot: usize, value: Value) -> bool
+    {
+        match self {
+            Elements::Bytes(bytes) => put_narrow(bytes, slot, value),
+            Elements::Chars(chars) => put_narrow(chars, slot, value),
+            Elements::Shorts(shorts) => put_narrow(shorts, slot, value),
+            Elements::Ints(ints) => put_narrow(ints, slot, value),
+            Elements::Longs(longs) => put_narrow(longs, slot, value),
+            Elements::Values(values) => {
+                put_element(values, slot, value);
+                true
+            }
+        }
+    }
+
+    /// Its values, each as it is.
+    fn to_values(&self) -> Result<Vec<Value>, AllocError>
+    {
+        match self {
+            Elements::Bytes(bytes) => widened(*bytes.allocator(), bytes.as_slice()),
+            Elements::Chars(chars) => widened(*chars.allocator(), chars.as_slice()),
+            Elements::Shorts(shorts) => widened(*shorts.allocator(), shorts.as_slice()),
+            Elements::Ints(ints) => widened(*ints.allocator(), ints.as_slice()),
+            Elements::Longs(longs) => widened(*longs.allocator(), longs.as_slice()),
+            Elements::Values(values) => Vec::from_slice(*values.allocator(), values.as_slice()),
+        }
+    }
+
+    /// Puts a value into a slot, in a row for any values. Where there is no such slot no value changes.
+    fn set_wide(&mut self, slot: usize, value: Value) -> Result<(), AllocError>
+    {
+        let mut values = self.to_values()?;
+        put_element(&mut values, slot, value);
+        *self = Elements::Values(values);
+        Ok(())
+    }
+
+    /// Puts a value into a slot. Where there is no such slot no value changes.
+    #[inline(always)]
+    pub(crate) fn set(&mut self, slot: usize, value: Value) -> Result<(), AllocError>
+    {
+        if self.put(slot, value) {
+            return Ok(());
+        }
+        self.set_wide(slot, value)
+    }
+
+    /// Puts values into the first two slots. Where there is no such slot no value changes.
+    pub(crate) fn set_first(&mut self, first: Value, second: Value) -> Result<(), AllocError>
+    {
+        let mut values = self.to_values()?;
+        put_element(&mut values, 0, first);
+        put_element(&mut values, 1, second);
+        *self = Elements::Values(values);
+        Ok(())
+    }
+
+    /// The values of a row for any values; where there are none all values are numbers.
+    pub(crate) fn values(&self) -> Option<&[Value]>
+    {
+        match self {
+            Elements::Bytes(_) => None,
+            Elements::Chars(_) => None,
+            Elements::Shorts(_) => None,
+            Elements::Ints(_) => None,
+            Elements::Longs(_) => None,
+            Elements::Values(values) => Some(values.as_slice()),
+        }
+    }
+
+    /// No values, with room for so many components of an array.
+    pub(crate) fn with_room(
+        alloc: Global,
+        array: ArrayType,
+        room: usize,
+    ) -> Result<Elements, AllocError>
+    {
+        if array.dimensions > 1 {
+            return Ok(Elements::Values(Vec::with_capacity(alloc, room)?));
+        }
+        match array.element {
+            ElementType::Boolean | ElementType::Byte => {
+                Ok(Elements::Bytes(Vec::with_capacity(alloc, room)?))
+            }
+            ElementType::Char => Ok(Elements::Chars(Vec::with_capacity(alloc, room)?)),
+            ElementType::Short => Ok(Elements::Shorts(Vec::with_capacity(alloc, room)?)),
+            ElementType::Int => Ok(Elements::Ints(Vec::with_capacity(alloc, room)?)),
+            ElementType::Long => Ok(Elements::Longs(Vec::with_capacity(alloc, room)?)),
+            _ => Ok(Elements::Values(Vec::with_capacity(alloc, room)?)),
+        }
+    }
+
+    /// Adds a value at the end, and says so; not where its kind does not fit among these.
+    fn add(&mut self, value: Value) -> Result<bool, AllocError>
+    {
+        match self {
+            Elements::Bytes(bytes) => push_narrow(bytes, value),
+            Elements::Chars(chars) => push_narrow(chars, value),
+            Elements::Shorts(shorts) => push_narrow(shorts, value),
+            Elements::Ints(ints) => push_narrow(ints, value),
+            Elements::Longs(longs) => push_narrow(longs, value),
+            Elements::Values(values) => {
+                values.push(value)?;
+                Ok(true)
+            }
+        }
+    }
+
+    /// Adds a value at the end, in a row for any values.
+    fn push_wide(&mut self, value: Value) -> Result<(), AllocError>
+    {
+        let mut values = self.to_values()?;
+        values.push(value)?;
+        *self = Elements::Values(values);
+        Ok(())
+    }
+
+    /// Adds a value at the end.
+    pub(crate) fn push(&mut self, value: Value) -> Result<(), AllocError>
+    {
+        match self.add(value) {
+            Ok(true) => Ok(()),
+            Ok(false) => self.push_wide(value),
+            Err(error) => Err(error),
+        }
+    }
+}
