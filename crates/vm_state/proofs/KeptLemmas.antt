@@ -6,7 +6,7 @@ use Rattle.std.specs.Prelude.{IsSome, option_map}
 use Rattle.std.specs.List.{range_with_len}
 use Rattle.std.specs.List.Sorted.{IsNonDecreasingBy}
 use Rattle.std.proofs.lemmas.List.{length_push, append-nil}
-use Rattle.std.proofs.lemmas.Option.{get_or_from_slice_get, slice_get-get_or}
+use Rattle.std.proofs.lemmas.Option.{get_or_from_slice_get, slice_get-get_or, slice_get_within}
 use Rattle.vm_state.specs.declared.object.Object.{Object}
 use Rattle.vm_state.specs.declared.object.Monitor.{Monitor}
 use Rattle.vm_state.specs.declared.object.Monitor.TheVariants.{Free}
@@ -537,3 +537,26 @@ ascends_take low (x ∷ xs) count (suc i) (h, hs) = (h, ascends_take (x.0 + 1) x
 pub objects_none : (w : List (ℕ × Monitor)) (ns : List ℕ) → objects_of w ns [] ≡ []
 objects_none w [] = refl
 objects_none w (n ∷ ns) = refl
+
+-- ---- where no number is left out
+
+all_plain : (later : List ℕ) (ks : List Kept) (n : ℕ) → length later ≡ 0 → n < length ks →
+    slice_get (numbers_in later ks) n ≡ Some n
+all_plain later ks n none inside = number_before (length ks - length later) n later (omega (arith, none, inside))
+
+pub direct_there : (w : List (ℕ × Monitor)) (later : List ℕ) (ks : List Kept) (n : ℕ) → length later ≡ 0 →
+    length later ≤ length ks → n < length ks → IsSome (object_at_place (objects_of w (numbers_in later ks) ks) n n)
+direct_there w later ks n none fits inside =
+    is_there w (numbers_in later ks) ks n n (length_numbers later ks fits) (all_plain later ks n none inside)
+
+pub direct_none : (w : List (ℕ × Monitor)) (later : List ℕ) (ks : List Kept) (count n : ℕ) → length later ≡ 0 →
+    length later ≤ length ks → AscendsFrom 0 (objects_of w (numbers_in later ks) ks) count → length ks ≤ n →
+    object_in (objects_of w (numbers_in later ks) ks) n ≡ None
+direct_none w later ks count n none fits up past =
+    let all : length (numbers_in later ks) ≡ length ks = length_numbers later ks fits in
+    none_found w (numbers_in later ks) ks count n n all up
+    (λ i d before inside.
+      let is = get_before (length ks - length later) i d later (omega (arith, none, inside, all)) in
+      omega (arith, is, before))
+    (λ d inside. absurd (omega (arith, inside, all, past)))
+    (λ m is. absurd (omega (arith, slice_get_within (numbers_in later ks) n m is, all, past)))

@@ -318,6 +318,23 @@ impl Row {
         ensures held { IfSome result (λ place. IsSome (object_at_place self.now.objects place number)) }
         ensures none { IfNone result (object_in self.now.objects number ≡ None) }
     {
+        if self.later.is_empty() {
+            if number < self.kept.len() as u64 {
+                Some(number as usize)
+            } else {
+                None
+            }
+        } else {
+            self.searched_place(number)
+        }
+    }
+
+    /// The same, by a search.
+    #[inline(never)]
+    fn searched_place(&self, number: u64) -> Option<usize>
+        ensures held { IfSome result (λ place. IsSome (object_at_place self.now.objects place number)) }
+        ensures none { IfNone result (object_in self.now.objects number ≡ None) }
+    {
         let later = self.later.as_slice();
         let plain = self.kept.len() - later.len();
         let place = place_of(plain, later, number);
