@@ -556,7 +556,7 @@ direct_none w later ks count n none fits up past =
     let all : length (numbers_in later ks) ≡ length ks = length_numbers later ks fits in
     none_found w (numbers_in later ks) ks count n n all up
     (λ i d before inside.
-      let is = get_before (length ks - length later) i d later (omega (arith, none, inside, all)) in
-      omega (arith, is, before))
+    let is = get_before (length ks - length later) i d later (omega (arith, none, inside, all)) in
+    omega (arith, is, before))
     (λ d inside. absurd (omega (arith, inside, all, past)))
     (λ m is. absurd (omega (arith, slice_get_within (numbers_in later ks) n m is, all, past)))
