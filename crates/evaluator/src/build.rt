@@ -59,7 +59,7 @@ fn class_in(region: &Region, number: u64) -> Option<ClassId>
     ensures { result ≡ class_at (pool_by region.now.objects) number }
 {
     match region.objects.object(number) {
-        Some(object) => Some(object.class),
+        Some(object) => Some(object.class.id()),
         None => None,
     }
 }
@@ -81,7 +81,7 @@ fn fixed_slot(program: &Program, region: &Region, number: u64, slot: usize) -> O
         (fixed_at (program_of program.now) Named (pool_by region.now.objects) number) }
 {
     match region.objects.object(number) {
-        Some(object) if program.is_below(object.class, ClassId::BuiltIn(BuiltIn::Enum)) => {
+        Some(object) if program.is_below(object.class.id(), ClassId::BuiltIn(BuiltIn::Enum)) => {
             match (object.slots.get(0), object.slots.get(1)) {
                 (Some(Value::Null), _) => None,
                 (Some(name), Some(ordinal)) => Some(match slot {

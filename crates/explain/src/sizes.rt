@@ -9,7 +9,8 @@ use object_graph::Image;
 use program::Program;
 use program::runtime_constant::FieldKind;
 use std::alloc::{AllocError, Global};
-use vm_state::object::{Object, Slots};
+use vm_state::kept::Kept;
+use vm_state::object::Slots;
 use vm_state::value::Value;
 
 /// A count of bytes, or of what stands behind it.
@@ -98,10 +99,11 @@ fn name_size(alloc: Global, program: &Program, class: ClassId) -> Result<u64, Al
 }
 
 /// An object, with its number and its form.
-fn object_size(alloc: Global, program: &Program, object: &Object) -> Result<u64, AllocError> {
-    let name = name_size(alloc, program, object.class)?;
+fn object_size(alloc: Global, program: &Program, object: &Kept) -> Result<u64, AllocError> {
+    let class = object.class.id();
+    let name = name_size(alloc, program, class)?;
     let slots = &object.slots;
-    let held = match object.class {
+    let held = match class {
         ClassId::Array(array) => elements_size(alloc, program, kind_of_elements(array), slots)?,
         _ => slots_size(alloc, program, slots)?,
     };
@@ -115,8 +117,10 @@ fn object_size(alloc: Global, program: &Program, object: &Object) -> Result<u64,
 /// The objects of a region, with two counts: how many were made, and how many are kept.
 fn objects_size(alloc: Global, program: &Program, region: &Region) -> Result<u64, AllocError> {
     let mut size = COUNT.saturating_add(COUNT);
-    for held in region.objects.objects() {
-        size = size.saturating_add(object_size(alloc, program, &held.1)?);
+    for place in 0..region.objects.len() {
+        if let Some(held) = region.objects.at(place) {
+            size = size.saturating_add(object_size(alloc, program, held.1)?);
+        }
     }
     Ok(size)
 }

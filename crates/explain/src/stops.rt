@@ -106,11 +106,15 @@ fn elements_wanted(program: &Program, frame: &Frame) -> u64 {
 
 /// How many elements a class made with its objects from a place on.
 fn elements_from(shared: &Shared, class: u32, place: usize) -> u64 {
-    let objects = shared.row(Maker::Class(class));
+    let Some(objects) = shared.row(Maker::Class(class)) else {
+        return 0;
+    };
     let mut elements = 0u64;
-    for held in objects.get(place..).unwrap_or(&[]) {
-        if let ClassId::Array(_) = held.1.class {
-            elements = elements.saturating_add(held.1.slots.len() as u64);
+    for later in place..objects.len() {
+        if let Some(held) = objects.at(later) {
+            if let ClassId::Array(_) = held.1.class.id() {
+                elements = elements.saturating_add(held.1.slots.len() as u64);
+            }
         }
     }
     elements
@@ -126,7 +130,10 @@ fn pay(
 ) -> Result<Option<u64>, AllocError>
     requires { IsSome frames.old.segment }
 {
-    let count = shared.row(Maker::Class(class)).len();
+    let count = match shared.row(Maker::Class(class)) {
+        Some(objects) => objects.len(),
+        None => 0,
+    };
     let mut printed = Output::new(alloc);
     match effect(alloc, program, frames, shared, &mut printed)? {
         Effect::Next => Ok(Some(elements_from(shared, class, count).saturating_add(1))),

@@ -135,7 +135,8 @@ fn held_objects(
 {
     let mut held = Vec::with_capacity(alloc, objects.len())?;
     push_objects(alloc, program, objects, &mut held)?;
-    Ok(Row::of_objects(u64::from(count), held))
+    let row = Row::of_objects(alloc, u64::from(count), held)?;
+    Ok(row)
 }
 
 /// The region of a class.

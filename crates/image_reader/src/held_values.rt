@@ -96,7 +96,11 @@ pub(crate) fn held_slots(
 {
     match slots.seen() {
         SeenSlots::Numbers(numbers) => numbers.copy(alloc),
-        SeenSlots::Values(values) => Ok(Slots::of_vec(held_values(alloc, program, values)?)),
+        SeenSlots::Values(values) => {
+            let held = held_values(alloc, program, values)?;
+            let slots = Slots::packed(alloc, held.as_slice())?;
+            Ok(slots)
+        }
     }
 }
 

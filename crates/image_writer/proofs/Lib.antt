@@ -1,4 +1,5 @@
 pub mod TextLemmas
+pub mod PlacedLemmas
 pub mod FilesLemmas
 pub mod SizesLemmas
 pub mod ProgramsLemmas

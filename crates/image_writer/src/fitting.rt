@@ -10,7 +10,8 @@ ghost use Rattle.image_writer.specs.steps.Fits.{ClassFits, FitsType};
 
 use object_graph::Image;
 use vm_state::classes::Fields;
-use vm_state::object::{Object, Slots};
+use vm_state::heap::Row;
+use vm_state::object::Slots;
 use vm_state::value::Value;
 
 /// A value's number fits.
@@ -42,10 +43,13 @@ fn fields_fit(fields: &Fields, count: u32)
 }
 
 /// Those in objects.
-fn objects_fit(objects: &[(u64, Object)])
-    ensures { All (λ (o : ℕ × Held). All FitsType o.1.slots) objects.now }
+fn objects_fit(objects: &Row)
+    ensures { All (λ (o : ℕ × Held). All FitsType o.1.slots) objects.now.objects }
 {
-    for held in objects {
+    for place in 0..objects.len() {
+        let Some(held) = objects.at(place) else {
+            return;
+        };
         values_fit(&held.1.slots);
     }
 }
@@ -56,7 +60,7 @@ fn class_fits(image: &Image, class: u32)
 {
     if let Some(region) = image.region(class) {
         fields_fit(&region.fields, image.static_count(class));
-        objects_fit(region.objects.objects());
+        objects_fit(&region.objects);
     }
 }
 

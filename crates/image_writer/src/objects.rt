@@ -10,7 +10,7 @@ ghost use Rattle.image_format.specs.Names.{name_of_class};
 ghost use Rattle.image_format.specs.Texts.{instance_text, array_text, object_text, kept_text, region_text, mark_text};
 ghost use Rattle.image_format.specs.Told.{told_value, told_array, told_class, told_object, told_kept};
 ghost use Rattle.image_format.specs.Told.{told_region, told_regions};
-ghost use Rattle.image_writer.specs.steps.Sizes.{HasFiles, IsSizedValue, IsSizedObject, IsSizedRegion};
+ghost use Rattle.image_writer.specs.steps.Sizes.{HasFiles, IsSizedValue, IsSizedObject, IsSizedRegion, object_by};
 
 use crate::files::has_files;
 use crate::numbers::{push_named, push_u8, push_u32};
@@ -23,7 +23,9 @@ use object_graph::Image;
 use program::Program;
 use program::runtime_constant::FieldKind;
 use std::alloc::{AllocError, Global};
-use vm_state::object::{Object, Slots};
+use vm_state::heap::Row;
+use vm_state::kept::Kept;
+use vm_state::object::Slots;
 
 /// An instance: its form, its class's name, and its slots.
 fn push_instance(
@@ -100,21 +102,21 @@ fn name_of_unknown(alloc: Global, dimensions: u8, class: &[u8]) -> Result<Vec<u8
     Ok(name)
 }
 
-/// An object.
+/// An object, by its class and slots.
 fn push_object(
     alloc: Global,
     out: &mut Vec<u8>,
     program: &Program,
-    object: &Object,
+    class: ClassId,
+    slots: &Slots,
 ) -> Result<(), AllocError>
     requires files { HasFiles program.now }
-    requires sized { IsSizedObject program.now object.now }
-    ensures { OnOk result (out.new.items
-        ≡ out.old.items ++ object_text program.now.family (told_object program.now.strings object.now)) }
+    requires sized { IsSizedObject program.now (object_by class slots.now) }
+    ensures { OnOk result (out.new.items ≡ out.old.items
+        ++ object_text program.now.family (told_object program.now.strings (object_by class slots.now))) }
 {
-    let name = name_of_class(alloc, program, object.class)?;
-    let slots = &object.slots;
-    match object.class {
+    let name = name_of_class(alloc, program, class)?;
+    match class {
         ClassId::Array(array) => {
             push_array(alloc, out, program, &name, kind_of_elements(array), slots)
         }
@@ -129,15 +131,15 @@ fn push_kept(
     out: &mut Vec<u8>,
     program: &Program,
     number: u32,
-    object: &Object,
+    object: &Kept,
 ) -> Result<(), AllocError>
     requires files { HasFiles program.now }
-    requires sized { IsSizedObject program.now object.now }
-    ensures { OnOk result (out.new.items
-        ≡ out.old.items ++ kept_text Two program.now.family (told_kept program.now.strings (number, object.now))) }
+    requires sized { IsSizedObject program.now (object_by object.now.class object.now.slots) }
+    ensures { OnOk result (out.new.items ≡ out.old.items ++ kept_text Two program.now.family
+        (told_kept program.now.strings (number, object_by object.now.class object.now.slots))) }
 {
     push_u32(out, number)?;
-    push_object(alloc, out, program, object)
+    push_object(alloc, out, program, object.class.id(), &object.slots)
 }
 
 /// Objects with their numbers.
@@ -145,17 +147,19 @@ fn push_objects(
     alloc: Global,
     out: &mut Vec<u8>,
     program: &Program,
-    objects: &[(u64, Object)],
+    objects: &Row,
 ) -> Result<(), AllocError>
     requires files { HasFiles program.now }
-    requires sized { All (λ (o : ℕ × Held). IsSizedObject program.now o.1) objects.now }
-    requires numbers { All (λ (o : ℕ × Held). o.0 < 2 ^ 32) objects.now }
+    requires sized { All (λ (o : ℕ × Held). IsSizedObject program.now o.1) objects.now.objects }
+    requires numbers { All (λ (o : ℕ × Held). o.0 < 2 ^ 32) objects.now.objects }
     ensures { OnOk result (out.new.items ≡ out.old.items
-        ++ flat_map (kept_text Two program.now.family) (map (told_kept program.now.strings) objects.now)) }
+        ++ flat_map (kept_text Two program.now.family) (map (told_kept program.now.strings) objects.now.objects)) }
 {
-    for held in objects {
-        let number = held.0 as u32;
-        push_kept(alloc, out, program, number, &held.1)?;
+    for place in 0..objects.len() {
+        if let Some(held) = objects.at(place) {
+            let number = held.0 as u32;
+            push_kept(alloc, out, program, number, held.1)?;
+        }
     }
     Ok(())
 }
@@ -175,7 +179,7 @@ fn push_region(
         (told_region image.now.program class (region_of region.now))) }
 {
     let program = image.program();
-    let objects = region.objects.objects();
+    let objects = &region.objects;
     let made = region.objects.count() as u32;
     push_u32(out, made)?;
     push_fields(

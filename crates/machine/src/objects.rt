@@ -98,14 +98,7 @@ pub fn new_given<S: Store>(
         return raise(alloc, by, store, BuiltIn::NoClassDefFoundError);
     }
     let slots = program.zero_slots(alloc, class)?;
-    new_object(
-        alloc,
-        by,
-        frame,
-        store,
-        ClassId::Given(class),
-        Slots::of_vec(slots),
-    )
+    new_object(alloc, by, frame, store, ClassId::Given(class), slots)
 }
 
 /// Whether an object of this class is of another one.

@@ -148,10 +148,10 @@ impl Store for Shared {
     #[tactic(auto, unfolding(crate::specs::Accesses::unless_refused))]
     fn use_monitor(&mut self, by: Actor, object: Name, enter: bool) -> Result<bool, Stop> {
         match lock_monitor(by.thread, enter, self.monitor(object)) {
-            Lock::Done(monitor) => {
-                self.set_monitor(object, monitor);
-                Ok(true)
-            }
+            Lock::Done(monitor) => match self.set_monitor(object, monitor) {
+                Ok(()) => Ok(true),
+                Err(AllocError) => Err(Stop::Memory),
+            },
             Lock::Refused => Ok(false),
             Lock::Blocked => Err(Stop::Waits),
         }

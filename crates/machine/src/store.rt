@@ -150,7 +150,8 @@ pub trait Store {
     /// changes; nor where it is stopped.
     ///
     /// # Errors
-    /// `Waits` where another thread owns a monitor that is to be entered, or the store's own reason.
+    /// `Waits` where another thread owns a monitor that is to be entered, or the store's own reason; `Memory` where
+    /// memory is refused.
     fn use_monitor(&mut self, by: Actor, object: Name, enter: bool) -> Result<bool, Stop>
         ensures leads { (p : List Print) → Leads stopped (run by (state self.old p)) (run by (state self.new p))
             (UseMonitor object enter) result }

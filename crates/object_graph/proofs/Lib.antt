@@ -1,5 +1,6 @@
 pub mod CutStartsLemmas
 pub mod RowLemmas
+pub mod RowPlaceLemmas
 pub mod PlaceLemmas
 pub mod SearchLemmas
 pub mod StaticsLemmas

@@ -1,15 +1,18 @@
 -- The names of the objects of regions: each once, and those of what is reached.
 use Rattle.std.proofs.Common.{◌≡◌, ◌∙◌, ◌↔◌, inl, inr, ℕ, zero, suc, ◌+◌, ◌-◌, ◌<◌, ◌≤◌, true, false, List, ◌++◌}
+use Rattle.std.proofs.Common.{[], ◌∷◌, take, append_assoc}
 use Rattle.std.proofs.Common.{length, Option, Some, None, is_some, option_map, slice_get, refl, sym, ap}
 use Rattle.std.proofs.Common.{subst, arith}
 use Rattle.std.specs.List.{Contains}
 use Rattle.std.proofs.lemmas.Bool.{cases_lt}
-use Rattle.std.proofs.lemmas.List.{get_or_append_left, get_or-append_right, length-append}
+use Rattle.std.proofs.lemmas.List.{get_or_append_left, get_or-append_right, length-append, map_more}
 use Rattle.std.proofs.lemmas.List.Elements.{Contains-append_cases, Contains-append_left, Contains-append_right}
 use Rattle.std.proofs.lemmas.Option.{slice_get-get_or, slice_get_within, slice_get-map, get_or_from_slice_get}
 use Rattle.vm_state.specs.declared.object.Object.{Object}
-use Rattle.vm_state.specs.Objects.{ObjectRow, object_in}
+use Rattle.vm_state.specs.declared.kept.Kept.{Kept}
+use Rattle.vm_state.specs.Objects.{ObjectRow, object_in, numbered_kept}
 use Rattle.vm_state.specs.SharedState.{Region}
+use Rattle.object_graph.proofs.RowPlaceLemmas.{is_at}
 use Rattle.program.specs.Tables.{Tables}
 use Rattle.region_shape.specs.Wholes.{AreWhole}
 use Rattle.evaluator.specs.declared.regions.Region.{Region as Held}
@@ -61,6 +64,20 @@ name_listed c os i held at =
       slice_get_within (names_of c os) i (name_in c held) named,
       get_or_from_slice_get (names_of c os) i (name_in c held) (name_in c held) named,
     )
+
+-- the names of one object more
+pub one_name : (c : ℕ) (os : List (ℕ × Object)) (i n : ℕ) (k : Kept) (front names new : List ObjectName)
+    → Some (n, k) ≡ option_map numbered_kept (slice_get os i) → names ≡ front ++ names_of c (take i os)
+    → new ≡ names ++ record { class = c; number = n } ∷ [] → new ≡ front ++ names_of c (take (i + 1) os)
+one_name c os i n k front names new here so_far pushed =
+    let r = is_at os i n k here in
+    let low = slice_get_within os i r.held r.at in
+    let name : List ObjectName → ℕ → List ObjectName = λ xs m. xs ++ record { class = c; number = m } ∷ [] in
+    pushed ∙ ap (λ (xs : List ObjectName). name xs n) so_far ∙ ap (name (front ++ names_of c (take i os))) r.number
+    ∙ append_assoc front (names_of c (take i os)) (name_in c r.held ∷ [])
+    ∙ ap (λ (o : ℕ × Object). front ++ (names_of c (take i os) ++ name_in c o ∷ []))
+    (sym (get_or_from_slice_get os i r.held r.held r.at))
+    ∙ ap (λ (xs : List ObjectName). front ++ xs) (sym (map_more (name_in c) os i r.held low))
 
 -- ---- each once
 
@@ -152,11 +169,10 @@ module _ (regions : List (Option Held)) where
       → names_below regions (n + 1) ≡ names_below regions n ++ names_of n (row_in regions n).objects
   below_more n = let k : n + 1 ≡ suc n = omega arith in ap (names_below regions) k
 
-  pub names_more : (n : ℕ) (names new : List ObjectName) (os : List (ℕ × Object)) → names ≡ names_below regions n
-      → os ≡ (row_in regions n).objects → new ≡ names ++ names_of n os → new ≡ names_below regions (n + 1)
-  names_more n names new os listed all is =
-      is ∙ ap (λ (xs : List ObjectName). xs ++ names_of n os) listed
-      ∙ ap (λ (zs : List (ℕ × Object)). names_below regions n ++ names_of n zs) all ∙ sym (below_more n)
+  pub names_more : (n : ℕ) (names new : List ObjectName) → names ≡ names_below regions n
+      → new ≡ names ++ names_of n (row_in regions n).objects → new ≡ names_below regions (n + 1)
+  names_more n names new listed is =
+      is ∙ ap (λ (xs : List ObjectName). xs ++ names_of n (row_in regions n).objects) listed ∙ sym (below_more n)
 
   pub distinct_more : (n : ℕ) → AreDistinct (names_below regions n) → Ascends (row_in regions n)
       → AreDistinct (names_below regions (n + 1))

@@ -11,9 +11,11 @@ use Rattle.vm_state.specs.declared.object.Object.{Object}
 use Rattle.vm_state.specs.declared.value.Value.{Value}
 use Rattle.vm_state.specs.declared.value.Value.TheVariants as values
 use Rattle.vm_state.specs.Values.{IsNumber}
-use Rattle.vm_state.specs.Objects.{object_in}
+use Rattle.vm_state.specs.declared.kept.Kept.{Kept}
+use Rattle.vm_state.specs.Objects.{object_in, numbered_kept}
 use Rattle.vm_state.specs.steps.Objects.{object_at_place}
 use Rattle.vm_state.specs.SharedState.{Region}
+use Rattle.object_graph.proofs.RowPlaceLemmas.{is_at}
 use Rattle.program.specs.Tables.{Tables, statics_if, statics_in}
 use Rattle.place_set.specs.declared.set.Place.{Place}
 use Rattle.place_set.specs.steps.Adds.{Adds}
@@ -217,10 +219,10 @@ module _ (P : Tables) (regions : List (Option Held)) where
 
 -- ---- what an object refers to
 
-pub object_holds : (regions : List (Option Held)) (x : Place) (held : ℕ × Object) (slots : List Value)
+object_adds : (regions : List (Option Held)) (x : Place) (held : ℕ × Object) (slots : List Value)
     (old new : List Place) → Some held ≡ slice_get (row_in regions x.row).objects x.index → slots ≡ held.1.slots
     → Adds old (HoldPlace regions slots) new → Adds old (HoldsPlace regions x) new
-object_holds regions x held slots old new here all a =
+object_adds regions x held slots old new here all a =
     adds_same old new (HoldPlace regions slots) (HoldsPlace regions x)
     (λ y h. record {
       held = held;
@@ -234,8 +236,20 @@ object_holds regions x held slots old new here all a =
     (ap (λ (k : ℕ × Object). k.1.slots) same ∙ sym all) h.holds)
     a
 
+pub object_holds : (regions : List (Option Held)) (x : Place) (n : ℕ) (k : Kept) (old new : List Place)
+    → Some (n, k) ≡ option_map numbered_kept (slice_get (row_in regions x.row).objects x.index)
+    → Adds old (HoldPlace regions k.slots) new → Adds old (HoldsPlace regions x) new
+object_holds regions x n k old new there a =
+    let r = is_at (row_in regions x.row).objects x.index n k there in
+    object_adds regions x r.held k.slots old new (sym r.at) (ap (λ (z : Kept). z.slots) (sym r.kept)) a
+
+no_object : (o : Option (ℕ × Object)) (held : ℕ × Object) → None ≡ option_map numbered_kept o → o ≡ Some held → ⊥
+no_object None held none some = cc
+no_object (Some z) held none some = cc
+
 pub holds_nothing : (regions : List (Option Held)) (x : Place) (found : List Place)
-    → None ≡ slice_get (row_in regions x.row).objects x.index → Adds found (HoldsPlace regions x) found
+    → None ≡ option_map numbered_kept (slice_get (row_in regions x.row).objects x.index)
+    → Adds found (HoldsPlace regions x) found
 holds_nothing regions x found none =
     adds_none found (HoldsPlace regions x)
-    (λ y h. let clash : None ≡ Some h.held = none ∙ h.at in absurd cc)
+    (λ y h. no_object (slice_get (row_in regions x.row).objects x.index) h.held none h.at)

@@ -15,7 +15,7 @@ pub(crate) fn count_of(objects: &Row) -> u32
     requires { (pool_by objects.now).count < 2 ^ 32 }
     ensures { result ≡ held_count (pool_by objects.now) }
 {
-    objects.objects().len() as u32
+    objects.len() as u32
 }
 
 /// How many static fields with values a class has: at most 65,535, and none where there is no such class.

@@ -48,9 +48,9 @@ fn found_objects(
 fn found_row(alloc: Global, found: &PlaceSet, class: u32, row: Row) -> Result<Row, AllocError>
     ensures { IfOk result (λ kept. kept ≡ kept_row found.now class row) }
 {
-    let (count, objects) = row.into_parts();
+    let (count, objects) = row.into_parts(alloc)?;
     match found_objects(alloc, found, class, objects) {
-        Ok(kept) => Ok(Row::of_objects(count, kept)),
+        Ok(kept) => Row::of_objects(alloc, count, kept),
         Err(error) => Err(error),
     }
 }

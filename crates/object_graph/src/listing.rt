@@ -7,27 +7,32 @@ ghost use Rattle.object_graph.specs.declared.name_set.ObjectName.{ObjectName as 
 ghost use Rattle.object_graph.specs.Names.{AreDistinct};
 ghost use Rattle.object_graph.specs.Reached.{IsReached};
 ghost use Rattle.object_graph.specs.steps.Listed.{names_of, names_below};
+ghost use Rattle.object_graph.specs.steps.Places.{row_in, Ascends};
 
 use crate::image::Image;
 use crate::name_set::{NameSet, ObjectName};
-use crate::rows::objects_of;
+use crate::rows::{count_in, object_at};
 use evaluator::regions::Regions;
+use place_set::Place;
 use std::alloc::{AllocError, Global};
-use vm_state::object::Object;
 
 /// Adds the names of the objects of a class.
-fn add_names(
-    class: u32,
-    objects: &[(u64, Object)],
-    names: &mut Vec<ObjectName>,
-) -> Result<(), AllocError>
-    ensures { OnOk result (names.new.items ≡ names.old.items ++ names_of class objects.now) }
+fn add_names(regions: &Regions, class: u32, names: &mut Vec<ObjectName>) -> Result<(), AllocError>
+    ensures all { OnOk result (names.new.items
+        ≡ names.old.items ++ names_of class (row_in regions.now class).objects) }
+    ensures ascending { Ascends (row_in regions.now class) }
 {
-    for held in objects {
-        names.push(ObjectName {
-            class,
-            number: held.0,
-        })?;
+    for index in 0..count_in(regions, class) {
+        let place = Place {
+            row: class,
+            index: index as u64,
+        };
+        if let Some(held) = object_at(regions, place) {
+            names.push(ObjectName {
+                class,
+                number: held.0,
+            })?;
+        }
     }
     Ok(())
 }
@@ -43,7 +48,7 @@ fn add_all_names(
     ensures distinct { OnOk result (AreDistinct names.new.items) }
 {
     for class in 0..count {
-        add_names(class, objects_of(regions, class), names)?;
+        add_names(regions, class, names)?;
     }
     Ok(())
 }

@@ -42,23 +42,25 @@ fn visit_slots(
 ) -> Result<(), AllocError>
     ensures { OnOk result (Adds found.old (HoldPlace regions.now slots.now) found.new) }
 {
-    match slots.values() {
-        Some(values) => visit_values(alloc, regions, values, found),
-        None => Ok(()),
+    if slots.are_numbers() {
+        return Ok(());
     }
+    visit_values(alloc, regions, slots, found)
 }
 
-/// Adds the places of the objects that values refer to.
+/// Adds the places of the objects that the values in slots refer to.
 fn visit_values(
     alloc: Global,
     regions: &Regions,
-    values: &[Value],
+    slots: &Slots,
     found: &mut PlaceSet,
 ) -> Result<(), AllocError>
-    ensures { OnOk result (Adds found.old (HoldPlace regions.now values.now) found.new) }
+    ensures { OnOk result (Adds found.old (HoldPlace regions.now slots.now) found.new) }
 {
-    for value in values {
-        visit_value(alloc, regions, *value, found)?;
+    for slot in 0..slots.len() {
+        if let Some(value) = slots.get(slot) {
+            visit_value(alloc, regions, value, found)?;
+        }
     }
     Ok(())
 }

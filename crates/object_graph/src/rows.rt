@@ -1,34 +1,39 @@
 //! The rows of objects of regions, and the places of objects in them.
 
-ghost use Rattle.std.specs.Prelude.{◌≡◌, ◌↔◌, None, slice_get, option_copied, IfNone, IfSome, IsSome, MatchOption};
+ghost use Rattle.std.specs.Prelude.{◌≡◌, ◌↔◌, None, length, slice_get, option_map, IfNone, IfSome, IsSome, MatchOption};
 ghost use Rattle.place_set.specs.declared.set.Place.{Place as Found};
 ghost use Rattle.vm_state.specs.declared.value.Value.TheVariants.{OfClass};
-ghost use Rattle.vm_state.specs.Objects.{object_in};
+ghost use Rattle.vm_state.specs.Objects.{numbered_kept, object_in};
 ghost use Rattle.vm_state.specs.steps.Objects.{object_at_place};
 ghost use Rattle.object_graph.specs.steps.Places.{row_in, Ascends, IsPlaceOf};
 
 use evaluator::regions::Regions;
 use place_set::Place;
-use vm_state::object::Object;
+use vm_state::kept::Kept;
 use vm_state::value::Value;
 
-/// The objects of the region of a class with their numbers, in the order of the numbers; none where it has no region.
-pub(crate) fn objects_of(regions: &Regions, class: u32) -> &[(u64, Object)]
-    ensures all { result.now ≡ (row_in regions.now class).objects }
+/// How many objects the region of a class holds; none where it has no region.
+pub(crate) fn count_in(regions: &Regions, class: u32) -> usize
+    ensures all { result ≡ length (row_in regions.now class).objects }
     ensures ascending { Ascends (row_in regions.now class) }
 {
     match regions.get(class) {
-        Some(region) => region.objects.objects(),
-        None => &[],
+        Some(region) => region.objects.len(),
+        None => 0,
     }
 }
 
 /// The object of a place with its number, if there is one.
-pub(crate) fn object_at(regions: &Regions, place: Place) -> Option<&(u64, Object)>
-    ensures value { option_copied result ≡ slice_get (row_in regions.now place.row).objects place.index }
+pub(crate) fn object_at(regions: &Regions, place: Place) -> Option<(u64, &Kept)>
+    ensures value { option_map (λ o. (o.0, o.1.now)) result
+        ≡ option_map numbered_kept (slice_get (row_in regions.now place.row).objects place.index) }
     ensures ascending { Ascends (row_in regions.now place.row) }
 {
-    objects_of(regions, place.row).get(place.index as usize)
+    let _count = count_in(regions, place.row);
+    match regions.get(place.row) {
+        Some(region) => region.objects.at(place.index as usize),
+        None => None,
+    }
 }
 
 /// The index of the object of a number in the row of a class, if it is held.
@@ -47,7 +52,7 @@ fn place_in(regions: &Regions, class: u32, number: u64) -> Option<Place>
     ensures { MatchOption result ((x : Found) → IsPlaceOf regions.now (OfClass class number) x → ⊥)
         (λ place. (x : Found) → IsPlaceOf regions.now (OfClass class number) x ↔ (x ≡ place)) }
 {
-    let _objects = objects_of(regions, class);
+    let _count = count_in(regions, class);
     match index_in(regions, class, number) {
         Some(index) => Some(Place {
             row: class,

@@ -17,6 +17,7 @@ use crate::slots::Slots;
 use crate::statics::zero_of;
 use loading::family::Family;
 use std::alloc::{AllocError, Global};
+use vm_state::object::Slots as ObjectSlots;
 use vm_state::value::Value;
 
 impl Program {
@@ -34,14 +35,15 @@ impl Program {
     ///
     /// # Errors
     /// Where memory runs out.
-    pub fn zero_slots(&self, alloc: Global, class: u32) -> Result<Vec<Value>, AllocError>
-        ensures { IfOk result (λ slots. slots.items ≡ map zero_of (slots_of self.now.family class)) }
+    pub fn zero_slots(&self, alloc: Global, class: u32) -> Result<ObjectSlots, AllocError>
+        ensures { IfOk result (λ slots. slots ≡ map zero_of (slots_of self.now.family class)) }
     {
         let count = self.slots.chain(class).count;
         let mut slots = Vec::with_capacity(alloc, count as usize)?;
         add_zeros(self.hierarchy.family(), &self.slots, class, &mut slots)?;
         slots.reverse();
-        Ok(slots)
+        let packed = ObjectSlots::packed(alloc, slots.as_slice())?;
+        Ok(packed)
     }
 }
 

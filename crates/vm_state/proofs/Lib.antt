@@ -10,3 +10,5 @@ pub mod HeldCountLemmas
 pub mod VariableLemmas
 pub mod OutputLemmas
 pub mod ElementLemmas
+pub mod OwnerLemmas
+pub mod KeptLemmas

@@ -77,10 +77,10 @@ none_at low (x ∷ xs) count (suc place) k (h, hs) before after at =
     (λ d inside. after d (omega (arith, inside))) at in
     rw (other, later) refl
 
-pub searched_at : (os : List (ℕ × Object)) (count place k : ℕ) → AscendsFrom 0 os count →
-    ((i : ℕ) (d : ℕ × Object) → i < place → (get_or os i d).0 < k) →
+pub searched_within : (os : List (ℕ × Object)) (count place k : ℕ) → AscendsFrom 0 os count →
+    ((i : ℕ) (d : ℕ × Object) → i < place → i < length os → (get_or os i d).0 < k) →
     ((d : ℕ × Object) → place < length os → k ≤ (get_or os place d).0) → object_at_place os place k ≡ object_in os k
-searched_at os count place k h before after = by (object_at_place os place k) refl where
+searched_within os count place k h before after = by (object_at_place os place k) refl where
   by : (o : Option Object) → object_at_place os place k ≡ o → object_at_place os place k ≡ object_in os k
-  by None at = rw at (sym (none_at 0 os count place k h (λ i d i-before inside. before i d i-before) after at))
+  by None at = rw at (sym (none_at 0 os count place k h before after at))
   by (Some o) at = rw at (sym (found_at 0 os count place k o h at))

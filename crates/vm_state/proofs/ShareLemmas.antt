@@ -1,6 +1,6 @@
 -- What a change of the classes' table is of the shared state.
 use Rattle.std.proofs.Common.{◌≡◌, ℕ, Bool, true, false, List, refl, ap, ◌∙◌, ◌==◌, eqb-true, if◌then◌else◌, inl, inr}
-use Rattle.std.proofs.Common.{Result, Ok, Err, OnOk, OnErr}
+use Rattle.std.proofs.Common.{◌⊎◌, Result, Ok, Err, OnOk, OnErr}
 use Rattle.std.proofs.Math.Path.{fun_ext}
 use Rattle.vm_state.specs.declared.value.Value.{Value}
 use Rattle.vm_state.specs.Output.{Print}
@@ -158,3 +158,8 @@ if_refused (Err error) holds = holds
 pub if_done : {T E P Q : Type 0} (r : Result T E) → OnOk r P → (P → Q) → OnOk r Q
 if_done (Ok value) holds so = so holds
 if_done (Err error) holds so = tt
+
+-- what was done, or refused
+pub either_way : {T E P Q : Type 0} (r : Result T E) → OnOk r P → OnErr r Q → P ⊎ Q
+either_way (Ok value) done refused = inl done
+either_way (Err error) done refused = inr refused

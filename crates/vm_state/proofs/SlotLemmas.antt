@@ -131,7 +131,7 @@ slot_set_at count os place k slot value held slots h some was is =
 
 -- ---- the first two slots changed
 
-abbrev first_changed : Value → Value → Object → Object
+abbrev pub first_changed : Value → Value → Object → Object
 first_changed a b o = object_with_slot 1 b (object_with_slot 0 a o)
 
 changed_twice : (a b : Value) (held : Option Object) →
@@ -151,7 +151,7 @@ first_at p n k a b = elim (tested (n == k)) [
   | inr e ↦ rw e refl
 ]
 
-first_pool : (p : Pool) (k : ℕ) (a b : Value) →
+pub first_pool : (p : Pool) (k : ℕ) (a b : Value) →
     with_object p k (option_map (first_changed a b) (p.at k)) ≡ pool_with_first p k a b
 first_pool p k a b = ap (pool p.count) (fun_ext (λ n. first_at p n k a b))
 

@@ -1,6 +1,6 @@
 -- The objects of each maker of a kind, as functions of their numbers.
 use Rattle.std.specs.List.{count_by, range_with_len}
-use Rattle.std.specs.Prelude.{◌≡◌, ℕ, List, is_some, slice_index_or, ◌==◌, if◌then◌else◌}
+use Rattle.std.specs.Prelude.{◌≡◌, ℕ, List, Option, Some, None, is_some, slice_index_or, ◌==◌, if◌then◌else◌}
 use Rattle.vm_state.specs.declared.heap.Heap.{Heap}
 use Rattle.vm_state.specs.declared.object.Object.{Object}
 use Rattle.vm_state.specs.declared.value.Maker.{Maker}
@@ -35,3 +35,8 @@ pool_at h (Thread t) = pool_in h.threads t
 pub record IsRowOf (row : List (ℕ × Object)) (p : Pool) : Type 0 where
   pub ascending : AscendsFrom 0 row p.count
   pub all : object_in row ≡ p.at
+
+-- all objects of a pool: a row's, or none
+abbrev pub IsRowBy : Option ObjectRow → Pool → Type 0
+IsRowBy None p = p ≡ pool_by empty_row
+IsRowBy (Some r) p = p ≡ pool_by r

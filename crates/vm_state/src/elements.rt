@@ -5,12 +5,114 @@ ghost use Rattle.std.specs.Prelude.{IfNone, Ok, OnOk, OnErr, [], ◌∷◌, ◌+
 ghost use Rattle.std.specs.List.{All};
 ghost use Rattle.vm_state.specs.declared.value.Value.{Value as Held};
 ghost use Rattle.vm_state.specs.declared.value.Value.TheVariants.{Int, Long};
-ghost use Rattle.vm_state.specs.steps.Elements.{values_of, char_value};
+ghost use Rattle.vm_state.specs.steps.Elements.{values_of, char_value, brief_value};
 ghost use Rattle.vm_state.specs.Values.{IsNumber};
 
 use crate::value::Value;
 use built_in::class_id::{ArrayType, ElementType};
 use std::alloc::{AllocError, Global};
+use std::marker::Model;
+
+/// A value in 8 bytes: an int, or a reference whose numbers are small.
+#[derive(Clone, Copy)]
+pub(crate) enum Brief {
+    Int(i32),
+    Null,
+    Text(u32),
+    OfClass(u16, u32),
+    OfThread(u16, u32),
+    Out,
+}
+
+/// As many as this are held in a row without memory of its own.
+const FEW: usize = 3;
+
+/// Up to three of them.
+#[derive(Drop)]
+pub(crate) struct Few {
+    count: u8,
+    briefs: [Brief; 3],
+}
+
+impl Model for Few {
+    ghost use Rattle.std.specs.Prelude.{List, ◌≤◌, take};
+    ghost use Rattle.vm_state.specs.declared.elements.Brief.{Brief as Held};
+
+    ghost Value = { List Held };
+
+    ghost view = { λ s. take s.count s.briefs };
+
+    ghost invariant = { λ s. s.count ≤ 3 };
+}
+
+impl Few {
+    /// None.
+    fn none() -> Few
+        ensures { result ≡ [] }
+    {
+        Few {
+            count: 0,
+            briefs: [Brief::Null; 3],
+        }
+    }
+
+    /// The same once more.
+    fn copy(&self) -> Few
+        ensures { result ≡ self.now }
+    {
+        Few {
+            count: self.count,
+            briefs: self.briefs,
+        }
+    }
+
+    /// All of them.
+    #[inline(always)]
+    fn as_slice(&self) -> &[Brief]
+        ensures { result.now ≡ self.now }
+    {
+        &self.briefs[..usize::from(self.count)]
+    }
+
+    /// Puts one into a slot. Where there is no such slot nothing changes.
+    #[inline(always)]
+    fn put(&mut self, slot: usize, brief: Brief)
+        ensures { self.new ≡ slice_set self.old slot brief }
+    {
+        if slot < usize::from(self.count) {
+            self.briefs[slot] = brief;
+        }
+    }
+
+    /// Adds one at the end, and says so; not where there is no room.
+    fn push(&mut self, brief: Brief) -> bool
+        ensures yes { result ≡ true → self.new ≡ self.old ++ brief ∷ [] }
+        ensures no { result ≡ false → self.new ≡ self.old }
+    {
+        let place = usize::from(self.count);
+        if place < FEW {
+            self.briefs[place] = brief;
+            self.count += 1;
+            true
+        } else {
+            false
+        }
+    }
+}
+
+/// What stands for the values of a few slots, if something does.
+fn few_of(values: &[Value]) -> Option<Few>
+    ensures { IfSome result (λ few. map brief_value few ≡ values.now) }
+{
+    let mut few = Few::none();
+    for value in values {
+        let brief = Brief::narrow(*value)?;
+        if !few.push(brief) {
+            return None;
+        }
+    }
+    Some(few)
+}
 
 /// What stands for some values, in fewer bytes.
 trait Element: Copy {
@@ -135,6 +237,62 @@ impl Element for i64 {
     }
 }
 
+/// The numbers of a name in fewer bytes, if they fit.
+#[inline(always)]
+fn brief_name(maker: u32, number: u64) -> Option<(u16, u32)>
+    ensures { IfSome result (λ r. (r.0 ≡ maker) × (r.1 ≡ number)) }
+{
+    match (u16::try_from(maker), u32::try_from(number)) {
+        (Ok(maker), Ok(number)) => Some((maker, number)),
+        _ => None,
+    }
+}
+
+impl Element for Brief {
+    ghost value_of = { brief_value };
+
+    #[inline(always)]
+    fn value(self) -> Value {
+        match self {
+            Brief::Int(number) => Value::Int(number),
+            Brief::Null => Value::Null,
+            Brief::Text(number) => Value::Text(number as usize),
+            Brief::OfClass(class, number) => Value::OfClass(u32::from(class), u64::from(number)),
+            Brief::OfThread(thread, number) => Value::OfThread(
+                u32::from(thread),
+                u64::from(number),
+            ),
+            Brief::Out => Value::Out,
+        }
+    }
+
+    #[inline(always)]
+    fn narrow(value: Value) -> Option<Brief> {
+        match value {
+            Value::Int(number) => Some(Brief::Int(number)),
+            Value::Long(_) => None,
+            Value::Null => Some(Brief::Null),
+            Value::Text(number) => match u32::try_from(number) {
+                Ok(number) => Some(Brief::Text(number)),
+                Err(_) => None,
+            },
+            Value::OfClass(class, number) => match brief_name(class, number) {
+                Some((class, number)) => Some(Brief::OfClass(class, number)),
+                None => None,
+            },
+            Value::OfThread(thread, number) => match brief_name(thread, number) {
+                Some((thread, number)) => Some(Brief::OfThread(thread, number)),
+                None => None,
+            },
+            Value::Out => Some(Brief::Out),
+        }
+    }
+
+    fn many(self, alloc: Global, count: usize) -> Result<Vec<Brief>, AllocError> {
+        vec![in alloc; self; count]
+    }
+}
+
 /// The value at a slot.
 #[inline(always)]
 fn value_at<E: Element>(elements: &[E], slot: usize) -> Option<Value>
@@ -213,9 +371,54 @@ fn filled_narrow<E: Element>(
     }
 }
 
+/// What stands for these values; none where nothing does for one of them.
+fn narrowed<E: Element>(alloc: Global, values: &[Value]) -> Result<Option<Vec<E>>, AllocError>
+    ensures { IfOk result (λ r. IfSome r (λ v. map E.value_of v.items ≡ values.now)) }
+{
+    let mut elements = Vec::with_capacity(alloc, values.len())?;
+    for value in values {
+        let Some(element) = E::narrow(*value) else {
+            return Ok(None);
+        };
+        elements.push(element)?;
+    }
+    Ok(Some(elements))
+}
+
+/// Puts a value into one of a few slots, and says so; not where nothing stands for it. Where there is no such slot
+/// nothing changes.
+#[inline(always)]
+fn put_few(few: &mut Few, slot: usize, value: Value) -> bool
+    ensures yes { result ≡ true
+        → map brief_value few.new ≡ slice_set (map brief_value few.old) slot value }
+    ensures no { result ≡ false → few.new ≡ few.old }
+{
+    match Brief::narrow(value) {
+        Some(brief) => {
+            few.put(slot, brief);
+            true
+        }
+        None => false,
+    }
+}
+
+/// Adds what stands for a value to a few, and says so; not where nothing does, or there is no room.
+fn push_few(few: &mut Few, value: Value) -> bool
+    ensures yes { result ≡ true → map brief_value few.new ≡ map brief_value few.old ++ value ∷ [] }
+    ensures no { result ≡ false → few.new ≡ few.old }
+{
+    match Brief::narrow(value) {
+        Some(brief) => few.push(brief),
+        None => false,
+    }
+}
+
 /// Values in a row.
 #[derive(Drop)]
 pub(crate) enum Elements {
+    /// With what gives memory, where they are widened.
+    Few(Few, Global),
+    Briefs(Vec<Brief>),
     Bytes(Vec<i8>),
     Chars(Vec<u16>),
     Shorts(Vec<i16>),
@@ -277,6 +480,34 @@ impl Elements {
         }
     }
 
+    fn briefs(alloc: Global, value: Value, count: usize) -> Result<Elements, AllocError>
+        ensures { IfOk result (λ e. values_of e ≡ replicate count value) }
+    {
+        match filled_narrow(alloc, value, count)? {
+            Some(briefs) => Ok(Elements::Briefs(briefs)),
+            None => Elements::mixed(alloc, value, count),
+        }
+    }
+
+    /// These values, in as few bytes as all of them let.
+    pub(crate) fn packed(alloc: Global, values: &[Value]) -> Result<Elements, AllocError>
+        ensures { IfOk result (λ e. values_of e ≡ values.now) }
+    {
+        match few_of(values) {
+            Some(few) => Ok(Elements::Few(few, alloc)),
+            None => Elements::packed_many(alloc, values),
+        }
+    }
+
+    fn packed_many(alloc: Global, values: &[Value]) -> Result<Elements, AllocError>
+        ensures { IfOk result (λ e. values_of e ≡ values.now) }
+    {
+        match narrowed(alloc, values)? {
+            Some(briefs) => Ok(Elements::Briefs(briefs)),
+            None => Ok(Elements::Values(Vec::from_slice(alloc, values)?)),
+        }
+    }
+
     /// This value so many times, in a row for the components of an array.
     pub(crate) fn filled(
         alloc: Global,
@@ -287,7 +518,7 @@ impl Elements {
         ensures { IfOk result (λ e. values_of e ≡ replicate count value) }
     {
         if array.dimensions > 1 {
-            return Elements::mixed(alloc, value, count);
+            return Elements::briefs(alloc, value, count);
         }
         match array.element {
             ElementType::Boolean | ElementType::Byte => Elements::bytes(alloc, value, count),
@@ -295,7 +526,7 @@ impl Elements {
             ElementType::Short => Elements::shorts(alloc, value, count),
             ElementType::Int => Elements::ints(alloc, value, count),
             ElementType::Long => Elements::longs(alloc, value, count),
-            _ => Elements::mixed(alloc, value, count),
+            _ => Elements::briefs(alloc, value, count),
         }
     }
 
@@ -304,6 +535,10 @@ impl Elements {
         ensures { IfOk result (λ e. values_of e ≡ values_of self.now) }
     {
         match self {
+            Elements::Few(few, _) => Ok(Elements::Few(few.copy(), alloc)),
+            Elements::Briefs(briefs) => {
+                Ok(Elements::Briefs(Vec::from_slice(alloc, briefs.as_slice())?))
+            }
             Elements::Bytes(bytes) => {
                 Ok(Elements::Bytes(Vec::from_slice(alloc, bytes.as_slice())?))
             }
@@ -329,6 +564,8 @@ impl Elements {
         ensures { result ≡ length (values_of self.now) }
     {
         match self {
+            Elements::Few(few, _) => few.as_slice().len(),
+            Elements::Briefs(briefs) => briefs.len(),
             Elements::Bytes(bytes) => bytes.len(),
             Elements::Chars(chars) => chars.len(),
             Elements::Shorts(shorts) => shorts.len(),
@@ -344,6 +581,8 @@ impl Elements {
         ensures { result ≡ slice_get (values_of self.now) slot }
     {
         match self {
+            Elements::Few(few, _) => value_at(few.as_slice(), slot),
+            Elements::Briefs(briefs) => value_at(briefs.as_slice(), slot),
             Elements::Bytes(bytes) => value_at(bytes.as_slice(), slot),
             Elements::Chars(chars) => value_at(chars.as_slice(), slot),
             Elements::Shorts(shorts) => value_at(shorts.as_slice(), slot),
@@ -361,6 +600,8 @@ impl Elements {
         ensures no { result ≡ false → self.new ≡ self.old }
     {
         match self {
+            Elements::Few(few, _) => put_few(few, slot, value),
+            Elements::Briefs(briefs) => put_narrow(briefs, slot, value),
             Elements::Bytes(bytes) => put_narrow(bytes, slot, value),
             Elements::Chars(chars) => put_narrow(chars, slot, value),
             Elements::Shorts(shorts) => put_narrow(shorts, slot, value),
@@ -378,6 +619,8 @@ impl Elements {
         ensures { IfOk result (λ values. values.items ≡ values_of self.now) }
     {
         match self {
+            Elements::Few(few, alloc) => widened(*alloc, few.as_slice()),
+            Elements::Briefs(briefs) => widened(*briefs.allocator(), briefs.as_slice()),
             Elements::Bytes(bytes) => widened(*bytes.allocator(), bytes.as_slice()),
             Elements::Chars(chars) => widened(*chars.allocator(), chars.as_slice()),
             Elements::Shorts(shorts) => widened(*shorts.allocator(), shorts.as_slice()),
@@ -419,22 +662,23 @@ impl Elements {
         let mut values = self.to_values()?;
         put_element(&mut values, 0, first);
         put_element(&mut values, 1, second);
-        *self = Elements::Values(values);
+        *self = Elements::packed(*values.allocator(), values.as_slice())?;
         Ok(())
     }
 
-    /// The values of a row for any values; where there are none all values are numbers.
-    pub(crate) fn values(&self) -> Option<&[Value]>
-        ensures values { IfSome result (λ s. s.now ≡ values_of self.now) }
-        ensures numbers { IfNone result (All IsNumber (values_of self.now)) }
+    /// Whether they are held as numbers; then all are.
+    pub(crate) fn are_numbers(&self) -> bool
+        ensures { result ≡ true → All IsNumber (values_of self.now) }
     {
         match self {
-            Elements::Bytes(_) => None,
-            Elements::Chars(_) => None,
-            Elements::Shorts(_) => None,
-            Elements::Ints(_) => None,
-            Elements::Longs(_) => None,
-            Elements::Values(values) => Some(values.as_slice()),
+            Elements::Few(_, _) => false,
+            Elements::Briefs(_) => false,
+            Elements::Bytes(_) => true,
+            Elements::Chars(_) => true,
+            Elements::Shorts(_) => true,
+            Elements::Ints(_) => true,
+            Elements::Longs(_) => true,
+            Elements::Values(_) => false,
         }
     }
 
@@ -447,7 +691,7 @@ impl Elements {
         ensures { IfOk result (λ e. values_of e ≡ []) }
     {
         if array.dimensions > 1 {
-            return Ok(Elements::Values(Vec::with_capacity(alloc, room)?));
+            return Ok(Elements::Briefs(Vec::with_capacity(alloc, room)?));
         }
         match array.element {
             ElementType::Boolean | ElementType::Byte => {
@@ -457,7 +701,7 @@ impl Elements {
             ElementType::Short => Ok(Elements::Shorts(Vec::with_capacity(alloc, room)?)),
             ElementType::Int => Ok(Elements::Ints(Vec::with_capacity(alloc, room)?)),
             ElementType::Long => Ok(Elements::Longs(Vec::with_capacity(alloc, room)?)),
-            _ => Ok(Elements::Values(Vec::with_capacity(alloc, room)?)),
+            _ => Ok(Elements::Briefs(Vec::with_capacity(alloc, room)?)),
         }
     }
 
@@ -468,6 +712,8 @@ impl Elements {
         ensures err { OnErr result (values_of self.new ≡ values_of self.old) }
     {
         match self {
+            Elements::Few(few, _) => Ok(push_few(few, value)),
+            Elements::Briefs(briefs) => push_narrow(briefs, value),
             Elements::Bytes(bytes) => push_narrow(bytes, value),
             Elements::Chars(chars) => push_narrow(chars, value),
             Elements::Shorts(shorts) => push_narrow(shorts, value),

@@ -1,70 +1,202 @@
 //! The objects, by their names.
 
-ghost use Rattle.std.specs.Prelude.{◌≡◌, ℕ, ◌∷◌, [], ◌++◌, ◌<◌, ◌≤◌, ◌^◌, length, slice_index_or, option_copied, IfOk};
-ghost use Rattle.std.specs.Prelude.{OnOk, OnErr, IfSome, IfNone, IsSome, None};
+ghost use Rattle.std.specs.Prelude.{◌≡◌, ℕ, ◌∷◌, [], ◌++◌, ◌<◌, ◌≤◌, ◌^◌, ◌+◌, length, get_or, slice_get, IfOk};
+ghost use Rattle.std.specs.Prelude.{OnOk, OnErr, IfSome, IfNone, IsSome, Some, None, option_copied, option_map};
 ghost use Rattle.std.specs.List.Sorted.{IsNonDecreasingBy};
-ghost use Rattle.vm_state.specs.declared.object.Object.{Object};
-ghost use Rattle.vm_state.specs.Objects.{empty_row, row_of, object_in};
-ghost use Rattle.vm_state.specs.steps.Objects.{with_next, object_at_place};
-ghost use Rattle.vm_state.specs.SharedState.{with_new, with_slot, with_monitor};
-ghost use Rattle.vm_state.specs.Objects.{AscendsFrom};
-ghost use Rattle.vm_state.specs.Pools.{IsRowOf, pool_at, pool_by, pool_in, with_pool};
+ghost use Rattle.vm_state.specs.Objects.{AscendsFrom, empty_row, row_of, object_in, kept_of, numbered_kept};
+ghost use Rattle.vm_state.specs.steps.Objects.{with_next, with_monitor_in, object_at_place, numbers_of, objects_of, IsKept};
+ghost use Rattle.vm_state.specs.SharedState.{class_at, monitor_of, slots_at, with_new, with_slot, with_monitor};
+ghost use Rattle.vm_state.specs.declared.kept.Kept.{Kept as HeldObject};
+ghost use Rattle.vm_state.specs.Pools.{IsRowBy, IsRowOf, pool_at, pool_by, pool_in, with_pool};
 
+use crate::items::copy_items;
+use crate::kept::{Kept, KeptClass};
 use crate::object::{Monitor, Object, Slots};
+use crate::owners::Owners;
 use crate::value::{Maker, Value};
 use built_in::class_id::ClassId;
 use std::alloc::{AllocError, Global};
 use std::marker::Model;
 
-/// The objects of one maker, each with its number, in the order of the numbers; and how many objects it made.
-/// Numbers may be left out.
+/// The objects of one maker, in the order of their numbers; and how many objects it made. Numbers may be left out: those
+/// of the first objects are 0, 1, 2 and so on, the others stand beside.
 #[derive(Drop)]
 pub struct Row {
     count: u64,
-    objects: Vec<(u64, Object)>,
+    later: Vec<u64>,
+    kept: Vec<Kept>,
+    owners: Owners,
 }
 
 impl Model for Row {
+    ghost use Rattle.std.specs.Prelude.{◌≡◌, ℕ, ◌≤◌, length};
+    ghost use Rattle.vm_state.specs.declared.object.Monitor.TheVariants.{Free};
     ghost use Rattle.vm_state.specs.Objects.{ObjectRow, AscendsFrom};
+    ghost use Rattle.vm_state.specs.steps.Objects.{numbers_in, objects_of};
+    ghost use Rattle.vm_state.specs.steps.Owners.{monitor_in};
 
     ghost Value = { ObjectRow };
 
-    ghost view = { λ s. record { count = s.count; objects = s.objects.items } };
+    ghost view = { λ s. record {
+      count = s.count;
+      objects = objects_of s.owners (numbers_in s.later.items s.kept.items) s.kept.items;
+    } };
 
-    ghost invariant = { λ s. AscendsFrom 0 s.objects.items s.count };
+    ghost invariant = { λ s.
+        AscendsFrom 0 (objects_of s.owners (numbers_in s.later.items s.kept.items) s.kept.items) s.count
+        × (length s.later.items ≤ length s.kept.items)
+        × ((k : ℕ) → s.count ≤ k → monitor_in s.owners k ≡ Free) };
 }
 
-/// The object at a place, where it has this number.
+/// The number at a place: of the first so many it is the place, of the others it stands in a list.
 #[inline(always)]
-fn object_at_place(objects: &[(u64, Object)], place: usize, number: u64) -> Option<&Object>
-    ensures { option_copied result ≡ object_at_place objects.now place number }
+fn number_at(plain: usize, later: &[u64], place: usize) -> Option<u64>
+    ensures { result ≡ slice_get (numbers_of plain later.now) place }
 {
-    match objects.get(place) {
-        Some((found, object)) => { if number == *found { Some(object) } else { None } }
+    if place < plain {
+        Some(place as u64)
+    } else {
+        later_number(later, place - plain)
+    }
+}
+
+/// A number that stands in a list.
+fn later_number(later: &[u64], place: usize) -> Option<u64>
+    ensures { result ≡ slice_get later.now place }
+{
+    match later.get(place) {
+        Some(number) => Some(*number),
         None => None,
     }
 }
 
-/// The first place of a number that is not below this one.
-fn place_of(objects: &[(u64, Object)], number: u64) -> usize
-    requires { IsNonDecreasingBy (λ (o : ℕ × Object). o.0) objects.now }
-    ensures before { (i : ℕ) (d : ℕ × Object) → i < result → (slice_index_or objects.now i d).0 < number }
-    ensures after { (d : ℕ × Object) → result < length objects.now → number ≤ (slice_index_or objects.now result d).0 }
+/// The object at a place.
+#[inline(always)]
+fn kept_at(kept: &[Kept], place: usize) -> Option<&Kept>
+    ensures { option_copied result ≡ slice_get kept.now place }
 {
-    objects.partition_point(|held| held.0 < number)
+    kept.get(place)
 }
 
-/// Copies of some objects with their numbers, put where there are none.
-fn copy_objects(
-    alloc: Global,
-    objects: &[(u64, Object)],
-    copies: &mut Vec<(u64, Object)>,
+/// The first place of a number that is not below this one.
+#[inline(always)]
+fn place_of(plain: usize, later: &[u64], number: u64) -> usize
+    requires rising { IsNonDecreasingBy (λ (n : ℕ). n) later.now }
+    requires fits { plain + length later.now < 2 ^ 64 }
+    ensures before { (i : ℕ) (d : ℕ) → i < result → get_or (numbers_of plain later.now) i d < number }
+    ensures after { (d : ℕ) → result < plain + length later.now
+        → number ≤ get_or (numbers_of plain later.now) result d }
+{
+    if number < plain as u64 {
+        number as usize
+    } else {
+        plain + place_in(later, number)
+    }
+}
+
+/// The first place of a number that is not below this one.
+#[inline(never)]
+fn place_in(numbers: &[u64], number: u64) -> usize
+    requires { IsNonDecreasingBy (λ (n : ℕ). n) numbers.now }
+    ensures bound { result ≤ length numbers.now }
+    ensures before { (i : ℕ) (d : ℕ) → i < result → get_or numbers.now i d < number }
+    ensures after { (d : ℕ) → result < length numbers.now → number ≤ get_or numbers.now result d }
+{
+    numbers.partition_point(|held| *held < number)
+}
+
+/// Adds an object at the end.
+fn push_object(kept: &mut Vec<Kept>, object: Kept) -> Result<(), AllocError>
+    ensures ok { OnOk result (kept.new.items ≡ kept.old.items ++ object ∷ []) }
+    ensures err { OnErr result (kept.new.items ≡ kept.old.items) }
+{
+    kept.push(object)?;
+    Ok(())
+}
+
+/// Adds an object at the end, of this number. Where memory is refused nothing changes.
+fn push_kept(
+    later: &mut Vec<u64>,
+    kept: &mut Vec<Kept>,
+    number: u64,
+    object: Kept,
 ) -> Result<(), AllocError>
-    requires { copies.old.items ≡ [] }
-    ensures { OnOk result (copies.new.items ≡ objects.now) }
+    requires { length later.old.items ≤ length kept.old.items }
+    ensures ok { OnOk result (IsKept later.old.items kept.old.items number object later.new.items kept.new.items) }
+    ensures err { OnErr result ((later.new.items ≡ later.old.items) × (kept.new.items ≡ kept.old.items)) }
+{
+    if later.is_empty() && number == kept.len() as u64 {
+        return push_object(kept, object);
+    }
+    later.push(number)?;
+    match push_object(kept, object) {
+        Ok(()) => Ok(()),
+        Err(error) => {
+            later.pop();
+            Err(error)
+        }
+    }
+}
+
+/// An object with its monitor.
+fn object_of(kept: Kept, monitor: Monitor) -> Object
+    ensures { result ≡ record { class = kept.class; slots = kept.slots; monitor = monitor } }
+{
+    let Kept { class, slots } = kept;
+    Object {
+        class: class.id(),
+        slots,
+        monitor,
+    }
+}
+
+/// Adds the object at a place with its number and its monitor.
+fn add_object(
+    plain: usize,
+    later: &[u64],
+    place: usize,
+    kept: Kept,
+    owners: &Owners,
+    objects: &mut Vec<(u64, Object)>,
+) -> Result<(), AllocError>
+    ensures { OnOk result ((n : ℕ) → slice_get (numbers_of plain later.now) place ≡ Some n
+        → objects.new.items ≡ objects.old.items ++ (n, with_monitor_in owners.now n kept) ∷ []) }
+{
+    if let Some(number) = number_at(plain, later, place) {
+        objects.push((number, object_of(kept, owners.monitor(number))))?;
+    }
+    Ok(())
+}
+
+/// Objects with their numbers and monitors, put where there are none.
+fn add_objects(
+    plain: usize,
+    later: &[u64],
+    kept: Vec<Kept>,
+    owners: &Owners,
+    objects: &mut Vec<(u64, Object)>,
+) -> Result<(), AllocError>
+    requires none { objects.old.items ≡ [] }
+    requires all { length kept.items ≡ plain + length later.now }
+    ensures { OnOk result (objects.new.items ≡ objects_of owners.now (numbers_of plain later.now) kept.items) }
+{
+    let mut place = 0usize;
+    for held in kept {
+        add_object(plain, later, place, held, owners, objects)?;
+        place += 1;
+    }
+    Ok(())
+}
+
+/// Puts objects with their numbers into a row that holds none.
+fn put_objects(row: &mut Row, objects: Vec<(u64, Object)>) -> Result<(), AllocError>
+    requires none { row.old.objects ≡ [] }
+    requires ascending { AscendsFrom 0 objects.items row.old.count }
+    ensures { OnOk result (row.new ≡ record { count = row.old.count; objects = objects.items }) }
 {
     for held in objects {
-        copies.push((held.0, held.1.copy(alloc)?))?;
+        let (number, object) = held;
+        row.put(number, object)?;
     }
     Ok(())
 }
@@ -74,9 +206,18 @@ impl Row {
     pub fn new(alloc: Global) -> Row
         ensures { result ≡ empty_row }
     {
+        Row::of_none(alloc, 0)
+    }
+
+    /// The row of a maker that made so many objects, of which none is held.
+    fn of_none(alloc: Global, count: u64) -> Row
+        ensures { result ≡ record { count = count; objects = [] } }
+    {
         Row {
-            count: 0,
-            objects: Vec::new(alloc),
+            count,
+            later: Vec::new(alloc),
+            kept: Vec::new(alloc),
+            owners: Owners::none(alloc),
         }
     }
 
@@ -87,14 +228,16 @@ impl Row {
     pub fn copy(&self, alloc: Global) -> Result<Row, AllocError>
         ensures { IfOk result (λ r. r ≡ self.now) }
     {
-        let mut objects = Vec::with_capacity(alloc, self.objects.len())?;
-        match copy_objects(alloc, self.objects.as_slice(), &mut objects) {
-            Ok(()) => Ok(Row {
-                count: self.count,
-                objects,
-            }),
-            Err(error) => Err(error),
-        }
+        let mut kept = Vec::with_capacity(alloc, self.kept.len())?;
+        copy_items(alloc, self.kept.as_slice(), &mut kept)?;
+        let later = Vec::from_slice(alloc, self.later.as_slice())?;
+        let owners = self.owners.copy(alloc)?;
+        Ok(Row {
+            count: self.count,
+            later,
+            kept,
+            owners,
+        })
     }
 
     /// How many objects were made.
@@ -105,40 +248,67 @@ impl Row {
     }
 
     /// So many objects were made, and these are held.
-    pub fn of_objects(count: u64, objects: Vec<(u64, Object)>) -> Row
+    ///
+    /// # Errors
+    /// `AllocError` where memory is refused.
+    pub fn of_objects(
+        alloc: Global,
+        count: u64,
+        objects: Vec<(u64, Object)>,
+    ) -> Result<Row, AllocError>
         requires { AscendsFrom 0 objects.items count }
-        ensures { result ≡ record { count = count; objects = objects.items } }
+        ensures { IfOk result (λ r. r ≡ record { count = count; objects = objects.items }) }
     {
-        Row { count, objects }
+        let mut row = Row::of_none(alloc, count);
+        match put_objects(&mut row, objects) {
+            Ok(()) => Ok(row),
+            Err(error) => Err(error),
+        }
     }
 
     /// How many objects were made, and those that are held with their numbers, in the order of the numbers.
-    pub fn into_parts(self) -> (u64, Vec<(u64, Object)>)
-        ensures parts { (result.0 ≡ self.count) × (result.1.items ≡ self.objects) }
-        ensures ascending { AscendsFrom 0 result.1.items result.0 }
+    ///
+    /// # Errors
+    /// `AllocError` where memory is refused.
+    pub fn into_parts(self, alloc: Global) -> Result<(u64, Vec<(u64, Object)>), AllocError>
+        ensures parts { IfOk result (λ r. (r.0 ≡ self.count) × (r.1.items ≡ self.objects)) }
+        ensures ascending { IfOk result (λ r. AscendsFrom 0 r.1.items r.0) }
     {
-        let Row { count, objects } = self;
-        (count, objects)
+        let Row {
+            count,
+            later,
+            kept,
+            owners,
+        } = self;
+        let plain = kept.len() - later.len();
+        let mut objects = Vec::with_capacity(alloc, kept.len())?;
+        match add_objects(plain, later.as_slice(), kept, &owners, &mut objects) {
+            Ok(()) => Ok((count, objects)),
+            Err(error) => Err(error),
+        }
     }
 
-    /// The objects with their numbers, in the order of the numbers, none left out.
-    pub fn objects(&self) -> &[(u64, Object)]
-        ensures all { result.now ≡ self.now.objects }
-        ensures ascending { AscendsFrom 0 result.now self.now.count }
-        ensures row { IsRowOf result.now (pool_by self.now) }
+    /// How many objects are held, each once, in the order of their numbers.
+    pub fn len(&self) -> usize
+        ensures all { result ≡ length self.now.objects }
+        ensures ascending { AscendsFrom 0 self.now.objects self.now.count }
+        ensures row { IsRowOf self.now.objects (pool_by self.now) }
     {
-        self.objects.as_slice()
+        self.kept.len()
     }
 
-    /// The object of a number, if it is held. Where no number was left out it stands at its number.
-    #[inline(always)]
-    pub fn object(&self, number: u64) -> Option<&Object>
-        ensures { option_copied result ≡ object_in self.now.objects number }
+    /// The object at a place, in the order of the numbers, with its number.
+    pub fn at(&self, place: usize) -> Option<(u64, &Kept)>
+        ensures { option_map (λ o. (o.0, o.1.now)) result
+            ≡ option_map numbered_kept (slice_get self.now.objects place) }
     {
-        let objects = self.objects.as_slice();
-        match object_at_place(objects, number as usize, number) {
-            Some(object) => Some(object),
-            None => object_at_place(objects, place_of(objects, number), number),
+        let plain = self.kept.len() - self.later.len();
+        match number_at(plain, self.later.as_slice(), place) {
+            Some(number) => match kept_at(self.kept.as_slice(), place) {
+                Some(kept) => Some((number, kept)),
+                None => None,
+            },
+            None => None,
         }
     }
 
@@ -148,16 +318,63 @@ impl Row {
         ensures held { IfSome result (λ place. IsSome (object_at_place self.now.objects place number)) }
         ensures none { IfNone result (object_in self.now.objects number ≡ None) }
     {
-        let objects = self.objects.as_slice();
-        let at_number = number as usize;
-        if object_at_place(objects, at_number, number).is_some() {
-            return Some(at_number);
+        if self.later.is_empty() {
+            if number < self.kept.len() as u64 {
+                Some(number as usize)
+            } else {
+                None
+            }
+        } else {
+            self.searched_place(number)
         }
-        let place = place_of(objects, number);
-        if object_at_place(objects, place, number).is_some() {
-            return Some(place);
+    }
+
+    /// The same, by a search.
+    #[inline(never)]
+    fn searched_place(&self, number: u64) -> Option<usize>
+        ensures held { IfSome result (λ place. IsSome (object_at_place self.now.objects place number)) }
+        ensures none { IfNone result (object_in self.now.objects number ≡ None) }
+    {
+        let later = self.later.as_slice();
+        let plain = self.kept.len() - later.len();
+        let place = place_of(plain, later, number);
+        match number_at(plain, later, place) {
+            Some(found) => { if found == number { Some(place) } else { None } }
+            None => None,
         }
-        None
+    }
+
+    /// The object of a number, if it is held.
+    #[inline(always)]
+    pub fn object(&self, number: u64) -> Option<&Kept>
+        ensures kept { option_copied result ≡ option_map kept_of (object_in self.now.objects number) }
+        ensures class { option_map (λ (o : HeldObject). o.class) (option_copied result)
+            ≡ class_at (pool_by self.now) number }
+        ensures slots { option_map (λ (o : HeldObject). o.slots) (option_copied result)
+            ≡ slots_at (pool_by self.now) number }
+    {
+        self.kept(number)
+    }
+
+    /// The same.
+    #[inline(always)]
+    fn kept(&self, number: u64) -> Option<&Kept>
+        ensures { option_copied result ≡ option_map kept_of (object_in self.now.objects number) }
+    {
+        match self.place(number) {
+            Some(place) => kept_at(self.kept.as_slice(), place),
+            None => None,
+        }
+    }
+
+    /// The monitor of the object of a number; of one that is not held it is free.
+    pub fn monitor(&self, number: u64) -> Monitor
+        ensures { result ≡ monitor_of (object_in self.now.objects number) }
+    {
+        match self.place(number) {
+            Some(_) => self.owners.monitor(number),
+            None => Monitor::Free,
+        }
     }
 
     /// Puts a value into a slot of the object of a number. Where it is not held, or has no such slot, nothing changes.
@@ -170,8 +387,8 @@ impl Row {
         ensures err { OnErr result (self.new ≡ self.old) }
     {
         if let Some(place) = self.place(number) {
-            let held = &mut self.objects[place];
-            held.1.slots.set(slot, value)?;
+            let held = &mut self.kept[place];
+            held.slots.set(slot, value)?;
         }
         Ok(())
     }
@@ -187,33 +404,61 @@ impl Row {
         ensures err { OnErr result (self.new ≡ self.old) }
     {
         if let Some(place) = self.place(number) {
-            let held = &mut self.objects[place];
-            held.1.slots.set_first(first, second)?;
+            let held = &mut self.kept[place];
+            held.slots.set_first(first, second)?;
         }
         Ok(())
     }
 
     /// Sets the monitor of the object of a number. Where it is not held nothing changes.
-    fn set_monitor(&mut self, number: u64, monitor: Monitor)
-        ensures { pool_by self.new ≡ with_monitor (pool_by self.old) number monitor }
+    ///
+    /// # Errors
+    /// `AllocError` where memory is refused, but never where it gets free; nothing has changed then.
+    fn set_monitor(&mut self, number: u64, monitor: Monitor) -> Result<(), AllocError>
+        ensures ok { OnOk result (pool_by self.new ≡ with_monitor (pool_by self.old) number monitor) }
+        ensures err { OnErr result (self.new ≡ self.old) }
     {
-        if let Some(place) = self.place(number) {
-            let held = &mut self.objects[place];
-            held.1.monitor = monitor;
+        match self.place(number) {
+            Some(_) => self.owners.set(number, monitor),
+            None => Ok(()),
         }
     }
 
+    /// One more object that is held, whose number is above those of the others.
+    fn put(&mut self, number: u64, object: Object) -> Result<(), AllocError>
+        requires { AscendsFrom 0 (self.old.objects ++ (number, object) ∷ []) self.old.count }
+        ensures { OnOk result (self.new
+            ≡ record self.old { objects = self.old.objects ++ (number, object) ∷ [] }) }
+    {
+        let Object {
+            class,
+            slots,
+            monitor,
+        } = object;
+        self.owners.set(number, monitor)?;
+        let kept = Kept {
+            class: KeptClass::of(class),
+            slots,
+        };
+        push_kept(&mut self.later, &mut self.kept, number, kept)
+    }
+
     /// One more object, of the next number, which it answers. Where memory is refused nothing changes.
-    fn add(&mut self, object: Object) -> Result<u64, AllocError>
+    fn add(&mut self, class: ClassId, slots: Slots) -> Result<u64, AllocError>
         ensures number { IfOk result (λ n. n ≡ self.old.count) }
-        ensures ok { OnOk result (self.new ≡ with_next self.old object) }
+        ensures ok { OnOk result (self.new
+            ≡ with_next self.old (record { class = class; slots = slots; monitor = Monitor.Free })) }
         ensures err { OnErr result (self.new ≡ self.old) }
     {
         let number = self.count;
         let Some(count) = number.checked_add(1) else {
             return Err(AllocError);
         };
-        self.objects.push((number, object))?;
+        let kept = Kept {
+            class: KeptClass::of(class),
+            slots,
+        };
+        push_kept(&mut self.later, &mut self.kept, number, kept)?;
         self.count = count;
         Ok(number)
     }
@@ -227,11 +472,7 @@ impl Row {
         ensures ok { OnOk result (pool_by self.new ≡ with_new (pool_by self.old) class slots) }
         ensures err { OnErr result (self.new ≡ self.old) }
     {
-        let number = self.add(Object {
-            class,
-            slots,
-            monitor: Monitor::Free,
-        })?;
+        let number = self.add(class, slots)?;
         Ok(number)
     }
 }
@@ -266,9 +507,9 @@ impl Rows {
         ensures ok { OnOk result (self.new ≡ self.old ++ row_of first ∷ []) }
         ensures err { OnErr result (self.new ≡ self.old) }
     {
-        let mut objects = Vec::new(alloc);
-        objects.push((0, first))?;
-        self.rows.push(Row { count: 1, objects })?;
+        let mut row = Row::of_none(alloc, 1);
+        row.put(0, first)?;
+        self.rows.push(row)?;
         Ok(())
     }
 
@@ -286,8 +527,8 @@ impl Rows {
 
     /// The object of a maker and a number, if it is held.
     #[inline(always)]
-    pub fn object(&self, maker: u32, number: u64) -> Option<&Object>
-        ensures { option_copied result ≡ (pool_in self.now maker).at number }
+    pub fn object(&self, maker: u32, number: u64) -> Option<&Kept>
+        ensures { option_copied result ≡ option_map kept_of ((pool_in self.now maker).at number) }
     {
         match self.rows.get(maker as usize) {
             Some(row) => row.object(number),
@@ -295,14 +536,21 @@ impl Rows {
         }
     }
 
-    /// The objects of a maker with their numbers, in the order of the numbers, none left out.
-    fn row(&self, maker: u32) -> &[(u64, Object)]
-        ensures { IsRowOf result.now (pool_in self.now maker) }
+    /// The monitor of the object of a maker and a number; of one that is not held it is free.
+    pub fn monitor(&self, maker: u32, number: u64) -> Monitor
+        ensures { result ≡ monitor_of ((pool_in self.now maker).at number) }
     {
         match self.rows.get(maker as usize) {
-            Some(row) => row.objects(),
-            None => &[],
+            Some(row) => row.monitor(number),
+            None => Monitor::Free,
         }
+    }
+
+    /// The objects of a maker; none where it made none.
+    fn row(&self, maker: u32) -> Option<&Row>
+        ensures { IsRowBy (option_copied result) (pool_in self.now maker) }
+    {
+        self.rows.get(maker as usize)
     }
 
     /// Puts a value into a slot of the object of a maker and a number. Where it is not held, or has no such slot,
@@ -352,12 +600,22 @@ impl Rows {
     }
 
     /// Sets the monitor of the object of a maker and a number. Where it is not held nothing changes.
-    pub fn set_monitor(&mut self, maker: u32, number: u64, monitor: Monitor)
-        ensures { pool_in self.new
-            ≡ with_pool (pool_in self.old) maker (with_monitor (pool_in self.old maker) number monitor) }
+    ///
+    /// # Errors
+    /// `AllocError` where memory is refused; nothing has changed then.
+    pub fn set_monitor(
+        &mut self,
+        maker: u32,
+        number: u64,
+        monitor: Monitor,
+    ) -> Result<(), AllocError>
+        ensures ok { OnOk result (pool_in self.new
+            ≡ with_pool (pool_in self.old) maker (with_monitor (pool_in self.old maker) number monitor)) }
+        ensures err { OnErr result (self.new ≡ self.old) }
     {
-        if let Some(row) = self.rows.get_mut(maker as usize) {
-            row.set_monitor(number, monitor);
+        match self.rows.get_mut(maker as usize) {
+            Some(row) => row.set_monitor(number, monitor),
+            None => Ok(()),
         }
     }
 
@@ -392,11 +650,7 @@ impl Rows {
     {
         self.reach(alloc, maker as usize)?;
         let row = &mut self.rows[maker as usize];
-        let number = row.add(Object {
-            class,
-            slots,
-            monitor: Monitor::Free,
-        })?;
+        let number = row.add(class, slots)?;
         Ok(number)
     }
 }
@@ -419,9 +673,9 @@ impl Heap {
         }
     }
 
-    /// The objects of a maker with their numbers, in the order of the numbers, none left out. Takes no memory.
-    pub fn row(&self, maker: Maker) -> &[(u64, Object)]
-        ensures { IsRowOf result.now (pool_at self.now maker) }
+    /// The objects of a maker; none where it made none. Takes no memory.
+    pub fn row(&self, maker: Maker) -> Option<&Row>
+        ensures { IsRowBy (option_copied result) (pool_at self.now maker) }
     {
         match maker {
             Maker::Class(class) => self.classes.row(class),

@@ -1,6 +1,6 @@
 //! Objects: instances and arrays (JVMS 2.7).
 
-ghost use Rattle.std.specs.Prelude.{◌≡◌, [], ◌∷◌, ◌++◌, IfOk, IfSome, IfNone, OnOk, OnErr, length, replicate, slice_get, slice_set};
+ghost use Rattle.std.specs.Prelude.{◌≡◌, [], ◌∷◌, ◌++◌, true, IfOk, OnOk, OnErr, length, replicate, slice_get, slice_set};
 ghost use Rattle.std.specs.List.{All};
 ghost use Rattle.vm_state.specs.Values.{IsNumber};
 
@@ -65,13 +65,15 @@ impl Slots {
         Ok(Slots { elements })
     }
 
-    /// These values, which are not copied.
-    pub fn of_vec(values: Vec<Value>) -> Slots
-        ensures { result ≡ values.items }
+    /// These values, in as few bytes as all of them let.
+    ///
+    /// # Errors
+    /// `AllocError` where memory is refused.
+    pub fn packed(alloc: Global, values: &[Value]) -> Result<Slots, AllocError>
+        ensures { IfOk result (λ s. s ≡ values.now) }
     {
-        Slots {
-            elements: Elements::Values(values),
-        }
+        let elements = Elements::packed(alloc, values)?;
+        Ok(Slots { elements })
     }
 
     /// The same values once more.
@@ -101,12 +103,11 @@ impl Slots {
         self.elements.get(slot)
     }
 
-    /// Their values, where they are held as such; else all are numbers.
-    pub fn values(&self) -> Option<&[Value]>
-        ensures values { IfSome result (λ s. s.now ≡ self.now) }
-        ensures numbers { IfNone result (All IsNumber self.now) }
+    /// Whether they are held as numbers; then all are.
+    pub fn are_numbers(&self) -> bool
+        ensures { result ≡ true → All IsNumber self.now }
     {
-        self.elements.values()
+        self.elements.are_numbers()
     }
 
     /// Puts a value into a slot. Where there is no such slot nothing changes. It takes memory only where a value comes
@@ -159,20 +160,4 @@ pub struct Object {
     pub class: ClassId,
     pub slots: Slots,
     pub monitor: Monitor,
-}
-
-impl Object {
-    /// The same object once more.
-    ///
-    /// # Errors
-    /// `AllocError` where memory is refused.
-    pub fn copy(&self, alloc: Global) -> Result<Object, AllocError>
-        ensures { IfOk result (λ o. o ≡ self.now) }
-    {
-        Ok(Object {
-            class: self.class,
-            slots: self.slots.copy(alloc)?,
-            monitor: self.monitor,
-        })
-    }
 }

@@ -1,17 +1,20 @@
 //! What all threads share.
 
-ghost use Rattle.std.specs.Prelude.{◌≡◌, List, IfOk, IsOk, OnOk, OnErr, option_copied, ◌<◌, ◌+◌, length};
+ghost use Rattle.std.specs.Prelude.{◌≡◌, List, IfOk, IsOk, OnOk, OnErr, option_copied, option_map, ◌<◌, ◌+◌, length};
 ghost use Rattle.vm_state.specs.Output.{Print};
 ghost use Rattle.vm_state.specs.SharedState.{object_of, class_at, pool_of, set_pool, slots_at, with_slot};
 ghost use Rattle.vm_state.specs.SharedState.{monitor_of, with_monitor};
 ghost use Rattle.vm_state.specs.Statics.{IsPlaced};
 ghost use Rattle.vm_state.specs.Shares.{shared_of, SharesTheSame, SetsField, SetsState, Begins, Makes, IsNextName};
 ghost use Rattle.vm_state.specs.Shares.{Initializes};
-ghost use Rattle.vm_state.specs.Pools.{IsRowOf};
+ghost use Rattle.vm_state.specs.Pools.{IsRowBy};
+ghost use Rattle.vm_state.specs.Objects.{kept_of};
+ghost use Rattle.vm_state.specs.declared.kept.Kept.{Kept as HeldObject};
 
 use crate::classes::{ClassState, Classes, Fields, NoPlace, StaticField};
 use crate::heap::{Heap, Row};
-use crate::object::{Monitor, Object, Slots};
+use crate::kept::Kept;
+use crate::object::{Monitor, Slots};
 use crate::value::{Maker, Name, Value};
 use built_in::class_id::ClassId;
 use std::alloc::{AllocError, Global};
@@ -160,10 +163,24 @@ impl Shared {
     }
 
     /// The object of a name, if it is held.
+    #[inline(always)]
+    pub fn object(&self, name: Name) -> Option<&Kept>
+        ensures kept { (p : List Print) → option_copied result
+            ≡ option_map kept_of (object_of (shared_of self.now p) name) }
+        ensures class { (p : List Print) → option_map (λ (o : HeldObject). o.class) (option_copied result)
+            ≡ class_at (pool_of (shared_of self.now p) name.maker) name.number }
+        ensures slots { (p : List Print) → option_map (λ (o : HeldObject). o.slots) (option_copied result)
+            ≡ slots_at (pool_of (shared_of self.now p) name.maker) name.number }
+    {
+        self.kept(name)
+    }
+
+    /// The same.
     #[tactic(auto, unfolding(crate::specs::Shares::shared_of))]
     #[inline(always)]
-    pub fn object(&self, name: Name) -> Option<&Object>
-        ensures { (p : List Print) → option_copied result ≡ object_of (shared_of self.now p) name }
+    fn kept(&self, name: Name) -> Option<&Kept>
+        ensures { (p : List Print) → option_copied result
+            ≡ option_map kept_of (object_of (shared_of self.now p) name) }
     {
         match name.maker {
             Maker::Class(class) => self.heap.classes.object(class, name.number),
@@ -171,10 +188,10 @@ impl Shared {
         }
     }
 
-    /// The objects of a maker with their numbers, in the order of the numbers, none left out.
+    /// The objects of a maker; none where it made none.
     #[tactic(auto, unfolding(crate::specs::Shares::shared_of))]
-    pub fn row(&self, maker: Maker) -> &[(u64, Object)]
-        ensures { (p : List Print) → IsRowOf result.now (pool_of (shared_of self.now p) maker) }
+    pub fn row(&self, maker: Maker) -> Option<&Row>
+        ensures { (p : List Print) → IsRowBy (option_copied result) (pool_of (shared_of self.now p) maker) }
     {
         self.heap.row(maker)
     }
@@ -185,7 +202,7 @@ impl Shared {
         ensures { (p : List Print) → result ≡ class_at (pool_of (shared_of self.now p) name.maker) name.number }
     {
         match self.object(name) {
-            Some(object) => Some(object.class),
+            Some(object) => Some(object.class.id()),
             None => None,
         }
     }
@@ -245,20 +262,26 @@ impl Shared {
     }
 
     /// The monitor of the object of a name; of one that is not held it is free.
+    #[tactic(auto, unfolding(crate::specs::Shares::shared_of))]
     pub fn monitor(&self, name: Name) -> Monitor
         ensures { (p : List Print) → result ≡ monitor_of (object_of (shared_of self.now p) name) }
     {
-        match self.object(name) {
-            Some(object) => object.monitor,
-            None => Monitor::Free,
+        match name.maker {
+            Maker::Class(class) => self.heap.classes.monitor(class, name.number),
+            Maker::Thread(thread) => self.heap.threads.monitor(thread, name.number),
         }
     }
 
-    /// Sets the monitor of the object of a name, without memory. Where it is not held nothing changes.
+    /// Sets the monitor of the object of a name. Where it is not held nothing changes. It takes memory only where the
+    /// monitor gets owned.
+    ///
+    /// # Errors
+    /// `AllocError` where memory is refused; nothing has changed then.
     #[tactic(auto, unfolding(crate::specs::Shares::shared_of))]
-    pub fn set_monitor(&mut self, name: Name, monitor: Monitor)
-        ensures { (p : List Print) → shared_of self.new p ≡ set_pool (shared_of self.old p) name.maker
-            (with_monitor (pool_of (shared_of self.old p) name.maker) name.number monitor) }
+    pub fn set_monitor(&mut self, name: Name, monitor: Monitor) -> Result<(), AllocError>
+        ensures ok { OnOk result ((p : List Print) → shared_of self.new p ≡ set_pool (shared_of self.old p) name.maker
+            (with_monitor (pool_of (shared_of self.old p) name.maker) name.number monitor)) }
+        ensures err { OnErr result (self.new ≡ self.old) }
     {
         match name.maker {
             Maker::Class(class) => self.heap.classes.set_monitor(class, name.number, monitor),

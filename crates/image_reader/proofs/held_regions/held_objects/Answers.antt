@@ -14,6 +14,6 @@ of_objects-requires c =
 
 pub returns-clause-holds : goal.returns-clause-holds
 returns-clause-holds c =
-    row_holds_all c.push_objects.new.program.strings c.args.count c.args.objects.now c.of_objects.result
-    c.push_objects.new.held.items (rw c.from.ensures at c.of_objects.ensures) c.requires.numbers
+    row_holds_all c.push_objects.new.program.strings c.args.count c.args.objects.now c.in_ok-row.row
+    c.push_objects.new.held.items (rw c.from.ensures at c.in_ok-row.ensures) c.requires.numbers
     c.in_ok-push_objects.ensures.holds

@@ -12,7 +12,7 @@ pub returns-in-Numbers-clause-holds : goal.returns-in-Numbers-clause-holds
 returns-in-Numbers-clause-holds c =
     copy_held c.args.program.now.strings c.args.slots.now _ c.copy.result c.in-Numbers.ensures c.copy.ensures
 
-pub returns-in_ok-held_values-in-Values-clause-same : goal.returns-in_ok-held_values-in-Values-clause-same
-returns-in_ok-held_values-in-Values-clause-same c vs holds =
-    c.in_ok-held_values-in-Values.ensures.same vs
+pub returns-in_ok-slots-in-Values-clause-same : goal.returns-in_ok-slots-in-Values-clause-same
+returns-in_ok-slots-in-Values-clause-same c vs holds =
+    c.in_ok-held-in-Values.ensures.same vs
     (subst (λ (told : List ImageValue). HoldsValues c.args.program.now.strings told vs) c.in-Values.ensures holds)

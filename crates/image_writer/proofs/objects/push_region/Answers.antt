@@ -21,32 +21,31 @@ overflow_cast-made c = omega (arith, c.count-made.ensures, c.requires.few)
 
 pub overflow_cast-kept : goal.overflow_cast-kept
 overflow_cast-kept c =
-    let row = c.objects-objects.result.now in
-    let few = row_few 0 row (pool_by c.args.region.now.objects).count c.objects-objects.ensures.row.ascending in
-    omega (arith, few, c.requires.few)
+    let row = c.args.region.now.objects in
+    let few = row_few 0 row.objects row.count c.len-kept.ensures.ascending in
+    omega (arith, few, c.requires.few, c.len-kept.ensures.all)
 
 pub push_objects-requires-clause-sized : goal.push_objects-requires-clause-sized
 push_objects-requires-clause-sized c =
-    let pool = pool_by c.args.region.now.objects in
-    rw c.program-program.ensures (all_row (λ n o. IsSizedObject c.args.image.now.program o) 0
-    c.objects-objects.result.now pool.count c.objects-objects.ensures.row.ascending
-    (λ n o le at. c.requires.sized.objects n o (ap (λ f. f n) (sym c.objects-objects.ensures.row.all) ∙ at)))
+    let row = c.args.region.now.objects in
+    rw c.program-program.ensures (all_row (λ n o. IsSizedObject c.args.image.now.program o) 0 row.objects row.count
+    c.len-kept.ensures.ascending (λ n o le at. c.requires.sized.objects n o at))
 
 pub push_objects-requires-clause-numbers : goal.push_objects-requires-clause-numbers
 push_objects-requires-clause-numbers c =
-    numbers_low 0 c.objects-objects.result.now (pool_by c.args.region.now.objects).count
-    c.objects-objects.ensures.row.ascending c.requires.few
+    numbers_low 0 c.args.region.now.objects.objects c.args.region.now.objects.count c.len-kept.ensures.ascending
+    c.requires.few
 
 pub returns : goal.returns
 returns c =
     let P = c.args.image.now.program in
     let pool = pool_by c.args.region.now.objects in
     let fields = field_in c.args.region.now.fields in
-    let row : List (ℕ × Object) = c.objects-objects.result.now in
+    let row : List (ℕ × Object) = c.args.region.now.objects.objects in
     let told : told_objects P.strings pool ≡ map (told_kept P.strings) row =
-    told_row P.strings row pool c.objects-objects.ensures.row in
-    let many : length row ≡ length (told_objects P.strings pool) =
-    sym (ap length told ∙ length-map row (told_kept P.strings)) in
+    told_row P.strings row pool c.len-kept.ensures.row in
+    let many : c.len-kept.result ≡ length (told_objects P.strings pool) =
+    c.len-kept.ensures.all ∙ sym (ap length told ∙ length-map row (told_kept P.strings)) in
     let before : List ℕ = c.push_u32.new.out.items in
     let third : List ℕ = c.push_u32-2.new.out.items in
     let declared : ℕ = length (statics_in P c.args.class) in

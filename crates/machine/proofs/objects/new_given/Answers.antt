@@ -1,8 +1,3 @@
-use Rattle.std.proofs.Common.{subst, List}
-use Rattle.vm_state.specs.declared.value.Value.{Value}
-use Rattle.built_in.specs.declared.class_id.ClassId.TheVariants.{Given}
-use Rattle.machine.specs.Objects.{new_object}
-use Rattle.machine.specs.Accesses.{Gives}
 use Rattle.machine.proofs.AccessesLemmas.{fails_at_class, gives_at}
 use Rattle.machine.proofs.ObjectsLemmas.{given_made}
 use Rattle.machine.proofs.objects.new_given.Goals as goal
@@ -20,10 +15,6 @@ returns-clause-gives g c =
     (g.S.Store.run c.args.by (g.S.Store.state c.new_object.new.store p)) _ _ c.new_object.new.frame
     c.new_object.result
     (given_made (g.S.Store.run c.args.by (g.S.Store.state c.args.store.now p)) c.args.program.now
-    c.args.class c.args.frame.now c.in_ok-slots.slots.items c.in_ok-use_class.field-0
+    c.args.class c.args.frame.now c.in_ok-slots.slots c.in_ok-use_class.field-0
     (c.in_ok-use_class.ensures.leads p) c.if-not-branch.false c.in_ok-slots.ensures)
-    (subst (λ (slots : List Value). Gives g.S.Store.stopped (g.S.Store.run c.args.by (g.S.Store.state
-    c.args.store.now p))
-    (g.S.Store.run c.args.by (g.S.Store.state c.new_object.new.store p))
-    (new_object (Given c.args.class) slots c.args.frame.now) c.new_object.new.frame c.new_object.result)
-    c.of_vec.ensures (c.new_object.ensures.gives p))
+    (c.new_object.ensures.gives p)

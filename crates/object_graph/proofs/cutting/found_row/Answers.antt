@@ -6,7 +6,7 @@ use Rattle.object_graph.proofs.cutting.found_row.Goals as goal
 
 pub of_objects-requires : goal.of_objects-requires
 of_objects-requires c =
-    let P : List (ℕ × Object) → Type 0 = λ os. AscendsFrom 0 os c.into_parts-count.result.0 in
+    let P : List (ℕ × Object) → Type 0 = λ os. AscendsFrom 0 os c.in_ok-count.count in
     subst P (sym c.in-Ok.ensures)
-    (kept_rises c.args.found.now c.args.class 0 0 c.into_parts-count.result.1.items c.into_parts-count.result.0
-    c.into_parts-count.ensures.ascending)
+    (kept_rises c.args.found.now c.args.class 0 0 c.in_ok-count.objects.items c.in_ok-count.count
+    c.in_ok-count.ensures.ascending)

@@ -3,5 +3,5 @@ use Rattle.place_set.specs.steps.Adds.{Adds}
 use Rattle.object_graph.specs.steps.Places.{HoldPlace}
 use Rattle.object_graph.proofs.reach.visit_values.Given as goal
 
-abbrev pub invariant-loop-value : goal.invariant-loop-value
-invariant-loop-value l = Adds l.fn.found (HoldPlace l.regions (take l.value-index l.values)) l.found
+abbrev pub invariant-loop-slot : goal.invariant-loop-slot
+invariant-loop-slot l = Adds l.fn.found (HoldPlace l.regions (take l.slot l.slots)) l.found

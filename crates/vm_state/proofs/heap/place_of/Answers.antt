@@ -1,18 +1,35 @@
-use Rattle.std.proofs.Common.{ltb, ltb-true, ltb-false, ℕ, arith, rules}
-use Rattle.std.proofs.lemmas.List.Sorted.{IsPartitionPoint-from_clause, IsPartitionedBy-ltb}
-use Rattle.vm_state.specs.declared.object.Object.{Object}
+use Rattle.std.proofs.Common.{◌≡◌, ◌<◌, ◌≤◌, ◌-◌, ◌+◌, ◌⊎◌, ◌∙◌, ℕ, length, get_or, inl, inr, rules, arith}
+use Rattle.vm_state.specs.steps.Objects.{numbers_of}
+use Rattle.vm_state.proofs.KeptLemmas.{below_or_not, get_before, get_after}
 use Rattle.vm_state.proofs.heap.place_of.Goals as goal
 
-pub returns-clause-before : goal.returns-clause-before
-returns-clause-before c =
-    let parted = IsPartitionedBy-ltb (λ (o : ℕ × Object). o.0) _ c.args.number c.requires in
-    let point = IsPartitionPoint-from_clause (λ (o : ℕ × Object). ltb o.0 c.args.number) _ _
-    c.partition_point.ensures.partitioned parted (λ a r q k. search rules) in
-    λ i d h. ltb-true _ _ (point.0 i d (omega arith) h)
+pub returns-then-number-plain-clause-before : goal.returns-then-number-plain-clause-before
+returns-then-number-plain-clause-before c i d h =
+    let inside : c.args.number < c.args.plain = search rules in
+    let is = get_before c.args.plain i d c.args.later.now (omega (arith, h, inside)) in
+    omega (arith, h, is)
 
-pub returns-clause-after : goal.returns-clause-after
-returns-clause-after c =
-    let parted = IsPartitionedBy-ltb (λ (o : ℕ × Object). o.0) _ c.args.number c.requires in
-    let point = IsPartitionPoint-from_clause (λ (o : ℕ × Object). ltb o.0 c.args.number) _ _
-    c.partition_point.ensures.partitioned parted (λ a r q k. search rules) in
-    λ d inside. ltb-false _ _ (point.1 _ d (omega arith) inside)
+pub returns-then-number-plain-clause-after : goal.returns-then-number-plain-clause-after
+returns-then-number-plain-clause-after c d h =
+    let inside : c.args.number < c.args.plain = search rules in
+    let is = get_before c.args.plain c.args.number d c.args.later.now inside in
+    omega (arith, is)
+
+pub returns-else-number-plain-clause-before : goal.returns-else-number-plain-clause-before
+returns-else-number-plain-clause-before c i d h =
+    let outside : c.args.plain ≤ c.args.number = search rules in
+    elim (below_or_not i c.args.plain) [
+      | inl first ↦ let is = get_before c.args.plain i d c.args.later.now first in omega (arith, is, first, outside)
+      | inr later ↦
+          let is = get_after c.args.plain i d c.args.later.now later in
+          let below = c.place_in.ensures.before (i - c.args.plain) d (omega (arith, h, later)) in
+          omega (arith, is, below)
+    ]
+
+pub returns-else-number-plain-clause-after : goal.returns-else-number-plain-clause-after
+returns-else-number-plain-clause-after c d h =
+    let place = c.args.plain + c.place_in.result in
+    let is = get_after c.args.plain place d c.args.later.now (omega arith) in
+    let there : place - c.args.plain ≡ c.place_in.result = omega arith in
+    let above = c.place_in.ensures.after d (omega (arith, h)) in
+    rw (is, there) above

@@ -1,25 +1,25 @@
-use Rattle.std.proofs.Common.{◌≡◌, ◌∙◌, Bor, Option, Some, None, false, refl, sym, ap}
-use Rattle.std.specs.Prelude.{is_some, option_copied}
-use Rattle.vm_state.specs.declared.object.Object.{Object}
+use Rattle.std.proofs.Common.{◌≡◌, ◌∙◌, ◌<◌, ◌≤◌, length, sym, subst, ap, rules}
+use Rattle.std.specs.Prelude.{IsSome}
 use Rattle.vm_state.specs.Objects.{ObjectRow, object_in}
-use Rattle.vm_state.proofs.ObjectLemmas.{rises, searched_at}
+use Rattle.vm_state.specs.steps.Objects.{object_at_place}
+use Rattle.vm_state.proofs.KeptLemmas.{direct_there, direct_none}
 use Rattle.vm_state.proofs.heap.Row.place.Goals as goal
 
-pub place_of-place-requires : goal.place_of-place-requires
-place_of-place-requires c =
-    rw c.as_slice-objects.ensures.value (rises 0 c.self.inside.objects.items c.self.inside.count c.self.invariant)
+pub returns-then-number-len-clause-held : goal.returns-then-number-len-clause-held
+returns-then-number-len-clause-held c =
+    let later = c.self.inside.later.items in
+    let kept = c.self.inside.kept.items in
+    let none : length later ≡ 0 = search rules in
+    let inside : c.args.number < length kept = search rules in
+    let P : ObjectRow → Type 0 = λ r. IsSome (object_at_place r.objects c.args.number c.args.number) in
+    subst P c.self.view_is (direct_there c.self.inside.owners later kept c.args.number none c.self.invariant.1 inside)
 
-no_object : (o : Option (Bor Object)) → is_some o ≡ false → option_copied o ≡ None
-no_object None e = refl
-no_object (Some x) e = cc
-
-pub returns-clause-none : goal.returns-clause-none
-returns-clause-none c =
-    let objects = c.self.inside.objects.items in
-    let before = rw c.as_slice-objects.ensures.value at c.place_of-place.ensures.before in
-    let after = rw c.as_slice-objects.ensures.value at c.place_of-place.ensures.after in
-    let at = rw c.as_slice-objects.ensures.value at c.object_at_place-2.ensures in
-    let none = no_object c.object_at_place-2.result (sym c.is_some-2.ensures ∙ c.if-is_some-2.false) in
+pub returns-else-number-len-clause-none : goal.returns-else-number-len-clause-none
+returns-else-number-len-clause-none c =
+    let later = c.self.inside.later.items in
+    let kept = c.self.inside.kept.items in
+    let none : length later ≡ 0 = search rules in
+    let past : length kept ≤ c.args.number = search rules in
     ap (λ (r : ObjectRow). object_in r.objects c.args.number) (sym c.self.view_is)
-    ∙ sym (searched_at objects c.self.inside.count c.place_of-place.result c.args.number c.self.invariant before after)
-    ∙ sym at ∙ none
+    ∙ direct_none c.self.inside.owners later kept c.self.inside.count c.args.number none c.self.invariant.1
+    c.self.invariant.0 past
