@@ -14,7 +14,7 @@ use std::alloc::{AllocError, AllocFailed};
 
 /// What is wrong with a region, or that memory ran out.
 #[derive(Clone, Copy, Debug)]
-pub enum RegionFault {
+pub(crate) enum RegionFault {
     Memory,
     /// The bytes end too early.
     Truncated,
@@ -24,7 +24,7 @@ pub enum RegionFault {
 
 /// What is wrong with the marks and regions of an image, or that memory ran out.
 #[derive(Clone, Copy, Debug)]
-pub enum MarksFault {
+pub(crate) enum MarksFault {
     Memory,
     /// The bytes end too early.
     Truncated,
@@ -34,7 +34,7 @@ pub enum MarksFault {
 
 /// What is wrong with all that stands after the class files of an image, or that memory ran out.
 #[derive(Clone, Copy, Debug)]
-pub enum RegionsFault {
+pub(crate) enum RegionsFault {
     Memory,
     Truncated,
     Shape { class: u32 },
@@ -48,7 +48,7 @@ pub enum RegionsFault {
 
 /// What is wrong with the class files of an image, or that memory ran out.
 #[derive(Debug, Drop)]
-pub enum FilesFault {
+pub(crate) enum FilesFault {
     Memory,
     /// The bytes end too early.
     Truncated,

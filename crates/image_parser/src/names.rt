@@ -91,7 +91,7 @@ fn mark_names(regions: &[Option<ImageRegion>], mark: &Option<ImageRegion>) -> bo
 }
 
 /// The least class whose region names an object that there is not.
-pub fn nameless(regions: &[Option<ImageRegion>]) -> Option<usize>
+pub(crate) fn nameless(regions: &[Option<ImageRegion>]) -> Option<usize>
     requires { AllRise regions.now }
     ensures { MatchOption result (All (MarkNames regions.now) regions.now) (IsNameless regions.now) }
 {
