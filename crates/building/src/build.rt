@@ -30,7 +30,7 @@ use wave_scheduler::{Gate, can_work};
 pub struct BuildOptions<'a> {
     /// The classes that are to be initialized at run time, as a list of patterns.
     pub run_time: Option<&'a str>,
-    /// Those that are to be initialized at build time.
+    /// The classes that are to be initialized at build time, as a list of patterns.
     pub build_time: Option<&'a str>,
     /// What the initializer of each class may cost: 1 to 1,000,000,000.
     pub budget: u64,

@@ -79,7 +79,7 @@ impl<T: Drop> From<AllocFailed<T>> for FilesFault {
 }
 
 impl MarksFault {
-    /// The same of all that stands after the class files.
+    /// The fault that it is of all that stands after the class files.
     pub(crate) fn among_regions(self) -> RegionsFault
         ensures { result ≡ among_regions self }
     {
@@ -92,7 +92,7 @@ impl MarksFault {
 }
 
 impl RegionFault {
-    /// The same of a run of bytes that is to be a class file.
+    /// The fault that it is of a run of bytes that is to be a class file.
     pub(crate) fn of_run(self) -> FilesFault
         ensures { result ≡ of_run self }
     {
@@ -103,7 +103,7 @@ impl RegionFault {
         }
     }
 
-    /// The same of the mark and the region of a class.
+    /// The fault that it is of the mark and the region of a class.
     pub(crate) fn inside(self, class: u32) -> MarksFault
         ensures { result ≡ inside class self }
     {

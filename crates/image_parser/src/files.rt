@@ -86,7 +86,7 @@ fn file_at<'a>(
     Ok((file, rest))
 }
 
-/// So many class files.
+/// A number of class files.
 fn files_at(alloc: Global, count: u32, bytes: &[u8]) -> Result<(Vec<ClassFile>, &[u8]), FilesFault>
     ensures { GivesFile (λ x. (x.0.items, x.1.now)) result (files_at count 0 None bytes.now) }
 {

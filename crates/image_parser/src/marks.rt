@@ -61,7 +61,7 @@ fn mark_at<'a>(
     marked_at(alloc, version, program, class, mark, rest)
 }
 
-/// The same, with the fault of that class.
+/// The mark of a class, and its region, or the fault with the class's number.
 #[tactic(auto, using(crate::proofs::MarkLemmas::inside_fails))]
 fn mark_in<'a>(
     alloc: Global,

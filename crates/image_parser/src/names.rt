@@ -79,7 +79,7 @@ fn names_objects(regions: &[Option<ImageRegion>], region: &ImageRegion) -> bool
         && slots_are_there(regions, region.objects.as_slice())
 }
 
-/// The same of the region of a class, if it has one.
+/// Whether the region of a class, if it has one, names objects alone that there are.
 fn mark_names(regions: &[Option<ImageRegion>], mark: &Option<ImageRegion>) -> bool
     requires { AllRise regions.now }
     ensures { Decides result (MarkNames regions.now mark.now) }

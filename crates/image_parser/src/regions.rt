@@ -87,7 +87,8 @@ fn whole(
     }
 }
 
-/// The same of regions that fill the bytes, and whose names are those of objects that there are.
+/// Regions that fill the bytes, and whose names are those of objects that there are, if in version 2 each object is
+/// reached.
 fn shown(
     alloc: Global,
     version: Version,
