@@ -4,7 +4,7 @@ ghost use Rattle.std.specs.Prelude.{◌≡◌, ◌≤◌};
 ghost use Rattle.machine.specs.Linked.{program_of};
 ghost use Rattle.evaluator.specs.Regions.{environment_of};
 ghost use Rattle.evaluator.specs.Outcomes.{IsUnbarred};
-ghost use Rattle.wave_scheduler.specs.steps.Crews.{CanRunRow};
+ghost use Rattle.wave_scheduler.specs.steps.Crews.{CanRunWave};
 
 use crate::gate::{Gate, Worker};
 use crate::lent::Lent;
@@ -30,8 +30,7 @@ pub(crate) fn results_of<W: Lent + Send + Sync, G: Gate, R: Threads + Wait + Syn
     tainted: &Tainted,
     caller: &Worker<'_, G>,
 ) -> Result<Results<W>, AllocError>
-    requires row { CanRunRow W.program W.regions W.budget wave.terms.program.now regions.now wave.terms.budget tainted.now
-        wave.classes.now }
+    requires wave { CanRunWave W.program W.regions W.budget wave regions.now tainted.now }
 {
     let mut results = Results::of_places(alloc, wave.classes.len())?;
     let crew = crew_of(caller.who, wave.classes.len());
@@ -71,8 +70,7 @@ fn gather<W: Lent + Send + Sync, G: Gate, R: Threads + Wait + Sync>(
     crew: u32,
     gate: &G,
 ) -> Vec<Vec<Done<W>>>
-    requires row { CanRunRow W.program W.regions W.budget wave.terms.program.now regions.now wave.terms.budget tainted.now
-        wave.classes.now }
+    requires wave { CanRunWave W.program W.regions W.budget wave regions.now tainted.now }
 {
     let claimed = Mutex::new(0usize);
     let claimed = &claimed;
@@ -80,15 +78,13 @@ fn gather<W: Lent + Send + Sync, G: Gate, R: Threads + Wait + Sync>(
         thread::scope_env(),
         rt,
         |scope| -> Vec<Vec<Done<W>>>
-            requires { CanRunRow W.program W.regions W.budget wave.terms.program.now regions.now wave.terms.budget
-                tainted.now wave.classes.now }
+            requires { CanRunWave W.program W.regions W.budget wave regions.now tainted.now }
         {
             let mut handles = Vec::new(alloc);
             for who in 0..crew {
                 let one = scope.spawn(
                     move || -> Vec<Done<W>>
-                        requires { CanRunRow W.program W.regions W.budget wave.terms.program.now regions.now
-                            wave.terms.budget tainted.now wave.classes.now }
+                        requires { CanRunWave W.program W.regions W.budget wave regions.now tainted.now }
                     {
                         let worker = Worker { gate, who };
                         work::<W, G, R>(rt, alloc, wave, regions, tainted, claimed, &worker)
@@ -128,8 +124,7 @@ fn work<W: Lent, G: Gate, R: Wait>(
     claimed: &Mutex<usize>,
     worker: &Worker<'_, G>,
 ) -> Vec<Done<W>>
-    requires row { CanRunRow W.program W.regions W.budget wave.terms.program.now regions.now wave.terms.budget tainted.now
-        wave.classes.now }
+    requires wave { CanRunWave W.program W.regions W.budget wave regions.now tainted.now }
 {
     let classes = wave.classes;
     let mut all = Vec::new(alloc);

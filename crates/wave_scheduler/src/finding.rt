@@ -67,9 +67,10 @@ fn outcome_now<W: Lent, G: Gate>(
     requires lent { wave.terms.program.now ≡ W.program }
     requires budget { wave.terms.budget ≡ W.budget }
     requires run { IsUnbarred (program_of wave.terms.program.now) (environment_of regions.now) class wave.terms.budget }
-    ensures { IfOk result (λ outcome. IsOutcome (program_of wave.terms.program.now) (environment_of W.regions) class
-        wave.terms.budget outcome ⊎ IsOutcome (program_of wave.terms.program.now) (environment_of regions.now) class
-        wave.terms.budget outcome) }
+    ensures { IfOk result (λ outcome.
+        IsOutcome (program_of wave.entry.terms.program.now) (environment_of W.regions) class wave.entry.terms.budget outcome
+        ⊎ IsOutcome (program_of wave.entry.terms.program.now) (environment_of regions.now) class
+        wave.entry.terms.budget outcome) }
 {
     if let Some(done) = given {
         if let Some(outcome) = done.outcome_of(class) {
@@ -94,8 +95,8 @@ fn find<W: Lent, G: Gate>(
     requires lent { wave.terms.program.now ≡ W.program }
     requires budget { wave.terms.budget ≡ W.budget }
     requires run { CanRun (program_of wave.terms.program.now) (environment_of regions.now) wave.terms.budget class told }
-    ensures { IfOk result (λ found. IsFoundIn (program_of wave.terms.program.now) (environment_of W.regions)
-        (environment_of regions.now) wave.terms.budget wave.number class told (outcome_of found.verdict)
+    ensures { IfOk result (λ found. IsFoundIn (program_of wave.entry.terms.program.now) (environment_of W.regions)
+        (environment_of regions.now) wave.entry.terms.budget wave.entry.number class told (outcome_of found.verdict)
         (option_map region_of found.region)) }
 {
     match told {
@@ -151,9 +152,9 @@ pub(crate) fn find_class<W: Lent, G: Gate>(
     requires none { region_in settled.old.regions class ≡ None }
     requires run { CanRun (program_of wave.terms.program.now) (environment_of settled.old.regions) wave.terms.budget
         class told }
-    ensures { OnOk result (FindsClass (program_of wave.terms.program.now) (environment_of W.regions)
-        (environment_of settled.old.regions) wave.terms.budget wave.number class told (settled_of settled.old)
-        (settled_of settled.new)) }
+    ensures { OnOk result (FindsClass (program_of wave.entry.terms.program.now) (environment_of W.regions)
+        (environment_of settled.old.regions) wave.entry.terms.budget wave.entry.number class told
+        (settled_of settled.old) (settled_of settled.new)) }
 {
     match find(alloc, wave, &settled.regions, class, told, given, caller) {
         Ok(found) => {

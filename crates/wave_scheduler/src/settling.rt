@@ -25,8 +25,8 @@ use std::thread::Threads;
 /// Settles all classes on this thread.
 fn settle_judged_here(alloc: Global, terms: Terms<'_>) -> Result<Settled, AllocError>
     requires { AreJudged terms.program.now terms.verdicts.now }
-    ensures { IfOk result
-        (λ settled. FollowVerdicts terms.program.now terms.budget terms.verdicts.now (settled_of settled)) }
+    ensures { IfOk result (λ settled. FollowVerdicts terms.entry.program.now terms.entry.budget terms.entry.verdicts.now
+        (settled_of settled)) }
 {
     let mut plan = plan_of(alloc, terms.program, terms.verdicts)?;
     try_all_here(
@@ -54,8 +54,8 @@ fn settle_judged<G: Gate, R: Threads + Wait + Sync>(
     caller: &Worker<'_, G>,
 ) -> Result<Settled, AllocError>
     requires { AreJudged terms.program.now terms.verdicts.now }
-    ensures { IfOk result
-        (λ settled. FollowVerdicts terms.program.now terms.budget terms.verdicts.now (settled_of settled)) }
+    ensures { IfOk result (λ settled. FollowVerdicts terms.entry.program.now terms.entry.budget terms.entry.verdicts.now
+        (settled_of settled)) }
 {
     let mut plan = plan_of(alloc, terms.program, terms.verdicts)?;
     try_all(

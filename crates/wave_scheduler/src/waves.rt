@@ -44,9 +44,9 @@ fn try_class<W: Lent, G: Gate>(
     requires run { (¬ IsSeen tainted.old (vertex_in tainted.old class))
         → StoppedBy (program_of wave.terms.program.now) (environment_of settled.old.regions) class wave.terms.budget
         quiet.Barred → ⊥ }
-    ensures { OnOk result (TriesClass wave.terms.program.now (environment_of W.regions)
-        (environment_of settled.old.regions) wave.terms.budget wave.number class tainted.old (settled_of settled.old)
-        tainted.new (settled_of settled.new)) }
+    ensures { OnOk result (TriesClass wave.entry.terms.program.now (environment_of W.regions)
+        (environment_of settled.old.regions) wave.entry.terms.budget wave.entry.number class tainted.old
+        (settled_of settled.old) tainted.new (settled_of settled.new)) }
 {
     let told = told(tainted, class);
     find_class(alloc, wave, class, told, given, caller, settled)?;
@@ -66,10 +66,8 @@ fn collect<W: Lent, G: Gate>(
     requires lent { wave.terms.program.now ≡ W.program }
     requires regions { settled.old.regions ≡ W.regions }
     requires budget { wave.terms.budget ≡ W.budget }
-    requires wave { CanTry wave.terms.program.now wave.terms.budget wave.terms.verdicts.now wave.number wave.classes.now
-        (settled_of settled.old) tainted.old }
-    ensures { OnOk result (StandsBefore wave.terms.program.now wave.terms.budget wave.terms.verdicts.now
-        (wave.number + 1) (settled_of settled.new) tainted.new) }
+    requires wave { CanTry wave (settled_of settled.old) tainted.old }
+    ensures { OnOk result (StandsBefore wave.entry.terms (wave.entry.number + 1) (settled_of settled.new) tainted.new) }
 {
     let _given = wave.terms.program.family().classes();
     let _tables = wave.terms.program.classes();
@@ -91,10 +89,8 @@ fn run_wave_here<W: Lent>(
     requires lent { wave.terms.program.now ≡ W.program }
     requires regions { settled.old.regions ≡ W.regions }
     requires budget { wave.terms.budget ≡ W.budget }
-    requires wave { CanTry wave.terms.program.now wave.terms.budget wave.terms.verdicts.now wave.number wave.classes.now
-        (settled_of settled.old) tainted.old }
-    ensures { OnOk result (StandsBefore wave.terms.program.now wave.terms.budget wave.terms.verdicts.now
-        (wave.number + 1) (settled_of settled.new) tainted.new) }
+    requires wave { CanTry wave (settled_of settled.old) tainted.old }
+    ensures { OnOk result (StandsBefore wave.entry.terms (wave.entry.number + 1) (settled_of settled.new) tainted.new) }
 {
     let results = Results::none(alloc);
     let caller = Worker {
@@ -111,10 +107,8 @@ fn try_wave_here(
     tainted: &mut Tainted,
     settled: &mut Settled,
 ) -> Result<(), AllocError>
-    requires { CanTry wave.terms.program.now wave.terms.budget wave.terms.verdicts.now wave.number wave.classes.now
-        (settled_of settled.old) tainted.old }
-    ensures { OnOk result (StandsBefore wave.terms.program.now wave.terms.budget wave.terms.verdicts.now
-        (wave.number + 1) (settled_of settled.new) tainted.new) }
+    requires { CanTry wave (settled_of settled.old) tainted.old }
+    ensures { OnOk result (StandsBefore wave.entry.terms (wave.entry.number + 1) (settled_of settled.new) tainted.new) }
 {
     run_wave_here::<Brand>(alloc, wave, tainted, settled)
 }
@@ -131,10 +125,8 @@ fn run_wave<W: Lent + Send + Sync, G: Gate, R: Threads + Wait + Sync>(
     requires lent { wave.terms.program.now ≡ W.program }
     requires regions { settled.old.regions ≡ W.regions }
     requires budget { wave.terms.budget ≡ W.budget }
-    requires wave { CanTry wave.terms.program.now wave.terms.budget wave.terms.verdicts.now wave.number wave.classes.now
-        (settled_of settled.old) tainted.old }
-    ensures { OnOk result (StandsBefore wave.terms.program.now wave.terms.budget wave.terms.verdicts.now
-        (wave.number + 1) (settled_of settled.new) tainted.new) }
+    requires wave { CanTry wave (settled_of settled.old) tainted.old }
+    ensures { OnOk result (StandsBefore wave.entry.terms (wave.entry.number + 1) (settled_of settled.new) tainted.new) }
 {
     let _given = wave.terms.program.family().classes();
     let _tables = wave.terms.program.classes();
@@ -151,10 +143,8 @@ fn try_wave<G: Gate, R: Threads + Wait + Sync>(
     tainted: &mut Tainted,
     settled: &mut Settled,
 ) -> Result<(), AllocError>
-    requires wave { CanTry wave.terms.program.now wave.terms.budget wave.terms.verdicts.now wave.number wave.classes.now
-        (settled_of settled.old) tainted.old }
-    ensures { OnOk result (StandsBefore wave.terms.program.now wave.terms.budget wave.terms.verdicts.now
-        (wave.number + 1) (settled_of settled.new) tainted.new) }
+    requires wave { CanTry wave (settled_of settled.old) tainted.old }
+    ensures { OnOk result (StandsBefore wave.entry.terms (wave.entry.number + 1) (settled_of settled.new) tainted.new) }
 {
     run_wave::<Brand, G, R>(rt, alloc, wave, caller, tainted, settled)
 }
@@ -167,10 +157,9 @@ pub(crate) fn try_all_here(
     tainted: &mut Tainted,
     settled: &mut Settled,
 ) -> Result<(), AllocError>
-    requires { CanTryAll terms.program.now terms.budget terms.verdicts.now (rows_of rows.now) (settled_of settled.old)
-        tainted.old }
-    ensures { OnOk result (AreTriedBelow terms.program.now terms.budget terms.verdicts.now (length rows.now)
-        (settled_of settled.new)) }
+    requires { CanTryAll terms (rows_of rows.now) (settled_of settled.old) tainted.old }
+    ensures { OnOk result (AreTriedBelow terms.entry.program.now terms.entry.budget terms.entry.verdicts.now
+        (length rows.now) (settled_of settled.new)) }
 {
     for number in 0..rows.len() {
         let classes = rows[number].as_slice();
@@ -194,10 +183,9 @@ pub(crate) fn try_all<G: Gate, R: Threads + Wait + Sync>(
     tainted: &mut Tainted,
     settled: &mut Settled,
 ) -> Result<(), AllocError>
-    requires waves { CanTryAll terms.program.now terms.budget terms.verdicts.now (rows_of rows.now)
-        (settled_of settled.old) tainted.old }
-    ensures { OnOk result (AreTriedBelow terms.program.now terms.budget terms.verdicts.now (length rows.now)
-        (settled_of settled.new)) }
+    requires waves { CanTryAll terms (rows_of rows.now) (settled_of settled.old) tainted.old }
+    ensures { OnOk result (AreTriedBelow terms.entry.program.now terms.entry.budget terms.entry.verdicts.now
+        (length rows.now) (settled_of settled.new)) }
 {
     for number in 0..rows.len() {
         let classes = rows[number].as_slice();

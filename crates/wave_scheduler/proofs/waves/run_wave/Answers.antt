@@ -7,8 +7,8 @@ use Rattle.wave_scheduler.proofs.TaintedLemmas.{searched}
 use Rattle.wave_scheduler.proofs.TryingLemmas.{tries_none, can_run, wave_at}
 use Rattle.wave_scheduler.proofs.waves.run_wave.Goals as goal
 
-pub results_of-requires-clause-row : goal.results_of-requires-clause-row
-results_of-requires-clause-row g c = λ κs alive. record {
+pub results_of-requires-clause-wave : goal.results_of-requires-clause-wave
+results_of-requires-clause-wave g c = λ κs alive. record {
   program = c.requires.lent;
   regions = c.requires.regions;
   budget = c.requires.budget;
