@@ -103,7 +103,7 @@ impl<O: Origin> Book<O> {
     }
 
     /// Whether the journal has as many steps as it may.
-    pub fn is_full(&self) -> bool
+    pub(crate) fn is_full(&self) -> bool
         ensures yes { result ≡ true → self.now.past.limit ≤ steps_of self.now.past }
         ensures no { result ≡ false → steps_of self.now.past < self.now.past.limit }
     {

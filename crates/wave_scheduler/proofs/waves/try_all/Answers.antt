@@ -9,7 +9,8 @@ loop-number-init g c = record { tried = c.requires.waves.tried; tainted = c.requ
 pub try_wave-requires-clause-wave : goal.try_wave-requires-clause-wave
 try_wave-requires-clause-wave g c = λ κs alive. record {
   judged = c.requires.waves.judged;
-  row = rw c.as_slice-classes.ensures.value (subst (λ (row : List ℕ). IsRow c.args.terms.verdicts.now c.loop-number.number row)
+  row = rw c.as_slice-classes.ensures.value (subst
+      (λ (row : List ℕ). IsRow c.args.terms.verdicts.now c.loop-number.number row)
       (sym (row_read c.args.rows.now c.loop-number.number c.index-rows-number.result c.loop-number-test.true
       c.index-rows-number.is)) (c.requires.waves.rows c.loop-number.number));
   tried = c.loop-number.invariant.tried;
