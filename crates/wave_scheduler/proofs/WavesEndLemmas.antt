@@ -21,7 +21,7 @@ use Rattle.initializer_analysis.specs.Verdicts.{IsFirstRefused}
 use Rattle.initializer_analysis.specs.Least.{IsFirst}
 use Rattle.initializer_analysis.specs.RefusedUses.{IsRefusedUse, AreFirstRefused}
 use Rattle.wave_scheduler.specs.Settled.{Outcome, Wave, Refused, Stopped, Settled, IsAccepted, region_in}
-use Rattle.wave_scheduler.specs.Settled.{below}
+use Rattle.wave_scheduler.specs.Settled.{if_below, below}
 use Rattle.wave_scheduler.specs.steps.Judged.{IsTried, Follows, FollowVerdicts}
 use Rattle.wave_scheduler.specs.steps.Waves.{IsTriedIn, StaysRefused, AreTriedBelow, AreRefusedIn, dependent, ToldFirst}
 use Rattle.initializer_analysis.proofs.ReachesLemmas.{one_of}
