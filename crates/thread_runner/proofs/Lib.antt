@@ -8,6 +8,5 @@ pub mod MarkLemmas
 pub mod SendingLemmas
 pub mod AnswerLemmas
 pub mod ReplayLemmas
-pub mod AskedLemmas
 pub mod FrontLemmas
 pub mod TopLemmas

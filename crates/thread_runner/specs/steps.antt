@@ -3,5 +3,4 @@ pub mod Alone
 pub mod Advances
 pub mod Blanks
 pub mod Verdicts
-pub mod Asked
 pub mod Landings

@@ -4,7 +4,6 @@
 mod advance;
 mod alone;
 mod answer;
-mod asked;
 mod book;
 mod desk;
 pub mod done_set;
