@@ -1,3 +1,4 @@
+pub mod AskedLemmas
 pub mod EndLemmas
 pub mod LocalLemmas
 pub mod StepLemmas
