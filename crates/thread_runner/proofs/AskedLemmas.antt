@@ -7,7 +7,7 @@ use Rattle.std.proofs.lemmas.List.Elements.{All-head, All-tail, All-nil, All-con
 use Rattle.std.proofs.lemmas.List.Folds.{list_any-append}
 use Rattle.thread_runner.specs.Local.{is_done}
 use Rattle.thread_runner.specs.Fronts.{AreMembers}
-use Rattle.thread_runner.specs.steps.Ends.{has}
+use Rattle.thread_runner.specs.steps.Asked.{has}
 
 -- ---- members of a set
 

@@ -14,7 +14,7 @@ mod known;
 mod landing;
 mod last;
 pub mod laws;
-mod local_end;
+mod asked;
 mod local_step;
 pub mod origin;
 pub mod replay;
