@@ -32,11 +32,6 @@ dependent-wave : (f : Option ℕ) (k : ℕ) → dependent f (Wave k) ≡ Wave k
 dependent-wave None k = refl
 dependent-wave (Some e) k = refl
 
-dependent-own : (f : Option ℕ) (r : Reason) → (q : Reason) × (dependent f (Refused r) ≡ Refused q)
-dependent-own None r = (r, refl)
-dependent-own (Some e) (reasons.DependsOn d) = (reasons.DependsOn e, refl)
-dependent-own (Some e) reason = (reason, refl)
-
 dependent-below : (f : Option ℕ) (n : ℕ) (o : Outcome) (held : Option Region)
     → if_below n (Some (dependent f o)) held ≡ if_below n (Some o) held
 dependent-below None n o held = refl
