@@ -1,17 +1,13 @@
 -- Classes that were asked for, and how many of a set were not.
-use Rattle.std.proofs.Common.{◌≡◌, ◌<◌, ◌≤◌, ◌+◌, ℕ, zero, suc, Bool, true, false, List, [], ◌∷◌, ◌++◌, Some, refl, sym}
-use Rattle.std.proofs.Common.{ap, subst, ◌∙◌, arith, eqb-true, eq-eqb}
+use Rattle.std.proofs.Common.{◌≡◌, ◌<◌, ◌≤◌, ◌+◌, ℕ, zero, suc, Bool, true, false, List, [], ◌∷◌, ◌++◌, refl, sym, ap}
+use Rattle.std.proofs.Common.{subst, ◌∙◌, arith, eqb-true, eq-eqb}
 use Rattle.std.specs.Prelude.{◌&&◌, ◌||◌, ◌==◌, not, if◌then◌else◌}
 use Rattle.std.specs.List.{list_any}
 use Rattle.std.proofs.lemmas.List.Elements.{All-head, All-tail, All-nil, All-cons}
 use Rattle.std.proofs.lemmas.List.Folds.{list_any-append}
-use Rattle.semantics.specs.Steps.{Thread}
-use Rattle.program.specs.Tables.{Tables}
-use Rattle.thread_runner.specs.Local.{is_done, local_step, local_steps}
+use Rattle.thread_runner.specs.Local.{is_done}
 use Rattle.thread_runner.specs.Fronts.{AreMembers}
 use Rattle.thread_runner.specs.steps.Ends.{has}
-use Rattle.thread_runner.proofs.LocalLemmas.{local_more}
-use Rattle.thread_runner.proofs.WalkLemmas.{local_sum}
 
 -- ---- members of a set
 
@@ -31,25 +27,6 @@ members_before (x ∷ xs) done c all =
     All-cons (λ d. is_done done d ≡ true) x xs
     (All-head (λ d. is_done done d ≡ true) x (xs ++ c ∷ []) all)
     (members_before xs done c (All-tail (λ d. is_done done d ≡ true) x (xs ++ c ∷ []) all))
-
--- ---- instructions over those that were asked for, and over each set that has them
-
-module _ (P : Tables) (asked : List ℕ) (n k : ℕ) (first before there new : Thread)
-    (wide : (more : List Bool) → AreMembers asked more → local_steps P more n first ≡ Some before)
-    (walked : (more : List Bool) → local_steps P more k before ≡ Some there) where
-  walked_on : (more : List Bool) → AreMembers asked more → local_steps P more (n + k) first ≡ Some there
-  walked_on more members = local_sum P more n k first before there (wide more members) (walked more)
-
-  -- one more
-  pub went_on : ((more : List Bool) → AreMembers asked more → local_step P more there ≡ Some new)
-      → (more : List Bool) → AreMembers asked more → local_steps P more (n + k + 1) first ≡ Some new
-  went_on step more members =
-      local_more P more (n + k) first there new (walked_on more members) (step more members)
-
-  -- no more
-  pub stood_still : new ≡ there → (more : List Bool) → AreMembers asked more
-      → local_steps P more (n + k) first ≡ Some new
-  stood_still same more members = walked_on more members ∙ ap Some (sym same)
 
 -- ---- how many are left to be asked for
 
