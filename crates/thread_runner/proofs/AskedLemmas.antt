@@ -14,11 +14,13 @@ use Rattle.thread_runner.specs.steps.Asked.{has}
 pub member_has : (asked : List ℕ) (done : List Bool) (c : ℕ) → AreMembers asked done → has asked c ≡ true
     → is_done done c ≡ true
 member_has [] done c all h = absurd cc
-member_has (x ∷ xs) done c all h = by (x == c) refl h where
-  by : (b : Bool) → (x == c) ≡ b → (b || has xs c) ≡ true → is_done done c ≡ true
-  by true is h =
-      subst (λ d. is_done done d ≡ true) (eqb-true x c is) (All-head (λ d. is_done done d ≡ true) x xs all)
-  by false is h = member_has xs done c (All-tail (λ d. is_done done d ≡ true) x xs all) h
+member_has (x ∷ xs) done c all h =
+    by (x == c) refl h (λ later. member_has xs done c (All-tail (λ d. is_done done d ≡ true) x xs all) later) where
+      by : (b : Bool) → (x == c) ≡ b → (b || has xs c) ≡ true → (has xs c ≡ true → is_done done c ≡ true)
+          → is_done done c ≡ true
+      by true is h more =
+          subst (λ d. is_done done d ≡ true) (eqb-true x c is) (All-head (λ d. is_done done d ≡ true) x xs all)
+      by false is h more = more h
 
 pub members_before : (asked : List ℕ) (done : List Bool) (c : ℕ) → AreMembers (asked ++ c ∷ []) done
     → AreMembers asked done
