@@ -16,7 +16,7 @@ use crate::regions::{Region, Regions};
 use crate::turn::{Turn, take_turn};
 use machine::entering::initializer_frame;
 use program::Program;
-use region_shape::{is_from_file, is_linked};
+use region_shape::{class_is_from_file, program_is_linked};
 use std::alloc::{AllocError, Global};
 use vm_state::classes::Fields;
 use vm_state::frame::{FrameList, Segment};
@@ -142,8 +142,8 @@ pub fn settle(
     ensures whole { IfOk result (λ outcome. IsSettleable program.now (environment_of regions.now) class
         → LeavesWhole program.now (environment_of regions.now) class budget outcome) }
 {
-    is_linked(program);
-    is_from_file(program, class);
+    program_is_linked(program);
+    class_is_from_file(program, class);
     match evaluate(alloc, program, regions, class, budget) {
         Ok(Ending::Settled(region)) => Ok(Outcome::Settled(region)),
         Ok(Ending::Stopped(Halt::Refused(refusal))) => Ok(Outcome::Refused(refusal)),
