@@ -27,9 +27,6 @@ module _ (P : Tables) (uses : UseGraph) (graph : Rows) (whole : IsUseGraph P use
   methods : List DeclaredMember
   methods = uses.methods
 
-  member : ℕ → ℕ → DeclaredMember
-  member d k = record { class = d; index = k }
-
   declared : (n : ℕ) (x : DeclaredMember) → slice_get uses.methods n ≡ Some x → IsDeclared P x.class x.index
   declared n x at = (whole.methods x.class x.index).1 (n, at)
 

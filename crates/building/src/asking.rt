@@ -58,7 +58,7 @@ fn lists_of(alloc: Global, options: &BuildOptions<'_>) -> Result<Lists, OptionFa
 pub(crate) struct Asked {
     /// The classes that are forced to run time.
     pub forced: Forced,
-    /// Those that are demanded at build time.
+    /// The classes that are demanded at build time.
     pub demand: Demand,
     pub verdicts: Verdicts,
 }

@@ -18,7 +18,7 @@ use initializer_analysis::verdict::Verdicts;
 use object_graph::{Image, gather};
 use options::OptionFault;
 use program::{LinkFault, Program};
-use region_shape::{are_from_files, is_linked};
+use region_shape::{classes_are_from_files, program_is_linked};
 use std::alloc::{AllocError, Global};
 use std::sync::Wait;
 use std::thread::Threads;
@@ -30,7 +30,7 @@ use wave_scheduler::{Gate, can_work};
 pub struct BuildOptions<'a> {
     /// The classes that are to be initialized at run time, as a list of patterns.
     pub run_time: Option<&'a str>,
-    /// Those that are to be initialized at build time.
+    /// The classes that are to be initialized at build time, as a list of patterns.
     pub build_time: Option<&'a str>,
     /// What the initializer of each class may cost: 1 to 1,000,000,000.
     pub budget: u64,
@@ -111,8 +111,8 @@ fn image_by(
     ensures fault { IfErr result (λ fault. (fault ≡ Memory) ⊎ IsOption (OptionsFail program
         (text_of options.now.run_time) (text_of options.now.build_time) options.now.budget) fault) }
 {
-    is_linked(&program);
-    are_from_files(&program);
+    program_is_linked(&program);
+    classes_are_from_files(&program);
     match settled {
         Ok(settled) => image_of(alloc, program, settled),
         Err(fault) => Err(fault),

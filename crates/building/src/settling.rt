@@ -58,7 +58,7 @@ fn settle_asked_here(
     }
 }
 
-/// The same by workers.
+/// What becomes of all classes by workers, if it is what is demanded.
 fn settle_asked<G: Gate, R: Threads + Wait + Sync>(
     rt: &R,
     alloc: Global,
@@ -97,7 +97,7 @@ pub(crate) fn settle_here(
     }
 }
 
-/// The same by workers.
+/// What becomes of all classes by workers, by the options.
 pub(crate) fn settle_by_workers<G: Gate, R: Threads + Wait + Sync>(
     rt: &R,
     alloc: Global,

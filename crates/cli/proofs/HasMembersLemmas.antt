@@ -47,9 +47,6 @@ same_bytes a b = by (bytes_eq a b) refl
     by true e = inl ((bytes_eq-Decides a b).0 e)
     by false e = inr (λ is. let on = (bytes_eq-Decides a b).1 is in cc)
 
-named : List ℕ → List ℕ → NameAndType
-named n d = record { name = n; descriptor = d }
-
 same_key : (a b : NameAndType) → Decided (a ≡ b)
 same_key a b =
     decided_as (λ (name, descriptor). λ i. record { name = name i; descriptor = descriptor i })

@@ -11,10 +11,11 @@ use Rattle.command_line.specs.Requests.{texts}
 use Rattle.command_line.specs.declared.request.Build.{Build}
 use Rattle.cli.specs.declared.build_texts.BuildTexts.{BuildTexts}
 use Rattle.cli.specs.Builds.{IsBuildOfClassFiles}
-use Rattle.cli.specs.Done.{AreBothWritten, AreWritten, HasBuilt, options_of}
+use Rattle.cli.specs.Done.{AreBothWritten, AreWritten, HasBuilt}
 use Rattle.cli.specs.Files.{AreBytesOf, AreTextsOf, Contents, OthersStay}
 use Rattle.cli.specs.ImageBuilds.{IsBuiltText}
 use Rattle.cli.specs.Outputs.{IsNoneOf}
+use Rattle.cli.specs.Requested.{options_of}
 use Rattle.cli.specs.steps.BuildTexts.{AreTextsOfBuild}
 
 -- one more input
@@ -55,10 +56,12 @@ pub has_built : (old mid new : Contents) (words : Build) (files : List (List ℕ
     → AreTextsOfBuild files options (is_some words.report) made
     → AreWritten mid new words.image.now words.report made.image.items made.report.items → HasBuilt old new words
 has_built old mid new words files options made held asked same of written = record {
-  files = files;
-  held = held;
   answer = of.answer;
-  build = subst (λ (o : BuildOptions). IsBuildOfClassFiles files o of.answer) asked of.build;
+  asked = record {
+    files = files;
+    held = held;
+    build = subst (λ (o : BuildOptions). IsBuildOfClassFiles files o of.answer) asked of.build;
+  };
   bytes = made.image.items;
   built = subst (λ (o : BuildOptions).
       IsBuiltText files (list_of o.run_time) (list_of o.build_time) o.budget made.image.items) asked of.built;

@@ -15,7 +15,6 @@ use Rattle.init_engine.specs.Schedules.{AreRuns, schedule_of}
 use Rattle.init_engine.specs.declared.stuck.Rest.{Rest}
 use Rattle.journal.specs.Journals.{IsJournalOf, lines_of}
 use Rattle.building.specs.Builds.{text_of}
-use Rattle.building.specs.declared.build.BuildOptions.{BuildOptions}
 use Rattle.building.specs.declared.build.Built.{Built}
 use Rattle.report.specs.Texts.{report_text}
 use Rattle.command_line.specs.Files.{files_of, with_files}
@@ -30,14 +29,14 @@ use Rattle.command_line.specs.declared.request.Request.TheVariants as requests
 use Rattle.command_line.specs.declared.request.Run.{Run}
 use Rattle.cli.specs.Audits.{HasAudited}
 use Rattle.cli.specs.Begins.{IsBegun, IsBegunFromImage}
-use Rattle.cli.specs.Builds.{IsBuildOfClassFiles}
 use Rattle.cli.specs.Explanations.{HasExplained}
-use Rattle.cli.specs.Files.{AreBytesOf, AreTextsOf, Contents, OthersStay}
+use Rattle.cli.specs.Files.{AreBytesOf, Contents, OthersStay}
 use Rattle.cli.specs.ImageBuilds.{IsBuiltText}
 use Rattle.cli.specs.ImageRuns.{IsTextOf}
 use Rattle.cli.specs.Lists.{NamesGiven}
 use Rattle.cli.specs.Outputs.{AreListsApart, IsApart}
 use Rattle.cli.specs.Renewals.{IsRenewed}
+use Rattle.cli.specs.Requested.{IsAskedBuild}
 use Rattle.cli.specs.Status.{replay_status, run_status}
 use Rattle.cli.specs.declared.status.Status.{Status}
 use Rattle.cli.specs.declared.status.Status.TheVariants.{Done}
@@ -115,10 +114,6 @@ pub record HasReplayed (holds : Contents) (words : Replay) (before after : Optio
 
 -- ---- builds
 
--- what the words say of a build
-abbrev pub options_of : Building → BuildOptions
-options_of words = record { run_time = words.run_time; build_time = words.build_time; budget = words.budget }
-
 -- The files of the image and of the report hold these texts, and no other file was changed.
 pub record AreBothWritten (old new : Contents) (image report bytes text : List ℕ) : Type 0 where
   pub written : AreBytesOf (new image) bytes
@@ -133,22 +128,18 @@ AreWritten old new image (Some report) bytes text = AreBothWritten old new image
 -- The file of the image holds the text of one that is built of the class files, as the words say, and that of the
 -- report, where the words name one, the report on the same build.
 pub record HasBuilt (old new : Contents) (words : Build) : Type 0 where
-  pub files : List (List ℕ)
-  pub held : AreTextsOf old (texts words.building.files.items) files
   pub answer : Built
-  pub build : IsBuildOfClassFiles files (options_of words.building) answer
+  pub asked : IsAskedBuild old words.building answer
   pub bytes : List ℕ
-  pub built : IsBuiltText files (text_of words.building.run_time) (text_of words.building.build_time)
+  pub built : IsBuiltText asked.files (text_of words.building.run_time) (text_of words.building.build_time)
       words.building.budget bytes
   pub text : IsTextOf bytes answer.image
   pub written : AreWritten old new words.image.now words.report bytes (report_text answer.image answer.verdicts)
 
 -- This is the report on a build of the class files, as the words say.
 pub record IsReport (holds : Contents) (words : Building) (report : List ℕ) : Type 0 where
-  pub files : List (List ℕ)
-  pub held : AreTextsOf holds (texts words.files.items) files
   pub answer : Built
-  pub built : IsBuildOfClassFiles files (options_of words) answer
+  pub asked : IsAskedBuild holds words answer
   pub is : report ≡ report_text answer.image answer.verdicts
 
 -- Such a report went out.

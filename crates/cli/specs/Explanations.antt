@@ -8,11 +8,10 @@ use Rattle.options.specs.Classes.{AreClasses, IsForced}
 use Rattle.explain.specs.Texts.{IsAllText, IsClassText}
 use Rattle.building.specs.Builds.{patterns_in, text_of}
 use Rattle.building.specs.declared.build.Built.{Built}
-use Rattle.command_line.specs.Requests.{texts}
 use Rattle.command_line.specs.declared.request.Explain.{Explain}
-use Rattle.cli.specs.Builds.{IsBuildOfClassFiles}
 use Rattle.cli.specs.Entries.{entry_names}
-use Rattle.cli.specs.Files.{AreTextsOf, Contents}
+use Rattle.cli.specs.Files.{Contents}
+use Rattle.cli.specs.Requested.{IsAskedBuild}
 
 -- The words are the name of one class, with dots, and this is the given class of that name.
 pub record IsClassOf (P : Tables) (words : List ℕ) (c : ℕ) : Type 0 where
@@ -40,15 +39,8 @@ pub record IsToldBy (answer : Built) (run_time : Option (List ℕ)) (budget : �
 
 -- The class files are built in memory, and this is told of that build, as the words say.
 pub record IsExplained (holds : Contents) (words : Explain) (text : List ℕ) : Type 0 where
-  pub files : List (List ℕ)
-  pub held : AreTextsOf holds (texts words.building.files.items) files
   pub answer : Built
-  pub built : IsBuildOfClassFiles files
-      (record {
-        run_time = words.building.run_time;
-        build_time = words.building.build_time;
-        budget = words.building.budget;
-      }) answer
+  pub asked : IsAskedBuild holds words.building answer
   pub told : IsToldBy answer (text_of words.building.run_time) words.building.budget words.class.now text
 
 -- Such a text went out.

@@ -16,6 +16,7 @@ pub mod Journaled
 pub mod Existence
 pub mod Files
 pub mod Entries
+pub mod Requested
 pub mod Done
 pub mod Outputs
 pub mod Audits

@@ -25,7 +25,7 @@ pub fn linked_program(alloc: Global, files: &[Vec<u8>]) -> Result<Program, Refus
     linked_if_read(alloc, class_files(alloc, files))
 }
 
-/// The same of texts that are let go once they are read.
+/// The program that class files make, which are let go once they are read.
 pub(crate) fn program_of_texts(alloc: Global, files: Vec<Vec<u8>>) -> Result<Program, Refusal>
     ensures program { IfOk result (λ program. IsProgramOf (texts_of files.items) program) }
     ensures refusal { IfErr result (λ refusal. (refusal ≡ Memory) ⊎ NotLinked (texts_of files.items) refusal) }

@@ -6,10 +6,8 @@ ghost use Rattle.explain.specs.Texts.{IsAllText};
 ghost use Rattle.options.specs.Classes.{AreClasses, IsForced};
 ghost use Rattle.report.specs.Waves.{GiveWaves};
 
-use crate::files::contents;
-use crate::requested::{options_of, refusal_of};
-use crate::watching::build_watched;
-use crate::{Building, Explain, Files, Refusal, Stage, Watch, entries_of};
+use crate::requested::asked_build;
+use crate::{Building, Explain, Files, Refusal, Watch, entries_of};
 use building::Built;
 use explain::{all_text, class_text};
 use init_engine::EntryFault;
@@ -34,27 +32,9 @@ pub(crate) fn run<R: Threads + Wait + Sync, F: Files, H: Watch + Sync>(
     ensures explained { IfOk result (λ text. IsExplained (F.holds files.old) words.now text.items) }
     ensures same { F.holds files.new ≡ F.holds files.old }
 {
-    let text = run_watched(rt, alloc, words, files, watch);
-    watch.begin(Stage::Ended);
-    text
-}
-
-fn run_watched<R: Threads + Wait + Sync, F: Files, H: Watch + Sync>(
-    rt: &R,
-    alloc: Global,
-    words: &Explain<'_>,
-    files: &mut F,
-    watch: &H,
-) -> Result<Vec<u8>, Refusal>
-    ensures explained { IfOk result (λ text. IsExplained (F.holds files.old) words.now text.items) }
-    ensures same { F.holds files.new ≡ F.holds files.old }
-{
-    let building = &words.building;
-    watch.begin(Stage::Reading);
-    let texts = contents(alloc, building.files.as_slice(), files, usize::MAX)?;
-    match build_watched(rt, alloc, texts.as_slice(), &options_of(building), watch) {
-        Ok(built) => told(alloc, &built, building, words.class),
-        Err(fault) => Err(refusal_of(alloc, texts.as_slice(), fault)),
+    match asked_build(rt, alloc, &words.building, files, watch) {
+        Ok(built) => told(alloc, &built, &words.building, words.class),
+        Err(refusal) => Err(refusal),
     }
 }
 

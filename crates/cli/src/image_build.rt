@@ -63,23 +63,8 @@ pub fn build_image<G: Gate, R: Threads + Wait + Sync>(
 /// # Errors
 /// The first refusal: a file, the budget, the workers, a class file, linking, a list of patterns, an output, or memory.
 /// A file that is longer than a class file of an image is refused as one that can't be read.
-pub(crate) fn run<R: Threads + Wait + Sync, F: Files, H: Watch + Sync>(
-    rt: &R,
-    alloc: Global,
-    words: &Build<'_>,
-    files: &mut F,
-    watch: &H,
-) -> Result<(), Refusal>
-    requires { IsReportApart words.now }
-    ensures { OnOk result (HasBuilt (F.holds files.old) (F.holds files.new) words.now) }
-{
-    let done = run_watched(rt, alloc, words, files, watch);
-    watch.begin(Stage::Ended);
-    done
-}
-
 #[tactic(auto, using(crate::proofs::OutputLemmas::has_built))]
-fn run_watched<R: Threads + Wait + Sync, F: Files, H: Watch + Sync>(
+pub(crate) fn run<R: Threads + Wait + Sync, F: Files, H: Watch + Sync>(
     rt: &R,
     alloc: Global,
     words: &Build<'_>,

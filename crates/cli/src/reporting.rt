@@ -4,10 +4,8 @@ ghost use Rattle.cli.specs.Done.{IsReport};
 ghost use Rattle.report.specs.Texts.{report_text};
 ghost use Rattle.report.specs.Waves.{GiveWaves};
 
-use crate::files::contents;
-use crate::requested::{options_of, refusal_of};
-use crate::watching::build_watched;
-use crate::{Building, Files, Refusal, Stage, Watch};
+use crate::requested::asked_build;
+use crate::{Building, Files, Refusal, Watch};
 use building::Built;
 use report::render;
 use sinks::Out;
@@ -29,26 +27,9 @@ pub(crate) fn run<R: Threads + Wait + Sync, F: Files, H: Watch + Sync>(
     ensures report { IfOk result (λ bytes. IsReport (F.holds files.old) words.now bytes.items) }
     ensures same { F.holds files.new ≡ F.holds files.old }
 {
-    let report = run_watched(rt, alloc, words, files, watch);
-    watch.begin(Stage::Ended);
-    report
-}
-
-fn run_watched<R: Threads + Wait + Sync, F: Files, H: Watch + Sync>(
-    rt: &R,
-    alloc: Global,
-    words: &Building<'_>,
-    files: &mut F,
-    watch: &H,
-) -> Result<Vec<u8>, Refusal>
-    ensures report { IfOk result (λ bytes. IsReport (F.holds files.old) words.now bytes.items) }
-    ensures same { F.holds files.new ≡ F.holds files.old }
-{
-    watch.begin(Stage::Reading);
-    let texts = contents(alloc, words.files.as_slice(), files, usize::MAX)?;
-    match build_watched(rt, alloc, texts.as_slice(), &options_of(words), watch) {
+    match asked_build(rt, alloc, words, files, watch) {
         Ok(built) => Ok(report_bytes(alloc, &built)?),
-        Err(fault) => Err(refusal_of(alloc, texts.as_slice(), fault)),
+        Err(refusal) => Err(refusal),
     }
 }
 

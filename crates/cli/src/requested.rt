@@ -1,14 +1,18 @@
 //! The build that words ask for, and why it is refused.
-ghost use Rattle.std.specs.Prelude.{◌≡◌};
-ghost use Rattle.cli.specs.Done.{options_of as asked_of};
+ghost use Rattle.std.specs.Prelude.{◌≡◌, IfOk};
+ghost use Rattle.cli.specs.Requested.{IsAskedBuild, options_of as asked_of};
 
 use crate::class_files::linked_program;
-use crate::{Building, Refusal};
-use building::{BuildFault, BuildOptions};
+use crate::files::contents;
+use crate::watching::build_watched;
+use crate::{Building, Files, Refusal, Stage, Watch};
+use building::{BuildFault, BuildOptions, Built};
 use initializer_analysis::verdict::Reason;
 use options::OptionFault;
 use report::reason_text;
 use std::alloc::{AllocError, Global};
+use std::sync::Wait;
+use std::thread::Threads;
 
 /// The options of a build, as the words say.
 pub(crate) fn options_of<'a>(words: &Building<'a>) -> BuildOptions<'a>
@@ -18,6 +22,28 @@ pub(crate) fn options_of<'a>(words: &Building<'a>) -> BuildOptions<'a>
         run_time: words.run_time,
         build_time: words.build_time,
         budget: words.budget,
+    }
+}
+
+/// Reads the class files and builds an image in memory, as the words say, and tells how far it has come.
+///
+/// # Errors
+/// The first refusal: a file, the budget, a class file, linking, a list of patterns, or memory.
+pub(crate) fn asked_build<R: Threads + Wait + Sync, F: Files, H: Watch + Sync>(
+    rt: &R,
+    alloc: Global,
+    words: &Building<'_>,
+    files: &mut F,
+    watch: &H,
+) -> Result<Built, Refusal>
+    ensures build { IfOk result (IsAskedBuild (F.holds files.old) words.now) }
+    ensures same { F.holds files.new ≡ F.holds files.old }
+{
+    watch.begin(Stage::Reading);
+    let texts = contents(alloc, words.files.as_slice(), files, usize::MAX)?;
+    match build_watched(rt, alloc, texts.as_slice(), &options_of(words), watch) {
+        Ok(built) => Ok(built),
+        Err(fault) => Err(refusal_of(alloc, texts.as_slice(), fault)),
     }
 }
 

@@ -39,7 +39,7 @@ pub(crate) fn tell_lazy_stacks<E: Errors>(
     }
 }
 
-/// The same of a run of an image.
+/// Tells where the threads of a run of an image stand, by its schedule, from the entries of a list.
 pub(crate) fn tell_image_stacks<E: Errors>(
     alloc: Global,
     image: &Image,

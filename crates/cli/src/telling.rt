@@ -12,7 +12,7 @@ use crate::meanings::Errors;
 use crate::outputs::Clash;
 use crate::running::send_seen;
 use crate::standing::tell_image_stacks;
-use crate::{Refusal, Replay, Request, RunFault, Status, Watch, WordsFault, thread_lines};
+use crate::{Refusal, Replay, Request, RunFault, Stage, Status, Watch, WordsFault, thread_lines};
 use init_engine::Ending;
 use program::Program;
 use std::alloc::Global;
@@ -96,7 +96,7 @@ pub(crate) fn tell_done<E: Errors>(done: Result<(), Refusal>, errors: &mut E) ->
     }
 }
 
-/// Tells why a build was refused, if it was.
+/// Tells that a build is over, and why it was refused, if it was.
 pub(crate) fn tell_built<E: Errors, H: Watch>(
     alloc: Global,
     built: Result<(), Refusal>,
@@ -106,13 +106,14 @@ pub(crate) fn tell_built<E: Errors, H: Watch>(
     ensures words { result ≢ Status.Words }
     ensures done { IsOver result → (result ≡ Status.Done) × IsOk built }
 {
+    watch.begin(Stage::Ended);
     match built {
         Ok(()) => Status::Done,
         Err(refusal) => refuse_build(alloc, &refusal, watch, errors),
     }
 }
 
-/// Tells what is to be told of a build, or why there is none.
+/// Tells that a build is over, and what is to be told of it, or why there is none.
 pub(crate) fn tell_report<W: Write, E: Errors, H: Watch>(
     alloc: Global,
     report: Result<Vec<u8>, Refusal>,
@@ -125,6 +126,7 @@ pub(crate) fn tell_report<W: Write, E: Errors, H: Watch>(
     ensures done { IsOver result → (result ≡ Status.Done)
         × IsOkAnd report (λ text. Appends (W.contents out.old) (W.contents out.new) text.items) }
 {
+    watch.begin(Stage::Ended);
     match report {
         Ok(report) => tell_text(report.as_slice(), out, errors),
         Err(refusal) => refuse_build(alloc, &refusal, watch, errors),

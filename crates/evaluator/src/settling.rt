@@ -17,9 +17,8 @@ use crate::regions::{Region, Regions};
 use crate::turn::{Turn, take_turn};
 use machine::entering::initializer_frame;
 use program::Program;
-use region_shape::{is_from_file, is_linked};
+use region_shape::{class_is_from_file, program_is_linked};
 use std::alloc::{AllocError, Global};
-use std::mem;
 use vm_state::classes::Fields;
 use vm_state::frame::{FrameList, Segment};
 use vm_state::heap::Row;
@@ -38,69 +37,8 @@ fn constant_region(alloc: Global, program: &Program, class: u32) -> Result<Regio
     })
 }
 
-/// So many instructions are done one by one before a desk is made, whose tables are by the numbers of classes.
-const FEW: u64 = 10_000;
-
-/// Runs frames of an initializer one instruction after the other. It answers how they ended, or how much is left.
-fn run_singly<'a>(
-    alloc: Global,
-    program: &'a Program,
-    regions: &'a Regions,
-    class: u32,
-    store: &mut Build<'a>,
-    segment: &mut Segment,
-    budget: u64,
-    least: u64,
-) -> Result<Progress, AllocError> {
-    let mut left = budget;
-    while left > least {
-        let most = left - 1;
-        match take_turn(alloc, program, regions, class, store, segment, most)? {
-            Turn::On => left = most.saturating_sub(store.made),
-            Turn::Over => return Ok(Progress::Ended(None)),
-            Turn::Stopped(halt) => return Ok(Progress::Ended(Some(halt))),
-        }
-    }
-    Ok(Progress::Left(left))
-}
-
-#[derive(Clone, Copy)]
-enum Progress {
-    Ended(Option<Halt>),
-    Left(u64),
-}
-
-fn run_long<'a>(
-    alloc: Global,
-    program: &'a Program,
-    regions: &'a Regions,
-    class: u32,
-    store: &mut Build<'a>,
-    segment: &mut Segment,
-    budget: u64,
-) -> Result<Option<Halt>, AllocError> {
-    let mut desk = Desk::new(alloc);
-    let mut left = budget;
-    while left > 0 {
-        let none = Region { fields: Fields::new(alloc), objects: Row::new(alloc) };
-        let own = mem::replace(&mut store.own, none);
-        let (own, count) = desk.run(alloc, program, class, own, segment, left)?;
-        store.own = own;
-        left -= count;
-        if left == 0 {
-            break;
-        }
-        let most = left - 1;
-        match take_turn(alloc, program, regions, class, store, segment, most)? {
-            Turn::On => left = most.saturating_sub(store.made),
-            Turn::Over => return Ok(None),
-            Turn::Stopped(halt) => return Ok(Some(halt)),
-        }
-    }
-    Ok(Some(Halt::Refused(Refusal::OverBudget)))
-}
-
-/// Runs the frames of an initializer to their end, as long as their cost is within a budget.
+/// Runs the frames of an initializer to their end, as long as their cost is within a budget: many instructions in a row
+/// where they touch no class but its own, and by itself what is left of them.
 ///
 /// # Errors
 /// `AllocError` where memory is refused.
@@ -116,11 +54,27 @@ fn run_frames<'a>(
     ensures { IfOk result (λ halt. IsEnd (program_of program.now) (environment_of regions.now) class
         (frames_of segment.old) (region_of store.old.own) budget halt (region_of store.new.own)) }
 {
-    let least = budget.saturating_sub(FEW);
-    match run_singly(alloc, program, regions, class, store, segment, budget, least)? {
-        Progress::Ended(halt) => Ok(halt),
-        Progress::Left(left) => run_long(alloc, program, regions, class, store, segment, left),
+    let mut desk = Desk::new(alloc);
+    let mut left = budget;
+    while left > 0 {
+        let done = budget - left;
+        let ahead = desk.run(
+            alloc,
+            program,
+            class,
+            &mut store.own,
+            segment,
+            done,
+            left - 1,
+        )?;
+        let most = left - 1 - ahead;
+        match take_turn(alloc, program, regions, class, store, segment, most)? {
+            Turn::On => left = most.saturating_sub(store.made),
+            Turn::Over => return Ok(None),
+            Turn::Stopped(halt) => return Ok(Some(halt)),
+        }
     }
+    Ok(Some(Halt::Refused(Refusal::OverBudget)))
 }
 
 /// Runs a class's initializer, if it has one.
@@ -201,8 +155,8 @@ pub fn settle(
     ensures whole { IfOk result (λ outcome. IsSettleable program.now (environment_of regions.now) class
         → LeavesWhole program.now (environment_of regions.now) class budget outcome) }
 {
-    is_linked(program);
-    is_from_file(program, class);
+    program_is_linked(program);
+    class_is_from_file(program, class);
     match evaluate(alloc, program, regions, class, budget) {
         Ok(Ending::Settled(region)) => Ok(Outcome::Settled(region)),
         Ok(Ending::Stopped(Halt::Refused(refusal))) => Ok(Outcome::Refused(refusal)),

@@ -16,7 +16,7 @@ pub(crate) struct Blamed {
     pub(crate) others: u32,
 }
 
-/// So many doublings reach the end of a chain of 65,535 classes.
+/// How many doublings reach the end of a chain of 65,535 classes.
 const DOUBLINGS: u32 = 16;
 
 /// The class on which a class depends, or itself.

@@ -134,7 +134,7 @@ fn ends_from(
     Ok(text)
 }
 
-/// The same, if a class uses one that is not accepted.
+/// That line, if a class uses one that is not accepted.
 pub(crate) fn ends_text(
     alloc: Global,
     family: &Family,

@@ -87,7 +87,7 @@ fn path_for(
     Ok(path)
 }
 
-/// The same, if they are asked for.
+/// The calls that lead to a method that may run, if they are asked for.
 fn path_if(
     alloc: Global,
     program: &Program,
@@ -223,7 +223,7 @@ fn search_for(
     }
 }
 
-/// The same, if calls are asked for.
+/// Searches for what may run when a class is initialized, if calls are asked for.
 fn search_if(
     program: &Program,
     uses: &UseGraph,

@@ -44,7 +44,7 @@ fn add_region(
     Ok(())
 }
 
-/// The same, unless it is the region of one class.
+/// Adds a copy of the region that a class has in an image, unless it is one other class.
 fn add_other(
     alloc: Global,
     image: &Image,

@@ -11,10 +11,10 @@ use Rattle.loading.specs.Families.{Family, IsFamily}
 use Rattle.image_format.specs.declared.value.ImageValue.{ImageValue}
 use Rattle.image_format.specs.declared.value.ImageValue.TheVariants as values
 use Rattle.image_format.specs.declared.object.KeptObject.{KeptObject}
-use Rattle.image_format.specs.Objects.{region_in, objects_of, object_of}
-use Rattle.image_format.specs.Reached.{IsReached, AreReached, kept_from}
+use Rattle.image_format.specs.Objects.{object_of}
+use Rattle.image_format.specs.Reached.{kept_from}
 use Rattle.image_format.specs.Images.{IsThere, NeedsAll}
-use Rattle.image_format.proofs.DroppedLemmas.{keeps_of, dropped_of, one_dropped}
+use Rattle.image_format.proofs.DroppedLemmas.{keeps_of, dropped_of}
 use Rattle.image_format.specs.declared.version.Version.{Version}
 use Rattle.image_format.specs.declared.version.Version.TheVariants as versions
 use Rattle.image_parser.specs.declared.fault.MarksFault.{MarksFault}
@@ -25,13 +25,13 @@ use Rattle.image_parser.specs.Regions.{Begins}
 use Rattle.image_parser.specs.MarkFaults.{AreMarks}
 use Rattle.image_parser.specs.Nameless.{SlotsAreThere, MarkNames, IsNameless}
 use Rattle.image_parser.specs.Idle.{IsIdle}
-use Rattle.image_parser.specs.AllRegions.{RegionsText, RegionsFail, IsShown, RegionsRead}
+use Rattle.image_parser.specs.AllRegions.{RegionsText, RegionsFail, IsShown}
 use Rattle.image_parser.specs.AllRegions.RegionsFail.{part as part_fails, extra, name, idle}
 use Rattle.image_parser.specs.TextOrFault.{TextOrFault}
 use Rattle.image_parser.specs.reading.Marks.{Mark, marks_at}
 use Rattle.image_parser.proofs.MarkLawful.{marks_lawful}
 use Rattle.image_parser.proofs.OneOfLemmas.{all_or_first, all_or_not}
-use Rattle.image_parser.proofs.AllRegionsLemmas.{are_marks, all_named, filled, whole_regions, few_regions, left_over}
+use Rattle.image_parser.proofs.AllRegionsLemmas.{are_marks, all_named, filled, whole_regions, left_over}
 use Rattle.image_parser.proofs.AllRegionsLemmas.{is_nameless}
 use Rattle.image_parser.proofs.IdleLemmas.{needed_or_idle, one_idle}
 
@@ -259,26 +259,3 @@ one_of version family bytes fam fits = record {
 pub shown_of : (version : Version) (all : List Mark) → (regions : List Mark) × IsShown version all regions
 shown_of versions.One all = (kept_from (keeps_of all) 0 all, dropped_of all)
 shown_of versions.Two all = (all, refl)
-
-pub one_shown : (version : Version) (all a b : List Mark) → IsShown version all a → IsShown version all b → a ≡ b
-one_shown versions.One all a b s t = one_dropped all a b s t
-one_shown versions.Two all a b s t = s ∙ sym t
-
-pub one_read : (version : Version) (family : Family) (bytes : List ℕ) → IsFamily family → IsBytes bytes
-    → TextOrFault (RegionsRead version family bytes) (RegionsFail version family bytes)
-one_read version family bytes fam fits =
-    let one = one_of version family bytes fam fits in
-    record {
-      some = elim one.some [
-        | inl told ↦
-            let s = shown_of version told.0 in
-            inl (s.0, record { all = told.0; told = told.1; shown = s.1 })
-        | inr fails ↦ inr fails
-      ];
-      not_both = λ regions f r h. one.not_both r.all f r.told h;
-      one_text = λ a b r s.
-          let same : r.all ≡ s.all = one.one_text r.all s.all r.told s.told in
-          let P : List Mark → Type 0 = λ z. IsShown version z a in
-          one_shown version s.all a b (subst P same r.shown) s.shown;
-      one_fault = one.one_fault;
-    }

@@ -1,5 +1,5 @@
 -- Readers of the elements of arrays are lawful.
-use Rattle.std.proofs.Common.{◌≡◌, ℕ, ℤ, pos, negsuc, suc, ◌-◌, ◌<◌, ◌^◌, ◌%◌, ◌/◌, Bool, true, false, ◌&&◌, ltb, []}
+use Rattle.std.proofs.Common.{◌≡◌, ℕ, ℤ, pos, negsuc, suc, ◌-◌, ◌<◌, ◌^◌, ◌%◌, ◌/◌, true, false, ltb, []}
 use Rattle.std.proofs.Common.{◌∷◌, refl, sym, ap, subst, ◌∙◌, arith, inl, inr}
 use Rattle.std.specs.Prelude.{FitsSigned, int_le}
 use Rattle.std.specs.Int.{Width, w8, w16, w32, w64, to_be_bytes, cast_signed, cast_unsigned}
@@ -45,9 +45,6 @@ made_lawful kind w make wide made =
     })
 
 -- ---- ints of a byte, two or four
-
-in_range : (kind : FieldKind) (n : ℤ) → FitsSigned w32 n → is_in_range kind n ≡ true → IsIntOf kind (values.Int n)
-in_range kind n fits is = (fits, is)
 
 made_char : IsMade kinds.Char w16 char_of_bits (2 ^ 16)
 made_char = record {

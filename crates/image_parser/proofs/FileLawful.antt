@@ -362,13 +362,6 @@ files_text count view (Ok y) bytes fits e =
     record { text = t.text; spelled = t.spelled; parts = t.parts }
 files_text count view (Err f) bytes fits e = tt
 
-pub files_only_text : {Y : Type 0} (count : ℕ) (view : Y → List ClassFile × List ℕ) (result : Result Y FilesFault)
-    (bytes : List ℕ) → GivesFile view result (files_at count 0 None bytes) → (files : List ClassFile)
-    (text rest : List ℕ) → AreFiles count files text → bytes ≡ text ++ rest → GivesFile view result (Ok (files, rest))
-files_only_text {Y} count view result bytes g files text rest s parts =
-    let P : Result (List ClassFile × List ℕ) FilesFault → Type 0 = λ z. GivesFile view result z in
-    subst P (ap (files_at count 0 None) parts ∙ (files_lawful count).again files text rest s) g
-
 refused : (count : ℕ) (f : FilesFault) (bytes : List ℕ) → IsBytes bytes → FailsFile f (files_at count 0 None bytes)
     → (f ≡ faults.Memory) ⊎ FilesFail count bytes f
 refused count faults.Memory bytes fits e = inl refl
@@ -381,10 +374,3 @@ pub files_fault : {Y : Type 0} (count : ℕ) (view : Y → List ClassFile × Lis
     → IfErr result (λ f. (f ≡ faults.Memory) ⊎ FilesFail count bytes f)
 files_fault count view (Ok y) bytes fits e = tt
 files_fault count view (Err f) bytes fits e = refused count f bytes fits e
-
-pub files_only_fault : {Y : Type 0} (count : ℕ) (view : Y → List ClassFile × List ℕ) (result : Result Y FilesFault)
-    (bytes : List ℕ) → IsBytes bytes → GivesFile view result (files_at count 0 None bytes) → (f : FilesFault)
-    → FilesFail count bytes f → GivesFile view result (Err f)
-files_only_fault {Y} count view result bytes fits g f h =
-    let P : Result (List ClassFile × List ℕ) FilesFault → Type 0 = λ z. GivesFile view result z in
-    subst P ((files_lawful count).blamed bytes f fits h) g

@@ -76,10 +76,6 @@ read_class index before run file result e h =
 
 -- ---- one after the other
 
-failed : {A B : Type 0} (e : FilesFault) (r : Result A FilesFault) (f : A → Result B FilesFault)
-    (goal : Result B FilesFault) → r ≡ Err e → (r >>= f) ≡ goal → goal ≡ Err e
-failed {A} {B} e r f goal h one = sym one ∙ ap (λ (z : Result A FilesFault). z >>= f) h
-
 abbrev One : Type 0
 One = Result (ClassFile × List ℕ) FilesFault
 

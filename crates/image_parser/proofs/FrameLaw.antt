@@ -2,7 +2,6 @@
 use Rattle.std.proofs.Common.{◌≡◌, ◌≢◌, ℕ, ◌≤◌, ◌-◌, ◌+◌, ◌⊎◌, Bool, true, false, List, ◌++◌, length, take, drop}
 use Rattle.std.proofs.Common.{get_or}
 use Rattle.std.proofs.Common.{refl, sym, ap, ◌∙◌, arith, inl, inr}
-use Rattle.std.specs.Prelude.{Result, Ok, Err, IfOk, IfErr, IsOkAnd}
 use Rattle.std.specs.Str.{bytes_eq}
 use Rattle.std.proofs.lemmas.Bool.{cases_lt}
 use Rattle.std.proofs.lemmas.List.{take_at, drop_at, take-append-drop, length-append}
@@ -178,14 +177,3 @@ one_of bytes = record {
   one_text = one_frame bytes;
   one_fault = one_fault bytes;
 }
-
--- ---- what is answered
-
-pub both_told : {Y : Type 0} (bytes : List ℕ) (view : Y → Version × List ℕ) (result : Result Y HeaderFault)
-    → IfOk result (λ y. IsFramed bytes (view y).0 (view y).1) → IfErr result (HeaderFails bytes) → (v : Version)
-    (parts : List ℕ) → IsFramed bytes v parts
-    → IsOkAnd result (λ y. ((view y).0 ≡ v) × ((view y).1 ≡ parts))
-both_told bytes view (Ok y) ok err v parts framed =
-    let same : view y ≡ (v, parts) = one_frame bytes (view y) (v, parts) ok framed in
-    (ap (λ (z : Version × List ℕ). z.0) same, ap (λ (z : Version × List ℕ). z.1) same)
-both_told bytes view (Err f) ok err v parts framed = absurd (no_fault bytes v parts f framed err)

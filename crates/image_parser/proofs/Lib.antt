@@ -9,7 +9,6 @@ pub mod ObjectLawful
 pub mod ChainLawful
 pub mod ChainLemmas
 pub mod RegionLawful
-pub mod RegionLemmas
 pub mod MarkLemmas
 pub mod MarkLawful
 pub mod NamesLemmas

@@ -1,6 +1,6 @@
 -- Readers of marks are lawful.
 use Rattle.std.proofs.Common.{◌≡◌, ℕ, zero, suc, List, [], ◌++◌, length, Some, None, Result, Ok, Err, refl, sym, ap}
-use Rattle.std.proofs.Common.{subst, ◌∙◌, arith}
+use Rattle.std.proofs.Common.{◌∙◌, arith}
 use Rattle.std.specs.Prelude.{IfOk, IfErr}
 use Rattle.std.specs.Int.{w8}
 use Rattle.classfile.specs.Spelling.{u1}
@@ -129,15 +129,6 @@ marks_text version family fam view (Ok y) bytes fits e =
     record { text = t.text; spelled = t.spelled; parts = t.parts }
 marks_text version family fam view (Err f) bytes fits e = tt
 
-pub marks_only_text : {Y : Type 0} (version : Version) (family : Family) → IsFamily family
-    → (view : Y → List Mark × List ℕ)
-    (result : Result Y MarksFault) (bytes : List ℕ) → GivesIn view result (marks_at version family bytes)
-    → (regions : List Mark) (text rest : List ℕ) → AreMarks version family regions text → bytes ≡ text ++ rest
-    → GivesIn view result (Ok (regions, rest))
-marks_only_text {Y} version family fam view result bytes g regions text rest s parts =
-    let P : Result (List Mark × List ℕ) MarksFault → Type 0 = λ z. GivesIn view result z in
-    subst P (ap (marks_at version family) parts ∙ (marks_lawful version family fam).again regions text rest s) g
-
 refused : (version : Version) (family : Family) → IsFamily family → (f : MarksFault) (bytes : List ℕ) → IsBytes bytes
     → FailsIn f (marks_at version family bytes) → IsMarksFault (MarksFail version family bytes) f
 refused version family fam marks.Memory bytes fits e = tt
@@ -152,12 +143,3 @@ pub marks_fault : {Y : Type 0} (version : Version) (family : Family) → IsFamil
     → IfErr result (λ f. IsMarksFault (MarksFail version family bytes) f)
 marks_fault version family fam view (Ok y) bytes fits e = tt
 marks_fault version family fam view (Err f) bytes fits e = refused version family fam f bytes fits e
-
-pub marks_only_fault : {Y : Type 0} (version : Version) (family : Family) → IsFamily family
-    → (view : Y → List Mark × List ℕ)
-    (result : Result Y MarksFault) (bytes : List ℕ) → IsBytes bytes
-    → GivesIn view result (marks_at version family bytes)
-    → (f : MarksFault) → MarksFail version family bytes f → GivesIn view result (Err f)
-marks_only_fault {Y} version family fam view result bytes fits g f h =
-    let P : Result (List Mark × List ℕ) MarksFault → Type 0 = λ z. GivesIn view result z in
-    subst P ((marks_lawful version family fam).blamed bytes f fits h) g

@@ -133,9 +133,6 @@ number_of tags.Text = 3
 number_of tags.Object = 4
 number_of tags.Out = 5
 
-some_tag : (a b : Tag) → Some a ≡ Some b → a ≡ b
-some_tag a b e = cc
-
 no_tag : (n : ℕ) (tag : Tag) → tag_of (suc (suc (suc (suc (suc (suc n)))))) ≡ Some tag → ⊥
 unfolding tag_of
 no_tag n tag e =

@@ -57,7 +57,7 @@ fn push_if(
     Ok(())
 }
 
-/// Those of the objects of a class whose places are found.
+/// The objects of a class whose places are found.
 fn found_objects(
     alloc: Global,
     found: &PlaceSet,
@@ -105,7 +105,7 @@ fn found_region(
     }
 }
 
-/// The same of all classes.
+/// The regions of all classes, with those objects alone whose places are found.
 fn found_regions(
     alloc: Global,
     found: &PlaceSet,

@@ -14,7 +14,7 @@ use std::alloc::{AllocError, AllocFailed};
 
 /// What is wrong with a region, or that memory ran out.
 #[derive(Clone, Copy, Debug)]
-pub enum RegionFault {
+pub(crate) enum RegionFault {
     Memory,
     /// The bytes end too early.
     Truncated,
@@ -24,7 +24,7 @@ pub enum RegionFault {
 
 /// What is wrong with the marks and regions of an image, or that memory ran out.
 #[derive(Clone, Copy, Debug)]
-pub enum MarksFault {
+pub(crate) enum MarksFault {
     Memory,
     /// The bytes end too early.
     Truncated,
@@ -34,7 +34,7 @@ pub enum MarksFault {
 
 /// What is wrong with all that stands after the class files of an image, or that memory ran out.
 #[derive(Clone, Copy, Debug)]
-pub enum RegionsFault {
+pub(crate) enum RegionsFault {
     Memory,
     Truncated,
     Shape { class: u32 },
@@ -48,7 +48,7 @@ pub enum RegionsFault {
 
 /// What is wrong with the class files of an image, or that memory ran out.
 #[derive(Debug, Drop)]
-pub enum FilesFault {
+pub(crate) enum FilesFault {
     Memory,
     /// The bytes end too early.
     Truncated,
@@ -79,7 +79,7 @@ impl<T: Drop> From<AllocFailed<T>> for FilesFault {
 }
 
 impl MarksFault {
-    /// The same of all that stands after the class files.
+    /// The fault that it is of all that stands after the class files.
     pub(crate) fn among_regions(self) -> RegionsFault
         ensures { result ≡ among_regions self }
     {
@@ -92,7 +92,7 @@ impl MarksFault {
 }
 
 impl RegionFault {
-    /// The same of a run of bytes that is to be a class file.
+    /// The fault that it is of a run of bytes that is to be a class file.
     pub(crate) fn of_run(self) -> FilesFault
         ensures { result ≡ of_run self }
     {
@@ -103,7 +103,7 @@ impl RegionFault {
         }
     }
 
-    /// The same of the mark and the region of a class.
+    /// The fault that it is of the mark and the region of a class.
     pub(crate) fn inside(self, class: u32) -> MarksFault
         ensures { result ≡ inside class self }
     {

@@ -1,9 +1,7 @@
 //! The class files of an image.
 
-ghost use Rattle.std.specs.Prelude.{◌≡◌, ◌++◌, ◌⊎◌, ℕ, List, None, Ok, Err, IfOk, IfErr};
-ghost use Rattle.classfile.specs.ClassFile.{ClassFile as File};
+ghost use Rattle.std.specs.Prelude.{◌≡◌, ◌⊎◌, None, Ok, Err, IfOk, IfErr};
 ghost use Rattle.loading.specs.Names.{name_of};
-ghost use Rattle.image_parser.specs.declared.fault.FilesFault.{FilesFault as Fault};
 ghost use Rattle.image_parser.specs.declared.fault.FilesFault.TheVariants.{Memory};
 ghost use Rattle.image_parser.specs.FileFaults.{AreFiles, FilesFail, GivesFile};
 ghost use Rattle.image_parser.specs.Regions.{Begins};
@@ -88,7 +86,7 @@ fn file_at<'a>(
     Ok((file, rest))
 }
 
-/// So many class files.
+/// A number of class files.
 fn files_at(alloc: Global, count: u32, bytes: &[u8]) -> Result<(Vec<ClassFile>, &[u8]), FilesFault>
     ensures { GivesFile (λ x. (x.0.items, x.1.now)) result (files_at count 0 None bytes.now) }
 {
@@ -107,21 +105,13 @@ fn files_at(alloc: Global, count: u32, bytes: &[u8]) -> Result<(Vec<ClassFile>, 
 ///
 /// # Errors
 /// The fault of the first class file that fails, or `Memory` where memory runs out.
-pub fn read_files(
+pub(crate) fn read_files(
     alloc: Global,
     count: u32,
     bytes: &[u8],
 ) -> Result<(Vec<ClassFile>, &[u8]), FilesFault>
-    // What is accepted is the text of the class files that are answered.
     ensures text { IfOk result (λ x. Begins (AreFiles count) bytes.now x.0.items x.1.now) }
-    // Every text of so many class files is accepted as those, unless memory runs out.
-    ensures only_text { (files : List File) (text rest : List ℕ) → AreFiles count files text → bytes.now ≡ text ++ rest
-        → GivesFile {Y = List File × List ℕ} (λ x. (x.0.items, x.1.now)) result (Ok (files, rest)) }
-    // What is refused is refused for the first class file that fails, or because memory runs out.
     ensures fault { IfErr result (λ x. (x ≡ Memory) ⊎ FilesFail count bytes.now x) }
-    // Everything else is refused for the first class file that fails, unless memory runs out.
-    ensures only_fault { (x : Fault) → FilesFail count bytes.now x
-        → GivesFile {Y = List File × List ℕ} (λ x. (x.0.items, x.1.now)) result (Err x) }
 {
     files_at(alloc, count, bytes)
 }

@@ -1,21 +1,19 @@
 //! What stands round the parts of an image: its magic number, its version, its digest.
 
-ghost use Rattle.std.specs.Prelude.{◌≡◌, ◌≢◌, ℕ, List, Err, IfOk, IfErr, IsOkAnd, MatchOption};
+ghost use Rattle.std.specs.Prelude.{◌≡◌, ◌≢◌, Err, IfOk, IfErr, MatchOption};
 ghost use Rattle.std.specs.Bool.{Decides};
 ghost use Rattle.sha2.specs.Sha256.{sha256};
 ghost use Rattle.classfile.specs.Spelling.{u2};
 ghost use Rattle.image_format.specs.declared.version.Version.{Version as Format};
-ghost use Rattle.image_parser.specs.declared.header.HeaderFault.{HeaderFault as Fault};
 ghost use Rattle.image_format.specs.Texts.{version_number};
-ghost use Rattle.image_parser.specs.HeaderFaults.{HeaderFails, IsFramed, IsFrame};
-ghost use Rattle.image_parser.specs.TextOrFault.{TextOrFault};
+ghost use Rattle.image_parser.specs.HeaderFaults.{HeaderFails, IsFramed};
 
 use image_format::version::Version;
 use sha2::{Digest, Sha256};
 
 /// What is wrong with bytes as an image before its parts are looked into.
 #[derive(Clone, Copy, Debug)]
-pub enum HeaderFault {
+pub(crate) enum HeaderFault {
     /// There are fewer than 42 bytes.
     Truncated,
     /// They do not begin with `JPIM`.
@@ -61,27 +59,7 @@ fn version_of(number: &[u8]) -> Option<Version>
 ///
 /// # Errors
 /// The first of these that holds: fewer than 42 bytes, another magic number, another version, another digest.
-pub fn parts_of(bytes: &[u8]) -> Result<(Version, &[u8]), HeaderFault>
-    // What is answered is framed by the rest of the bytes.
-    ensures parts { IfOk result (λ x. IsFramed bytes.now x.0 x.1.now) }
-    // Of bytes that frame anything that is answered.
-    ensures only_parts { (version : Format) (parts : List ℕ) → IsFramed bytes.now version parts
-        → IsOkAnd result (λ x. (x.0 ≡ version) × (x.1.now ≡ parts)) }
-    // What is refused is refused for what is wrong first.
-    ensures fault { IfErr result (HeaderFails bytes.now) }
-    // Everything else is refused for what is wrong first.
-    ensures only_fault { (x : Fault) → HeaderFails bytes.now x → result ≡ Err x }
-{
-    framed_in(bytes)
-}
-
-/// Bytes frame the parts of an image or have one fault, and never both.
-pub fn frame_or_fault()
-    ensures { (bytes : List ℕ) → TextOrFault (IsFrame bytes) (HeaderFails bytes) }
-{}
-
-/// The version, and what stands between it and the digest.
-fn framed_in(bytes: &[u8]) -> Result<(Version, &[u8]), HeaderFault>
+pub(crate) fn parts_of(bytes: &[u8]) -> Result<(Version, &[u8]), HeaderFault>
     ensures parts { IfOk result (λ x. IsFramed bytes.now x.0 x.1.now) }
     ensures fault { IfErr result (HeaderFails bytes.now) }
 {

@@ -102,7 +102,7 @@ fn of_parts(alloc: Global, version: Version, parts: &[u8]) -> Result<Parsed, Ima
     }
 }
 
-/// The same of these class files.
+/// What the parts of an image say that begin with these class files.
 fn of_files(
     alloc: Global,
     version: Version,
@@ -122,7 +122,7 @@ fn of_files(
     }
 }
 
-/// The same of this program.
+/// What the parts of an image say whose class files make this program.
 fn of_program(
     alloc: Global,
     version: Version,

@@ -74,7 +74,7 @@ fn class_name(alloc: Global, family: &Family, class: u32) -> Result<ClassName, A
 }
 
 impl ImageFault {
-    /// The same of what stands round the parts.
+    /// The fault of an image that one of its frame is.
     pub(crate) fn of_header(fault: HeaderFault) -> ImageFault
         ensures { result ≡ of_header fault }
     {
@@ -86,7 +86,7 @@ impl ImageFault {
         }
     }
 
-    /// The same of the class files.
+    /// The fault of an image that one of its class files is.
     pub(crate) fn of_files(fault: FilesFault) -> ImageFault
         ensures { result ≡ of_files fault }
     {
@@ -98,7 +98,7 @@ impl ImageFault {
         }
     }
 
-    /// The same of the program that the class files are to make.
+    /// The fault of an image that one of linking its class files is.
     pub(crate) fn of_link(fault: LinkFault) -> ImageFault
         ensures { result ≡ of_link fault }
     {
@@ -108,7 +108,7 @@ impl ImageFault {
         }
     }
 
-    /// The same of all that stands after the class files of a family. `Memory` where there is none for a name.
+    /// The fault of an image that one of its marks and regions is. `Memory` where there is none for a class's name.
     pub(crate) fn of_regions(alloc: Global, family: &Family, fault: RegionsFault) -> ImageFault
         ensures { (result ≡ Memory) ⊎ (result ≡ of_regions family.now fault) }
     {

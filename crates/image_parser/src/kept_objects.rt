@@ -103,7 +103,7 @@ fn many_at(version: Version, count: u32, bytes: &[u8]) -> Result<(u32, &[u8]), R
     }
 }
 
-/// So many objects. No room is asked for beyond what the bytes that are left can hold.
+/// A number of objects. No room is asked for beyond what the bytes that are left can hold.
 #[tactic(auto, unfolding(crate::specs::reading::Objects::so_many_at))]
 fn so_many_at<'a>(
     alloc: Global,

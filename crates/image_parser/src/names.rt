@@ -79,7 +79,7 @@ fn names_objects(regions: &[Option<ImageRegion>], region: &ImageRegion) -> bool
         && slots_are_there(regions, region.objects.as_slice())
 }
 
-/// The same of the region of a class, if it has one.
+/// Whether the region of a class, if it has one, names objects alone that there are.
 fn mark_names(regions: &[Option<ImageRegion>], mark: &Option<ImageRegion>) -> bool
     requires { AllRise regions.now }
     ensures { Decides result (MarkNames regions.now mark.now) }
@@ -91,7 +91,7 @@ fn mark_names(regions: &[Option<ImageRegion>], mark: &Option<ImageRegion>) -> bo
 }
 
 /// The least class whose region names an object that there is not.
-pub fn nameless(regions: &[Option<ImageRegion>]) -> Option<usize>
+pub(crate) fn nameless(regions: &[Option<ImageRegion>]) -> Option<usize>
     requires { AllRise regions.now }
     ensures { MatchOption result (All (MarkNames regions.now) regions.now) (IsNameless regions.now) }
 {

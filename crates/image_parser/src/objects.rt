@@ -150,7 +150,7 @@ fn count_at(bytes: &[u8]) -> Result<(u32, &[u8]), RegionFault>
     }
 }
 
-/// So many elements. No room is asked for beyond the bytes that are left.
+/// A number of elements. No room is asked for beyond the bytes that are left.
 #[tactic(auto, unfolding(crate::specs::reading::Objects::elements_at))]
 fn elements_at(
     alloc: Global,

@@ -1,22 +1,16 @@
 //! All that stands after the class files.
 
-ghost use Rattle.std.specs.Prelude.{◌≡◌, ◌↔◌, ◌≤◌, ◌⊎◌, [], ℕ, List, Option, Ok, Err, length, IfOk, IfErr};
+ghost use Rattle.std.specs.Prelude.{◌≡◌, ◌↔◌, ◌≤◌, ◌⊎◌, [], Ok, Err, length, IfOk, IfErr};
 ghost use Rattle.std.specs.Bool.{Decides};
 ghost use Rattle.std.specs.List.{All, Contains};
 ghost use Rattle.place_set.specs.declared.set.Place.{Place as Found};
-ghost use Rattle.classfile.specs.Faults.{IsBytes};
-ghost use Rattle.loading.specs.Families.{Family as Classes, IsFamily};
-ghost use Rattle.image_format.specs.declared.region.ImageRegion.{ImageRegion as Held};
-ghost use Rattle.image_format.specs.declared.version.Version.{Version as Format};
 ghost use Rattle.image_format.specs.declared.version.Version.TheVariants.{One, Two};
-ghost use Rattle.image_parser.specs.declared.fault.RegionsFault.{RegionsFault as Fault};
 ghost use Rattle.image_parser.specs.declared.fault.RegionsFault.TheVariants.{Memory};
 ghost use Rattle.image_parser.specs.Regions.{Begins};
 ghost use Rattle.image_parser.specs.MarkFaults.{AreMarks};
-ghost use Rattle.image_parser.specs.AllRegions.{RegionsText, RegionsFail, RegionsRead};
+ghost use Rattle.image_parser.specs.AllRegions.{RegionsFail, RegionsRead};
 ghost use Rattle.image_parser.specs.Nameless.{MarkNames};
 ghost use Rattle.image_parser.specs.reading.Reaching.{IsReachedAt};
-ghost use Rattle.image_parser.specs.TextOrFault.{TextOrFault};
 
 use crate::dropping::{first_idle, without_idle};
 use crate::fault::RegionsFault;
@@ -34,38 +28,10 @@ use std::alloc::Global;
 ///
 /// # Errors
 /// The first fault of a part, in order; then `Extra`; then the least class that names an object that there is not;
-/// then,
-/// in version 2, the least class that keeps an object which no static field reaches. `Memory` where memory runs out.
-pub fn read_regions(
-    alloc: Global,
-    version: Version,
-    program: &Program,
-    bytes: &[u8],
-) -> Result<ImageRegions, RegionsFault>
-    // What is accepted is the text of regions, of which those that are answered are shown.
-    ensures text { IfOk result (λ regions. RegionsRead version program.now.family bytes.now regions) }
-    // Every text of regions of the classes is accepted, unless memory runs out.
-    ensures only_text { (regions : List (Option Held)) → RegionsRead version program.now.family bytes.now regions
-        → (result ≡ Ok regions) ⊎ (result ≡ Err Memory) }
-    // What is refused is refused for what is wrong first, or because memory runs out.
-    ensures fault { IfErr result (λ x. (x ≡ Memory) ⊎ RegionsFail version program.now.family bytes.now x) }
-    // Everything else is refused for what is wrong first, unless memory runs out.
-    ensures only_fault { (x : Fault) → RegionsFail version program.now.family bytes.now x
-        → (result ≡ Err x) ⊎ (result ≡ Err Memory) }
-{
-    let _classes = program.family().classes();
-    regions_of(alloc, version, program, bytes)
-}
-
-/// Bytes are the text of the marks and regions of a program's classes or have one fault, and never both.
-pub fn regions_or_fault()
-    ensures { (version : Format) (family : Classes) (bytes : List ℕ) → IsFamily family → IsBytes bytes
-        → TextOrFault (RegionsText version family bytes) (RegionsFail version family bytes) }
-{}
-
-/// The marks and regions of all classes, which fill the bytes.
+/// then, in version 2, the least class that keeps an object which no static field reaches. `Memory` where memory runs
+/// out.
 #[tactic(auto, using(crate::proofs::AllRegionsLemmas::among))]
-fn regions_of(
+pub(crate) fn read_regions(
     alloc: Global,
     version: Version,
     program: &Program,
@@ -121,7 +87,8 @@ fn whole(
     }
 }
 
-/// The same of regions that fill the bytes, and whose names are those of objects that there are.
+/// Regions that fill the bytes, and whose names are those of objects that there are, if in version 2 each object is
+/// reached.
 fn shown(
     alloc: Global,
     version: Version,

@@ -20,7 +20,7 @@ fn value_fits(_value: Value)
     ensures { FitsType _value }
 {}
 
-/// So do those in these slots.
+/// The numbers of the values in slots fit.
 #[inline(always)]
 fn values_fit(slots: &Slots)
     ensures { All FitsType slots.now }
@@ -33,7 +33,7 @@ fn values_fit(slots: &Slots)
     }
 }
 
-/// Those of the first so many static fields.
+/// The numbers of the values of the first static fields fit.
 fn fields_fit(fields: &Fields, count: u32)
     ensures { (k : ℕ) → k < count → FitsType (field_in fields.now k) }
 {
@@ -42,7 +42,7 @@ fn fields_fit(fields: &Fields, count: u32)
     }
 }
 
-/// Those in objects.
+/// The numbers of the values in objects fit.
 fn objects_fit(objects: &Row)
     ensures { All (λ (o : ℕ × Held). All FitsType o.1.slots) objects.now.objects }
 {
@@ -54,7 +54,7 @@ fn objects_fit(objects: &Row)
     }
 }
 
-/// Those in the region of a class, if it is initialized.
+/// The numbers of the values in the region of a class fit, if it is initialized.
 fn class_fits(image: &Image, class: u32)
     ensures { ClassFits image.now.program (environment_of image.now.regions) class }
 {
@@ -64,7 +64,7 @@ fn class_fits(image: &Image, class: u32)
     }
 }
 
-/// Those in the regions of all classes.
+/// The numbers of the values in the regions of all classes fit.
 pub(crate) fn classes_fit(image: &Image)
     ensures { (c : ℕ) → c < length image.now.program.family
         → ClassFits image.now.program (environment_of image.now.regions) c }

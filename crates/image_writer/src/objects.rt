@@ -93,7 +93,7 @@ fn name_of_array(alloc: Global, program: &Program, array: ArrayType) -> Result<V
     }
 }
 
-/// So many dimensions of a class of this name.
+/// The descriptor of arrays of a number of dimensions, over a class of this name.
 fn name_of_unknown(alloc: Global, dimensions: u8, class: &[u8]) -> Result<Vec<u8>, AllocError>
     ensures { IfOk result (λ name. name.items ≡ replicate dimensions 91 ++ object_type class.now) }
 {

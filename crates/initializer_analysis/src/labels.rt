@@ -39,7 +39,7 @@ fn unless(label: Option<u32>, other: Option<u32>) -> Option<u32>
 }
 
 impl Least {
-    /// Those of no labels.
+    /// The least of no labels.
     pub(crate) fn none() -> Least
         ensures { AreLeast (λ l. ⊥) result }
     {
@@ -49,7 +49,7 @@ impl Least {
         }
     }
 
-    /// Those of one label.
+    /// The least of one label.
     pub(crate) fn one(label: u32) -> Least
         ensures { AreLeast (λ l. l ≡ label) result }
     {
@@ -59,7 +59,7 @@ impl Least {
         }
     }
 
-    /// Those of a label, if it is there.
+    /// The least of a label, if it is there.
     pub(crate) fn of(label: Option<u32>) -> Least
         ensures { AreLeast (λ l. label ≡ Some l) result }
     {
@@ -76,7 +76,7 @@ impl Least {
         lesser(unless(self.first, other), unless(self.second, other))
     }
 
-    /// Those of the labels of both.
+    /// The least of the labels of both.
     pub(crate) fn join(self, other: Least) -> Least
         ensures { AreLeast (λ l. IsOf self l ⊎ IsOf other l) result }
     {
@@ -88,7 +88,7 @@ impl Least {
         Least { first, second }
     }
 
-    /// Those of these and one more label.
+    /// The least of these and one more label.
     pub(crate) fn add(self, label: u32) -> Least
         ensures { AreLeast (λ l. IsOf self l ⊎ (l ≡ label)) result }
     {

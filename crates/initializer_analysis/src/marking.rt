@@ -53,7 +53,7 @@ fn labels_told(told: &[Told], mark: Mark) -> Least
     least
 }
 
-/// Those of what is told of the method of a vertex, if it is one.
+/// The least labels of what is told of the method of a vertex, if it is one.
 fn labels_at(uses: &UseGraph, vertex: usize, mark: Mark) -> Least
     ensures { AreLeast (IsMarkedBy uses.now.bodies.items mark vertex) result }
 {
@@ -63,7 +63,7 @@ fn labels_at(uses: &UseGraph, vertex: usize, mark: Mark) -> Least
     }
 }
 
-/// Those of each vertex of the calls.
+/// The least labels of what is told of the method of each vertex of the calls.
 fn own_marks(alloc: Global, uses: &UseGraph, mark: Mark) -> Result<Vec<Least>, AllocError>
     requires { length uses.now.bodies.items ≤ length uses.now.calls }
     ensures len { IfOk result (λ own. length own.items ≡ length uses.now.calls) }

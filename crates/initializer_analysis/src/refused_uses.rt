@@ -59,7 +59,7 @@ fn refused_at(uses: &UseGraph, vertex: usize, limit: u32, refused: &[bool]) -> L
     }
 }
 
-/// Those of each vertex of the calls.
+/// The least refused classes that the method of each vertex of the calls needs.
 fn own_refused(
     alloc: Global,
     uses: &UseGraph,
@@ -114,7 +114,7 @@ fn first_refused_by(
     }
 }
 
-/// The same, of each given class.
+/// The first refused class that each given class uses.
 fn first_of_each(
     alloc: Global,
     program: &Program,

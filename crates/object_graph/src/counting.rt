@@ -29,7 +29,7 @@ pub(crate) fn static_count(program: &Program, class: u32) -> u32
     }
 }
 
-/// The same of a class, whose file is this.
+/// How many static fields with values a class has whose file is this.
 fn declared_count(program: &Program, class: u32, file: &ClassFile) -> u32
     requires program { IsProgram program.now }
     requires file { file_in program.now.family class ≡ Some file.now }

@@ -25,7 +25,7 @@ fn push_if(
     Ok(())
 }
 
-/// Those of the objects of a class whose places are found.
+/// The objects of a class whose places are found.
 fn found_objects(
     alloc: Global,
     found: &PlaceSet,

@@ -1,11 +1,11 @@
 -- Marks along superclasses.
-use Rattle.std.proofs.Common.{◌≡◌, ℕ, zero, suc, ◌+◌, ◌<◌, ◌≤◌, ◌⊎◌, inl, inr, Bool, true, false, List, [], ◌∷◌, length}
-use Rattle.std.proofs.Common.{take, Some, slice_get, refl, sym, ap, ◌∙◌, subst, arith, get_or, IsTrue}
-use Rattle.std.specs.List.{All, Contains}
+use Rattle.std.proofs.Common.{◌≡◌, ℕ, zero, suc, ◌+◌, ◌<◌, ◌≤◌, ◌⊎◌, inl, inr, Bool, List, [], ◌∷◌, length}
+use Rattle.std.proofs.Common.{take, Some, slice_get, refl, sym, ◌∙◌, subst, arith}
+use Rattle.std.specs.List.{Contains}
 use Rattle.std.proofs.lemmas.Bool.{cases_lt}
 use Rattle.std.proofs.lemmas.List.{take_all}
 use Rattle.std.proofs.lemmas.List.Elements.{Contains-append_right}
-use Rattle.loading.specs.Families.{Family, superclasses_in, interfaces_in, parents_in, IsParentsFirst}
+use Rattle.loading.specs.Families.{Family, superclasses_in, interfaces_in, IsParentsFirst}
 use Rattle.loading.proofs.FamiliesParentLemmas.{no_superclasses}
 use Rattle.options.specs.Classes.{IsOnChain, itself, up, IsAtOrBelow, IsAtOrAbove, AreClasses}
 use Rattle.options.specs.steps.Marks.{IsMarked, Grow, HasMarkedSuperclass, AreBelow, AreAbove}
@@ -29,11 +29,6 @@ has_superclass family class parent held = elim (cases_lt class (length family)) 
   | inr past ↦
       absurd (none_in parent (subst (λ (ds : List ℕ). Contains ds parent) (no_superclasses family class past) held))
 ]
-
-chain_within : (family : Family) (above class : ℕ) → above < length family → IsOnChain family above class
-    → class < length family
-chain_within family above _ small itself = small
-chain_within family above _ small (up {class} {parent} held rest) = has_superclass family class parent held
 
 -- a class's superclass stands before it
 parent_before : (family : Family) (order : List ℕ) (i class parent : ℕ) → IsParentsFirst family order

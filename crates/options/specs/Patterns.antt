@@ -1,5 +1,5 @@
 -- Which names a pattern matches.
-use Rattle.std.specs.Prelude.{◌≡◌, ℕ, ◌==◌, List, ◌∷◌, ◌++◌, map, if◌then◌else◌}
+use Rattle.std.specs.Prelude.{◌≡◌, ℕ, ◌==◌, List, ◌∷◌, ◌++◌, map}
 use Rattle.std.specs.List.{flat_map}
 use Rattle.std.specs.Str.{chars}
 use Rattle.std.specs.Char.Escape.{encode_utf16}
@@ -22,7 +22,3 @@ spelled text = units_text (flat_map encode_utf16 (chars text))
 pub data IsIn (outer name : List ℕ) : Type 0 where
   whole : name ≡ outer → IsIn outer name
   within : (rest : List ℕ) → name ≡ outer ++ 46 ∷ rest → IsIn outer name
-
--- a pattern, as UTF-8, matches the name of a class, as class files spell it
-abbrev pub Matches : List ℕ → List ℕ → Type 0
-Matches pattern name = IsIn (spelled pattern) (dotted name)

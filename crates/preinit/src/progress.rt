@@ -119,7 +119,8 @@ impl<E: Write> State<E> {
         self.to.flush()
     }
 
-    /// What the build is at, in words that follow 'while'. Of several classes at work it is the one that was begun last.
+    /// What the build is at, in words that follow 'while'. Of several classes at work it is the one that was begun
+    /// last.
     fn work(&self, alloc: Global) -> Result<String, AllocError> {
         match self.stage {
             Stage::Reading => String::from_str(alloc, "reading class files"),

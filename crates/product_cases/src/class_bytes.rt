@@ -35,7 +35,7 @@ pub fn number(word: &str) -> usize {
     word.parse().unwrap_or(0)
 }
 
-/// So many bytes from an offset on, or as many as there are.
+/// A number of bytes from an offset on, or as many as there are.
 fn slice_of(bytes: &[u8], offset: usize, length: usize) -> &[u8] {
     let rest = bytes.get(offset..).unwrap_or(&[]);
     rest.get(..length).unwrap_or(rest)

@@ -23,7 +23,7 @@ pub fn built<R: Threads + Wait + Sync>(
     built_by(rt, alloc, "build --out image", files)
 }
 
-/// The same by these words, which the names of the files follow.
+/// The image of class files, by these words, which the names of the files follow.
 fn built_by<R: Threads + Wait + Sync>(
     rt: &R,
     alloc: Global,

@@ -134,7 +134,7 @@ pub fn shown(alloc: Global, program: &Program, entry: &str) -> Result<String, Al
     }
 }
 
-/// The same, from a world.
+/// What a run by turns from a world prints, and then how each thread stands, on a line.
 pub fn shown_after(alloc: Global, program: &Program, world: World) -> Result<String, AllocError> {
     match turns(alloc, program, world, 100_000_000) {
         Ok((world, _)) => shown_of(alloc, &world),

@@ -64,7 +64,7 @@ pub fn scheduled(alloc: Global, program: &Program, about: &str) -> Result<String
     }
 }
 
-/// The same, from a world.
+/// The steps of a schedule from a world, and what is seen then.
 pub fn scheduled_on(
     alloc: Global,
     program: &Program,
@@ -87,7 +87,7 @@ pub fn scheduled_on(
     Ok(text)
 }
 
-/// So many steps of a thread, up to the first turn in which it has none, which is told.
+/// A number of steps of a thread, up to the first turn in which it has none, which is told.
 fn add_steps(
     alloc: Global,
     text: &mut String,

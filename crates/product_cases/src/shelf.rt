@@ -107,7 +107,7 @@ impl Shelf {
         self.add_file(names, &bytes)
     }
 
-    /// The same of the bytes of a class file.
+    /// Adds the bytes of a class file, and its name to a text, with a space before it. It is named by its place.
     pub fn add_file(&mut self, names: &mut String, bytes: &[u8]) -> Result<(), AllocError> {
         let place = self.files.len();
         let name = format!(in self.alloc; "{place}.class")?;

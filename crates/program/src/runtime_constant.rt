@@ -26,6 +26,7 @@ pub enum FieldKind {
 
 impl FieldKind {
     /// What narrowing an int to the type of a field gives (JVMS 2.11.4).
+    #[inline(always)]
     pub(crate) fn narrowed(self, number: i32) -> i32
         ensures { result ≡ narrowed self number }
     {

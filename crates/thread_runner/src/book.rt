@@ -103,7 +103,7 @@ impl<O: Origin> Book<O> {
     }
 
     /// Whether the journal has as many steps as it may.
-    pub fn is_full(&self) -> bool
+    pub(crate) fn is_full(&self) -> bool
         ensures yes { result ≡ true → self.now.past.limit ≤ steps_of self.now.past }
         ensures no { result ≡ false → steps_of self.now.past < self.now.past.limit }
     {
@@ -263,7 +263,7 @@ impl<O: Origin> Book<O> {
     }
 }
 
-/// Those of the first classes that are initialized in a world.
+/// Which of the first classes are initialized in a world.
 fn initialized_in(alloc: Global, world: &World, count: u32) -> Result<DoneSet, AllocError>
     requires { count ≤ 65535 }
     ensures sound { IfOk result (λ done. AreDone done (world_of world.now).shared) }

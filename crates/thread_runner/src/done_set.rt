@@ -39,7 +39,7 @@ impl DoneSet {
         DoneSet { marks: Some(marks) }
     }
 
-    /// The same set.
+    /// A copy of the set.
     ///
     /// # Errors
     /// `AllocError` where memory is refused.

@@ -127,7 +127,7 @@ pub(crate) fn stretch_on<O: Origin>(
     }
 }
 
-/// The same of a thread that may have no frame: then there is none.
+/// Runs up to 1,023 local instructions of a thread on its innermost frame, if it has one. Else there is no stretch.
 ///
 /// # Errors
 /// `AllocError` where memory is refused.

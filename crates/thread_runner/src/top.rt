@@ -46,7 +46,7 @@ fn put_caller(callers: &mut FrameList, frame: Frame) -> bool
     }
 }
 
-/// The same frames, the outermost first.
+/// Frames in the other order, the outermost first.
 ///
 /// # Errors
 /// `AllocError` where memory is refused.

@@ -50,7 +50,7 @@ fn selects_left_out(
     Ok(has_left_out(program, &like))
 }
 
-/// The same, asked once for each method of a number.
+/// Whether a native or synchronized method is declared so, asked once for each method of a number.
 fn selects_left_out_once(
     alloc: Global,
     program: &Program,

@@ -69,7 +69,7 @@ fn number_all(
 }
 
 impl MethodNumbers {
-    /// Those of a program: all methods that its classes declare.
+    /// Numbers all methods that the classes of a program declare.
     ///
     /// # Errors
     /// Where memory runs out.

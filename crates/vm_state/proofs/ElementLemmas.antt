@@ -1,5 +1,5 @@
 -- Values in a row.
-use Rattle.std.proofs.Common.{◌≡◌, ◌<◌, ◌∷◌, [], ℕ, zero, suc, map, replicate, length, get_or, List, refl, ap, arith}
+use Rattle.std.proofs.Common.{◌≡◌, ◌<◌, ◌∷◌, [], ℕ, zero, suc, map, replicate, List, refl, ap, arith}
 use Rattle.std.specs.List.{All}
 use Rattle.vm_state.specs.Values.{IsNumber}
 use Rattle.vm_state.specs.declared.value.Value.{Value}

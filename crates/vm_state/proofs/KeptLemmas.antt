@@ -1,5 +1,6 @@
 -- Objects as a row keeps them: their numbers, their monitors, and changes.
-use Rattle.std.proofs.Common.{◌≡◌, ◌<◌, ◌≤◌, ◌+◌, ◌-◌, ◌⊎◌, ℕ, zero, suc, true, false, List, [], ◌∷◌, ◌++◌, Option, Some, None}
+use Rattle.std.proofs.Common.{◌≡◌, ◌<◌, ◌≤◌, ◌+◌, ◌-◌, ◌⊎◌, ℕ, zero, suc, true, false, List, [], ◌∷◌, ◌++◌, Option}
+use Rattle.std.proofs.Common.{Some, None}
 use Rattle.std.proofs.Common.{length, get_or, slice_get, slice_set, refl, sym, subst, ap, ◌∙◌, ◌==◌, eqb-true, inl, inr}
 use Rattle.std.proofs.Common.{if◌then◌else◌, take, arith}
 use Rattle.std.specs.Prelude.{IsSome, option_map}
@@ -10,7 +11,6 @@ use Rattle.std.proofs.lemmas.Option.{get_or_from_slice_get, slice_get-get_or, sl
 use Rattle.vm_state.specs.declared.object.Object.{Object}
 use Rattle.vm_state.specs.declared.object.Monitor.{Monitor}
 use Rattle.vm_state.specs.declared.object.Monitor.TheVariants.{Free}
-use Rattle.vm_state.specs.declared.value.Value.{Value}
 use Rattle.built_in.specs.declared.class_id.ClassId.TheVariants.{Given}
 use Rattle.vm_state.specs.declared.kept.Kept.{Kept}
 use Rattle.vm_state.specs.Objects.{AscendsFrom, kept_of, numbered_kept, object_in, or_later}
@@ -201,7 +201,8 @@ none_found w ns ks count place k all up before after other =
           omega (arith, is, before i 0 first within))
           (λ d inside.
           let within : place < length ns = omega (arith, inside, all, length_objects w ns ks all) in
-          let is : (get_or (objects_of w ns ks) place d).0 ≡ get_or ns place 0 = number_of w ns ks place 0 d all within in
+          let is : (get_or (objects_of w ns ks) place d).0 ≡ get_or ns place 0 = number_of w ns ks place 0 d all
+          within in
           omega (arith, is, after 0 within))
 
 pub found_kept : (w : List (ℕ × Monitor)) (ns : List ℕ) (ks : List Kept) (count p n : ℕ) →
@@ -332,7 +333,8 @@ owner_changed v w ns ks n m set i = elim (tested (i == n)) [
       let same : i ≡ n = eqb-true i n e in
       let now : monitor_in w i ≡ (if i == n then m else monitor_in v i) = set i in
       let there : monitor_in w i ≡ m = rw e at now in
-      let owned : object_in (objects_of w ns ks) i ≡ option_map (object_with_monitor m) (object_in (objects_of v ns ks) i) =
+      let owned : object_in (objects_of w ns ks) i ≡ option_map (object_with_monitor m) (object_in
+      (objects_of v ns ks) i) =
       new_owner v w ns ks i m there in
       rw e (owned ∙ ap (λ (j : ℕ). option_map (object_with_monitor m) (object_in (objects_of v ns ks) j)) same)
   | inr e ↦
@@ -484,7 +486,8 @@ same_objects v w low (x ∷ ns) (y ∷ ks) count n o (h, hs) others =
     (same_objects v w (x + 1) ns ks count n o hs others)
 
 pub ascends_with : (v w : List (ℕ × Monitor)) (low : ℕ) (ns : List ℕ) (ks : List Kept) (count n : ℕ) (o p : Object) →
-    AscendsFrom low (objects_of v ns ks ++ (n, o) ∷ []) count → AscendsFrom low (objects_of w ns ks ++ (n, p) ∷ []) count
+    AscendsFrom low (objects_of v ns ks ++ (n, o) ∷ []) count → AscendsFrom low (objects_of w ns ks ++
+    (n, p) ∷ []) count
 ascends_with v w low [] ks count n o p h = h
 ascends_with v w low (x ∷ ns) [] count n o p h = h
 ascends_with v w low (x ∷ ns) (y ∷ ks) count n o p (h, hs) = (h, ascends_with v w (x + 1) ns ks count n o p hs)
@@ -524,7 +527,8 @@ objects_next w (x ∷ ns) (y ∷ ks) n k number =
 
 pub next_there : (plain : ℕ) (later : List ℕ) (i : ℕ) → i < plain + length later →
     slice_get (numbers_of plain later) i ≡ Some (get_or (numbers_of plain later) i 0)
-next_there plain later i h = slice_get-get_or (numbers_of plain later) i 0 (omega (arith, h, length_counted 0 plain later))
+next_there plain later i h = slice_get-get_or (numbers_of plain later) i 0 (omega
+    (arith, h, length_counted 0 plain later))
 
 pub ascends_take : (low : ℕ) (os : List (ℕ × Object)) (count i : ℕ) → AscendsFrom low os count →
     AscendsFrom low (take i os) count

@@ -1,10 +1,10 @@
 -- Prints in a row of bytes: another one added, one read, and the text of all from one on.
 use Rattle.std.proofs.Common.{◌≡◌, ℕ, zero, suc, ◌+◌, ◌-◌, ◌<◌, ◌≤◌, List, [], ◌∷◌, ◌++◌, Some, drop, take, length}
-use Rattle.std.proofs.Common.{get_or, slice_get, refl, sym, ap, ◌∙◌, subst, arith}
+use Rattle.std.proofs.Common.{get_or, slice_get, refl, sym, ap, ◌∙◌, arith}
 use Rattle.std.proofs.lemmas.List.{drop-append-le, drop-drop, take-append-le, take-append-drop, take_all}
 use Rattle.std.proofs.lemmas.Grind.{common_steps}
 use Rattle.std.proofs.Math.Seq.{drop-append_seam, drop-length}
-use Rattle.vm_state.specs.Output.{Print, text_of}
+use Rattle.vm_state.specs.Output.{text_of}
 use Rattle.vm_state.specs.steps.Output.{between, prints_in, Cover, start_of}
 
 -- ---- places

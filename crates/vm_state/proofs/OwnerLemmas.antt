@@ -1,10 +1,12 @@
 -- The monitors that are owned, changed.
-use Rattle.std.proofs.Common.{◌≡◌, ◌<◌, ◌≤◌, ◌+◌, ℕ, zero, suc, Bool, true, false, not, List, [], ◌∷◌, ◌++◌, length, get_or}
-use Rattle.std.proofs.Common.{slice_set, refl, sym, subst, ap, ◌∙◌, ◌==◌, eqb-true, eq-eqb, if◌then◌else◌, inl, inr, arith}
+use Rattle.std.proofs.Common.{◌≡◌, ◌<◌, ℕ, zero, suc, true, false, List, [], ◌∷◌, ◌++◌, length}
+use Rattle.std.proofs.Common.{get_or}
+use Rattle.std.proofs.Common.{slice_set, refl, sym, subst, ap, ◌∙◌, ◌==◌, eqb-true, if◌then◌else◌, inl, inr}
+use Rattle.std.proofs.Common.{arith}
 use Rattle.std.specs.List.{remove}
 use Rattle.vm_state.specs.declared.object.Monitor.{Monitor}
 use Rattle.vm_state.specs.declared.object.Monitor.TheVariants.{Free}
-use Rattle.vm_state.specs.steps.Owners.{monitor_in, IsMonitorSet, IsFirstOf, IsNoneOf}
+use Rattle.vm_state.specs.steps.Owners.{monitor_in, IsMonitorSet, IsNoneOf}
 use Rattle.vm_state.proofs.ListLemmas.{tested}
 
 -- what else there is stays
@@ -31,7 +33,8 @@ over n k m x now was other is = elim (tested (k == n)) [
 ]
 
 pub set_at : (n : ℕ) (m : Monitor) (os : List (ℕ × Monitor)) (p : ℕ) → p < length os →
-    ((d : ℕ × Monitor) → (n == (get_or os p d).0) ≡ true) → IsNoneOf n os p → IsMonitorSet os (slice_set os p (n, m)) n m
+    ((d : ℕ × Monitor) → (n == (get_or os p d).0) ≡ true) → IsNoneOf n os p → IsMonitorSet os (slice_set os p
+    (n, m)) n m
 set_at n m [] p inside here before k = absurd (omega (arith, inside))
 set_at n m (x ∷ xs) zero inside here before k =
     let same : n ≡ x.0 = eqb-true n x.0 (here x) in

@@ -4,7 +4,8 @@ ghost use Rattle.std.specs.Prelude.{◌≡◌, ℕ, ◌∷◌, [], ◌++◌, ◌
 ghost use Rattle.std.specs.Prelude.{OnOk, OnErr, IfSome, IfNone, IsSome, Some, None, option_copied, option_map};
 ghost use Rattle.std.specs.List.Sorted.{IsNonDecreasingBy};
 ghost use Rattle.vm_state.specs.Objects.{AscendsFrom, empty_row, row_of, object_in, kept_of, numbered_kept};
-ghost use Rattle.vm_state.specs.steps.Objects.{with_next, with_monitor_in, object_at_place, numbers_of, objects_of, IsKept};
+ghost use Rattle.vm_state.specs.steps.Objects.{with_next, with_monitor_in, object_at_place, numbers_of, objects_of};
+ghost use Rattle.vm_state.specs.steps.Objects.{IsKept};
 ghost use Rattle.vm_state.specs.SharedState.{class_at, monitor_of, slots_at, with_new, with_slot, with_monitor};
 ghost use Rattle.vm_state.specs.declared.kept.Kept.{Kept as HeldObject};
 ghost use Rattle.vm_state.specs.Pools.{IsRowBy, IsRowOf, pool_at, pool_by, pool_in, with_pool};
@@ -19,8 +20,8 @@ use std::alloc::{AllocError, Global};
 use std::marker::Model;
 use std::mem;
 
-/// The objects of one maker, in the order of their numbers; and how many objects it made. Numbers may be left out: those
-/// of the first objects are 0, 1, 2 and so on, the others stand beside.
+/// The objects of one maker, in the order of their numbers; and how many objects it made. Numbers may be left out:
+/// those of the first objects are 0, 1, 2 and so on, the others stand beside.
 #[derive(Drop)]
 pub struct Row {
     count: u64,
@@ -394,8 +395,8 @@ impl Row {
         Ok(())
     }
 
-    /// Puts values into the first two slots of the object of a number. Where it is not held, or has no such slot, nothing
-    /// changes.
+    /// Puts values into the first two slots of the object of a number. Where it is not held, or has no such slot,
+    /// nothing changes.
     ///
     /// # Errors
     /// `AllocError` where memory is refused; nothing has changed then.

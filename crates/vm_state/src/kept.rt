@@ -1,6 +1,7 @@
 //! Objects as rows keep them: without number and monitor, their classes in 8 bytes.
 
 ghost use Rattle.std.specs.Prelude.{◌≡◌, IfOk};
+ghost use Rattle.vm_state.specs.steps.ClassWords.{array_of, class_of_word, element_of};
 
 use crate::items::CopiedItem;
 use crate::object::Slots;
@@ -8,19 +9,25 @@ use built_in::class_id::{ArrayType, BuiltIn, ClassId, ElementType};
 use std::alloc::{AllocError, Global};
 use std::marker::Model;
 
-/// A class in 8 bytes: an array class by the kind of its elements, and how many dimensions it has.
+/// What the elements of an array of numbers are.
+#[derive(Clone, Copy)]
+enum Primitive {
+    Boolean,
+    Byte,
+    Char,
+    Short,
+    Int,
+    Long,
+    Float,
+    Double,
+}
+
+/// A class in 8 bytes: an array class by how many dimensions it has, and its elements.
 #[derive(Clone, Copy)]
 enum ClassWord {
     Given(u32),
     BuiltIn(BuiltIn),
-    Booleans(u8),
-    Bytes(u8),
-    Chars(u8),
-    Shorts(u8),
-    Ints(u8),
-    Longs(u8),
-    Floats(u8),
-    Doubles(u8),
+    OfPrimitive(u8, Primitive),
     OfGiven(u8, u32),
     OfBuiltIn(u8, BuiltIn),
     OfUnknown(u8, u32),
@@ -44,12 +51,48 @@ impl Model for KeptClass {
 /// An array class.
 #[inline(always)]
 fn array_of(dimensions: u8, element: ElementType) -> ClassId
-    ensures { result ≡ ClassId.Array (record { dimensions = dimensions; element = element }) }
+    ensures { result ≡ array_of dimensions element }
 {
     ClassId::Array(ArrayType {
         dimensions,
         element,
     })
+}
+
+/// The type of elements that are numbers.
+#[inline(always)]
+fn element_of(primitive: Primitive) -> ElementType
+    ensures { result ≡ element_of primitive }
+{
+    match primitive {
+        Primitive::Boolean => ElementType::Boolean,
+        Primitive::Byte => ElementType::Byte,
+        Primitive::Char => ElementType::Char,
+        Primitive::Short => ElementType::Short,
+        Primitive::Int => ElementType::Int,
+        Primitive::Long => ElementType::Long,
+        Primitive::Float => ElementType::Float,
+        Primitive::Double => ElementType::Double,
+    }
+}
+
+/// An array class as it is kept.
+fn array_word(dimensions: u8, element: ElementType) -> ClassWord
+    ensures { class_of_word result ≡ array_of dimensions element }
+{
+    match element {
+        ElementType::Boolean => ClassWord::OfPrimitive(dimensions, Primitive::Boolean),
+        ElementType::Byte => ClassWord::OfPrimitive(dimensions, Primitive::Byte),
+        ElementType::Char => ClassWord::OfPrimitive(dimensions, Primitive::Char),
+        ElementType::Short => ClassWord::OfPrimitive(dimensions, Primitive::Short),
+        ElementType::Int => ClassWord::OfPrimitive(dimensions, Primitive::Int),
+        ElementType::Long => ClassWord::OfPrimitive(dimensions, Primitive::Long),
+        ElementType::Float => ClassWord::OfPrimitive(dimensions, Primitive::Float),
+        ElementType::Double => ClassWord::OfPrimitive(dimensions, Primitive::Double),
+        ElementType::Given(class) => ClassWord::OfGiven(dimensions, class),
+        ElementType::BuiltIn(class) => ClassWord::OfBuiltIn(dimensions, class),
+        ElementType::Unknown(name) => ClassWord::OfUnknown(dimensions, name),
+    }
 }
 
 impl KeptClass {
@@ -60,19 +103,7 @@ impl KeptClass {
         let word = match class {
             ClassId::Given(class) => ClassWord::Given(class),
             ClassId::BuiltIn(class) => ClassWord::BuiltIn(class),
-            ClassId::Array(array) => match array.element {
-                ElementType::Boolean => ClassWord::Booleans(array.dimensions),
-                ElementType::Byte => ClassWord::Bytes(array.dimensions),
-                ElementType::Char => ClassWord::Chars(array.dimensions),
-                ElementType::Short => ClassWord::Shorts(array.dimensions),
-                ElementType::Int => ClassWord::Ints(array.dimensions),
-                ElementType::Long => ClassWord::Longs(array.dimensions),
-                ElementType::Float => ClassWord::Floats(array.dimensions),
-                ElementType::Double => ClassWord::Doubles(array.dimensions),
-                ElementType::Given(class) => ClassWord::OfGiven(array.dimensions, class),
-                ElementType::BuiltIn(class) => ClassWord::OfBuiltIn(array.dimensions, class),
-                ElementType::Unknown(name) => ClassWord::OfUnknown(array.dimensions, name),
-            },
+            ClassId::Array(array) => array_word(array.dimensions, array.element),
         };
         KeptClass { word }
     }
@@ -92,14 +123,9 @@ impl KeptClass {
         match self.word {
             ClassWord::Given(class) => ClassId::Given(class),
             ClassWord::BuiltIn(class) => ClassId::BuiltIn(class),
-            ClassWord::Booleans(dimensions) => array_of(dimensions, ElementType::Boolean),
-            ClassWord::Bytes(dimensions) => array_of(dimensions, ElementType::Byte),
-            ClassWord::Chars(dimensions) => array_of(dimensions, ElementType::Char),
-            ClassWord::Shorts(dimensions) => array_of(dimensions, ElementType::Short),
-            ClassWord::Ints(dimensions) => array_of(dimensions, ElementType::Int),
-            ClassWord::Longs(dimensions) => array_of(dimensions, ElementType::Long),
-            ClassWord::Floats(dimensions) => array_of(dimensions, ElementType::Float),
-            ClassWord::Doubles(dimensions) => array_of(dimensions, ElementType::Double),
+            ClassWord::OfPrimitive(dimensions, primitive) => {
+                array_of(dimensions, element_of(primitive))
+            }
             ClassWord::OfGiven(dimensions, class) => {
                 array_of(dimensions, ElementType::Given(class))
             }

@@ -21,7 +21,7 @@ use Rattle.initializer_analysis.specs.Verdicts.{IsFirstRefused}
 use Rattle.initializer_analysis.specs.Least.{IsFirst}
 use Rattle.initializer_analysis.specs.RefusedUses.{IsRefusedUse, AreFirstRefused}
 use Rattle.wave_scheduler.specs.Settled.{Outcome, Wave, Refused, Stopped, Settled, IsAccepted, region_in}
-use Rattle.wave_scheduler.specs.Settled.{if_below, below}
+use Rattle.wave_scheduler.specs.Settled.{below}
 use Rattle.wave_scheduler.specs.steps.Judged.{IsTried, Follows, FollowVerdicts}
 use Rattle.wave_scheduler.specs.steps.Waves.{IsTriedIn, StaysRefused, AreTriedBelow, AreRefusedIn, dependent, ToldFirst}
 use Rattle.initializer_analysis.proofs.ReachesLemmas.{one_of}
@@ -31,11 +31,6 @@ use Rattle.initializer_analysis.proofs.ReachesLemmas.{one_of}
 dependent-wave : (f : Option ℕ) (k : ℕ) → dependent f (Wave k) ≡ Wave k
 dependent-wave None k = refl
 dependent-wave (Some e) k = refl
-
-dependent-own : (f : Option ℕ) (r : Reason) → (q : Reason) × (dependent f (Refused r) ≡ Refused q)
-dependent-own None r = (r, refl)
-dependent-own (Some e) (reasons.DependsOn d) = (reasons.DependsOn e, refl)
-dependent-own (Some e) reason = (reason, refl)
 
 dependent-below : (f : Option ℕ) (n : ℕ) (o : Outcome) (held : Option Region)
     → if_below n (Some (dependent f o)) held ≡ if_below n (Some o) held

@@ -4,55 +4,52 @@ ghost use Rattle.std.specs.Prelude.{◌≡◌, ◌≤◌};
 ghost use Rattle.machine.specs.Linked.{program_of};
 ghost use Rattle.evaluator.specs.Regions.{environment_of};
 ghost use Rattle.evaluator.specs.Outcomes.{IsUnbarred};
-ghost use Rattle.wave_scheduler.specs.steps.Crews.{CanRunRow};
+ghost use Rattle.wave_scheduler.specs.steps.Crews.{CanRunWave};
 
-use crate::gate::{Gate, ask};
+use crate::gate::{Gate, Worker};
 use crate::lent::Lent;
 use crate::results::{Done, Results};
 use crate::tainted::{Tainted, told};
+use crate::wave::Wave;
 use evaluator::regions::Regions;
-use program::Program;
 use std::alloc::{AllocError, Global};
 use std::sync::{Mutex, Wait};
 use std::thread;
 use std::thread::Threads;
 
-/// What came of the classes of a row, by so many workers: of those that depend on no class that is not accepted, and
-/// maybe not of all. One worker alone works on this thread.
+/// What came of the classes of a wave, by as many workers as the number of their caller: of those that depend on no
+/// class that is not accepted, and maybe not of all. One worker alone works on this thread.
 ///
 /// # Errors
 /// `AllocError` where memory is refused.
 pub(crate) fn results_of<W: Lent + Send + Sync, G: Gate, R: Threads + Wait + Sync>(
     rt: &R,
     alloc: Global,
-    program: &Program,
+    wave: Wave<'_>,
     regions: &Regions,
-    budget: u64,
-    row: &[u32],
     tainted: &Tainted,
-    workers: u32,
-    gate: &G,
+    caller: &Worker<'_, G>,
 ) -> Result<Results<W>, AllocError>
-    requires row { CanRunRow W.program W.regions W.budget program.now regions.now budget tainted.now row.now }
+    requires wave { CanRunWave W.program W.regions W.budget wave regions.now tainted.now }
 {
-    let mut results = Results::of_places(alloc, row.len())?;
-    let crew = crew_of(workers, row.len());
+    let mut results = Results::of_places(alloc, wave.classes.len())?;
+    let crew = crew_of(caller.who, wave.classes.len());
     if crew < 2 {
         let claimed = Mutex::new(0usize);
-        results.put_all(work(
-            rt, alloc, program, regions, budget, row, tainted, &claimed, gate, 0,
-        ));
+        let worker = Worker {
+            gate: caller.gate,
+            who: 0,
+        };
+        results.put_all(work(rt, alloc, wave, regions, tainted, &claimed, &worker));
         return Ok(results);
     }
-    for dones in gather::<W, G, R>(
-        rt, alloc, program, regions, budget, row, tainted, crew, gate,
-    ) {
+    for dones in gather::<W, G, R>(rt, alloc, wave, regions, tainted, crew, caller.gate) {
         results.put_all(dones);
     }
     Ok(results)
 }
 
-/// How many of the workers a row of so many classes gets: one for each class at most.
+/// How many of the workers a wave of so many classes gets: one for each class at most.
 fn crew_of(workers: u32, count: usize) -> u32
     ensures { result ≤ workers }
 {
@@ -63,19 +60,17 @@ fn crew_of(workers: u32, count: usize) -> u32
     }
 }
 
-/// Has a crew of so many workers settle the classes of a row, joins them all, and answers what they moved back.
+/// Has a crew of so many workers settle the classes of a wave, joins them all, and answers what they moved back.
 fn gather<W: Lent + Send + Sync, G: Gate, R: Threads + Wait + Sync>(
     rt: &R,
     alloc: Global,
-    program: &Program,
+    wave: Wave<'_>,
     regions: &Regions,
-    budget: u64,
-    row: &[u32],
     tainted: &Tainted,
     crew: u32,
     gate: &G,
 ) -> Vec<Vec<Done<W>>>
-    requires row { CanRunRow W.program W.regions W.budget program.now regions.now budget tainted.now row.now }
+    requires wave { CanRunWave W.program W.regions W.budget wave regions.now tainted.now }
 {
     let claimed = Mutex::new(0usize);
     let claimed = &claimed;
@@ -83,18 +78,16 @@ fn gather<W: Lent + Send + Sync, G: Gate, R: Threads + Wait + Sync>(
         thread::scope_env(),
         rt,
         |scope| -> Vec<Vec<Done<W>>>
-            requires { CanRunRow W.program W.regions W.budget program.now regions.now budget tainted.now row.now }
+            requires { CanRunWave W.program W.regions W.budget wave regions.now tainted.now }
         {
             let mut handles = Vec::new(alloc);
             for who in 0..crew {
                 let one = scope.spawn(
                     move || -> Vec<Done<W>>
-                        requires { CanRunRow W.program W.regions W.budget program.now regions.now budget tainted.now
-                            row.now }
+                        requires { CanRunWave W.program W.regions W.budget wave regions.now tainted.now }
                     {
-                        work::<W, G, R>(
-                            rt, alloc, program, regions, budget, row, tainted, claimed, gate, who,
-                        )
+                        let worker = Worker { gate, who };
+                        work::<W, G, R>(rt, alloc, wave, regions, tainted, claimed, &worker)
                     },
                 );
                 if let Ok(handle) = one {
@@ -110,7 +103,7 @@ fn gather<W: Lent + Send + Sync, G: Gate, R: Threads + Wait + Sync>(
     )
 }
 
-/// The next place of a row that nobody has claimed.
+/// The next place of a wave that nobody has claimed.
 fn claim<R: Wait>(rt: &R, claimed: &Mutex<usize>, count: usize) -> Option<usize> {
     let mut next = claimed.lock(rt);
     let place = *next;
@@ -121,35 +114,32 @@ fn claim<R: Wait>(rt: &R, claimed: &Mutex<usize>, count: usize) -> Option<usize>
     Some(place)
 }
 
-/// Claims classes of a row and settles them, until none is left. Where memory is refused it stops early.
+/// Claims classes of a wave and settles them, until none is left. Where memory is refused it stops early.
 fn work<W: Lent, G: Gate, R: Wait>(
     rt: &R,
     alloc: Global,
-    program: &Program,
+    wave: Wave<'_>,
     regions: &Regions,
-    budget: u64,
-    row: &[u32],
     tainted: &Tainted,
     claimed: &Mutex<usize>,
-    gate: &G,
-    who: u32,
+    worker: &Worker<'_, G>,
 ) -> Vec<Done<W>>
-    requires row { CanRunRow W.program W.regions W.budget program.now regions.now budget tainted.now row.now }
+    requires wave { CanRunWave W.program W.regions W.budget wave regions.now tainted.now }
 {
+    let classes = wave.classes;
     let mut all = Vec::new(alloc);
-    for _ in 0..row.len() {
-        let Some(place) = claim(rt, claimed, row.len()) else {
+    for _ in 0..classes.len() {
+        let Some(place) = claim(rt, claimed, classes.len()) else {
             return all;
         };
-        if place >= row.len() {
+        if place >= classes.len() {
             return all;
         }
-        let class = row[place];
+        let class = classes[place];
         if told(tainted, class).is_some() {
             continue;
         }
-        let Ok(done) = run_class::<W, G>(alloc, program, regions, budget, place, class, gate, who)
-        else {
+        let Ok(done) = run_class::<W, G>(alloc, wave, regions, place, class, worker) else {
             return all;
         };
         if all.push(done).is_err() {
@@ -162,23 +152,22 @@ fn work<W: Lent, G: Gate, R: Wait>(
 /// Settles the class at a place, by the gate.
 fn run_class<W: Lent, G: Gate>(
     alloc: Global,
-    program: &Program,
+    wave: Wave<'_>,
     regions: &Regions,
-    budget: u64,
     place: usize,
     class: u32,
-    gate: &G,
-    who: u32,
+    worker: &Worker<'_, G>,
 ) -> Result<Done<W>, AllocError>
-    requires program { program.now ≡ W.program }
+    requires program { wave.terms.program.now ≡ W.program }
     requires regions { regions.now ≡ W.regions }
-    requires budget { budget ≡ W.budget }
-    requires run { IsUnbarred (program_of program.now) (environment_of regions.now) class budget }
+    requires budget { wave.terms.budget ≡ W.budget }
+    requires run { IsUnbarred (program_of wave.terms.program.now) (environment_of regions.now) class wave.terms.budget }
 {
-    ask(gate, who, class);
-    match gate.settle(alloc, program, regions, class, budget) {
+    let (program, budget) = (wave.terms.program, wave.terms.budget);
+    worker.ask(class);
+    match worker.gate.settle(alloc, program, regions, class, budget) {
         Ok(outcome) => {
-            gate.done(who, class);
+            worker.done(class);
             Ok(Done::new(place, class, outcome))
         }
         Err(error) => Err(error),

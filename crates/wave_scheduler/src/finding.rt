@@ -8,15 +8,15 @@ ghost use Rattle.wave_scheduler.specs.Settled.{Stopped};
 ghost use Rattle.wave_scheduler.specs.Outcomes.{outcome_of, settled_of};
 ghost use Rattle.wave_scheduler.specs.steps.Finding.{CanRun, IsFoundOf, IsFoundIn, SetsClass, FindsClass};
 
-use crate::gate::{Collector, Gate};
+use crate::gate::{Gate, Worker};
 use crate::lent::Lent;
 use crate::outcome::Settled;
 use crate::results::Done;
+use crate::wave::Wave;
 use evaluator::outcome::{Outcome, Refusal};
 use evaluator::regions::{Region, Regions};
 use evaluator::settling::settle;
 use initializer_analysis::verdict::{Reason, Verdict};
-use program::Program;
 use std::alloc::{AllocError, Global};
 
 /// What was found of a class.
@@ -58,46 +58,45 @@ fn found_of(outcome: Outcome, wave: usize) -> Found
 /// What came of a class, or else what its initializer does if it is run now.
 fn outcome_now<W: Lent, G: Gate>(
     alloc: Global,
-    program: &Program,
+    wave: Wave<'_>,
     regions: &Regions,
     class: u32,
-    budget: u64,
     given: Option<Done<W>>,
-    collector: &Collector<'_, G>,
+    caller: &Worker<'_, G>,
 ) -> Result<Outcome, AllocError>
-    requires lent { program.now ≡ W.program }
-    requires budget { budget ≡ W.budget }
-    requires run { IsUnbarred (program_of program.now) (environment_of regions.now) class budget }
-    ensures { IfOk result (λ outcome. IsOutcome (program_of program.now) (environment_of W.regions) class budget outcome
-        ⊎ IsOutcome (program_of program.now) (environment_of regions.now) class budget outcome) }
+    requires lent { wave.terms.program.now ≡ W.program }
+    requires budget { wave.terms.budget ≡ W.budget }
+    requires run { IsUnbarred (program_of wave.terms.program.now) (environment_of regions.now) class wave.terms.budget }
+    ensures { IfOk result (λ outcome.
+        IsOutcome (program_of wave.entry.terms.program.now) (environment_of W.regions) class wave.entry.terms.budget outcome
+        ⊎ IsOutcome (program_of wave.entry.terms.program.now) (environment_of regions.now) class
+        wave.entry.terms.budget outcome) }
 {
     if let Some(done) = given {
         if let Some(outcome) = done.outcome_of(class) {
             return Ok(outcome);
         }
     }
-    let outcome = settle(alloc, program, regions, class, budget)?;
-    collector.done(class);
+    let outcome = settle(alloc, wave.terms.program, regions, class, wave.terms.budget)?;
+    caller.done(class);
     Ok(outcome)
 }
 
 /// What becomes of a class in this wave, where it is told that it depends on a refused class, or nothing.
 fn find<W: Lent, G: Gate>(
     alloc: Global,
-    program: &Program,
+    wave: Wave<'_>,
     regions: &Regions,
     class: u32,
-    budget: u64,
-    wave: usize,
     told: Option<u32>,
     given: Option<Done<W>>,
-    collector: &Collector<'_, G>,
+    caller: &Worker<'_, G>,
 ) -> Result<Found, AllocError>
-    requires lent { program.now ≡ W.program }
-    requires budget { budget ≡ W.budget }
-    requires run { CanRun (program_of program.now) (environment_of regions.now) budget class told }
-    ensures { IfOk result (λ found. IsFoundIn (program_of program.now) (environment_of W.regions)
-        (environment_of regions.now) budget wave class told (outcome_of found.verdict)
+    requires lent { wave.terms.program.now ≡ W.program }
+    requires budget { wave.terms.budget ≡ W.budget }
+    requires run { CanRun (program_of wave.terms.program.now) (environment_of regions.now) wave.terms.budget class told }
+    ensures { IfOk result (λ found. IsFoundIn (program_of wave.entry.terms.program.now) (environment_of W.regions)
+        (environment_of regions.now) wave.entry.terms.budget wave.entry.number class told (outcome_of found.verdict)
         (option_map region_of found.region)) }
 {
     match told {
@@ -105,10 +104,8 @@ fn find<W: Lent, G: Gate>(
             verdict: Verdict::Refused(Reason::DependsOn(refused)),
             region: None,
         }),
-        None => match outcome_now::<W, G>(
-            alloc, program, regions, class, budget, given, collector,
-        ) {
-            Ok(outcome) => Ok(found_of(outcome, wave)),
+        None => match outcome_now::<W, G>(alloc, wave, regions, class, given, caller) {
+            Ok(outcome) => Ok(found_of(outcome, wave.number)),
             Err(error) => Err(error),
         },
     }
@@ -141,35 +138,25 @@ fn put(settled: &mut Settled, class: u32, found: Found)
 /// Finds what becomes of a class in this wave, where it is told that it depends on a refused class, or nothing.
 pub(crate) fn find_class<W: Lent, G: Gate>(
     alloc: Global,
-    program: &Program,
+    wave: Wave<'_>,
     class: u32,
-    budget: u64,
-    wave: usize,
     told: Option<u32>,
     given: Option<Done<W>>,
-    collector: &Collector<'_, G>,
+    caller: &Worker<'_, G>,
     settled: &mut Settled,
 ) -> Result<(), AllocError>
-    requires lent { program.now ≡ W.program }
-    requires budget { budget ≡ W.budget }
+    requires lent { wave.terms.program.now ≡ W.program }
+    requires budget { wave.terms.budget ≡ W.budget }
     requires class { class < length settled.old.verdicts }
     requires place { class < length settled.old.regions }
     requires none { region_in settled.old.regions class ≡ None }
-    requires run { CanRun (program_of program.now) (environment_of settled.old.regions) budget class told }
-    ensures { OnOk result (FindsClass (program_of program.now) (environment_of W.regions)
-        (environment_of settled.old.regions) budget wave class told (settled_of settled.old) (settled_of settled.new)) }
+    requires run { CanRun (program_of wave.terms.program.now) (environment_of settled.old.regions) wave.terms.budget
+        class told }
+    ensures { OnOk result (FindsClass (program_of wave.entry.terms.program.now) (environment_of W.regions)
+        (environment_of settled.old.regions) wave.entry.terms.budget wave.entry.number class told
+        (settled_of settled.old) (settled_of settled.new)) }
 {
-    match find(
-        alloc,
-        program,
-        &settled.regions,
-        class,
-        budget,
-        wave,
-        told,
-        given,
-        collector,
-    ) {
+    match find(alloc, wave, &settled.regions, class, told, given, caller) {
         Ok(found) => {
             put(settled, class, found);
             Ok(())

@@ -55,25 +55,24 @@ impl Gate for Open {
 /// How often a gate is asked at most.
 const TURNS: u32 = 1_000_000;
 
-/// Asks until the gate is ready.
-pub(crate) fn ask<G: Gate>(gate: &G, who: u32, job: u32) {
-    for turn in 0..TURNS {
-        if gate.ready(who, job, turn) {
-            return;
-        }
-    }
-}
-
-/// Who settles at a gate what no worker did.
+/// Who settles classes by a gate: a worker, from 0, or the caller, whose number is that of the workers.
 #[derive(Drop)]
-pub(crate) struct Collector<'a, G: Gate> {
+pub(crate) struct Worker<'a, G: Gate> {
     pub gate: &'a G,
-    /// The number of workers.
     pub who: u32,
 }
 
-impl<'a, G: Gate> Collector<'a, G> {
-    /// Says that it has settled a class.
+impl<'a, G: Gate> Worker<'a, G> {
+    /// Asks the gate until it is ready for a class.
+    pub(crate) fn ask(&self, class: u32) {
+        for turn in 0..TURNS {
+            if self.gate.ready(self.who, class, turn) {
+                return;
+            }
+        }
+    }
+
+    /// Tells the gate that a class is settled.
     pub(crate) fn done(&self, class: u32) {
         self.gate.done(self.who, class);
     }

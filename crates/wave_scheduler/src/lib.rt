@@ -14,6 +14,7 @@ mod rows;
 mod settling;
 mod starting;
 mod tainted;
+mod wave;
 mod waves;
 
 pub use gate::{Gate, Open};

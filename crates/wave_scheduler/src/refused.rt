@@ -79,7 +79,7 @@ fn tell_each(first: &[Option<u32>], count: u32, verdicts: &mut Verdicts)
     }
 }
 
-/// The same, where all classes are settled.
+/// Tells each class that depends on a refused one the first such, where all classes are settled.
 fn tell_first(first: &[Option<u32>], count: u32, settled: &mut Settled)
     requires count { length settled.old.verdicts ≡ count }
     requires first { length first.now ≡ count }

@@ -76,7 +76,7 @@ impl<W: Lent> Results<W> {
         }
     }
 
-    /// So many places, all empty.
+    /// A number of places, all empty.
     pub(crate) fn of_places(alloc: Global, count: usize) -> Result<Results<W>, AllocError> {
         let mut slots = Vec::with_capacity(alloc, count)?;
         for _ in 0..count {

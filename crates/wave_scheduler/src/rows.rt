@@ -10,7 +10,7 @@ use crate::starting::wave_count;
 use initializer_analysis::verdict::Verdict;
 use std::alloc::{AllocError, Global};
 
-/// So many waves, without classes.
+/// A number of waves, without classes.
 fn no_rows(alloc: Global, count: usize) -> Result<Vec<Vec<u32>>, AllocError>
     ensures { IfOk result (λ rows. rows_of rows.items ≡ replicate count []) }
 {

@@ -10,38 +10,39 @@ ghost use Rattle.wave_scheduler.specs.Settled.{AreSettled};
 ghost use Rattle.wave_scheduler.specs.Outcomes.{settled_of, AreJudged, CanWork, IsWaveFault};
 ghost use Rattle.wave_scheduler.specs.declared.outcome.WaveFault.TheVariants.{Memory};
 
-use crate::gate::{Collector, Gate};
+use crate::gate::{Gate, Worker};
 use crate::outcome::{Settled, WaveFault};
 use crate::plan::plan_of;
 use crate::refused::tell_dependents;
+use crate::wave::Terms;
 use crate::waves::{try_all, try_all_here};
-use initializer_analysis::verdict::{Verdict, Verdicts};
+use initializer_analysis::verdict::Verdicts;
 use program::Program;
 use std::alloc::{AllocError, Global};
 use std::sync::Wait;
 use std::thread::Threads;
 
 /// Settles all classes on this thread.
-fn settle_judged_here(
-    alloc: Global,
-    program: &Program,
-    verdicts: &[Verdict],
-    budget: u64,
-) -> Result<Settled, AllocError>
-    requires { AreJudged program.now verdicts.now }
-    ensures { IfOk result (λ settled. FollowVerdicts program.now budget verdicts.now (settled_of settled)) }
+fn settle_judged_here(alloc: Global, terms: Terms<'_>) -> Result<Settled, AllocError>
+    requires { AreJudged terms.program.now terms.verdicts.now }
+    ensures { IfOk result (λ settled. FollowVerdicts terms.entry.program.now terms.entry.budget terms.entry.verdicts.now
+        (settled_of settled)) }
 {
-    let mut plan = plan_of(alloc, program, verdicts)?;
+    let mut plan = plan_of(alloc, terms.program, terms.verdicts)?;
     try_all_here(
         alloc,
-        program,
-        verdicts,
-        budget,
+        terms,
         plan.rows.as_slice(),
         &mut plan.tainted,
         &mut plan.settled,
     )?;
-    tell_dependents(alloc, program, &plan.uses, &plan.calls, &mut plan.settled)?;
+    tell_dependents(
+        alloc,
+        terms.program,
+        &plan.uses,
+        &plan.calls,
+        &mut plan.settled,
+    )?;
     Ok(plan.settled)
 }
 
@@ -49,27 +50,30 @@ fn settle_judged_here(
 fn settle_judged<G: Gate, R: Threads + Wait + Sync>(
     rt: &R,
     alloc: Global,
-    program: &Program,
-    verdicts: &[Verdict],
-    budget: u64,
-    collector: &Collector<'_, G>,
+    terms: Terms<'_>,
+    caller: &Worker<'_, G>,
 ) -> Result<Settled, AllocError>
-    requires { AreJudged program.now verdicts.now }
-    ensures { IfOk result (λ settled. FollowVerdicts program.now budget verdicts.now (settled_of settled)) }
+    requires { AreJudged terms.program.now terms.verdicts.now }
+    ensures { IfOk result (λ settled. FollowVerdicts terms.entry.program.now terms.entry.budget terms.entry.verdicts.now
+        (settled_of settled)) }
 {
-    let mut plan = plan_of(alloc, program, verdicts)?;
+    let mut plan = plan_of(alloc, terms.program, terms.verdicts)?;
     try_all(
         rt,
         alloc,
-        program,
-        verdicts,
-        budget,
+        terms,
         plan.rows.as_slice(),
-        collector,
+        caller,
         &mut plan.tainted,
         &mut plan.settled,
     )?;
-    tell_dependents(alloc, program, &plan.uses, &plan.calls, &mut plan.settled)?;
+    tell_dependents(
+        alloc,
+        terms.program,
+        &plan.uses,
+        &plan.calls,
+        &mut plan.settled,
+    )?;
     Ok(plan.settled)
 }
 
@@ -91,7 +95,12 @@ pub fn settle_all_here(
     ensures count { IfOk result (λ settled. length settled.verdicts ≡ length program.now.classes) }
     ensures fault { IfErr result (λ fault. fault ≡ Memory) }
 {
-    match settle_judged_here(alloc, program, verdicts.as_slice(), budget) {
+    let terms = Terms {
+        program,
+        verdicts: verdicts.as_slice(),
+        budget,
+    };
+    match settle_judged_here(alloc, terms) {
         Ok(settled) => Ok(settled),
         Err(AllocError) => Err(WaveFault::Memory),
     }
@@ -133,8 +142,13 @@ pub fn settle_all<G: Gate, R: Threads + Wait + Sync>(
     if !can_work(workers) {
         return Err(WaveFault::Workers);
     }
-    let collector = Collector { gate, who: workers };
-    match settle_judged(rt, alloc, program, verdicts.as_slice(), budget, &collector) {
+    let caller = Worker { gate, who: workers };
+    let terms = Terms {
+        program,
+        verdicts: verdicts.as_slice(),
+        budget,
+    };
+    match settle_judged(rt, alloc, terms, &caller) {
         Ok(settled) => Ok(settled),
         Err(AllocError) => Err(WaveFault::Memory),
     }

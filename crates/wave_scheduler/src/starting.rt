@@ -11,7 +11,7 @@ use evaluator::regions::Regions;
 use initializer_analysis::verdict::{Verdict, Verdicts};
 use std::alloc::{AllocError, Global};
 
-/// The same verdicts, to be changed.
+/// A copy of verdicts, to be changed.
 fn copy_of(alloc: Global, verdicts: &[Verdict]) -> Result<Verdicts, AllocError>
     ensures { IfOk result (λ copy. copy ≡ verdicts.now) }
 {

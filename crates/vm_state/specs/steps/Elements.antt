@@ -5,7 +5,8 @@ use Rattle.vm_state.specs.declared.value.Value.TheVariants.{Int, Long, Null, Tex
 use Rattle.vm_state.specs.declared.elements.Brief.{Brief}
 use Rattle.vm_state.specs.declared.elements.Brief.TheVariants as brief
 use Rattle.vm_state.specs.declared.elements.Elements.{Elements}
-use Rattle.vm_state.specs.declared.elements.Elements.TheVariants.{Few, Briefs, Bytes, Chars, Shorts, Ints, Longs, Values}
+use Rattle.vm_state.specs.declared.elements.Elements.TheVariants.{Few, Briefs, Bytes, Chars, Shorts, Ints, Longs}
+use Rattle.vm_state.specs.declared.elements.Elements.TheVariants.{Values}
 
 abbrev pub char_value : ℕ → Value
 char_value n = Int (pos n)

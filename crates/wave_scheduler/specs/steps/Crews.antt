@@ -8,6 +8,7 @@ use Rattle.evaluator.specs.declared.regions.Region.{Region}
 use Rattle.evaluator.specs.Outcomes.{IsUnbarred}
 use Rattle.evaluator.specs.Regions.{environment_of}
 use Rattle.wave_scheduler.specs.declared.tainted.Tainted.{Tainted}
+use Rattle.wave_scheduler.specs.declared.wave.Wave.{Wave}
 use Rattle.wave_scheduler.specs.steps.Tainting.{vertex_in, IsSeen, IsSearched}
 
 -- a program without classes, where no wave has picked one
@@ -20,11 +21,11 @@ AreReady P env budget t row =
     (i : ℕ) → i < length row → (¬ IsSeen t (vertex_in t (slice_index row i)))
     → IsUnbarred P env (slice_index row i) budget
 
--- a row may be run with this program, these regions and this budget, and they are those that its wave picked
-pub record CanRunRow (lent : Tables) (held : List (Option Region)) (most : ℕ) (P : Tables)
-    (here : List (Option Region)) (limit : ℕ) (t : Tainted) (row : List ℕ) : Type 0 where
-  pub program : P ≡ lent
+-- a wave may be run with its program, these regions and its budget, and they are those that it picked
+pub record CanRunWave (lent : Tables) (held : List (Option Region)) (most : ℕ) (wave : Wave)
+    (here : List (Option Region)) (t : Tainted) : Type 0 where
+  pub program : wave.terms.program.now ≡ lent
   pub regions : here ≡ held
-  pub budget : limit ≡ most
+  pub budget : wave.terms.budget ≡ most
   pub searched : IsSearched t
-  pub ready : AreReady (program_of P) (environment_of here) limit t row
+  pub ready : AreReady (program_of wave.terms.program.now) (environment_of here) wave.terms.budget t wave.classes.now

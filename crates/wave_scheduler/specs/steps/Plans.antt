@@ -7,6 +7,8 @@ use Rattle.use_graph.specs.steps.Bodies.{IsUseGraph}
 use Rattle.initializer_analysis.specs.declared.verdict.Verdict.{Verdict}
 use Rattle.wave_scheduler.specs.declared.plan.Plan.{Plan}
 use Rattle.wave_scheduler.specs.declared.tainted.Tainted.{Tainted}
+use Rattle.wave_scheduler.specs.declared.wave.Terms.{Terms}
+use Rattle.wave_scheduler.specs.declared.wave.Wave.{Wave}
 use Rattle.wave_scheduler.specs.Settled.{Settled}
 use Rattle.wave_scheduler.specs.Outcomes.{settled_of, AreJudged}
 use Rattle.wave_scheduler.specs.steps.Waves.{AreTriedBelow, StartsFrom, ToldFirst}
@@ -22,27 +24,24 @@ pub record IsPlan (P : Tables) (judged : List Verdict) (plan : Plan) : Type 0 wh
   pub starts : StartsFrom judged (settled_of plan.settled)
   pub tainted : AreTainted P (settled_of plan.settled) plan.tainted
 
--- the classes of lower waves are tried, and what is seen depends on one that is not accepted
-pub record StandsBefore (P : Tables) (budget : ℕ) (judged : List Verdict) (n : ℕ) (S : Settled) (t : Tainted) : Type 0
-  where
-    pub tried : AreTriedBelow P budget judged n S
-    pub tainted : AreTainted P S t
+-- the classes of waves below n are tried, and what is seen depends on one that is not accepted
+pub record StandsBefore (terms : Terms) (n : ℕ) (S : Settled) (t : Tainted) : Type 0 where
+  pub tried : AreTriedBelow terms.program.now terms.budget terms.verdicts.now n S
+  pub tainted : AreTainted terms.program.now S t
 
--- so it is before a wave that has these classes, by the verdicts on all
-pub record CanTry (P : Tables) (budget : ℕ) (verdicts : List Verdict) (n : ℕ) (classes : List ℕ) (S : Settled)
-    (t : Tainted) : Type 0 where
-  pub judged : AreJudged P verdicts
-  pub row : IsRow verdicts n classes
-  pub tried : AreTriedBelow P budget verdicts n S
-  pub tainted : AreTainted P S t
+-- so it is before a wave, which has its classes by the verdicts on all
+pub record CanTry (wave : Wave) (S : Settled) (t : Tainted) : Type 0 where
+  pub judged : AreJudged wave.terms.program.now wave.terms.verdicts.now
+  pub row : IsRow wave.terms.verdicts.now wave.number wave.classes.now
+  pub tried : AreTriedBelow wave.terms.program.now wave.terms.budget wave.terms.verdicts.now wave.number S
+  pub tainted : AreTainted wave.terms.program.now S t
 
 -- so it is before the first wave, where all waves have these classes
-pub record CanTryAll (P : Tables) (budget : ℕ) (verdicts : List Verdict) (waves : Rows) (S : Settled) (t : Tainted)
-    : Type 0 where
-  pub judged : AreJudged P verdicts
-  pub rows : AreRows verdicts waves
-  pub tried : AreTriedBelow P budget verdicts 0 S
-  pub tainted : AreTainted P S t
+pub record CanTryAll (terms : Terms) (waves : Rows) (S : Settled) (t : Tainted) : Type 0 where
+  pub judged : AreJudged terms.program.now terms.verdicts.now
+  pub rows : AreRows terms.verdicts.now waves
+  pub tried : AreTriedBelow terms.program.now terms.budget terms.verdicts.now 0 S
+  pub tainted : AreTainted terms.program.now S t
 
 -- each class that depends on refused ones is told the first such
 abbrev pub TellsFirst : Tables → Settled → Settled → Type 0

@@ -51,11 +51,6 @@ pub record AreTriedBelow (P : Tables) (budget : ℕ) (judged : List Verdict) (n 
       → slice_get S.outcomes c ≡ Some outcome → StaysRefused reason outcome
   pub only : (c : ℕ) (region : Region) → region_in S c ≡ Some region → IsAccepted S c
 
--- the classes of all waves are tried
-abbrev pub AreAllTried : Tables → ℕ → List Verdict → Settled → Type 0
-AreAllTried P budget judged S =
-    (n : ℕ) × ((c m : ℕ) → before.HasWave judged c m → m < n) × AreTriedBelow P budget judged n S
-
 -- The classes of wave n are tried, with the regions of lower waves at hand; nothing else changes.
 pub record TriesWave (P : Tables) (budget : ℕ) (judged : List Verdict) (n : ℕ) (old new : Settled) : Type 0 where
   pub count : length new.outcomes ≡ length P.classes

@@ -1,18 +1,11 @@
 use Rattle.std.proofs.Common.{arith}
-use Rattle.image_parser.proofs.FileLawful.{files_text, files_only_text, files_fault, files_only_fault}
+use Rattle.image_parser.proofs.FileLawful.{files_text, files_fault}
 use Rattle.image_parser.proofs.files.read_files.Goals as goal
 
 pub returns-clause-text : goal.returns-clause-text
 returns-clause-text c =
     files_text c.args.count _ _ c.args.bytes.now (λ i. omega (arith, c.type_inv.bytes i)) c.files_at.ensures
 
-pub returns-clause-only_text : goal.returns-clause-only_text
-returns-clause-only_text c = files_only_text c.args.count _ _ c.args.bytes.now c.files_at.ensures
-
 pub returns-clause-fault : goal.returns-clause-fault
 returns-clause-fault c =
     files_fault c.args.count _ _ c.args.bytes.now (λ i. omega (arith, c.type_inv.bytes i)) c.files_at.ensures
-
-pub returns-clause-only_fault : goal.returns-clause-only_fault
-returns-clause-only_fault c =
-    files_only_fault c.args.count _ _ c.args.bytes.now (λ i. omega (arith, c.type_inv.bytes i)) c.files_at.ensures

@@ -1,4 +1,4 @@
-use Rattle.std.proofs.Common.{◌≡◌, ◌∙◌, map, slice_set, ap}
+use Rattle.std.proofs.Common.{◌∙◌, map, slice_set, ap}
 use Rattle.std.proofs.lemmas.List.{map-set}
 use Rattle.vm_state.specs.steps.Elements.{brief_value}
 use Rattle.vm_state.proofs.elements.put_few.Goals as goal

@@ -1,5 +1,4 @@
-use Rattle.std.proofs.Common.{◌≡◌, ◌<◌, ◌≤◌, ◌-◌, ◌+◌, ◌⊎◌, ◌∙◌, ℕ, length, get_or, inl, inr, rules, arith}
-use Rattle.vm_state.specs.steps.Objects.{numbers_of}
+use Rattle.std.proofs.Common.{◌≡◌, ◌<◌, ◌≤◌, ◌-◌, ◌+◌, inl, inr, rules, arith}
 use Rattle.vm_state.proofs.KeptLemmas.{below_or_not, get_before, get_after}
 use Rattle.vm_state.proofs.heap.place_of.Goals as goal
 

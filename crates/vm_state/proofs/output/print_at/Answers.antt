@@ -1,6 +1,5 @@
-use Rattle.std.proofs.Common.{◌≡◌, ◌≤◌, ℕ, ◌∙◌, Some, sym, ap, get_or, length, arith}
+use Rattle.std.proofs.Common.{◌≤◌, ◌∙◌, Some, sym, ap, get_or, length, arith}
 use Rattle.std.proofs.lemmas.Option.{slice_get_past}
-use Rattle.vm_state.specs.Output.{Print}
 use Rattle.vm_state.specs.steps.Output.{between, prints_in}
 use Rattle.vm_state.proofs.OutputLemmas.{cover_length, print_is, print_within, prints_count}
 use Rattle.vm_state.proofs.output.print_at.Goals as goal

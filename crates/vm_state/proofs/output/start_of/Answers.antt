@@ -1,4 +1,4 @@
-use Rattle.std.proofs.Common.{◌≡◌, ◌<◌, ◌-◌, ◌+◌, ℕ, suc, sym, ap, ◌∙◌, length, arith}
+use Rattle.std.proofs.Common.{◌≡◌, ◌<◌, ◌-◌, suc, sym, ap, ◌∙◌, length, arith}
 use Rattle.vm_state.specs.steps.Output.{start_of}
 use Rattle.vm_state.proofs.OutputLemmas.{start_after}
 use Rattle.vm_state.proofs.output.start_of.Goals as goal

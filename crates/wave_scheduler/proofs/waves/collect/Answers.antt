@@ -17,7 +17,7 @@ pub loop-class-init : goal.loop-class-init
 loop-class-init g c =
     let (forced, are) = c.requires.wave.judged in
     record {
-      tries = tries_none c.args.program.now forced c.args.budget c.args.verdicts.now c.args.wave
+      tries = tries_none c.args.wave.terms.program.now forced c.args.wave.terms.budget c.args.wave.terms.verdicts.now c.args.wave.number
           (settled_of c.args.settled.now) c.classes-tables.ensures.fits
           (subst IsFamily c.family.ensures c.classes-given.ensures.fits)
           (subst (λ (f : Family). AreParentsWithin f) c.family.ensures c.classes-given.ensures.within) are
@@ -27,86 +27,86 @@ loop-class-init g c =
 
 pub try_class-requires-clause-searched : goal.try_class-requires-clause-searched
 try_class-requires-clause-searched g c = λ κs alive.
-    searched c.args.program.now (settled_of c.loop-class.settled) c.loop-class.tainted c.loop-class.invariant.tainted
+    searched c.args.wave.terms.program.now (settled_of c.loop-class.settled) c.loop-class.tainted c.loop-class.invariant.tainted
 
 pub try_class-requires-clause-vertex : goal.try_class-requires-clause-vertex
 try_class-requires-clause-vertex g c = λ κs alive.
     let (forced, are) = c.requires.wave.judged in
-    let row = c.args.row.now in
+    let row = c.args.wave.classes.now in
     let i = c.loop-class.class-index in
-    vertex_low c.args.program.now (settled_of c.loop-class.settled) c.loop-class.tainted
+    vertex_low c.args.wave.terms.program.now (settled_of c.loop-class.settled) c.loop-class.tainted
     c.loop-class.invariant.tainted (slice_index row i)
-    (low_at c.args.program.now forced c.args.verdicts.now c.args.wave row i are c.requires.wave.row (omega arith))
+    (low_at c.args.wave.terms.program.now forced c.args.wave.terms.verdicts.now c.args.wave.number row i are c.requires.wave.row (omega arith))
 
 pub try_class-requires-clause-class : goal.try_class-requires-clause-class
 try_class-requires-clause-class g c =
     let (forced, are) = c.requires.wave.judged in
-    let row = c.args.row.now in
+    let row = c.args.wave.classes.now in
     let i = c.loop-class.class-index in
-    let low : slice_index row i < length c.args.program.now.classes =
-    low_at c.args.program.now forced c.args.verdicts.now c.args.wave row i are c.requires.wave.row (omega arith) in
+    let low : slice_index row i < length c.args.wave.terms.program.now.classes =
+    low_at c.args.wave.terms.program.now forced c.args.wave.terms.verdicts.now c.args.wave.number row i are c.requires.wave.row (omega arith) in
     omega (arith, c.loop-class.invariant.tries.count, length-map c.loop-class.settled.verdicts outcome_of)
 
 pub try_class-requires-clause-place : goal.try_class-requires-clause-place
 try_class-requires-clause-place g c =
     let (forced, are) = c.requires.wave.judged in
-    let row = c.args.row.now in
+    let row = c.args.wave.classes.now in
     let i = c.loop-class.class-index in
-    let low : slice_index row i < length c.args.program.now.classes =
-    low_at c.args.program.now forced c.args.verdicts.now c.args.wave row i are c.requires.wave.row (omega arith) in
+    let low : slice_index row i < length c.args.wave.terms.program.now.classes =
+    low_at c.args.wave.terms.program.now forced c.args.wave.terms.verdicts.now c.args.wave.number row i are c.requires.wave.row (omega arith) in
     omega (arith, c.loop-class.invariant.tries.regions, length-map c.loop-class.settled.regions (option_map region_of))
 
 pub try_class-requires-clause-none : goal.try_class-requires-clause-none
 try_class-requires-clause-none g c = λ κs alive.
     let (forced, are) = c.requires.wave.judged in
-    let row = c.args.row.now in
+    let row = c.args.wave.classes.now in
     let i = c.loop-class.class-index in
     let held = c.loop-class.settled.regions in
     none_seen (region_in held (slice_index row i)) (region_seen held (slice_index row i)
-    ∙ nothing_yet c.args.program.now forced c.args.budget c.args.verdicts.now c.args.wave
+    ∙ nothing_yet c.args.wave.terms.program.now forced c.args.wave.terms.budget c.args.wave.terms.verdicts.now c.args.wave.number
     (settled_of c.args.settled.now) c.classes-tables.ensures.fits
     (subst IsFamily c.family.ensures c.classes-given.ensures.fits)
     (subst (λ (f : Family). AreParentsWithin f) c.family.ensures c.classes-given.ensures.within) are
     c.requires.wave.tried (take i row) (settled_of c.loop-class.settled) c.loop-class.tainted
     c.loop-class.invariant.tries c.loop-class.invariant.tainted (slice_index row i)
-    (wave_at c.args.verdicts.now c.args.wave row i c.requires.wave.row (omega arith))
+    (wave_at c.args.wave.terms.verdicts.now c.args.wave.number row i c.requires.wave.row (omega arith))
     (c.requires.wave.row.once i (omega arith)))
 
 pub try_class-requires-clause-run : goal.try_class-requires-clause-run
 try_class-requires-clause-run g c = λ κs alive.
     let (forced, are) = c.requires.wave.judged in
-    let row = c.args.row.now in
+    let row = c.args.wave.classes.now in
     let i = c.loop-class.class-index in
-    can_run c.args.program.now forced c.args.budget c.args.verdicts.now c.args.wave
+    can_run c.args.wave.terms.program.now forced c.args.wave.terms.budget c.args.wave.terms.verdicts.now c.args.wave.number
     (settled_of c.args.settled.now) c.classes-tables.ensures.fits
     (subst IsFamily c.family.ensures c.classes-given.ensures.fits)
     (subst (λ (f : Family). AreParentsWithin f) c.family.ensures c.classes-given.ensures.within) are
     c.requires.wave.tried (take i row) (settled_of c.loop-class.settled) c.loop-class.tainted
     c.loop-class.invariant.tries c.loop-class.invariant.tainted (slice_index row i)
-    (wave_at c.args.verdicts.now c.args.wave row i c.requires.wave.row (omega arith))
+    (wave_at c.args.wave.terms.verdicts.now c.args.wave.number row i c.requires.wave.row (omega arith))
     (c.requires.wave.row.once i (omega arith)) (environment_of c.loop-class.settled.regions)
     (λ d. region_seen c.loop-class.settled.regions d)
 
 pub loop-class-preserved : goal.loop-class-preserved
 loop-class-preserved g c =
     let (forced, are) = c.requires.wave.judged in
-    let row = c.args.row.now in
+    let row = c.args.wave.classes.now in
     let i = c.loop-class.class-index in
-    let P = c.args.program.now in
+    let P = c.args.wave.terms.program.now in
     let new = settled_of c.try_class.new.settled in
-    let (tries, tainted) = goes_on P forced c.args.budget c.args.verdicts.now c.args.wave
+    let (tries, tainted) = goes_on P forced c.args.wave.terms.budget c.args.wave.terms.verdicts.now c.args.wave.number
     (settled_of c.args.settled.now) c.classes-tables.ensures.fits
     (subst IsFamily c.family.ensures c.classes-given.ensures.fits)
     (subst (λ (f : Family). AreParentsWithin f) c.family.ensures c.classes-given.ensures.within) are
     c.requires.wave.tried (take i row) (settled_of c.loop-class.settled) c.loop-class.tainted
     c.loop-class.invariant.tries c.loop-class.invariant.tainted (slice_index row i)
-    (wave_at c.args.verdicts.now c.args.wave row i c.requires.wave.row (omega arith))
+    (wave_at c.args.wave.terms.verdicts.now c.args.wave.number row i c.requires.wave.row (omega arith))
     (c.requires.wave.row.once i (omega arith)) (environment_of g.W.Lent.regions)
     (environment_of c.loop-class.settled.regions)
-    (λ d r here. lent_has c.args.settled.now c.args.wave g.W.Lent.regions c.requires.regions d r here)
+    (λ d r here. lent_has c.args.settled.now c.args.wave.number g.W.Lent.regions c.requires.regions d r here)
     (λ d. region_seen c.loop-class.settled.regions d) new c.try_class.new.tainted c.in_ok-try_class.ensures in
     record {
-      tries = subst (λ (done : List ℕ). TriesThese P c.args.budget c.args.verdicts.now c.args.wave done
+      tries = subst (λ (done : List ℕ). TriesThese P c.args.wave.terms.budget c.args.wave.terms.verdicts.now c.args.wave.number done
           (settled_of c.args.settled.now) new) (sym (next_done row i (omega arith))) tries;
       tainted = tainted;
     }
@@ -114,18 +114,18 @@ loop-class-preserved g c =
 pub returns : goal.returns
 returns g c =
     let (forced, are) = c.requires.wave.judged in
-    let row = c.args.row.now in
-    let P = c.args.program.now in
-    let judged = c.args.verdicts.now in
+    let row = c.args.wave.classes.now in
+    let P = c.args.wave.terms.program.now in
+    let judged = c.args.wave.terms.verdicts.now in
     let old = settled_of c.args.settled.now in
     let new = settled_of c.loop-class.settled in
-    let all : TriesThese P c.args.budget judged c.args.wave row old new =
-    subst (λ (done : List ℕ). TriesThese P c.args.budget judged c.args.wave done old new)
+    let all : TriesThese P c.args.wave.terms.budget judged c.args.wave.number row old new =
+    subst (λ (done : List ℕ). TriesThese P c.args.wave.terms.budget judged c.args.wave.number done old new)
     (take_all c.loop-class.class-index row (omega arith)) c.loop-class.invariant.tries in
     record {
-      tried = subst (λ (n : ℕ). AreTriedBelow P c.args.budget judged n new) (sym (add-one c.args.wave))
-          (waves_go_on_lem P forced c.args.budget judged c.args.wave old new are c.requires.wave.tried
-          (tries_all P forced c.args.budget judged c.args.wave old c.classes-tables.ensures.fits
+      tried = subst (λ (n : ℕ). AreTriedBelow P c.args.wave.terms.budget judged n new) (sym (add-one c.args.wave.number))
+          (waves_go_on_lem P forced c.args.wave.terms.budget judged c.args.wave.number old new are c.requires.wave.tried
+          (tries_all P forced c.args.wave.terms.budget judged c.args.wave.number old c.classes-tables.ensures.fits
           (subst IsFamily c.family.ensures c.classes-given.ensures.fits)
           (subst (λ (f : Family). AreParentsWithin f) c.family.ensures c.classes-given.ensures.within) are
           c.requires.wave.tried row new c.requires.wave.row all));

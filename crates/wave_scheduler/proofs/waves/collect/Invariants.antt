@@ -6,7 +6,7 @@ use Rattle.wave_scheduler.proofs.waves.collect.Given as goal
 
 abbrev pub invariant-loop-class : goal.invariant-loop-class
 invariant-loop-class g l = record {
-  tries : TriesThese l.program l.budget l.verdicts l.wave (take l.class-index l.row) (settled_of l.initial.settled)
-      (settled_of l.settled);
-  tainted : AreTainted l.program (settled_of l.settled) l.tainted;
+  tries : TriesThese l.wave.terms.program.now l.wave.terms.budget l.wave.terms.verdicts.now l.wave.number
+      (take l.class-index l.wave.classes.now) (settled_of l.initial.settled) (settled_of l.settled);
+  tainted : AreTainted l.wave.terms.program.now (settled_of l.settled) l.tainted;
 }

@@ -3,15 +3,16 @@ use Rattle.graph.proofs.RowsLemmas.{row_read}
 use Rattle.wave_scheduler.specs.steps.WaveRows.{IsRow}
 use Rattle.wave_scheduler.proofs.waves.try_all_here.Goals as goal
 
-pub loop-wave-init : goal.loop-wave-init
-loop-wave-init c = record { tried = c.requires.tried; tainted = c.requires.tainted }
+pub loop-number-init : goal.loop-number-init
+loop-number-init c = record { tried = c.requires.tried; tainted = c.requires.tainted }
 
 pub try_wave_here-requires : goal.try_wave_here-requires
 try_wave_here-requires c = record {
   judged = c.requires.judged;
-  row = rw c.as_slice.ensures.value (subst (λ (row : List ℕ). IsRow c.args.verdicts.now c.loop-wave.wave row)
-      (sym (row_read c.args.rows.now c.loop-wave.wave c.index-rows-wave.result c.loop-wave-test.true
-      c.index-rows-wave.is)) (c.requires.rows c.loop-wave.wave));
-  tried = c.loop-wave.invariant.tried;
-  tainted = c.loop-wave.invariant.tainted;
+  row = rw c.as_slice-classes.ensures.value (subst
+      (λ (row : List ℕ). IsRow c.args.terms.verdicts.now c.loop-number.number row)
+      (sym (row_read c.args.rows.now c.loop-number.number c.index-rows-number.result c.loop-number-test.true
+      c.index-rows-number.is)) (c.requires.rows c.loop-number.number));
+  tried = c.loop-number.invariant.tried;
+  tainted = c.loop-number.invariant.tainted;
 }

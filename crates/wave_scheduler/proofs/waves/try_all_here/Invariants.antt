@@ -2,5 +2,5 @@ use Rattle.wave_scheduler.specs.Outcomes.{settled_of}
 use Rattle.wave_scheduler.specs.steps.Plans.{StandsBefore}
 use Rattle.wave_scheduler.proofs.waves.try_all_here.Given as goal
 
-abbrev pub invariant-loop-wave : goal.invariant-loop-wave
-invariant-loop-wave l = StandsBefore l.program l.budget l.verdicts l.wave (settled_of l.settled) l.tainted
+abbrev pub invariant-loop-number : goal.invariant-loop-number
+invariant-loop-number l = StandsBefore l.terms l.number (settled_of l.settled) l.tainted

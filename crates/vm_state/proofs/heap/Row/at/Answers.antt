@@ -1,5 +1,5 @@
-use Rattle.std.proofs.Common.{◌≡◌, ◌∙◌, Option, Some, None, sym, ap, rules}
-use Rattle.std.specs.Prelude.{length, slice_get, option_map}
+use Rattle.std.proofs.Common.{◌≡◌, ◌∙◌, Some, None, ap, rules}
+use Rattle.std.specs.Prelude.{slice_get, option_map}
 use Rattle.vm_state.specs.Objects.{ObjectRow, numbered_kept}
 use Rattle.vm_state.specs.steps.Objects.{numbers_in}
 use Rattle.vm_state.proofs.KeptLemmas.{seen, unnumbered, unkept}
@@ -11,7 +11,8 @@ returns-in-Some-kept_at c =
     let kept = c.self.inside.kept.items in
     let number : slice_get (numbers_in later kept) c.args.place ≡ Some c.in-Some.number = search rules in
     let object : slice_get kept c.args.place ≡ Some c.in-Some-kept_at.kept.now = search rules in
-    seen c.self.inside.owners (numbers_in later kept) kept c.args.place c.in-Some.number c.in-Some-kept_at.kept.now number
+    seen c.self.inside.owners (numbers_in later kept) kept c.args.place c.in-Some.number c.in-Some-kept_at.kept.now
+    number
     object
     ∙ ap (λ (r : ObjectRow). option_map numbered_kept (slice_get r.objects c.args.place)) c.self.view_is
 

@@ -22,7 +22,8 @@ invariant_of-self-2 c =
     let number = c.args.number in
     let object = c.args.object in
     let up : AscendsFrom 0 (objects_of v (numbers_in later kept) kept ++ (number, object) ∷ []) count =
-    subst (λ (r : ObjectRow). AscendsFrom 0 (r.objects ++ (number, object) ∷ []) r.count) (sym c.self.view_is) c.requires in
+    subst (λ (r : ObjectRow). AscendsFrom 0 (r.objects ++ (number, object) ∷ []) r.count)
+    (sym c.self.view_is) c.requires in
     let below : number < count = last_below 0 (objects_of v (numbers_in later kept) kept) count number object up in
     let free : (k : ℕ) → count ≤ k → monitor_in w k ≡ Free =
     still_free v w number count object.monitor c.in_ok-set.ensures.ok below c.self.invariant.2 in
@@ -38,7 +39,8 @@ invariant_of-self-2 c =
           let old = ascends_so v w 0 (numbers_in later kept) kept count c.self.invariant.0 in (
             subst (λ (ls : List ℕ). AscendsFrom 0 (objects_of w (numbers_in ls c.push_kept.new.kept.items)
                 c.push_kept.new.kept.items) count) (sym same.0)
-                (subst (λ (ks : List Kept). AscendsFrom 0 (objects_of w (numbers_in later ks) ks) count) (sym same.1) old),
+                (subst (λ (ks : List Kept). AscendsFrom 0 (objects_of w (numbers_in later ks) ks) count)
+                (sym same.1) old),
             omega (
               arith,
               c.self.invariant.1,
@@ -60,7 +62,8 @@ returns c =
     let object = c.args.object in
     let os : List (ℕ × Object) = objects_of v (numbers_in later kept) kept in
     let up : AscendsFrom 0 (os ++ (number, object) ∷ []) count =
-    subst (λ (r : ObjectRow). AscendsFrom 0 (r.objects ++ (number, object) ∷ []) r.count) (sym c.self.view_is) c.requires in
+    subst (λ (r : ObjectRow). AscendsFrom 0 (r.objects ++ (number, object) ∷ []) r.count)
+    (sym c.self.view_is) c.requires in
     let set = c.in_ok-set.ensures.ok in
     if_done c.push_kept.result c.push_kept.ensures.ok (λ is.
     ap (λ (all : List (ℕ × Object)). record { count = count; objects = all })

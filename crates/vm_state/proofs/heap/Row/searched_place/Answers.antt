@@ -1,14 +1,16 @@
-use Rattle.std.proofs.Common.{◌≡◌, ◌∙◌, ◌<◌, ◌≤◌, ◌+◌, ◌-◌, ◌==◌, ℕ, List, Option, Some, None, false, length, get_or, slice_get}
+use Rattle.std.proofs.Common.{◌≡◌, ◌∙◌, ◌<◌, ◌≤◌, ◌+◌, ◌-◌, ◌==◌, ℕ, Some, None, false, length, get_or}
+use Rattle.std.proofs.Common.{slice_get}
 use Rattle.std.proofs.Common.{sym, subst, ap, arith, rules}
 use Rattle.std.specs.Prelude.{IsSome}
 use Rattle.vm_state.specs.Objects.{ObjectRow, object_in}
-use Rattle.vm_state.specs.steps.Objects.{numbers_in, numbers_of, object_at_place}
+use Rattle.vm_state.specs.steps.Objects.{numbers_in, object_at_place}
 use Rattle.vm_state.proofs.KeptLemmas.{is_there, later_rise, length_numbers, none_found}
 use Rattle.vm_state.proofs.heap.Row.searched_place.Goals as goal
 
 pub place_of-place-requires-clause-rising : goal.place_of-place-requires-clause-rising
 place_of-place-requires-clause-rising c =
-    rw c.as_slice-later.ensures.value (later_rise c.self.inside.owners c.self.inside.later.items c.self.inside.kept.items
+    rw c.as_slice-later.ensures.value (later_rise c.self.inside.owners c.self.inside.later.items
+    c.self.inside.kept.items
     c.self.inside.count c.self.invariant.1 c.self.invariant.0)
 
 pub returns-then-found-number-clause-held : goal.returns-then-found-number-clause-held

@@ -1,12 +1,11 @@
-use Rattle.std.proofs.Common.{◌≡◌, ◌∙◌, ◌<◌, ℕ, List, length, slice_set, sym, subst, ap, arith}
+use Rattle.std.proofs.Common.{◌∙◌, ◌<◌, List, length, sym, subst, ap, arith}
 use Rattle.std.specs.Prelude.{IsSome}
 use Rattle.vm_state.specs.declared.value.Value.{Value}
-use Rattle.vm_state.specs.declared.object.Object.{Object}
 use Rattle.vm_state.specs.Objects.{ObjectRow}
 use Rattle.vm_state.specs.steps.Objects.{numbers_in, objects_of, object_at_place, with_monitor_in}
-use Rattle.vm_state.specs.SharedState.{object_with_slot, with_slot}
+use Rattle.vm_state.specs.SharedState.{with_slot}
 use Rattle.vm_state.specs.Pools.{pool_by}
-use Rattle.vm_state.proofs.KeptLemmas.{IsRowChanged, inside_of, row_changed}
+use Rattle.vm_state.proofs.KeptLemmas.{inside_of, row_changed}
 use Rattle.vm_state.proofs.SlotLemmas.{first_changed, first_pool}
 use Rattle.vm_state.proofs.heap.Row.set_first.Goals as goal
 
@@ -24,8 +23,10 @@ pub invariant_of-self : goal.invariant_of-self
 invariant_of-self c =
     let P : ObjectRow → Type 0 = λ r. IsSome (object_at_place r.objects c.in-Some.place c.args.number) in
     let held = c.index_mut-held.result.now in
-    let changed = row_changed c.self.inside.owners c.self.inside.later.items c.self.inside.kept.items c.self.inside.count
-    c.in-Some.place c.args.number (first_changed c.args.first c.args.second) held (record held { slots = c.set_first.new.self })
+    let changed = row_changed c.self.inside.owners c.self.inside.later.items c.self.inside.kept.items
+    c.self.inside.count
+    c.in-Some.place c.args.number (first_changed c.args.first c.args.second) held
+    (record held { slots = c.set_first.new.self })
     c.self.invariant.1 c.self.invariant.0 (subst P (sym c.self.view_is) c.in-Some.ensures.held)
     c.index_mut-held.ensures.value
     (ap (λ (vs : List Value). record (with_monitor_in c.self.inside.owners c.args.number held) { slots = vs })
@@ -36,8 +37,10 @@ pub returns-in_ok-set_first-clause-ok : goal.returns-in_ok-set_first-clause-ok
 returns-in_ok-set_first-clause-ok c =
     let P : ObjectRow → Type 0 = λ r. IsSome (object_at_place r.objects c.in-Some.place c.args.number) in
     let held = c.index_mut-held.result.now in
-    let changed = row_changed c.self.inside.owners c.self.inside.later.items c.self.inside.kept.items c.self.inside.count
-    c.in-Some.place c.args.number (first_changed c.args.first c.args.second) held (record held { slots = c.set_first.new.self })
+    let changed = row_changed c.self.inside.owners c.self.inside.later.items c.self.inside.kept.items
+    c.self.inside.count
+    c.in-Some.place c.args.number (first_changed c.args.first c.args.second) held
+    (record held { slots = c.set_first.new.self })
     c.self.invariant.1 c.self.invariant.0 (subst P (sym c.self.view_is) c.in-Some.ensures.held)
     c.index_mut-held.ensures.value
     (ap (λ (vs : List Value). record (with_monitor_in c.self.inside.owners c.args.number held) { slots = vs })
@@ -48,5 +51,6 @@ returns-in_ok-set_first-clause-ok c =
       objects = objects_of c.self.inside.owners (numbers_in c.self.inside.later.items c.self.inside.kept.items)
           c.self.inside.kept.items;
     })) c.args.number c.args.first c.args.second
-    ∙ ap (λ (r : ObjectRow). with_slot (with_slot (pool_by r) c.args.number 0 c.args.first) c.args.number 1 c.args.second)
+    ∙ ap (λ (r : ObjectRow). with_slot (with_slot (pool_by r) c.args.number 0 c.args.first) c.args.number 1
+    c.args.second)
     c.self.view_is

@@ -6,7 +6,7 @@ use Rattle.vm_state.specs.declared.object.Monitor.{Monitor}
 use Rattle.vm_state.specs.declared.object.Monitor.TheVariants.{Free}
 use Rattle.vm_state.specs.Objects.{ObjectRow}
 use Rattle.vm_state.specs.Pools.{pool_by}
-use Rattle.vm_state.specs.SharedState.{Pool, with_monitor}
+use Rattle.vm_state.specs.SharedState.{with_monitor}
 use Rattle.vm_state.specs.steps.Objects.{numbers_in, objects_of, object_at_place}
 use Rattle.vm_state.specs.steps.Owners.{monitor_in}
 use Rattle.vm_state.proofs.KeptLemmas.{ascends_so, held_below, owner_changed, still_free}

@@ -9,7 +9,8 @@ use Rattle.vm_state.proofs.heap.Rows.set_first.Goals as goal
 
 pub returns-then-maker-len-clause-ok : goal.returns-then-maker-len-clause-ok
 returns-then-maker-len-clause-ok c =
-    let change : Pool → Pool = λ p. with_slot (with_slot p c.args.number 0 c.args.first) c.args.number 1 c.args.second in
+    let change : Pool → Pool = λ p. with_slot (with_slot p c.args.number 0 c.args.first) c.args.number 1
+    c.args.second in
     let past : length c.self.inside.rows.items ≤ c.args.maker = search rules in
     subst (λ (rows : List ObjectRow). pool_in rows ≡ with_pool (pool_in rows) c.args.maker
     (change (pool_in rows c.args.maker))) c.self.view_is
@@ -18,7 +19,8 @@ returns-then-maker-len-clause-ok c =
 
 pub returns-clause-ok : goal.returns-clause-ok
 returns-clause-ok c =
-    let change : Pool → Pool = λ p. with_slot (with_slot p c.args.number 0 c.args.first) c.args.number 1 c.args.second in
+    let change : Pool → Pool = λ p. with_slot (with_slot p c.args.number 0 c.args.first) c.args.number 1
+    c.args.second in
     let room : c.args.maker < length c.self.inside.rows.items = search rules in
     if_done c.set_first.result c.set_first.ensures.ok (λ is.
     pool_in-changed c.self.inside.rows.items c.args.maker c.index_mut-row.result.now c.set_first.new.self change room

@@ -1,7 +1,5 @@
-use Rattle.std.proofs.Common.{◌≡◌, ◌+◌, ◌++◌, ◌∷◌, ℕ, [], ◌∙◌, sym, ap, length, arith}
+use Rattle.std.proofs.Common.{◌≡◌, ◌+◌, ◌++◌, ◌∷◌, [], ◌∙◌, sym, ap, length, arith}
 use Rattle.std.proofs.lemmas.List.{length-append}
-use Rattle.vm_state.specs.Output.{Print}
-use Rattle.vm_state.specs.steps.Output.{Cover}
 use Rattle.vm_state.proofs.OutputLemmas.{cover_more, print_added}
 use Rattle.vm_state.proofs.output.Output.add.Goals as goal
 

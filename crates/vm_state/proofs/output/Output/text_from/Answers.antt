@@ -1,7 +1,7 @@
-use Rattle.std.proofs.Common.{◌≡◌, ◌≤◌, ℕ, ◌∙◌, sym, ap, drop, length, arith}
+use Rattle.std.proofs.Common.{◌≡◌, ◌∙◌, sym, ap, drop, length, arith}
 use Rattle.std.proofs.lemmas.List.{take_rest}
 use Rattle.vm_state.specs.Output.{text_of}
-use Rattle.vm_state.specs.steps.Output.{between, prints_in, start_of}
+use Rattle.vm_state.specs.steps.Output.{start_of}
 use Rattle.vm_state.proofs.OutputLemmas.{prints_count, start_within, text_after}
 use Rattle.vm_state.proofs.output.Output.text_from.Goals as goal
 

@@ -1,6 +1,6 @@
-use Rattle.std.proofs.Common.{◌≡◌, ◌∙◌, ℕ, List, sym, ap, subst, get_or}
+use Rattle.std.proofs.Common.{◌∙◌, ℕ, List, sym, ap, subst}
 use Rattle.vm_state.specs.declared.object.Monitor.{Monitor}
-use Rattle.vm_state.specs.steps.Owners.{monitor_in, IsFirstOf, IsNoneOf}
+use Rattle.vm_state.specs.steps.Owners.{monitor_in, IsFirstOf}
 use Rattle.vm_state.proofs.OwnerLemmas.{found_in, none_in}
 use Rattle.vm_state.proofs.owners.Owners.monitor.Goals as goal
 

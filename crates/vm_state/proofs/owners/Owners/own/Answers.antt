@@ -1,6 +1,6 @@
-use Rattle.std.proofs.Common.{◌≡◌, ◌∙◌, ◌++◌, ◌∷◌, [], ℕ, List, length, sym, ap, subst, slice_set}
+use Rattle.std.proofs.Common.{◌≡◌, ◌++◌, ◌∷◌, [], ℕ, List, length, sym, subst, slice_set}
 use Rattle.vm_state.specs.declared.object.Monitor.{Monitor}
-use Rattle.vm_state.specs.steps.Owners.{monitor_in, IsMonitorSet, IsFirstOf, IsNoneOf}
+use Rattle.vm_state.specs.steps.Owners.{IsMonitorSet, IsFirstOf, IsNoneOf}
 use Rattle.vm_state.proofs.OwnerLemmas.{set_at, set_behind}
 use Rattle.vm_state.proofs.owners.Owners.own.Goals as goal
 
@@ -22,6 +22,7 @@ returns-in_ok-push-in-None-clause-ok c =
     c.in-None.ensures.none in
     let new : c.push.new.self.items ≡ owned ++ (c.args.number, c.args.monitor) ∷ [] =
     c.in_ok-push-in-None.ensures.items in
-    subst (λ (os : List (ℕ × Monitor)). IsMonitorSet os c.push.new.self.items c.args.number c.args.monitor) c.self.view_is
+    subst (λ (os : List (ℕ × Monitor)). IsMonitorSet os c.push.new.self.items c.args.number c.args.monitor)
+    c.self.view_is
     (subst (λ (os : List (ℕ × Monitor)). IsMonitorSet owned os c.args.number c.args.monitor) (sym new)
     (set_behind c.args.number c.args.monitor owned none))

@@ -1,4 +1,4 @@
-use Rattle.std.proofs.Common.{◌∙◌, ℕ, ap}
+use Rattle.std.proofs.Common.{◌∙◌, ap}
 use Rattle.vm_state.specs.declared.value.Maker.{Maker}
 use Rattle.vm_state.specs.declared.value.Maker.TheVariants.{Class, Thread}
 use Rattle.vm_state.specs.SharedState.{Pool, SharedState, pool_of, set_pool, with_slot}
@@ -13,7 +13,8 @@ changed sh maker change = set_pool sh maker (change (pool_of sh maker))
 pub returns-in-Class-clause-ok : goal.returns-in-Class-clause-ok
 returns-in-Class-clause-ok c =
     let tables : SharedTables = record { classes = c.self.inside.classes; heap = c.self.inside.heap } in
-    let change : Pool → Pool = λ pool. with_slot (with_slot pool c.args.name.number 0 c.args.first) c.args.name.number 1 c.args.second in
+    let change : Pool → Pool = λ pool. with_slot (with_slot pool c.args.name.number 0 c.args.first)
+    c.args.name.number 1 c.args.second in
     if_done c.set_first.result c.set_first.ensures.ok (λ is p.
     rw c.in-Class.is (changed_by_class tables c.set_first.new.self c.in-Class.class change is p
     ∙ ap (λ (s : SharedTables). changed (shared_of s p) (Class c.in-Class.class) change) c.self.view_is))
@@ -21,7 +22,8 @@ returns-in-Class-clause-ok c =
 pub returns-in-Thread-clause-ok : goal.returns-in-Thread-clause-ok
 returns-in-Thread-clause-ok c =
     let tables : SharedTables = record { classes = c.self.inside.classes; heap = c.self.inside.heap } in
-    let change : Pool → Pool = λ pool. with_slot (with_slot pool c.args.name.number 0 c.args.first) c.args.name.number 1 c.args.second in
+    let change : Pool → Pool = λ pool. with_slot (with_slot pool c.args.name.number 0 c.args.first)
+    c.args.name.number 1 c.args.second in
     if_done c.set_first-in-Thread.result c.set_first-in-Thread.ensures.ok (λ is p.
     rw c.in-Thread.is (changed_by_thread tables c.set_first-in-Thread.new.self c.in-Thread.thread change is p
     ∙ ap (λ (s : SharedTables). changed (shared_of s p) (Thread c.in-Thread.thread) change) c.self.view_is))

@@ -1,10 +1,10 @@
 use Rattle.std.proofs.Common.{◌≤◌, length, ap, arith}
 use Rattle.region_shape.proofs.FilesLemmas.{from_files_more, from_files_all}
-use Rattle.region_shape.proofs.are_from_files.Goals as goal
+use Rattle.region_shape.proofs.classes_are_from_files.Goals as goal
 
 pub loop-class-preserved : goal.loop-class-preserved
 loop-class-preserved c =
-    from_files_more c.args.program.now c.loop-class.class c.loop-class.invariant c.is_from_file.ensures
+    from_files_more c.args.program.now c.loop-class.class c.loop-class.invariant c.class_is_from_file.ensures
 
 pub returns : goal.returns
 returns c =

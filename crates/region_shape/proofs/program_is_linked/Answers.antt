@@ -1,6 +1,6 @@
 use Rattle.std.proofs.Common.{subst}
 use Rattle.loading.specs.Families.{Family, IsFamily, AreParentsWithin}
-use Rattle.region_shape.proofs.is_linked.Goals as goal
+use Rattle.region_shape.proofs.program_is_linked.Goals as goal
 
 pub returns : goal.returns
 returns c = record {
