@@ -3,12 +3,13 @@ use Rattle.std.proofs.Common.{◌≡◌, ℕ, zero, suc, ◌+◌, ◌-◌, ◌�
 use Rattle.std.proofs.Common.{inl, inr, refl, sym, ap, subst, subst₂, ◌∙◌, ◌==◌, eqb-true, eq-eqb, arith}
 use Rattle.std.specs.Prelude.{if◌then◌else◌}
 use Rattle.built_in.specs.declared.class_id.ClassId.TheVariants.{Given, BuiltIn, Array}
-use Rattle.vm_state.specs.declared.classes.ClassState.{ClassState}
+use Rattle.vm_state.specs.declared.classes.ClassArea.{ClassArea}
 use Rattle.vm_state.specs.declared.classes.ClassState.TheVariants.{Initialized}
 use Rattle.vm_state.specs.declared.classes.Usability.{Usability}
 use Rattle.vm_state.specs.declared.classes.Usability.TheVariants.{Ready, Fresh, Busy, Broken}
 use Rattle.vm_state.specs.declared.frame.Frame.{Frame}
 use Rattle.vm_state.specs.declared.frame.Segment.{Segment}
+use Rattle.vm_state.specs.declared.heap.Heap.{Heap}
 use Rattle.vm_state.specs.declared.object.Object.{Object}
 use Rattle.vm_state.specs.declared.value.Maker.{Maker}
 use Rattle.vm_state.specs.declared.value.Maker.TheVariants.{Class, Thread}
@@ -87,6 +88,11 @@ alone_at_first c p = record { ready = λ d is. cc; held = held } where
       ≡ Some o → maker ≡ Class c
   held (Class d) n o is = cc
   held (Thread t) n o is = cc
+
+pub alone_new : (c : ℕ) (s : SharedTables) (classes : List ClassArea) (heap : Heap) (p : List Print)
+    → s ≡ record { classes = classes; heap = heap } → classes ≡ [] → heap ≡ record { classes = []; threads = [] }
+    → Alone c (shared_of s p)
+alone_new c s classes heap p is none empty = rw (is, none, empty) (alone_at_first c p)
 
 -- ---- an instruction
 

@@ -24,8 +24,8 @@ abbrev pub IsAlone : ℕ → SharedTables → Type 0
 IsAlone c s = (p : List Print) → Alone c (shared_of s p)
 
 -- So many instructions of c's initializer, each of which costs 1, lead from these frames and this region to those.
-pub record GoesAhead (P : Program) (c most count : ℕ) (old : Segment) (own : Region) (new : Segment) (last : Region)
+pub record GoesAhead (P : Program) (c limit count : ℕ) (old : Segment) (own : Region) (new : Segment) (last : Region)
     : Type 0 where
   pub goes : (env : Environment) (left : ℕ) → count ≤ left
       → GoesOn P env c (frames_of old) own left (frames_of new) last (left - count)
-  pub most : count ≤ most
+  pub most : count ≤ limit
