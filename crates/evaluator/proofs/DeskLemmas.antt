@@ -1,7 +1,8 @@
 -- What is done in a row where a class is alone is what its initializer does.
-use Rattle.std.proofs.Common.{◌≡◌, ℕ, zero, suc, ◌+◌, ◌-◌, ◌≤◌, Bool, true, false, cond, List, [], ◌∷◌, Option, Some, None}
+use Rattle.std.proofs.Common.{◌≡◌, ℕ, zero, suc, ◌+◌, ◌-◌, ◌≤◌, Bool, true, false, cond, List, [], ◌∷◌, Option, Some, None, option_map}
 use Rattle.std.proofs.Common.{inl, inr, refl, sym, ap, subst, subst₂, ◌∙◌, ◌==◌, eqb-true, eq-eqb, arith}
 use Rattle.std.specs.Prelude.{if◌then◌else◌}
+use Rattle.built_in.specs.declared.class_id.ClassId.{ClassId}
 use Rattle.built_in.specs.declared.class_id.ClassId.TheVariants.{Given, BuiltIn, Array}
 use Rattle.vm_state.specs.declared.classes.ClassArea.{ClassArea}
 use Rattle.vm_state.specs.declared.classes.ClassState.TheVariants.{Initialized}
@@ -11,6 +12,7 @@ use Rattle.vm_state.specs.declared.frame.Frame.{Frame}
 use Rattle.vm_state.specs.declared.frame.Segment.{Segment}
 use Rattle.vm_state.specs.declared.heap.Heap.{Heap}
 use Rattle.vm_state.specs.declared.object.Object.{Object}
+use Rattle.vm_state.specs.declared.value.Value.{Value}
 use Rattle.vm_state.specs.declared.value.Maker.{Maker}
 use Rattle.vm_state.specs.declared.value.Maker.TheVariants.{Class, Thread}
 use Rattle.vm_state.specs.Output.{Print}
@@ -123,8 +125,12 @@ module _ (P : Program) (env : Environment) (c : ℕ) where
   abbrev Smoothly : SharedState → Row → Move → SharedState → Type 0
   Smoothly sh r move new = run_smooth 0 (Class c) sh r ≡ Moved (Next move) new
 
+  -- what follows is quiet where it goes smoothly
+  abbrev Goes : Region → SharedState → Row → Move → SharedState → Type 0
+  Goes own sh r move new = Smoothly sh r move new → Quietly P env c own r move new
+
   pub smooth_quiet : (r : Row) (own : Region) (sh : SharedState) (move : Move) (new : SharedState) → Alone c sh
-      → sh.regions c ≡ own → Smoothly sh r move new → Quietly P env c own r move new
+      → sh.regions c ≡ own → Goes own sh r move new
   smooth_quiet (Ends (Next m)) own sh move new alone there h =
       let same : sh ≡ new = cc in
       let moves : m ≡ move = cc in
@@ -132,96 +138,115 @@ module _ (P : Program) (env : Environment) (c : ℕ) where
       (ap (λ (r : Region). Leaves (record { move = m; region = r; elements = 0 })) (sym there), alone)
   smooth_quiet (Ends (Raise x class)) own sh move new alone there h = cc
   smooth_quiet (Ends (Halt kind)) own sh move new alone there h = cc
-  smooth_quiet (UseClass d next) own sh move new alone there h = used (usable 0 (sh.states d)) refl h where
-    used : (u : Usability) → usable 0 (sh.states d) ≡ u
-        → when_ready u (run_smooth 0 (Class c) sh (next true)) ≡ Moved (Next move) new
-        → Quietly P env c own (UseClass d next) move new
-    used Ready is h =
-        let mine : (d == c) ≡ true = eq-eqb d c (alone.ready d is) in
-        rw mine (smooth_quiet (next true) own sh move new alone there h)
-    used Fresh is h = cc
-    used Busy is h = cc
-    used Broken is h = cc
-  smooth_quiet (ReadStatic d f next) own sh move new alone there h = used (usable 0 (sh.states d)) refl h where
-    used : (u : Usability) → usable 0 (sh.states d) ≡ u
-        → when_ready u (run_smooth 0 (Class c) sh (next ((sh.regions d).fields f))) ≡ Moved (Next move) new
-        → Quietly P env c own (ReadStatic d f next) move new
-    used Ready is h =
-        let same : d ≡ c = alone.ready d is in
-        let mine : (d == c) ≡ true = eq-eqb d c same in
-        let region : sh.regions d ≡ own = ap sh.regions same ∙ there in
-        rw mine (smooth_quiet (next (own.fields f)) own sh move new alone there
-        (subst (λ (r : Region). Smoothly sh (next (r.fields f)) move new) region h))
-    used Fresh is h = cc
-    used Busy is h = cc
-    used Broken is h = cc
-  smooth_quiet (WriteStatic d f v next) own sh move new alone there h = used (usable 0 (sh.states d)) refl h where
-    used : (u : Usability) → usable 0 (sh.states d) ≡ u
-        → when_ready u (run_smooth 0 (Class c) (set_region sh d (with_field (sh.regions d) f v)) next)
-        ≡ Moved (Next move) new → Quietly P env c own (WriteStatic d f v next) move new
-    used Ready is h =
-        let same : d ≡ c = alone.ready d is in
-        let mine : (d == c) ≡ true = eq-eqb d c same in
-        let region : sh.regions d ≡ own = ap sh.regions same ∙ there in
-        let leads = subst₂ (λ (k : ℕ) (r : Region). Smoothly (set_region sh k (with_field r f v)) next move new) same
-        region h in
-        rw mine (smooth_quiet next (with_field own f v) (set_region sh c (with_field own f v)) move new
-        (alone_region c sh (with_field own f v) alone) (region_set sh c (with_field own f v)) leads)
-    used Fresh is h = cc
-    used Busy is h = cc
-    used Broken is h = cc
+  smooth_quiet (UseClass d next) own sh move new alone there h =
+      used (usable 0 (sh.states d)) refl h (smooth_quiet (next true) own sh move new alone there) where
+        used : (u : Usability) → usable 0 (sh.states d) ≡ u
+            → when_ready u (run_smooth 0 (Class c) sh (next true)) ≡ Moved (Next move) new
+            → Goes own sh (next true) move new → Quietly P env c own (UseClass d next) move new
+        used Ready is h on =
+            let mine : (d == c) ≡ true = eq-eqb d c (alone.ready d is) in rw mine (on h)
+        used Fresh is h on = cc
+        used Busy is h on = cc
+        used Broken is h on = cc
+  smooth_quiet (ReadStatic d f next) own sh move new alone there h =
+      used (usable 0 (sh.states d)) refl h (smooth_quiet (next (own.fields f)) own sh move new alone there) where
+        used : (u : Usability) → usable 0 (sh.states d) ≡ u
+            → when_ready u (run_smooth 0 (Class c) sh (next ((sh.regions d).fields f))) ≡ Moved (Next move) new
+            → Goes own sh (next (own.fields f)) move new → Quietly P env c own (ReadStatic d f next) move new
+        used Ready is h on =
+            let same : d ≡ c = alone.ready d is in
+            let mine : (d == c) ≡ true = eq-eqb d c same in
+            let region : sh.regions d ≡ own = ap sh.regions same ∙ there in
+            rw mine (on (subst (λ (r : Region). Smoothly sh (next (r.fields f)) move new) region h))
+        used Fresh is h on = cc
+        used Busy is h on = cc
+        used Broken is h on = cc
+  smooth_quiet (WriteStatic d f v next) own sh move new alone there h =
+      used (usable 0 (sh.states d)) refl h
+      (smooth_quiet next (with_field own f v) (set_region sh c (with_field own f v)) move new
+      (alone_region c sh (with_field own f v) alone) (region_set sh c (with_field own f v))) where
+        used : (u : Usability) → usable 0 (sh.states d) ≡ u
+            → when_ready u (run_smooth 0 (Class c) (set_region sh d (with_field (sh.regions d) f v)) next)
+            ≡ Moved (Next move) new
+            → Goes (with_field own f v) (set_region sh c (with_field own f v)) next move new
+            → Quietly P env c own (WriteStatic d f v next) move new
+        used Ready is h on =
+            let same : d ≡ c = alone.ready d is in
+            let mine : (d == c) ≡ true = eq-eqb d c same in
+            let region : sh.regions d ≡ own = ap sh.regions same ∙ there in
+            rw mine (on (subst₂ (λ (k : ℕ) (r : Region). Smoothly (set_region sh k (with_field r f v)) next move new)
+            same region h))
+        used Fresh is h on = cc
+        used Busy is h on = cc
+        used Broken is h on = cc
   smooth_quiet (AskClass x next) own sh move new alone there h =
-      asked ((pool_of sh x.maker).at x.number) refl h where
+      asked ((pool_of sh x.maker).at x.number) refl h
+      (λ class. smooth_quiet (next (Some class)) own sh move new alone there) where
         asked : (o : Option Object) → (pool_of sh x.maker).at x.number ≡ o
-            → Smoothly sh (AskClass x next) move new → Quietly P env c own (AskClass x next) move new
-        asked None is h = let none : Waits ≡ Moved (Next move) new = rw is at h in cc
-        asked (Some o) is h =
+            → Smoothly sh (AskClass x next) move new
+            → ((class : ClassId) → Goes own sh (next (Some class)) move new)
+            → Quietly P env c own (AskClass x next) move new
+        asked None is h on = let none : Waits ≡ Moved (Next move) new = rw is at h in cc
+        asked (Some o) is h on =
             let mine = alone.held x.maker x.number o is in
-            rw (it_sees own sh x.maker there mine, is)
-            (smooth_quiet (next (Some o.class)) own sh move new alone there (rw is at h))
+            rw (it_sees own sh x.maker there mine, is) (on o.class (rw is at h))
   smooth_quiet (LookInto x part next) own sh move new alone there h =
-      looked ((pool_of sh x.maker).at x.number) refl h where
+      looked ((pool_of sh x.maker).at x.number) refl h
+      (λ vs. smooth_quiet (next (part_of part vs)) own sh move new alone there) where
         looked : (o : Option Object) → (pool_of sh x.maker).at x.number ≡ o
-            → Smoothly sh (LookInto x part next) move new → Quietly P env c own (LookInto x part next) move new
-        looked None is h = let none : Waits ≡ Moved (Next move) new = rw is at h in cc
-        looked (Some o) is h =
+            → Smoothly sh (LookInto x part next) move new
+            → ((vs : List Value) → Goes own sh (next (part_of part vs)) move new)
+            → Quietly P env c own (LookInto x part next) move new
+        looked None is h on = let none : Waits ≡ Moved (Next move) new = rw is at h in cc
+        looked (Some o) is h on =
             let mine = alone.held x.maker x.number o is in
-            rw (its_own x.maker mine, its_pool own sh x.maker there mine, is)
-            (smooth_quiet (next (part_of part o.slots)) own sh move new alone there (rw is at h))
+            let seen : own.pool.at x.number ≡ Some o =
+            ap (λ (p : Pool). p.at x.number) (its_pool own sh x.maker there mine) ∙ is in
+            rw (its_own x.maker mine, seen) (on o.slots (rw is at h))
   smooth_quiet (Change x i v next) own sh move new alone there h =
-      changes ((pool_of sh x.maker).at x.number) refl h where
+      changes ((pool_of sh x.maker).at x.number) refl h
+      (smooth_quiet next (record own { pool = with_slot own.pool x.number i v })
+      (set_pool sh (Class c) (with_slot own.pool x.number i v)) move new
+      (alone_pool c sh (with_slot own.pool x.number i v) alone)
+      (changed own sh (with_slot own.pool x.number i v) there)) where
         changes : (o : Option Object) → (pool_of sh x.maker).at x.number ≡ o
-            → Smoothly sh (Change x i v next) move new → Quietly P env c own (Change x i v next) move new
-        changes None is h = let none : Waits ≡ Moved (Next move) new = rw is at h in cc
-        changes (Some o) is h =
+            → Smoothly sh (Change x i v next) move new
+            → Goes (record own { pool = with_slot own.pool x.number i v })
+            (set_pool sh (Class c) (with_slot own.pool x.number i v)) next move new
+            → Quietly P env c own (Change x i v next) move new
+        changes None is h on = let none : Waits ≡ Moved (Next move) new = rw is at h in cc
+        changes (Some o) is h on =
             let mine = alone.held x.maker x.number o is in
-            let q = with_slot own.pool x.number i v in
-            let leads : Smoothly (set_pool sh x.maker (with_slot (pool_of sh x.maker) x.number i v)) next move new =
-            rw is at h in
+            let leads : when_held (Some o.slots) (λ (vs : List Value). run_smooth 0 (Class c)
+            (set_pool sh x.maker (with_slot (pool_of sh x.maker) x.number i v)) next) ≡ Moved (Next move) new =
+            subst (λ (w : Option Object). when_held (option_map (λ (k : Object). k.slots) w)
+            (λ (vs : List Value). run_smooth 0 (Class c)
+            (set_pool sh x.maker (with_slot (pool_of sh x.maker) x.number i v)) next) ≡ Moved (Next move) new) is h in
             let pool = sym (its_pool own sh x.maker there mine) in
-            let here = subst₂ (λ (m : Maker) (p : Pool). Smoothly (set_pool sh m (with_slot p x.number i v)) next move
-            new) mine pool leads in
             rw (its_own x.maker mine)
-            (smooth_quiet next (record own { pool = q }) (set_pool sh (Class c) q) move new (alone_pool c sh q alone)
-            (changed own sh q there) here)
+            (on (subst₂ (λ (m : Maker) (p : Pool). Smoothly (set_pool sh m (with_slot p x.number i v)) next move new)
+            mine pool leads))
   smooth_quiet (Make (Given d) slots next) own sh move new alone there h =
-      used (usable 0 (sh.states d)) h where
-        after : Pool → SharedState
-        after p = set_pool sh (Class c) (with_new p (Given d) slots)
-
+      used (usable 0 (sh.states d)) h
+      (smooth_quiet (next (record { maker = Class c; number = own.pool.count }))
+      (record own { pool = with_new own.pool (Given d) slots })
+      (set_pool sh (Class c) (with_new own.pool (Given d) slots)) move new
+      (alone_pool c sh (with_new own.pool (Given d) slots) alone)
+      (changed own sh (with_new own.pool (Given d) slots) there)) where
         used : (u : Usability)
-            → when_ready u (run_smooth 0 (Class c) (after (sh.regions c).pool)
+            → when_ready u (run_smooth 0 (Class c) (set_pool sh (Class c) (with_new (sh.regions c).pool (Given d) slots))
             (next (record { maker = Class c; number = (sh.regions c).pool.count })))
-            ≡ Moved (Next move) new → Quietly P env c own (Make (Given d) slots next) move new
-        used Ready h =
-            let q = with_new own.pool (Given d) slots in
-            let leads = subst (λ (r : Region). Smoothly (after r.pool)
-            (next (record { maker = Class c; number = r.pool.count })) move new) there h in
-            smooth_quiet (next (record { maker = Class c; number = own.pool.count })) (record own { pool = q })
-            (set_pool sh (Class c) q) move new (alone_pool c sh q alone) (changed own sh q there) leads
-        used Fresh h = cc
-        used Busy h = cc
-        used Broken h = cc
+            ≡ Moved (Next move) new
+            → Goes (record own { pool = with_new own.pool (Given d) slots })
+            (set_pool sh (Class c) (with_new own.pool (Given d) slots))
+            (next (record { maker = Class c; number = own.pool.count })) move new
+            → Quietly P env c own (Make (Given d) slots next) move new
+        used Ready h on =
+            on (subst (λ (r : Region). Smoothly (set_pool sh (Class c) (with_new r.pool (Given d) slots))
+            (next (record { maker = Class c; number = r.pool.count })) move new) there h)
+        used Fresh h on = cc
+        used Busy h on = cc
+        used Broken h on = cc
   smooth_quiet (Make (BuiltIn b) slots next) own sh move new alone there h = cc
   smooth_quiet (Make (Array a) slots next) own sh move new alone there h = cc
   smooth_quiet (UseMonitor x enter next) own sh move new alone there h = cc
@@ -281,7 +306,9 @@ module _ (T : Tables) (env : Environment) (c : ℕ) where
   stays_there fs own new left same = record {
     cost = 0;
     paid = omega arith;
-    runs = λ n last run. subst (λ (r : Region). RunsAlone P env c fs r n last) (sym same) run;
+    runs = λ n last run.
+        let count : n ≡ 0 + n = omega arith in
+        subst₂ (λ (r : Region) (k : ℕ). RunsAlone P env c fs r k last) (sym same) count run;
     stops = λ stop stops.
         let all : left - 0 ≡ left = omega arith in
         subst₂ (λ (r : Region) (k : ℕ). StopsAlone P env c fs r k stop) (sym same) all stops;
@@ -340,3 +367,10 @@ went_ahead T c most count old new own last first second alone there course fits 
       (course_goes T env c count left (frames_of old) first own (over (frames_of new) second) alone there course few);
   most = fits;
 }
+
+-- nothing is done yet
+pub begins_there : (T : Tables) (env : Environment) (c left : ℕ) (fs : List Frame) (own : Region)
+    → GoesOn (program_of T) env c fs own left fs own left
+begins_there T env c left fs own =
+    let all : left - 0 ≡ left = omega arith in
+    subst (λ (k : ℕ). GoesOn (program_of T) env c fs own left fs own k) all (stays_there T env c fs own own left refl)

@@ -1,9 +1,20 @@
 use Rattle.std.proofs.Common.{◌-◌, ◌≤◌, suc, refl, sym, arith}
 use Rattle.machine.specs.Linked.{program_of}
 use Rattle.semantics.specs.Alone.{Unpaid}
-use Rattle.evaluator.specs.Regions.{environment_of}
+use Rattle.vm_state.specs.Segments.{frames_of}
+use Rattle.evaluator.specs.Regions.{region_of, environment_of}
+use Rattle.evaluator.proofs.DeskLemmas.{begins_there}
 use Rattle.evaluator.proofs.TurnsLemmas.{further, stops_further, goes_over, goes_further}
 use Rattle.evaluator.proofs.settling.run_frames.Goals as goal
+
+pub loop-left-init : goal.loop-left-init
+loop-left-init c = record {
+  goes = begins_there c.args.program.now (environment_of c.args.regions.now) c.args.class c.args.budget
+      (frames_of c.args.segment.now) (region_of c.args.store.now.own);
+  within = omega arith;
+  steps = c.new-desk.ensures.steps c.args.program.now;
+  alone = c.new-desk.ensures.alone c.args.class;
+}
 
 pub loop-left-preserved : goal.loop-left-preserved
 loop-left-preserved c =
