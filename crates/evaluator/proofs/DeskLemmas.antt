@@ -129,7 +129,7 @@ module _ (P : Program) (env : Environment) (c : ℕ) where
   abbrev Goes : Region → SharedState → Row → Move → SharedState → Type 0
   Goes own sh r move new = Smoothly sh r move new → Quietly P env c own r move new
 
-  pub smooth_quiet : (r : Row) (own : Region) (sh : SharedState) (move : Move) (new : SharedState) → Alone c sh
+  smooth_quiet : (r : Row) (own : Region) (sh : SharedState) (move : Move) (new : SharedState) → Alone c sh
       → sh.regions c ≡ own → Goes own sh r move new
   smooth_quiet (Ends (Next m)) own sh move new alone there h =
       let same : sh ≡ new = cc in
@@ -317,7 +317,7 @@ module _ (T : Tables) (env : Environment) (c : ℕ) where
   abbrev Leaving : List Frame → Region → ℕ → ℕ → Above → Type 0
   Leaving fs own left n b = GoesOn P env c fs own left b.frames (b.shared.regions c) (left - n)
 
-  pub course_goes : (n left : ℕ) (fs : List Frame) (sh : SharedState) (own : Region) (b : Above) → Alone c sh
+  course_goes : (n left : ℕ) (fs : List Frame) (sh : SharedState) (own : Region) (b : Above) → Alone c sh
       → sh.regions c ≡ own → Course T 0 (Class c) n (over fs sh) b → n ≤ left → Leaving fs own left n b
   course_goes zero left fs sh own b alone there same fits =
       subst (Leaving fs own left 0) (sym same) (stays_there fs own (sh.regions c) left (sym there))
@@ -331,7 +331,7 @@ module _ (T : Tables) (env : Environment) (c : ℕ) where
       (goes_further P env c (once_on f fs m.frames own m.shared most one)
       (course_goes n most m.frames m.shared (m.shared.regions c) b one.quietly.1 refl more few))
 
-  pub course_alone : (n : ℕ) (fs : List Frame) (sh : SharedState) (b : Above) → Alone c sh
+  course_alone : (n : ℕ) (fs : List Frame) (sh : SharedState) (b : Above) → Alone c sh
       → Course T 0 (Class c) n (over fs sh) b → Alone c b.shared
   course_alone zero fs sh b alone same = subst (λ (x : Above). Alone c x.shared) (sym same) alone
   course_alone (suc n) [] sh b alone (m, (leads, some), more) = cc
@@ -367,6 +367,10 @@ went_ahead T c most count old new own last first second alone there course fits 
       (course_goes T env c count left (frames_of old) first own (over (frames_of new) second) alone there course few);
   most = fits;
 }
+
+pub course_stays : (T : Tables) (c n : ℕ) (fs : List Frame) (sh : SharedState) (b : Above) → Alone c sh
+    → Course T 0 (Class c) n (over fs sh) b → Alone c b.shared
+course_stays T c = course_alone T (λ d. None) c
 
 -- nothing is done yet
 pub begins_there : (T : Tables) (env : Environment) (c left : ℕ) (fs : List Frame) (own : Region)

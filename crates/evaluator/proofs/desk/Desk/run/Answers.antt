@@ -7,7 +7,7 @@ use Rattle.courses.specs.Courses.{over}
 use Rattle.evaluator.specs.Regions.{region_of}
 use Rattle.evaluator.specs.declared.regions.Region.{Region as Held}
 use Rattle.evaluator.specs.steps.Desks.{Alone}
-use Rattle.evaluator.proofs.DeskLemmas.{alone_with, alone_without, course_alone, region_with, went_ahead}
+use Rattle.evaluator.proofs.DeskLemmas.{alone_with, alone_without, course_stays, region_with, went_ahead}
 use Rattle.evaluator.proofs.desk.Desk.run.Goals as goal
 
 pub returns-clause-alone : goal.returns-clause-alone
@@ -18,7 +18,7 @@ returns-clause-alone c p =
     let first = alone_with class (shared_of c.args.self.now.shared p) put (region_of c.replace-fields.result)
     (c.in_ok-initialize.ensures.ok p) (c.requires.alone p) in
     alone_without class ran (shared_of c.take-fields.new.self p) empty_region (c.take-fields.ensures.left p)
-    (course_alone c.args.program.now class c.in_ok-count.count (frames_of c.args.segment.now) put
+    (course_stays c.args.program.now class c.in_ok-count.count (frames_of c.args.segment.now) put
     (over (frames_of c.run_segment.new.segment) ran) first (c.in_ok-count.ensures.course.run p))
 
 pub returns-clause-ahead : goal.returns-clause-ahead
