@@ -5,14 +5,6 @@ pub mod MemberTablesLemmas
 pub mod FamiliesChainLemmas
 pub mod MemberLookupLemmas
 pub mod AboveLemmas
-pub mod AmongLemmas
-pub mod WordLemmas
-pub mod KnownLemmas
-pub mod DeclarationsLemmas
-pub mod MaskLemmas
-pub mod WindowsLemmas
-pub mod AnswersLemmas
-pub mod FoundAheadLemmas
 pub mod MarkLemmas
 pub mod ClassSetLemmas
 pub mod DefaultsLemmas

@@ -8,8 +8,7 @@ use Rattle.std.proofs.lemmas.Bool.Decides.{nat_tests}
 use Rattle.built_in.specs.Keys.{NameAndType}
 use Rattle.hierarchy.specs.Texts.{AreDistinct}
 use Rattle.hierarchy.specs.declared.member_key.MemberKey.{MemberKey}
-use Rattle.hierarchy.specs.declared.member_key.ClassMember.{ClassMember}
-use Rattle.hierarchy.specs.steps.MemberKeys.{AreNumbers, key_order, member_order, same_key, same_member}
+use Rattle.hierarchy.specs.steps.MemberKeys.{AreNumbers, key_order, same_key}
 
 one_text : (texts : List (List ℕ)) (i : ℕ) (a b : List ℕ) → slice_get texts i ≡ Some a → slice_get texts i ≡ Some b
     → a ≡ b
@@ -38,13 +37,6 @@ key_is a b e =
     let d = eqb-true a.descriptor b.descriptor parts.1 in
     λ i. record { name = n i; descriptor = d i }
 
-pub member_is : (a b : ClassMember) → same_member a b ≡ true → a ≡ b
-member_is a b e =
-    let parts = and_parts (eqb a.class b.class) (same_key a.key b.key) e in
-    let c = eqb-true a.class b.class parts.0 in
-    let k = key_is a.key b.key parts.1 in
-    λ i. record { class = c i; key = k i }
-
 pub same_key_itself : (a : MemberKey) → same_key a a ≡ true
 same_key_itself a = rw (eq-eqb a.name a.name refl, eq-eqb a.descriptor a.descriptor refl) refl
 
@@ -63,9 +55,3 @@ key_by_order a b =
     is_eq_then (nat_cmp a.name b.name) (nat_cmp a.descriptor b.descriptor)
     ∙ ap (λ t. t && is_eq (nat_cmp a.descriptor b.descriptor)) (is_eq_number a.name b.name)
     ∙ ap (λ t. eqb a.name b.name && t) (is_eq_number a.descriptor b.descriptor)
-
-pub member_by_order : (a b : ClassMember) → is_eq (member_order a b) ≡ same_member a b
-member_by_order a b =
-    is_eq_then (nat_cmp a.class b.class) (key_order a.key b.key)
-    ∙ ap (λ t. t && is_eq (key_order a.key b.key)) (is_eq_number a.class b.class)
-    ∙ ap (λ t. eqb a.class b.class && t) (key_by_order a.key b.key)

@@ -16,13 +16,6 @@ pub mod NearestMembers
 pub mod WholeHierarchies
 pub mod Marked
 pub mod Ancestors
-pub mod ParentSteps
-pub mod DeclarationBits
-pub mod Declarations
-pub mod Windows
-pub mod Answers
-pub mod Groups
-pub mod FoundAhead
 pub mod Specials
 pub mod Selectable
 pub mod HeldTexts

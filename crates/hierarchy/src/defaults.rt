@@ -3,7 +3,6 @@
 
 ghost use Rattle.std.specs.Prelude.{◌≡◌, ◌↔◌, ◌<◌, ◌++◌, ℕ, List, length, IsTrue, MatchOption};
 ghost use Rattle.std.specs.List.{Contains};
-ghost use Rattle.hierarchy.specs.declared.defaults.Found.TheVariants as found;
 ghost use Rattle.hierarchy.specs.steps.Defaults.{AreFound, found_after, only_of, HasMethod, IsFree, AreCovered};
 ghost use Rattle.hierarchy.specs.steps.Defaults.{AreParentsOf, classes_of, Among};
 ghost use Rattle.hierarchy.specs.steps.Reaches.{class_noted};
@@ -41,16 +40,6 @@ impl Found {
                 Found::One { .. } | Found::Several => Found::Several,
             },
             None => self,
-        }
-    }
-
-    /// Whether there are several.
-    pub(crate) fn are_several(self) -> bool
-        ensures { IsTrue result → self ≡ found.Several }
-    {
-        match self {
-            Found::Nothing | Found::One { .. } => false,
-            Found::Several => true,
         }
     }
 

@@ -23,10 +23,3 @@ impl MemberKey {
         self.name == other.name && self.descriptor == other.descriptor
     }
 }
-
-/// A class and what one of its members is called.
-#[derive(Clone, Copy, PartialEq, Eq, PartialOrd, Ord)]
-pub(crate) struct ClassMember {
-    pub(crate) class: usize,
-    pub(crate) key: MemberKey,
-}

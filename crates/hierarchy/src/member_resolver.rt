@@ -1,30 +1,22 @@
 //! Resolution of references to members (JVMS 5.4.3.2 to 5.4.3.4).
 
-ghost use Rattle.std.specs.Prelude.{◌≡◌, Option, Some, IfOk};
+ghost use Rattle.std.specs.Prelude.{◌≡◌, IfOk};
 ghost use Rattle.hierarchy.specs.MemberNames.{named_in};
 ghost use Rattle.hierarchy.specs.Resolution.{ResolvesField, ResolvesMethod};
-ghost use Rattle.hierarchy.specs.declared.member.Field.{Field as Resolved};
-ghost use Rattle.hierarchy.specs.declared.member.Method.{Method as ResolvedMethod};
-ghost use Rattle.hierarchy.specs.steps.FoundAhead.{given_field, given_method};
 
 use crate::ancestors::Ancestors;
-use crate::asked::MemberKind;
-use crate::found_ahead::FoundAhead;
 use crate::hierarchy::Hierarchy;
-use crate::member::{DeclaredMember, Field, Method};
+use crate::member::{Field, Method};
 use crate::member_name::MemberName;
 use built_in::class_id::ClassId;
 use std::alloc::{AllocError, Global};
 use std::marker::Model;
 
-/// Resolves references to members of a hierarchy. Those whose walks up would take long together are resolved ahead. For
-/// any other one what stands above a class is kept until another class is asked: a walk up serves all references to one
-/// class that come one after the other.
+/// Resolves references to members of a hierarchy. What stands above a class is kept until another class is asked: a walk
+/// up serves all references to one class that come one after the other.
 pub struct MemberResolver<'a> {
     hierarchy: &'a Hierarchy,
     ancestors: Ancestors,
-    fields: FoundAhead,
-    methods: FoundAhead,
 }
 
 // By hand, since a derived one is proved anew wherever one is let go.
@@ -33,8 +25,6 @@ impl<'a> Drop for MemberResolver<'a> {
         let MemberResolver {
             hierarchy: _,
             ancestors: _,
-            fields: _,
-            methods: _,
         } = self;
     }
 }
@@ -42,14 +32,12 @@ impl<'a> Drop for MemberResolver<'a> {
 impl<'a> Model for MemberResolver<'a> {
     ghost use Rattle.hierarchy.specs.Hierarchies.{NumberedFamily};
     ghost use Rattle.hierarchy.specs.steps.Ancestors.{AreOf};
-    ghost use Rattle.hierarchy.specs.steps.FoundAhead.{AreFields, AreMethods};
 
     ghost Value = { NumberedFamily };
 
     ghost view = { λ s. s.hierarchy.now };
 
-    ghost invariant = { λ s. AreOf s.hierarchy.now.family s.ancestors × AreFields s.hierarchy.now s.fields
-        × AreMethods s.hierarchy.now s.methods };
+    ghost invariant = { λ s. AreOf s.hierarchy.now.family s.ancestors };
 }
 
 impl<'a> MemberResolver<'a> {
@@ -61,13 +49,9 @@ impl<'a> MemberResolver<'a> {
         ensures { IfOk result (λ resolver. resolver ≡ hierarchy.now) }
     {
         let ancestors = Ancestors::new(alloc)?;
-        let fields = hierarchy.found_ahead(alloc, MemberKind::Field)?;
-        let methods = hierarchy.found_ahead(alloc, MemberKind::Method)?;
         Ok(MemberResolver {
             hierarchy,
             ancestors,
-            fields,
-            methods,
         })
     }
 
@@ -84,9 +68,6 @@ impl<'a> MemberResolver<'a> {
         ensures field { IfOk result (ResolvesField self.old.family (named_in self.old.family member) class) }
         ensures kept { self.new ≡ self.old }
     {
-        if let Some(field) = self.field_ahead(class, member) {
-            return Ok(field);
-        }
         self.hierarchy
             .resolve_field(&mut self.ancestors, class, member)
     }
@@ -105,50 +86,7 @@ impl<'a> MemberResolver<'a> {
         ensures method { IfOk result (ResolvesMethod self.old.family (named_in self.old.family member) class) }
         ensures kept { self.new ≡ self.old }
     {
-        if let Some(method) = self.method_ahead(class, member) {
-            return Ok(method);
-        }
         self.hierarchy
             .resolve_method(&mut self.ancestors, class, member)
     }
-
-    /// The field of a reference, if it was resolved ahead.
-    fn field_ahead(&self, class: ClassId, member: MemberName) -> Option<Option<Field>>
-        ensures { (f : Option Resolved) → result ≡ Some f
-            → ResolvesField self.now.family (named_in self.now.family member) class f }
-    {
-        let ClassId::Given(class) = class else {
-            return None;
-        };
-        let found = self.fields.get(class, self.hierarchy.key(member))?;
-        Some(given_field(found))
-    }
-
-    /// The method of a reference, if it was resolved ahead.
-    fn method_ahead(&self, class: ClassId, member: MemberName) -> Option<Option<Method>>
-        ensures { (m : Option ResolvedMethod) → result ≡ Some m
-            → ResolvesMethod self.now.family (named_in self.now.family member) class m }
-    {
-        let ClassId::Given(class) = class else {
-            return None;
-        };
-        let found = self.methods.get(class, self.hierarchy.key(member))?;
-        Some(given_method(found))
-    }
-}
-
-/// A declared field as one that a reference resolves to.
-fn given_field(found: Option<DeclaredMember>) -> Option<Field>
-    ensures { result ≡ given_field found }
-{
-    let DeclaredMember { class, index } = found?;
-    Some(Field::Given { class, index })
-}
-
-/// A declared method as one that a reference resolves to.
-fn given_method(found: Option<DeclaredMember>) -> Option<Method>
-    ensures { result ≡ given_method found }
-{
-    let DeclaredMember { class, index } = found?;
-    Some(Method::Given { class, index })
 }

@@ -5,21 +5,13 @@ use Rattle.std.specs.Ordering.{nat_cmp, ordering_then}
 use Rattle.std.specs.declared.cmp.Ordering.{Ordering}
 use Rattle.built_in.specs.Keys.{NameAndType}
 use Rattle.hierarchy.specs.declared.member_key.MemberKey.{MemberKey}
-use Rattle.hierarchy.specs.declared.member_key.ClassMember.{ClassMember}
 
 -- by name, then by descriptor
 abbrev pub key_order : MemberKey → MemberKey → Ordering
 key_order a b = ordering_then (nat_cmp a.name b.name) (nat_cmp a.descriptor b.descriptor)
 
--- by class, then by key
-abbrev pub member_order : ClassMember → ClassMember → Ordering
-member_order a b = ordering_then (nat_cmp a.class b.class) (key_order a.key b.key)
-
 abbrev pub same_key : MemberKey → MemberKey → Bool
 same_key a b = a.name == b.name && a.descriptor == b.descriptor
-
-abbrev pub same_member : ClassMember → ClassMember → Bool
-same_member a b = a.class == b.class && same_key a.key b.key
 
 -- The texts of these numbers are a name and a descriptor.
 pub record AreNumbers (texts : List (List ℕ)) (key : NameAndType) (numbers : MemberKey) : Type 0 where
