@@ -3,7 +3,6 @@
 ghost use Rattle.std.specs.Prelude.{◌≡◌, ℕ, ◌+◌, ◌-◌, ◌*◌, ◌<◌, ◌≤◌, [], ◌∷◌, ◌++◌, length, replicate, slice_index};
 ghost use Rattle.std.specs.Prelude.{IfOk, OnOk, vec_len};
 ghost use Rattle.std.specs.List.{Contains};
-ghost use Rattle.graph.specs.Order.{IsPostorder};
 ghost use Rattle.graph.specs.steps.Finishing.{IsFinishingOrder};
 ghost use Rattle.graph.specs.steps.Walking.{Walking};
 
@@ -181,14 +180,4 @@ pub(crate) fn finishing_order(alloc: Global, graph: &Graph) -> Result<Vec<usize>
     let mut walk = Walk::new(alloc, graph.len())?;
     walk_all(&mut walk, graph)?;
     Ok(walk.finished)
-}
-
-/// Each vertex once, after its successors, but for those that reach it.
-///
-/// # Errors
-/// Where memory runs out.
-pub fn order(alloc: Global, graph: &Graph) -> Result<Vec<usize>, AllocError>
-    ensures { IfOk result (λ order. IsPostorder graph.now order.items) }
-{
-    finishing_order(alloc, graph)
 }
