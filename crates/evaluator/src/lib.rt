@@ -2,6 +2,7 @@
 #![tactic(auto)]
 
 mod build;
+mod desk;
 pub mod laws;
 pub mod outcome;
 pub mod regions;

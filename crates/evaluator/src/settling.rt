@@ -11,6 +11,7 @@ ghost use Rattle.evaluator.specs.Settleable.{IsSettleable, LeavesWhole};
 ghost use Rattle.evaluator.specs.steps.Turns.{IsEnd};
 
 use crate::build::Build;
+use crate::desk::Desk;
 use crate::outcome::{Ending, Halt, Outcome, Refusal};
 use crate::regions::{Region, Regions};
 use crate::turn::{Turn, take_turn};
@@ -36,7 +37,8 @@ fn constant_region(alloc: Global, program: &Program, class: u32) -> Result<Regio
     })
 }
 
-/// Runs the frames of an initializer to their end, as long as their cost is within a budget.
+/// Runs the frames of an initializer to their end, as long as their cost is within a budget: many instructions in a row
+/// where they touch no class but its own, and by itself what is left of them.
 ///
 /// # Errors
 /// `AllocError` where memory is refused.
@@ -52,9 +54,20 @@ fn run_frames<'a>(
     ensures { IfOk result (λ halt. IsEnd (program_of program.now) (environment_of regions.now) class
         (frames_of segment.old) (region_of store.old.own) budget halt (region_of store.new.own)) }
 {
+    let mut desk = Desk::new(alloc);
     let mut left = budget;
     while left > 0 {
-        let most = left - 1;
+        let done = budget - left;
+        let ahead = desk.run(
+            alloc,
+            program,
+            class,
+            &mut store.own,
+            segment,
+            done,
+            left - 1,
+        )?;
+        let most = left - 1 - ahead;
         match take_turn(alloc, program, regions, class, store, segment, most)? {
             Turn::On => left = most.saturating_sub(store.made),
             Turn::Over => return Ok(None),

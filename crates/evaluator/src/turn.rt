@@ -22,6 +22,7 @@ use machine::kinds::{Actor, Conclusion, Stop};
 use program::Program;
 use std::alloc::{AllocError, Global};
 use vm_state::frame::{Frame, Segment};
+use vm_state::spares::Spares;
 use vm_state::value::{Fault, Maker, Value};
 
 /// What one instruction of an initializer did.
@@ -63,7 +64,8 @@ fn perform<'a>(
         thread: 0,
         maker: Maker::Class(class),
     };
-    execute(alloc, program, by, frame, store)
+    let mut spares = Spares::none(alloc);
+    execute(alloc, &mut spares, program, by, frame, store)
 }
 
 /// A call: the frame of the method called stands on its caller, which loses so many operands.

@@ -13,11 +13,14 @@ use Rattle.vm_state.specs.Output.{Print}
 use Rattle.vm_state.specs.SharedState.{SharedState}
 use Rattle.vm_state.specs.Shares.{shared_of}
 use Rattle.vm_state.specs.Stacks.{segment_of, levels_of, levels_in}
+use Rattle.semantics.specs.Moves.{Stand}
 use Rattle.semantics.specs.Steps.{Thread as DefinedThread, Going as IsGoingOn, follows, step_thread, maker_of}
 use Rattle.semantics.specs.Worlds.{World, Run, step_of, put_thread}
 use Rattle.program.specs.Tables.{Tables}
 use Rattle.machine.specs.Linked.{program_of}
+use Rattle.machine.specs.Table.{row}
 use Rattle.courses.specs.Courses.{Above, Advances, Course, above, over}
+use Rattle.courses.proofs.SmoothLemmas.{smooth_led}
 use Rattle.init_engine.specs.declared.world.Thread.{Thread}
 use Rattle.init_engine.specs.declared.world.Thread.TheVariants.{Going, Ended}
 use Rattle.init_engine.specs.Numbering.{AreNumbered}
@@ -33,7 +36,8 @@ unfolding step_thread
 advances_steps P t [] gs ls sh new (leads, some) = cc
 advances_steps P t (f ∷ fs) [] ls sh new (leads, some) = absurd some
 advances_steps P t (f ∷ fs) (g ∷ gs) ls sh new (leads, some) =
-    ap (follows (program_of P) sh t (f ∷ fs) ls) leads
+    ap (follows (program_of P) sh t (f ∷ fs) ls)
+    (smooth_led t (maker_of t ls) (row P f) sh (f ∷ fs) (Stand (g ∷ gs)) new leads)
 
 -- ---- in the whole world
 

@@ -47,10 +47,10 @@ pub untouched_as : (r : Result Conclusion Stop) (old new : Frame) → new ≡ ol
 untouched_as (Ok Stays) old new same = tt
 untouched_as (Ok (Becomes g)) old new same = tt
 untouched_as (Ok (Calls callee arguments)) old new same = same
-untouched_as (Ok (Returns value)) old new same = tt
+untouched_as (Ok (Returns value)) old new same = same
 untouched_as (Ok (Prints text operands)) old new same = same
 untouched_as (Ok (Raises x class)) old new same = same
-untouched_as (Ok (Halts kind)) old new same = tt
+untouched_as (Ok (Halts kind)) old new same = same
 untouched_as (Err stop) old new same = same
 
 -- an instruction whose row leads to what another row leads to

@@ -10,7 +10,7 @@ use crate::abrupt::{Abrupt, end_early};
 use crate::array_references::{Element, element_at, third_reference};
 use crate::array_types::{can_hold, stored_as};
 use crate::kinds::{Actor, Conclusion, Stop};
-use crate::pushing::replace_value;
+use crate::pushing::replace_two;
 use crate::references::{class_of, second_reference};
 use crate::store::Store;
 use crate::stored_kind::top_stored;
@@ -70,7 +70,7 @@ pub fn load_element<S: Store>(
     ensures kept { Keeps S.state result store.old store.new frame.old frame.new }
 {
     match loaded(by, frame, store, kind) {
-        Ok(value) => Ok(replace_value(frame, 2, value)),
+        Ok(value) => Ok(replace_two(frame, value)),
         Err(abrupt) => end_early(alloc, by, store, abrupt),
     }
 }

@@ -11,7 +11,7 @@ use crate::array_operation::ArrayOperation;
 use crate::array_references::length_of_top;
 use crate::array_types::{type_of_primitives, zero_of};
 use crate::kinds::{Actor, Conclusion, Stop};
-use crate::pushing::replace_value;
+use crate::pushing::replace_top;
 use crate::raising::{raise, trap};
 use crate::store::Store;
 use built_in::class_id::{ArrayType, BuiltIn};
@@ -56,7 +56,7 @@ fn make_array<S: Store>(
         Err(reason) => return trap(alloc, by, store, reason),
     };
     let name = store.make_array(alloc, by, array, zero, size)?;
-    Ok(replace_value(frame, 1, Value::reference_to(name)))
+    Ok(replace_top(frame, Value::reference_to(name)))
 }
 
 /// `arraylength`.
@@ -71,7 +71,7 @@ fn array_length<S: Store>(
     ensures kept { Keeps S.state result store.old store.new frame.old frame.new }
 {
     match length_of_top(by, frame, store) {
-        Ok(length) => Ok(replace_value(frame, 1, Value::Int(length))),
+        Ok(length) => Ok(replace_top(frame, Value::Int(length))),
         Err(abrupt) => end_early(alloc, by, store, abrupt),
     }
 }

@@ -14,6 +14,7 @@ use crate::store::Store;
 use program::Program;
 use std::alloc::Global;
 use vm_state::frame::Frame;
+use vm_state::spares::Spares;
 
 /// `invokestatic`, `invokespecial`, `invokevirtual` and `invokeinterface` (JVMS 6.5).
 ///
@@ -23,6 +24,7 @@ use vm_state::frame::Frame;
 #[tactic(auto, using(crate::proofs::AccessesLemmas::untouched_as))]
 pub fn execute_call<S: Store>(
     alloc: Global,
+    spares: &mut Spares,
     program: &Program,
     by: Actor,
     frame: &mut Frame,
@@ -34,11 +36,11 @@ pub fn execute_call<S: Store>(
     ensures kept { Keeps S.state result store.old store.new frame.old frame.new }
 {
     match operation {
-        CallOperation::Static(call) => call_static(alloc, program, by, frame, store, call),
-        CallOperation::Instance(call) => call_instance(alloc, program, by, frame, store, call),
+        CallOperation::Static(call) => call_static(alloc, spares, program, by, frame, store, call),
+        CallOperation::Instance(call) => call_instance(alloc, spares, program, by, frame, store, call),
         CallOperation::Print(what, line, call) => {
-            print_value(alloc, program, by, frame, store, what, line, call)
+            print_value(alloc, spares, program, by, frame, store, what, line, call)
         }
-        CallOperation::EndLine(call) => end_line(alloc, program, by, frame, store, call),
+        CallOperation::EndLine(call) => end_line(alloc, spares, program, by, frame, store, call),
     }
 }

@@ -33,6 +33,7 @@ use vm_state::frame::{Frame, FrameList, Segment};
 use vm_state::initialization::Frames;
 use vm_state::output::Output;
 use vm_state::shared::Shared;
+use vm_state::spares::Spares;
 use vm_state::text::Text;
 use vm_state::value::{Fault, Maker, Name, Value};
 
@@ -342,7 +343,8 @@ pub fn effect(
         innermost: mut frame,
         callers,
     } = segment;
-    match execute(alloc, program, by, &mut frame, shared) {
+    let mut spares = Spares::none(alloc);
+    match execute(alloc, &mut spares, program, by, &mut frame, shared) {
         Ok(conclusion) => { conclude(program, frames, frame, callers, conclusion, printed) }
         Err(stop) => {
             stand(frames, frame, callers);

@@ -26,6 +26,7 @@ use program::Program;
 use std::alloc::Global;
 use vm_state::ends::FaultKind;
 use vm_state::frame::{Activity, Frame};
+use vm_state::spares::Spares;
 use vm_state::value::Value;
 
 /// The end of an instruction of a method that touches its own frame alone, which is as it left it.
@@ -52,6 +53,7 @@ fn end<S: Store>(
 #[inline(always)]
 fn execute_resolved<S: Store>(
     alloc: Global,
+    spares: &mut Spares,
     program: &Program,
     by: Actor,
     frame: &mut Frame,
@@ -72,7 +74,7 @@ fn execute_resolved<S: Store>(
         }
         Resolved::GetOut => Ok(push_value(frame, Value::Out)),
         Resolved::OnArray(operation) => on_array(alloc, program, by, frame, store, operation),
-        Resolved::OnCall(operation) => execute_call(alloc, program, by, frame, store, operation),
+        Resolved::OnCall(operation) => execute_call(alloc, spares, program, by, frame, store, operation),
         Resolved::Return(kind) => Ok(return_value(frame, kind)),
         Resolved::OnObject(operation) => {
             execute_on_object(alloc, program, by, frame, store, operation)
@@ -85,6 +87,7 @@ fn execute_resolved<S: Store>(
 #[tactic(auto, unfolding(crate::specs::Operations::operation_at))]
 fn execute_next<S: Store>(
     alloc: Global,
+    spares: &mut Spares,
     program: &Program,
     by: Actor,
     frame: &mut Frame,
@@ -103,12 +106,12 @@ fn execute_next<S: Store>(
         Some(went) => end(alloc, by, frame, store, went),
         None => {
             let resolved = resolved_operation(program, class, method, instruction);
-            execute_resolved(alloc, program, by, frame, store, resolved)
+            execute_resolved(alloc, spares, program, by, frame, store, resolved)
         }
     }
 }
 
-/// The next instruction of a frame.
+/// The next instruction of a frame. A frame that it calls takes memory of those that were kept.
 ///
 /// # Errors
 /// The reason why it was not done. The frame is as it was, and so is the store; where memory is refused, what
@@ -116,6 +119,7 @@ fn execute_next<S: Store>(
 #[tactic(auto, unfolding(crate::specs::Table::row), using(crate::proofs::AccessesLemmas::untouched_as))]
 pub fn execute<S: Store>(
     alloc: Global,
+    spares: &mut Spares,
     program: &Program,
     by: Actor,
     frame: &mut Frame,
@@ -128,7 +132,7 @@ pub fn execute<S: Store>(
     match frame.activity {
         Activity::Start(class) => start(alloc, program, by, frame, store, class),
         Activity::Method { class, index } => {
-            execute_next(alloc, program, by, frame, store, class, index)
+            execute_next(alloc, spares, program, by, frame, store, class, index)
         }
     }
 }

@@ -45,6 +45,7 @@ pub fn receiver_under(operands: &Operands, kinds: &[FieldKind]) -> Result<Value,
 #[tactic(auto, unfolding(crate::specs::Accesses::unless_refused), using(crate::proofs::AccessesLemmas::kept_by_same))]
 fn run_method<S: Store>(
     alloc: Global,
+    spares: &mut Spares,
     program: &Program,
     by: Actor,
     frame: &mut Frame,
@@ -59,8 +60,7 @@ fn run_method<S: Store>(
 {
     match method {
         Some(Method::Given { class, index }) => {
-            let mut spares = Spares::none(alloc);
-            reached(alloc, &mut spares, program, class, index, frame, count)
+            reached(alloc, spares, program, class, index, frame, count)
         }
         Some(Method::BuiltIn(member)) => {
             run_member(alloc, program, by, frame, store, member, receiver, count)
@@ -73,6 +73,7 @@ fn run_method<S: Store>(
 #[tactic(auto, using(crate::proofs::AccessesLemmas::kept_by_same, crate::proofs::AccessesLemmas::untouched_as))]
 fn run_chosen<S: Store>(
     alloc: Global,
+    spares: &mut Spares,
     program: &Program,
     by: Actor,
     frame: &mut Frame,
@@ -87,14 +88,14 @@ fn run_chosen<S: Store>(
 {
     match choice {
         Choice::Found(method) => {
-            run_method(alloc, program, by, frame, store, method, receiver, count)
+            run_method(alloc, spares, program, by, frame, store, method, receiver, count)
         }
         Choice::Selected(method) => {
             let Some(class) = class_of(store, by, receiver)? else {
                 return FAULT;
             };
             let selected = program.select(class, method);
-            run_method(alloc, program, by, frame, store, selected, receiver, count)
+            run_method(alloc, spares, program, by, frame, store, selected, receiver, count)
         }
     }
 }
@@ -122,6 +123,7 @@ pub fn names_another(call: InstanceCall, receiver: Value) -> bool
 #[tactic(auto, using(crate::proofs::AccessesLemmas::kept_by_same, crate::proofs::AccessesLemmas::untouched_as))]
 pub fn call_on<S: Store>(
     alloc: Global,
+    spares: &mut Spares,
     program: &Program,
     by: Actor,
     frame: &mut Frame,
@@ -142,6 +144,7 @@ pub fn call_on<S: Store>(
     }
     run_chosen(
         alloc,
+        spares,
         program,
         by,
         frame,
@@ -160,6 +163,7 @@ pub fn call_on<S: Store>(
 #[tactic(auto, using(crate::proofs::AccessesLemmas::kept_by_same, crate::proofs::AccessesLemmas::untouched_as))]
 pub fn call_instance<S: Store>(
     alloc: Global,
+    spares: &mut Spares,
     program: &Program,
     by: Actor,
     frame: &mut Frame,
@@ -178,6 +182,7 @@ pub fn call_instance<S: Store>(
     };
     call_on(
         alloc,
+        spares,
         program,
         by,
         frame,

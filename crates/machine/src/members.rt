@@ -4,11 +4,12 @@ ghost use Rattle.std.specs.Prelude.{◌≡◌, List, Ok};
 ghost use Rattle.vm_state.specs.Output.{Print};
 ghost use Rattle.machine.specs.RowParts.{drops};
 ghost use Rattle.machine.specs.ObjectParts.{look_into_named};
-ghost use Rattle.machine.specs.Members.{new_enum, replaced, or_slot, enum_part, copy_of, clone_array, member_row};
+ghost use Rattle.machine.specs.Members.{new_enum, or_slot, enum_part, copy_of, clone_array, member_row};
 ghost use Rattle.machine.specs.Accesses.{Gives, Untouched, Keeps, concluded};
 
 use crate::kinds::{Actor, Conclusion, Stop};
 use crate::objects::is_of;
+use crate::pushing::replace_top;
 use crate::references::{name_of, second_reference, without_object};
 use crate::store::Store;
 use built_in::class_id::{ArrayType, BuiltIn, ClassId};
@@ -29,19 +30,6 @@ fn drop_operands(frame: &mut Frame, count: usize) -> Conclusion
     ensures activity { frame.new.activity ≡ frame.old.activity }
 {
     frame.operands.drop_many(count);
-    advance(frame);
-    Conclusion::Stays
-}
-
-/// Puts a value in the place of the operand on top, and goes on.
-fn replace(frame: &mut Frame, value: Value) -> Conclusion
-    ensures gives { replaced value frame.old ≡ concluded result frame.new }
-    ensures frame { Untouched (Ok result) frame.old frame.new }
-    ensures activity { frame.new.activity ≡ frame.old.activity }
-{
-    if frame.operands.replace_one(value).is_err() {
-        return Conclusion::Halts(FaultKind::Fault);
-    }
     advance(frame);
     Conclusion::Stays
 }
@@ -101,12 +89,12 @@ fn read_part<S: Store>(
     ensures activity { frame.new.activity ≡ frame.old.activity }
 {
     if let Some(value) = store.named(by, object, slot)? {
-        return Ok(replace(frame, value));
+        return Ok(replace_top(frame, value));
     }
     let Some(value) = store.slot(by, object, slot)? else {
         return FAULT;
     };
-    Ok(replace(frame, value))
+    Ok(replace_top(frame, value))
 }
 
 /// `Enum.name()` and `Enum.ordinal()`, on a receiver, by their slots.
@@ -155,7 +143,7 @@ fn copy_array<S: Store>(
         return FAULT;
     };
     let copy = store.make(alloc, by, ClassId::Array(array), slots)?;
-    Ok(replace(frame, Value::reference_to(copy)))
+    Ok(replace_top(frame, Value::reference_to(copy)))
 }
 
 /// `clone()` of an array, on a receiver.

@@ -18,6 +18,7 @@ use program::{Printed, Program};
 use std::alloc::{AllocError, Global};
 use vm_state::ends::FaultKind;
 use vm_state::frame::Frame;
+use vm_state::spares::Spares;
 use vm_state::text::Text;
 use vm_state::value::Value;
 
@@ -84,6 +85,7 @@ fn ended(line: bool, text: Text) -> Result<Text, AllocError>
 #[tactic(auto, using(crate::proofs::AccessesLemmas::kept_by_same, crate::proofs::AccessesLemmas::untouched_as))]
 fn print_on<S: Store>(
     alloc: Global,
+    spares: &mut Spares,
     program: &Program,
     by: Actor,
     frame: &mut Frame,
@@ -98,7 +100,7 @@ fn print_on<S: Store>(
     ensures kept { Keeps S.state result store.old store.new frame.old frame.new }
 {
     if !is_out(receiver) {
-        return call_on(alloc, program, by, frame, store, call, receiver, count);
+        return call_on(alloc, spares, program, by, frame, store, call, receiver, count);
     }
     Ok(Conclusion::Prints {
         text,
@@ -114,6 +116,7 @@ fn print_on<S: Store>(
 #[tactic(auto, unfolding(crate::specs::Accesses::unless_refused))]
 pub fn print_value<S: Store>(
     alloc: Global,
+    spares: &mut Spares,
     program: &Program,
     by: Actor,
     frame: &mut Frame,
@@ -136,7 +139,7 @@ pub fn print_value<S: Store>(
         return FAULT;
     };
     let text = ended(line, text)?;
-    print_on(alloc, program, by, frame, store, call, receiver, text, 2)
+    print_on(alloc, spares, program, by, frame, store, call, receiver, text, 2)
 }
 
 /// `println()`.
@@ -147,6 +150,7 @@ pub fn print_value<S: Store>(
 #[tactic(auto, unfolding(crate::specs::Accesses::unless_refused))]
 pub fn end_line<S: Store>(
     alloc: Global,
+    spares: &mut Spares,
     program: &Program,
     by: Actor,
     frame: &mut Frame,
@@ -161,5 +165,5 @@ pub fn end_line<S: Store>(
         return FAULT;
     };
     let text = Text::line_end(alloc)?;
-    print_on(alloc, program, by, frame, store, call, receiver, text, 1)
+    print_on(alloc, spares, program, by, frame, store, call, receiver, text, 1)
 }

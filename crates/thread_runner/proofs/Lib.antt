@@ -1,3 +1,4 @@
+pub mod AskedLemmas
 pub mod EndLemmas
 pub mod LocalLemmas
 pub mod StepLemmas
@@ -8,6 +9,5 @@ pub mod MarkLemmas
 pub mod SendingLemmas
 pub mod AnswerLemmas
 pub mod ReplayLemmas
-pub mod AskedLemmas
 pub mod FrontLemmas
 pub mod TopLemmas

@@ -1,107 +1,131 @@
-//! Classes that local instructions ask for.
+//! The store of a thread that runs outside the lock: it knows which classes were asked for, and refuses all else.
 
-ghost use Rattle.std.specs.Prelude.{◌≡◌, List, Bool, Some, OnOk};
-ghost use Rattle.semantics.specs.Rows.{Outcome};
-ghost use Rattle.semantics.specs.Steps.{Thread};
-ghost use Rattle.machine.specs.Effects.{going};
-ghost use Rattle.machine.specs.Operations.{meaning};
-ghost use Rattle.thread_runner.specs.Fronts.{AreMembers};
-ghost use Rattle.thread_runner.specs.Local.{frame_end, local_step, method_end};
-ghost use Rattle.thread_runner.specs.steps.Asked.{HasAsked, asked_by, asked_by_call};
+ghost use Rattle.std.specs.Prelude.{◌≡◌, ℕ, List};
+ghost use Rattle.thread_runner.specs.steps.Asked.{Local, over_asked, refused};
 
-use machine::call_operation::CallOperation;
-use machine::resolved::{Resolved, resolved_operation};
-use program::Program;
-use std::alloc::AllocError;
-use vm_state::frame::{Activity, Frame};
-use vm_state::initialization::Frames;
+use built_in::class_id::{ArrayType, ClassId};
+use machine::kinds::{Actor, Stop};
+use machine::store::Store;
+use std::alloc::Global;
+use vm_state::object::Slots;
+use vm_state::value::{Name, Value};
 
-/// The class that a call asks for, if it is one of a static method.
-fn called_class(operation: CallOperation) -> Option<u32>
-    ensures { result ≡ asked_by_call operation }
-{
-    match operation {
-        CallOperation::Static(call) => Some(call.class),
-        CallOperation::Instance(_) => None,
-        CallOperation::Print(_, _, _) => None,
-        CallOperation::EndLine(_) => None,
-    }
+/// Classes that were asked for, and found to be initialized.
+#[derive(Clone, Copy)]
+pub(crate) struct Asked<'a> {
+    pub(crate) classes: &'a [u32],
 }
 
-/// The class that an operation asks for, where it is a local one.
-fn class_of(resolved: Resolved) -> Option<u32>
-    ensures { result ≡ asked_by (meaning resolved) }
-{
-    match resolved {
-        Resolved::OnCall(operation) => called_class(operation),
-        Resolved::PushInt(_) => None,
-        Resolved::PushLong(_) => None,
-        Resolved::PushText(_) => None,
-        Resolved::Return(_) => None,
-        Resolved::GetStatic(_, _) => None,
-        Resolved::PutStatic(_, _, _) => None,
-        Resolved::GetOut => None,
-        Resolved::OnArray(_) => None,
-        Resolved::OnObject(_) => None,
-        Resolved::Refused(_) => None,
-    }
-}
+impl<'a> Store for Asked<'a> {
+    ghost Answer = { Local };
 
-/// The class that the next instruction of a method's frame asks for, where it is a local one.
-fn asked_at(program: &Program, frame: &Frame, class: u32, method: u16) -> Option<u32>
-    ensures { (done more : List Bool) (o : Outcome) → HasAsked more result
-        → method_end program.now done class method frame.now ≡ Some o
-        → method_end program.now more class method frame.now ≡ Some o }
-{
-    let Some(instruction) = program.instruction(class, method, frame.place) else {
-        return None;
-    };
-    class_of(resolved_operation(program, class, method, instruction))
-}
+    ghost State = { List ℕ };
 
-/// The class that the next instruction of a frame asks for, where it is a local one.
-#[tactic(auto, unfolding(crate::specs::Local::frame_end))]
-fn asked_in(program: &Program, frame: &Frame) -> Option<u32>
-    ensures { (done more : List Bool) (o : Outcome) → HasAsked more result
-        → frame_end program.now done frame.now ≡ Some o → frame_end program.now more frame.now ≡ Some o }
-{
-    match frame.activity {
-        Activity::Start(_) => None,
-        Activity::Method { class, index } => asked_at(program, frame, class, index),
-    }
-}
+    ghost state = { λ s p. s.classes.now };
 
-/// The class that the next instruction of a thread asks for, where it is a local one: it is the same step over each set
-/// that has this class.
-pub(crate) fn asked_class(program: &Program, frames: &Frames) -> Option<u32>
-    ensures { (done more : List Bool) (b : Thread) → HasAsked more result
-        → local_step program.now done (going frames.now) ≡ Some b
-        → local_step program.now more (going frames.now) ≡ Some b }
-{
-    match &frames.segment {
-        Some(segment) => asked_in(program, &segment.innermost),
-        None => None,
-    }
-}
+    ghost run = { λ by asked row. over_asked asked row };
 
-/// Adds a class to those that were asked for, if it is none of them.
-///
-/// # Errors
-/// `AllocError` where memory is refused.
-pub(crate) fn note_class(asked: &mut Vec<u32>, class: Option<u32>) -> Result<(), AllocError>
-    ensures has { OnOk result ((more : List Bool) → AreMembers asked.new.items more
-        → HasAsked more class) }
-    ensures grows { OnOk result ((more : List Bool) → AreMembers asked.new.items more
-        → AreMembers asked.old.items more) }
-{
-    let Some(class) = class else {
-        return Ok(());
-    };
-    if asked.as_slice().contains(&class) {
-        return Ok(());
+    ghost stopped = { refused };
+
+    ghost CanUse = { λ by s c. Unit {0} };
+
+    #[tactic(auto, unfolding(machine::specs::Accesses::unless_refused))]
+    fn use_class(&self, _by: Actor, class: u32) -> Result<bool, Stop> {
+        if self.classes.contains(&class) {
+            Ok(true)
+        } else {
+            Err(Stop::Needs(class))
+        }
     }
-    match asked.push(class) {
-        Ok(()) => Ok(()),
-        Err(_) => Err(AllocError),
+
+    #[tactic(auto, unfolding(machine::specs::Accesses::unless_refused))]
+    fn read_static(&self, _by: Actor, _class: u32, _field: u32) -> Result<Value, Stop> {
+        Err(Stop::Barred)
+    }
+
+    #[tactic(auto, unfolding(machine::specs::Accesses::unless_refused))]
+    fn write_static(
+        &mut self,
+        _alloc: Global,
+        _by: Actor,
+        _class: u32,
+        _field: u32,
+        _value: Value,
+    ) -> Result<(), Stop> {
+        Err(Stop::Barred)
+    }
+
+    #[tactic(auto, unfolding(machine::specs::Accesses::unless_refused))]
+    fn class_of(&self, _by: Actor, _object: Name) -> Result<Option<ClassId>, Stop> {
+        Err(Stop::Barred)
+    }
+
+    #[tactic(auto, unfolding(machine::specs::Accesses::unless_refused))]
+    fn slot(&self, _by: Actor, _object: Name, _slot: usize) -> Result<Option<Value>, Stop> {
+        Err(Stop::Barred)
+    }
+
+    #[tactic(auto, unfolding(machine::specs::Accesses::unless_refused))]
+    fn size(&self, _by: Actor, _object: Name) -> Result<Option<i32>, Stop> {
+        Err(Stop::Barred)
+    }
+
+    #[tactic(auto, unfolding(machine::specs::Accesses::unless_refused))]
+    fn length(&self, _by: Actor, _object: Name) -> Result<Option<i32>, Stop> {
+        Err(Stop::Barred)
+    }
+
+    #[tactic(auto, unfolding(machine::specs::Accesses::unless_refused))]
+    fn named(&self, _by: Actor, _object: Name, _slot: usize) -> Result<Option<Value>, Stop> {
+        Err(Stop::Barred)
+    }
+
+    #[tactic(auto, unfolding(machine::specs::Accesses::unless_refused))]
+    fn copied_slots(&self, _alloc: Global, _by: Actor, _object: Name) -> Result<Option<Slots>, Stop> {
+        Err(Stop::Barred)
+    }
+
+    #[tactic(auto, unfolding(machine::specs::Accesses::unless_refused))]
+    fn set_named(
+        &mut self,
+        _by: Actor,
+        _object: Name,
+        _name: Value,
+        _ordinal: Value,
+    ) -> Result<(), Stop> {
+        Err(Stop::Barred)
+    }
+
+    #[tactic(auto, unfolding(machine::specs::Accesses::unless_refused))]
+    fn change(&mut self, _by: Actor, _object: Name, _slot: usize, _value: Value) -> Result<(), Stop> {
+        Err(Stop::Barred)
+    }
+
+    #[tactic(auto, unfolding(machine::specs::Accesses::unless_refused))]
+    fn use_monitor(&mut self, _by: Actor, _object: Name, _enter: bool) -> Result<bool, Stop> {
+        Err(Stop::Barred)
+    }
+
+    #[tactic(auto, unfolding(machine::specs::Accesses::unless_refused))]
+    fn make_array(
+        &mut self,
+        _alloc: Global,
+        _by: Actor,
+        _array: ArrayType,
+        _zero: Value,
+        _size: usize,
+    ) -> Result<Name, Stop> {
+        Err(Stop::Barred)
+    }
+
+    #[tactic(auto, unfolding(machine::specs::Accesses::unless_refused))]
+    fn make(
+        &mut self,
+        _alloc: Global,
+        _by: Actor,
+        _class: ClassId,
+        _slots: Slots,
+    ) -> Result<Name, Stop> {
+        Err(Stop::Barred)
     }
 }

@@ -74,9 +74,8 @@ fn run_front<O: Origin>(
     ensures { IfOk result (λ made. IsFrontRun O.program done.now front made) }
 {
     let mut frames = start;
-    let mut asked = Vec::new(alloc);
-    match run_local(alloc, program, tools, done, &mut frames, &mut asked) {
-        Ok(count) => {
+    match run_local(alloc, program, tools, done, &mut frames) {
+        Ok((count, asked)) => {
             if count == 0 {
                 return Ok(None);
             }

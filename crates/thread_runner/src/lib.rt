@@ -4,7 +4,6 @@
 mod advance;
 mod alone;
 mod answer;
-mod asked;
 mod book;
 mod desk;
 pub mod done_set;
@@ -15,7 +14,7 @@ mod known;
 mod landing;
 mod last;
 pub mod laws;
-mod local_end;
+mod asked;
 mod local_step;
 pub mod origin;
 pub mod replay;

@@ -136,6 +136,25 @@ region_set fields pools c fs p d = elim (tested (d == c)) [
 abbrev tables : List ClassArea → List ObjectRow → List ObjectRow → SharedTables
 tables classes rows threads = record { classes = classes; heap = record { classes = rows; threads = threads } }
 
+pub shared_of-region : (s : SharedTables) (b : List ClassArea) (rows : List ObjectRow) (c : ℕ) (fs : ℕ → Value)
+    (pool : Pool) → states_of b ≡ states_of s.classes → fields_of b ≡ with_fields (fields_of s.classes) c fs →
+    pool_in rows ≡ with_pool (pool_in s.heap.classes) c pool →
+    (p : List Print) → shared_of (tables b rows s.heap.threads) p ≡ set_region (shared_of s p) c (region fs pool)
+unfolding shared_of
+shared_of-region s b rows c fs pool states fields pools p =
+    let threads = pool_in s.heap.threads in
+    ap (λ g. shared_by g (λ d. region (fields_of b d) (pool_in rows d)) threads p) states
+    ∙ ap (λ (g : ℕ → Region). shared_by (states_of s.classes) g threads p) (fun_ext (λ d.
+    ap (λ (f : ℕ → ℕ → Value). region (f d) (pool_in rows d)) fields
+    ∙ (ap (λ (q : ℕ → Pool). region (with_fields (fields_of s.classes) c fs d) (q d)) pools
+    ∙ region_set (fields_of s.classes) (pool_in s.heap.classes) c fs pool d)))
+
+-- the region of a class, by its parts
+pub shared_of-parts : (s : SharedTables) (c : ℕ) (fs : ℕ → Value) (pool : Pool) → fs ≡ fields_of s.classes c →
+    pool ≡ pool_in s.heap.classes c → (p : List Print) → region fs pool ≡ (shared_of s p).regions c
+unfolding shared_of
+shared_of-parts s c fs pool fields objects p = rw (fields, objects) refl
+
 pub shared_of-initialized : (s : SharedTables) (b : List ClassArea) (rows : List ObjectRow) (c : ℕ) (fs : ℕ → Value)
     (pool : Pool) → states_of b ≡ with_state (states_of s.classes) c Initialized →
     fields_of b ≡ with_fields (fields_of s.classes) c fs → pool_in rows ≡ with_pool (pool_in s.heap.classes) c pool →

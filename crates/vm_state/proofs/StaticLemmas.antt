@@ -3,7 +3,7 @@ use Rattle.std.proofs.Common.{◌≡◌, ◌≢◌, ℕ, ◌<◌, ◌≤◌, ◌
 use Rattle.std.proofs.Common.{take, get_or, slice_set, replicate, ◌==◌, refl, sym, ap, ◌∙◌, arith, eqb-true}
 use Rattle.std.proofs.Common.{if◌then◌else◌, nat_lt, Option, Some, None, slice_get}
 use Rattle.std.proofs.Math.Path.{fun_ext}
-use Rattle.std.proofs.lemmas.List.{get_or_default, take_all}
+use Rattle.std.proofs.lemmas.List.{get_or_default, get_or_past, take_all}
 use Rattle.std.proofs.lemmas.Option.{slice_get_past, slice_get-get_or}
 use Rattle.vm_state.specs.declared.value.Value.{Value}
 use Rattle.vm_state.specs.declared.value.Value.TheVariants.{Null}
@@ -150,3 +150,18 @@ fields_of-changed xs c a b change h was is =
     fields_of-set xs c b h
     ∙ ap (with_fields (fields_of xs) c)
     (is ∙ ap (λ (x : ClassArea). change (field_in x.fields)) (sym (default_apart xs c a h was)))
+
+-- ---- the fields of a class taken out
+
+pub fields_of-at : (xs : List ClassArea) (c : ℕ) (a : ClassArea) → c < length xs → a ≡ get_or xs c a
+    → field_in a.fields ≡ fields_of xs c
+unfolding fields_of
+fields_of-at xs c a h was = ap (λ (x : ClassArea). field_in x.fields) (sym (default_apart xs c a h was))
+
+pub fields_of-past : (xs : List ClassArea) (c : ℕ) → length xs ≤ c → field_in [] ≡ fields_of xs c
+unfolding fields_of
+fields_of-past xs c h = ap (λ (x : ClassArea). field_in x.fields) (sym (get_or_past xs c untouched h))
+
+pub fields_of-none : (xs : List ClassArea) (c : ℕ) → length xs ≤ c
+    → fields_of xs ≡ with_fields (fields_of xs) c (field_in [])
+fields_of-none xs c h = sym (same_fields (fields_of xs) c (field_in []) (fields_of-past xs c h))

@@ -1,5 +1,5 @@
 -- The shared state that the machine's own tables stand for.
-use Rattle.std.specs.Prelude.{◌≡◌, ℕ, List}
+use Rattle.std.specs.Prelude.{◌≡◌, ℕ, List, []}
 use Rattle.vm_state.specs.declared.classes.StaticField.{StaticField}
 use Rattle.built_in.specs.declared.class_id.ClassId.{ClassId}
 use Rattle.vm_state.specs.declared.classes.ClassState.{ClassState}
@@ -11,7 +11,7 @@ use Rattle.vm_state.specs.declared.value.Name.{Name}
 use Rattle.vm_state.specs.declared.value.Value.{Value}
 use Rattle.vm_state.specs.Statics.{states_of, fields_of, field_in, with_constants}
 use Rattle.vm_state.specs.SharedState.{Region, SharedState, made, next_name, set_region, set_state, with_static}
-use Rattle.vm_state.specs.Objects.{ObjectRow}
+use Rattle.vm_state.specs.Objects.{ObjectRow, empty_row}
 use Rattle.vm_state.specs.Pools.{pool_by, pool_in}
 
 -- the tables and what was printed, as one state
@@ -28,6 +28,14 @@ abbrev pub begun : SharedState → ℕ → ℕ → List StaticField → SharedSt
 begun sh c t statics =
     set_state (set_region sh c (record (sh.regions c) { fields = with_constants statics (sh.regions c).fields })) c
     (InProgress t)
+
+-- the region of these static fields and objects
+abbrev pub region_by : List Value → ObjectRow → Region
+region_by fields row = record { fields = field_in fields; pool = pool_by row }
+
+-- no field was set and no object made
+abbrev pub empty_region : Region
+empty_region = region_by [] empty_row
 
 -- a class is initialized, with this region
 abbrev pub initialized : SharedState → ℕ → Region → SharedState
@@ -55,7 +63,7 @@ Begins old new c t statics = (p : List Print) → shared_of new p ≡ begun (sha
 abbrev pub Initializes : SharedTables → SharedTables → ℕ → List Value → ObjectRow → Type 0
 Initializes old new c fields row =
     (p : List Print) → shared_of new p
-    ≡ initialized (shared_of old p) c (record { fields = field_in fields; pool = pool_by row })
+    ≡ initialized (shared_of old p) c (region_by fields row)
 
 -- a maker has one more object
 abbrev pub Makes : SharedTables → SharedTables → Maker → ClassId → List Value → Type 0

@@ -8,6 +8,7 @@ ghost use Rattle.vm_state.specs.steps.Statics.{with_constant};
 use crate::value::Value;
 use std::alloc::{AllocError, Global};
 use std::marker::Model;
+use std::mem;
 
 /// How far the initialization of a class is (JVMS 5.5).
 #[derive(Clone, Copy)]
@@ -381,6 +382,20 @@ impl Classes {
         let area = &mut self.areas[class as usize];
         area.fields = fields;
         area.state = ClassState::Initialized;
+    }
+
+    /// Takes the static fields of a class out. None is set of it then.
+    pub fn take_fields(&mut self, alloc: Global, class: u32) -> Fields
+        ensures taken { field_in result ≡ fields_of self.old class }
+        ensures fields { fields_of self.new ≡ with_fields (fields_of self.old) class (field_in []) }
+        ensures states { states_of self.new ≡ states_of self.old }
+    {
+        let none = Fields::new(alloc);
+        if class as usize >= self.areas.len() {
+            return none;
+        }
+        let area = &mut self.areas[class as usize];
+        mem::replace(&mut area.fields, none)
     }
 
     /// Begins the initialization of a class by a thread: its state, and its constants (JVMS 5.5, step 6). The class and

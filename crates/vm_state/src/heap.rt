@@ -18,6 +18,7 @@ use crate::value::{Maker, Value};
 use built_in::class_id::ClassId;
 use std::alloc::{AllocError, Global};
 use std::marker::Model;
+use std::mem;
 
 /// The objects of one maker, in the order of their numbers; and how many objects it made. Numbers may be left out:
 /// those of the first objects are 0, 1, 2 and so on, the others stand beside.
@@ -631,6 +632,19 @@ impl Rows {
         self.reach(alloc, maker as usize)?;
         self.rows[maker as usize] = row;
         Ok(())
+    }
+
+    /// Takes the row of a maker out, which has made nothing then.
+    pub fn take(&mut self, alloc: Global, maker: u32) -> Row
+        ensures taken { pool_by result ≡ pool_in self.old maker }
+        ensures left { pool_in self.new ≡ with_pool (pool_in self.old) maker (pool_by empty_row) }
+    {
+        let none = Row::new(alloc);
+        if maker as usize >= self.rows.len() {
+            return none;
+        }
+        let row = &mut self.rows[maker as usize];
+        mem::replace(row, none)
     }
 
     /// One more object of a maker, and its number.

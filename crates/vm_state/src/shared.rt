@@ -3,10 +3,10 @@
 ghost use Rattle.std.specs.Prelude.{◌≡◌, List, IfOk, IsOk, OnOk, OnErr, option_copied, option_map, ◌<◌, ◌+◌, length};
 ghost use Rattle.vm_state.specs.Output.{Print};
 ghost use Rattle.vm_state.specs.SharedState.{object_of, class_at, pool_of, set_pool, slots_at, with_slot};
-ghost use Rattle.vm_state.specs.SharedState.{monitor_of, with_monitor};
+ghost use Rattle.vm_state.specs.SharedState.{monitor_of, set_region, with_monitor};
 ghost use Rattle.vm_state.specs.Statics.{IsPlaced};
 ghost use Rattle.vm_state.specs.Shares.{shared_of, SharesTheSame, SetsField, SetsState, Begins, Makes, IsNextName};
-ghost use Rattle.vm_state.specs.Shares.{Initializes};
+ghost use Rattle.vm_state.specs.Shares.{Initializes, region_by, empty_region};
 ghost use Rattle.vm_state.specs.Pools.{IsRowBy};
 ghost use Rattle.vm_state.specs.Objects.{kept_of};
 ghost use Rattle.vm_state.specs.declared.kept.Kept.{Kept as HeldObject};
@@ -160,6 +160,16 @@ impl Shared {
         self.heap.classes.put(alloc, class, objects)?;
         self.classes.initialize(class, fields);
         Ok(())
+    }
+
+    /// Takes the static fields and the objects of a class out. It has none of them then; its state stays.
+    pub fn take(&mut self, alloc: Global, class: u32) -> (Fields, Row)
+        ensures taken { (p : List Print) → region_by result.0 result.1 ≡ (shared_of self.old p).regions class }
+        ensures left { (p : List Print) → shared_of self.new p ≡ set_region (shared_of self.old p) class empty_region }
+    {
+        let fields = self.classes.take_fields(alloc, class);
+        let objects = self.heap.classes.take(alloc, class);
+        (fields, objects)
     }
 
     /// The object of a name, if it is held.

@@ -9,7 +9,7 @@ pub returns-in-Ok-clause-gives : goal.returns-in-Ok-clause-gives
 returns-in-Ok-clause-gives g c =
     let f = c.args.frame.now in
     λ p. c.in-Ok.ensures p (λ v. push v (with_operands f (rest (rest f.operands))))
-    ∙ ap (g.S.Store.run c.args.by (g.S.Store.state c.args.store.now p)) c.replace_value.ensures.gives
+    ∙ ap (g.S.Store.run c.args.by (g.S.Store.state c.args.store.now p)) c.replace_two.ensures.gives
 
 pub returns-in-Err-clause-gives : goal.returns-in-Err-clause-gives
 returns-in-Err-clause-gives g c =

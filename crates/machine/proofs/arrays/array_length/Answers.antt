@@ -11,7 +11,7 @@ returns-in-Ok-clause-gives g c =
     let f = c.args.frame.now in
     let same : to_z w32 (of_z w32 c.in-Ok.length) ≡ c.in-Ok.length = search rules in
     λ p. c.in-Ok.ensures p (λ n. push (Int n) (with_operands f (rest f.operands)))
-    ∙ ap (g.S.Store.run c.args.by (g.S.Store.state c.args.store.now p)) (rw same at c.replace_value.ensures.gives)
+    ∙ ap (g.S.Store.run c.args.by (g.S.Store.state c.args.store.now p)) (rw same at c.replace_top.ensures.gives)
 
 pub returns-in-Err-clause-gives : goal.returns-in-Err-clause-gives
 returns-in-Err-clause-gives g c =

@@ -22,7 +22,7 @@ pub invariant_of-result : goal.invariant_of-result
 invariant_of-result g c =
     let s : FrontReach = record {
       from = c.args.front;
-      asked = c.run_local.new.asked.items;
+      asked = c.in-Ok.asked.items;
       count = c.in-Ok.count;
       to = frames_of c.in-Some.to;
     } in (
@@ -30,18 +30,18 @@ invariant_of-result g c =
       c.in-Ok.ensures.most,
       subst (λ (P : Tables). LeadsOn P s) c.requires.program
           (leads_on c.args.program.now c.args.front c.in-Ok.count c.args.start c.run_local.new.frames
-          c.requires.start c.in-Some.to c.in-Some.is c.run_local.new.asked.items c.in-Ok.ensures.wide),
+          c.requires.start c.in-Some.to c.in-Some.is c.in-Ok.asked.items c.in-Ok.ensures.wide),
     )
 
 pub returns-in-Some : goal.returns-in-Some
 returns-in-Some g c =
     let s : FrontReach = record {
       from = c.args.front;
-      asked = c.run_local.new.asked.items;
+      asked = c.in-Ok.asked.items;
       count = c.in-Ok.count;
       to = frames_of c.in-Some.to;
     } in
     subst (λ (P : Tables). IsRunOf P c.args.done.now c.args.front s) c.requires.program
     (is_run_of c.args.program.now c.args.front c.in-Ok.count c.args.start c.run_local.new.frames c.requires.start
-    c.in-Some.to c.in-Some.is c.run_local.new.asked.items c.args.done.now c.in-Ok.ensures.steps c.in-Ok.ensures.wide
+    c.in-Some.to c.in-Some.is c.in-Ok.asked.items c.args.done.now c.in-Ok.ensures.steps c.in-Ok.ensures.wide
     c.in-Ok.ensures.ends)
