@@ -34,7 +34,7 @@ fn counted_at<E: Element>(elements: &[E], slot: usize) -> Option<(usize, Value)>
 impl Elements {
     /// What stands for them, where they are held in 8 bytes each.
     #[inline(always)]
-    fn briefs(&self) -> Option<&[Brief]>
+    fn as_briefs(&self) -> Option<&[Brief]>
         ensures { IfSome result (λ b. map brief_value b.now ≡ values_of self.now) }
     {
         match self {
@@ -47,11 +47,11 @@ impl Elements {
     /// How many there are, and the value at a slot. None where they are not held in 8 bytes each, or there is no such
     /// slot.
     #[inline(always)]
-    fn brief(&self, slot: usize) -> Option<(usize, Value)>
+    fn get_brief(&self, slot: usize) -> Option<(usize, Value)>
         ensures count { IfSome result (λ r. r.0 ≡ length (values_of self.now)) }
         ensures value { IfSome result (λ r. slice_get (values_of self.now) slot ≡ Some r.1) }
     {
-        match self.briefs() {
+        match self.as_briefs() {
             Some(briefs) => counted_at(briefs, slot),
             None => None,
         }
@@ -78,7 +78,7 @@ impl Elements {
         ensures value { IfSome result (λ r. slice_get (values_of self.now) slot ≡ Some r.1) }
     {
         match (packing, self) {
-            (Packing::Briefs, held) => held.brief(slot),
+            (Packing::Briefs, held) => held.get_brief(slot),
             (Packing::Bytes, Elements::Bytes(bytes)) => counted_at(bytes.as_slice(), slot),
             (Packing::Chars, Elements::Chars(chars)) => counted_at(chars.as_slice(), slot),
             (Packing::Shorts, Elements::Shorts(shorts)) => counted_at(shorts.as_slice(), slot),
@@ -88,21 +88,33 @@ impl Elements {
         }
     }
 
-    /// Puts a value into a slot, and says so; not where they are held otherwise, or its kind does not fit. Where there
-    /// is no such slot nothing changes.
+    /// Puts a number into a slot, and says so; not where they are held otherwise, or it does not fit. Where there is no
+    /// such slot nothing changes.
     #[inline(always)]
-    fn put_as(&mut self, packing: Packing, slot: usize, value: Value) -> bool
+    fn put_number(&mut self, packing: Packing, slot: usize, value: Value) -> bool
         ensures yes { result ≡ true → values_of self.new ≡ slice_set (values_of self.old) slot value }
         ensures no { result ≡ false → self.new ≡ self.old }
     {
         match (packing, self) {
-            (Packing::Briefs, held) => held.put_brief(slot, value),
             (Packing::Bytes, Elements::Bytes(bytes)) => put_narrow(bytes, slot, value),
             (Packing::Chars, Elements::Chars(chars)) => put_narrow(chars, slot, value),
             (Packing::Shorts, Elements::Shorts(shorts)) => put_narrow(shorts, slot, value),
             (Packing::Ints, Elements::Ints(ints)) => put_narrow(ints, slot, value),
             (Packing::Longs, Elements::Longs(longs)) => put_narrow(longs, slot, value),
             _ => false,
+        }
+    }
+
+    /// Puts a value into a slot, and says so; not where they are held otherwise, or it does not fit. Where there is no
+    /// such slot nothing changes.
+    #[inline(always)]
+    fn put_as(&mut self, packing: Packing, slot: usize, value: Value) -> bool
+        ensures yes { result ≡ true → values_of self.new ≡ slice_set (values_of self.old) slot value }
+        ensures no { result ≡ false → self.new ≡ self.old }
+    {
+        match packing {
+            Packing::Briefs => self.put_brief(slot, value),
+            _ => self.put_number(packing, slot, value),
         }
     }
 
