@@ -16,7 +16,7 @@ loop-count-preserved-in-Ok-Done g c =
       wide = went_on c.args.program.now c.loop-count.asked.items c.loop-count.count c.walk-count.result
           (going c.args.frames.now) (going c.loop-count.frames) (going c.walk-count.new.frames)
           (going c.step.new.frames) kept.wide c.walk-count.ensures.steps (rw
-              (c.as_slice.ensures.value, c.in-Ok-Done.field-0-is) at c.in-Ok-Done.ensures.step);
+          (c.as_slice.ensures.value, c.in-Ok-Done.field-0-is) at c.in-Ok-Done.ensures.step);
       thread = c.step.ensures.thread ∙ (c.walk-count.ensures.thread ∙ kept.thread);
       most = omega (arith, c.walk-count.ensures.most, c.if-count-eq-MOST.false, c.loop-count-test.true, kept.most);
     }
@@ -27,7 +27,7 @@ loop-count-preserved g c =
     let asked = c.loop-count.asked.items in
     let class = c.in-Ok-Lacks.class in
     let stands = ((rw (c.as_slice.ensures.value, c.in-Ok-Lacks.field-0-is) at c.in-Ok-Lacks.ensures.step)
-        c.args.done.now kept.members).1 in
+    c.args.done.now kept.members).1 in
     let wide = stood_still c.args.program.now asked c.loop-count.count c.walk-count.result (going c.args.frames.now)
     (going c.loop-count.frames) (going c.walk-count.new.frames) (going c.step.new.frames) kept.wide
     c.walk-count.ensures.steps stands in
@@ -44,7 +44,7 @@ loop-count-smaller g c =
     let kept = c.loop-count.invariant in
     let asked = c.loop-count.asked.items in
     let lacks = ((rw (c.as_slice.ensures.value, c.in-Ok-Lacks.field-0-is) at c.in-Ok-Lacks.ensures.step)
-        c.args.done.now kept.members).0 in
+    c.args.done.now kept.members).0 in
     rw c.in-Ok.ensures.items
     (omega (
       arith,
@@ -60,7 +60,7 @@ returns-then-not-has-clause-wide g c =
     stood_still c.args.program.now c.loop-count.asked.items c.loop-count.count c.walk-count.result
     (going c.args.frames.now) (going c.loop-count.frames) (going c.walk-count.new.frames) (going c.step.new.frames)
     kept.wide c.walk-count.ensures.steps ((rw (c.as_slice.ensures.value, c.in-Ok-Lacks.field-0-is) at
-        c.in-Ok-Lacks.ensures.step) c.args.done.now kept.members).1
+    c.in-Ok-Lacks.ensures.step) c.args.done.now kept.members).1
 
 pub returns-then-not-has-clause-steps : goal.returns-then-not-has-clause-steps
 returns-then-not-has-clause-steps g c =
@@ -69,7 +69,7 @@ returns-then-not-has-clause-steps g c =
 pub returns-then-not-has-clause-ends : goal.returns-then-not-has-clause-ends
 returns-then-not-has-clause-ends g c =
     let lacks = (rw (c.as_slice.ensures.value, c.in-Ok-Lacks.field-0-is) at c.in-Ok-Lacks.ensures.step)
-        c.args.done.now c.loop-count.invariant.members in
+    c.args.done.now c.loop-count.invariant.members in
     inr (ap (local_step c.args.program.now c.args.done.now) lacks.1
     ∙ lacks.0.1 (sym c.has.ensures ∙ c.if-not-has.true))
 
@@ -79,7 +79,7 @@ returns-in-Ok-Stops-clause-wide g c =
     stood_still c.args.program.now c.loop-count.asked.items c.loop-count.count c.walk-count.result
     (going c.args.frames.now) (going c.loop-count.frames) (going c.walk-count.new.frames) (going c.step.new.frames)
     kept.wide c.walk-count.ensures.steps ((rw (c.as_slice.ensures.value, c.in-Ok-Stops.field-0-is) at
-        c.in-Ok-Stops.ensures.step) c.args.done.now kept.members).1
+    c.in-Ok-Stops.ensures.step) c.args.done.now kept.members).1
 
 pub returns-in-Ok-Stops-clause-steps : goal.returns-in-Ok-Stops-clause-steps
 returns-in-Ok-Stops-clause-steps g c =
@@ -88,7 +88,7 @@ returns-in-Ok-Stops-clause-steps g c =
 pub returns-in-Ok-Stops-clause-ends : goal.returns-in-Ok-Stops-clause-ends
 returns-in-Ok-Stops-clause-ends g c =
     let stops = (rw (c.as_slice.ensures.value, c.in-Ok-Stops.field-0-is) at c.in-Ok-Stops.ensures.step)
-        c.args.done.now c.loop-count.invariant.members in
+    c.args.done.now c.loop-count.invariant.members in
     inr (ap (local_step c.args.program.now c.args.done.now) stops.1 ∙ stops.0)
 
 pub returns-clause-wide : goal.returns-clause-wide
