@@ -19,9 +19,11 @@ REFUSALS = (b"preinit: Memory\n", b"preinit: Spawn\n")
 MEANING = re.compile(rb"(?P<refusal>preinit: Memory\n)the system gave no more memory(, while (?P<work>.*))?\n\Z")
 WORKS = {b"reading class files", b"linking", b"initializing One", b"writing what was built"}
 OLD = b"old"
-# Classes of a real compiler, one whose `main` reaches what is left out, and one that prints 7.
+# Classes of a real compiler, one whose `main` reaches what is left out, one that prints 7, and one whose initializer
+# runs so long that `evaluator` goes on by courses.
 CLASSES = "product_cases/data/java/init_enum_basic_*.class"
 LEFT_OUT, SEVEN = "product_cases/data/java/lambda_Main.class", "preinit/data/M.class"
+LONG = "product_cases/data/java/algo_crc_adler_Crc.class"
 
 
 def commands(classes):
@@ -33,6 +35,7 @@ def commands(classes):
         (["build", "--out", "seven.img", "M.class"], 0, ["seven.img"], False),
         (["build", "--verbose", "--out", "verbose.img", *classes], 0, ["verbose.img"], False),
         (["report", "--verbose", *classes], 0, [], False),
+        (["report", os.path.basename(LONG)], 0, [], False),
         (["explain", "all", *classes], 0, [], False),
         (["audit", "--entries", "Main", "lambda_Main.class"], 6, [], False),
         (["lazy", "--entries", "Main", "--stacks", "--limit", "300", *classes], 5, [], False),
@@ -117,7 +120,7 @@ def check(path, library, crates, room, say):
     for file in glob.glob(f"{crates}/{CLASSES}"):
         shutil.copy(file, folder)
     made = commands(sorted(os.listdir(folder)))
-    for file in (LEFT_OUT, SEVEN):
+    for file in (LEFT_OUT, SEVEN, LONG):
         shutil.copy(f"{crates}/{file}", folder)
     tried = []
     for place, (words, status, targets, starts) in enumerate(made):
