@@ -16,9 +16,10 @@ use crate::files::get;
 use crate::lazy::{Shown, shown_by_turns};
 use crate::{Files, Refusal, entries_of};
 use classfile::ClassName;
-use image_reader::{read, read_by_two, world};
+use image_reader::{read, read_by, world};
 use init_engine::{EntryFault, World};
 use object_graph::Image;
+use sharing::ByThreads;
 use std::alloc::Global;
 use std::thread::Threads;
 
@@ -105,8 +106,9 @@ fn image_start(alloc: Global, bytes: &[u8], entries: &[ClassName]) -> Result<Ima
 ///
 /// # Errors
 /// The first refusal: the file, the image, an entry, or memory.
-pub(crate) fn start<R: Threads, F: Files>(
+pub(crate) fn start<R: Threads + Sync, F: Files>(
     rt: &R,
+    workers: u32,
     alloc: Global,
     name: &str,
     list: &str,
@@ -117,14 +119,15 @@ pub(crate) fn start<R: Threads, F: Files>(
     ensures same { F.holds files.new ≡ F.holds files.old }
 {
     match get(alloc, name, files) {
-        Ok(bytes) => start_by_two(rt, alloc, list, bytes.as_slice()),
+        Ok(bytes) => start_by_two(rt, workers, alloc, list, bytes.as_slice()),
         Err(refusal) => Err(refusal),
     }
 }
 
 /// The same from these bytes.
-fn start_by_two<R: Threads>(
+fn start_by_two<R: Threads + Sync>(
     rt: &R,
+    workers: u32,
     alloc: Global,
     list: &str,
     bytes: &[u8],
@@ -134,7 +137,8 @@ fn start_by_two<R: Threads>(
     ensures start { IfOk result (λ start. IsImageStart start.image (entry_names list.now) (world_of start.world)) }
 {
     let entries = entries_of(alloc, list)?;
-    match read_by_two(rt, alloc, bytes) {
+    let sharing = ByThreads { rt, count: workers };
+    match read_by(&sharing, alloc, bytes) {
         Ok(image) => started(alloc, image, entries.as_slice()),
         Err(fault) => Err(Refusal::of_image(fault)),
     }

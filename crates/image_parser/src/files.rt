@@ -13,6 +13,7 @@ use crate::fault::{FilesFault, RegionFault};
 use crate::numbers::{run_at, u32_at};
 use classfile::{ClassFile, read};
 use loading::names::name_of;
+use sharing::Sharing;
 use std::alloc::Global;
 
 /// A count of 32 bits, and so many bytes.
@@ -114,4 +115,42 @@ pub(crate) fn read_files(
     ensures fault { IfErr result (λ x. (x ≡ Memory) ⊎ FilesFail count bytes.now x) }
 {
     files_at(alloc, count, bytes)
+}
+
+/// What stands after so many class files.
+fn skipped(count: u32, bytes: &[u8]) -> Result<&[u8], FilesFault> {
+    let mut rest = bytes;
+    for _ in 0..count {
+        let (_, after) = sized_at(rest)?;
+        rest = after;
+    }
+    Ok(rest)
+}
+
+/// Reads class files, shared out.
+pub(crate) fn read_files_by<'a, S: Sharing + Sync>(
+    sharing: &S,
+    share: u32,
+    alloc: Global,
+    count: u32,
+    bytes: &'a [u8],
+) -> Result<(Vec<ClassFile>, &'a [u8]), FilesFault> {
+    if share < 2 || count < 16 {
+        return files_at(alloc, count, bytes);
+    }
+    let half = count / 2;
+    let later = skipped(half, bytes)?;
+    let (front, back) = sharing.both(
+        || read_files_by(sharing, share / 2, alloc, half, bytes),
+        || read_files_by(sharing, share - share / 2, alloc, count - half, later),
+    );
+    let (mut files, _) = front?;
+    let (mut others, rest) = back?;
+    if let Some(first) = others.first() {
+        if !is_after(files.as_slice(), first) {
+            return Err(FilesFault::Order);
+        }
+    }
+    files.append(&mut others)?;
+    Ok((files, rest))
 }

@@ -17,7 +17,7 @@ ghost use Rattle.image_parser.specs.HeaderFaults.{IsSealed};
 ghost use Rattle.image_parser.specs.TextOrFault.{TextOrFault};
 ghost use Rattle.image_parser.specs.reading.Frames.{IsUnsealed};
 
-use crate::files::read_files;
+use crate::files::{read_files, read_files_by};
 use crate::header::{is_sealed, parts_of, unsealed_parts};
 use crate::image_fault::ImageFault;
 use crate::regions::read_regions;
@@ -25,9 +25,9 @@ use byteorder::{BigEndian, ByteOrder};
 use classfile::ClassFile;
 use image_format::region::ImageRegions;
 use image_format::version::Version;
-use program::{Program, link};
+use program::{Program, link, link_by};
+use sharing::Sharing;
 use std::alloc::Global;
-use std::thread::{self, Threads};
 
 /// An image of fewer bytes is digested before another thread has begun.
 const SMALL: usize = 65_536;
@@ -68,7 +68,7 @@ pub fn parse(alloc: Global, bytes: &[u8]) -> Result<Parsed, ImageFault>
 ///
 /// # Errors
 /// Those of `parse`.
-pub fn parse_by_two<R: Threads>(rt: &R, alloc: Global, bytes: &[u8]) -> Result<Parsed, ImageFault>
+pub fn parse_by<S: Sharing + Sync>(sharing: &S, alloc: Global, bytes: &[u8]) -> Result<Parsed, ImageFault>
     ensures text { IfOk result (λ parsed. SomeText bytes.now parsed.program.family parsed.regions) }
     ensures program { IfOk result (λ parsed. IsProgram parsed.program) }
     ensures own_strings { IfOk result (λ parsed. HasOwnStrings parsed.program) }
@@ -79,7 +79,7 @@ pub fn parse_by_two<R: Threads>(rt: &R, alloc: Global, bytes: &[u8]) -> Result<P
     ensures fault { IfErr result (λ x. (x ≡ Memory) ⊎ ImageFails bytes.now x) }
     ensures only_fault { (x : Fault) → ImageFails bytes.now x → Answers result x }
 {
-    of_bytes_by_two(rt, alloc, bytes)
+    of_bytes_by(sharing, alloc, bytes)
 }
 
 /// Bytes are the text of one image or have one fault, and never both. A text is one of version 2 or one of version 1.
@@ -103,7 +103,7 @@ fn of_bytes(alloc: Global, bytes: &[u8]) -> Result<Parsed, ImageFault>
 }
 
 /// What the bytes of an image say, whose digest another thread may look at.
-fn of_bytes_by_two<R: Threads>(rt: &R, alloc: Global, bytes: &[u8]) -> Result<Parsed, ImageFault>
+fn of_bytes_by<S: Sharing + Sync>(sharing: &S, alloc: Global, bytes: &[u8]) -> Result<Parsed, ImageFault>
     ensures text { IfOk result (λ parsed. SomeText bytes.now parsed.program.family parsed.regions) }
     ensures program { IfOk result (λ parsed. IsProgram parsed.program) }
     ensures own_strings { IfOk result (λ parsed. HasOwnStrings parsed.program) }
@@ -113,14 +113,14 @@ fn of_bytes_by_two<R: Threads>(rt: &R, alloc: Global, bytes: &[u8]) -> Result<Pa
         return of_bytes(alloc, bytes);
     }
     match unsealed_parts(bytes) {
-        Ok((version, parts)) => of_unsealed(rt, alloc, bytes, version, parts),
+        Ok((version, parts)) => of_unsealed(sharing, alloc, bytes, version, parts),
         Err(fault) => Err(ImageFault::of_header(fault)),
     }
 }
 
 /// What the bytes of an image say that has these parts, while another thread looks at its digest.
-fn of_unsealed<R: Threads>(
-    rt: &R,
+fn of_unsealed<S: Sharing + Sync>(
+    sharing: &S,
     alloc: Global,
     bytes: &[u8],
     version: Version,
@@ -132,18 +132,10 @@ fn of_unsealed<R: Threads>(
     ensures own_strings { IfOk result (λ parsed. HasOwnStrings parsed.program) }
     ensures fault { IfErr result (λ x. (x ≡ Memory) ⊎ ImageFails bytes.now x) }
 {
-    let seal = move || -> bool
-        ensures { Decides result (IsSealed bytes.entry.now) }
-    { is_sealed(bytes) };
-    let read = move || -> Result<Parsed, ImageFault>
-        requires { 4 ≤ length parts.now }
-        ensures text { IfOk result
-            (λ parsed. PartsRead version parts.entry.now parsed.program.family parsed.regions) }
-        ensures program { IfOk result (λ parsed. IsProgram parsed.program) }
-        ensures own_strings { IfOk result (λ parsed. HasOwnStrings parsed.program) }
-        ensures fault { IfErr result (λ x. (x ≡ Memory) ⊎ PartsFail version parts.entry.now x) }
-    { of_parts(alloc, version, parts) };
-    let (is_sealed, parsed) = thread::join(rt, seal, read);
+    let (is_sealed, parsed) = sharing.both(
+        || is_sealed(bytes),
+        || of_parts_by(sharing, alloc, version, parts),
+    );
     if is_sealed {
         parsed
     } else {
@@ -212,6 +204,48 @@ fn of_program(
     ensures own_strings { IfOk result (λ parsed. HasOwnStrings parsed.program) }
     ensures fault { IfErr result (λ x. (x ≡ Memory) ⊎ PartsFail version parts.now x) }
 {
+    match read_regions(alloc, version, &program, rest) {
+        Ok(regions) => Ok(Parsed { program, regions }),
+        Err(fault) => Err(ImageFault::of_regions(alloc, program.family(), fault)),
+    }
+}
+
+/// What the parts of an image say.
+fn of_parts_by<S: Sharing + Sync>(
+    sharing: &S,
+    alloc: Global,
+    version: Version,
+    parts: &[u8],
+) -> Result<Parsed, ImageFault> {
+    if parts.len() < 4 {
+        return Err(ImageFault::Truncated);
+    }
+    let (count, bytes) = count_at(parts);
+    match read_files_by(sharing, sharing.count(), alloc, count, bytes) {
+        Ok((files, rest)) => of_files_by(sharing, alloc, version, files, rest),
+        Err(fault) => Err(ImageFault::of_files(fault)),
+    }
+}
+
+fn of_files_by<S: Sharing + Sync>(
+    sharing: &S,
+    alloc: Global,
+    version: Version,
+    files: Vec<ClassFile>,
+    rest: &[u8],
+) -> Result<Parsed, ImageFault> {
+    match link_by(sharing, alloc, files) {
+        Ok(program) => of_program_by(alloc, version, program, rest),
+        Err(fault) => Err(ImageFault::of_link(fault)),
+    }
+}
+
+fn of_program_by(
+    alloc: Global,
+    version: Version,
+    program: Program,
+    rest: &[u8],
+) -> Result<Parsed, ImageFault> {
     match read_regions(alloc, version, &program, rest) {
         Ok(regions) => Ok(Parsed { program, regions }),
         Err(fault) => Err(ImageFault::of_regions(alloc, program.family(), fault)),

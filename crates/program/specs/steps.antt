@@ -1,5 +1,6 @@
 pub mod StaticNumbers
 pub mod ResolvedConstants
+pub mod LinkedParts
 pub mod ParsedSignatures
 pub mod GrowingStrings
 pub mod NamedClasses

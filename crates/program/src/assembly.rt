@@ -9,7 +9,7 @@ ghost use Rattle.loading.specs.declared.fault.LinkFault.{LinkFault as Fault};
 ghost use Rattle.loading.specs.declared.fault.LinkFault.TheVariants.{Memory};
 ghost use Rattle.loading.specs.Families.{IsFamilyOf, file_in};
 ghost use Rattle.loading.specs.Files.{LinkFails, Links};
-ghost use Rattle.program.specs.declared.class.Class.{Class as ClassTables};
+ghost use Rattle.program.specs.declared.runtime_constant.RuntimeConstant.{RuntimeConstant as Constant};
 ghost use Rattle.program.specs.Fields.{statics_of};
 ghost use Rattle.program.specs.Signatures.{AreSignatures};
 ghost use Rattle.program.specs.steps.ResolvedConstants.{HoldsClasses};
@@ -22,6 +22,7 @@ ghost use Rattle.hierarchy.specs.Texts.{AreDistinct};
 ghost use Rattle.program.specs.RuntimePool.{IsRuntimePool};
 ghost use Rattle.program.specs.Strings.{strings_of, all_strings, AreFirsts};
 ghost use Rattle.program.specs.steps.GrowingStrings.{Gains};
+ghost use Rattle.program.specs.steps.LinkedParts.{ArePools, AreLinked};
 
 use crate::class::{Class, Methods, RuntimePool, StaticFields};
 use crate::field_slots::field_slots_of;
@@ -44,6 +45,7 @@ use loading::family::Family;
 use loading::family_of;
 use loading::fault::LinkFault;
 use loading::given::GivenClass;
+use sharing::{Alone, Sharing};
 use std::alloc::{AllocError, Global};
 
 /// Links class files into one program. Classes are numbered in the order of their names' bytes, whatever the order of
@@ -68,14 +70,34 @@ pub fn link(alloc: Global, files: Vec<ClassFile>) -> Result<Program, LinkFault>
     ensures fault { IfErr result (λ x. (x ≡ Memory) ⊎ LinkFails files.items x) }
     ensures only_fault { (x : Fault) → LinkFails files.items x → (result ≡ Err x) ⊎ (result ≡ Err Memory) }
 {
+    link_by(&Alone {}, alloc, files)
+}
+
+/// The same, shared out.
+pub fn link_by<S: Sharing + Sync>(
+    sharing: &S,
+    alloc: Global,
+    files: Vec<ClassFile>,
+) -> Result<Program, LinkFault>
+    ensures family { IfOk result (λ program. IsFamilyOf files.items program.family) }
+    ensures program { IfOk result IsProgram }
+    ensures orders { IfOk result (λ program. AreOrders program.family program.orders) }
+    ensures own_strings { IfOk result HasOwnStrings }
+    ensures links { OnOk result (Links files.items) }
+    ensures only_links { Links files.items → IsOk result ⊎ (result ≡ Err Memory) }
+    ensures fault { IfErr result (λ x. (x ≡ Memory) ⊎ LinkFails files.items x) }
+    ensures only_fault { (x : Fault) → LinkFails files.items x → (result ≡ Err x) ⊎ (result ≡ Err Memory) }
+{
     match family_of(alloc, files) {
-        Ok(family) => linked(alloc, family),
+        Ok(family) => linked(sharing, alloc, family),
         Err(fault) => Err(fault),
     }
 }
 
 /// The program of a family, unless memory runs out.
-fn linked(alloc: Global, family: Family) -> Result<Program, LinkFault>
+fn linked<S: Sharing + Sync>(
+    sharing: &S,
+alloc: Global, family: Family) -> Result<Program, LinkFault>
     requires { Links (files_of family) }
     ensures family { IfOk result (λ program. program.family ≡ family) }
     ensures program { IfOk result IsProgram }
@@ -83,14 +105,16 @@ fn linked(alloc: Global, family: Family) -> Result<Program, LinkFault>
     ensures own_strings { IfOk result HasOwnStrings }
     ensures fault { IfErr result (λ x. x ≡ Memory) }
 {
-    match program_of(alloc, family) {
+    match program_of(sharing, alloc, family) {
         Ok(program) => Ok(program),
         Err(_) => Err(LinkFault::Memory),
     }
 }
 
 /// The program of a family.
-fn program_of(alloc: Global, family: Family) -> Result<Program, AllocError>
+fn program_of<S: Sharing + Sync>(
+    sharing: &S,
+alloc: Global, family: Family) -> Result<Program, AllocError>
     requires { Links (files_of family) }
     ensures family { IfOk result (λ program. program.family ≡ family) }
     ensures program { IfOk result IsProgram }
@@ -98,13 +122,15 @@ fn program_of(alloc: Global, family: Family) -> Result<Program, AllocError>
     ensures own_strings { IfOk result HasOwnStrings }
 {
     match Hierarchy::new(alloc, family) {
-        Ok(hierarchy) => with_slots(alloc, hierarchy),
+        Ok(hierarchy) => with_slots(sharing, alloc, hierarchy),
         Err(error) => Err(error),
     }
 }
 
 /// The program of a hierarchy.
-fn with_slots(alloc: Global, hierarchy: Hierarchy) -> Result<Program, AllocError>
+fn with_slots<S: Sharing + Sync>(
+    sharing: &S,
+alloc: Global, hierarchy: Hierarchy) -> Result<Program, AllocError>
     requires { Links (files_of hierarchy.family) }
     ensures family { IfOk result (λ program. program.family ≡ hierarchy.family) }
     ensures program { IfOk result IsProgram }
@@ -112,7 +138,7 @@ fn with_slots(alloc: Global, hierarchy: Hierarchy) -> Result<Program, AllocError
     ensures own_strings { IfOk result HasOwnStrings }
 {
     match Slots::of_family(alloc, hierarchy.family()) {
-        Ok(slots) => with_tables(alloc, hierarchy, slots),
+        Ok(slots) => with_tables(sharing, alloc, hierarchy, slots),
         Err(error) => {
             drop(hierarchy);
             Err(error)
@@ -121,7 +147,9 @@ fn with_slots(alloc: Global, hierarchy: Hierarchy) -> Result<Program, AllocError
 }
 
 /// The program of a hierarchy and of the slots of its classes.
-fn with_tables(alloc: Global, hierarchy: Hierarchy, slots: Slots) -> Result<Program, AllocError>
+fn with_tables<S: Sharing + Sync>(
+    sharing: &S,
+alloc: Global, hierarchy: Hierarchy, slots: Slots) -> Result<Program, AllocError>
     requires links { Links (files_of hierarchy.family) }
     requires slots { AreSlots hierarchy.family slots }
     ensures family { IfOk result (λ program. program.family ≡ hierarchy.family) }
@@ -129,7 +157,7 @@ fn with_tables(alloc: Global, hierarchy: Hierarchy, slots: Slots) -> Result<Prog
     ensures orders { IfOk result (λ program. AreOrders program.family program.orders) }
     ensures own_strings { IfOk result HasOwnStrings }
 {
-    match tables_of(alloc, &hierarchy, &slots) {
+    match tables_of(sharing, alloc, &hierarchy, &slots) {
         Ok(tables) => Ok(joined(hierarchy, slots, tables)),
         Err(error) => {
             drop(slots);
@@ -148,7 +176,9 @@ struct Tables {
 }
 
 /// The tables of a hierarchy.
-fn tables_of(alloc: Global, hierarchy: &Hierarchy, slots: &Slots) -> Result<Tables, AllocError>
+fn tables_of<S: Sharing + Sync>(
+    sharing: &S,
+alloc: Global, hierarchy: &Hierarchy, slots: &Slots) -> Result<Tables, AllocError>
     requires { AreSlots hierarchy.now.family slots.now }
     ensures order_count { IfOk result (λ tables. length tables.orders ≡ length hierarchy.now.family) }
     ensures orders { IfOk result (λ tables. AreOrders hierarchy.now.family tables.orders) }
@@ -157,11 +187,12 @@ fn tables_of(alloc: Global, hierarchy: &Hierarchy, slots: &Slots) -> Result<Tabl
     ensures strings { IfOk result (λ tables. AreFirsts (all_strings hierarchy.now.family) tables.strings) }
 {
     let orders = initialization_orders(alloc, hierarchy.family())?;
-    with_classes(alloc, hierarchy, slots, orders)
+    with_classes(sharing, alloc, hierarchy, slots, orders)
 }
 
 /// The tables of a hierarchy, from its classes' orders.
-fn with_classes(
+fn with_classes<S: Sharing + Sync>(
+    sharing: &S,
     alloc: Global,
     hierarchy: &Hierarchy,
     slots: &Slots,
@@ -173,7 +204,7 @@ fn with_classes(
     ensures distinct { IfOk result (λ tables. AreDistinct tables.strings) }
     ensures strings { IfOk result (λ tables. AreFirsts (all_strings hierarchy.now.family) tables.strings) }
 {
-    match class_tables(alloc, hierarchy, slots) {
+    match class_tables(sharing, alloc, hierarchy, slots) {
         Ok((classes, strings)) => Ok(Tables {
             orders,
             classes,
@@ -184,7 +215,8 @@ fn with_classes(
 }
 
 /// What the machine uses of each class, and the distinct strings.
-fn class_tables(
+fn class_tables<S: Sharing + Sync>(
+    sharing: &S,
     alloc: Global,
     hierarchy: &Hierarchy,
     slots: &Slots,
@@ -195,7 +227,7 @@ fn class_tables(
     ensures strings { IfOk result (λ tables. AreFirsts (all_strings hierarchy.now.family) tables.1) }
 {
     let mut strings = Texts::new(alloc, hierarchy.text_state());
-    match classes_of(alloc, hierarchy, slots, &mut strings) {
+    match classes_of(sharing, alloc, hierarchy, slots, &mut strings) {
         Ok(classes) => Ok((classes, strings)),
         Err(error) => Err(error),
     }
@@ -226,7 +258,8 @@ fn joined(hierarchy: Hierarchy, slots: Slots, tables: Tables) -> Program
 }
 
 /// What the machine uses of each class.
-fn classes_of(
+fn classes_of<S: Sharing + Sync>(
+    sharing: &S,
     alloc: Global,
     hierarchy: &Hierarchy,
     slots: &Slots,
@@ -243,11 +276,12 @@ fn classes_of(
         numbers: numbers.as_slice(),
         field_slots: field_slots.as_slice(),
     };
-    linked_classes(alloc, &linker, strings)
+    linked_classes(sharing, alloc, &linker, strings)
 }
 
 /// The same with what references are resolved with.
-fn linked_classes(
+fn linked_classes<S: Sharing + Sync>(
+    sharing: &S,
     alloc: Global,
     linker: &Linker<'_>,
     strings: &mut Texts,
@@ -256,13 +290,14 @@ fn linked_classes(
     ensures gains { OnOk result (Gains strings.old (all_strings linker.now.hierarchy.now.family) strings.new) }
 {
     match MemberResolver::new(alloc, linker.hierarchy) {
-        Ok(mut members) => classes_with(alloc, linker, &mut members, strings),
+        Ok(mut members) => classes_with(sharing, alloc, linker, &mut members, strings),
         Err(error) => Err(error),
     }
 }
 
 /// The same with what members are resolved by.
-fn classes_with(
+fn classes_with<S: Sharing + Sync>(
+    sharing: &S,
     alloc: Global,
     linker: &Linker<'_>,
     members: &mut MemberResolver<'_>,
@@ -272,61 +307,179 @@ fn classes_with(
     ensures classes { IfOk result (λ classes. AreClasses linker.now.hierarchy.now.family strings.new classes.items) }
     ensures gains { OnOk result (Gains strings.old (all_strings linker.now.hierarchy.now.family) strings.new) }
 {
-    let mut classes = Vec::with_capacity(alloc, linker.hierarchy.family().classes().len())?;
-    add_classes(alloc, linker, members, strings, &mut classes)?;
-    Ok(classes)
+    let pools = pools_of(alloc, linker, members, strings)?;
+    let family = linker.hierarchy.family();
+    classes_by(
+        sharing,
+        sharing.count(),
+        alloc,
+        family,
+        strings,
+        family.classes(),
+        pools,
+    )
 }
 
-/// Adds what the machine uses of each class.
-fn add_classes(
+/// The run-time constant pools of all classes.
+fn pools_of(
     alloc: Global,
     linker: &Linker<'_>,
     members: &mut MemberResolver<'_>,
     strings: &mut Texts,
-    classes: &mut Vec<Class>,
+) -> Result<Vec<RuntimePool>, AllocError>
+    requires { members.old ≡ linker.now.hierarchy.now }
+    ensures pools { IfOk result (λ pools. ArePools linker.now.hierarchy.now.family strings.new
+        linker.now.hierarchy.now.family pools.items) }
+    ensures gains { OnOk result (Gains strings.old (all_strings linker.now.hierarchy.now.family) strings.new) }
+{
+    let mut pools = Vec::with_capacity(alloc, linker.hierarchy.family().classes().len())?;
+    add_pools(alloc, linker, members, strings, &mut pools)?;
+    Ok(pools)
+}
+
+/// Adds the run-time constant pool of each class.
+fn add_pools(
+    alloc: Global,
+    linker: &Linker<'_>,
+    members: &mut MemberResolver<'_>,
+    strings: &mut Texts,
+    pools: &mut Vec<RuntimePool>,
 ) -> Result<(), AllocError>
     requires members { members.old ≡ linker.now.hierarchy.now }
-    requires empty { classes.old.items ≡ [] }
-    ensures classes { OnOk result (AreClasses linker.now.hierarchy.now.family strings.new classes.new.items) }
+    requires empty { pools.old.items ≡ [] }
+    ensures pools { OnOk result (ArePools linker.now.hierarchy.now.family strings.new
+        linker.now.hierarchy.now.family pools.new.items) }
     ensures gains { OnOk result (Gains strings.old (all_strings linker.now.hierarchy.now.family) strings.new) }
-    ensures kept { members.new ≡ members.old }
 {
     let family = linker.hierarchy.family().classes();
     for (number, given) in family.iter().enumerate() {
-        add_class(
+        add_pool(
             alloc,
             linker,
             members,
             strings,
             number as u32,
             &given.file,
-            classes,
+            pools,
         )?;
     }
     Ok(())
 }
 
-/// Adds what the machine uses of one more class.
-fn add_class(
+/// Adds the run-time constant pool of one more class.
+fn add_pool(
     alloc: Global,
     linker: &Linker<'_>,
     members: &mut MemberResolver<'_>,
     strings: &mut Texts,
     number: u32,
     file: &ClassFile,
-    classes: &mut Vec<Class>,
+    pools: &mut Vec<RuntimePool>,
 ) -> Result<(), AllocError>
     requires members { members.old ≡ linker.now.hierarchy.now }
     requires file { file_in linker.now.hierarchy.now.family number ≡ Some file.now }
-    ensures class { OnOk result
-        ((class : ClassTables) × IsLinkedClass linker.now.hierarchy.now.family strings.new file.now class
-        × (classes.new.items ≡ classes.old.items ++ class ∷ [])) }
+    ensures pool { OnOk result ((pool : List Constant)
+        × IsRuntimePool linker.now.hierarchy.now.family strings.new file.now pool
+        × (pools.new.items ≡ pools.old.items ++ pool ∷ [])) }
     ensures gains { OnOk result (Gains strings.old (strings_of file.now) strings.new) }
     ensures kept { members.new ≡ members.old }
 {
-    let class = class_of(alloc, linker, members, strings, number, file)?;
-    classes.push(class)?;
+    let pool = runtime_pool_of(alloc, linker, members, strings, number, file)?;
+    pools.push(pool)?;
     Ok(())
+}
+
+/// Of so few classes one thread makes the tables alone.
+const FEW: usize = 64;
+
+/// What the machine uses of some classes, by so many at once.
+fn classes_by<S: Sharing + Sync>(
+    sharing: &S,
+    share: u32,
+    alloc: Global,
+    family: &Family,
+    strings: &Texts,
+    given: &[GivenClass],
+    pools: Vec<RuntimePool>,
+) -> Result<Vec<Class>, AllocError>
+    requires { ArePools family.now strings.now given.now pools.items }
+    ensures { IfOk result (λ classes. AreLinked family.now strings.now given.now classes.items) }
+{
+    if share < 2 || given.len() < FEW {
+        return classes_in_turn(alloc, family, strings, given, pools);
+    }
+    let half = given.len() / 2;
+    let (front, back) = given.split_at(half);
+    let mut pools = pools;
+    let later = pools.split_off(half)?;
+    let (first, second) = sharing.both(
+        || -> Result<Vec<Class>, AllocError>
+            requires { ArePools family.now strings.now front.now pools.items }
+            ensures { IfOk result (λ classes. AreLinked family.entry.now strings.entry.now front.entry.now
+                classes.items) }
+        { classes_by(sharing, share / 2, alloc, family, strings, front, pools) },
+        || -> Result<Vec<Class>, AllocError>
+            requires { ArePools family.now strings.now back.now later.items }
+            ensures { IfOk result (λ classes. AreLinked family.entry.now strings.entry.now back.entry.now
+                classes.items) }
+        {
+            classes_by(
+                sharing,
+                share - share / 2,
+                alloc,
+                family,
+                strings,
+                back,
+                later,
+            )
+        },
+    );
+    let mut classes = first?;
+    let mut others = second?;
+    classes.append(&mut others)?;
+    Ok(classes)
+}
+
+/// What the machine uses of some classes, one after the other.
+fn classes_in_turn(
+    alloc: Global,
+    family: &Family,
+    strings: &Texts,
+    given: &[GivenClass],
+    pools: Vec<RuntimePool>,
+) -> Result<Vec<Class>, AllocError>
+    requires { ArePools family.now strings.now given.now pools.items }
+    ensures { IfOk result (λ classes. AreLinked family.now strings.now given.now classes.items) }
+{
+    let mut classes = Vec::with_capacity(alloc, given.len())?;
+    for (place, pool) in pools.into_iter().enumerate() {
+        classes.push(class_of(alloc, family, strings, &given[place].file, pool)?)?;
+    }
+    Ok(classes)
+}
+
+/// What the machine uses of a class.
+fn class_of(
+    alloc: Global,
+    family: &Family,
+    strings: &Texts,
+    file: &ClassFile,
+    runtime_pool: RuntimePool,
+) -> Result<Class, AllocError>
+    requires { IsRuntimePool family.now strings.now file.now runtime_pool }
+    ensures { IfOk result (IsLinkedClass family.now strings.now file.now) }
+{
+    match members_of(alloc, family, file, &runtime_pool) {
+        Ok(members) => Ok(Class {
+            statics: members.statics,
+            signatures: members.signatures,
+            methods: members.methods,
+            initializer: initializer_of(file),
+            main: main_of(file),
+            runtime_pool,
+        }),
+        Err(error) => Err(error),
+    }
 }
 
 /// By class: the numbers of its static fields.
@@ -341,35 +494,6 @@ fn static_numbers_of(
         numbers.push(StaticNumbers::of_class(alloc, &given.file)?)?;
     }
     Ok(numbers)
-}
-
-/// What the machine uses of a class.
-fn class_of(
-    alloc: Global,
-    linker: &Linker<'_>,
-    members: &mut MemberResolver<'_>,
-    strings: &mut Texts,
-    number: u32,
-    file: &ClassFile,
-) -> Result<Class, AllocError>
-    requires members { members.old ≡ linker.now.hierarchy.now }
-    requires file { file_in linker.now.hierarchy.now.family number ≡ Some file.now }
-    ensures class { IfOk result (IsLinkedClass linker.now.hierarchy.now.family strings.new file.now) }
-    ensures gains { OnOk result (Gains strings.old (strings_of file.now) strings.new) }
-    ensures kept { members.new ≡ members.old }
-{
-    let runtime_pool = runtime_pool_of(alloc, linker, members, strings, number, file)?;
-    match members_of(alloc, linker.hierarchy.family(), file, &runtime_pool) {
-        Ok(members) => Ok(Class {
-            statics: members.statics,
-            signatures: members.signatures,
-            methods: members.methods,
-            initializer: initializer_of(file),
-            main: main_of(file),
-            runtime_pool,
-        }),
-        Err(error) => Err(error),
-    }
 }
 
 /// The run-time constant pool of a class.

@@ -30,7 +30,7 @@ mod sparse;
 mod static_numbers;
 mod statics;
 
-pub use assembly::link;
+pub use assembly::{link, link_by};
 pub use built_in::method::{BuiltInMethod, Printed};
 pub use hierarchy::member::{Field, Method, Unresolved};
 pub use linked_program::Program;
