@@ -11,10 +11,10 @@ ghost use Rattle.image_parser.specs.reading.Results.{Gives};
 
 use crate::fault::{FilesFault, RegionFault};
 use crate::numbers::{run_at, u32_at};
-use classfile::{ClassFile, read};
+use classfile::{ClassFault, ClassFile, read};
 use loading::names::name_of;
 use sharing::Sharing;
-use std::alloc::Global;
+use std::alloc::{AllocError, Global};
 
 /// A count of 32 bits, and so many bytes.
 #[tactic(auto, unfolding(crate::specs::reading::Files::counted_at))]
@@ -117,40 +117,99 @@ pub(crate) fn read_files(
     files_at(alloc, count, bytes)
 }
 
-/// What stands after so many class files.
-fn skipped(count: u32, bytes: &[u8]) -> Result<&[u8], FilesFault> {
+/// The bytes of the class files of an image up to the first that is cut, and what stands after them, unless one is.
+struct Runs<'a> {
+    runs: Vec<&'a [u8]>,
+    rest: Result<&'a [u8], FilesFault>,
+}
+
+/// The bytes of so many class files.
+fn runs_at(alloc: Global, count: u32, bytes: &[u8]) -> Result<Runs<'_>, AllocError> {
+    let mut runs = Vec::new(alloc);
     let mut rest = bytes;
     for _ in 0..count {
-        let (_, after) = sized_at(rest)?;
-        rest = after;
+        match sized_at(rest) {
+            Ok((run, after)) => {
+                runs.push(run)?;
+                rest = after;
+            }
+            Err(fault) => {
+                return Ok(Runs {
+                    runs,
+                    rest: Err(fault),
+                });
+            }
+        }
     }
-    Ok(rest)
+    Ok(Runs {
+        runs,
+        rest: Ok(rest),
+    })
+}
+
+/// Of so few class files one thread reads all.
+const FEW: usize = 64;
+
+/// What each of these bytes is as a class file, one after the other.
+fn read_in_turn(
+    alloc: Global,
+    runs: &[&[u8]],
+) -> Result<Vec<Result<ClassFile, ClassFault>>, AllocError> {
+    let mut all = Vec::with_capacity(alloc, runs.len())?;
+    for run in runs {
+        all.push(read(alloc, run))?;
+    }
+    Ok(all)
+}
+
+/// What each of these bytes is as a class file, read by so many at once.
+fn read_by<S: Sharing + Sync>(
+    sharing: &S,
+    share: u32,
+    alloc: Global,
+    runs: &[&[u8]],
+) -> Result<Vec<Result<ClassFile, ClassFault>>, AllocError> {
+    if share < 2 || runs.len() < FEW {
+        return read_in_turn(alloc, runs);
+    }
+    let (front, back) = runs.split_at(runs.len() / 2);
+    let (first, second) = sharing.both(
+        || read_by(sharing, share / 2, alloc, front),
+        || read_by(sharing, share - share / 2, alloc, back),
+    );
+    let mut all = first?;
+    let mut others = second?;
+    all.append(&mut others)?;
+    Ok(all)
+}
+
+/// The class files that were read, if each is one and their names ascend.
+fn files_of(
+    alloc: Global,
+    all: Vec<Result<ClassFile, ClassFault>>,
+) -> Result<Vec<ClassFile>, FilesFault> {
+    let mut files = Vec::with_capacity(alloc, all.len())?;
+    for (index, one) in all.into_iter().enumerate() {
+        match one {
+            Ok(file) => {
+                let file = in_order(files.as_slice(), file)?;
+                files.push(file)?;
+            }
+            Err(fault) => return Err(FilesFault::of_class(index as u32, fault)),
+        }
+    }
+    Ok(files)
 }
 
 /// Reads class files, shared out.
 pub(crate) fn read_files_by<'a, S: Sharing + Sync>(
     sharing: &S,
-    share: u32,
     alloc: Global,
     count: u32,
     bytes: &'a [u8],
 ) -> Result<(Vec<ClassFile>, &'a [u8]), FilesFault> {
-    if share < 2 || count < 16 {
-        return files_at(alloc, count, bytes);
-    }
-    let half = count / 2;
-    let later = skipped(half, bytes)?;
-    let (front, back) = sharing.both(
-        || read_files_by(sharing, share / 2, alloc, half, bytes),
-        || read_files_by(sharing, share - share / 2, alloc, count - half, later),
-    );
-    let (mut files, _) = front?;
-    let (mut others, rest) = back?;
-    if let Some(first) = others.first() {
-        if !is_after(files.as_slice(), first) {
-            return Err(FilesFault::Order);
-        }
-    }
-    files.append(&mut others)?;
-    Ok((files, rest))
+    let Runs { runs, rest } = runs_at(alloc, count, bytes)?;
+    let all = read_by(sharing, sharing.count(), alloc, runs.as_slice())?;
+    let files = files_of(alloc, all)?;
+    Ok((files, rest?))
 }

@@ -221,7 +221,7 @@ fn of_parts_by<S: Sharing + Sync>(
         return Err(ImageFault::Truncated);
     }
     let (count, bytes) = count_at(parts);
-    match read_files_by(sharing, sharing.count(), alloc, count, bytes) {
+    match read_files_by(sharing, alloc, count, bytes) {
         Ok((files, rest)) => of_files_by(sharing, alloc, version, files, rest),
         Err(fault) => Err(ImageFault::of_files(fault)),
     }

@@ -9,7 +9,8 @@ use Rattle.loading.specs.declared.given.GivenClass.{GivenClass}
 use Rattle.loading.specs.Families.{Family}
 use Rattle.loading.specs.Names.{text_at}
 use Rattle.hierarchy.specs.steps.GrowingTexts.{KeepsNumbers}
-use Rattle.program.specs.RuntimePool.{IsRuntimeConstant}
+use Rattle.program.specs.RuntimePool.{IsRuntimeConstant, IsRuntimePool}
+use Rattle.program.specs.steps.LinkedParts.{ArePools}
 use Rattle.program.specs.Programs.{IsLinkedClass}
 
 pub constant_kept : {family : Family} {old new : List (List ℕ)} {f : ClassFile} {index : ℕ} {constant : Constant}
@@ -33,6 +34,22 @@ constant_kept keeps IsRuntimeConstant.method_handle = IsRuntimeConstant.method_h
 constant_kept keeps IsRuntimeConstant.method_type = IsRuntimeConstant.method_type
 constant_kept keeps IsRuntimeConstant.invoke_dynamic = IsRuntimeConstant.invoke_dynamic
 
+pub pool_kept : {family : Family} {old new : List (List ℕ)} {f : ClassFile} {pool : List RuntimeConstant}
+    → KeepsNumbers old new → IsRuntimePool family old f pool → IsRuntimePool family new f pool
+pool_kept keeps was = record {
+  count = was.count;
+  each = λ index constant held at also. constant_kept keeps (was.each index constant held at also);
+}
+
+pub pools_kept : (family : Family) (old new : List (List ℕ)) → KeepsNumbers old new
+    → (givens : List GivenClass) (pools : List (List RuntimeConstant)) → ArePools family old givens pools
+    → ArePools family new givens pools
+pools_kept family old new keeps [] [] all = tt
+pools_kept family old new keeps [] (pool ∷ pools) all = absurd all
+pools_kept family old new keeps (given ∷ givens) [] all = absurd all
+pools_kept family old new keeps (given ∷ givens) (pool ∷ pools) all =
+    (pool_kept keeps all.0, pools_kept family old new keeps givens pools all.1)
+
 pub class_kept : {family : Family} {old new : List (List ℕ)} {f : ClassFile} {class : Class} → KeepsNumbers old new
     → IsLinkedClass family old f class
     → IsLinkedClass family new f class
@@ -42,11 +59,7 @@ class_kept keeps was = record {
   methods = was.methods;
   initializer = was.initializer;
   main = was.main;
-  runtime_pool = record {
-    count = was.runtime_pool.count;
-    each = λ index constant held at also.
-        constant_kept keeps (was.runtime_pool.each index constant held at also);
-  };
+  runtime_pool = pool_kept keeps was.runtime_pool;
 }
 
 pub classes_kept : (family : Family) (old new : List (List ℕ)) → KeepsNumbers old new
