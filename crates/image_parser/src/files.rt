@@ -188,7 +188,7 @@ fn files_of(
     alloc: Global,
     all: Vec<Result<ClassFile, ClassFault>>,
 ) -> Result<Vec<ClassFile>, FilesFault> {
-    let mut files = Vec::with_capacity(alloc, all.len())?;
+    let mut files = Vec::new(alloc);
     for (index, one) in all.into_iter().enumerate() {
         match one {
             Ok(file) => {
@@ -208,8 +208,8 @@ pub(crate) fn read_files_by<'a, S: Sharing + Sync>(
     count: u32,
     bytes: &'a [u8],
 ) -> Result<(Vec<ClassFile>, &'a [u8]), FilesFault> {
-    let Runs { runs, rest } = runs_at(alloc, count, bytes)?;
-    let all = read_by(sharing, sharing.count(), alloc, runs.as_slice())?;
+    let Runs { runs, rest } = runs_at(alloc, count, bytes).map_err(|_| FilesFault::Memory)?;
+    let all = read_by(sharing, sharing.count(), alloc, runs.as_slice()).map_err(|_| FilesFault::Memory)?;
     let files = files_of(alloc, all)?;
     Ok((files, rest?))
 }

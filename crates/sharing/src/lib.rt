@@ -44,6 +44,9 @@ impl<R: Threads> Sharing for ByThreads<'_, R> {
     }
 
     fn both<F: FnOnce() -> A + Send, G: FnOnce() -> B, A: Send, B>(&self, first: F, second: G) -> (A, B) {
+        if self.count < 2 {
+            return Alone {}.both(first, second);
+        }
         thread::join(self.rt, first, second)
     }
 }
