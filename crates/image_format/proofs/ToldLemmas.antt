@@ -7,8 +7,8 @@ use Rattle.std.proofs.lemmas.List.Elements.{All-map}
 use Rattle.std.proofs.lemmas.Option.{get_or_from_slice_get, slice_get-get_or, slice_get_within}
 use Rattle.vm_state.specs.declared.value.Value.{Value}
 use Rattle.vm_state.specs.declared.value.Value.TheVariants as machine
-use Rattle.image_format.specs.declared.value.ImageValue.{ImageValue}
-use Rattle.image_format.specs.declared.value.ImageValue.TheVariants as values
+use Rattle.image_format.specs.Values.{ImageValue}
+use Rattle.image_format.specs.Values as values
 use Rattle.image_format.specs.declared.slots.SeenSlots.TheVariants as seen
 use Rattle.image_format.specs.steps.Rows.{told_number, Sees}
 

@@ -1,3 +1,6 @@
+pub mod Values
+pub mod Classes
+pub mod Regions
 pub mod Elements
 pub mod Texts
 pub mod Names

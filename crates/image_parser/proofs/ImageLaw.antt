@@ -20,7 +20,7 @@ use Rattle.loading.specs.Families.{Family, IsFamilyOf}
 use Rattle.loading.specs.Files.{LinkFails}
 use Rattle.loading.proofs.FilesFaultLemmas.{not_both as link_not_both, one_fault as one_link_fault}
 use Rattle.one_program.proofs.FamiliesLemmas.{one_family}
-use Rattle.image_format.specs.declared.region.ImageRegion.{ImageRegion}
+use Rattle.image_format.specs.Regions.{ImageRegion}
 use Rattle.image_format.specs.declared.version.Version.{Version}
 use Rattle.image_format.specs.declared.version.Version.TheVariants as versions
 use Rattle.program.specs.Programs.{files_of as classes_of}

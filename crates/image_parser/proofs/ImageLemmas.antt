@@ -22,7 +22,7 @@ use Rattle.loading.specs.declared.fault.LinkFault.TheVariants as link_faults
 use Rattle.loading.specs.Families.{Family}
 use Rattle.loading.specs.Files.{LinkFails, Links}
 use Rattle.loading.proofs.UnitsLemmas.{same_units}
-use Rattle.image_format.specs.declared.region.ImageRegion.{ImageRegion}
+use Rattle.image_format.specs.Regions.{ImageRegion}
 use Rattle.image_format.specs.declared.version.Version.{Version}
 use Rattle.image_format.specs.declared.version.Version.TheVariants as versions
 use Rattle.image_format.specs.Images.{AreRegions, VersionText, SomeText}

@@ -1,4 +1,9 @@
 pub mod EachLemmas
+pub mod ReferencesLemmas
+pub mod HeldLemmas
+pub mod SameLemmas
+pub mod ReadsLemmas
+pub mod ObjectReadsLemmas
 pub mod NumberLawful
 pub mod EachLawful
 pub mod ValueLawful
@@ -12,9 +17,9 @@ pub mod RegionLawful
 pub mod MarkLemmas
 pub mod MarkLawful
 pub mod NamesLemmas
-pub mod PlaceLemmas
-pub mod ReachingLemmas
-pub mod DroppingLemmas
+pub mod ClassesLemmas
+pub mod ToldLemmas
+pub mod WholeLemmas
 pub mod AllRegionsLemmas
 pub mod IdleLemmas
 pub mod OneOfLemmas

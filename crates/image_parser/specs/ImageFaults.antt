@@ -8,7 +8,7 @@ use Rattle.loading.specs.declared.fault.LinkFault.{LinkFault}
 use Rattle.loading.specs.declared.fault.LinkFault.TheVariants as link_faults
 use Rattle.loading.specs.Families.{Family, IsFamily, IsFamilyOf, name_in}
 use Rattle.loading.specs.Files.{LinkFails, Links}
-use Rattle.image_format.specs.declared.region.ImageRegion.{ImageRegion}
+use Rattle.image_format.specs.Regions.{ImageRegion}
 use Rattle.image_format.specs.declared.version.Version.{Version}
 use Rattle.program.specs.Programs.{files_of}
 use Rattle.image_format.specs.Images.{AreRegions, AreClassFiles, AreShort, SomeText}

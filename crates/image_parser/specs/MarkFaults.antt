@@ -4,7 +4,7 @@ use Rattle.std.specs.List.{AllZip, flat_map}
 use Rattle.std.specs.Int.{w8}
 use Rattle.classfile.specs.Faults.{Either, Number}
 use Rattle.loading.specs.Families.{Family}
-use Rattle.image_format.specs.declared.region.ImageRegion.{ImageRegion}
+use Rattle.image_format.specs.Regions.{ImageRegion}
 use Rattle.image_format.specs.declared.version.Version.{Version}
 use Rattle.image_format.specs.Shapes.{HasShape}
 use Rattle.image_format.specs.Texts.{mark_text}

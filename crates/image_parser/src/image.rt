@@ -5,7 +5,7 @@ ghost use Rattle.std.specs.Int.{w32, from_be_bytes};
 ghost use Rattle.classfile.specs.Faults.{IsBytes};
 ghost use Rattle.loading.specs.Families.{Family as Classes};
 ghost use Rattle.program.specs.Programs.{HasOwnStrings, IsProgram};
-ghost use Rattle.image_format.specs.declared.region.ImageRegion.{ImageRegion as Held};
+ghost use Rattle.image_format.specs.Regions.{ImageRegion as Held};
 ghost use Rattle.image_format.specs.declared.version.Version.TheVariants.{Two};
 ghost use Rattle.image_format.specs.Images.{AreRegions, ImageText, OldText, SomeText};
 ghost use Rattle.image_parser.specs.declared.image_fault.ImageFault.{ImageFault as Fault};
@@ -20,16 +20,18 @@ use crate::image_fault::ImageFault;
 use crate::regions::read_regions;
 use byteorder::{BigEndian, ByteOrder};
 use classfile::ClassFile;
-use image_format::region::ImageRegions;
+use evaluator::regions::Regions;
 use image_format::version::Version;
 use program::{Program, link};
 use std::alloc::Global;
 
-/// What an image's text says: a linked program, and what its classes that are initialized hold, a string by its units.
+/// What an image's text says: a linked program, with the strings that its classes hold, and the regions of those that
+/// are initialized.
 #[derive(Drop)]
 pub struct Parsed {
+    pub version: Version,
     pub program: Program,
-    pub regions: ImageRegions,
+    pub regions: Regions,
 }
 
 /// Reads an image of version 2, or of version 1: then the objects are left out that no static field reaches.
@@ -64,6 +66,12 @@ pub fn image_or_fault()
         → OldText bytes G b → ⊥ }
 {}
 
+/// The digest of an image, which stands at its end.
+fn digest_of(bytes: &[u8]) -> &[u8] {
+    let (_, digest) = bytes.split_at(bytes.len().saturating_sub(32));
+    digest
+}
+
 /// What the bytes of an image say.
 fn of_bytes(alloc: Global, bytes: &[u8]) -> Result<Parsed, ImageFault>
     ensures text { IfOk result (λ parsed. SomeText bytes.now parsed.program.family parsed.regions) }
@@ -72,7 +80,7 @@ fn of_bytes(alloc: Global, bytes: &[u8]) -> Result<Parsed, ImageFault>
     ensures fault { IfErr result (λ x. (x ≡ Memory) ⊎ ImageFails bytes.now x) }
 {
     match parts_of(bytes) {
-        Ok((version, parts)) => of_parts(alloc, version, parts),
+        Ok((version, parts)) => of_parts(alloc, version, parts, digest_of(bytes)),
         Err(fault) => Err(ImageFault::of_header(fault)),
     }
 }
@@ -88,7 +96,12 @@ fn count_at(parts: &[u8]) -> (u32, &[u8])
 }
 
 /// What the parts of an image say.
-fn of_parts(alloc: Global, version: Version, parts: &[u8]) -> Result<Parsed, ImageFault>
+fn of_parts(
+    alloc: Global,
+    version: Version,
+    parts: &[u8],
+    digest: &[u8],
+) -> Result<Parsed, ImageFault>
     requires { 4 ≤ length parts.now }
     ensures text { IfOk result (λ parsed. PartsRead version parts.now parsed.program.family parsed.regions) }
     ensures program { IfOk result (λ parsed. IsProgram parsed.program) }
@@ -97,7 +110,7 @@ fn of_parts(alloc: Global, version: Version, parts: &[u8]) -> Result<Parsed, Ima
 {
     let (count, bytes) = count_at(parts);
     match read_files(alloc, count, bytes) {
-        Ok((files, rest)) => of_files(alloc, version, files, parts, rest),
+        Ok((files, rest)) => of_files(alloc, version, files, parts, rest, digest),
         Err(fault) => Err(ImageFault::of_files(fault)),
     }
 }
@@ -109,6 +122,7 @@ fn of_files(
     files: Vec<ClassFile>,
     parts: &[u8],
     rest: &[u8],
+    digest: &[u8],
 ) -> Result<Parsed, ImageFault>
     requires { HasFiles parts.now files.items rest.now }
     ensures text { IfOk result (λ parsed. PartsRead version parts.now parsed.program.family parsed.regions) }
@@ -117,7 +131,7 @@ fn of_files(
     ensures fault { IfErr result (λ x. (x ≡ Memory) ⊎ PartsFail version parts.now x) }
 {
     match link(alloc, files) {
-        Ok(program) => of_program(alloc, version, program, parts, rest),
+        Ok(program) => of_program(alloc, version, program, parts, rest, digest),
         Err(fault) => Err(ImageFault::of_link(fault)),
     }
 }
@@ -129,6 +143,7 @@ fn of_program(
     program: Program,
     parts: &[u8],
     rest: &[u8],
+    digest: &[u8],
 ) -> Result<Parsed, ImageFault>
     requires linked { IsLinked parts.now program.family rest.now }
     requires program { IsProgram program }
@@ -138,8 +153,16 @@ fn of_program(
     ensures own_strings { IfOk result (λ parsed. HasOwnStrings parsed.program) }
     ensures fault { IfErr result (λ x. (x ≡ Memory) ⊎ PartsFail version parts.now x) }
 {
-    match read_regions(alloc, version, &program, rest) {
-        Ok(regions) => Ok(Parsed { program, regions }),
+    let mut program = program;
+    if program.hash_strings_by(alloc, digest).is_err() {
+        return Err(ImageFault::Memory);
+    }
+    match read_regions(alloc, version, &mut program, rest) {
+        Ok(regions) => Ok(Parsed {
+            version,
+            program,
+            regions,
+        }),
         Err(fault) => Err(ImageFault::of_regions(alloc, program.family(), fault)),
     }
 }

@@ -7,16 +7,16 @@ use Rattle.program.specs.Tables.{Tables}
 use Rattle.region_shape.specs.Wholes.{AreWhole}
 use Rattle.object_graph.specs.Cuts.{AreReached}
 use Rattle.object_graph.specs.Images.{AreSmall}
-use Rattle.image_format.specs.declared.region.ImageRegion.{ImageRegion}
+use Rattle.image_format.specs.Regions.{ImageRegion}
 use Rattle.image_format.specs.declared.version.Version.TheVariants as versions
 use Rattle.image_format.specs.Images.{AreRegions}
 use Rattle.image_format.specs.Objects.{region_in}
 use Rattle.image_format.specs.Told.{told_regions}
-use Rattle.image_reader.specs.steps.Held.{AddsStrings, HaveShape, MayHaveShape, HoldsRegions}
-use Rattle.image_reader.proofs.ClassesLemmas.{place_of}
-use Rattle.image_writer.proofs.ProgramsLemmas.{class_count, static_count}
-use Rattle.image_reader.proofs.ToldLemmas.{regions_told}
-use Rattle.image_reader.proofs.WholeLemmas.{regions_reached, regions_whole, regions_small}
+use Rattle.image_parser.specs.reading.Held.{AddsStrings, HaveShape, MayHaveShape, HoldsRegions}
+use Rattle.image_parser.proofs.ClassesLemmas.{place_of}
+use Rattle.object_graph.proofs.ProgramsLemmas.{class_count, static_count}
+use Rattle.image_parser.proofs.ToldLemmas.{regions_told}
+use Rattle.image_parser.proofs.WholeLemmas.{regions_reached, regions_whole, regions_small}
 
 module _ (P : Tables) (told : List (Option ImageRegion)) (fits : AreRegions versions.Two P.family told) where
   pub shaped : HaveShape P.family told

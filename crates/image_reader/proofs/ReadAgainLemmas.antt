@@ -11,15 +11,15 @@ use Rattle.machine.proofs.LawsFinalLemmas.{given_of}
 use Rattle.evaluator.specs.Regions.{environment_of}
 use Rattle.region_shape.specs.Laws.{IsFromFile}
 use Rattle.object_graph.specs.Images.{ImageTables}
-use Rattle.image_format.specs.declared.region.ImageRegion.{ImageRegion}
+use Rattle.image_format.specs.Regions.{ImageRegion}
 use Rattle.image_format.specs.Images.{AreClassFiles, SomeText}
 use Rattle.image_writer.specs.ImageTexts.{told_of}
 use Rattle.image_writer.specs.steps.Sizes.{HasFiles}
 use Rattle.image_reader.specs.Readings.{IsOfOwnStrings, IsSameImage}
-use Rattle.image_reader.specs.steps.Held.{HoldsRegions}
-use Rattle.image_reader.proofs.ClassesLemmas.{is_in}
+use Rattle.image_parser.specs.reading.Held.{HoldsRegions}
+use Rattle.image_parser.proofs.ClassesLemmas.{is_in}
 use Rattle.image_reader.proofs.HeldAgainLemmas.{held_again}
-use Rattle.image_reader.proofs.SameLemmas.{one_environment}
+use Rattle.image_parser.proofs.SameLemmas.{one_environment}
 
 from_files : (P : Tables) → AreClassFiles P.family → (c : ℕ) → IsFromFile P c
 from_files P all c f at =

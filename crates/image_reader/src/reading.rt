@@ -5,7 +5,7 @@ ghost use Rattle.loading.specs.Families.{Family as Classes};
 ghost use Rattle.program.specs.Programs.{IsProgram};
 ghost use Rattle.semantics.specs.Quiet.{Environment};
 ghost use Rattle.evaluator.specs.Regions.{environment_of};
-ghost use Rattle.image_format.specs.declared.region.ImageRegion.{ImageRegion as Told};
+ghost use Rattle.image_format.specs.Regions.{ImageRegion as Told};
 ghost use Rattle.image_format.specs.declared.version.Version.TheVariants.{Two};
 ghost use Rattle.image_format.specs.Images.{AreRegions, ImageText, SomeText};
 ghost use Rattle.image_parser.specs.declared.image_fault.ImageFault.{ImageFault as Fault};
@@ -14,11 +14,14 @@ ghost use Rattle.image_parser.specs.ImageFaults.{Answers, ImageFails};
 ghost use Rattle.object_graph.specs.Images.{ImageTables};
 ghost use Rattle.image_writer.specs.ImageTexts.{text_of, told_of};
 ghost use Rattle.image_reader.specs.Readings.{IsOfOwnStrings, IsSameImage};
-ghost use Rattle.image_reader.specs.steps.Held.{HoldsRegions};
+ghost use Rattle.image_parser.specs.reading.Held.{HoldsRegions};
 
-use crate::held_regions::held_regions;
+use evaluator::regions::Regions;
+use image_format::version::Version;
 use image_parser::{ImageFault, Parsed, parse};
-use object_graph::Image;
+use image_writer::image_text;
+use object_graph::{Image, gather};
+use program::Program;
 use std::alloc::{AllocError, Global};
 
 /// Reads an image of version 2, or of version 1 without the objects that no static field reaches: the program of its
@@ -47,7 +50,7 @@ pub fn read(alloc: Global, bytes: &[u8]) -> Result<Image, ImageFault>
     ensures only_fault { (x : Fault) → ImageFails bytes.now x → Answers result x }
 {
     match parse(alloc, bytes) {
-        Ok(parsed) => match image_of(alloc, parsed, bytes) {
+        Ok(parsed) => match image_of(alloc, parsed) {
             Ok(image) => Ok(image),
             Err(_) => Err(ImageFault::Memory),
         },
@@ -55,30 +58,28 @@ pub fn read(alloc: Global, bytes: &[u8]) -> Result<Image, ImageFault>
     }
 }
 
-/// The digest of an image, which stands at its end.
-fn digest_of(bytes: &[u8]) -> &[u8] {
-    let (_, digest) = bytes.split_at(bytes.len().saturating_sub(32));
-    digest
-}
-
-/// The image that a text says, all of whose objects are reached.
-fn image_of(alloc: Global, parsed: Parsed, bytes: &[u8]) -> Result<Image, AllocError>
-    requires { AreRegions Two parsed.program.family parsed.regions }
-    ensures family { IfOk result (λ image. image.program.family ≡ parsed.program.family) }
-    ensures told { IfOk result (λ image. told_of image ≡ parsed.regions) }
-    ensures program { IfOk result (λ image. IsProgram image.program) }
-    ensures holds { IfOk result (λ image. HoldsRegions image.program.strings parsed.regions
-        (environment_of image.regions)) }
-    // Where the program's own strings tell all that is told, the image is of this program.
-    ensures same { (env : Environment) → HoldsRegions parsed.program.strings parsed.regions env
-        → IfOk result (λ image. image.program ≡ parsed.program) }
+/// The image that a text says, without the objects that are not reached.
+fn image_of(alloc: Global, parsed: Parsed) -> Result<Image, AllocError>
 {
     let Parsed {
-        mut program,
+        version,
+        program,
         regions,
     } = parsed;
-    let _linked = program.classes();
-    let held = held_regions(alloc, &mut program, regions.as_slice(), digest_of(bytes))?;
-    let _classes = program.classes();
-    Ok(Image::of_reached(program, held))
+    match version {
+        Version::One => renewed(alloc, program, regions),
+        Version::Two => Ok(Image::of_reached(program, regions)),
+    }
+}
+
+/// The image that is left of regions without the objects that are not reached. It is read from its text, so that its
+/// program has no string that only an object holds which is left out.
+fn renewed(alloc: Global, program: Program, regions: Regions) -> Result<Image, AllocError>
+{
+    let image = gather(alloc, program, regions)?;
+    let text = image_text(alloc, &image)?;
+    match parse(alloc, text.as_slice()) {
+        Ok(parsed) => Ok(Image::of_reached(parsed.program, parsed.regions)),
+        Err(_) => Err(AllocError),
+    }
 }

@@ -26,8 +26,8 @@ use Rattle.region_shape.specs.Wholes.{AreWhole}
 use Rattle.object_graph.specs.Cuts.{AreReached}
 use Rattle.object_graph.specs.Images.{AreSmall}
 use Rattle.object_graph.specs.Reached.{object_among}
-use Rattle.image_format.specs.declared.object.KeptObject.{KeptObject}
-use Rattle.image_format.specs.declared.region.ImageRegion.{ImageRegion}
+use Rattle.image_format.specs.Regions.{KeptObject}
+use Rattle.image_format.specs.Regions.{ImageRegion}
 use Rattle.image_format.specs.Images.{AreRegions, AreClassFiles, AreShort, ImageText}
 use Rattle.program.specs.Programs.{files_of}
 use Rattle.image_format.specs.Images.{IsThere, NamesObjects}
@@ -38,7 +38,7 @@ use Rattle.image_format.specs.Told.{told_value, told_object, told_region, told_r
 use Rattle.image_format.specs.Texts.{image_text}
 use Rattle.image_writer.specs.steps.Fits.{ClassFits}
 use Rattle.image_writer.specs.steps.Sizes.{HasFiles}
-use Rattle.image_writer.proofs.ProgramsLemmas.{class_count, static_count}
+use Rattle.object_graph.proofs.ProgramsLemmas.{class_count, static_count}
 use Rattle.image_writer.proofs.SizesLemmas.{region_sized}
 use Rattle.image_format.proofs.RowsLemmas.{numbered_told, all_told}
 use Rattle.image_writer.proofs.ReachedLemmas.{told_count, told_of_class, told_object_of, told_reached}

@@ -9,3 +9,5 @@ pub mod KeptLemmas
 pub mod CuttingLemmas
 pub mod HeldLemmas
 pub mod ListedLemmas
+pub mod IdleLemmas
+pub mod ProgramsLemmas

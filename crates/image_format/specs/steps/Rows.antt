@@ -4,8 +4,8 @@ use Rattle.std.specs.List.{All}
 use Rattle.vm_state.specs.declared.value.Value.{Value}
 use Rattle.vm_state.specs.declared.value.Value.TheVariants as machine
 use Rattle.vm_state.specs.Values.{IsNumber}
-use Rattle.image_format.specs.declared.value.ImageValue.{ImageValue}
-use Rattle.image_format.specs.declared.value.ImageValue.TheVariants as values
+use Rattle.image_format.specs.Values.{ImageValue}
+use Rattle.image_format.specs.Values as values
 use Rattle.image_format.specs.declared.slots.Row.{Row}
 use Rattle.image_format.specs.declared.slots.Row.TheVariants as rows
 use Rattle.image_format.specs.declared.slots.SeenSlots.{SeenSlots}

@@ -65,3 +65,7 @@ pub record IsReachedAt (P : Tables) (regions : List (Option Held)) (x : Place) :
   pub held : ℕ × Object
   pub at : slice_get (row_in regions x.row).objects x.index ≡ Some held
   pub reached : IsReached P (environment_of regions) (name_in x.row held)
+
+-- the first so many places of a class are among these
+abbrev pub AreFound : List Place → ℕ → ℕ → Type 0
+AreFound found c count = (i : ℕ) → i < count → Contains found (record { row = c; index = i })

@@ -1,7 +1,7 @@
 use Rattle.std.proofs.Common.{◌↔◌, List, Option, subst}
 use Rattle.std.specs.List.{Contains}
 use Rattle.place_set.specs.declared.set.Place.{Place}
-use Rattle.image_format.specs.declared.region.ImageRegion.{ImageRegion}
+use Rattle.image_format.specs.Regions.{ImageRegion}
 use Rattle.image_parser.specs.reading.Reaching.{IsReachedAt}
 use Rattle.image_parser.proofs.AllRegionsLemmas.{marks_rise}
 use Rattle.image_parser.proofs.regions.shown.Goals as goal

@@ -1,7 +1,7 @@
 use Rattle.std.proofs.Common.{◌↔◌, ℕ, List, Option, subst, sym}
 use Rattle.std.specs.List.{Contains}
 use Rattle.place_set.specs.declared.set.Place.{Place}
-use Rattle.image_format.specs.declared.region.ImageRegion.{ImageRegion}
+use Rattle.image_format.specs.Regions.{ImageRegion}
 use Rattle.image_format.specs.Reached.{AreReached}
 use Rattle.image_parser.specs.AllRegions.RegionsFail.{idle}
 use Rattle.image_parser.specs.Idle.{IsIdle}

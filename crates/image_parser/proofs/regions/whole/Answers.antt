@@ -1,6 +1,6 @@
 use Rattle.std.proofs.Common.{List, Option, subst, inr, arith}
 use Rattle.std.specs.List.{All}
-use Rattle.image_format.specs.declared.region.ImageRegion.{ImageRegion}
+use Rattle.image_format.specs.Regions.{ImageRegion}
 use Rattle.image_parser.specs.Nameless.{MarkNames, IsNameless}
 use Rattle.image_parser.proofs.AllRegionsLemmas.{filled, few_regions, left_over, is_nameless, is_within, marks_rise}
 use Rattle.image_parser.proofs.regions.whole.Goals as goal

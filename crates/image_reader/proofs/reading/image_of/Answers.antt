@@ -2,7 +2,7 @@ use Rattle.std.proofs.Common.{◌∙◌, sym, ap}
 use Rattle.evaluator.specs.Regions.{environment_of}
 use Rattle.image_writer.specs.ImageTexts.{told_of}
 use Rattle.image_reader.proofs.ImagesLemmas.{shaped, whole, small, reached, told_again}
-use Rattle.image_writer.proofs.ProgramsLemmas.{class_count}
+use Rattle.object_graph.proofs.ProgramsLemmas.{class_count}
 use Rattle.image_reader.proofs.reading.image_of.Goals as goal
 
 pub held_regions-requires-clause-count : goal.held_regions-requires-clause-count
