@@ -1,7 +1,8 @@
 #!/usr/bin/env python3
 """Settles the classes of the cases of reports by a second interpreter, and compares what becomes of each.
 
-  bench/settling_cases.py [FILE..]     these files of product_cases/data/commands, or settling.txt and reports.txt
+  bench/settling_cases.py [FILE..]     these files of product_cases/data/commands, or settling.txt, reports.txt and
+                                       long_initializers.txt
 
 Asked are the reports of builds without lists of options. Which classes are refused by their code alone is taken from
 the answer; which class uses which, the waves, the first refused use, and what comes of a run of each initializer, with
@@ -200,7 +201,7 @@ def program_of(row):
 
 def main():
     questions = classes = others = 0
-    for name in sys.argv[1:] or ["settling.txt", "reports.txt"]:
+    for name in sys.argv[1:] or ["settling.txt", "reports.txt", "long_initializers.txt"]:
         for row in case_files.rows_of(os.path.join(COMMANDS, name)):
             program = program_of(row)
             if not program:

@@ -7,6 +7,7 @@ pub mod Statics
 pub mod Segments
 pub mod Stacks
 pub mod Objects
+pub mod ArrayClasses
 pub mod SharedState
 pub mod Pools
 pub mod SharedTables

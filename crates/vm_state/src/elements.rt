@@ -68,7 +68,7 @@ impl Few {
 
     /// All of them.
     #[inline(always)]
-    fn as_slice(&self) -> &[Brief]
+    pub(crate) fn as_slice(&self) -> &[Brief]
         ensures { result.now ≡ self.now }
     {
         &self.briefs[..usize::from(self.count)]
@@ -115,7 +115,7 @@ fn few_of(values: &[Value]) -> Option<Few>
 }
 
 /// What stands for some values, in fewer bytes.
-trait Element: Copy {
+pub(crate) trait Element: Copy {
     // The value that it stands for.
     ghost value_of: { Self → Held };
 
@@ -295,7 +295,7 @@ impl Element for Brief {
 
 /// The value at a slot.
 #[inline(always)]
-fn value_at<E: Element>(elements: &[E], slot: usize) -> Option<Value>
+pub(crate) fn value_at<E: Element>(elements: &[E], slot: usize) -> Option<Value>
     ensures { result ≡ slice_get (map E.value_of elements.now) slot }
 {
     match elements.get(slot) {
@@ -306,7 +306,7 @@ fn value_at<E: Element>(elements: &[E], slot: usize) -> Option<Value>
 
 /// Puts a value into a slot, and says so; not where nothing stands for it. Where there is no such slot nothing changes.
 #[inline(always)]
-fn put_narrow<E: Element>(elements: &mut Vec<E>, slot: usize, value: Value) -> bool
+pub(crate) fn put_narrow<E: Element>(elements: &mut Vec<E>, slot: usize, value: Value) -> bool
     ensures yes { result ≡ true
         → map E.value_of elements.new.items ≡ slice_set (map E.value_of elements.old.items) slot value }
     ensures no { result ≡ false → elements.new ≡ elements.old }
@@ -388,7 +388,7 @@ fn narrowed<E: Element>(alloc: Global, values: &[Value]) -> Result<Option<Vec<E>
 /// Puts a value into one of a few slots, and says so; not where nothing stands for it. Where there is no such slot
 /// nothing changes.
 #[inline(always)]
-fn put_few(few: &mut Few, slot: usize, value: Value) -> bool
+pub(crate) fn put_few(few: &mut Few, slot: usize, value: Value) -> bool
     ensures yes { result ≡ true
         → map brief_value few.new ≡ slice_set (map brief_value few.old) slot value }
     ensures no { result ≡ false → few.new ≡ few.old }
@@ -642,7 +642,7 @@ impl Elements {
     }
 
     /// Puts a value into a slot. Where there is no such slot no value changes.
-    #[inline(always)]
+    #[inline(never)]
     pub(crate) fn set(&mut self, slot: usize, value: Value) -> Result<(), AllocError>
         ensures ok { OnOk result (values_of self.new ≡ slice_set (values_of self.old) slot value) }
         ensures err { OnErr result (self.new ≡ self.old) }

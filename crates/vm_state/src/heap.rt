@@ -14,6 +14,7 @@ use crate::items::copy_items;
 use crate::kept::{Kept, KeptClass};
 use crate::object::{Monitor, Object, Slots};
 use crate::owners::Owners;
+use crate::packing::Packing;
 use crate::value::{Maker, Value};
 use built_in::class_id::ClassId;
 use std::alloc::{AllocError, Global};
@@ -383,14 +384,31 @@ impl Row {
     ///
     /// # Errors
     /// `AllocError` where memory is refused; nothing has changed then.
-    #[inline(always)]
     pub fn set_slot(&mut self, number: u64, slot: usize, value: Value) -> Result<(), AllocError>
+        ensures ok { OnOk result (pool_by self.new ≡ with_slot (pool_by self.old) number slot value) }
+        ensures err { OnErr result (self.new ≡ self.old) }
+    {
+        self.set_slot_as(number, Packing::Briefs, slot, value)
+    }
+
+    /// The same, quick where its slots are held as expected.
+    ///
+    /// # Errors
+    /// `AllocError` where memory is refused; nothing has changed then.
+    #[inline(always)]
+    pub fn set_slot_as(
+        &mut self,
+        number: u64,
+        expected: Packing,
+        slot: usize,
+        value: Value,
+    ) -> Result<(), AllocError>
         ensures ok { OnOk result (pool_by self.new ≡ with_slot (pool_by self.old) number slot value) }
         ensures err { OnErr result (self.new ≡ self.old) }
     {
         if let Some(place) = self.place(number) {
             let held = &mut self.kept[place];
-            held.slots.set(slot, value)?;
+            held.slots.set_as(expected, slot, value)?;
         }
         Ok(())
     }
@@ -555,16 +573,17 @@ impl Rows {
         self.rows.get(maker as usize)
     }
 
-    /// Puts a value into a slot of the object of a maker and a number. Where it is not held, or has no such slot,
-    /// nothing changes.
+    /// Puts a value into a slot of the object of a maker and a number, quick where its slots are held as expected.
+    /// Where it is not held, or has no such slot, nothing changes.
     ///
     /// # Errors
     /// `AllocError` where memory is refused; nothing has changed then.
     #[inline(always)]
-    pub fn set_slot(
+    pub fn set_slot_as(
         &mut self,
         maker: u32,
         number: u64,
+        expected: Packing,
         slot: usize,
         value: Value,
     ) -> Result<(), AllocError>
@@ -573,7 +592,7 @@ impl Rows {
         ensures err { OnErr result (self.new ≡ self.old) }
     {
         match self.rows.get_mut(maker as usize) {
-            Some(row) => row.set_slot(number, slot, value),
+            Some(row) => row.set_slot_as(number, expected, slot, value),
             None => Ok(()),
         }
     }

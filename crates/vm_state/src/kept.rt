@@ -1,6 +1,8 @@
 //! Objects as rows keep them: without number and monitor, their classes in 8 bytes.
 
-ghost use Rattle.std.specs.Prelude.{◌≡◌, IfOk};
+ghost use Rattle.std.specs.Prelude.{◌≡◌, IfOk, true};
+ghost use Rattle.built_in.specs.declared.class_id.ClassId.TheVariants.{Given};
+ghost use Rattle.vm_state.specs.ArrayClasses.{has_references};
 ghost use Rattle.vm_state.specs.steps.ClassWords.{array_of, class_of_word, element_of};
 
 use crate::items::CopiedItem;
@@ -10,8 +12,8 @@ use std::alloc::{AllocError, Global};
 use std::marker::Model;
 
 /// What the elements of an array of numbers are.
-#[derive(Clone, Copy)]
-enum Primitive {
+#[derive(Clone, Copy, PartialEq, Eq)]
+pub enum Primitive {
     Boolean,
     Byte,
     Char,
@@ -76,6 +78,14 @@ fn element_of(primitive: Primitive) -> ElementType
     }
 }
 
+/// Whether these are the same.
+#[inline(always)]
+fn same_primitive(left: Primitive, right: Primitive) -> bool
+    ensures { result ≡ true → left ≡ right }
+{
+    left == right
+}
+
 /// An array class as it is kept.
 fn array_word(dimensions: u8, element: ElementType) -> ClassWord
     ensures { class_of_word result ≡ array_of dimensions element }
@@ -113,6 +123,42 @@ impl KeptClass {
         ensures { result ≡ self.now }
     {
         KeptClass { word: self.word }
+    }
+
+    /// Whether it is this given class.
+    #[inline(always)]
+    pub fn is_given(&self, class: u32) -> bool
+        ensures { result ≡ true → self.now ≡ Given class }
+    {
+        match self.word {
+            ClassWord::Given(held) => held == class,
+            _ => false,
+        }
+    }
+
+    /// Whether it is the class of the arrays of one dimension whose elements are these numbers.
+    #[inline(always)]
+    pub fn is_array_of(&self, primitive: Primitive) -> bool
+        ensures { result ≡ true → self.now ≡ array_of 1 (element_of primitive) }
+    {
+        match self.word {
+            ClassWord::OfPrimitive(1, held) => same_primitive(held, primitive),
+            _ => false,
+        }
+    }
+
+    /// Whether it is the class of arrays whose components are references.
+    #[inline(always)]
+    pub fn has_references(&self) -> bool
+        ensures { result ≡ has_references self.now }
+    {
+        match self.word {
+            ClassWord::Given(_) | ClassWord::BuiltIn(_) => false,
+            ClassWord::OfPrimitive(dimensions, _) => dimensions > 1,
+            ClassWord::OfGiven(_, _) | ClassWord::OfBuiltIn(_, _) | ClassWord::OfUnknown(_, _) => {
+                true
+            }
+        }
     }
 
     /// The class.

@@ -15,6 +15,7 @@ pub mod object;
 pub mod operands;
 pub mod output;
 mod owners;
+pub mod packing;
 pub mod shared;
 pub mod spares;
 pub mod text;

@@ -15,7 +15,7 @@ use std::marker::Model;
 
 /// What a local variable holds: a value or nothing, in the 16 bytes that a value takes.
 #[derive(Clone, Copy)]
-enum Variable {
+pub enum Variable {
     Nothing,
     Int(i32),
     Long(i64),
@@ -29,7 +29,7 @@ enum Variable {
 impl Variable {
     /// One that holds this value.
     #[inline(always)]
-    fn holding(value: Value) -> Variable
+    pub fn holding(value: Value) -> Variable
         ensures { value_in result ≡ Some value }
     {
         match value {
@@ -45,7 +45,7 @@ impl Variable {
 
     /// The value that it holds.
     #[inline(always)]
-    fn value(self) -> Option<Value>
+    pub fn value(self) -> Option<Value>
         ensures { result ≡ value_in self }
     {
         match self {
@@ -144,6 +144,23 @@ impl Locals {
         Locals {
             variables: Vec::new(alloc),
         }
+    }
+
+    /// What the places hold, in the same memory.
+    #[inline(always)]
+    pub fn into_variables(self) -> Vec<Variable>
+        ensures { map value_in result.items ≡ self }
+    {
+        let Locals { variables } = self;
+        variables
+    }
+
+    /// Places that hold these, in the same memory.
+    #[inline(always)]
+    pub fn of_variables(variables: Vec<Variable>) -> Locals
+        ensures { result ≡ map value_in variables.items }
+    {
+        Locals { variables }
     }
 
     /// So many places that hold nothing, in the same memory where it is enough.

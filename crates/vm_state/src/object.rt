@@ -1,11 +1,12 @@
 //! Objects: instances and arrays (JVMS 2.7).
 
-ghost use Rattle.std.specs.Prelude.{◌≡◌, [], ◌∷◌, ◌++◌, true, IfOk, OnOk, OnErr, length, replicate, slice_get};
-ghost use Rattle.std.specs.Prelude.{slice_set};
+ghost use Rattle.std.specs.Prelude.{◌≡◌, [], ◌∷◌, ◌++◌, true, IfOk, IfSome, OnOk, OnErr, Some, length, replicate};
+ghost use Rattle.std.specs.Prelude.{slice_get, slice_set};
 ghost use Rattle.std.specs.List.{All};
 ghost use Rattle.vm_state.specs.Values.{IsNumber};
 
 use crate::elements::Elements;
+use crate::packing::Packing;
 use crate::value::Value;
 use built_in::class_id::{ArrayType, ClassId};
 use std::alloc::{AllocError, Global};
@@ -104,6 +105,15 @@ impl Slots {
         self.elements.get(slot)
     }
 
+    /// How many there are, and the value in a slot. None where they are held otherwise, or there is no such slot.
+    #[inline(always)]
+    pub fn get_as(&self, packing: Packing, slot: usize) -> Option<(usize, Value)>
+        ensures count { IfSome result (λ r. r.0 ≡ length self.now) }
+        ensures value { IfSome result (λ r. slice_get self.now slot ≡ Some r.1) }
+    {
+        self.elements.get_as(packing, slot)
+    }
+
     /// Whether they are held as numbers; then all are.
     pub fn are_numbers(&self) -> bool
         ensures { result ≡ true → All IsNumber self.now }
@@ -122,6 +132,18 @@ impl Slots {
         ensures err { OnErr result (self.new ≡ self.old) }
     {
         self.elements.set(slot, value)
+    }
+
+    /// The same, quick where they are held as expected.
+    ///
+    /// # Errors
+    /// `AllocError` where memory is refused; nothing has changed then.
+    #[inline(always)]
+    pub fn set_as(&mut self, expected: Packing, slot: usize, value: Value) -> Result<(), AllocError>
+        ensures ok { OnOk result (self.new ≡ slice_set self.old slot value) }
+        ensures err { OnErr result (self.new ≡ self.old) }
+    {
+        self.elements.set_as(expected, slot, value)
     }
 
     /// Adds a slot at the end, which holds a value.

@@ -1,7 +1,7 @@
 //! The operand stack of a frame (JVMS 2.6.2).
 
 ghost use Rattle.std.specs.Prelude.{◌≡◌, ◌≢◌, ◌+◌, ◌≤◌, ◌<◌, ◌∷◌, [], IfOk, OnErr, OnOk, Some, None, true, false};
-ghost use Rattle.std.specs.Prelude.{nat_le, vec_capacity};
+ghost use Rattle.std.specs.Prelude.{length, nat_le, vec_capacity};
 ghost use Rattle.vm_state.specs.Values.{places};
 ghost use Rattle.vm_state.specs.Operands.{OperandStack, all_places, pushed, top, top_int, top_long};
 ghost use Rattle.vm_state.specs.Operands.{rest, dropped, all_pushed};
@@ -146,6 +146,22 @@ impl Operands {
         self.free -= places;
         self.values.push_reserved(value);
         Ok(())
+    }
+
+    /// How many values there are.
+    #[inline(always)]
+    pub fn len(&self) -> usize
+        ensures { result ≡ length self.now.values }
+    {
+        self.values.len()
+    }
+
+    /// How many places are free.
+    #[inline(always)]
+    pub fn free(&self) -> u32
+        ensures { result ≡ self.now.free }
+    {
+        self.free
     }
 
     /// Whether there is room for so many places.

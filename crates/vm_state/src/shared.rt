@@ -15,6 +15,7 @@ use crate::classes::{ClassState, Classes, Fields, NoPlace, StaticField};
 use crate::heap::{Heap, Row};
 use crate::kept::Kept;
 use crate::object::{Monitor, Slots};
+use crate::packing::Packing;
 use crate::value::{Maker, Name, Value};
 use built_in::class_id::ClassId;
 use std::alloc::{AllocError, Global};
@@ -234,16 +235,41 @@ impl Shared {
     ///
     /// # Errors
     /// `AllocError` where memory is refused; nothing has changed then.
-    #[tactic(auto, unfolding(crate::specs::Shares::shared_of))]
-    #[inline(always)]
     pub fn set_slot(&mut self, name: Name, slot: usize, value: Value) -> Result<(), AllocError>
         ensures ok { OnOk result ((p : List Print) → shared_of self.new p ≡ set_pool (shared_of self.old p) name.maker
             (with_slot (pool_of (shared_of self.old p) name.maker) name.number slot value)) }
         ensures err { OnErr result (self.new ≡ self.old) }
     {
+        self.set_slot_as(name, Packing::Briefs, slot, value)
+    }
+
+    /// The same, quick where its slots are held as expected.
+    ///
+    /// # Errors
+    /// `AllocError` where memory is refused; nothing has changed then.
+    #[tactic(auto, unfolding(crate::specs::Shares::shared_of))]
+    #[inline(always)]
+    pub fn set_slot_as(
+        &mut self,
+        name: Name,
+        expected: Packing,
+        slot: usize,
+        value: Value,
+    ) -> Result<(), AllocError>
+        ensures ok { OnOk result ((p : List Print) → shared_of self.new p ≡ set_pool (shared_of self.old p) name.maker
+            (with_slot (pool_of (shared_of self.old p) name.maker) name.number slot value)) }
+        ensures err { OnErr result (self.new ≡ self.old) }
+    {
+        let number = name.number;
         match name.maker {
-            Maker::Class(class) => self.heap.classes.set_slot(class, name.number, slot, value),
-            Maker::Thread(thread) => self.heap.threads.set_slot(thread, name.number, slot, value),
+            Maker::Class(class) => self
+                .heap
+                .classes
+                .set_slot_as(class, number, expected, slot, value),
+            Maker::Thread(thread) => self
+                .heap
+                .threads
+                .set_slot_as(thread, number, expected, slot, value),
         }
     }
 

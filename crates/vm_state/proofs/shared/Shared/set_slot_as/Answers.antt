@@ -5,7 +5,7 @@ use Rattle.vm_state.specs.SharedState.{Pool, SharedState, pool_of, set_pool, wit
 use Rattle.vm_state.specs.SharedTables.{SharedTables}
 use Rattle.vm_state.specs.Shares.{shared_of}
 use Rattle.vm_state.proofs.ShareLemmas.{changed_by_class, changed_by_thread, if_done}
-use Rattle.vm_state.proofs.shared.Shared.set_slot.Goals as goal
+use Rattle.vm_state.proofs.shared.Shared.set_slot_as.Goals as goal
 
 abbrev changed : SharedState → Maker → (Pool → Pool) → SharedState
 changed sh maker change = set_pool sh maker (change (pool_of sh maker))
@@ -14,14 +14,14 @@ pub returns-in-Class-clause-ok : goal.returns-in-Class-clause-ok
 returns-in-Class-clause-ok c =
     let tables : SharedTables = record { classes = c.self.inside.classes; heap = c.self.inside.heap } in
     let change : Pool → Pool = λ pool. with_slot pool c.args.name.number c.args.slot c.args.value in
-    if_done c.set_slot.result c.set_slot.ensures.ok (λ is p.
-    rw c.in-Class.is (changed_by_class tables c.set_slot.new.self c.in-Class.class change is p
+    if_done c.set_slot_as.result c.set_slot_as.ensures.ok (λ is p.
+    rw c.in-Class.is (changed_by_class tables c.set_slot_as.new.self c.in-Class.class change is p
     ∙ ap (λ (s : SharedTables). changed (shared_of s p) (Class c.in-Class.class) change) c.self.view_is))
 
 pub returns-in-Thread-clause-ok : goal.returns-in-Thread-clause-ok
 returns-in-Thread-clause-ok c =
     let tables : SharedTables = record { classes = c.self.inside.classes; heap = c.self.inside.heap } in
     let change : Pool → Pool = λ pool. with_slot pool c.args.name.number c.args.slot c.args.value in
-    if_done c.set_slot-in-Thread.result c.set_slot-in-Thread.ensures.ok (λ is p.
-    rw c.in-Thread.is (changed_by_thread tables c.set_slot-in-Thread.new.self c.in-Thread.thread change is p
+    if_done c.set_slot_as-in-Thread.result c.set_slot_as-in-Thread.ensures.ok (λ is p.
+    rw c.in-Thread.is (changed_by_thread tables c.set_slot_as-in-Thread.new.self c.in-Thread.thread change is p
     ∙ ap (λ (s : SharedTables). changed (shared_of s p) (Thread c.in-Thread.thread) change) c.self.view_is))
