@@ -155,7 +155,7 @@ numbers_kept keeps count least (k ∷ ks) h = elim (tested (keeps k.number)) [
 ]
 
 -- all numbers are some of them
-numbers_all : (count least : ℕ) (os : List KeptObject) → least + length os ≤ count
+pub numbers_all : (count least : ℕ) (os : List KeptObject) → least + length os ≤ count
     → AreNumbered versions.One count least os → AreNumbered versions.Two count least os
 numbers_all count least [] le h = tt
 numbers_all count least (k ∷ ks) le h =

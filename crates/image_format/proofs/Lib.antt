@@ -3,4 +3,4 @@ pub mod KnownLemmas
 pub mod ReachedLemmas
 pub mod DroppedLemmas
 pub mod RowsLemmas
-pub mod ToldLemmas
+pub mod ToldReachedLemmas

@@ -9,4 +9,3 @@ pub mod Objects
 pub mod Reached
 pub mod Images
 pub mod Told
-pub mod steps

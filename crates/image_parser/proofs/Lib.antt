@@ -20,7 +20,9 @@ pub mod NamesLemmas
 pub mod ClassesLemmas
 pub mod ToldLemmas
 pub mod WholeLemmas
+pub mod NamedLemmas
 pub mod AllRegionsLemmas
+pub mod RegionsHeldLemmas
 pub mod IdleLemmas
 pub mod OneOfLemmas
 pub mod AllRegionsLaw

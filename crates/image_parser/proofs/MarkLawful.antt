@@ -120,26 +120,10 @@ marks_lawful version family fits =
 
 -- ---- what the reader answers, unless memory runs out
 
-pub marks_text : {Y : Type 0} (version : Version) (family : Family) → IsFamily family → (view : Y → List Mark × List ℕ)
-    (result : Result Y MarksFault) (bytes : List ℕ) → IsBytes bytes
-    → GivesIn view result (marks_at version family bytes)
-    → IfOk result (λ y. Begins (AreMarks version family) bytes (view y).0 (view y).1)
-marks_text version family fam view (Ok y) bytes fits e =
-    let t = (marks_lawful version family fam).takes bytes (view y).0 (view y).1 fits e in
-    record { text = t.text; spelled = t.spelled; parts = t.parts }
-marks_text version family fam view (Err f) bytes fits e = tt
-
-refused : (version : Version) (family : Family) → IsFamily family → (f : MarksFault) (bytes : List ℕ) → IsBytes bytes
-    → FailsIn f (marks_at version family bytes) → IsMarksFault (MarksFail version family bytes) f
-refused version family fam marks.Memory bytes fits e = tt
-refused version family fam marks.Truncated bytes fits e = (marks_lawful version family fam).blames bytes
+pub marks_refused : (version : Version) (family : Family) → IsFamily family → (f : MarksFault) (bytes : List ℕ)
+    → IsBytes bytes → FailsIn f (marks_at version family bytes) → IsMarksFault (MarksFail version family bytes) f
+marks_refused version family fam marks.Memory bytes fits e = tt
+marks_refused version family fam marks.Truncated bytes fits e = (marks_lawful version family fam).blames bytes
     marks.Truncated fits e
-refused version family fam (marks.Shape c) bytes fits e = (marks_lawful version family fam).blames bytes
+marks_refused version family fam (marks.Shape c) bytes fits e = (marks_lawful version family fam).blames bytes
     (marks.Shape c) fits e
-
-pub marks_fault : {Y : Type 0} (version : Version) (family : Family) → IsFamily family → (view : Y → List Mark × List ℕ)
-    (result : Result Y MarksFault) (bytes : List ℕ) → IsBytes bytes
-    → GivesIn view result (marks_at version family bytes)
-    → IfErr result (λ f. IsMarksFault (MarksFail version family bytes) f)
-marks_fault version family fam view (Ok y) bytes fits e = tt
-marks_fault version family fam view (Err f) bytes fits e = refused version family fam f bytes fits e

@@ -10,9 +10,11 @@ use Rattle.vm_state.specs.declared.object.Object.{Object}
 use Rattle.vm_state.specs.declared.value.Value.{Value}
 use Rattle.vm_state.specs.declared.value.Value.TheVariants as values
 use Rattle.vm_state.specs.Objects.{ObjectRow, numbered_kept}
+use Rattle.vm_state.specs.Pools.{IsRowOf, pool_by}
 use Rattle.vm_state.specs.Values.{IsNumber}
 use Rattle.evaluator.specs.declared.regions.Region.{Region}
-use Rattle.image_parser.specs.reading.Named.{AllBelow, KeptNames, NamesThere, SlotNames, SlotsName}
+use Rattle.object_graph.proofs.RowLemmas.{found_in, stands}
+use Rattle.image_parser.specs.reading.Named.{AllBelow, KeptNames, NamesThere, PoolNames, SlotNames, SlotsName}
 
 pub more_below : (Q : ℕ → Type 0) (n : ℕ) → AllBelow Q n → Q n → AllBelow Q (n + 1)
 more_below Q n all one k low = elim (cases_lt k n) [
@@ -88,3 +90,17 @@ module _ (regions : List (Option Region)) where
         none ∙ ap (option_map numbered_kept) at in cc),
     λ h. refl,
   )
+
+  -- ---- whole rows
+
+  pub pool_of_kept : (row : ObjectRow) → IsRowOf row.objects (pool_by row)
+      → AllBelow (KeptNames regions row) (length row.objects) → PoolNames regions (pool_by row)
+  pool_of_kept row is all n object at =
+      let s = stands row.objects n object (sym (ap (λ (f : ℕ → Option Object). f n) is.all) ∙ at) in
+      let names = all s.0.index (slice_get_within row.objects s.0.index s.0.held s.0.at) s.0.held s.0.at in
+      subst (λ (o : Object). SlotsName regions o.slots) s.1 names
+
+  pub kept_of_pool : (row : ObjectRow) → IsRowOf row.objects (pool_by row) → (k : ℕ) → PoolNames regions (pool_by row)
+      → KeptNames regions row k
+  kept_of_pool row is k names held at =
+      names held.0 held.1 (ap (λ (f : ℕ → Option Object). f held.0) is.all ∙ found_in row k held is.ascending at)

@@ -29,13 +29,14 @@ use Rattle.image_format.specs.Regions.{ImageObject}
 use Rattle.image_format.specs.Regions.{ImageRegion}
 use Rattle.image_format.specs.Values.{ImageValue}
 use Rattle.image_format.specs.Values as values
-use Rattle.image_format.specs.Images.{AreRegions}
 use Rattle.image_format.specs.Shapes.{HasObjects, HasShape, KnownHasObjects, ObjectHasShape, Suits}
 use Rattle.image_format.specs.Told.{told_array, told_class, told_value}
 use Rattle.image_format.specs.Regions.{KeptObject}
+use Rattle.image_format.specs.declared.version.Version.{Version}
 use Rattle.image_format.specs.declared.version.Version.TheVariants as versions
 use Rattle.image_format.specs.Objects.{region_in, object_with}
 use Rattle.image_format.specs.Shapes.{AreNumbered}
+use Rattle.image_format.proofs.DroppedLemmas.{numbers_all}
 use Rattle.image_format.proofs.RowsLemmas.{told_from}
 use Rattle.image_format.specs.Told.{told_object, told_kept, told_objects, told_fields, told_region, told_regions}
 use Rattle.image_parser.specs.reading.Held.{HoldsObject, HasUnits, HoldsValue, HoldsValues, HoldsField, HoldsFields}
@@ -179,11 +180,19 @@ module _ (S : List (List ℕ)) where
 
 -- ---- regions
 
+-- the numbers of a region of either version are some of those below its count
+pub numbers_two : (version : Version) (family : Family) (c : ℕ) (t : ImageRegion) → HasShape version family c t
+    → AreNumbered versions.Two t.count 0 t.objects
+numbers_two versions.One family c t shape =
+    numbers_all t.count 0 t.objects (let many = shape.many in omega (arith, many)) shape.numbers
+numbers_two versions.Two family c t shape = shape.numbers
+
 abbrev region : ℕ → List ImageValue → List KeptObject → ImageRegion
 region count statics objects = record { count = count; statics = statics; objects = objects }
 
-module _ (P : Tables) (statics : (c : ℕ) → length (statics_in P c) ≡ length (static_kinds P.family c)) where
-  region_told : (c : ℕ) (t : ImageRegion) (r : Region) → HasShape versions.Two P.family c t
+module _ (version : Version) (P : Tables)
+    (statics : (c : ℕ) → length (statics_in P c) ≡ length (static_kinds P.family c)) where
+  region_told : (c : ℕ) (t : ImageRegion) (r : Region) → HasShape version P.family c t
       → HoldsRegion P.strings t r → t ≡ told_region P c r
   region_told c t r shape holds =
       let count : length t.statics ≡ length (statics_in P c) =
@@ -192,19 +201,20 @@ module _ (P : Tables) (statics : (c : ℕ) → length (statics_in P c) ≡ lengt
       ∙ ap₂ (region r.pool.count)
       (fields_told P.strings t.statics r.fields (length (statics_in P c)) count
       (values_units (static_kinds P.family c) t.statics shape.statics) holds.fields)
-      (objects_told P.strings P.family t.count t.objects r.pool shape.numbers shape.objects holds.objects)
+      (objects_told P.strings P.family t.count t.objects r.pool (numbers_two version P.family c t shape) shape.objects holds.objects)
 
   class_told : (c : ℕ) (o : Option ImageRegion) (r : Option Region)
-      → ((t : ImageRegion) → o ≡ Some t → HasShape versions.Two P.family c t) → HoldsClass P.strings o r
+      → ((t : ImageRegion) → o ≡ Some t → HasShape version P.family c t) → HoldsClass P.strings o r
       → o ≡ option_map (told_region P c) r
   class_told c None r shape holds = sym (ap (option_map (told_region P c)) holds)
   class_told c (Some t) None shape holds = absurd holds
   class_told c (Some t) (Some r) shape holds = ap Some (region_told c t r (shape t refl) holds)
 
-  pub regions_told : (told : List (Option ImageRegion)) (env : Environment) → AreRegions versions.Two P.family told
+  pub regions_told : (told : List (Option ImageRegion)) (env : Environment) → length told ≡ length P.family
+      → ((c : ℕ) (t : ImageRegion) → slice_get told c ≡ Some (Some t) → HasShape version P.family c t)
       → HoldsRegions P.strings told env → told_regions P env ≡ told
-  regions_told told env fits holds =
-      sym (fill_by_all (λ c. option_map (told_region P c) (env c)) told (length P.family) None fits.count (λ c low.
-      let within : c < length told = omega (arith, low, fits.count) in
+  regions_told told env count shapes holds =
+      sym (fill_by_all (λ c. option_map (told_region P c) (env c)) told (length P.family) None count (λ c low.
+      let within : c < length told = omega (arith, low, count) in
       class_told c (region_in told c) (env c)
-      (λ t is. fits.shapes c t (slice_get-get_or told c None within ∙ ap Some is)) (holds c)))
+      (λ t is. shapes c t (slice_get-get_or told c None within ∙ ap Some is)) (holds c)))

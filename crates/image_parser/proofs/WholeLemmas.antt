@@ -42,9 +42,7 @@ use Rattle.region_shape.specs.Shapes.{ObjectHasShape as IsShaped, HasShape as Re
 use Rattle.region_shape.specs.Counts.{is_held, is_there, NamesObjects as Names}
 use Rattle.region_shape.specs.Texts.{HasText, HasTexts}
 use Rattle.region_shape.specs.Wholes.{AreWhole}
-use Rattle.object_graph.specs.Cuts.{AreReached}
 use Rattle.object_graph.specs.Images.{AreSmall}
-use Rattle.object_graph.specs.Reached.{object_among, IsReached, static, held as machine_held}
 use Rattle.image_format.specs.Classes.{ImageClass}
 use Rattle.image_format.specs.Classes as image
 use Rattle.image_format.specs.Regions.{ImageObject}
@@ -53,10 +51,9 @@ use Rattle.image_format.specs.Values.{ImageValue}
 use Rattle.image_format.specs.Values as values
 use Rattle.image_format.specs.Elements.{kind_of_type, kind_of_elements}
 use Rattle.image_format.specs.Names.{class_name, name_of_class}
-use Rattle.image_format.specs.declared.version.Version.TheVariants as versions
+use Rattle.image_format.specs.declared.version.Version.{Version}
 use Rattle.image_format.specs.Images.{AreRegions, IsThere}
 use Rattle.image_format.specs.Objects.{region_in, statics_of, objects_of, object_with, object_of}
-use Rattle.image_format.specs.Reached.{IsReached as IsToldReached, static as told_static, held as told_held}
 use Rattle.image_format.proofs.RowsLemmas.{kept_is, none_past}
 use Rattle.image_format.specs.Shapes.{Suits, IsArrayType, IsArrayOfUnknown, HasObjects, KnownHasObjects, AreSlots}
 use Rattle.image_format.specs.Shapes.{AreKnownSlots, ObjectHasShape, HasShape, has_objects, has_values}
@@ -64,6 +61,7 @@ use Rattle.image_parser.specs.reading.Held.{HoldsValue, HoldsValues, HoldsField,
 use Rattle.image_parser.specs.reading.Held.{HoldsArray, HoldsType, HoldsRegion, HoldsClass, HoldsRegions}
 use Rattle.image_parser.proofs.ClassesLemmas.{is_in, place_of}
 use Rattle.image_parser.proofs.ReferencesLemmas.{reference_is}
+use Rattle.image_parser.proofs.ToldLemmas.{numbers_two}
 
 -- ---- values
 
@@ -276,9 +274,9 @@ module _ (P : Tables) where
 
   -- ---- regions
 
-  region_shaped : (c : ℕ) (t : ImageRegion) (r : Region) → HasShape versions.Two P.family c t
+  region_shaped : (version : Version) (c : ℕ) (t : ImageRegion) (r : Region) → HasShape version P.family c t
       → HoldsRegion P.strings t r → RegionIsShaped P c r
-  region_shaped c t r shape holds = record {
+  region_shaped version c t r shape holds = record {
     statics = field_suits P.strings (static_kinds P.family c) t.statics r.fields shape.statics holds.fields;
     objects = λ n o at.
         let number : HoldsNumber P.strings (object_with t.objects n) (Some o) =
@@ -287,7 +285,7 @@ module _ (P : Tables) where
         object_shaped told.0 o (kept_is (ObjectHasShape P.family) t.objects n told.0 shape.objects told.1) told.2;
     no_more = λ n past.
         let none : object_with t.objects n ≡ None =
-        none_past t.count 0 t.objects n shape.numbers (omega (arith, past, holds.objects.count)) in
+        none_past t.count 0 t.objects n (numbers_two version P.family c t shape) (omega (arith, past, holds.objects.count)) in
         subst (λ (x : Option ImageObject). HoldsNumber P.strings x (r.pool.at n)) none (holds.objects.each n);
   }
 
@@ -329,8 +327,8 @@ module _ (P : Tables) where
 
 -- ---- all regions
 
-module _ (P : Tables) (told : List (Option ImageRegion)) (env : Environment)
-    (fits : AreRegions versions.Two P.family told) (holds : HoldsRegions P.strings told env) where
+module _ (version : Version) (P : Tables) (told : List (Option ImageRegion)) (env : Environment)
+    (fits : AreRegions version P.family told) (holds : HoldsRegions P.strings told env) where
   record IsTold (c : ℕ) (r : Region) : Type 0 where
     region : ImageRegion
     at : slice_get told c ≡ Some (Some region)
@@ -418,85 +416,10 @@ module _ (P : Tables) (told : List (Option ImageRegion)) (env : Environment)
               (t.held.objects.each n);
         }
 
-  -- ---- what static fields reach
-
-  held_static : (statics : (c : ℕ) → length (statics_in P c) ≡ length (static_kinds P.family c)) (d c n : ℕ)
-      → Contains (statics_of (region_in told d)) (values.Object c n)
-      → IsReached P env (record { class = c; number = n })
-  held_static statics d c n h = by (region_in told d) (env d) refl refl (holds d) h
-    where
-      by : (t : Option ImageRegion) (o : Option Region) → region_in told d ≡ t → env d ≡ o → HoldsClass P.strings t o
-          → Contains (statics_of t) (values.Object c n) → IsReached P env (record { class = c; number = n })
-      by None o is at held (k, lt, same) = absurd (omega (arith, lt))
-      by (Some t) None is at held has = absurd held
-      by (Some t) (Some r) is at held (k, lt, same) =
-          let value : slice_get t.statics k ≡ Some (values.Object c n) =
-          slice_get-get_or t.statics k (values.Object c n) lt ∙ ap (λ (v : ImageValue). Some v) same in
-          let field : r.fields k ≡ machine.OfClass c n =
-          subst (λ (x : Option ImageValue). HoldsField P.strings x (r.fields k)) value (held.fields k) in
-          let shape = fits.shapes d t (place_of told d t is) in
-          let long = AllZip-long Suits (static_kinds P.family d) t.statics shape.statics in
-          static d (r, at, (k, omega (arith, lt, long, statics d), field))
-
-  slot_held : (ts : List ImageValue) (vs : List Value) (c n : ℕ) → HoldsValues P.strings ts vs
-      → Contains ts (values.Object c n) → Contains vs (machine.OfClass c n)
-  slot_held [] vs c n held (k, lt, same) = absurd (omega (arith, lt))
-  slot_held (t ∷ ts) [] c n held has = absurd held
-  slot_held (t ∷ ts) (v ∷ vs) c n held (zero, lt, same) =
-      (zero, omega arith, subst (λ (x : ImageValue). HoldsValue P.strings x v) same held.0)
-  slot_held (t ∷ ts) (v ∷ vs) c n held (suc k, lt, same) =
-      let later = slot_held ts vs c n held.1 (k, omega (arith, lt), same) in
-      (suc later.0, (let low = later.1 in omega (arith, low)), later.2)
-
-  held_reached : (statics : (c : ℕ) → length (statics_in P c) ≡ length (static_kinds P.family c)) (c n : ℕ)
-      → IsToldReached told c n → IsReached P env (record { class = c; number = n })
-  held_reached statics c n (told_static d h) = held_static statics d c n h
-  held_reached statics c n (told_held {d = d} {m = m} t from at has) =
-      by (held_reached statics d m from) (region_in told d) (env d) refl refl (holds d)
-    where
-      by : IsReached P env (record { class = d; number = m }) → (q : Option ImageRegion) (o : Option Region)
-          → region_in told d ≡ q → env d ≡ o → HoldsClass P.strings q o
-          → IsReached P env (record { class = c; number = n })
-      by before None o is here held = absurd (
-          let none : None ≡ Some t = ap (λ (r : Option ImageRegion). object_with (objects_of r) m) (sym is) ∙ at in cc)
-      by before (Some q) None is here held = absurd held
-      by before (Some q) (Some r) is here held =
-          let told_one : object_with q.objects m ≡ Some t =
-          ap (λ (r : Option ImageRegion). object_with (objects_of r) m) (sym is) ∙ at in
-          let number : HoldsNumber P.strings (Some t) (r.pool.at m) =
-          subst (λ (x : Option ImageObject). HoldsNumber P.strings x (r.pool.at m)) told_one (held.objects.each m) in
-          one (r.pool.at m) refl number
-        where
-          one : (o : Option Object) → r.pool.at m ≡ o → HoldsNumber P.strings (Some t) o
-              → IsReached P env (record { class = c; number = n })
-          one None is_at number = absurd number
-          one (Some o) is_at number =
-              machine_held before (
-                o,
-                ap (λ (x : Option Region). object_among x m) here ∙ is_at,
-                slot_held t.slots o.slots c n number.slots has,
-              )
-
-  pub regions_reached : ((c : ℕ) → length (statics_in P c) ≡ length (static_kinds P.family c)) → AreReached P env
-  regions_reached statics x object at =
-      by (object_of told x.class x.number) refl
-    where
-      there : is_some (object_of told x.class x.number) ≡ true
-      there = sym (same_there x.class x.number) ∙ of_pool (env x.class) at
-        where
-          of_pool : (o : Option Region) → object_among o x.number ≡ Some object
-              → is_held (option_map (λ (r : Region). r.pool) o) x.number ≡ true
-          of_pool None e = absurd cc
-          of_pool (Some r) e = ap is_some e
-
-      by : (t : Option ImageObject) → object_of told x.class x.number ≡ t → IsReached P env x
-      by None e = absurd (let clash : false ≡ true = sym (ap is_some e) ∙ there in cc)
-      by (Some t) e = held_reached statics x.class x.number (fits.needed x.class x.number t e)
-
   pub regions_whole : AreWhole P env
   regions_whole = record {
     shape = λ c r here.
-        let t = told_of c r here in region_shaped P c t.region r (fits.shapes c t.region t.at) t.held;
+        let t = told_of c r here in region_shaped P version c t.region r (fits.shapes c t.region t.at) t.held;
     closed = names_known;
     texts = λ c r here. let t = told_of c r here in region_has_texts P t.region r t.held;
   }

@@ -2,10 +2,11 @@
 
 ghost use Rattle.std.specs.Prelude.{◌≡◌, length, MatchOption};
 ghost use Rattle.std.specs.Bool.{Decides};
+ghost use Rattle.vm_state.specs.Pools.{pool_by};
 ghost use Rattle.vm_state.specs.Statics.{field_in};
 ghost use Rattle.program.specs.Tables.{statics_in};
 ghost use Rattle.image_parser.specs.reading.Named.{AllBelow, ClassNames, FieldsName, IsFirstNameless, KeptNames};
-ghost use Rattle.image_parser.specs.reading.Named.{NamesThere, RegionNames, RowNames, SlotNames, SlotsName, is_there};
+ghost use Rattle.image_parser.specs.reading.Named.{NamesThere, PoolNames, RegionNames, SlotNames, SlotsName, is_there};
 
 use evaluator::regions::{Region, Regions};
 use object_graph::static_count;
@@ -79,7 +80,7 @@ fn kept_names(regions: &Regions, row: &Row, place: usize) -> bool
 
 /// Whether those are that the objects of a row name.
 fn row_names(regions: &Regions, row: &Row) -> bool
-    ensures { Decides result (RowNames regions.now row.now) }
+    ensures { Decides result (PoolNames regions.now (pool_by row.now)) }
 {
     for place in 0..row.len() {
         if !kept_names(regions, row, place) {

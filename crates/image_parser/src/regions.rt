@@ -63,6 +63,7 @@ fn whole(
     ensures fault { (P : Tables) → AreHeld version P program.now bytes.now regions rest.now
         → IfErr result (λ x. (x ≡ Memory) ⊎ RegionsFail version P.family bytes.now x) }
 {
+    let _classes = program.classes();
     if !is_done(rest) {
         return Err(RegionsFault::Extra);
     }

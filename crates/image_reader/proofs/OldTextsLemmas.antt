@@ -26,7 +26,7 @@ use Rattle.image_format.proofs.DroppedLemmas.{keeps_of, keeps_reached}
 use Rattle.image_format.proofs.RowsLemmas.{told_from}
 use Rattle.image_writer.specs.ImageTexts.{told_of}
 use Rattle.object_graph.proofs.ProgramsLemmas.{class_count}
-use Rattle.image_writer.proofs.ReachedLemmas.{reached_told, reached_again}
+use Rattle.image_format.proofs.ToldReachedLemmas.{reached_told, reached_again}
 
 module _ (P : Tables) (whole part : Environment)
     (no_more : (c : ℕ) (r : Region) → whole c ≡ Some r → (n : ℕ) → r.pool.count ≤ n → r.pool.at n ≡ None)

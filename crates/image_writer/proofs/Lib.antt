@@ -3,5 +3,4 @@ pub mod PlacedLemmas
 pub mod FilesLemmas
 pub mod SizesLemmas
 pub mod SuitsLemmas
-pub mod ReachedLemmas
 pub mod RegionsLemmas

@@ -4,6 +4,8 @@ use Rattle.vm_state.specs.declared.object.Object.{Object}
 use Rattle.vm_state.specs.declared.value.Value.{Value}
 use Rattle.vm_state.specs.declared.value.Value.TheVariants as values
 use Rattle.vm_state.specs.Objects.{ObjectRow}
+use Rattle.vm_state.specs.Pools.{pool_by}
+use Rattle.vm_state.specs.SharedState.{Pool}
 use Rattle.vm_state.specs.Statics.{field_in}
 use Rattle.program.specs.Tables.{Tables, statics_in}
 use Rattle.evaluator.specs.declared.regions.Region.{Region}
@@ -33,8 +35,9 @@ SlotsName regions slots = AllBelow (SlotNames regions slots) (length slots)
 abbrev pub KeptNames : List (Option Region) → ObjectRow → ℕ → Type 0
 KeptNames regions row k = (held : ℕ × Object) → slice_get row.objects k ≡ Some held → SlotsName regions held.1.slots
 
-abbrev pub RowNames : List (Option Region) → ObjectRow → Type 0
-RowNames regions row = AllBelow (KeptNames regions row) (length row.objects)
+-- the slots of each object
+abbrev pub PoolNames : List (Option Region) → Pool → Type 0
+PoolNames regions pool = (n : ℕ) (object : Object) → pool.at n ≡ Some object → SlotsName regions object.slots
 
 -- the first so many static fields
 abbrev pub FieldsName : List (Option Region) → (ℕ → Value) → ℕ → Type 0
@@ -42,7 +45,7 @@ FieldsName regions fields count = AllBelow (λ k. NamesThere regions (fields k))
 
 -- a region of a class with so many static fields
 abbrev pub RegionNames : List (Option Region) → Region → ℕ → Type 0
-RegionNames regions region count = FieldsName regions (field_in region.fields) count × RowNames regions region.objects
+RegionNames regions region count = FieldsName regions (field_in region.fields) count × PoolNames regions (pool_by region.objects)
 
 -- a class that is not initialized names nothing
 abbrev pub MayName : List (Option Region) → Option Region → ℕ → Type 0

@@ -1,6 +1,6 @@
-use Rattle.std.proofs.Common.{arith}
+use Rattle.std.proofs.Common.{arith, refl}
 use Rattle.image_parser.specs.reading.Named.{KeptNames}
-use Rattle.image_parser.proofs.NamesLemmas.{all_below, misses_below, more_below}
+use Rattle.image_parser.proofs.NamesLemmas.{kept_of_pool, more_below, pool_of_kept}
 use Rattle.image_parser.proofs.names.row_names.Goals as goal
 
 pub loop-place-init : goal.loop-place-init
@@ -12,9 +12,16 @@ loop-place-preserved c =
     (c.kept_names.ensures.0 (let on = c.if-not-kept_names.false in cc))
 
 pub returns-then-not-kept_names : goal.returns-then-not-kept_names
-returns-then-not-kept_names c =
-    misses_below (KeptNames c.args.regions.now c.args.row.now) _ c.loop-place.place (omega arith)
-    (λ h. let on = c.kept_names.ensures.1 h in let off = c.if-not-kept_names.true in cc)
+returns-then-not-kept_names c = (
+  λ e. absurd cc,
+  λ h. let on = c.kept_names.ensures.1 (kept_of_pool c.args.regions.now c.args.row.now c.len.ensures.row
+      c.loop-place.place h) in
+      let off = c.if-not-kept_names.true in cc,
+)
 
 pub returns : goal.returns
-returns c = all_below (KeptNames c.args.regions.now c.args.row.now) _ c.loop-place.place (omega arith) c.loop-place.invariant
+returns c = (
+  λ e. pool_of_kept c.args.regions.now c.args.row.now c.len.ensures.row
+      (λ k low. c.loop-place.invariant k (omega (arith, low, c.len.ensures.all))),
+  λ h. refl,
+)

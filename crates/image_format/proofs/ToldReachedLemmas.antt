@@ -1,7 +1,7 @@
 -- What is told of regions that hold no object past their counts, and that static fields reach in the machine just what
 -- they reach in what is told.
 use Rattle.std.proofs.Common.{◌≡◌, ◌∙◌, inl, inr, ℕ, ◌+◌, ◌<◌, ◌≤◌, List, [], length, map, get_or, Option, Some, None}
-use Rattle.std.proofs.Common.{option_map, refl, sym, ap, subst, arith}
+use Rattle.std.proofs.Common.{is_some, option_map, refl, sym, ap, subst, arith}
 use Rattle.std.specs.List.{Contains, range_with_len}
 use Rattle.std.proofs.lemmas.Bool.{cases_lt}
 use Rattle.std.proofs.lemmas.List.{get_or_past, length-map}
@@ -16,6 +16,7 @@ use Rattle.semantics.specs.Quiet.{Environment}
 use Rattle.program.specs.Tables.{Tables, statics_in}
 use Rattle.object_graph.specs.declared.name_set.ObjectName.{ObjectName}
 use Rattle.object_graph.specs.Cuts.{AreReached}
+use Rattle.object_graph.specs.Idle.{AreReachedOf}
 use Rattle.object_graph.specs.Reached.{object_among, IsReached, static, held}
 use Rattle.image_format.specs.Values.{ImageValue}
 use Rattle.image_format.specs.Values as values
@@ -118,16 +119,6 @@ module _ (P : Tables) (env : Environment)
       (told_object_of z.class z.number ∙ ap (option_map (told_object P.strings)) at)
       (contains_told P.strings object.slots x.class x.number holds)
 
-  pub told_reached : AreReached P env → (c : ℕ) → AreToldReached told c
-  told_reached reached c n t at =
-      by (object_among (env c) n) refl (sym (told_object_of c n) ∙ at)
-    where
-      by : (o : Option Object) → object_among (env c) n ≡ o → option_map (told_object P.strings) o ≡ Some t
-          → IsToldReached told c n
-      by None is same = absurd cc
-      by (Some object) is same =
-          let x : ObjectName = record { class = c; number = n } in reached_told x (reached x object is)
-
   -- ---- what is told to be reached is
 
   in_statics : (c n d : ℕ) → Contains (statics_of (region_in told d)) (values.Object c n)
@@ -172,3 +163,33 @@ module _ (P : Tables) (env : Environment)
             contains_named P.strings object.slots c n
                 (subst (λ (x : ImageObject). Contains x.slots (values.Object c n)) (sym one) has),
           )
+
+  -- ---- class by class
+
+  -- whether there is an object, by the text and by the machine
+  pub told_some : (c n : ℕ) → is_some (object_of told c n) ≡ is_some (object_among (env c) n)
+  told_some c n = ap is_some (told_object_of c n) ∙ same (object_among (env c) n)
+    where
+      same : (o : Option Object) → is_some (option_map (told_object P.strings) o) ≡ is_some o
+      same None = refl
+      same (Some o) = refl
+
+  pub class_told : (c : ℕ) → AreReachedOf P env c → AreToldReached told c
+  class_told c reached n t at = by (object_among (env c) n) refl (sym (told_object_of c n) ∙ at)
+    where
+      by : (o : Option Object) → object_among (env c) n ≡ o → option_map (told_object P.strings) o ≡ Some t
+          → IsToldReached told c n
+      by None is same = absurd cc
+      by (Some object) is same =
+          let x : ObjectName = record { class = c; number = n } in reached_told x (reached n object is)
+
+  pub class_again : (c : ℕ) → AreToldReached told c → AreReachedOf P env c
+  class_again c reached n object at =
+      reached_again c n (reached n (told_object P.strings object)
+      (told_object_of c n ∙ ap (option_map (told_object P.strings)) at))
+
+  pub told_reached : AreReached P env → (c : ℕ) → AreToldReached told c
+  told_reached reached c = class_told c (λ n object at. reached (record { class = c; number = n }) object at)
+
+  pub all_again : ((c : ℕ) → AreToldReached told c) → AreReached P env
+  all_again reached x object at = class_again x.class (reached x.class) x.number object at
