@@ -447,27 +447,34 @@ one_of bytes fits = record {
 
 -- ---- what is answered, unless memory runs out
 
-module _ {Y : Type 0} (view : Y → ImageParts) where
-  pub only_image : (bytes : List ℕ) (result : Result Y ImageFault) → IsBytes bytes
-      → IfOk result (λ y. SomeText bytes (view y).0 (view y).1)
+module _ {Y : Type 0} (of : Y → Version) (view : Y → ImageParts) (bytes : List ℕ) (fits : IsBytes bytes) where
+  one_reading : (v w : Version) (F G : Family) (a b : Held) → VersionText v bytes F a → VersionText w bytes G b
+      → (v ≡ w) × (F ≡ G) × (a ≡ b)
+  one_reading v w F G a b s t =
+      let same : v ≡ w = one_version bytes v w F G a b s t in
+      let P : Version → Type 0 = λ z. VersionText z bytes G b in
+      (same, one_whole bytes fits v F G a b s (subst P (sym same) t))
+
+  pub only_image : (result : Result Y ImageFault)
+      → IfOk result (λ y. VersionText (of y) bytes (view y).0 (view y).1)
       → IfErr result (λ f. (f ≡ faults.Memory) ⊎ ImageFails bytes f)
-      → (family : Family) (held : List (Option ImageRegion)) → SomeText bytes family held
-      → MatchResult result (λ y. ((view y).0 ≡ family) × ((view y).1 ≡ held)) (λ f. f ≡ faults.Memory)
-  only_image bytes (Ok y) fits ok err family held text =
-      let same = (one_of bytes fits).one_text (view y) (family, held) ok text in
-      (ap (λ (z : ImageParts). z.0) same, ap (λ (z : ImageParts). z.1) same)
-  only_image bytes (Err f) fits ok err family held text =
+      → (version : Version) (family : Family) (held : List (Option ImageRegion)) → VersionText version bytes family held
+      → MatchResult result (λ y. (of y ≡ version) × ((view y).0 ≡ family) × ((view y).1 ≡ held))
+      (λ f. f ≡ faults.Memory)
+  only_image (Ok y) ok err version family held text =
+      one_reading (of y) version (view y).0 family (view y).1 held ok text
+  only_image (Err f) ok err version family held text =
       elim err [
         | inl memory ↦ memory
-        | inr fails ↦ absurd ((one_of bytes fits).not_both (family, held) f text fails)
+        | inr fails ↦ absurd (no_fault bytes fits version family held f text fails)
       ]
 
-  pub only_image_fault : (bytes : List ℕ) (result : Result Y ImageFault) → IsBytes bytes
-      → IfOk result (λ y. SomeText bytes (view y).0 (view y).1)
+  pub only_image_fault : (result : Result Y ImageFault)
+      → IfOk result (λ y. VersionText (of y) bytes (view y).0 (view y).1)
       → IfErr result (λ f. (f ≡ faults.Memory) ⊎ ImageFails bytes f)
       → (x : ImageFault) → ImageFails bytes x → (result ≡ Err x) ⊎ (result ≡ Err faults.Memory)
-  only_image_fault bytes (Ok y) fits ok err x fails = absurd ((one_of bytes fits).not_both (view y) x ok fails)
-  only_image_fault bytes (Err f) fits ok err x fails =
+  only_image_fault (Ok y) ok err x fails = absurd (no_fault bytes fits (of y) (view y).0 (view y).1 x ok fails)
+  only_image_fault (Err f) ok err x fails =
       elim err [
         | inl memory ↦ inr (ap (λ (z : ImageFault). Err z) memory)
         | inr mine ↦ inl (ap (λ (z : ImageFault). Err z) ((one_of bytes fits).one_fault f x mine fails))

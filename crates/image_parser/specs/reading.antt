@@ -3,6 +3,7 @@ pub mod Held
 pub mod Reads
 pub mod Named
 pub mod Marked
+pub mod Parsings
 pub mod Values
 pub mod ClassNames
 pub mod Unknown

@@ -5,14 +5,14 @@ ghost use Rattle.std.specs.Int.{w32, from_be_bytes};
 ghost use Rattle.classfile.specs.Faults.{IsBytes};
 ghost use Rattle.loading.specs.Families.{Family as Classes};
 ghost use Rattle.program.specs.Programs.{HasOwnStrings, IsProgram};
-ghost use Rattle.image_format.specs.Regions.{ImageRegion as Held};
-ghost use Rattle.image_format.specs.declared.version.Version.TheVariants.{Two};
-ghost use Rattle.image_format.specs.Images.{AreRegions, ImageText, OldText, SomeText};
+ghost use Rattle.image_format.specs.Regions.{ImageRegion as Told};
+ghost use Rattle.image_format.specs.declared.version.Version.{Version as Format};
+ghost use Rattle.image_format.specs.Images.{ImageText, OldText, VersionText};
 ghost use Rattle.image_parser.specs.declared.image_fault.ImageFault.{ImageFault as Fault};
 ghost use Rattle.image_parser.specs.declared.image_fault.ImageFault.TheVariants.{Memory};
-ghost use Rattle.image_parser.specs.ImageFaults.{HasFiles, IsLinked, PartsRead, PartsFail, IsImage, ImageFails};
-ghost use Rattle.image_parser.specs.ImageFaults.{Answers};
+ghost use Rattle.image_parser.specs.ImageFaults.{Answers, HasFiles, ImageFails, IsImage, IsLinked, PartsFail, PartsText};
 ghost use Rattle.image_parser.specs.TextOrFault.{TextOrFault};
+ghost use Rattle.image_parser.specs.reading.Parsings.{IsOfFiles, told_in};
 
 use crate::files::read_files;
 use crate::header::parts_of;
@@ -34,23 +34,22 @@ pub struct Parsed {
     pub regions: Regions,
 }
 
-/// Reads an image of version 2, or of version 1: then the objects are left out that no static field reaches.
+/// Reads an image of version 2, or of version 1 with all objects that its classes made.
 ///
 /// # Errors
 /// What is wrong first, from the frame inward and then from front to back; `Memory` where memory runs out.
 pub fn parse(alloc: Global, bytes: &[u8]) -> Result<Parsed, ImageFault>
-    // What is accepted is a text, of either version, of the class files and of the regions that are answered.
-    ensures text { IfOk result (λ parsed. SomeText bytes.now parsed.program.family parsed.regions) }
-    // The program is that of these class files.
+    // What is accepted is a text, of the version that is answered, of the class files and of what is told of the
+    // regions.
+    ensures text { IfOk result (λ parsed. VersionText parsed.version bytes.now parsed.program.family (told_in parsed)) }
+    // The program is that of these class files, with the strings that the regions hold.
     ensures program { IfOk result (λ parsed. IsProgram parsed.program) }
-    // It has no strings but theirs.
-    ensures own_strings { IfOk result (λ parsed. HasOwnStrings parsed.program) }
-    // The regions are such as an image of version 2 has.
-    ensures fits { IfOk result (λ parsed. AreRegions Two parsed.program.family parsed.regions) }
+    ensures linked { IfOk result IsOfFiles }
     // Every text of an image, of either version, is accepted as that image, unless memory runs out.
-    ensures only_text { (family : Classes) (regions : List (Option Held)) → SomeText bytes.now family regions
-        → MatchResult result (λ parsed. (parsed.program.family ≡ family) × (parsed.regions ≡ regions))
-        (λ x. x ≡ Memory) }
+    ensures only_text { (version : Format) (family : Classes) (regions : List (Option Told))
+        → VersionText version bytes.now family regions
+        → MatchResult result (λ parsed. (parsed.version ≡ version) × (parsed.program.family ≡ family)
+        × (told_in parsed ≡ regions)) (λ x. x ≡ Memory) }
     // What is refused is refused for what is wrong first, or because memory runs out.
     ensures fault { IfErr result (λ x. (x ≡ Memory) ⊎ ImageFails bytes.now x) }
     // Everything else is refused for what is wrong first, unless memory runs out.
@@ -62,7 +61,7 @@ pub fn parse(alloc: Global, bytes: &[u8]) -> Result<Parsed, ImageFault>
 /// Bytes are the text of one image or have one fault, and never both. A text is one of version 2 or one of version 1.
 pub fn image_or_fault()
     ensures one { (bytes : List ℕ) → IsBytes bytes → TextOrFault (IsImage bytes) (ImageFails bytes) }
-    ensures version { (bytes : List ℕ) (F G : Classes) (a b : List (Option Held)) → ImageText bytes F a
+    ensures version { (bytes : List ℕ) (F G : Classes) (a b : List (Option Told)) → ImageText bytes F a
         → OldText bytes G b → ⊥ }
 {}
 
@@ -74,9 +73,9 @@ fn digest_of(bytes: &[u8]) -> &[u8] {
 
 /// What the bytes of an image say.
 fn of_bytes(alloc: Global, bytes: &[u8]) -> Result<Parsed, ImageFault>
-    ensures text { IfOk result (λ parsed. SomeText bytes.now parsed.program.family parsed.regions) }
+    ensures text { IfOk result (λ parsed. VersionText parsed.version bytes.now parsed.program.family (told_in parsed)) }
     ensures program { IfOk result (λ parsed. IsProgram parsed.program) }
-    ensures own_strings { IfOk result (λ parsed. HasOwnStrings parsed.program) }
+    ensures linked { IfOk result IsOfFiles }
     ensures fault { IfErr result (λ x. (x ≡ Memory) ⊎ ImageFails bytes.now x) }
 {
     match parts_of(bytes) {
@@ -103,9 +102,10 @@ fn of_parts(
     digest: &[u8],
 ) -> Result<Parsed, ImageFault>
     requires { 4 ≤ length parts.now }
-    ensures text { IfOk result (λ parsed. PartsRead version parts.now parsed.program.family parsed.regions) }
+    ensures text { IfOk result (λ parsed. (parsed.version ≡ version)
+        × PartsText version parts.now parsed.program.family (told_in parsed)) }
     ensures program { IfOk result (λ parsed. IsProgram parsed.program) }
-    ensures own_strings { IfOk result (λ parsed. HasOwnStrings parsed.program) }
+    ensures linked { IfOk result IsOfFiles }
     ensures fault { IfErr result (λ x. (x ≡ Memory) ⊎ PartsFail version parts.now x) }
 {
     let (count, bytes) = count_at(parts);
@@ -125,9 +125,10 @@ fn of_files(
     digest: &[u8],
 ) -> Result<Parsed, ImageFault>
     requires { HasFiles parts.now files.items rest.now }
-    ensures text { IfOk result (λ parsed. PartsRead version parts.now parsed.program.family parsed.regions) }
+    ensures text { IfOk result (λ parsed. (parsed.version ≡ version)
+        × PartsText version parts.now parsed.program.family (told_in parsed)) }
     ensures program { IfOk result (λ parsed. IsProgram parsed.program) }
-    ensures own_strings { IfOk result (λ parsed. HasOwnStrings parsed.program) }
+    ensures linked { IfOk result IsOfFiles }
     ensures fault { IfErr result (λ x. (x ≡ Memory) ⊎ PartsFail version parts.now x) }
 {
     match link(alloc, files) {
@@ -148,9 +149,10 @@ fn of_program(
     requires linked { IsLinked parts.now program.family rest.now }
     requires program { IsProgram program }
     requires own_strings { HasOwnStrings program }
-    ensures text { IfOk result (λ parsed. PartsRead version parts.now parsed.program.family parsed.regions) }
+    ensures text { IfOk result (λ parsed. (parsed.version ≡ version)
+        × PartsText version parts.now parsed.program.family (told_in parsed)) }
     ensures program { IfOk result (λ parsed. IsProgram parsed.program) }
-    ensures own_strings { IfOk result (λ parsed. HasOwnStrings parsed.program) }
+    ensures linked { IfOk result IsOfFiles }
     ensures fault { IfErr result (λ x. (x ≡ Memory) ⊎ PartsFail version parts.now x) }
 {
     let mut program = program;
@@ -158,11 +160,14 @@ fn of_program(
         return Err(ImageFault::Memory);
     }
     match read_regions(alloc, version, &mut program, rest) {
-        Ok(regions) => Ok(Parsed {
-            version,
-            program,
-            regions,
-        }),
+        Ok(regions) => {
+            let _classes = program.classes();
+            Ok(Parsed {
+                version,
+                program,
+                regions,
+            })
+        }
         Err(fault) => Err(ImageFault::of_regions(alloc, program.family(), fault)),
     }
 }

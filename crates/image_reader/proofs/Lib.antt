@@ -3,3 +3,4 @@ pub mod ImagesLemmas
 pub mod HeldAgainLemmas
 pub mod ReadAgainLemmas
 pub mod OldTextsLemmas
+pub mod RenewedLemmas

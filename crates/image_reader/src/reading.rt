@@ -3,25 +3,24 @@
 ghost use Rattle.std.specs.Prelude.{◌≡◌, ◌⊎◌, List, Option, IfErr, IfOk, MatchResult};
 ghost use Rattle.loading.specs.Families.{Family as Classes};
 ghost use Rattle.program.specs.Programs.{IsProgram};
-ghost use Rattle.semantics.specs.Quiet.{Environment};
-ghost use Rattle.evaluator.specs.Regions.{environment_of};
 ghost use Rattle.image_format.specs.Regions.{ImageRegion as Told};
-ghost use Rattle.image_format.specs.declared.version.Version.TheVariants.{Two};
-ghost use Rattle.image_format.specs.Images.{AreRegions, ImageText, SomeText};
+ghost use Rattle.image_format.specs.declared.version.Version.TheVariants.{One, Two};
+ghost use Rattle.image_format.specs.Images.{AreRegions, AreShort, ImageText, SomeText};
+ghost use Rattle.image_format.specs.Reached.{IsDropped};
 ghost use Rattle.image_parser.specs.declared.image_fault.ImageFault.{ImageFault as Fault};
 ghost use Rattle.image_parser.specs.declared.image_fault.ImageFault.TheVariants.{Memory};
+ghost use Rattle.image_parser.specs.AllRegions.{IsShown};
 ghost use Rattle.image_parser.specs.ImageFaults.{Answers, ImageFails};
+ghost use Rattle.image_parser.specs.reading.Parsings.{IsOfFiles as IsLinkedIn, told_in};
 ghost use Rattle.object_graph.specs.Images.{ImageTables};
 ghost use Rattle.image_writer.specs.ImageTexts.{text_of, told_of};
 ghost use Rattle.image_reader.specs.Readings.{IsOfOwnStrings, IsSameImage};
-ghost use Rattle.image_parser.specs.reading.Held.{HoldsRegions};
+ghost use Rattle.image_reader.specs.steps.Sources.{IsOfFiles};
 
-use evaluator::regions::Regions;
 use image_format::version::Version;
 use image_parser::{ImageFault, Parsed, parse};
 use image_writer::image_text;
 use object_graph::{Image, gather};
-use program::Program;
 use std::alloc::{AllocError, Global};
 
 /// Reads an image of version 2, or of version 1 without the objects that no static field reaches: the program of its
@@ -60,26 +59,60 @@ pub fn read(alloc: Global, bytes: &[u8]) -> Result<Image, ImageFault>
 
 /// The image that a text says, without the objects that are not reached.
 fn image_of(alloc: Global, parsed: Parsed) -> Result<Image, AllocError>
+    requires program { IsProgram parsed.program }
+    requires fits { AreRegions parsed.version parsed.program.family (told_in parsed) }
+    requires short { AreShort parsed.program.family }
+    requires linked { IsLinkedIn parsed }
+    ensures family { IfOk result (λ image. image.program.family ≡ parsed.program.family) }
+    ensures told { IfOk result (λ image. IsShown parsed.version (told_in parsed) (told_of image)) }
+    ensures program { IfOk result (λ image. IsProgram image.program) }
+    ensures files { IfOk result IsOfFiles }
 {
-    let Parsed {
-        version,
-        program,
-        regions,
-    } = parsed;
-    match version {
-        Version::One => renewed(alloc, program, regions),
-        Version::Two => Ok(Image::of_reached(program, regions)),
+    match parsed.version {
+        Version::One => renewed(alloc, parsed),
+        Version::Two => Ok(reached_image(parsed)),
     }
 }
 
-/// The image that is left of regions without the objects that are not reached. It is read from its text, so that its
-/// program has no string that only an object holds which is left out.
-fn renewed(alloc: Global, program: Program, regions: Regions) -> Result<Image, AllocError>
+/// The image of what a text of version 2 says.
+fn reached_image(parsed: Parsed) -> Image
+    requires version { parsed.version ≡ Two }
+    requires program { IsProgram parsed.program }
+    requires fits { AreRegions parsed.version parsed.program.family (told_in parsed) }
+    requires linked { IsLinkedIn parsed }
+    ensures { result ≡ record { program = parsed.program; regions = parsed.regions } }
 {
+    let Parsed {
+        version: _,
+        program,
+        regions,
+    } = parsed;
+    Image::of_reached(program, regions)
+}
+
+/// The image of what a text of version 1 says, without the objects that are not reached. It is read from its own text,
+/// so that its program has no string which only an object holds that is left out.
+fn renewed(alloc: Global, parsed: Parsed) -> Result<Image, AllocError>
+    requires version { parsed.version ≡ One }
+    requires program { IsProgram parsed.program }
+    requires fits { AreRegions parsed.version parsed.program.family (told_in parsed) }
+    requires short { AreShort parsed.program.family }
+    requires linked { IsLinkedIn parsed }
+    ensures family { IfOk result (λ image. image.program.family ≡ parsed.program.family) }
+    ensures told { IfOk result (λ image. IsDropped (told_in parsed) (told_of image)) }
+    ensures program { IfOk result (λ image. IsProgram image.program) }
+    ensures files { IfOk result IsOfFiles }
+{
+    let Parsed {
+        version: _,
+        program,
+        regions,
+    } = parsed;
     let image = gather(alloc, program, regions)?;
     let text = image_text(alloc, &image)?;
+    drop(image);
     match parse(alloc, text.as_slice()) {
-        Ok(parsed) => Ok(Image::of_reached(parsed.program, parsed.regions)),
+        Ok(again) => Ok(reached_image(again)),
         Err(_) => Err(AllocError),
     }
 }
