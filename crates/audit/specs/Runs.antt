@@ -35,7 +35,7 @@ abbrev pub StartsFrom : Tables → List ℕ → World → Type 0
 StartsFrom P entries w = (w ≡ lazy_start (program_of P) entries)
     ⊎ ((I : Image) × (w ≡ image_start (program_of P) I entries))
 
--- So it is in each world to which a run of these entries leads.
+-- Threads run what they may reach in each world to which a run of these entries leads.
 abbrev pub ThreadsRunReached : Type 0
 ThreadsRunReached =
     (P : Tables) → IsProgram P → (entries : List ℕ) (first last : World) (schedule : List ℕ) →

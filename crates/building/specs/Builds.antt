@@ -60,15 +60,14 @@ pub record IsSettledBy (P : Tables) (run_time build_time : List (List ℕ)) (bud
   pub settled : AreSettled P forced budget S
   pub demands : AreDemandsMet P build_time forced S
 
--- The same by the lists of the options.
+-- This becomes of all classes by the lists of the options.
 pub record IsSettledAs (P : Tables) (run_time build_time : Option (List ℕ)) (budget : ℕ) (S : Settled) : Type 0 where
   pub run_list : IsRead run_time
   pub build_list : IsRead build_time
   pub patterns : IsSettledBy P (patterns_in run_time) (patterns_in build_time) budget S
 
 -- The image has the regions of the classes that are accepted then, without the objects that no static field reaches,
--- and
--- this became of all classes.
+-- and this became of all classes.
 pub record IsBuilt (run_time build_time : Option (List ℕ)) (budget : ℕ) (I : ImageTables) (outcomes : List Outcome)
     : Type 0 where
   pub settled : Settled

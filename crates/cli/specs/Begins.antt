@@ -30,7 +30,7 @@ pub record IsBegunFromImage (holds : Contents) (name list : List ℕ) (I : Image
   pub program : IsProgram I.program
   pub start : IsImageStart I (entry_names list) w
 
--- The same, and this is the program of the image.
+-- The start from that file, with the program of its image.
 pub record IsBegunFromFile (holds : Contents) (name list : List ℕ) (P : Tables) (w : World) : Type 0 where
   pub image : ImageTables
   pub program : image.program ≡ P

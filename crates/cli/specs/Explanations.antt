@@ -31,7 +31,7 @@ IsToldOf answer at_run_time budget words text =
     ((words ≡ codes "all") × IsAllText answer.image answer.verdicts at_run_time text)
     ⊎ ((words ≢ codes "all") × IsToldOfClass answer at_run_time budget words text)
 
--- The same, where those classes are forced that a list of patterns says.
+-- The text is told where those classes are forced that a list of patterns says.
 pub record IsToldBy (answer : Built) (run_time : Option (List ℕ)) (budget : ℕ) (words text : List ℕ) : Type 0 where
   pub at_run_time : List Bool
   pub forced : AreClasses at_run_time (IsForced answer.image.program.family (patterns_in run_time))

@@ -1,5 +1,6 @@
 -- What is done in a row where a class is alone is what its initializer does.
-use Rattle.std.proofs.Common.{◌≡◌, ℕ, zero, suc, ◌+◌, ◌-◌, ◌≤◌, Bool, true, false, cond, List, [], ◌∷◌, Option, Some, None, option_map}
+use Rattle.std.proofs.Common.{◌≡◌, ℕ, zero, suc, ◌+◌, ◌-◌, ◌≤◌, Bool, true, false, cond, List, [], ◌∷◌, Option, Some}
+use Rattle.std.proofs.Common.{None, option_map}
 use Rattle.std.proofs.Common.{inl, inr, refl, sym, ap, subst, subst₂, ◌∙◌, ◌==◌, eqb-true, eq-eqb, arith}
 use Rattle.std.specs.Prelude.{if◌then◌else◌}
 use Rattle.built_in.specs.declared.class_id.ClassId.{ClassId}
@@ -234,7 +235,8 @@ module _ (P : Program) (env : Environment) (c : ℕ) where
       (alone_pool c sh (with_new own.pool (Given d) slots) alone)
       (changed own sh (with_new own.pool (Given d) slots) there)) where
         used : (u : Usability)
-            → when_ready u (run_smooth 0 (Class c) (set_pool sh (Class c) (with_new (sh.regions c).pool (Given d) slots))
+            → when_ready u (run_smooth 0 (Class c) (set_pool sh (Class c) (with_new (sh.regions c).pool
+            (Given d) slots))
             (next (record { maker = Class c; number = (sh.regions c).pool.count })))
             ≡ Moved (Next move) new
             → Goes (record own { pool = with_new own.pool (Given d) slots })
@@ -341,7 +343,8 @@ module _ (T : Tables) (env : Environment) (c : ℕ) where
 
 -- ---- what a desk answers
 
-pub stays_behind : (T : Tables) (c most : ℕ) (s : Segment) (own : Region) → GoesAhead (program_of T) c most 0 s own s own
+pub stays_behind : (T : Tables) (c most : ℕ) (s : Segment) (own : Region) → GoesAhead
+    (program_of T) c most 0 s own s own
 stays_behind T c most s own = record {
   goes = λ env left few. stays_there T env c (frames_of s) own own left refl;
   most = omega arith;

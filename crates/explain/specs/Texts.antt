@@ -185,7 +185,7 @@ pub record IsClassText (I : ImageTables) (verdicts : List Verdict) (at_run_time 
 
 -- ---- all classes
 
--- The same among all classes: without runs and calls, and with the end of such a chain alone.
+-- What stands against a class, told among all: without runs and calls, and with the end of such a chain alone.
 pub record IsTextAmongAll (I : ImageTables) (verdicts : List Verdict) (at_run_time : List Bool) (c : ℕ)
     (text : List ℕ) : Type 0 where
   pub explanation : Explanation

@@ -24,6 +24,17 @@ use program::Program;
 use std::alloc::{AllocError, Global};
 use use_graph::UseGraph;
 
+/// What the methods and classes of a program may use and depend on.
+#[derive(Clone, Copy)]
+struct Graphs<'a> {
+    uses: &'a UseGraph,
+    /// The components of the graph of calls.
+    calls: &'a Components,
+    dependences: &'a Graph,
+    /// Their components.
+    components: &'a Components,
+}
+
 /// The verdict on a class: a reason of its own, the first refused class that it uses, or its wave.
 fn verdict_by(reason: Option<Reason>, first: Option<u32>, wave: usize) -> Verdict
     ensures { result ≡ verdict_by reason first wave }
@@ -65,20 +76,24 @@ fn verdicts_by(
 fn verdicts_of(
     alloc: Global,
     program: &Program,
-    uses: &UseGraph,
-    calls: &Components,
-    graph: &Graph,
-    components: &Components,
+    graphs: Graphs<'_>,
     reasons: &[Option<Reason>],
     refused: &[bool],
 ) -> Result<Verdicts, AllocError>
-    requires dependences { AreDependences program.now uses.now graph.now components.now }
-    requires calls { AreComponents uses.now.calls calls.now }
+    requires dependences { AreDependences program.now graphs.uses.now graphs.dependences.now graphs.components.now }
+    requires calls { AreComponents graphs.uses.now.calls graphs.calls.now }
     requires reasons { length reasons.now ≡ length program.now.classes }
-    ensures { IfOk result (IsJudged program.now uses.now graph.now reasons.now refused.now) }
+    ensures { IfOk result
+        (IsJudged program.now graphs.entry.uses.now graphs.entry.dependences.now reasons.now refused.now) }
 {
+    let Graphs {
+        uses,
+        calls,
+        dependences,
+        components,
+    } = graphs;
     let first = first_refused(alloc, program, uses, calls, refused)?;
-    let heights = class_heights(alloc, program, uses, graph, components)?;
+    let heights = class_heights(alloc, program, uses, dependences, components)?;
     let verdicts = verdicts_by(
         alloc,
         uses,
@@ -94,28 +109,24 @@ fn verdicts_of(
 fn judge_known(
     alloc: Global,
     program: &Program,
-    uses: &UseGraph,
-    calls: &Components,
-    graph: &Graph,
-    components: &Components,
+    graphs: Graphs<'_>,
     reasons: &[Option<Reason>],
 ) -> Result<Verdicts, AllocError>
-    requires dependences { AreDependences program.now uses.now graph.now components.now }
-    requires calls { AreComponents uses.now.calls calls.now }
+    requires dependences { AreDependences program.now graphs.uses.now graphs.dependences.now graphs.components.now }
+    requires calls { AreComponents graphs.uses.now.calls graphs.calls.now }
     requires reasons { length reasons.now ≡ length program.now.classes }
-    ensures { IfOk result (AreJudgedBy program.now uses.now graph.now reasons.now) }
+    ensures { IfOk result
+        (AreJudgedBy program.now graphs.entry.uses.now graphs.entry.dependences.now reasons.now) }
 {
-    let refused = refused_classes(alloc, program, uses, graph, components, reasons)?;
-    let verdicts = verdicts_of(
+    let refused = refused_classes(
         alloc,
         program,
-        uses,
-        calls,
-        graph,
-        components,
+        graphs.uses,
+        graphs.dependences,
+        graphs.components,
         reasons,
-        refused.as_slice(),
     )?;
+    let verdicts = verdicts_of(alloc, program, graphs, reasons, refused.as_slice())?;
     Ok(verdicts)
 }
 
@@ -124,16 +135,19 @@ fn reasons_by(
     alloc: Global,
     program: &Program,
     forced: &Forced,
-    uses: &UseGraph,
-    calls: &Components,
-    graph: &Graph,
-    components: &Components,
+    graphs: Graphs<'_>,
 ) -> Result<Vec<Option<Reason>>, AllocError>
-    requires dependences { AreDependences program.now uses.now graph.now components.now }
-    requires calls { AreComponents uses.now.calls calls.now }
+    requires dependences { AreDependences program.now graphs.uses.now graphs.dependences.now graphs.components.now }
+    requires calls { AreComponents graphs.uses.now.calls graphs.calls.now }
     ensures { IfOk result (λ reasons. AreOwnReasons program.now forced.now reasons.items) }
 {
-    match cycles(alloc, program, uses, graph, components) {
+    let Graphs {
+        uses,
+        calls,
+        dependences,
+        components,
+    } = graphs;
+    match cycles(alloc, program, uses, dependences, components) {
         Ok(on_cycle) => own_reasons(alloc, program, uses, calls, forced, on_cycle.as_slice()),
         Err(error) => Err(error),
     }
@@ -144,27 +158,14 @@ fn judge_over(
     alloc: Global,
     program: &Program,
     forced: &Forced,
-    uses: &UseGraph,
-    calls: &Components,
-    graph: &Graph,
-    components: &Components,
+    graphs: Graphs<'_>,
 ) -> Result<Verdicts, AllocError>
-    requires dependences { AreDependences program.now uses.now graph.now components.now }
-    requires calls { AreComponents uses.now.calls calls.now }
+    requires dependences { AreDependences program.now graphs.uses.now graphs.dependences.now graphs.components.now }
+    requires calls { AreComponents graphs.uses.now.calls graphs.calls.now }
     ensures { IfOk result (AreVerdicts program.now forced.now) }
 {
-    match reasons_by(alloc, program, forced, uses, calls, graph, components) {
-        Ok(reasons) => {
-            judge_known(
-                alloc,
-                program,
-                uses,
-                calls,
-                graph,
-                components,
-                reasons.as_slice(),
-            )
-        }
+    match reasons_by(alloc, program, forced, graphs) {
+        Ok(reasons) => judge_known(alloc, program, graphs, reasons.as_slice()),
         Err(error) => Err(error),
     }
 }
@@ -184,7 +185,15 @@ fn judge_graph(
     ensures { IfOk result (AreVerdicts program.now forced.now) }
 {
     match components_of(alloc, graph) {
-        Ok(components) => judge_over(alloc, program, forced, uses, calls, graph, &components),
+        Ok(components) => {
+            let graphs = Graphs {
+                uses,
+                calls,
+                dependences: graph,
+                components: &components,
+            };
+            judge_over(alloc, program, forced, graphs)
+        }
         Err(error) => Err(error),
     }
 }

@@ -1,6 +1,7 @@
 //! Verdicts on classes.
 
 ghost use Rattle.std.specs.Prelude.{◌≡◌, ◌<◌, length, slice_get, slice_set};
+ghost use Rattle.initializer_analysis.specs.Words.{mark_word, reason_word};
 
 use std::fmt;
 use std::marker::Model;
@@ -28,18 +29,44 @@ pub enum Reason {
     Faulted,
 }
 
+impl Reason {
+    /// Its word, for a reader: its name, or that of the mark.
+    pub fn word(self) -> &'static str
+        ensures { result.now ≡ reason_word self }
+    {
+        match self {
+            Reason::Forced => "Forced",
+            Reason::Marked(mark) => mark_word(mark),
+            Reason::Cycle => "Cycle",
+            Reason::DependsOn(_) => "DependsOn",
+            Reason::Raised => "Raised",
+            Reason::ForeignObject => "ForeignObject",
+            Reason::Budget => "Budget",
+            Reason::Faulted => "Faulted",
+        }
+    }
+}
+
+fn mark_word(mark: Mark) -> &'static str
+    ensures { result.now ≡ mark_word mark }
+{
+    match mark {
+        Mark::Prints => "Prints",
+        Mark::Throws => "Throws",
+        Mark::Monitors => "Monitors",
+        Mark::ForeignWrite => "ForeignWrite",
+        Mark::ForeignRead => "ForeignRead",
+        Mark::Unsupported => "Unsupported",
+        Mark::Missing => "Missing",
+    }
+}
+
 // By hand, since a derived one would ask for one of each mark.
 impl fmt::Debug for Reason {
     fn fmt<W: fmt::Write>(&self, f: &mut fmt::Formatter<W>) -> fmt::Result {
         match self {
-            Reason::Forced => f.write_str("Forced"),
-            Reason::Marked(_) => f.write_str("Marked"),
-            Reason::Cycle => f.write_str("Cycle"),
             Reason::DependsOn(class) => write!(f, "DependsOn({class})"),
-            Reason::Raised => f.write_str("Raised"),
-            Reason::ForeignObject => f.write_str("ForeignObject"),
-            Reason::Budget => f.write_str("Budget"),
-            Reason::Faulted => f.write_str("Faulted"),
+            reason => f.write_str(reason.word()),
         }
     }
 }

@@ -37,7 +37,9 @@ pub fn execute_call<S: Store>(
 {
     match operation {
         CallOperation::Static(call) => call_static(alloc, spares, program, by, frame, store, call),
-        CallOperation::Instance(call) => call_instance(alloc, spares, program, by, frame, store, call),
+        CallOperation::Instance(call) => call_instance(
+            alloc, spares, program, by, frame, store, call,
+        ),
         CallOperation::Print(what, line, call) => {
             print_value(alloc, spares, program, by, frame, store, what, line, call)
         }

@@ -74,7 +74,9 @@ fn execute_resolved<S: Store>(
         }
         Resolved::GetOut => Ok(push_value(frame, Value::Out)),
         Resolved::OnArray(operation) => on_array(alloc, program, by, frame, store, operation),
-        Resolved::OnCall(operation) => execute_call(alloc, spares, program, by, frame, store, operation),
+        Resolved::OnCall(operation) => execute_call(
+            alloc, spares, program, by, frame, store, operation,
+        ),
         Resolved::Return(kind) => Ok(return_value(frame, kind)),
         Resolved::OnObject(operation) => {
             execute_on_object(alloc, program, by, frame, store, operation)

@@ -88,14 +88,18 @@ fn run_chosen<S: Store>(
 {
     match choice {
         Choice::Found(method) => {
-            run_method(alloc, spares, program, by, frame, store, method, receiver, count)
+            run_method(
+                alloc, spares, program, by, frame, store, method, receiver, count,
+            )
         }
         Choice::Selected(method) => {
             let Some(class) = class_of(store, by, receiver)? else {
                 return FAULT;
             };
             let selected = program.select(class, method);
-            run_method(alloc, spares, program, by, frame, store, selected, receiver, count)
+            run_method(
+                alloc, spares, program, by, frame, store, selected, receiver, count,
+            )
         }
     }
 }

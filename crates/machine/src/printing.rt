@@ -100,7 +100,9 @@ fn print_on<S: Store>(
     ensures kept { Keeps S.state result store.old store.new frame.old frame.new }
 {
     if !is_out(receiver) {
-        return call_on(alloc, spares, program, by, frame, store, call, receiver, count);
+        return call_on(
+            alloc, spares, program, by, frame, store, call, receiver, count,
+        );
     }
     Ok(Conclusion::Prints {
         text,
@@ -139,7 +141,9 @@ pub fn print_value<S: Store>(
         return FAULT;
     };
     let text = ended(line, text)?;
-    print_on(alloc, spares, program, by, frame, store, call, receiver, text, 2)
+    print_on(
+        alloc, spares, program, by, frame, store, call, receiver, text, 2,
+    )
 }
 
 /// `println()`.
@@ -165,5 +169,7 @@ pub fn end_line<S: Store>(
         return FAULT;
     };
     let text = Text::line_end(alloc)?;
-    print_on(alloc, spares, program, by, frame, store, call, receiver, text, 1)
+    print_on(
+        alloc, spares, program, by, frame, store, call, receiver, text, 1,
+    )
 }

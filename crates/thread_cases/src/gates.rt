@@ -286,14 +286,14 @@ fn get_stuck<R: Threads + Wait + Abort + Clock + AllocGlobal + Sync>(
 fn two_threads_wait_for_one_another(rt: HostRuntime) -> Result<(), Fail> {
     let program = program_of(rt.alloc(), CIRCLE)?;
     let world = start_of(rt.alloc(), &program, &["Pa", "Pb"])?;
-    get_stuck(&rt, &program, world, 5)
+    get_stuck(&rt, &program, world, 4)
 }
 
 #[test]
 fn two_threads_wait_where_their_entries_are_initialized(rt: HostRuntime) -> Result<(), Fail> {
     let program = program_of(rt.alloc(), CIRCLE)?;
     let world = start_with(rt.alloc(), &program, &["Pa", "Pb"], &["Pa", "Pb"])?;
-    get_stuck(&rt, &program, world, 3)
+    get_stuck(&rt, &program, world, 2)
 }
 
 #[test]

@@ -63,7 +63,7 @@ fn a_limit_ends_a_run(rt: HostRuntime) -> Result<(), Fail> {
     };
     assert_eq!(rt;
         ended.journal.text(rt.alloc())?.as_slice(),
-        b"0 5121\n".as_slice()
+        b"0 5120\n".as_slice()
     );
     Ok(())
 }

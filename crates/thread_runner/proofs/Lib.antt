@@ -1,7 +1,6 @@
 pub mod AskedLemmas
 pub mod EndLemmas
 pub mod LocalLemmas
-pub mod StepLemmas
 pub mod WalkLemmas
 pub mod BookLemmas
 pub mod AloneLemmas

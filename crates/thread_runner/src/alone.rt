@@ -24,8 +24,7 @@ pub(crate) const STEPS: u64 = 50_000;
 /// After how many bytes of text these go out.
 pub(crate) const BYTES: u64 = 65_536;
 
-/// Where a run ends that may have so many steps: after the start of its thread and 1,024 steps at a time, as commits
-/// of a loop are.
+/// Where a run ends that may have so many steps: after the start of its thread and 1,024 steps at a time.
 fn most_steps(limit: u64) -> u64
     requires { limit ≤ 2 ^ 62 }
     ensures least { limit ≤ result }

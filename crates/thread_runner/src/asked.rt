@@ -81,7 +81,12 @@ impl<'a> Store for Asked<'a> {
     }
 
     #[tactic(auto, unfolding(machine::specs::Accesses::unless_refused))]
-    fn copied_slots(&self, _alloc: Global, _by: Actor, _object: Name) -> Result<Option<Slots>, Stop> {
+    fn copied_slots(
+        &self,
+        _alloc: Global,
+        _by: Actor,
+        _object: Name,
+    ) -> Result<Option<Slots>, Stop> {
         Err(Stop::Barred)
     }
 
@@ -97,7 +102,13 @@ impl<'a> Store for Asked<'a> {
     }
 
     #[tactic(auto, unfolding(machine::specs::Accesses::unless_refused))]
-    fn change(&mut self, _by: Actor, _object: Name, _slot: usize, _value: Value) -> Result<(), Stop> {
+    fn change(
+        &mut self,
+        _by: Actor,
+        _object: Name,
+        _slot: usize,
+        _value: Value,
+    ) -> Result<(), Stop> {
         Err(Stop::Barred)
     }
 

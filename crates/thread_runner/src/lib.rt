@@ -4,6 +4,7 @@
 mod advance;
 mod alone;
 mod answer;
+mod asked;
 mod book;
 mod desk;
 pub mod done_set;
@@ -14,7 +15,6 @@ mod known;
 mod landing;
 mod last;
 pub mod laws;
-mod asked;
 mod local_step;
 pub mod origin;
 pub mod replay;

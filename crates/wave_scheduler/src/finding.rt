@@ -68,7 +68,8 @@ fn outcome_now<W: Lent, G: Gate>(
     requires budget { wave.terms.budget ≡ W.budget }
     requires run { IsUnbarred (program_of wave.terms.program.now) (environment_of regions.now) class wave.terms.budget }
     ensures { IfOk result (λ outcome.
-        IsOutcome (program_of wave.entry.terms.program.now) (environment_of W.regions) class wave.entry.terms.budget outcome
+        IsOutcome (program_of wave.entry.terms.program.now) (environment_of W.regions) class
+        wave.entry.terms.budget outcome
         ⊎ IsOutcome (program_of wave.entry.terms.program.now) (environment_of regions.now) class
         wave.entry.terms.budget outcome) }
 {
@@ -94,7 +95,8 @@ fn find<W: Lent, G: Gate>(
 ) -> Result<Found, AllocError>
     requires lent { wave.terms.program.now ≡ W.program }
     requires budget { wave.terms.budget ≡ W.budget }
-    requires run { CanRun (program_of wave.terms.program.now) (environment_of regions.now) wave.terms.budget class told }
+    requires run { CanRun (program_of wave.terms.program.now) (environment_of regions.now) wave.terms.budget class
+        told }
     ensures { IfOk result (λ found. IsFoundIn (program_of wave.entry.terms.program.now) (environment_of W.regions)
         (environment_of regions.now) wave.entry.terms.budget wave.entry.number class told (outcome_of found.verdict)
         (option_map region_of found.region)) }

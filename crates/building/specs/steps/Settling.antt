@@ -19,7 +19,7 @@ pub record SettlesAsked (P : Tables) (asked : Asked) (budget : ℕ) (r : Result 
   pub fault : IfErr r
       (λ fault. (fault ≡ Memory) ⊎ IsOption (IsLeftUnmet P asked.demand asked.forced budget) fault)
 
--- The same by the options.
+-- All classes are settled by the options, or it is told what is wrong with these.
 pub record SettlesBy (P : Tables) (options : BuildOptions) (r : Result Settled BuildFault) : Type 0 where
   pub settled : IfOk r (λ settled. IsSettledAs P (text_of options.run_time) (text_of options.build_time)
       options.budget (settled_of settled))

@@ -7,8 +7,8 @@ use Rattle.initializer_analysis.proofs.judging.judge_over.Goals as goal
 pub returns-in-Ok : goal.returns-in-Ok
 returns-in-Ok c =
     let P = c.args.program.now in
-    let uses = c.args.uses.now in
-    let graph = c.args.graph.now in
+    let uses = c.args.graphs.uses.now in
+    let graph = c.args.graphs.dependences.now in
     IfOk-weaker c.judge_known.result (AreJudgedBy P uses graph c.as_slice.result.now)
     (AreVerdicts P c.args.forced.now)
     (λ verdicts (refused, are, judged).

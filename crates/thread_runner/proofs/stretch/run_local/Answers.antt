@@ -15,7 +15,8 @@ loop-count-preserved-in-Ok-Done g c =
       members = kept.members;
       wide = went_on c.args.program.now c.loop-count.asked.items c.loop-count.count c.walk-count.result
           (going c.args.frames.now) (going c.loop-count.frames) (going c.walk-count.new.frames)
-          (going c.step.new.frames) kept.wide c.walk-count.ensures.steps (rw c.as_slice.ensures.value at c.in-Ok-Done.ensures.step);
+          (going c.step.new.frames) kept.wide c.walk-count.ensures.steps (rw
+          (c.as_slice.ensures.value, c.in-Ok-Done.field-0-is) at c.in-Ok-Done.ensures.step);
       thread = c.step.ensures.thread ∙ (c.walk-count.ensures.thread ∙ kept.thread);
       most = omega (arith, c.walk-count.ensures.most, c.if-count-eq-MOST.false, c.loop-count-test.true, kept.most);
     }
@@ -25,7 +26,8 @@ loop-count-preserved g c =
     let kept = c.loop-count.invariant in
     let asked = c.loop-count.asked.items in
     let class = c.in-Ok-Lacks.class in
-    let stands = ((rw c.as_slice.ensures.value at c.in-Ok-Lacks.ensures.step) c.args.done.now kept.members).1 in
+    let stands = ((rw (c.as_slice.ensures.value, c.in-Ok-Lacks.field-0-is) at c.in-Ok-Lacks.ensures.step)
+    c.args.done.now kept.members).1 in
     let wide = stood_still c.args.program.now asked c.loop-count.count c.walk-count.result (going c.args.frames.now)
     (going c.loop-count.frames) (going c.walk-count.new.frames) (going c.step.new.frames) kept.wide
     c.walk-count.ensures.steps stands in
@@ -41,7 +43,8 @@ pub loop-count-smaller : goal.loop-count-smaller
 loop-count-smaller g c =
     let kept = c.loop-count.invariant in
     let asked = c.loop-count.asked.items in
-    let lacks = ((rw c.as_slice.ensures.value at c.in-Ok-Lacks.ensures.step) c.args.done.now kept.members).0 in
+    let lacks = ((rw (c.as_slice.ensures.value, c.in-Ok-Lacks.field-0-is) at c.in-Ok-Lacks.ensures.step)
+    c.args.done.now kept.members).0 in
     rw c.in-Ok.ensures.items
     (omega (
       arith,
@@ -56,7 +59,8 @@ returns-then-not-has-clause-wide g c =
     let kept = c.loop-count.invariant in
     stood_still c.args.program.now c.loop-count.asked.items c.loop-count.count c.walk-count.result
     (going c.args.frames.now) (going c.loop-count.frames) (going c.walk-count.new.frames) (going c.step.new.frames)
-    kept.wide c.walk-count.ensures.steps ((rw c.as_slice.ensures.value at c.in-Ok-Lacks.ensures.step) c.args.done.now kept.members).1
+    kept.wide c.walk-count.ensures.steps ((rw (c.as_slice.ensures.value, c.in-Ok-Lacks.field-0-is) at
+    c.in-Ok-Lacks.ensures.step) c.args.done.now kept.members).1
 
 pub returns-then-not-has-clause-steps : goal.returns-then-not-has-clause-steps
 returns-then-not-has-clause-steps g c =
@@ -64,7 +68,8 @@ returns-then-not-has-clause-steps g c =
 
 pub returns-then-not-has-clause-ends : goal.returns-then-not-has-clause-ends
 returns-then-not-has-clause-ends g c =
-    let lacks = (rw c.as_slice.ensures.value at c.in-Ok-Lacks.ensures.step) c.args.done.now c.loop-count.invariant.members in
+    let lacks = (rw (c.as_slice.ensures.value, c.in-Ok-Lacks.field-0-is) at c.in-Ok-Lacks.ensures.step)
+    c.args.done.now c.loop-count.invariant.members in
     inr (ap (local_step c.args.program.now c.args.done.now) lacks.1
     ∙ lacks.0.1 (sym c.has.ensures ∙ c.if-not-has.true))
 
@@ -73,7 +78,8 @@ returns-in-Ok-Stops-clause-wide g c =
     let kept = c.loop-count.invariant in
     stood_still c.args.program.now c.loop-count.asked.items c.loop-count.count c.walk-count.result
     (going c.args.frames.now) (going c.loop-count.frames) (going c.walk-count.new.frames) (going c.step.new.frames)
-    kept.wide c.walk-count.ensures.steps ((rw c.as_slice.ensures.value at c.in-Ok-Stops.ensures.step) c.args.done.now kept.members).1
+    kept.wide c.walk-count.ensures.steps ((rw (c.as_slice.ensures.value, c.in-Ok-Stops.field-0-is) at
+    c.in-Ok-Stops.ensures.step) c.args.done.now kept.members).1
 
 pub returns-in-Ok-Stops-clause-steps : goal.returns-in-Ok-Stops-clause-steps
 returns-in-Ok-Stops-clause-steps g c =
@@ -81,7 +87,8 @@ returns-in-Ok-Stops-clause-steps g c =
 
 pub returns-in-Ok-Stops-clause-ends : goal.returns-in-Ok-Stops-clause-ends
 returns-in-Ok-Stops-clause-ends g c =
-    let stops = (rw c.as_slice.ensures.value at c.in-Ok-Stops.ensures.step) c.args.done.now c.loop-count.invariant.members in
+    let stops = (rw (c.as_slice.ensures.value, c.in-Ok-Stops.field-0-is) at c.in-Ok-Stops.ensures.step)
+    c.args.done.now c.loop-count.invariant.members in
     inr (ap (local_step c.args.program.now c.args.done.now) stops.1 ∙ stops.0)
 
 pub returns-clause-wide : goal.returns-clause-wide

@@ -11,8 +11,10 @@ returns-in-Ok g c =
     let outcome = outcome_of c.found_of.result.verdict in
     let held = option_map region_of c.found_of.result.region in
     rw c.in-None.is (elim c.in-Ok.ensures [
-      | inl theirs ↦ inl (run_by P (environment_of g.W.Lent.regions) c.args.wave.terms.budget c.args.wave.number c.args.class
+      | inl theirs ↦ inl (run_by P (environment_of g.W.Lent.regions) c.args.wave.terms.budget c.args.wave.number
+          c.args.class
           c.in-Ok.outcome outcome held theirs c.found_of.ensures)
-      | inr own ↦ inr (run_by P (environment_of c.args.regions.now) c.args.wave.terms.budget c.args.wave.number c.args.class
+      | inr own ↦ inr (run_by P (environment_of c.args.regions.now) c.args.wave.terms.budget c.args.wave.number
+          c.args.class
           c.in-Ok.outcome outcome held own c.found_of.ensures)
     ])

@@ -17,7 +17,8 @@ pub loop-class-init : goal.loop-class-init
 loop-class-init g c =
     let (forced, are) = c.requires.wave.judged in
     record {
-      tries = tries_none c.args.wave.terms.program.now forced c.args.wave.terms.budget c.args.wave.terms.verdicts.now c.args.wave.number
+      tries = tries_none c.args.wave.terms.program.now forced c.args.wave.terms.budget c.args.wave.terms.verdicts.now
+          c.args.wave.number
           (settled_of c.args.settled.now) c.classes-tables.ensures.fits
           (subst IsFamily c.family.ensures c.classes-given.ensures.fits)
           (subst (λ (f : Family). AreParentsWithin f) c.family.ensures c.classes-given.ensures.within) are
@@ -27,7 +28,8 @@ loop-class-init g c =
 
 pub try_class-requires-clause-searched : goal.try_class-requires-clause-searched
 try_class-requires-clause-searched g c = λ κs alive.
-    searched c.args.wave.terms.program.now (settled_of c.loop-class.settled) c.loop-class.tainted c.loop-class.invariant.tainted
+    searched c.args.wave.terms.program.now (settled_of c.loop-class.settled) c.loop-class.tainted
+    c.loop-class.invariant.tainted
 
 pub try_class-requires-clause-vertex : goal.try_class-requires-clause-vertex
 try_class-requires-clause-vertex g c = λ κs alive.
@@ -36,7 +38,8 @@ try_class-requires-clause-vertex g c = λ κs alive.
     let i = c.loop-class.class-index in
     vertex_low c.args.wave.terms.program.now (settled_of c.loop-class.settled) c.loop-class.tainted
     c.loop-class.invariant.tainted (slice_index row i)
-    (low_at c.args.wave.terms.program.now forced c.args.wave.terms.verdicts.now c.args.wave.number row i are c.requires.wave.row (omega arith))
+    (low_at c.args.wave.terms.program.now forced c.args.wave.terms.verdicts.now c.args.wave.number row i are
+    c.requires.wave.row (omega arith))
 
 pub try_class-requires-clause-class : goal.try_class-requires-clause-class
 try_class-requires-clause-class g c =
@@ -44,7 +47,8 @@ try_class-requires-clause-class g c =
     let row = c.args.wave.classes.now in
     let i = c.loop-class.class-index in
     let low : slice_index row i < length c.args.wave.terms.program.now.classes =
-    low_at c.args.wave.terms.program.now forced c.args.wave.terms.verdicts.now c.args.wave.number row i are c.requires.wave.row (omega arith) in
+    low_at c.args.wave.terms.program.now forced c.args.wave.terms.verdicts.now c.args.wave.number row i are
+    c.requires.wave.row (omega arith) in
     omega (arith, c.loop-class.invariant.tries.count, length-map c.loop-class.settled.verdicts outcome_of)
 
 pub try_class-requires-clause-place : goal.try_class-requires-clause-place
@@ -53,7 +57,8 @@ try_class-requires-clause-place g c =
     let row = c.args.wave.classes.now in
     let i = c.loop-class.class-index in
     let low : slice_index row i < length c.args.wave.terms.program.now.classes =
-    low_at c.args.wave.terms.program.now forced c.args.wave.terms.verdicts.now c.args.wave.number row i are c.requires.wave.row (omega arith) in
+    low_at c.args.wave.terms.program.now forced c.args.wave.terms.verdicts.now c.args.wave.number row i are
+    c.requires.wave.row (omega arith) in
     omega (arith, c.loop-class.invariant.tries.regions, length-map c.loop-class.settled.regions (option_map region_of))
 
 pub try_class-requires-clause-none : goal.try_class-requires-clause-none
@@ -63,7 +68,8 @@ try_class-requires-clause-none g c = λ κs alive.
     let i = c.loop-class.class-index in
     let held = c.loop-class.settled.regions in
     none_seen (region_in held (slice_index row i)) (region_seen held (slice_index row i)
-    ∙ nothing_yet c.args.wave.terms.program.now forced c.args.wave.terms.budget c.args.wave.terms.verdicts.now c.args.wave.number
+    ∙ nothing_yet c.args.wave.terms.program.now forced c.args.wave.terms.budget c.args.wave.terms.verdicts.now
+    c.args.wave.number
     (settled_of c.args.settled.now) c.classes-tables.ensures.fits
     (subst IsFamily c.family.ensures c.classes-given.ensures.fits)
     (subst (λ (f : Family). AreParentsWithin f) c.family.ensures c.classes-given.ensures.within) are
@@ -77,7 +83,8 @@ try_class-requires-clause-run g c = λ κs alive.
     let (forced, are) = c.requires.wave.judged in
     let row = c.args.wave.classes.now in
     let i = c.loop-class.class-index in
-    can_run c.args.wave.terms.program.now forced c.args.wave.terms.budget c.args.wave.terms.verdicts.now c.args.wave.number
+    can_run c.args.wave.terms.program.now forced c.args.wave.terms.budget c.args.wave.terms.verdicts.now
+    c.args.wave.number
     (settled_of c.args.settled.now) c.classes-tables.ensures.fits
     (subst IsFamily c.family.ensures c.classes-given.ensures.fits)
     (subst (λ (f : Family). AreParentsWithin f) c.family.ensures c.classes-given.ensures.within) are
@@ -106,7 +113,8 @@ loop-class-preserved g c =
     (λ d r here. lent_has c.args.settled.now c.args.wave.number g.W.Lent.regions c.requires.regions d r here)
     (λ d. region_seen c.loop-class.settled.regions d) new c.try_class.new.tainted c.in_ok-try_class.ensures in
     record {
-      tries = subst (λ (done : List ℕ). TriesThese P c.args.wave.terms.budget c.args.wave.terms.verdicts.now c.args.wave.number done
+      tries = subst (λ (done : List ℕ). TriesThese P c.args.wave.terms.budget c.args.wave.terms.verdicts.now
+          c.args.wave.number done
           (settled_of c.args.settled.now) new) (sym (next_done row i (omega arith))) tries;
       tainted = tainted;
     }
@@ -123,7 +131,8 @@ returns g c =
     subst (λ (done : List ℕ). TriesThese P c.args.wave.terms.budget judged c.args.wave.number done old new)
     (take_all c.loop-class.class-index row (omega arith)) c.loop-class.invariant.tries in
     record {
-      tried = subst (λ (n : ℕ). AreTriedBelow P c.args.wave.terms.budget judged n new) (sym (add-one c.args.wave.number))
+      tried = subst (λ (n : ℕ). AreTriedBelow P c.args.wave.terms.budget judged n new) (sym
+          (add-one c.args.wave.number))
           (waves_go_on_lem P forced c.args.wave.terms.budget judged c.args.wave.number old new are c.requires.wave.tried
           (tries_all P forced c.args.wave.terms.budget judged c.args.wave.number old c.classes-tables.ensures.fits
           (subst IsFamily c.family.ensures c.classes-given.ensures.fits)

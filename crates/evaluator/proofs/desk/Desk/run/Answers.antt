@@ -26,7 +26,8 @@ returns-clause-ahead c =
     let own = region_of c.replace-fields.result in
     let is = c.in_ok-initialize.ensures.ok [] in
     went_ahead c.args.program.now class c.args.most c.in_ok-count.count c.args.segment.now c.run_segment.new.segment
-    (region_of c.args.own.now) (region_of (record { fields = c.take-fields.result.0; objects = c.take-fields.result.1 })) put ran
+    (region_of c.args.own.now)
+    (region_of (record { fields = c.take-fields.result.0; objects = c.take-fields.result.1 })) put ran
     (alone_with class before put own is (c.requires.alone []))
     (region_with class before put own is ∙ ap region_of c.replace-fields.ensures.value)
     (c.in_ok-count.ensures.course.run []) c.in_ok-count.ensures.course.most (c.take-fields.ensures.taken [])
