@@ -3,6 +3,7 @@ pub mod ReferencesLemmas
 pub mod HeldLemmas
 pub mod SameLemmas
 pub mod ReadsLemmas
+pub mod StaysLemmas
 pub mod ObjectReadsLemmas
 pub mod NumberLawful
 pub mod EachLawful

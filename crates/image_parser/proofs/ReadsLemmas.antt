@@ -117,3 +117,10 @@ grows_more Holds stays P Q R told held one answer read before h = record {
       let here : Q ≡ P = before.same last.0.0 last.0.1 in
       h.same last.1.0 (subst (λ (x : Tables). Holds x.strings h.told last.1.0) (sym here) last.1.1) ∙ here;
 }
+
+-- all of them
+pub held_all : {T H E : Type 0} (Holds : Strings → T → H → Type 0) (P Q : Tables) (told : List T) (held : List H)
+    (rest : List ℕ) (read : Result (List T × List ℕ) E) → Grows Holds P Q told held → read ≡ Ok (told, rest)
+    → IsHeld (λ (S : Strings). AllZip (Holds S)) P Q held (λ all. (all, rest)) read
+held_all Holds P Q told held rest read grows is =
+    record { told = told; is = is; holds = grows.holds; adds = grows.adds; same = grows.same }

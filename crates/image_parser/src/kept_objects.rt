@@ -1,6 +1,7 @@
 //! Reads objects with their numbers, and regions.
 
-ghost use Rattle.std.specs.Prelude.{◌≡◌, [], IfOk};
+ghost use Rattle.std.specs.Prelude.{◌≡◌, [], IfOk, OnOk};
+ghost use Rattle.vm_state.specs.Objects.{AscendsFrom};
 ghost use Rattle.vm_state.specs.Pools.{pool_by};
 ghost use Rattle.vm_state.specs.Statics.{field_in};
 ghost use Rattle.evaluator.specs.Regions.{region_of};
@@ -90,8 +91,9 @@ fn push_objects_at<'a>(
 ) -> Result<&'a [u8], RegionFault>
     requires many { AreSoMany version count many }
     requires none { objects.old.items ≡ [] }
-    ensures { Reads HoldsRow (λ rest. (objects.new.items, rest.now)) program.old program.new result
+    ensures value { Reads HoldsRow (λ rest. (objects.new.items, rest.now)) program.old program.new result
         (chain_at (kept_at version program.old.family count) above many 0 [] bytes.now) }
+    ensures ascending { OnOk result (AscendsFrom 0 objects.new.items count) }
 {
     let mut rest = bytes;
     let mut least = 0u32;
@@ -126,8 +128,9 @@ fn so_many_at<'a>(
     bytes: &'a [u8],
 ) -> Result<(Vec<(u64, Object)>, &'a [u8]), RegionFault>
     requires { AreSoMany version count many }
-    ensures { Reads HoldsRow (λ x. (x.0.items, x.1.now)) program.old program.new result
+    ensures value { Reads HoldsRow (λ x. (x.0.items, x.1.now)) program.old program.new result
         (so_many_at version program.old.family count many bytes.now) }
+    ensures ascending { IfOk result (λ x. AscendsFrom 0 x.0.items count) }
 {
     let mut objects = Vec::with_capacity(alloc, (many as usize).min(bytes.len() / LEAST_OBJECT))?;
     let rest = push_objects_at(alloc, version, program, count, many, &mut objects, bytes)?;

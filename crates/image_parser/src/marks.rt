@@ -108,7 +108,7 @@ fn push_marks_at<'a>(
     regions: &mut Regions,
     bytes: &'a [u8],
 ) -> Result<&'a [u8], MarksFault>
-    requires none { regions.old ≡ [] }
+    requires { regions.old ≡ [] }
     ensures { ReadsIn HoldsRegions (λ rest. (environment_of regions.new, rest.now)) program.old program.new result
         (each_at (mark_in version program.old.family) (numbers 0 count) [] bytes.now) }
 {

@@ -245,7 +245,7 @@ pub(crate) fn push_values_at<'a>(
     values: &mut Vec<Value>,
     bytes: &'a [u8],
 ) -> Result<&'a [u8], RegionFault>
-    requires none { values.old.items ≡ [] }
+    requires { values.old.items ≡ [] }
     ensures { Reads HoldsValues (λ rest. (values.new.items, rest.now)) program.old program.new result
         (each_at value_at kinds.now [] bytes.now) }
 {
@@ -267,7 +267,7 @@ pub(crate) fn push_elements_at<'a>(
     slots: &mut Slots,
     bytes: &'a [u8],
 ) -> Result<&'a [u8], RegionFault>
-    requires none { slots.old ≡ [] }
+    requires { slots.old ≡ [] }
     ensures { Reads HoldsValues (λ rest. (slots.new, rest.now)) program.old program.new result
         (each_at (λ (one : Unit {0}). element_at kind) (times count) [] bytes.now) }
 {

@@ -33,7 +33,7 @@ again c =
     let image = c.in_ok-image.image in
     c.in-Ok.ensures.only_text versions.Two image.program.family (told_of image)
     (subst (λ (bytes : List ℕ). ImageText bytes image.program.family (told_of image))
-    (sym (c.as_slice.ensures ∙ c.in_ok-text.ensures.text)) c.in_ok-text.ensures.image)
+    (sym (c.as_slice.ensures.value ∙ c.in_ok-text.ensures.text)) c.in_ok-text.ensures.image)
 
 pub reached_image-requires : goal.reached_image-requires
 reached_image-requires c = record {
