@@ -16,6 +16,7 @@ pub mod ChainLawful
 pub mod ChainLemmas
 pub mod RegionLawful
 pub mod MarkLemmas
+pub mod MarkReadsLemmas
 pub mod MarkLawful
 pub mod NamesLemmas
 pub mod ClassesLemmas

@@ -1,7 +1,6 @@
 -- Readers of marks are lawful.
 use Rattle.std.proofs.Common.{◌≡◌, ℕ, zero, suc, List, [], ◌++◌, length, Some, None, Result, Ok, Err, refl, sym, ap}
 use Rattle.std.proofs.Common.{◌∙◌, arith}
-use Rattle.std.specs.Prelude.{IfOk, IfErr}
 use Rattle.std.specs.Int.{w8}
 use Rattle.classfile.specs.Spelling.{u1}
 use Rattle.classfile.specs.Faults.{Number, IsBytes}
@@ -13,10 +12,9 @@ use Rattle.image_parser.specs.declared.fault.RegionFault.{RegionFault}
 use Rattle.image_parser.specs.declared.fault.MarksFault.{MarksFault}
 use Rattle.image_parser.specs.declared.fault.MarksFault.TheVariants as marks
 use Rattle.image_parser.specs.RegionFaults.{IsRegion, RegionFails}
-use Rattle.image_parser.specs.Regions.{Begins}
 use Rattle.image_parser.specs.Inside.{inside}
 use Rattle.image_parser.specs.MarkFaults.{numbers, MarkFits, IsMark, MarkedFails, MarkFails, MarkFailsIn, MarksFail}
-use Rattle.image_parser.specs.MarkFaults.{AreMarks, IsMarksFault, FailsIn, GivesIn}
+use Rattle.image_parser.specs.MarkFaults.{AreMarks, IsMarksFault, FailsIn}
 use Rattle.image_parser.specs.reading.Results.{number_at}
 use Rattle.image_parser.specs.reading.Objects.{region_at}
 use Rattle.image_parser.specs.reading.Marks.{Mark, marked, marked_at, mark_at, inside_at, mark_in, marks_at}

@@ -12,18 +12,16 @@ use Rattle.vm_state.specs.declared.value.Value.{Value}
 use Rattle.vm_state.specs.declared.value.Value.TheVariants as machine
 use Rattle.vm_state.specs.SharedState.{Pool, Region}
 use Rattle.semantics.specs.Quiet.{Environment}
-use Rattle.loading.specs.Families.{Family}
 use Rattle.program.specs.Tables.{Tables}
 use Rattle.image_format.specs.Classes.{ImageClass}
 use Rattle.image_format.specs.Classes as image
 use Rattle.image_format.specs.Regions.{ImageObject}
 use Rattle.image_format.specs.Regions.{KeptObject}
 use Rattle.image_format.specs.Regions.{ImageRegion}
-use Rattle.image_format.specs.declared.version.Version.TheVariants as versions
 use Rattle.image_format.specs.Values.{ImageValue}
 use Rattle.image_format.specs.Values as values
 use Rattle.image_format.specs.Objects.{region_in, object_with}
-use Rattle.image_format.specs.Shapes.{AreUnits, HasShape}
+use Rattle.image_format.specs.Shapes.{AreUnits}
 
 -- ---- the program
 
@@ -127,13 +125,3 @@ HoldsClass strings (Some told) (Some region) = HoldsRegion strings told region
 
 abbrev pub HoldsRegions : List (List ℕ) → List (Option ImageRegion) → Environment → Type 0
 HoldsRegions strings told env = (c : ℕ) → HoldsClass strings (region_in told c) (env c)
-
--- ---- shape
-
-abbrev pub MayHaveShape : Family → ℕ → Option ImageRegion → Type 0
-MayHaveShape family c None = Unit {0}
-MayHaveShape family c (Some region) = HasShape versions.Two family c region
-
--- the regions of classes, by their numbers
-abbrev pub HaveShape : Family → List (Option ImageRegion) → Type 0
-HaveShape family regions = (c : ℕ) → MayHaveShape family c (region_in regions c)

@@ -1,10 +1,10 @@
-use Rattle.std.proofs.Common.{◌≡◌, ◌∙◌, ◌-◌, ℕ, List, [], ◌∷◌, ◌++◌, Result, Ok, ap, arith, refl, subst, sym}
+use Rattle.std.proofs.Common.{◌≡◌, ◌∙◌, ◌-◌, [], ◌∷◌, ◌++◌, arith, refl}
 use Rattle.std.proofs.lemmas.Result.{err_from_is_err_and}
-use Rattle.loading.specs.Families.{Family}
 use Rattle.image_parser.specs.RegionFaults.{above}
 use Rattle.image_parser.specs.reading.Held.{HoldsKept}
 use Rattle.image_parser.specs.reading.Objects.{kept_at}
 use Rattle.image_parser.proofs.ChainLemmas.{next_link, link_fails, all_links, first_least, within, next_least}
+use Rattle.image_parser.proofs.ChainLemmas.{least_within, not_below}
 use Rattle.image_parser.proofs.ObjectReadsLemmas.{ascends_more, ascends_up}
 use Rattle.image_parser.proofs.ReadsLemmas.{grows_more, grows_none, held_all}
 use Rattle.image_parser.proofs.StaysLemmas.{kept_stays}
@@ -22,3 +22,61 @@ loop-index-init c =
       least = first_least c.args.version c.args.count;
       ascends = rw c.requires.none (omega arith);
     }
+
+pub returns-in_err-kept-clause-value : goal.returns-in_err-kept-clause-value
+returns-in_err-kept-clause-value c =
+    let p = err_from_is_err_and c.from_residual.result c.from_residual.ensures.1 in
+    let so_far = c.loop-index.invariant.reads in
+    let family = so_far.grows.adds.family in
+    rw (p.1, p.2) (
+      link_fails (kept_at c.args.version c.args.program.now.family c.args.count) above c.in_err-kept.field-0.0
+          c.loop-index.least _ _ c.loop-index-test.true (rw family at c.in_err-kept.ensures.value.0) so_far.reads,
+      c.in_err-kept.ensures.value.1 ∙ family,
+    )
+
+pub loop-index-preserved : goal.loop-index-preserved
+loop-index-preserved c =
+    let so_far = c.loop-index.invariant.reads in
+    let family = so_far.grows.adds.family in
+    let h = c.in_ok-number.ensures.value in
+    record {
+      reads = record {
+        told = so_far.told ++ h.told ∷ [];
+        grows = rw c.in_ok-push.ensures.items
+            (grows_more HoldsKept kept_stays c.args.program.now c.loop-index.program c.kept_at.new.program so_far.told
+            c.loop-index.objects.items (c.in_ok-number.number, c.in_ok-number.object) _ _ so_far.grows h);
+        reads =
+            let next = next_link (kept_at c.args.version c.args.program.now.family c.args.count) above
+            c.loop-index.least _ _ c.loop-index-test.true (rw family at h.is) so_far.reads in
+            rw h.holds.0 next;
+      };
+      least = next_least c.args.version c.args.count c.args.many c.loop-index._index c.loop-index.least
+          c.in_ok-number.number c.loop-index.invariant.least c.loop-index-test.true c.requires.many
+          c.in_ok-number.ensures.number;
+      ascends =
+          rw c.in_ok-push.ensures.items
+          (ascends_more 0 c.loop-index.least c.args.count c.loop-index.objects.items c.in_ok-number.number
+          c.in_ok-number.object c.loop-index.invariant.ascends
+          (not_below c.args.version c.args.count c.loop-index.least c.in_ok-number.number
+          c.in_ok-number.ensures.number));
+    }
+
+pub overflow_add-least : goal.overflow_add-least
+overflow_add-least c =
+    let le = within c.args.version c.args.count c.args.many c.loop-index._index c.loop-index.least
+    c.in_ok-number.number c.loop-index.invariant.least c.loop-index-test.true c.requires.many
+    c.in_ok-number.ensures.number in
+    omega (arith, le)
+
+pub returns-clause-value : goal.returns-clause-value
+returns-clause-value c =
+    let so_far = c.loop-index.invariant.reads in
+    held_all HoldsKept c.args.program.now c.loop-index.program so_far.told c.loop-index.objects.items _ _ so_far.grows
+    (all_links (kept_at c.args.version c.args.program.now.family c.args.count) above c.loop-index.least _ _
+    c.loop-index-test.false so_far.reads)
+
+pub returns-clause-ascending : goal.returns-clause-ascending
+returns-clause-ascending c =
+    ascends_up 0 c.loop-index.least c.args.count c.loop-index.objects.items c.loop-index.invariant.ascends
+    (least_within c.args.version c.args.count c.args.many c.loop-index._index c.loop-index.least
+    c.loop-index.invariant.least (omega arith) c.requires.many)
