@@ -120,16 +120,17 @@ fn unknown_if(
     requires few { length name.now < 2 ^ 16 }
     ensures { Makes HoldsType program.old program.new result (unknown_if form (unknown_of name.now)) }
 {
-    match unknown_of(alloc, name)? {
-        Some((dimensions, class)) if form == 1 => {
-            let element = unknown_element(alloc, program, class)?;
-            Ok(ClassId::Array(ArrayType {
-                dimensions,
-                element,
-            }))
-        }
-        _ => Err(RegionFault::Shape),
+    let Some((dimensions, class)) = unknown_of(alloc, name)? else {
+        return Err(RegionFault::Shape);
+    };
+    if form != 1 {
+        return Err(RegionFault::Shape);
     }
+    let element = unknown_element(alloc, program, class)?;
+    Ok(ClassId::Array(ArrayType {
+        dimensions,
+        element,
+    }))
 }
 
 /// The class of a name, where there can be objects of it of this form.
