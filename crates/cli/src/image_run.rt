@@ -114,17 +114,36 @@ pub(crate) fn start<F: Files>(
     ensures same { F.holds files.new ≡ F.holds files.old }
 {
     match get(alloc, name, files) {
-        Ok(bytes) => start_of(alloc, list, bytes.as_slice()),
+        Ok(bytes) => start_of(alloc, list, bytes),
         Err(refusal) => Err(refusal),
     }
 }
 
-/// The start from an image of these bytes, from the entries of a list.
-pub(crate) fn start_of(alloc: Global, list: &str, bytes: &[u8]) -> Result<ImageStart, Refusal>
-    ensures text { IfOk result (λ start. IsSomeTextOf bytes.now start.image) }
+/// The start from an image of these bytes, from the entries of a list. The bytes are let go before the world is made.
+pub(crate) fn start_of(alloc: Global, list: &str, bytes: Vec<u8>) -> Result<ImageStart, Refusal>
+    ensures text { IfOk result (λ start. IsSomeTextOf bytes.items start.image) }
     ensures program { IfOk result (λ start. IsProgram start.image.program) }
     ensures start { IfOk result (λ start. IsImageStart start.image (entry_names list.now) (world_of start.world)) }
 {
     let entries = entries_of(alloc, list)?;
-    image_start(alloc, bytes, entries.as_slice())
+    match read(alloc, bytes.as_slice()) {
+        Ok(image) => {
+            drop(bytes);
+            started(alloc, image, entries.as_slice())
+        }
+        Err(fault) => Err(Refusal::of_image(fault)),
+    }
+}
+
+/// The start from an image.
+fn started(alloc: Global, image: Image, entries: &[ClassName]) -> Result<ImageStart, Refusal>
+    ensures image { IfOk result (λ start. start.image ≡ image) }
+    ensures program { IfOk result (λ start. IsProgram start.image.program) }
+    ensures start { IfOk result (λ start. IsImageStart start.image entries.now (world_of start.world)) }
+{
+    let _classes = image.program().classes();
+    match world(alloc, &image, entries) {
+        Ok(world) => Ok(ImageStart { image, world }),
+        Err(fault) => Err(Refusal::of_entry(fault)),
+    }
 }
