@@ -12,9 +12,7 @@ use Rattle.vm_state.proofs.ListLemmas.{tested}
 use Rattle.loading.specs.Families.{Family}
 use Rattle.image_format.specs.Values.{ImageValue}
 use Rattle.image_format.specs.Values as values
-use Rattle.image_format.specs.Regions.{ImageObject}
-use Rattle.image_format.specs.Regions.{KeptObject}
-use Rattle.image_format.specs.Regions.{ImageRegion}
+use Rattle.image_format.specs.Regions.{ImageObject, ImageRegion, KeptObject}
 use Rattle.image_format.specs.declared.version.Version.TheVariants as versions
 use Rattle.image_format.specs.Objects.{region_in, statics_of, objects_of, object_with, object_of}
 use Rattle.image_format.specs.Reached.{IsReached, static, held, AreReached, kept_in, kept_from, IsDropped}

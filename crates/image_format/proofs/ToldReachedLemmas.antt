@@ -20,8 +20,7 @@ use Rattle.object_graph.specs.Idle.{AreReachedOf}
 use Rattle.object_graph.specs.Reached.{object_among, IsReached, static, held}
 use Rattle.image_format.specs.Values.{ImageValue}
 use Rattle.image_format.specs.Values as values
-use Rattle.image_format.specs.Regions.{ImageObject}
-use Rattle.image_format.specs.Regions.{ImageRegion}
+use Rattle.image_format.specs.Regions.{ImageObject, ImageRegion}
 use Rattle.image_format.specs.Objects.{region_in, statics_of, objects_of, object_with, object_of}
 use Rattle.image_format.specs.Reached.{IsReached as IsToldReached, static as told_static, held as told_held}
 use Rattle.image_format.specs.Reached.{AreReached as AreToldReached}

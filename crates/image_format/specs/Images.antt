@@ -9,8 +9,7 @@ use Rattle.loading.specs.Files.{Links}
 use Rattle.program.specs.Programs.{files_of}
 use Rattle.image_format.specs.Values.{ImageValue}
 use Rattle.image_format.specs.Values as values
-use Rattle.image_format.specs.Regions.{KeptObject}
-use Rattle.image_format.specs.Regions.{ImageRegion}
+use Rattle.image_format.specs.Regions.{ImageRegion, KeptObject}
 use Rattle.image_format.specs.declared.version.Version.{Version}
 use Rattle.image_format.specs.declared.version.Version.TheVariants as versions
 use Rattle.image_format.specs.Objects.{object_of}

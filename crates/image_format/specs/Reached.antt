@@ -2,9 +2,7 @@
 use Rattle.std.specs.Prelude.{◌≡◌, ◌↔◌, ℕ, ◌+◌, Bool, true, List, [], ◌∷◌, Option, Some, option_map}
 use Rattle.std.specs.List.{Contains, filter}
 use Rattle.image_format.specs.Values as values
-use Rattle.image_format.specs.Regions.{ImageObject}
-use Rattle.image_format.specs.Regions.{KeptObject}
-use Rattle.image_format.specs.Regions.{ImageRegion}
+use Rattle.image_format.specs.Regions.{ImageObject, ImageRegion, KeptObject}
 use Rattle.image_format.specs.Objects.{region_in, statics_of, object_of}
 
 -- The least set that has each name in a static field, and each in a slot or an element of an object in it.

@@ -17,9 +17,7 @@ use Rattle.image_format.specs.Values.{ImageValue}
 use Rattle.image_format.specs.Values as values
 use Rattle.image_format.specs.Classes.{ImageClass}
 use Rattle.image_format.specs.Classes as image
-use Rattle.image_format.specs.Regions.{ImageObject}
-use Rattle.image_format.specs.Regions.{KeptObject}
-use Rattle.image_format.specs.Regions.{ImageRegion}
+use Rattle.image_format.specs.Regions.{ImageObject, ImageRegion, KeptObject}
 
 -- the units of the string of a number
 abbrev pub units_in : List (List ℕ) → ℕ → List ℕ

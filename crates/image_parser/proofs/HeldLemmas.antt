@@ -32,8 +32,7 @@ use Rattle.evaluator.specs.Regions.{environment_of, region_of, with_region, regi
 use Rattle.image_format.specs.Elements.{kind_of_elements}
 use Rattle.image_format.specs.Classes.{ImageClass}
 use Rattle.image_format.specs.Classes as image
-use Rattle.image_format.specs.Regions.{ImageObject}
-use Rattle.image_format.specs.Regions.{ImageRegion}
+use Rattle.image_format.specs.Regions.{ImageObject, ImageRegion}
 use Rattle.image_format.specs.Values.{ImageValue}
 use Rattle.image_format.specs.Values as values
 use Rattle.image_format.specs.Regions.{KeptObject}

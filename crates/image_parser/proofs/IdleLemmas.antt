@@ -7,9 +7,7 @@ use Rattle.std.proofs.lemmas.Bool.{cases_lt}
 use Rattle.std.proofs.lemmas.List.{get_or_past}
 use Rattle.std.proofs.lemmas.Option.{slice_get_within, slice_get-get_or, same_Some}
 use Rattle.vm_state.proofs.ListLemmas.{tested}
-use Rattle.image_format.specs.Regions.{ImageObject}
-use Rattle.image_format.specs.Regions.{KeptObject}
-use Rattle.image_format.specs.Regions.{ImageRegion}
+use Rattle.image_format.specs.Regions.{ImageObject, ImageRegion, KeptObject}
 use Rattle.image_format.specs.Objects.{region_in, objects_of, object_with, object_of}
 use Rattle.image_format.specs.Reached.{IsReached, AreReached}
 use Rattle.image_format.proofs.ReachedLemmas.{reached_known}

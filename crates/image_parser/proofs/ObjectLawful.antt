@@ -27,8 +27,7 @@ use Rattle.program.specs.InstanceFields.{slots_of, static_kinds}
 use Rattle.image_format.specs.Values.{ImageValue}
 use Rattle.image_format.specs.Classes.{ImageClass}
 use Rattle.image_format.specs.Classes as image
-use Rattle.image_format.specs.Regions.{ImageObject}
-use Rattle.image_format.specs.Regions.{ImageRegion}
+use Rattle.image_format.specs.Regions.{ImageObject, ImageRegion}
 use Rattle.image_format.specs.Elements.{kind_of_elements}
 use Rattle.image_format.specs.Names.{class_name, name_of_class}
 use Rattle.image_format.specs.Shapes.{Suits, KnownHasObjects, HasObjects, AreElements, AreSlots, ObjectHasShape}

@@ -23,8 +23,7 @@ use Rattle.program.specs.Programs.{IsProgram}
 use Rattle.program.specs.Tables.{Tables}
 use Rattle.image_format.specs.Classes.{ImageClass}
 use Rattle.image_format.specs.Classes as image
-use Rattle.image_format.specs.Regions.{ImageObject}
-use Rattle.image_format.specs.Regions.{ImageRegion}
+use Rattle.image_format.specs.Regions.{ImageObject, ImageRegion}
 use Rattle.image_format.specs.Values.{ImageValue}
 use Rattle.image_format.specs.Values as values
 use Rattle.image_format.specs.Regions.{KeptObject}

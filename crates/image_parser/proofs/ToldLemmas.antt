@@ -25,8 +25,7 @@ use Rattle.program.specs.InstanceFields.{static_kinds}
 use Rattle.program.specs.Tables.{Tables, statics_in}
 use Rattle.image_format.specs.Classes.{ImageClass}
 use Rattle.image_format.specs.Classes as image
-use Rattle.image_format.specs.Regions.{ImageObject}
-use Rattle.image_format.specs.Regions.{ImageRegion}
+use Rattle.image_format.specs.Regions.{ImageObject, ImageRegion}
 use Rattle.image_format.specs.Values.{ImageValue}
 use Rattle.image_format.specs.Values as values
 use Rattle.image_format.specs.Shapes.{HasObjects, HasShape, KnownHasObjects, ObjectHasShape, Suits}
@@ -201,7 +200,8 @@ module _ (version : Version) (P : Tables)
       ∙ ap₂ (region r.pool.count)
       (fields_told P.strings t.statics r.fields (length (statics_in P c)) count
       (values_units (static_kinds P.family c) t.statics shape.statics) holds.fields)
-      (objects_told P.strings P.family t.count t.objects r.pool (numbers_two version P.family c t shape) shape.objects holds.objects)
+      (objects_told P.strings P.family t.count t.objects r.pool
+      (numbers_two version P.family c t shape) shape.objects holds.objects)
 
   class_told : (c : ℕ) (o : Option ImageRegion) (r : Option Region)
       → ((t : ImageRegion) → o ≡ Some t → HasShape version P.family c t) → HoldsClass P.strings o r

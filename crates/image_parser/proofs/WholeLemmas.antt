@@ -45,8 +45,7 @@ use Rattle.region_shape.specs.Wholes.{AreWhole}
 use Rattle.object_graph.specs.Images.{AreSmall}
 use Rattle.image_format.specs.Classes.{ImageClass}
 use Rattle.image_format.specs.Classes as image
-use Rattle.image_format.specs.Regions.{ImageObject}
-use Rattle.image_format.specs.Regions.{ImageRegion}
+use Rattle.image_format.specs.Regions.{ImageObject, ImageRegion}
 use Rattle.image_format.specs.Values.{ImageValue}
 use Rattle.image_format.specs.Values as values
 use Rattle.image_format.specs.Elements.{kind_of_type, kind_of_elements}
@@ -285,7 +284,8 @@ module _ (P : Tables) where
         object_shaped told.0 o (kept_is (ObjectHasShape P.family) t.objects n told.0 shape.objects told.1) told.2;
     no_more = λ n past.
         let none : object_with t.objects n ≡ None =
-        none_past t.count 0 t.objects n (numbers_two version P.family c t shape) (omega (arith, past, holds.objects.count)) in
+        none_past t.count 0 t.objects n (numbers_two version P.family c t shape) (omega
+        (arith, past, holds.objects.count)) in
         subst (λ (x : Option ImageObject). HoldsNumber P.strings x (r.pool.at n)) none (holds.objects.each n);
   }
 

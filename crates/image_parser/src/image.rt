@@ -10,7 +10,8 @@ ghost use Rattle.image_format.specs.declared.version.Version.{Version as Format}
 ghost use Rattle.image_format.specs.Images.{ImageText, OldText, VersionText};
 ghost use Rattle.image_parser.specs.declared.image_fault.ImageFault.{ImageFault as Fault};
 ghost use Rattle.image_parser.specs.declared.image_fault.ImageFault.TheVariants.{Memory};
-ghost use Rattle.image_parser.specs.ImageFaults.{Answers, HasFiles, ImageFails, IsImage, IsLinked, PartsFail, PartsText};
+ghost use Rattle.image_parser.specs.ImageFaults.{Answers, HasFiles, ImageFails, IsImage, IsLinked, PartsFail};
+ghost use Rattle.image_parser.specs.ImageFaults.{PartsText};
 ghost use Rattle.image_parser.specs.TextOrFault.{TextOrFault};
 ghost use Rattle.image_parser.specs.reading.Parsings.{IsOfFiles, told_in};
 

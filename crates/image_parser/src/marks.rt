@@ -1,6 +1,6 @@
 //! The marks and regions of all classes.
 
-ghost use Rattle.std.specs.Prelude.{◌≡◌, ◌<◌, ◌++◌, ◌∷◌, [], List, Option, Ok, Err, IfOk, IfErr, OnOk, length, option_map};
+ghost use Rattle.std.specs.Prelude.{◌≡◌, ◌++◌, ◌∷◌, [], ℕ, List, Option, IfOk, IfErr, OnOk, length, option_map};
 ghost use Rattle.evaluator.specs.Regions.{environment_of, region_of};
 ghost use Rattle.image_format.specs.Regions.{ImageRegion as Told};
 ghost use Rattle.image_parser.specs.MarkFaults.{numbers, AreMarks, MarksFail, IsMarksFault};

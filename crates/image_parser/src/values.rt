@@ -137,7 +137,8 @@ fn body_at<'a>(
     tag: Tag,
     bytes: &'a [u8],
 ) -> Result<(Value, &'a [u8]), RegionFault>
-    ensures { Reads HoldsValue (λ x. (x.0, x.1.now)) program.old program.new result (body_at kind tag bytes.now) }
+    ensures { Reads HoldsValue (λ x. (x.0, x.1.now)) program.old program.new result
+        (body_at kind tag bytes.now) }
 {
     match tag {
         Tag::Null => Ok((Value::Null, bytes)),
@@ -157,7 +158,8 @@ fn tagged_at<'a>(
     tag: Option<Tag>,
     bytes: &'a [u8],
 ) -> Result<(Value, &'a [u8]), RegionFault>
-    ensures { Reads HoldsValue (λ x. (x.0, x.1.now)) program.old program.new result (tagged_at kind tag bytes.now) }
+    ensures { Reads HoldsValue (λ x. (x.0, x.1.now)) program.old program.new result
+        (tagged_at kind tag bytes.now) }
 {
     let Some(tag) = tag else {
         return Err(RegionFault::Shape);
@@ -176,7 +178,8 @@ pub(crate) fn value_at<'a>(
     kind: FieldKind,
     bytes: &'a [u8],
 ) -> Result<(Value, &'a [u8]), RegionFault>
-    ensures { Reads HoldsValue (λ x. (x.0, x.1.now)) program.old program.new result (value_at kind bytes.now) }
+    ensures { Reads HoldsValue (λ x. (x.0, x.1.now)) program.old program.new result
+        (value_at kind bytes.now) }
 {
     let (tag, rest) = u8_at(bytes)?;
     tagged_at(alloc, program, kind, tag_of(tag), rest)
@@ -222,7 +225,8 @@ pub(crate) fn element_at<'a>(
     kind: FieldKind,
     bytes: &'a [u8],
 ) -> Result<(Value, &'a [u8]), RegionFault>
-    ensures { Reads HoldsValue (λ x. (x.0, x.1.now)) program.old program.new result (element_at kind bytes.now) }
+    ensures { Reads HoldsValue (λ x. (x.0, x.1.now)) program.old program.new result
+        (element_at kind bytes.now) }
 {
     match kind {
         FieldKind::Byte => byte_at(bytes),

@@ -16,8 +16,7 @@ use Rattle.object_graph.specs.declared.name_set.ObjectName.{ObjectName}
 use Rattle.object_graph.specs.Cuts.{IsCutAt, IsCutOf, IsCutRegion}
 use Rattle.object_graph.specs.Images.{AreSmall, ImageTables}
 use Rattle.object_graph.specs.Reached.{IsReached}
-use Rattle.image_format.specs.Regions.{KeptObject}
-use Rattle.image_format.specs.Regions.{ImageRegion}
+use Rattle.image_format.specs.Regions.{ImageRegion, KeptObject}
 use Rattle.image_format.specs.declared.version.Version.TheVariants as versions
 use Rattle.image_format.specs.Images.{OldText, VersionText}
 use Rattle.image_format.specs.Reached.{IsDropped, kept_from, kept_in}

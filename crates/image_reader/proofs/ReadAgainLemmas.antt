@@ -42,7 +42,8 @@ read_again I J own files classes made whole same_family same_told =
     let P = made.linked in
     let family : P.family ≡ I.program.family = sym made.holds.adds.family ∙ same_family in
     let parsed : P ≡ I.program =
-    one_program P I.program (subst IsFamily (sym family) classes) made.program made.own_strings own.program own.own_strings family in
+    one_program P I.program (subst IsFamily (sym family) classes) made.program made.own_strings own.program
+    own.own_strings family in
     let has : HasFiles I.program = record { program = own.program; files = from_files I.program files } in
     let env = environment_of I.regions in
     let again : HoldsRegions I.program.strings (told_of J) env =

@@ -1,5 +1,6 @@
 -- An image that is gathered from what a text of version 1 says, and read again from its own text.
-use Rattle.std.proofs.Common.{◌≡◌, ◌∙◌, ℕ, ◌<◌, ◌≤◌, List, length, Option, Some, None, Result, Ok, Err, refl, sym, ap, subst}
+use Rattle.std.proofs.Common.{◌≡◌, ◌∙◌, ℕ, ◌<◌, ◌≤◌, List, length, Option, Some, None, Result, Ok, Err, refl, sym, ap}
+use Rattle.std.proofs.Common.{subst}
 use Rattle.std.proofs.Common.{arith}
 use Rattle.vm_state.specs.SharedState.{Region}
 use Rattle.semantics.specs.Quiet.{Environment}
@@ -23,4 +24,5 @@ gathered I P env same is whole small cut =
     let dropped = regions_dropped P env (environment_of I.regions)
     (λ c r here. (whole.shape c r here).no_more)
     (λ c r here. let low = small.classes c r here in omega (arith, low, class_count P is)) cut in
-    subst (λ (Q : Tables). IsDropped (told_regions P env) (told_regions Q (environment_of I.regions))) (sym same) dropped
+    subst (λ (Q : Tables). IsDropped (told_regions P env) (told_regions Q (environment_of I.regions)))
+    (sym same) dropped

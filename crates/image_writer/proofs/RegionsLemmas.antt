@@ -26,8 +26,7 @@ use Rattle.region_shape.specs.Wholes.{AreWhole}
 use Rattle.object_graph.specs.Cuts.{AreReached}
 use Rattle.object_graph.specs.Images.{AreSmall}
 use Rattle.object_graph.specs.Reached.{object_among}
-use Rattle.image_format.specs.Regions.{KeptObject}
-use Rattle.image_format.specs.Regions.{ImageRegion}
+use Rattle.image_format.specs.Regions.{ImageRegion, KeptObject}
 use Rattle.image_format.specs.Images.{AreRegions, AreClassFiles, AreShort, ImageText}
 use Rattle.program.specs.Programs.{files_of}
 use Rattle.image_format.specs.Images.{IsThere, NamesObjects}

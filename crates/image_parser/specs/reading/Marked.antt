@@ -39,7 +39,8 @@ pub record AreHeld (version : Version) (P Q : Tables) (bytes : List ℕ) (region
   pub holds : HoldsTold P Q told (environment_of regions)
 
 -- the bytes are the text of regions, which these hold
-pub record RegionsHeld (version : Version) (P Q : Tables) (bytes : List ℕ) (regions : List (Option Region)) : Type 0 where
+pub record RegionsHeld (version : Version) (P Q : Tables) (bytes : List ℕ) (regions : List
+    (Option Region)) : Type 0 where
   pub told : List (Option ImageRegion)
   pub text : RegionsText version P.family bytes told
   pub holds : HoldsTold P Q told (environment_of regions)

@@ -45,7 +45,8 @@ FieldsName regions fields count = AllBelow (λ k. NamesThere regions (fields k))
 
 -- a region of a class with so many static fields
 abbrev pub RegionNames : List (Option Region) → Region → ℕ → Type 0
-RegionNames regions region count = FieldsName regions (field_in region.fields) count × PoolNames regions (pool_by region.objects)
+RegionNames regions region count = FieldsName regions (field_in region.fields) count × PoolNames regions
+    (pool_by region.objects)
 
 -- a class that is not initialized names nothing
 abbrev pub MayName : List (Option Region) → Option Region → ℕ → Type 0

@@ -9,7 +9,8 @@ loop-field-init c = λ k low. absurd (omega (arith, low))
 
 pub loop-field-preserved : goal.loop-field-preserved
 loop-field-preserved c =
-    more_below (λ k. NamesThere c.args.regions.now (field_in c.args.fields.now k)) c.loop-field.field c.loop-field.invariant
+    more_below (λ k. NamesThere c.args.regions.now (field_in c.args.fields.now k)) c.loop-field.field
+    c.loop-field.invariant
     (c.names_there.ensures.0 (let on = c.if-not-names_there.false in cc))
 
 pub returns-then-not-names_there : goal.returns-then-not-names_there
@@ -18,4 +19,5 @@ returns-then-not-names_there c =
     (λ h. let on = c.names_there.ensures.1 h in let off = c.if-not-names_there.true in cc)
 
 pub returns : goal.returns
-returns c = all_below (λ k. NamesThere c.args.regions.now (field_in c.args.fields.now k)) _ c.loop-field.field (omega arith) c.loop-field.invariant
+returns c = all_below (λ k. NamesThere c.args.regions.now (field_in c.args.fields.now k)) _ c.loop-field.field
+    (omega arith) c.loop-field.invariant

@@ -17,4 +17,5 @@ returns-then-not-slot_names c =
     (λ h. let on = c.slot_names.ensures.1 h in let off = c.if-not-slot_names.true in cc)
 
 pub returns : goal.returns
-returns c = all_below (SlotNames c.args.regions.now c.args.slots.now) _ c.loop-slot.slot (omega arith) c.loop-slot.invariant
+returns c = all_below (SlotNames c.args.regions.now c.args.slots.now) _ c.loop-slot.slot
+    (omega arith) c.loop-slot.invariant

@@ -4,7 +4,8 @@ use Rattle.image_format.specs.declared.version.Version.TheVariants as versions
 use Rattle.image_format.specs.Images.{ImageText, SomeText}
 use Rattle.image_writer.specs.ImageTexts.{told_of}
 use Rattle.image_parser.specs.reading.Parsings.{told_in}
-use Rattle.image_reader.proofs.ReadAgainLemmas.{one_image, read_again, refused_text, shown_text, some_classes, some_files}
+use Rattle.image_reader.proofs.ReadAgainLemmas.{one_image, read_again, refused_text, shown_text, some_classes}
+use Rattle.image_reader.proofs.ReadAgainLemmas.{some_files}
 use Rattle.image_reader.proofs.reading.read.Goals as goal
 
 pub returns-in-Ok-image_of-clause-text : goal.returns-in-Ok-image_of-clause-text
@@ -40,7 +41,8 @@ returns-in-Ok-image_of-clause-same c I own text =
     (shown_text c.args.bytes.now c.in-Ok.parsed.version c.in-Ok.parsed.program.family (told_in c.in-Ok.parsed)
     image c.in-Ok.ensures.text c.in-Ok-image_of.ensures.family c.in-Ok-image_of.ensures.told) text in
     read_again I image own (some_files c.args.bytes.now I.program.family (told_of I) text)
-    (some_classes c.args.bytes.now I.program.family (told_of I) text) c.in-Ok-image_of.ensures.files c.in-Ok-image_of.ensures.program one.0 one.1
+    (some_classes c.args.bytes.now I.program.family (told_of I) text) c.in-Ok-image_of.ensures.files
+    c.in-Ok-image_of.ensures.program one.0 one.1
 
 pub returns-in-Err-clause-only_text : goal.returns-in-Err-clause-only_text
 returns-in-Err-clause-only_text c family regions text =

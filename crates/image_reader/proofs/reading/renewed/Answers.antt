@@ -44,7 +44,8 @@ reached_image-requires c = record {
 }
 
 pub returns-in-Ok-clause-family : goal.returns-in-Ok-clause-family
-returns-in-Ok-clause-family c = rw c.reached_image.ensures ((again c).1 ∙ ap (λ (P : Tables). P.family) c.in_ok-image.ensures.program)
+returns-in-Ok-clause-family c = rw c.reached_image.ensures ((again c).1 ∙ ap (λ
+    (P : Tables). P.family) c.in_ok-image.ensures.program)
 
 pub returns-in-Ok-clause-told : goal.returns-in-Ok-clause-told
 returns-in-Ok-clause-told c =
