@@ -14,10 +14,21 @@ use Rattle.evaluator.specs.declared.regions.Region.{Region as Held}
 use Rattle.evaluator.specs.Regions.{environment_of, region_in as region_held, region_of, with_region}
 use Rattle.image_format.specs.Objects.{region_in}
 use Rattle.image_format.specs.Regions.{ImageRegion}
+use Rattle.image_parser.specs.declared.fault.RegionFault.{RegionFault}
+use Rattle.image_parser.specs.reading.Marks.{inside_at}
 use Rattle.image_parser.specs.reading.Held.{AddsStrings, HoldsClass, HoldsRegions}
 use Rattle.image_parser.specs.reading.Reads.{IsHeld}
 use Rattle.image_parser.proofs.HeldLemmas.{adds_more, adds_none, no_region, no_regions, put_region, regions_kept}
 use Rattle.image_parser.proofs.ReadsLemmas.{Strings}
+
+-- ---- among all classes
+
+pub inside_held : (P Q : Tables) (c : ℕ) (held : Option Region) (rest : List ℕ)
+    (read : Result (Option ImageRegion × List ℕ) RegionFault)
+    → IsHeld HoldsClass P Q held (λ told. (told, rest)) read
+    → IsHeld HoldsClass P Q held (λ told. (told, rest)) (inside_at c read)
+inside_held P Q c held rest read h =
+    record { told = h.told; is = ap (inside_at c) h.is; holds = h.holds; adds = h.adds; same = h.same }
 
 -- ---- the region of one more class
 
