@@ -2,10 +2,8 @@
 use Rattle.std.proofs.Common.{◌≡◌, ◌∙◌, ◌⊎◌, inl, inr, ℕ, zero, suc, ◌+◌, ◌<◌, ◌≤◌, List, [], ◌∷◌, length, get_or, take}
 use Rattle.std.proofs.Common.{Option, Some, None, slice_get, Result, Ok, Err, IfOk, IfErr, refl, sym, ap, subst, arith}
 use Rattle.std.specs.List.{All}
-use Rattle.std.proofs.lemmas.Bool.{cases_lt}
-use Rattle.std.proofs.lemmas.List.{get_or_past}
 use Rattle.std.proofs.lemmas.List.Elements.{All-nil, All-cons}
-use Rattle.std.proofs.lemmas.Option.{get_or_from_slice_get, same_Some, slice_get-get_or}
+use Rattle.std.proofs.lemmas.Option.{get_or_from_slice_get, slice_get-get_or, slice_get_within}
 use Rattle.classfile.specs.Faults.{IsBytes}
 use Rattle.loading.specs.Families.{Family, IsFamily}
 use Rattle.vm_state.specs.declared.object.Object.{Object}
@@ -142,16 +140,9 @@ module _ (version : Version) (P Q : Tables) (is : IsProgram Q) (bytes rest : Lis
       subst (λ (x : Option ImageObject). HoldsNumber Q.strings x (r.pool.at n)) none (t.holds.objects.each n)
 
   within : (c : ℕ) (r : Region) → env c ≡ Some r → c < length Q.family
-  within c r here = omega (arith, in_list (told_of c r here), many)
-    where
-      in_list : IsTold c r → c < length held.told
-      in_list t = elim (cases_lt c (length held.told)) [
-        | inl low ↦ low
-        | inr high ↦ absurd (
-            let past : get_or held.told c None ≡ None = get_or_past held.told c None high in
-            let clash : None ≡ Some t.region =
-            sym past ∙ get_or_from_slice_get held.told c (Some t.region) None t.at in cc)
-      ]
+  within c r here =
+      let t = told_of c r here in
+      omega (arith, slice_get_within held.told c (Some t.region) t.at, many)
 
   -- ---- names
 
