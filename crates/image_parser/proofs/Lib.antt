@@ -4,6 +4,7 @@ pub mod HeldLemmas
 pub mod SameLemmas
 pub mod ReadsLemmas
 pub mod StaysLemmas
+pub mod ValueReadsLemmas
 pub mod ObjectReadsLemmas
 pub mod NumberLawful
 pub mod EachLawful
