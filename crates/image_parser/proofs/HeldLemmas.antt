@@ -124,14 +124,6 @@ module _ (S T added : List (List ℕ)) (grown : T ≡ S ++ added) where
   number_kept (Some told) None holds = holds
   number_kept (Some told) (Some object) holds = object_kept told object holds
 
-  pub kept_kept : (told : List KeptObject) (row : List (ℕ × Object)) → AllZip (HoldsKept S) told row
-      → AllZip (HoldsKept T) told row
-  kept_kept [] [] holds = holds
-  kept_kept [] (o ∷ os) holds = absurd holds
-  kept_kept (t ∷ ts) [] holds = absurd holds
-  kept_kept (t ∷ ts) (o ∷ os) holds =
-      ((holds.0.0, object_kept t.object o.1 holds.0.1), kept_kept ts os holds.1)
-
   pub objects_kept : (made : ℕ) (told : List KeptObject) (pool : Pool) → HoldsObjects S made told pool
       → HoldsObjects T made told pool
   objects_kept made told pool holds = record {

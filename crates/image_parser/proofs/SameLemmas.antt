@@ -70,16 +70,7 @@ values_of_fields S (t ∷ told) fields holds =
     let more = values_of_fields S told (λ k. fields (suc k)) (λ k. holds (suc k)) in
     (fields 0 ∷ more.0, (holds 0, more.1))
 
--- ---- regions and classes
-
--- of a class that is initialized
-pub of_class : (S : List (List ℕ)) (t : Option ImageRegion) (told : ImageRegion) (r : Option Region) → t ≡ Some told
-    → HoldsClass S t r → (region : Region) × HoldsRegion S told region
-of_class S t told r is holds = by r (subst (λ (x : Option ImageRegion). HoldsClass S x r) is holds)
-  where
-    by : (o : Option Region) → HoldsClass S (Some told) o → (region : Region) × HoldsRegion S told region
-    by None held = absurd held
-    by (Some region) held = (region, held)
+-- ---- classes
 
 -- the element type of an array whose elements are neither given nor built in
 pub of_array : (S : List (List ℕ)) (t : ImageClass) (dimensions : ℕ) (name : List ℕ) (class : ClassId)
