@@ -18,3 +18,4 @@ pub mod TaintedLemmas
 pub mod WaveRowsLemmas
 pub mod TryingLemmas
 pub mod CrewsLemmas
+pub mod PlansLemmas

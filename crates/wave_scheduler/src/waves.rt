@@ -9,7 +9,7 @@ ghost use Rattle.evaluator.specs.Regions.{region_in, environment_of};
 ghost use Rattle.wave_scheduler.specs.Outcomes.{settled_of};
 ghost use Rattle.wave_scheduler.specs.steps.Waves.{AreTriedBelow};
 ghost use Rattle.wave_scheduler.specs.steps.Tainting.{vertex_in, IsSeen, IsSearched, TriesClass};
-ghost use Rattle.wave_scheduler.specs.steps.Plans.{CanTry, CanTryAll, StandsBefore};
+ghost use Rattle.wave_scheduler.specs.steps.Plans.{CanTry, CanTryAll, IsNthWave, StandsBefore};
 
 use crate::crew::results_of;
 use crate::finding::find_class;
@@ -149,6 +149,18 @@ fn try_wave<G: Gate, R: Threads + Wait + Sync>(
     run_wave::<Brand, G, R>(rt, alloc, wave, caller, tainted, settled)
 }
 
+/// The wave of a number, with the classes of its row.
+fn nth_wave<'a>(terms: Terms<'a>, rows: &'a [Vec<u32>], number: usize) -> Wave<'a>
+    requires { number < length rows.now }
+    ensures { IsNthWave terms.entry (rows_of rows.now) number result }
+{
+    Wave {
+        terms,
+        number,
+        classes: rows[number].as_slice(),
+    }
+}
+
 /// Tries the classes of all waves on this thread.
 pub(crate) fn try_all_here(
     alloc: Global,
@@ -162,12 +174,7 @@ pub(crate) fn try_all_here(
         (length rows.now) (settled_of settled.new)) }
 {
     for number in 0..rows.len() {
-        let classes = rows[number].as_slice();
-        let wave = Wave {
-            terms,
-            number,
-            classes,
-        };
+        let wave = nth_wave(terms, rows, number);
         try_wave_here(alloc, wave, tainted, settled)?;
     }
     Ok(())
@@ -188,12 +195,7 @@ pub(crate) fn try_all<G: Gate, R: Threads + Wait + Sync>(
         (length rows.now) (settled_of settled.new)) }
 {
     for number in 0..rows.len() {
-        let classes = rows[number].as_slice();
-        let wave = Wave {
-            terms,
-            number,
-            classes,
-        };
+        let wave = nth_wave(terms, rows, number);
         try_wave(rt, alloc, wave, caller, tainted, settled)?;
     }
     Ok(())

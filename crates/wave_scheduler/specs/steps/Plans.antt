@@ -1,5 +1,5 @@
 -- What is known before each wave, and what the last one leaves to be told.
-use Rattle.std.specs.Prelude.{ℕ, List, Option}
+use Rattle.std.specs.Prelude.{◌≡◌, ℕ, List, Option}
 use Rattle.graph.specs.Components.{AreComponents}
 use Rattle.graph.specs.Rows.{Rows, rows_of}
 use Rattle.program.specs.Tables.{Tables}
@@ -14,7 +14,7 @@ use Rattle.wave_scheduler.specs.Outcomes.{settled_of, AreJudged}
 use Rattle.wave_scheduler.specs.steps.Waves.{AreTriedBelow, StartsFrom, ToldFirst}
 use Rattle.wave_scheduler.specs.steps.Finding.{AreFirstIn}
 use Rattle.wave_scheduler.specs.steps.Tainting.{AreTainted}
-use Rattle.wave_scheduler.specs.steps.WaveRows.{IsRow, AreRows}
+use Rattle.wave_scheduler.specs.steps.WaveRows.{IsRow, AreRows, row_in}
 
 -- the uses of a program, its waves, and all classes as their verdicts say
 pub record IsPlan (P : Tables) (judged : List Verdict) (plan : Plan) : Type 0 where
@@ -42,6 +42,12 @@ pub record CanTryAll (terms : Terms) (waves : Rows) (S : Settled) (t : Tainted) 
   pub rows : AreRows terms.verdicts.now waves
   pub tried : AreTriedBelow terms.program.now terms.budget terms.verdicts.now 0 S
   pub tainted : AreTainted terms.program.now S t
+
+-- the wave of this number, with the classes of its row
+pub record IsNthWave (given : Terms) (waves : Rows) (n : ℕ) (wave : Wave) : Type 0 where
+  pub terms : wave.terms ≡ given
+  pub number : wave.number ≡ n
+  pub classes : wave.classes.now ≡ row_in waves n
 
 -- each class that depends on refused ones is told the first such
 abbrev pub TellsFirst : Tables → Settled → Settled → Type 0

@@ -1,18 +1,13 @@
-use Rattle.std.proofs.Common.{List, ℕ, subst, sym}
-use Rattle.graph.proofs.RowsLemmas.{row_read}
-use Rattle.wave_scheduler.specs.steps.WaveRows.{IsRow}
+use Rattle.graph.specs.Rows.{rows_of}
+use Rattle.wave_scheduler.specs.Outcomes.{settled_of}
+use Rattle.wave_scheduler.proofs.PlansLemmas.{can_try}
 use Rattle.wave_scheduler.proofs.waves.try_all_here.Goals as goal
 
 pub loop-number-init : goal.loop-number-init
 loop-number-init c = record { tried = c.requires.tried; tainted = c.requires.tainted }
 
 pub try_wave_here-requires : goal.try_wave_here-requires
-try_wave_here-requires c = record {
-  judged = c.requires.judged;
-  row = rw c.as_slice-classes.ensures.value (subst
-      (λ (row : List ℕ). IsRow c.args.terms.verdicts.now c.loop-number.number row)
-      (sym (row_read c.args.rows.now c.loop-number.number c.index-rows-number.result c.loop-number-test.true
-      c.index-rows-number.is)) (c.requires.rows c.loop-number.number));
-  tried = c.loop-number.invariant.tried;
-  tainted = c.loop-number.invariant.tainted;
-}
+try_wave_here-requires c =
+    can_try c.args.terms (rows_of c.args.rows.now) c.loop-number.number c.nth_wave.result
+    (settled_of c.args.settled.now) (settled_of c.loop-number.settled) c.args.tainted.now c.loop-number.tainted
+    c.requires c.nth_wave.ensures c.loop-number.invariant
