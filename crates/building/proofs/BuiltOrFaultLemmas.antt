@@ -39,7 +39,7 @@ use Rattle.wave_scheduler.proofs.FindingLemmas.{accepted_or}
 use Rattle.wave_scheduler.proofs.FollowerLemmas.{has_settled_lem}
 use Rattle.options.specs.Classes.{AreClasses, IsDemanded, IsForced, IsMatched}
 use Rattle.options.specs.Classes.{IsOnChain, itself, up, MatchesClass}
-use Rattle.options.specs.Demands.{AreMet, IsUnaccepted, IsUnmet}
+use Rattle.options.specs.Demands.{AreMet, IsUnaccepted, IsUnmet, used_name}
 use Rattle.options.specs.Demands as demands
 use Rattle.options.specs.Faults.{AreApart, IsBoth, IsKnown, PatternsFail}
 use Rattle.options.specs.Faults as wrong
@@ -341,6 +341,17 @@ module _ (P : Tables) (budget : ℕ) (linked : IsLinked P) (files : (c : ℕ) �
         units_text-units_of (name_of given.0.file) fit.1 in
         (units_of (name_of given.0.file), ap (option_map name_of) file ∙ ap (λ (n : List ℕ). Some n) (sym own))
 
+    used_units : (reason : Reason)
+        → (used : Option (List ℕ)) × (used_name P.family reason ≡ option_map units_text used)
+    used_units (reasons.DependsOn e) = by (slice_get P.family e) refl
+      where
+        by : (given : Option GivenClass) → slice_get P.family e ≡ given
+            → (used : Option (List ℕ)) × (name_in P.family e ≡ option_map units_text used)
+        by None none = (None, ap (λ (given : Option GivenClass). option_map name_of (file_of given)) none)
+        by (Some given) at =
+            let (name, named) = named_units e (slice_get_within P.family e given at) in (Some name, named)
+    used_units reason = (None, refl)
+
     -- ---- verdicts
 
     verdict_of : Outcome → Verdict
@@ -405,13 +416,14 @@ module _ (P : Tables) (budget : ℕ) (linked : IsLinked P) (files : (c : ℕ) �
             | inl low ↦
                 let (reason, at) = refused_for S forced are c low off.1 in
                 let (name, named) = named_units c (omega (arith, as_many P linked.program)) in
+                let (used, by) = used_units reason in
                 inr (
-                  Demanded name reason,
+                  Demanded name (record { reason = reason; used = used }),
                   demands.unmet (record {
                     low = low;
                     here = off;
                     before = λ d less also. (let most = least d also in omega arith);
-                  }) at named,
+                  }) at named by,
                 )
             | inr high ↦ inl (λ d low held. elim (accepted_or S d) [
               | inl accepted ↦ accepted

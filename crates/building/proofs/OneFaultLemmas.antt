@@ -2,11 +2,13 @@
 use Rattle.std.proofs.Common.{◌≡◌, ℕ, ◌<◌, Bool, List, [], Option, Some, None, slice_get, take, string_bytes}
 use Rattle.std.proofs.Common.{inl, inr, refl, sym, ap, subst, ◌∙◌, arith}
 use Rattle.std.specs.List.{All}
+use Rattle.std.specs.Option.{option_map}
 use Rattle.std.proofs.lemmas.Bool.{cases_lt}
 use Rattle.std.proofs.lemmas.List.Elements.{All-contains}
 use Rattle.std.proofs.lemmas.Option.{slice_get_within, get_or_from_slice_get}
 use Rattle.semantics.specs.Quiet as quiet
 use Rattle.semantics.proofs.TestsLemmas.{from_some}
+use Rattle.classfile.specs.Units.{units_text}
 use Rattle.loading.specs.Families.{Family, name_in}
 use Rattle.loading.proofs.UnitsLemmas.{same_units}
 use Rattle.program.specs.Tables.{Tables}
@@ -18,7 +20,7 @@ use Rattle.wave_scheduler.specs.Outcomes.{outcome_of}
 use Rattle.options.proofs.ListLemmas.{into_among}
 use Rattle.options.specs.Lists.{items_of, IsNonEmpty, empty}
 use Rattle.options.specs.Classes.{AreClasses, IsDemanded, IsForced}
-use Rattle.options.specs.Demands.{AreMet, IsUnaccepted, IsUnmet}
+use Rattle.options.specs.Demands.{AreMet, IsUnaccepted, IsUnmet, used_name}
 use Rattle.options.specs.Demands as demands
 use Rattle.options.specs.Faults.{AreApart, IsBoth, IsKnown, IsOfBoth, PatternsFail, DemandFails}
 use Rattle.options.specs.Faults as wrong
@@ -161,22 +163,32 @@ told_back reason = refl
 same_reason : (a b : Reason) → outcome_of (verdicts.Refused a) ≡ outcome_of (verdicts.Refused b) → a ≡ b
 same_reason a b same = sym (told_back a) ∙ ap (λ (o : Outcome). reason_of o) same ∙ told_back b
 
+same_used : (a b : Option (List ℕ)) → option_map units_text a ≡ option_map units_text b → a ≡ b
+same_used None None same = refl
+same_used None (Some n) same = absurd cc
+same_used (Some m) None same = absurd cc
+same_used (Some m) (Some n) same = ap Some (same_units m n (from_some same))
+
 no_unmet : (P : Tables) (demand made : List Bool) (S : Settled) (fault : OptionFault) → IsWithin made demand
     → AreMet P demand S → IsUnmet P made S fault → ⊥
-no_unmet P demand made S fault there met (demands.unmet {class = c} one at named) =
+no_unmet P demand made S fault there met (demands.unmet {class = c} one at named by) =
     one.here.1 (met c one.low (there c one.here.0))
 
 one_unmet : (P : Tables) (a b : List Bool) (S : Settled) (x y : OptionFault) → IsWithin a b → IsWithin b a
     → IsUnmet P a S x → IsUnmet P b S y → SaysTheSame x y
-one_unmet P a b S x y there back (demands.unmet {class = c} {name = m} {reason = r} one at named)
-    (demands.unmet {class = d} {name = n} {reason = q} other there_at also) =
+one_unmet P a b S x y there back (demands.unmet {class = c} {name = m} {reason = r} {used = u} one at named by)
+    (demands.unmet {class = d} {name = n} {reason = q} {used = v} other there_at also too) =
     let same : c ≡ d =
     one_number (IsUnaccepted a S) (IsUnaccepted b S) c d one.here other.here (λ k held. (there k held.0, held.1))
     (λ k held. (back k held.0, held.1)) one.before other.before in
     let names : m ≡ n = same_units m n (from_some (sym named ∙ ap (λ (k : ℕ). name_in P.family k) same ∙ also)) in
     let reasons_same : r ≡ q =
     same_reason r q (from_some (sym at ∙ ap (λ (k : ℕ). slice_get S.outcomes k) same ∙ there_at)) in
-    ap (λ (name : List ℕ). Demanded name r) names ∙ ap (λ (reason : Reason). Demanded n reason) reasons_same
+    let used_same : u ≡ v =
+    same_used u v (sym by ∙ ap (λ (reason : Reason). used_name P.family reason) reasons_same ∙ too) in
+    ap (λ (name : List ℕ). Demanded name (record { reason = r; used = u })) names
+    ∙ ap (λ (reason : Reason). Demanded n (record { reason = reason; used = u })) reasons_same
+    ∙ ap (λ (used : Option (List ℕ)). Demanded n (record { reason = q; used = used })) used_same
 
 -- ---- stage by stage
 

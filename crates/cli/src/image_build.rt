@@ -94,6 +94,6 @@ pub(crate) fn run<R: Threads + Wait + Sync, F: Files, H: Watch + Sync>(
             watch.begin(Stage::Writing);
             write_texts(alloc, words, &made, files)
         }
-        Err(fault) => Err(refusal_of(alloc, texts.as_slice(), fault)),
+        Err(fault) => Err(refusal_of(alloc, fault)),
     }
 }

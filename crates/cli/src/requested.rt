@@ -2,15 +2,12 @@
 ghost use Rattle.std.specs.Prelude.{◌≡◌, IfOk};
 ghost use Rattle.cli.specs.Requested.{IsAskedBuild, options_of as asked_of};
 
-use crate::class_files::linked_program;
 use crate::files::contents;
 use crate::watching::build_watched;
 use crate::{Building, Files, Refusal, Stage, Watch};
 use building::{BuildFault, BuildOptions, Built};
-use initializer_analysis::verdict::Reason;
 use options::OptionFault;
-use report::reason_text;
-use std::alloc::{AllocError, Global};
+use std::alloc::Global;
 use std::sync::Wait;
 use std::thread::Threads;
 
@@ -43,45 +40,25 @@ pub(crate) fn asked_build<R: Threads + Wait + Sync, F: Files, H: Watch + Sync>(
     let texts = contents(alloc, words.files.as_slice(), files, usize::MAX)?;
     match build_watched(rt, alloc, texts.as_slice(), &options_of(words), watch) {
         Ok(built) => Ok(built),
-        Err(fault) => Err(refusal_of(alloc, texts.as_slice(), fault)),
+        Err(fault) => Err(refusal_of(alloc, fault)),
     }
 }
 
-/// The refusal of a build of the class files of these texts.
-pub(crate) fn refusal_of(alloc: Global, files: &[Vec<u8>], fault: BuildFault) -> Refusal {
+/// The refusal of a build.
+pub(crate) fn refusal_of(alloc: Global, fault: BuildFault) -> Refusal {
     match fault {
         BuildFault::Memory => Refusal::Memory,
         BuildFault::Class(place, fault) => Refusal::Class(place, fault),
         BuildFault::Link(fault) => Refusal::Link(fault),
-        BuildFault::Option(fault) => option_refusal(alloc, files, &fault),
+        BuildFault::Option(fault) => option_refusal(alloc, &fault),
         BuildFault::Budget => Refusal::Budget,
         BuildFault::Wave(fault) => Refusal::Wave(fault),
     }
 }
 
-fn option_refusal(alloc: Global, files: &[Vec<u8>], fault: &OptionFault) -> Refusal {
-    let text = match fault {
-        OptionFault::Demanded(_, reason) => demanded_text(alloc, files, fault, *reason),
-        _ => fault.to_string(alloc),
-    };
-    match text {
+fn option_refusal(alloc: Global, fault: &OptionFault) -> Refusal {
+    match fault.to_string(alloc) {
         Ok(text) => Refusal::Option(text),
         Err(_) => Refusal::Memory,
-    }
-}
-
-/// The text of a class that is demanded and not accepted for this reason, which may name a class of the program.
-fn demanded_text(
-    alloc: Global,
-    files: &[Vec<u8>],
-    fault: &OptionFault,
-    reason: Reason,
-) -> Result<String, AllocError> {
-    match linked_program(alloc, files) {
-        Ok(program) => {
-            let reason = reason_text(alloc, program.family(), reason)?;
-            format!(in alloc; "{fault} {reason}")
-        }
-        Err(_) => Err(AllocError),
     }
 }

@@ -1,35 +1,18 @@
 -- Classes that are forced and demanded.
 use Rattle.std.proofs.Common.{◌≡◌, ℕ, ◌+◌, ◌<◌, ◌≤◌, ◌⊎◌, inl, inr, Bool, true, false, List, length}
-use Rattle.std.proofs.Common.{Some, slice_get, refl}
-use Rattle.std.proofs.Common.{sym, ap, ◌∙◌, subst, get_or, arith, IsTrue, ◌↔◌}
+use Rattle.std.proofs.Common.{subst, arith, IsTrue, ◌↔◌}
 use Rattle.std.specs.List.{All}
-use Rattle.std.specs.Option.{option_map}
 use Rattle.std.specs.Prelude.{Result, Ok, Err, IfErr, OnOk}
 use Rattle.std.proofs.lemmas.Bool.{cases_lt}
-use Rattle.std.proofs.lemmas.Option.{slice_get_read}
 use Rattle.std.proofs.lemmas.Result.{IfErr-weaker}
-use Rattle.classfile.specs.Units.{units_text}
-use Rattle.loading.specs.declared.given.GivenClass.{GivenClass}
-use Rattle.loading.specs.Names.{name_of}
-use Rattle.loading.specs.Families.{Family, name_in, file_of}
-use Rattle.initializer_analysis.specs.Forced.{has_class}
+use Rattle.loading.specs.Families.{Family}
 use Rattle.options.specs.Classes.{AreClasses, IsDemanded}
-use Rattle.options.specs.Faults.{IsBoth, IsKnown, AreApart, IsLeastBoth, IsOfBoth, both}
+use Rattle.options.specs.Faults.{IsBoth, IsKnown, AreApart, IsOfBoth, both}
 use Rattle.options.specs.Faults.{PatternsFail, DemandFails, unmatched, overlapping}
 use Rattle.options.specs.steps.Marks.{IsMarked}
-use Rattle.options.specs.steps.Both.{NamesBoth, named}
 use Rattle.options.proofs.ChainLemmas.{marked_within}
 use Rattle.options.specs.declared.fault.OptionFault.{OptionFault}
-use Rattle.options.specs.declared.fault.OptionFault.TheVariants.{Memory, Both}
-
-pub names_both : (family classes : Family) (c : ℕ) (given : GivenClass) (name read : List ℕ) → classes ≡ family
-    → c < length classes → given ≡ get_or classes c given → read ≡ name_of given.file → units_text name ≡ read
-    → (Both name ≡ Memory) ⊎ NamesBoth family c (Both name)
-names_both family classes c given name read same small is named-is text =
-    let at : slice_get classes c ≡ Some given = slice_get_read classes (length classes) c given refl small is in
-    let here : name_in classes c ≡ Some (units_text name) =
-    ap (λ o. option_map name_of (file_of o)) at ∙ ap Some (sym named-is ∙ sym text) in
-    inr (named (subst (λ (f : Family). name_in f c ≡ Some (units_text name)) same here))
+use Rattle.options.specs.declared.fault.OptionFault.TheVariants.{Memory}
 
 -- ---- the least class that is both
 
@@ -52,12 +35,6 @@ none_both marks forced n end before c both-are =
     let small = marked_within marks c both-are.0 in before c (omega arith) both-are
 
 -- ---- of one kind, and so of another
-
-pub of_both : (family : Family) (P : ℕ → Type 0) (forced : List Bool) (c : ℕ) (fault : OptionFault)
-    → IsLeastBoth P forced c → (fault ≡ Memory) ⊎ NamesBoth family c fault
-    → (fault ≡ Memory) ⊎ IsOfBoth family P forced fault
-of_both family P forced c fault least (inl memory) = inl memory
-of_both family P forced c _ least (inr (named {name} is)) = inr (both least is)
 
 module _ (marks forced : List Bool) (P : ℕ → Type 0) (same : AreClasses marks P) where
   pub apart_too : AreApart (IsMarked marks) forced → AreApart P forced

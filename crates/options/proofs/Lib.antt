@@ -4,5 +4,6 @@ pub mod ChainLemmas
 pub mod SortedNamesLemmas
 pub mod CoveringLemmas
 pub mod MatchedLemmas
+pub mod NamesLemmas
 pub mod BothLemmas
 pub mod UnmetLemmas

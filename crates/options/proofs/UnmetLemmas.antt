@@ -1,12 +1,9 @@
 -- Classes that are demanded and not accepted.
-use Rattle.std.proofs.Common.{◌≡◌, ℕ, ◌+◌, ◌<◌, ◌⊎◌, inl, inr, Bool, List, length, option_map, IsTrue}
-use Rattle.std.proofs.Common.{Option, Some, None, slice_get, refl, sym, ap, ◌∙◌, subst, get_or, arith}
+use Rattle.std.proofs.Common.{◌≡◌, ℕ, ◌+◌, ◌<◌, inl, inr, Bool, List, length, option_map, IsTrue}
+use Rattle.std.proofs.Common.{Option, Some, None, slice_get, refl, sym, ap, ◌∙◌, subst, arith}
 use Rattle.std.proofs.lemmas.Bool.{cases_lt}
-use Rattle.std.proofs.lemmas.Option.{slice_get-map, slice_get_read}
-use Rattle.classfile.specs.Units.{units_text}
+use Rattle.std.proofs.lemmas.Option.{slice_get-map}
 use Rattle.loading.specs.declared.given.GivenClass.{GivenClass}
-use Rattle.loading.specs.Names.{name_of}
-use Rattle.loading.specs.Families.{Family, name_in, file_of}
 use Rattle.program.specs.Tables.{Tables}
 use Rattle.program.specs.Programs.{IsProgram, IsLinkedClass}
 use Rattle.program.specs.declared.class.Class.{Class}
@@ -22,16 +19,6 @@ use Rattle.wave_scheduler.proofs.FindingLemmas.{accepted_or, refused_or}
 use Rattle.options.specs.Demands.{AreMet, IsUnmet, unmet}
 use Rattle.options.specs.steps.Unmet.{IsUnmetOf, NoneUnacceptedBelow, NamesUnmet, named}
 use Rattle.options.specs.declared.fault.OptionFault.{OptionFault}
-use Rattle.options.specs.declared.fault.OptionFault.TheVariants.{Memory, Demanded}
-
-pub names_unmet : (family classes : Family) (c : ℕ) (o : Reason) (given : GivenClass) (name read : List ℕ)
-    → classes ≡ family → c < length classes → given ≡ get_or classes c given → read ≡ name_of given.file
-    → units_text name ≡ read → (Demanded name o ≡ Memory) ⊎ NamesUnmet family c o (Demanded name o)
-names_unmet family classes c o given name read same small is named-is text =
-    let at : slice_get classes c ≡ Some given = slice_get_read classes (length classes) c given refl small is in
-    let here : name_in classes c ≡ Some (units_text name) =
-    ap (λ o. option_map name_of (file_of o)) at ∙ ap Some (sym named-is ∙ sym text) in
-    inr (named (subst (λ (f : Family). name_in f c ≡ Some (units_text name)) same here))
 
 module _ (P : Tables) (demand : List Bool) (s : Answer) where
   seen_at : (c : ℕ) (v : Verdict) → slice_get s.verdicts c ≡ Some v
@@ -62,16 +49,14 @@ module _ (P : Tables) (demand : List Bool) (s : Answer) where
 
   pub one_unmet : (c limit : ℕ) (o : Reason) (fault : OptionFault) → limit ≡ length P.classes → c < limit
       → NoneUnacceptedBelow demand (settled_of s) c → IsUnmetOf s.verdicts demand c (Some o)
-      → (fault ≡ Memory) ⊎ NamesUnmet P.family c o fault
-      → (fault ≡ Memory) ⊎ IsUnmet P demand (settled_of s) fault
-  one_unmet c limit o fault end low before off (inl memory) = inl memory
-  one_unmet c limit o _ end low before (held, at) (inr (named {name} is)) =
+      → NamesUnmet P.family c o fault → IsUnmet P demand (settled_of s) fault
+  one_unmet c limit o _ end low before (held, at) (named is of_used) =
       let there = seen_at c (verdicts.Refused o) at in
-      inr (unmet (record {
+      unmet (record {
         low = omega arith;
         here = (held, (refused_or (settled_of s) c (verdicts.Refused o) there).0 refl);
         before = before;
-      }) there is)
+      }) there is of_used
 
 pub as_many : (P : Tables) → IsProgram P → length P.classes ≡ length P.family
 as_many P is =

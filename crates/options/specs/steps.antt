@@ -2,5 +2,4 @@ pub mod Texts
 pub mod Marks
 pub mod Names
 pub mod Covering
-pub mod Both
 pub mod Unmet

@@ -1,19 +1,18 @@
 //! Whether the classes that are demanded at build time are initialized then.
 
-ghost use Rattle.std.specs.Prelude.{◌≡◌, ◌⊎◌, ◌<◌, length, IfErr, OnOk};
+ghost use Rattle.std.specs.Prelude.{◌≡◌, ◌⊎◌, ◌<◌, length, IfErr, IfOk, OnOk};
 ghost use Rattle.wave_scheduler.specs.Outcomes.{settled_of};
 ghost use Rattle.options.specs.Demands.{AreMet, IsUnmet};
 ghost use Rattle.options.specs.steps.Unmet.{IsUnmetOf, NamesUnmet};
 ghost use Rattle.options.specs.declared.fault.OptionFault.TheVariants.{Memory};
 
 use crate::demanded::Demand;
-use crate::fault::OptionFault;
-use classfile::ClassName;
+use crate::fault::{Cause, OptionFault};
+use crate::names::{class_name, used_name};
 use initializer_analysis::verdict::{Reason, Verdict};
 use loading::family::Family;
-use loading::names::name_of;
 use program::Program;
-use std::alloc::Global;
+use std::alloc::{AllocError, Global};
 use wave_scheduler::outcome::Settled;
 
 /// Why a class is not accepted, if it is demanded and is not.
@@ -31,22 +30,24 @@ fn unmet(verdicts: &[Verdict], demand: &Demand, class: u32) -> Option<Reason>
 }
 
 /// The fault of a class that is demanded and not accepted for this reason.
-fn demanded(alloc: Global, family: &Family, class: u32, reason: Reason) -> OptionFault
+fn demanded(
+    alloc: Global,
+    family: &Family,
+    class: u32,
+    reason: Reason,
+) -> Result<OptionFault, AllocError>
     requires { class < length family.now }
-    ensures { (result ≡ Memory) ⊎ NamesUnmet family.now class reason result }
+    ensures { IfOk result (NamesUnmet family.now class reason) }
 {
-    let classes = family.classes();
-    let class = &classes[class as usize];
-    match ClassName::from_modified_utf8(alloc, name_of(&class.file)) {
-        Ok(name) => OptionFault::Demanded(name, reason),
-        Err(_) => OptionFault::Memory,
-    }
+    let name = class_name(alloc, family, class)?;
+    let used = used_name(alloc, family, reason)?;
+    Ok(OptionFault::Demanded(name, Cause { reason, used }))
 }
 
 /// Checks that each class that is demanded is accepted.
 ///
 /// # Errors
-/// `Demanded` of the least class that is not, with the reason; and `Memory` where memory runs out.
+/// `Demanded` of the least class that is not, with the cause; and `Memory` where memory runs out.
 pub fn check(
     alloc: Global,
     program: &Program,
@@ -62,7 +63,7 @@ pub fn check(
     let verdicts = settled.verdicts.as_slice();
     for class in 0..program.given_count() {
         match unmet(verdicts, demand, class) {
-            Some(reason) => return Err(demanded(alloc, program.family(), class, reason)),
+            Some(reason) => return Err(demanded(alloc, program.family(), class, reason)?),
             None => {}
         }
     }

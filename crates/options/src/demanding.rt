@@ -5,18 +5,16 @@ ghost use Rattle.std.specs.List.{All};
 ghost use Rattle.options.specs.Classes.{AreClasses, IsAtOrAbove, IsDemanded};
 ghost use Rattle.options.specs.Faults.{DemandFails, PatternsFail, AreApart, IsBoth, IsKnown, IsLeastBoth, IsOfBoth};
 ghost use Rattle.options.specs.steps.Marks.{IsMarked};
-ghost use Rattle.options.specs.steps.Both.{NamesBoth};
 ghost use Rattle.options.specs.declared.fault.OptionFault.TheVariants.{Memory};
 
 use crate::chains::mark_above;
 use crate::demanded::Demand;
 use crate::fault::OptionFault;
 use crate::matching::matched_in;
+use crate::names::class_name;
 use crate::patterns::Patterns;
-use classfile::ClassName;
 use initializer_analysis::forced::Forced;
 use loading::family::Family;
-use loading::names::name_of;
 use program::Program;
 use std::alloc::Global;
 
@@ -87,7 +85,7 @@ fn demand_of(
         ⊎ IsOfBoth family.now (IsMarked marks.items) forced.now fault) }
 {
     match first_both(family, &marks, forced) {
-        Some(class) => Err(both(alloc, family, class)),
+        Some(class) => Err(OptionFault::Both(class_name(alloc, family, class)?)),
         None => Ok(Demand::of_marks(marks)),
     }
 }
@@ -114,17 +112,4 @@ fn is_both(marks: &[bool], forced: &Forced, class: u32) -> bool
     ensures { IsTrue result ↔ IsBoth (IsMarked marks.now) forced.now class }
 {
     marks[class as usize] && forced.has(class)
-}
-
-/// The fault of a class that is forced and demanded.
-fn both(alloc: Global, family: &Family, class: u32) -> OptionFault
-    requires { class < length family.now }
-    ensures { (result ≡ Memory) ⊎ NamesBoth family.now class result }
-{
-    let classes = family.classes();
-    let class = &classes[class as usize];
-    match ClassName::from_modified_utf8(alloc, name_of(&class.file)) {
-        Ok(name) => OptionFault::Both(name),
-        Err(_) => OptionFault::Memory,
-    }
 }

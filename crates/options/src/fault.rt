@@ -6,6 +6,7 @@ ghost use Rattle.options.specs.declared.fault.OptionFault.TheVariants.{Memory};
 use classfile::ClassName;
 use initializer_analysis::verdict::Reason;
 use std::alloc::{AllocError, AllocFailed};
+use std::fmt;
 use thiserror::Error;
 
 /// What is wrong with the options. Names of classes are printed with slashes.
@@ -22,10 +23,26 @@ pub enum OptionFault {
     /// This class is forced to run time and demanded at build time.
     #[error("Both {0}")]
     Both(ClassName),
-    /// This class is demanded at build time, and is not accepted for this reason. The reason is not printed, since it
-    /// may be about a class that is known by its number alone.
-    #[error("Demanded {0}")]
-    Demanded(ClassName, Reason),
+    /// This class is demanded at build time, and is not accepted.
+    #[error("Demanded {0} {1}")]
+    Demanded(ClassName, Cause),
+}
+
+/// Why a class is not accepted, with the name of the other class where it depends on one.
+#[derive(Debug, Drop)]
+pub struct Cause {
+    pub reason: Reason,
+    pub used: Option<ClassName>,
+}
+
+impl fmt::Display for Cause {
+    fn fmt<W: fmt::Write>(&self, f: &mut fmt::Formatter<W>) -> fmt::Result {
+        let word = self.reason.word();
+        match &self.used {
+            Some(name) => write!(f, "{word} {name}"),
+            None => f.write_str(word),
+        }
+    }
 }
 
 impl From<AllocError> for OptionFault {

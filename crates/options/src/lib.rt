@@ -13,12 +13,13 @@ mod fault;
 mod forcing;
 mod marks;
 mod matching;
+mod names;
 mod patterns;
 mod sorted_names;
 
 pub use checking::check;
 pub use demanded::Demand;
 pub use demanding::demand;
-pub use fault::OptionFault;
+pub use fault::{Cause, OptionFault};
 pub use forcing::force;
 pub use patterns::{Patterns, parse};

@@ -2,12 +2,11 @@
 use Rattle.std.specs.Prelude.{ℕ, ◌+◌, List, [], ◌∷◌, ◌++◌, Option, Some, None, codes, decimal}
 use Rattle.classfile.specs.Printing.{printed_units, units_of}
 use Rattle.loading.specs.Families.{Family, name_in}
-use Rattle.use_graph.specs.declared.mark.Mark.{Mark}
-use Rattle.use_graph.specs.declared.mark.Mark.TheVariants as marks
 use Rattle.initializer_analysis.specs.declared.verdict.Reason.{Reason}
-use Rattle.initializer_analysis.specs.declared.verdict.Reason.TheVariants as reasons
+use Rattle.initializer_analysis.specs.declared.verdict.Reason.TheVariants.{DependsOn}
 use Rattle.initializer_analysis.specs.declared.verdict.Verdict.{Verdict}
 use Rattle.initializer_analysis.specs.declared.verdict.Verdict.TheVariants.{Wave, Refused}
+use Rattle.initializer_analysis.specs.Words.{reason_word}
 use Rattle.evaluator.specs.Regions.{environment_of}
 use Rattle.object_graph.specs.Images.{ImageTables, object_count}
 
@@ -19,24 +18,9 @@ printed_name (Some name) = printed_units (units_of name)
 abbrev pub class_text : Family → ℕ → List ℕ
 class_text family c = printed_name (name_in family c)
 
-abbrev pub mark_text : Mark → List ℕ
-mark_text marks.Prints = codes "Prints"
-mark_text marks.Throws = codes "Throws"
-mark_text marks.Monitors = codes "Monitors"
-mark_text marks.ForeignWrite = codes "ForeignWrite"
-mark_text marks.ForeignRead = codes "ForeignRead"
-mark_text marks.Unsupported = codes "Unsupported"
-mark_text marks.Missing = codes "Missing"
-
 abbrev pub reason_text : Family → Reason → List ℕ
-reason_text family reasons.Forced = codes "Forced"
-reason_text family (reasons.Marked mark) = mark_text mark
-reason_text family reasons.Cycle = codes "Cycle"
-reason_text family (reasons.DependsOn e) = codes "DependsOn " ++ class_text family e
-reason_text family reasons.Raised = codes "Raised"
-reason_text family reasons.ForeignObject = codes "ForeignObject"
-reason_text family reasons.Budget = codes "Budget"
-reason_text family reasons.Faulted = codes "Faulted"
+reason_text family (DependsOn e) = reason_word (DependsOn e) ++ (codes " " ++ class_text family e)
+reason_text family reason = reason_word reason
 
 -- its wave and how many objects its region has, or the reason for which it is initialized at run time
 abbrev pub verdict_text : ImageTables → ℕ → Verdict → List ℕ

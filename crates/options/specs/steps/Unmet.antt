@@ -1,5 +1,6 @@
 -- Whether a class that is demanded is accepted.
 use Rattle.std.specs.Prelude.{◌≡◌, ℕ, ◌<◌, Bool, List, Option, Some, None, IsTrue, slice_get}
+use Rattle.std.specs.Option.{option_map}
 use Rattle.classfile.specs.Units.{units_text}
 use Rattle.loading.specs.Families.{Family, name_in}
 use Rattle.initializer_analysis.specs.Forced.{has_class}
@@ -7,7 +8,7 @@ use Rattle.initializer_analysis.specs.declared.verdict.Reason.{Reason}
 use Rattle.initializer_analysis.specs.declared.verdict.Verdict.{Verdict}
 use Rattle.initializer_analysis.specs.declared.verdict.Verdict.TheVariants.{Wave, Refused}
 use Rattle.wave_scheduler.specs.Settled.{Settled}
-use Rattle.options.specs.Demands.{IsUnaccepted}
+use Rattle.options.specs.Demands.{IsUnaccepted, used_name}
 use Rattle.options.specs.declared.fault.OptionFault.{OptionFault}
 use Rattle.options.specs.declared.fault.OptionFault.TheVariants.{Demanded}
 
@@ -20,5 +21,6 @@ abbrev pub NoneUnacceptedBelow : List Bool → Settled → ℕ → Type 0
 NoneUnacceptedBelow demand S limit = (c : ℕ) → c < limit → ¬ IsUnaccepted demand S c
 
 pub data NamesUnmet (family : Family) (class : ℕ) (reason : Reason) : OptionFault → Type 0 where
-  named : {name : List ℕ} → name_in family class ≡ Some (units_text name)
-      → NamesUnmet family class reason (Demanded name reason)
+  named : {name : List ℕ} {used : Option (List ℕ)} → name_in family class ≡ Some (units_text name)
+      → used_name family reason ≡ option_map units_text used
+      → NamesUnmet family class reason (Demanded name (record { reason = reason; used = used }))
