@@ -341,15 +341,15 @@ module _ (P : Tables) (budget : ℕ) (linked : IsLinked P) (files : (c : ℕ) �
         units_text-units_of (name_of given.0.file) fit.1 in
         (units_of (name_of given.0.file), ap (option_map name_of) file ∙ ap (λ (n : List ℕ). Some n) (sym own))
 
+    used_at : (e : ℕ) (given : Option GivenClass) → slice_get P.family e ≡ given
+        → (used : Option (List ℕ)) × (name_in P.family e ≡ option_map units_text used)
+    used_at e None none = (None, ap (λ (given : Option GivenClass). option_map name_of (file_of given)) none)
+    used_at e (Some given) at =
+        let (name, named) = named_units e (slice_get_within P.family e given at) in (Some name, named)
+
     used_units : (reason : Reason)
         → (used : Option (List ℕ)) × (used_name P.family reason ≡ option_map units_text used)
-    used_units (reasons.DependsOn e) = by (slice_get P.family e) refl
-      where
-        by : (given : Option GivenClass) → slice_get P.family e ≡ given
-            → (used : Option (List ℕ)) × (name_in P.family e ≡ option_map units_text used)
-        by None none = (None, ap (λ (given : Option GivenClass). option_map name_of (file_of given)) none)
-        by (Some given) at =
-            let (name, named) = named_units e (slice_get_within P.family e given at) in (Some name, named)
+    used_units (reasons.DependsOn e) = used_at e (slice_get P.family e) refl
     used_units reason = (None, refl)
 
     -- ---- verdicts
