@@ -1,6 +1,5 @@
 use Rattle.std.proofs.Common.{◌∙◌, ap, sym, take, drop, arith}
 use Rattle.image_parser.specs.HeaderFaults.HeaderFails.{truncated, magic, version}
-use Rattle.image_parser.specs.reading.Frames.{IsUnsealed}
 use Rattle.image_parser.proofs.FrameLaw.{unsealed}
 use Rattle.image_parser.proofs.header.unsealed_parts.Goals as goal
 
@@ -20,8 +19,8 @@ returns-in_default-clause-fault c =
     let second = c.split_at-3.ensures.front ∙ ap (take 2) after in
     version (omega arith) (sym first ∙ c.is_same.ensures.0 cc) (λ v e. c.in_default.ensures v (second ∙ e))
 
-pub returns-in-Some-clause-parts : goal.returns-in-Some-clause-parts
-returns-in-Some-clause-parts c =
+pub returns-clause-parts : goal.returns-clause-parts
+returns-clause-parts c =
     let first = c.split_at-2.ensures.front ∙ ap (take 4) c.split_at.ensures.front in
     let on = c.if-not-is_same.false in
     let after = c.split_at-2.ensures.back ∙ ap (drop 4) c.split_at.ensures.front in
