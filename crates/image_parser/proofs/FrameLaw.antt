@@ -151,8 +151,13 @@ pub unsealed : (bytes : List ℕ) → 42 ≤ length bytes → magic_in bytes ≡
 unsealed bytes size m v is =
     let front = front_in bytes in
     record {
-      room = omega (arith, size, length-take (length bytes - 32) bytes, length-drop 4 front,
-          length-drop 2 (drop 4 front));
+      room = omega (
+        arith,
+        size,
+        length-take (length bytes - 32) bytes,
+        length-drop 4 front,
+        length-drop 2 (drop 4 front),
+      );
       sealed = λ d. framed bytes size m v is d;
       broken = λ no. digest size m v is no;
     }

@@ -103,11 +103,7 @@ fn of_bytes(alloc: Global, bytes: &[u8]) -> Result<Parsed, ImageFault>
 }
 
 /// What the bytes of an image say, whose digest another thread may look at.
-fn of_bytes_by_two<R: Threads>(
-    rt: &R,
-    alloc: Global,
-    bytes: &[u8],
-) -> Result<Parsed, ImageFault>
+fn of_bytes_by_two<R: Threads>(rt: &R, alloc: Global, bytes: &[u8]) -> Result<Parsed, ImageFault>
     ensures text { IfOk result (λ parsed. SomeText bytes.now parsed.program.family parsed.regions) }
     ensures program { IfOk result (λ parsed. IsProgram parsed.program) }
     ensures own_strings { IfOk result (λ parsed. HasOwnStrings parsed.program) }

@@ -14,7 +14,8 @@ returns-clause-only_text g c =
 
 pub returns-clause-fits : goal.returns-clause-fits
 returns-clause-fits g c =
-    all_fit (λ (p : Parsed). (p.program.family, p.regions)) c.args.bytes.now c.of_bytes_by_two.result c.of_bytes_by_two.ensures.text
+    all_fit (λ (p : Parsed). (p.program.family, p.regions)) c.args.bytes.now c.of_bytes_by_two.result
+    c.of_bytes_by_two.ensures.text
 
 pub returns-clause-only_fault : goal.returns-clause-only_fault
 returns-clause-only_fault g c =
