@@ -36,7 +36,7 @@ impl Schedule {
         }
     }
 
-    /// So many more steps, at least one, of a thread.
+    /// Adds steps of a thread, one at least.
     ///
     /// # Errors
     /// `AllocError` where memory is refused; of the schedule nothing is promised then.

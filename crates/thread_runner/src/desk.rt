@@ -76,6 +76,8 @@ pub(crate) struct Desk<O: Session, S: Sink> {
     pub(crate) book: Book<O>,
     pub(crate) sink: S,
     pub(crate) moves: u64,
+    /// How many threads sleep until another one has moved.
+    pub(crate) sleepers: u32,
     /// The last thread goes on alone: nobody asks its gate.
     pub(crate) open: bool,
     pub(crate) over: bool,
@@ -104,6 +106,7 @@ impl<O: Session, S: Sink> Desk<O, S> {
             book,
             sink,
             moves: 0,
+            sleepers: 0,
             open,
             over: false,
             memory: false,
@@ -111,9 +114,20 @@ impl<O: Session, S: Sink> Desk<O, S> {
         }
     }
 
-    /// How many commits have moved a thread, modulo 2^64.
-    pub(crate) fn moves(&self) -> u64 {
+    /// A thread falls asleep. It answers how many commits have moved a thread, modulo 2^64.
+    pub(crate) fn begin_sleep(&mut self) -> u64 {
+        self.sleepers = self.sleepers.saturating_add(1);
         self.moves
+    }
+
+    /// A thread has woken up.
+    pub(crate) fn end_sleep(&mut self) {
+        self.sleepers = self.sleepers.saturating_sub(1);
+    }
+
+    /// Whether a thread sleeps until another one has moved.
+    pub(crate) fn has_sleepers(&self) -> bool {
+        self.sleepers > 0
     }
 
     /// Whether the run goes on and no commit has moved a thread since there were so many.
@@ -283,6 +297,7 @@ impl<O: Session, S: Sink> Desk<O, S> {
             book,
             sink,
             moves: _,
+            sleepers: _,
             open: _,
             over: _,
             memory: _,
@@ -299,6 +314,7 @@ impl<O: Session, S: Sink> Desk<O, S> {
             book: _,
             sink,
             moves: _,
+            sleepers: _,
             open: _,
             over: _,
             memory: _,

@@ -28,13 +28,13 @@ pub(crate) fn work<O: Session, S: Sink, G: Gate, R: Wait>(
     let mut job = 0u64;
     let mut tools = Tools::<O>::new(alloc);
     let mut known = Known::none();
+    let mut front = look(rt, alloc, program, desk, thread, known.is_old());
     for _ in rt.forever() {
-        let Some(front) = look(rt, alloc, program, desk, thread, known.is_old()) else {
+        let Some(Front { frame, done }) = front else {
             moved.notify_all();
             return;
         };
         ask(gate, thread, job);
-        let Front { frame, done } = front;
         known.renew(done, program.given_count());
         let made = next_front(alloc, program, &mut tools, thread, frame, known.done());
         gate.done(thread, job);
@@ -43,12 +43,20 @@ pub(crate) fn work<O: Session, S: Sink, G: Gate, R: Wait>(
             moved.notify_all();
             return;
         };
-        match settle(rt, alloc, program, desk, moved, thread, made) {
-            Next::Moved => job = job.wrapping_add(1),
-            Next::Leave => return,
-            Next::Again => {}
-            Next::Sleep => {}
+        let (moves, next) = settle(
+            rt,
+            alloc,
+            program,
+            desk,
+            moved,
+            thread,
+            made,
+            known.is_old(),
+        );
+        if moves {
+            job = job.wrapping_add(1);
         }
+        front = next;
     }
 }
 
@@ -66,8 +74,9 @@ fn look<O: Session, S: Sink, R: Wait>(
     desk.lock(rt).look(alloc, program, thread, asks)
 }
 
-/// Commits a stretch, if there is one. A thread that waits sleeps until another one has moved or the run is over, and
-/// whoever moves or ends it wakes all.
+/// Commits a stretch, if there is one, and answers whether the thread has moved or leaves, and what it takes along if it
+/// goes on: the lock is taken once for both. A thread that waits sleeps until another one has moved or the run is over,
+/// and whoever moves or ends it wakes those that sleep, if there are any: to wake nobody is a call of the system, too.
 fn settle<O: Session, S: Sink, R: Wait>(
     rt: &R,
     alloc: Global,
@@ -76,23 +85,27 @@ fn settle<O: Session, S: Sink, R: Wait>(
     moved: &Condvar,
     thread: u32,
     made: Option<FrontStretch<O>>,
-) -> Next
+    asks: bool,
+) -> (bool, Option<Front>)
     requires program { program.now ≡ O.program }
     requires thread { thread < length O.start.threads }
 {
     let mut guard = desk.lock(rt);
-    let next = guard.turn(alloc, program, thread, made);
-    match next {
-        Next::Moved | Next::Leave => {
-            drop(guard);
-            moved.notify_all();
-        }
+    let (moves, front) = match guard.turn(alloc, program, thread, made) {
         Next::Sleep => {
-            let moves = guard.moves();
-            let guard = moved.wait_while(rt, guard, |desk| desk.is_same(moves));
-            drop(guard);
+            let moves = guard.begin_sleep();
+            let mut guard = moved.wait_while(rt, guard, |desk| desk.is_same(moves));
+            guard.end_sleep();
+            return (false, guard.look(alloc, program, thread, asks));
         }
-        Next::Again => drop(guard),
+        Next::Leave => (true, None),
+        Next::Again => (false, guard.look(alloc, program, thread, asks)),
+        Next::Moved => (true, guard.look(alloc, program, thread, asks)),
+    };
+    let wakes = moves && guard.has_sleepers();
+    drop(guard);
+    if wakes {
+        moved.notify_all();
     }
-    next
+    (moves, front)
 }
