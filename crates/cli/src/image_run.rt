@@ -122,7 +122,7 @@ pub(crate) fn start<R: Threads, F: Files>(
     }
 }
 
-/// The same from these bytes.
+/// The start from an image of these bytes, at whose digest another thread may look.
 fn start_by_two<R: Threads>(
     rt: &R,
     alloc: Global,
