@@ -16,10 +16,11 @@ use crate::files::get;
 use crate::lazy::{Shown, shown_by_turns};
 use crate::{Files, Refusal, entries_of};
 use classfile::ClassName;
-use image_reader::{read, world};
+use image_reader::{read, read_by_two, world};
 use init_engine::{EntryFault, World};
 use object_graph::Image;
 use std::alloc::Global;
+use std::thread::Threads;
 
 /// An image, and what a run of it has shown.
 #[derive(Drop)]
@@ -99,11 +100,13 @@ fn image_start(alloc: Global, bytes: &[u8], entries: &[ClassName]) -> Result<Ima
     }
 }
 
-/// Reads the image of a file, and answers the start from it, from the entries of a list.
+/// Reads the image of a file, and answers the start from it, from the entries of a list. Another thread may look at the
+/// image's digest.
 ///
 /// # Errors
 /// The first refusal: the file, the image, an entry, or memory.
-pub(crate) fn start<F: Files>(
+pub(crate) fn start<R: Threads, F: Files>(
+    rt: &R,
     alloc: Global,
     name: &str,
     list: &str,
@@ -114,8 +117,39 @@ pub(crate) fn start<F: Files>(
     ensures same { F.holds files.new ≡ F.holds files.old }
 {
     match get(alloc, name, files) {
-        Ok(bytes) => start_of(alloc, list, bytes.as_slice()),
+        Ok(bytes) => start_by_two(rt, alloc, list, bytes.as_slice()),
         Err(refusal) => Err(refusal),
+    }
+}
+
+/// The start from an image of these bytes, at whose digest another thread may look.
+fn start_by_two<R: Threads>(
+    rt: &R,
+    alloc: Global,
+    list: &str,
+    bytes: &[u8],
+) -> Result<ImageStart, Refusal>
+    ensures text { IfOk result (λ start. IsSomeTextOf bytes.now start.image) }
+    ensures program { IfOk result (λ start. IsProgram start.image.program) }
+    ensures start { IfOk result (λ start. IsImageStart start.image (entry_names list.now) (world_of start.world)) }
+{
+    let entries = entries_of(alloc, list)?;
+    match read_by_two(rt, alloc, bytes) {
+        Ok(image) => started(alloc, image, entries.as_slice()),
+        Err(fault) => Err(Refusal::of_image(fault)),
+    }
+}
+
+/// The start from an image.
+fn started(alloc: Global, image: Image, entries: &[ClassName]) -> Result<ImageStart, Refusal>
+    ensures same { IfOk result (λ start. start.image ≡ image) }
+    ensures program { IfOk result (λ start. IsProgram start.image.program) }
+    ensures start { IfOk result (λ start. IsImageStart start.image entries.now (world_of start.world)) }
+{
+    let _classes = image.program().classes();
+    match world(alloc, &image, entries) {
+        Ok(world) => Ok(ImageStart { image, world }),
+        Err(fault) => Err(Refusal::of_entry(fault)),
     }
 }
 

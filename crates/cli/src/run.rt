@@ -381,7 +381,7 @@ fn run_image<R: Threads + Wait + Sync, F: Files, W: Write + Send + Drop, E: Erro
     ensures done { IsOver result.0 → IsDone (F.holds files.old) (F.holds files.new) (W.contents out)
         (W.contents result.2) (Request.Run words.now) result.0 }
 {
-    match image_run::start(alloc, words.image, words.entries, files) {
+    match image_run::start(rt, alloc, words.image, words.entries, files) {
         Ok(ImageStart { image, world }) => {
             let (status, out) = run_told(rt, alloc, &image, world, words, files, out, errors);
             (status, Held::Image(image), out)

@@ -4,7 +4,7 @@ use Rattle.std.proofs.Common.{get_or}
 use Rattle.std.proofs.Common.{refl, sym, ap, ◌∙◌, arith, inl, inr}
 use Rattle.std.specs.Str.{bytes_eq}
 use Rattle.std.proofs.lemmas.Bool.{cases_lt}
-use Rattle.std.proofs.lemmas.List.{take_at, drop_at, take-append-drop, length-append}
+use Rattle.std.proofs.lemmas.List.{take_at, drop_at, take-append-drop, length-append, length-take, length-drop}
 use Rattle.std.proofs.lemmas.Slice.Eq.{bytes_eq-Decides}
 use Rattle.sha2.specs.Sha256.{sha256}
 use Rattle.sha2.proofs.Facts256.{length-sha256}
@@ -17,6 +17,7 @@ use Rattle.image_parser.specs.declared.header.HeaderFault.TheVariants as faults
 use Rattle.image_parser.specs.HeaderFaults.{IsFramed, IsFrame, front_in, digest_in, magic_in, version_in, HeaderFails}
 use Rattle.image_parser.specs.HeaderFaults.HeaderFails.{truncated, magic, version, digest}
 use Rattle.image_parser.specs.TextOrFault.{TextOrFault}
+use Rattle.image_parser.specs.reading.Frames.{IsUnsealed}
 
 abbrev rest_of : Version → List ℕ → List ℕ
 rest_of v parts = u2 (version_number v) ++ parts
@@ -143,6 +144,22 @@ framed bytes size m v is d =
       size = size;
       framed = sym (take-append-drop (length bytes - 32) bytes) ∙ ap (λ (z : List ℕ). front ++ z) d
           ∙ ap with_digest whole;
+    }
+
+pub unsealed : (bytes : List ℕ) → 42 ≤ length bytes → magic_in bytes ≡ u4 1246775629 → (v : Version)
+    → version_in bytes ≡ u2 (version_number v) → IsUnsealed bytes v (drop 2 (drop 4 (front_in bytes)))
+unsealed bytes size m v is =
+    let front = front_in bytes in
+    record {
+      room = omega (
+        arith,
+        size,
+        length-take (length bytes - 32) bytes,
+        length-drop 4 front,
+        length-drop 2 (drop 4 front),
+      );
+      sealed = λ d. framed bytes size m v is d;
+      broken = λ no. digest size m v is no;
     }
 
 long_or_fault : (bytes : List ℕ) → 42 ≤ length bytes → OneOf bytes

@@ -28,6 +28,10 @@ magic_in bytes = take 4 (front_in bytes)
 abbrev pub version_in : List ℕ → List ℕ
 version_in bytes = take 2 (drop 4 (front_in bytes))
 
+-- The last 32 bytes are the digest of all before.
+abbrev pub IsSealed : List ℕ → Type 0
+IsSealed bytes = digest_in bytes ≡ sha256 (front_in bytes)
+
 -- what is wrong first
 pub data HeaderFails (bytes : List ℕ) : HeaderFault → Type 0 where
   truncated : length bytes < 42 → HeaderFails bytes faults.Truncated

@@ -6,3 +6,4 @@ pub mod Objects
 pub mod Marks
 pub mod Files
 pub mod Reaching
+pub mod Frames

@@ -1,6 +1,7 @@
 //! Whole images.
 
 ghost use Rattle.std.specs.Prelude.{◌≡◌, ◌≤◌, ◌⊎◌, List, Option, ℕ, length, take, drop, IfOk, IfErr, MatchResult};
+ghost use Rattle.std.specs.Bool.{Decides};
 ghost use Rattle.std.specs.Int.{w32, from_be_bytes};
 ghost use Rattle.classfile.specs.Faults.{IsBytes};
 ghost use Rattle.loading.specs.Families.{Family as Classes};
@@ -12,10 +13,12 @@ ghost use Rattle.image_parser.specs.declared.image_fault.ImageFault.{ImageFault 
 ghost use Rattle.image_parser.specs.declared.image_fault.ImageFault.TheVariants.{Memory};
 ghost use Rattle.image_parser.specs.ImageFaults.{HasFiles, IsLinked, PartsRead, PartsFail, IsImage, ImageFails};
 ghost use Rattle.image_parser.specs.ImageFaults.{Answers};
+ghost use Rattle.image_parser.specs.HeaderFaults.{IsSealed};
 ghost use Rattle.image_parser.specs.TextOrFault.{TextOrFault};
+ghost use Rattle.image_parser.specs.reading.Frames.{IsUnsealed};
 
 use crate::files::read_files;
-use crate::header::parts_of;
+use crate::header::{is_sealed, parts_of, unsealed_parts};
 use crate::image_fault::ImageFault;
 use crate::regions::read_regions;
 use byteorder::{BigEndian, ByteOrder};
@@ -24,6 +27,10 @@ use image_format::region::ImageRegions;
 use image_format::version::Version;
 use program::{Program, link};
 use std::alloc::Global;
+use std::thread::{self, Threads};
+
+/// An image of fewer bytes is digested before another thread has begun.
+const SMALL: usize = 65_536;
 
 /// What an image's text says: a linked program, and what its classes that are initialized hold, a string by its units.
 #[derive(Drop)]
@@ -57,6 +64,24 @@ pub fn parse(alloc: Global, bytes: &[u8]) -> Result<Parsed, ImageFault>
     of_bytes(alloc, bytes)
 }
 
+/// Does the same as `parse`. Where there is much to digest, another thread does that meanwhile.
+///
+/// # Errors
+/// Those of `parse`.
+pub fn parse_by_two<R: Threads>(rt: &R, alloc: Global, bytes: &[u8]) -> Result<Parsed, ImageFault>
+    ensures text { IfOk result (λ parsed. SomeText bytes.now parsed.program.family parsed.regions) }
+    ensures program { IfOk result (λ parsed. IsProgram parsed.program) }
+    ensures own_strings { IfOk result (λ parsed. HasOwnStrings parsed.program) }
+    ensures fits { IfOk result (λ parsed. AreRegions Two parsed.program.family parsed.regions) }
+    ensures only_text { (family : Classes) (regions : List (Option Held)) → SomeText bytes.now family regions
+        → MatchResult result (λ parsed. (parsed.program.family ≡ family) × (parsed.regions ≡ regions))
+        (λ x. x ≡ Memory) }
+    ensures fault { IfErr result (λ x. (x ≡ Memory) ⊎ ImageFails bytes.now x) }
+    ensures only_fault { (x : Fault) → ImageFails bytes.now x → Answers result x }
+{
+    of_bytes_by_two(rt, alloc, bytes)
+}
+
 /// Bytes are the text of one image or have one fault, and never both. A text is one of version 2 or one of version 1.
 pub fn image_or_fault()
     ensures one { (bytes : List ℕ) → IsBytes bytes → TextOrFault (IsImage bytes) (ImageFails bytes) }
@@ -74,6 +99,55 @@ fn of_bytes(alloc: Global, bytes: &[u8]) -> Result<Parsed, ImageFault>
     match parts_of(bytes) {
         Ok((version, parts)) => of_parts(alloc, version, parts),
         Err(fault) => Err(ImageFault::of_header(fault)),
+    }
+}
+
+/// What the bytes of an image say, whose digest another thread may look at.
+fn of_bytes_by_two<R: Threads>(rt: &R, alloc: Global, bytes: &[u8]) -> Result<Parsed, ImageFault>
+    ensures text { IfOk result (λ parsed. SomeText bytes.now parsed.program.family parsed.regions) }
+    ensures program { IfOk result (λ parsed. IsProgram parsed.program) }
+    ensures own_strings { IfOk result (λ parsed. HasOwnStrings parsed.program) }
+    ensures fault { IfErr result (λ x. (x ≡ Memory) ⊎ ImageFails bytes.now x) }
+{
+    if bytes.len() < SMALL {
+        return of_bytes(alloc, bytes);
+    }
+    match unsealed_parts(bytes) {
+        Ok((version, parts)) => of_unsealed(rt, alloc, bytes, version, parts),
+        Err(fault) => Err(ImageFault::of_header(fault)),
+    }
+}
+
+/// What the bytes of an image say that has these parts, while another thread looks at its digest.
+fn of_unsealed<R: Threads>(
+    rt: &R,
+    alloc: Global,
+    bytes: &[u8],
+    version: Version,
+    parts: &[u8],
+) -> Result<Parsed, ImageFault>
+    requires { IsUnsealed bytes.now version parts.now }
+    ensures text { IfOk result (λ parsed. SomeText bytes.now parsed.program.family parsed.regions) }
+    ensures program { IfOk result (λ parsed. IsProgram parsed.program) }
+    ensures own_strings { IfOk result (λ parsed. HasOwnStrings parsed.program) }
+    ensures fault { IfErr result (λ x. (x ≡ Memory) ⊎ ImageFails bytes.now x) }
+{
+    let seal = move || -> bool
+        ensures { Decides result (IsSealed bytes.entry.now) }
+    { is_sealed(bytes) };
+    let read = move || -> Result<Parsed, ImageFault>
+        requires { 4 ≤ length parts.now }
+        ensures text { IfOk result
+            (λ parsed. PartsRead version parts.entry.now parsed.program.family parsed.regions) }
+        ensures program { IfOk result (λ parsed. IsProgram parsed.program) }
+        ensures own_strings { IfOk result (λ parsed. HasOwnStrings parsed.program) }
+        ensures fault { IfErr result (λ x. (x ≡ Memory) ⊎ PartsFail version parts.entry.now x) }
+    { of_parts(alloc, version, parts) };
+    let (is_sealed, parsed) = thread::join(rt, seal, read);
+    if is_sealed {
+        parsed
+    } else {
+        Err(ImageFault::Digest)
     }
 }
 

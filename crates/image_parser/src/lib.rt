@@ -18,5 +18,5 @@ mod tag;
 mod unknown;
 mod values;
 
-pub use image::{Parsed, image_or_fault, parse};
+pub use image::{Parsed, image_or_fault, parse, parse_by_two};
 pub use image_fault::ImageFault;

@@ -8,5 +8,5 @@ mod reading;
 mod start;
 
 pub use image_parser::ImageFault;
-pub use reading::read;
+pub use reading::{read, read_by_two};
 pub use start::world;

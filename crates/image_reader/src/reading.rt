@@ -17,9 +17,10 @@ ghost use Rattle.image_reader.specs.Readings.{IsOfOwnStrings, IsSameImage};
 ghost use Rattle.image_reader.specs.steps.Held.{HoldsRegions};
 
 use crate::held_regions::held_regions;
-use image_parser::{ImageFault, Parsed, parse};
+use image_parser::{ImageFault, Parsed, parse, parse_by_two};
 use object_graph::Image;
 use std::alloc::{AllocError, Global};
+use std::thread::Threads;
 
 /// Reads an image of version 2, or of version 1 without the objects that no static field reaches: the program of its
 /// class files, with the strings that its classes hold, and what its classes that are initialized hold.
@@ -52,6 +53,32 @@ pub fn read(alloc: Global, bytes: &[u8]) -> Result<Image, ImageFault>
             Err(_) => Err(ImageFault::Memory),
         },
         Err(fault) => Err(fault),
+    }
+}
+
+/// Does the same as `read`. Where there is much to digest, another thread does that meanwhile.
+///
+/// # Errors
+/// Those of `read`.
+pub fn read_by_two<R: Threads>(rt: &R, alloc: Global, bytes: &[u8]) -> Result<Image, ImageFault>
+    ensures text { IfOk result (λ image. SomeText bytes.now image.program.family (told_of image)) }
+    ensures only_text { (family : Classes) (regions : List (Option Told)) → SomeText bytes.now family regions
+        → MatchResult result (λ image. (image.program.family ≡ family) × (told_of image ≡ regions))
+        (λ x. x ≡ Memory) }
+    ensures written { (I : ImageTables) → ImageText (text_of I) I.program.family (told_of I) → bytes.now ≡ text_of I
+        → MatchResult result (λ image. (image.program.family ≡ I.program.family) × (told_of image ≡ told_of I))
+        (λ x. x ≡ Memory) }
+    ensures same { (I : ImageTables) → IsOfOwnStrings I → SomeText bytes.now I.program.family (told_of I)
+        → IfOk result (λ image. IsSameImage I image) }
+    ensures fault { IfErr result (λ x. (x ≡ Memory) ⊎ ImageFails bytes.now x) }
+    ensures only_fault { (x : Fault) → ImageFails bytes.now x → Answers result x }
+{
+    match parse_by_two(rt, alloc, bytes) {
+        Ok(parsed) => match image_of(alloc, parsed, bytes) {
+            Ok(image) => Ok(image),
+            Err(_) => Err(ImageFault::Memory),
+        },
+        Err(wrong) => Err(wrong),
     }
 }
 
