@@ -22,4 +22,4 @@ returns-in-Some-clause-fault c =
     inr (one_unmet c.args.program.now c.args.demand.now c.args.settled.now c.loop-class.class
     c.given_count-class-end.result c.in-Some.reason _ c.given_count-class-end.ensures.value c.loop-class-test.true
     c.loop-class.invariant (rw c.as_slice-verdicts.ensures at c.in-Some.ensures)
-    (rw c.family.ensures at c.in_ok-demanded.ensures))
+    (rw c.family.ensures at c.in_ok-demanded-in-Some.ensures))

@@ -14,6 +14,6 @@ returns c =
     c.requires in
     IfOk-weaker c.from_modified_utf8.result (λ name. units_text name ≡ read)
     (λ name. name_in family c.args.class ≡ Some (units_text name))
-    (λ name text. named_at family c.classes-classes.result.now c.args.class _ name read
+    (λ name text. named_at family c.classes-classes.result.now c.args.class c.index-classes-class.result name read
     c.classes-classes.ensures.value small c.index-classes-class.is c.name_of.ensures.value text)
     (c.from_modified_utf8.ensures c.name_of.ensures.modified)
