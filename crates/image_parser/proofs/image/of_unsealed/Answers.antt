@@ -9,12 +9,12 @@ pub returns-then-is_sealed-clause-text : goal.returns-then-is_sealed-clause-text
 returns-then-is_sealed-clause-text g c =
     parts_accepted (λ (p : Parsed). (p.program.family, p.regions)) c.args.bytes.now c.args.version c.args.parts.now
     c.join-is_sealed.result.1
-    (c.requires.sealed (c.join-is_sealed.ensures.first.0 c.if-is_sealed.true)) c.join-is_sealed.ensures.second.text
+    (c.requires.sealed (c.join-is_sealed.ensures.first.0 c.if-is_sealed.true)) c.join-is_sealed.ensures.second.0
 
 pub returns-then-is_sealed-clause-fault : goal.returns-then-is_sealed-clause-fault
 returns-then-is_sealed-clause-fault g c =
     parts_refused c.args.bytes.now c.args.version c.args.parts.now c.join-is_sealed.result.1
-    (c.requires.sealed (c.join-is_sealed.ensures.first.0 c.if-is_sealed.true)) c.join-is_sealed.ensures.second.fault
+    (c.requires.sealed (c.join-is_sealed.ensures.first.0 c.if-is_sealed.true)) c.join-is_sealed.ensures.second.3
 
 pub returns-else-is_sealed-clause-fault : goal.returns-else-is_sealed-clause-fault
 returns-else-is_sealed-clause-fault g c =
