@@ -14,7 +14,7 @@ returns-then-is_sealed-clause-text g c =
 pub returns-then-is_sealed-clause-fault : goal.returns-then-is_sealed-clause-fault
 returns-then-is_sealed-clause-fault g c =
     parts_refused c.args.bytes.now c.args.version c.args.parts.now c.join-is_sealed.result.1
-    (c.requires.sealed (c.join-is_sealed.ensures.first.0 c.if-is_sealed.true)) c.join-is_sealed.ensures.second.3
+    (c.requires.sealed (c.join-is_sealed.ensures.first.0 c.if-is_sealed.true)) c.join-is_sealed.ensures.second.1.1.1
 
 pub returns-else-is_sealed-clause-fault : goal.returns-else-is_sealed-clause-fault
 returns-else-is_sealed-clause-fault g c =
